@@ -1,0 +1,9 @@
+pub mod Faults
+pub mod Spelling
+pub mod Written
+pub mod Lines
+pub mod Texts
+pub mod Parts
+pub mod Setups
+pub mod Scans
+pub mod Firing

@@ -1,0 +1,123 @@
+//! Analogue and status channels.
+
+ghost use Rattle.std.specs.Prelude.{◌≡◌, IfOk};
+ghost use Rattle.dfr_channels.specs.Setups as spec;
+
+use crate::{Decimal, Items, Memory, TryClone, is_plain};
+use std::alloc::{Allocator, Global};
+use std::marker::Model;
+
+/// Whether a channel's values are those of the primary or of the secondary side of its transformer.
+#[derive(Clone, Copy, Debug, PartialEq, Eq)]
+pub enum Side {
+    Primary,
+    Secondary,
+}
+
+/// An analogue channel, as its line of a configuration file says it (C37.111-1999, 5.3.4). Its value is a·x + b in `unit`,
+/// with x a sample from `min` to `max`; `skew` is in microseconds; `primary` and `secondary` are the transformer's ratio.
+#[derive(Drop, Debug)]
+pub struct AnalogChannel<A: Allocator = Global> {
+    pub id: Items<u8, A>,
+    pub phase: Items<u8, A>,
+    pub component: Items<u8, A>,
+    pub unit: Items<u8, A>,
+    pub a: Decimal,
+    pub b: Decimal,
+    pub skew: Decimal,
+    pub min: i32,
+    pub max: i32,
+    pub primary: Decimal,
+    pub secondary: Decimal,
+    pub side: Side,
+}
+
+impl<A: Allocator> Model for AnalogChannel<A> {
+    ghost use Rattle.dfr_channels.specs.Parts.{AnalogParts};
+
+    ghost Value = { AnalogParts };
+
+    ghost view = { λ c. record {
+        id = c.id; phase = c.phase; component = c.component; unit = c.unit;
+        a = c.a; b = c.b; skew = c.skew; min = c.min; max = c.max;
+        primary = c.primary; secondary = c.secondary; side = c.side
+    } };
+}
+
+/// A status channel (C37.111-1999, 5.3.5), and its bit while nothing is wrong.
+#[derive(Drop, Debug)]
+pub struct StatusChannel<A: Allocator = Global> {
+    pub id: Items<u8, A>,
+    pub phase: Items<u8, A>,
+    pub component: Items<u8, A>,
+    pub normal: bool,
+}
+
+impl<A: Allocator> Model for StatusChannel<A> {
+    ghost use Rattle.dfr_channels.specs.Parts.{StatusParts};
+
+    ghost Value = { StatusParts };
+
+    ghost view = { λ c. record { id = c.id; phase = c.phase; component = c.component; normal = c.normal } };
+}
+
+impl<A: Allocator + Copy> TryClone for AnalogChannel<A> {
+    fn try_clone(&self) -> Result<AnalogChannel<A>, Memory> {
+        let id = self.id.try_clone()?;
+        let phase = self.phase.try_clone()?;
+        let component = self.component.try_clone()?;
+        let unit = self.unit.try_clone()?;
+        Ok(AnalogChannel {
+            id,
+            phase,
+            component,
+            unit,
+            a: self.a,
+            b: self.b,
+            skew: self.skew,
+            min: self.min,
+            max: self.max,
+            primary: self.primary,
+            secondary: self.secondary,
+            side: self.side,
+        })
+    }
+}
+
+impl<A: Allocator + Copy> TryClone for StatusChannel<A> {
+    fn try_clone(&self) -> Result<StatusChannel<A>, Memory> {
+        let id = self.id.try_clone()?;
+        let phase = self.phase.try_clone()?;
+        let component = self.component.try_clone()?;
+        let normal = self.normal;
+        Ok(StatusChannel { id, phase, component, normal })
+    }
+}
+
+/// Whether a file can hold the channel's texts.
+#[tactic(auto, unfolding(crate::specs::Setups::has_analog_texts))]
+pub(crate) fn has_analog_texts<A: Allocator>(channel: &AnalogChannel<A>) -> bool
+    ensures { result ≡ spec.has_analog_texts channel.now }
+{
+    is_plain(0, 64, channel.id.items())
+        && is_plain(0, 2, channel.phase.items())
+        && is_plain(0, 64, channel.component.items())
+        && is_plain(1, 32, channel.unit.items())
+}
+
+/// Whether a file can hold the channel's texts.
+#[tactic(auto, unfolding(crate::specs::Setups::has_status_texts))]
+pub(crate) fn has_status_texts<A: Allocator>(channel: &StatusChannel<A>) -> bool
+    ensures { result ≡ spec.has_status_texts channel.now }
+{
+    is_plain(0, 64, channel.id.items())
+        && is_plain(0, 2, channel.phase.items())
+        && is_plain(0, 64, channel.component.items())
+}
+
+/// Whether -32767 <= min <= max <= 32767.
+pub(crate) fn has_span<A: Allocator>(channel: &AnalogChannel<A>) -> bool
+    ensures { result ≡ spec.has_span channel.now }
+{
+    -32_767 <= channel.min && channel.min <= channel.max && channel.max <= 32_767
+}

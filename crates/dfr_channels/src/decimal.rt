@@ -1,0 +1,170 @@
+ghost use Rattle.std.specs.Prelude.{◌≡◌, ◌≤◌, ◌<◌, ◌^◌, ℤ, pos, negsuc, ◌<ℤ◌, if◌then◌else◌, Some, None, ◌*◌, ◌++◌, position, option_map};
+ghost use Rattle.std.specs.List.{before_first, after_first};
+ghost use Rattle.std.specs.Option.{option_copied, SomeIff};
+ghost use Rattle.dfr_channels.specs.Spelling.{Number, decimal_number, is_point, is_exponent_mark, exponent_text, exponent, shifted, number, IsNumber, capped, capped_size};
+
+use crate::number::{LIMIT, capped_number, without_sign};
+use std::marker::Model;
+
+/// The number units / 10^places.
+#[derive(Clone, Copy, Debug, PartialEq, Eq)]
+pub struct Decimal {
+    units: i128,
+    places: u8,
+}
+
+impl Model for Decimal {
+    ghost use Rattle.dfr_channels.specs.Spelling.{Number, IsNumber};
+
+    ghost Value = { Number };
+
+    ghost view = { λ d. record { units = d.units; places = d.places } };
+
+    ghost invariant = { λ d. IsNumber (record { units = d.units; places = d.places }) };
+
+    ghost inverse = { λ n. record { units = n.units; places = n.places } };
+}
+
+impl Decimal {
+    pub fn units(&self) -> i128
+        ensures { result ≡ self.now.units }
+    {
+        self.units
+    }
+
+    pub fn places(&self) -> u8
+        ensures { result ≡ self.now.places }
+    {
+        self.places
+    }
+}
+
+/// Where the exponent mark stands.
+fn place_of_mark(text: &[u8]) -> Option<usize>
+    ensures { result ≡ position is_exponent_mark text.now }
+{
+    text.iter().position(|b| *b == b'e' || *b == b'E')
+}
+
+/// Where the point stands.
+fn place_of_point(text: &[u8]) -> Option<usize>
+    ensures { result ≡ position is_point text.now }
+{
+    text.iter().position(|b| *b == b'.')
+}
+
+/// What stands before the exponent mark, and what behind it.
+#[tactic(auto, using(crate::proofs::Cuts::cuts))]
+fn at_exponent(text: &[u8]) -> (&[u8], Option<&[u8]>)
+    ensures front { result.0.now ≡ before_first is_exponent_mark text.now }
+    ensures rest { option_copied result.1 ≡ exponent_text text.now }
+{
+    match place_of_mark(text) {
+        None => (text, None),
+        Some(at) => (&text[..at], Some(&text[at + 1..])),
+    }
+}
+
+/// What stands before the point, and what behind it.
+#[tactic(auto, using(crate::proofs::Cuts::cuts))]
+fn at_point(text: &[u8]) -> (&[u8], &[u8])
+    ensures front { result.0.now ≡ before_first is_point text.now }
+    ensures rest { result.1.now ≡ after_first is_point text.now }
+{
+    match place_of_point(text) {
+        None => (text, &[]),
+        Some(at) => (&text[..at], &text[at + 1..]),
+    }
+}
+
+/// The number that the digits before and behind the point make, but at most the limit.
+fn number_at(whole: &[u8], fraction: &[u8]) -> Option<u128>
+    ensures { result ≡ capped_size (whole.now ++ fraction.now) }
+{
+    if whole.len() + fraction.len() == 0 {
+        return None;
+    }
+    let number = capped_number(0, whole)?;
+    capped_number(number, fraction)
+}
+
+/// The number that the digits make, but at most the limit; None where there are none or one is no digit.
+pub fn numeral_of(digits: &[u8]) -> Option<u128>
+    ensures { result ≡ capped_size digits.now }
+{
+    if digits.is_empty() {
+        return None;
+    }
+    capped_number(0, digits)
+}
+
+/// The exponent that stands behind the mark, its size capped.
+fn exponent_of(text: Option<&[u8]>) -> Option<(bool, u128)>
+    ensures { result ≡ option_map capped (exponent (option_copied text.entry)) }
+{
+    let Some(text) = text else {
+        return Some((false, 0));
+    };
+    let (down, digits) = without_sign(text);
+    if digits.is_empty() {
+        return None;
+    }
+    Some((down, capped_number(0, digits)?))
+}
+
+/// The decimal digits / 10^places * 10^exponent, where it can be held.
+fn number_of(minus: bool, digits: u128, places: usize, exponent: (bool, u128)) -> Option<Decimal>
+    requires digits { digits ≤ 10 ^ 36 }
+    requires exponent { exponent.1 ≤ 10 ^ 36 }
+    ensures { result ≡ number minus (shifted digits places exponent) }
+{
+    let places = places as u128;
+    let (zeros, places) = if exponent.0 {
+        (0, places + exponent.1)
+    } else {
+        (exponent.1.saturating_sub(places), places.saturating_sub(exponent.1))
+    };
+    if 80 < places {
+        return None;
+    }
+    let units = with_zeros(digits, zeros)? as i128;
+    Some(Decimal { units: if minus { -units } else { units }, places: places as u8 })
+}
+
+/// The number with this many zeros behind it, where it is below 10^36.
+fn with_zeros(number: u128, zeros: u128) -> Option<u128>
+    ensures { SomeIff result (number * 10 ^ zeros < 10 ^ 36) (number * 10 ^ zeros) }
+{
+    if number == 0 {
+        return Some(0);
+    }
+    if 36 <= zeros {
+        return None;
+    }
+    number.checked_mul(10u128.pow(zeros as u32)).filter(|n| *n < LIMIT)
+}
+
+impl Decimal {
+    /// The decimal that the text spells.
+    pub fn read(text: &[u8]) -> Option<Decimal>
+        ensures { result ≡ decimal_number text.now }
+    {
+        let (front, exponent) = at_exponent(text);
+        let (minus, digits) = without_sign(front);
+        let (whole, fraction) = at_point(digits);
+        let number = number_at(whole, fraction)?;
+        let exponent = exponent_of(exponent)?;
+        number_of(minus, number, fraction.len(), exponent)
+    }
+
+    /// The number units / 10^places, if both are within the limits.
+    pub fn new(units: i128, places: u8) -> Option<Decimal>
+        ensures { SomeIff result (IsNumber (record { units = units; places = places })) (record { units = units; places = places }) }
+    {
+        if -(LIMIT as i128) < units && units < LIMIT as i128 && places <= 80 {
+            Some(Decimal { units, places })
+        } else {
+            None
+        }
+    }
+}

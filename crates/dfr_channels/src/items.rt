@@ -1,0 +1,83 @@
+//! A list that contracts see as the list, and copies that want of memory may refuse.
+
+ghost use Rattle.std.specs.Prelude.{◌≡◌, IfOk};
+
+use crate::Memory;
+use std::alloc::{Allocator, Global};
+use std::marker::Model;
+
+/// A list, which contracts see as its items.
+#[derive(Drop, Debug)]
+pub struct Items<T, A: Allocator = Global> {
+    list: Vec<T, A>,
+}
+
+impl<T, A: Allocator> Model for Items<T, A> {
+    ghost use Rattle.std.specs.Prelude.{List};
+
+    ghost Value = { List T };
+
+    ghost view = { λ a. a.list.items };
+}
+
+impl<T: PartialEq, A: Allocator> PartialEq for Items<T, A> {
+    ghost use Rattle.std.specs.Cmp.Lexicographic.{pointwise, lists_per};
+
+    ghost eq = { λ x y. pointwise T.eq x y };
+
+    ghost laws = { lists_per T.laws };
+
+    fn eq(&self, other: &Self) -> bool {
+        self.list == other.list
+    }
+}
+
+impl<T, A: Allocator> Items<T, A> {
+    /// Takes no memory.
+    pub fn of(list: Vec<T, A>) -> Items<T, A>
+        ensures { result ≡ list.items }
+    {
+        Items { list }
+    }
+
+    pub fn items(&self) -> &[T]
+        ensures { result.now ≡ self.now }
+    {
+        self.list.as_slice()
+    }
+
+    /// The allocator that the list was made with.
+    pub fn allocator(&self) -> &A {
+        self.list.allocator()
+    }
+}
+
+impl<T: Copy, A: Allocator + Copy> Items<T, A> {
+    /// A copy of its own, on the same allocator.
+    pub fn try_clone(&self) -> Result<Items<T, A>, Memory>
+        ensures { IfOk result (λ copy. copy ≡ self.now) }
+    {
+        let list = Vec::from_slice(*self.list.allocator(), self.list.as_slice())?;
+        Ok(Items { list })
+    }
+}
+
+/// What can be copied where there is memory for it.
+pub trait TryClone: Drop {
+    fn try_clone(&self) -> Result<Self, Memory>
+        ensures { IfOk result (λ copy. copy ≡ self.now) };
+}
+
+/// A copy of each item, in order.
+pub fn copies_of<T: TryClone, A: Allocator + Copy>(
+    alloc: A,
+    list: &[T],
+) -> Result<Items<T, A>, Memory>
+    ensures { IfOk result (λ copies. copies ≡ list.now) }
+{
+    let mut copies = Vec::with_capacity(alloc, list.len())?;
+    for item in list {
+        copies.push(item.try_clone()?)?;
+    }
+    Ok(Items::of(copies))
+}

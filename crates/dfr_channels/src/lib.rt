@@ -1,0 +1,33 @@
+//! The channels of a recorder, its scans and trigger rules, and how texts and numbers are spelled.
+#![tactic(auto)]
+
+mod channel;
+mod decimal;
+mod items;
+mod layout;
+mod lines;
+mod memory;
+mod number;
+mod plain;
+mod rule;
+mod rules;
+mod scan;
+mod setup;
+mod text;
+
+pub use channel::{AnalogChannel, Side, StatusChannel};
+pub use decimal::Decimal;
+pub use items::{Items, TryClone, copies_of};
+pub use layout::{Layout, ScanFault};
+pub use lines::{fields_of, lines_of, without_blank_end};
+pub use memory::Memory;
+pub use number::integer_of;
+pub use plain::is_plain;
+pub use rule::Rule;
+pub use rules::{RuleFault, Rules};
+pub use scan::{Reading, Scan};
+pub use setup::{Place, Setup, SetupFault};
+pub use text::trim;
+
+#[cfg(test)]
+mod tests;

@@ -1,0 +1,45 @@
+//! The lines of a text, and the fields of a line.
+
+ghost use Rattle.std.specs.Prelude.{◌≡◌, IfOk};
+ghost use Rattle.dfr_channels.specs.Lines.{without_cr, cut_lines, drop_end, fields, texts, is_blank_line};
+
+use crate::trim;
+use std::alloc::{AllocError, Allocator};
+
+/// The line without a carriage return at its end.
+fn without_carriage_return(line: &[u8]) -> &[u8]
+    ensures { result.now ≡ without_cr line.now }
+{
+    match line {
+        [front @ .., b'\r'] => front,
+        _ => line,
+    }
+}
+
+/// What stands between the line feeds of a text, each without a carriage return at its end.
+pub fn lines_of<'a, A: Allocator>(alloc: A, text: &'a [u8]) -> Result<Vec<&'a [u8], A>, AllocError>
+    ensures { IfOk result (λ v. texts v.items ≡ cut_lines text.now) }
+{
+    text.split(|b| *b == b'\n').map(|line| without_carriage_return(line)).collect(alloc)
+}
+
+/// The lines without the blank ones at their end.
+pub fn without_blank_end<'s, 'a>(lines: &'s [&'a [u8]]) -> &'s [&'a [u8]]
+    ensures { texts result.now ≡ drop_end is_blank_line (texts lines.now) }
+{
+    let mut left = lines;
+    while let [front @ .., last] = left {
+        if !trim(last).is_empty() {
+            break;
+        }
+        left = front;
+    }
+    left
+}
+
+/// The fields of a line, without the blanks around them.
+pub fn fields_of<'a, A: Allocator>(alloc: A, line: &'a [u8]) -> Result<Vec<&'a [u8], A>, AllocError>
+    ensures { IfOk result (λ v. texts v.items ≡ fields line.now) }
+{
+    line.split(|b| *b == b',').map(|field| trim(field)).collect(alloc)
+}

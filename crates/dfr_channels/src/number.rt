@@ -1,0 +1,50 @@
+ghost use Rattle.std.specs.Prelude.{◌≡◌, ◌≤◌, ◌^◌, min, if◌then◌else◌, Some, None};
+ghost use Rattle.std.specs.Str.{all_ascii_digits};
+ghost use Rattle.std.specs.Str.Parse.{digits_value_after, starts_with_minus, without_leading_sign};
+ghost use Rattle.dfr_channels.specs.Spelling.{whole_number};
+
+/// The first number that is too large, 10^36.
+pub(crate) const LIMIT: u128 = 1_000_000_000_000_000_000_000_000_000_000_000_000;
+
+/// The number that the digits make when they follow those of `start`, but at most the limit.
+pub(crate) fn capped_number(start: u128, digits: &[u8]) -> Option<u128>
+    requires { start ≤ 10 ^ 36 }
+    ensures { result ≡ (if all_ascii_digits digits.now then Some (min (digits_value_after 10 start digits.now) (10 ^ 36)) else None) }
+{
+    let mut number = start;
+    for digit in digits {
+        if !digit.is_ascii_digit() {
+            return None;
+        }
+        number = (number * 10 + (*digit - b'0') as u128).min(LIMIT);
+    }
+    Some(number)
+}
+
+/// Whether a minus stands first, and what follows the sign.
+pub(crate) fn without_sign(text: &[u8]) -> (bool, &[u8])
+    ensures minus { result.0 ≡ starts_with_minus text.now }
+    ensures rest { result.1.now ≡ without_leading_sign text.now }
+{
+    match text {
+        [b'-', rest @ ..] => (true, rest),
+        [b'+', rest @ ..] => (false, rest),
+        _ => (false, text),
+    }
+}
+
+/// The whole number that the text spells, if it lies strictly between -10^36 and 10^36.
+pub fn integer_of(text: &[u8]) -> Option<i128>
+    ensures { result ≡ whole_number text.now }
+{
+    let (minus, digits) = without_sign(text);
+    if digits.is_empty() {
+        return None;
+    }
+    let number = capped_number(0, digits)?;
+    if number == LIMIT {
+        return None;
+    }
+    let number = number as i128;
+    Some(if minus { -number } else { number })
+}

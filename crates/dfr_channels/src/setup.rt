@@ -1,0 +1,183 @@
+//! Set-ups, and what is wrong with one.
+
+ghost use Rattle.std.specs.Prelude.{◌≡◌, ◌≤◌, ◌<◌, ◌+◌, ◌&&◌, ℤ, pos, int_le, nat_le, length, take, position, not, IfSome};
+ghost use Rattle.dfr_channels.specs.Setups as spec;
+
+use crate::channel::{has_analog_texts, has_span, has_status_texts};
+use crate::{AnalogChannel, Decimal, Items, Memory, StatusChannel, copies_of, is_plain};
+use std::alloc::{Allocator, Global};
+use std::marker::Model;
+
+/// What a recorder is set up with. `line_freq` is in Hz, `rate` in scans a second, `start` the instant of scan 0 in
+/// microseconds since 1970-01-01 00:00:00.
+#[derive(Drop, Debug)]
+pub struct Setup<A: Allocator = Global> {
+    pub station: Items<u8, A>,
+    pub device: Items<u8, A>,
+    pub analog: Items<AnalogChannel<A>, A>,
+    pub status: Items<StatusChannel<A>, A>,
+    pub line_freq: Decimal,
+    pub rate: u32,
+    pub start: i64,
+}
+
+impl<A: Allocator> Model for Setup<A> {
+    ghost use Rattle.dfr_channels.specs.Parts.{SetupParts};
+
+    ghost Value = { SetupParts };
+
+    ghost view = { λ s. record {
+        station = s.station; device = s.device; analog = s.analog; status = s.status;
+        line_freq = s.line_freq; rate = s.rate; start = s.start
+    } };
+}
+
+/// A text of a set-up. Channels are numbered from 0.
+#[derive(Clone, Copy, Debug, PartialEq, Eq)]
+pub enum Place {
+    Station,
+    Device,
+    Analog(u32),
+    Status(u32),
+}
+
+/// Why a set-up is refused, in the order of the tests.
+#[derive(Clone, Copy, Debug, PartialEq, Eq)]
+pub enum SetupFault {
+    /// A text that a file can't hold, the first by its place; of each kind the first 256 channels are looked at.
+    Text(Place),
+    /// No channel at all, or more than 256 of a kind.
+    Channels,
+    /// The lowest analogue channel without -32767 <= min <= max <= 32767.
+    Span(u32),
+    /// Not 1 to 1,000,000 scans a second.
+    Rate,
+    /// Before 1970 or past the year 9999.
+    Start,
+}
+
+const LAST: i64 = 253_402_300_799_999_999;
+
+#[tactic(auto, using(std::proofs::lemmas::List::take_all))]
+fn first_256<T>(list: &[T]) -> &[T]
+    ensures first { result.now ≡ take 256 list.now }
+    ensures few { length result.now ≤ 256 }
+{
+    match list.get(..256) {
+        Some(first) => first,
+        None => list,
+    }
+}
+
+fn unplain_analog<A: Allocator>(channels: &[AnalogChannel<A>]) -> Option<usize>
+    ensures first { result ≡ position (λ c. not (spec.has_analog_texts c)) channels.now }
+    ensures within { IfSome result (λ i. i < length channels.now) }
+{
+    channels.iter().position(|c| !has_analog_texts(c))
+}
+
+fn unplain_status<A: Allocator>(channels: &[StatusChannel<A>]) -> Option<usize>
+    ensures first { result ≡ position (λ c. not (spec.has_status_texts c)) channels.now }
+    ensures within { IfSome result (λ i. i < length channels.now) }
+{
+    channels.iter().position(|c| !has_status_texts(c))
+}
+
+fn without_span<A: Allocator>(channels: &[AnalogChannel<A>]) -> Option<usize>
+    ensures first { result ≡ position (λ c. not (spec.has_span c)) channels.now }
+    ensures within { IfSome result (λ i. i < length channels.now) }
+{
+    channels.iter().position(|c| !has_span(c))
+}
+
+/// The first text that a file can't hold.
+#[tactic(auto, unfolding(crate::specs::Setups::place_fault))]
+fn place_fault<A: Allocator>(setup: &Setup<A>) -> Option<Place>
+    ensures { result ≡ spec.place_fault setup.now }
+{
+    if !is_plain(0, 64, setup.station.items()) {
+        return Some(Place::Station);
+    }
+    if !is_plain(0, 64, setup.device.items()) {
+        return Some(Place::Device);
+    }
+    if let Some(i) = unplain_analog(first_256(setup.analog.items())) {
+        return Some(Place::Analog(i as u32));
+    }
+    match unplain_status(first_256(setup.status.items())) {
+        Some(i) => Some(Place::Status(i as u32)),
+        None => None,
+    }
+}
+
+/// At most 256 channels of a kind, and at least one in all.
+fn has_channels(analog: usize, status: usize) -> bool
+    ensures { result ≡ spec.has_channels analog status }
+{
+    if analog > 256 {
+        return false;
+    }
+    if status > 256 {
+        return false;
+    }
+    1 <= analog + status
+}
+
+fn has_rate(rate: u32) -> bool
+    ensures { result ≡ spec.has_rate rate }
+{
+    1 <= rate && rate <= 1_000_000
+}
+
+fn has_start(start: i64) -> bool
+    ensures { result ≡ spec.has_start start }
+{
+    0 <= start && start <= LAST
+}
+
+/// The first fault of a set-up.
+#[tactic(auto, unfolding(crate::specs::Setups::setup_fault))]
+pub(crate) fn setup_fault<A: Allocator>(setup: &Setup<A>) -> Option<SetupFault>
+    ensures { result ≡ spec.setup_fault setup.now }
+{
+    if let Some(place) = place_fault(setup) {
+        return Some(SetupFault::Text(place));
+    }
+    if !has_channels(setup.analog.items().len(), setup.status.items().len()) {
+        return Some(SetupFault::Channels);
+    }
+    if let Some(i) = without_span(setup.analog.items()) {
+        return Some(SetupFault::Span(i as u32));
+    }
+    if !has_rate(setup.rate) {
+        return Some(SetupFault::Rate);
+    }
+    if !has_start(setup.start) {
+        return Some(SetupFault::Start);
+    }
+    None
+}
+
+impl<A: Allocator + Copy> Setup<A> {
+    ghost use Rattle.std.specs.Prelude.{◌≡◌, IfOk};
+
+    /// A copy of its own, on the same allocator.
+    pub fn try_clone(&self) -> Result<Setup<A>, Memory>
+        ensures { IfOk result (λ copy. copy ≡ self.now) }
+    {
+        let alloc = *self.station.allocator();
+        let station = self.station.try_clone()?;
+        let device = self.device.try_clone()?;
+        let analog = copies_of(alloc, self.analog.items())?;
+        let status = copies_of(alloc, self.status.items())?;
+        Ok(Setup {
+            station,
+            device,
+            analog,
+            status,
+            line_freq: self.line_freq,
+            rate: self.rate,
+            start: self.start,
+        })
+    }
+}

@@ -1,0 +1,16 @@
+ghost use Rattle.std.specs.Prelude.{◌≡◌};
+ghost use Rattle.dfr_channels.specs.Spelling.{trimmed};
+
+/// The text without the blanks at both ends.
+pub fn trim(text: &[u8]) -> &[u8]
+    ensures { result.now ≡ trimmed text.now }
+{
+    let mut inner = text;
+    while let [b' ' | b'\t', rest @ ..] = inner {
+        inner = rest;
+    }
+    while let [rest @ .., b' ' | b'\t'] = inner {
+        inner = rest;
+    }
+    inner
+}
