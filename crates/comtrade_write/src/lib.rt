@@ -2,8 +2,23 @@
 #![tactic(auto)]
 
 mod bounds;
+mod bytes;
+mod cfg;
+mod checks;
+mod dates;
+mod decimal;
 mod fault;
+mod fields;
 mod file;
+mod number;
+mod output;
+mod parts;
+mod rows_ascii;
+mod rows_binary;
+mod shape;
+mod texts;
 
+pub use bytes::{ascii_bytes, binary_bytes, cfg_bytes, dat_bytes};
 pub use fault::WriteFault;
 pub use file::{File, Head, Kind, Rate, Row};
+pub use output::write_all_of;
