@@ -5,4 +5,4 @@ use Rattle.comtrade_write.proofs.cfg.put_head.Goals as goal
 
 pub returns : goal.returns
 unfolding cfg
-returns g c = rw (← c.h.view_is) (search (rules, IfOk-equal, append_assoc))
+returns g c = rw (← c.head.view_is) (search (rules, IfOk-equal, append_assoc))
