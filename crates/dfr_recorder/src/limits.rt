@@ -34,7 +34,9 @@ pub enum LimitFault {
 }
 
 const LONGEST_PRE: u32 = 100_000;
+
 const LONGEST: u32 = 1_000_000;
+
 const MOST_WAITING: u32 = 64;
 
 /// The highest time stamp that a binary data file can hold, in microseconds (C37.111-1999, 6.6: FFFFFFFF is a missing one).
