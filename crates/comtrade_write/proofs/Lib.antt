@@ -6,3 +6,4 @@ pub mod Numbered
 pub mod Bits
 pub mod Refusals
 pub mod Appending
+pub mod Own
