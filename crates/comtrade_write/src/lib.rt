@@ -24,3 +24,6 @@ pub use fault::WriteFault;
 pub use file::{File, Head, Kind, Rate, Row};
 pub use of_record::{FileFault, file_of};
 pub use output::write_all_of;
+
+#[cfg(test)]
+mod tests;
