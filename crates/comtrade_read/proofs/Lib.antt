@@ -1,0 +1,5 @@
+pub mod AnalogLine
+pub mod Digits
+pub mod FirstFault
+pub mod Chain
+pub mod HeadRead

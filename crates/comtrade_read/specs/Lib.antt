@@ -1,0 +1,5 @@
+pub mod Table
+pub mod Fields
+pub mod Instant
+pub mod Head
+pub mod Faulty
