@@ -2,12 +2,10 @@
 use Rattle.std.specs.Prelude.{◌&&◌}
 use Rattle.std.proofs.lemmas.Bool.{lt-ltb}
 use Rattle.dfr_channels.specs.Spelling.{capped_size}
-use Rattle.std.proofs.Common.{suc, Bool, false, cond, ltb, ◌^◌, ◌++◌, Option, Some, None, ap, length-append, ◌≡◌, ℕ, ◌+◌, ◌-◌, ◌*◌, ◌<◌, ◌≤◌, min, List, [], ◌∷◌, length, drop, get_or, true, arith, refl, sym, ◌∙◌, add-one, drop-cons}
-use Rattle.std.specs.Int.{IsInRange}
+use Rattle.std.proofs.Common.{suc, Bool, false, cond, ltb, ◌^◌, ◌++◌, Option, Some, None, ap, length-append, ◌≡◌, ℕ, ◌+◌, ◌-◌, ◌*◌, ◌<◌, min, List, [], ◌∷◌, length, drop, get_or, true, arith, refl, sym, ◌∙◌, add-one, drop-cons}
 use Rattle.std.specs.Char.{digit_value, is_ascii_digit}
 use Rattle.std.specs.Str.{all_ascii_digits}
 use Rattle.std.specs.Str.Parse.{digits_value_after}
-use Rattle.std.proofs.lemmas.Str.{digit_value_digit}
 use Rattle.std.proofs.lemmas.Grind.{common_steps}
 
 step : (m n v limit : ℕ) → min m limit ≡ min n limit → min (m * 10 + v) limit ≡ min (n * 10 + v) limit
@@ -56,7 +54,7 @@ size_is xs ys some =
 
 test_some : (a b : Bool) (n v w limit : ℕ) (ys : List ℕ) (r : Option ℕ) → cond a (Some (min v limit)) None ≡ Some n → r ≡ cond b (Some (min (digits_value_after 10 n ys) limit)) None
     → r ≡ cond (a && b) (Some (min (digits_value_after 10 v ys) limit)) None
-test_some true true n v w limit ys r e h = 
+test_some true true n v w limit ys r e h =
     let vn : min v limit ≡ n = cc in
     h ∙ ap (λ (x : ℕ). Some x) (same_capped ys n v limit (omega arith))
 test_some true false n v w limit ys r e h = h

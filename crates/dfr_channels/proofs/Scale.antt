@@ -1,8 +1,8 @@
 -- A decimal that is computed from capped numbers is the decimal.
-use Rattle.std.proofs.Common.{◌≡◌, ℕ, zero, suc, ◌+◌, ◌-◌, ◌*◌, ◌^◌, ◌<◌, ◌≤◌, Bool, true, false, cond, ltb, leb, min, List, [], ◌∷◌, ◌++◌, length, Option, Some, None, arith, refl, sym, ap, ◌∙◌, inl, inr}
+use Rattle.std.proofs.Common.{◌≡◌, ℕ, ◌+◌, ◌-◌, ◌*◌, ◌^◌, ◌<◌, ◌≤◌, Bool, true, false, cond, min, List, ◌++◌, length, Option, Some, None, arith, refl, sym, ap, ◌∙◌, inl, inr}
 use Rattle.std.proofs.lemmas.Bool.Decides.{nat_tests}
-use Rattle.std.specs.Prelude.{ℤ, pos, neg_ℤ, ◌&&◌, option_map}
-use Rattle.std.proofs.lemmas.Bool.{cases_lt, lt-ltb, le-ltb, ltb-false}
+use Rattle.std.specs.Prelude.{option_map}
+use Rattle.std.proofs.lemmas.Bool.{cases_lt, le-ltb}
 use Rattle.std.proofs.Math.Nat.{pow-le-pow_right, one-le-pow, mul-le-mul_left, mul-le-mul_right}
 use Rattle.std.specs.Str.Parse.{digits_value}
 use Rattle.dfr_channels.specs.Spelling.{Number, number, shifted, capped, capped_size, is_numeral, decimal_of}
@@ -43,30 +43,30 @@ pub same_number : (minus down : Bool) (d p e : ℕ) → p < 2 ^ 64 → number mi
 same_number minus true d p e short =
     elim (cases_lt d (10 ^ 36)) [
       | inl lt ↦ elim (cases_lt e (10 ^ 36)) [
-          | inl le ↦ ap (λ (u : ℕ). number minus (u, p + e)) (omega arith) ∙ ap (λ (x : ℕ). number minus (min d (10 ^ 36), p + x)) (omega arith)
-          | inr ge ↦ too_fine minus d (p + e) (omega arith) ∙ sym (too_fine minus (min d (10 ^ 36)) (p + min e (10 ^ 36)) (omega arith))
-        ]
+        | inl le ↦ ap (λ (u : ℕ). number minus (u, p + e)) (omega arith) ∙ ap (λ (x : ℕ). number minus (min d (10 ^ 36), p + x)) (omega arith)
+        | inr ge ↦ too_fine minus d (p + e) (omega arith) ∙ sym (too_fine minus (min d (10 ^ 36)) (p + min e (10 ^ 36)) (omega arith))
+      ]
       | inr ge ↦ too_large minus d (p + e) ge ∙ sym (too_large minus (min d (10 ^ 36)) (p + min e (10 ^ 36)) (omega arith))
     ]
 same_number minus false d p e short =
     elim (cases_lt d (10 ^ 36)) [
       | inl lt ↦ elim (cases_lt e (10 ^ 36)) [
-          | inl le ↦
-              let de : d ≡ min d (10 ^ 36) = omega arith in
-              let ee : e ≡ min e (10 ^ 36) = omega arith in
-              ap (λ (u : ℕ). number minus (shifted u p (false, e))) de ∙ ap (λ (x : ℕ). number minus (shifted (min d (10 ^ 36)) p (false, x))) ee
-          | inr ge ↦ elim (cases_lt 0 d) [
-              | inl some ↦
-                  let a = many_zeros d (e - p) some (omega arith) in
-                  let b = many_zeros (min d (10 ^ 36)) (min e (10 ^ 36) - p) (omega arith) (omega arith) in
-                  too_large minus (d * 10 ^ (e - p)) (p - e) a ∙ sym (too_large minus (min d (10 ^ 36) * 10 ^ (min e (10 ^ 36) - p)) (p - min e (10 ^ 36)) b)
-              | inr nothing ↦
-                  let de : d ≡ 0 = omega arith in
-                  let m : min d (10 ^ 36) ≡ 0 = omega arith in
-                  let pe : p - e ≡ p - min e (10 ^ 36) = omega arith in
-                  rw (m, de, no_digits (e - p), no_digits (min e (10 ^ 36) - p), pe) refl
-            ]
+        | inl le ↦
+            let de : d ≡ min d (10 ^ 36) = omega arith in
+            let ee : e ≡ min e (10 ^ 36) = omega arith in
+            ap (λ (u : ℕ). number minus (shifted u p (false, e))) de ∙ ap (λ (x : ℕ). number minus (shifted (min d (10 ^ 36)) p (false, x))) ee
+        | inr ge ↦ elim (cases_lt 0 d) [
+          | inl some ↦
+              let a = many_zeros d (e - p) some (omega arith) in
+              let b = many_zeros (min d (10 ^ 36)) (min e (10 ^ 36) - p) (omega arith) (omega arith) in
+              too_large minus (d * 10 ^ (e - p)) (p - e) a ∙ sym (too_large minus (min d (10 ^ 36) * 10 ^ (min e (10 ^ 36) - p)) (p - min e (10 ^ 36)) b)
+          | inr nothing ↦
+              let de : d ≡ 0 = omega arith in
+              let m : min d (10 ^ 36) ≡ 0 = omega arith in
+              let pe : p - e ≡ p - min e (10 ^ 36) = omega arith in
+              rw (m, de, no_digits (e - p), no_digits (min e (10 ^ 36) - p), pe) refl
         ]
+      ]
       | inr ge ↦
           let a = no_less d (e - p) in
           let b = no_less (min d (10 ^ 36)) (min e (10 ^ 36) - p) in

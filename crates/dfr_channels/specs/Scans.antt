@@ -1,6 +1,5 @@
 -- Which scans fit a layout, and when each was taken.
-use Rattle.std.specs.Prelude.{◌≡◌, ℕ, ℤ, pos, ◌+ℤ◌, ◌*◌, ◌/◌, ◌==◌, Bool, true, ◌&&◌, not, int_le, if◌then◌else◌, Option, Some, None, List, length, position, option_map}
-use Rattle.std.specs.List.{zip}
+use Rattle.std.specs.Prelude.{◌≡◌, ℕ, ℤ, pos, ◌+ℤ◌, ◌+◌, ◌*◌, ◌/◌, ◌==◌, Bool, true, ◌&&◌, int_le, if◌then◌else◌, Option, Some, None, List, [], ◌∷◌, length, option_map}
 use Rattle.dfr_channels.specs.Faults.{◌or◌, fault_unless}
 use Rattle.dfr_channels.specs.Parts.{AnalogParts, SetupParts, ScanParts}
 use Rattle.dfr_channels.specs.Setups.{end_of_time}
@@ -30,16 +29,19 @@ is_within c Missing = true
 abbrev pub has_shape : SetupParts → ScanParts → Bool
 has_shape s scan = (length scan.analog == length s.analog) && (length scan.status == length s.status)
 
--- the lowest channel whose reading is out of its range
-abbrev pub lowest_out : List AnalogParts → List Reading → Option ℕ
-lowest_out channels readings = position (λ pair. not (is_within pair.0 pair.1)) (zip channels readings)
+-- the lowest channel, counted from i, whose reading is out of its range
+abbrev pub lowest_out : ℕ → List AnalogParts → List Reading → Option ℕ
+lowest_out i [] readings = None
+lowest_out i (channel ∷ channels) [] = None
+lowest_out i (channel ∷ channels) (reading ∷ readings) =
+    if is_within channel reading then lowest_out (i + 1) channels readings else Some i
 
 -- why a scan doesn't fit
 unfoldable pub scan_fault : SetupParts → ScanParts → Option ScanFault
-scan_fault s scan = fault_unless (has_shape s scan) Shape or option_map Range (lowest_out s.analog scan.analog)
+scan_fault s scan = fault_unless (has_shape s scan) Shape or option_map Range (lowest_out 0 s.analog scan.analog)
 
 -- what a scan that fits has
 pub record Fits (s : SetupParts) (scan : ScanParts) : Type 0 where
   pub readings : length scan.analog ≡ length s.analog
   pub bits : length scan.status ≡ length s.status
-  pub within : lowest_out s.analog scan.analog ≡ None
+  pub within : lowest_out 0 s.analog scan.analog ≡ None

@@ -1,5 +1,5 @@
 -- Which set-ups are lawful.
-use Rattle.std.specs.Prelude.{◌≡◌, ℕ, ◌≤◌, ◌+◌, ℤ, pos, neg_ℤ, ◌≤ℤ◌, int_le, Bool, true, ◌&&◌, ◌||◌, not, nat_le, Option, List, length, take, position, option_map}
+use Rattle.std.specs.Prelude.{◌≡◌, ℕ, ◌≤◌, ◌+◌, ℤ, pos, neg_ℤ, ◌≤ℤ◌, int_le, Bool, true, ◌&&◌, not, nat_le, Option, length, take, position, option_map}
 use Rattle.std.specs.List.{list_all}
 use Rattle.dfr_channels.specs.Faults.{◌or◌, fault_unless}
 use Rattle.dfr_channels.specs.Texts.{is_name, is_phase, is_unit}
@@ -42,14 +42,16 @@ has_rate rate = nat_le 1 rate && nat_le rate 1_000_000
 abbrev pub has_start : ℤ → Bool
 has_start start = int_le (pos 0) start && int_le start (pos end_of_time)
 
+abbrev pub clock_fault : ℕ → ℤ → Option SetupFault
+clock_fault rate start = fault_unless (has_rate rate) Rate or fault_unless (has_start start) Start
+
 -- the first fault of a set-up
 unfoldable pub setup_fault : SetupParts → Option SetupFault
 setup_fault s =
     option_map Text (place_fault s)
     or (fault_unless (has_channels (length s.analog) (length s.status)) Channels
     or (option_map Span (position (λ c. not (has_span c)) s.analog)
-    or (fault_unless (has_rate s.rate) Rate
-    or fault_unless (has_start s.start) Start)))
+    or clock_fault s.rate s.start))
 
 -- what a set-up without a fault has
 pub record IsLawful (s : SetupParts) : Type 0 where

@@ -38,9 +38,18 @@ impl<A: Allocator> Model for AnalogChannel<A> {
     ghost Value = { AnalogParts };
 
     ghost view = { λ c. record {
-        id = c.id; phase = c.phase; component = c.component; unit = c.unit;
-        a = c.a; b = c.b; skew = c.skew; min = c.min; max = c.max;
-        primary = c.primary; secondary = c.secondary; side = c.side
+      id = c.id;
+      phase = c.phase;
+      component = c.component;
+      unit = c.unit;
+      a = c.a;
+      b = c.b;
+      skew = c.skew;
+      min = c.min;
+      max = c.max;
+      primary = c.primary;
+      secondary = c.secondary;
+      side = c.side;
     } };
 }
 
@@ -90,7 +99,12 @@ impl<A: Allocator + Copy> TryClone for StatusChannel<A> {
         let phase = self.phase.try_clone()?;
         let component = self.component.try_clone()?;
         let normal = self.normal;
-        Ok(StatusChannel { id, phase, component, normal })
+        Ok(StatusChannel {
+            id,
+            phase,
+            component,
+            normal,
+        })
     }
 }
 

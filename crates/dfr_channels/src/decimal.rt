@@ -122,13 +122,19 @@ fn number_of(minus: bool, digits: u128, places: usize, exponent: (bool, u128)) -
     let (zeros, places) = if exponent.0 {
         (0, places + exponent.1)
     } else {
-        (exponent.1.saturating_sub(places), places.saturating_sub(exponent.1))
+        (
+            exponent.1.saturating_sub(places),
+            places.saturating_sub(exponent.1),
+        )
     };
     if 80 < places {
         return None;
     }
     let units = with_zeros(digits, zeros)? as i128;
-    Some(Decimal { units: if minus { -units } else { units }, places: places as u8 })
+    Some(Decimal {
+        units: if minus { -units } else { units },
+        places: places as u8,
+    })
 }
 
 /// The number with this many zeros behind it, where it is below 10^36.
@@ -141,7 +147,9 @@ fn with_zeros(number: u128, zeros: u128) -> Option<u128>
     if 36 <= zeros {
         return None;
     }
-    number.checked_mul(10u128.pow(zeros as u32)).filter(|n| *n < LIMIT)
+    number
+        .checked_mul(10u128.pow(zeros as u32))
+        .filter(|n| *n < LIMIT)
 }
 
 impl Decimal {

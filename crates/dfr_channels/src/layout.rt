@@ -1,6 +1,8 @@
 //! A set-up that was found lawful.
 
-ghost use Rattle.std.specs.Prelude.{◌≡◌, ◌<◌, length, IfSome};
+ghost use Rattle.std.specs.Prelude.{◌≡◌, ◌<◌, ◌≤◌, ◌≤ℤ◌, ◌+ℤ◌, pos, length, Some, None, IfSome, OnOk, MatchResult, true};
+ghost use Rattle.std.specs.Bool.{OnTrue};
+ghost use Rattle.dfr_channels.specs.Setups.{end_of_time};
 ghost use Rattle.dfr_channels.specs.Scans as spec;
 
 use crate::channel::{AnalogChannel, StatusChannel};
@@ -49,19 +51,60 @@ fn is_within<A: Allocator>(channel: &AnalogChannel<A>, reading: &Reading) -> boo
 }
 
 /// The lowest channel whose reading is out of its range.
-fn lowest_out<A: Allocator>(channels: &[AnalogChannel<A>], readings: &[Reading]) -> Option<usize>
-    ensures lowest { result ≡ spec.lowest_out channels.now readings.now }
-    ensures within { IfSome result (λ i. i < length channels.now) }
+fn lowest_out<A: Allocator>(channels: &[AnalogChannel<A>], readings: &[Reading]) -> Option<u32>
+    requires same { length readings.now ≡ length channels.now }
+    requires few { length channels.now ≤ 256 }
+    ensures { result ≡ spec.lowest_out 0 channels.now readings.now }
 {
-    channels
-        .iter()
-        .zip(readings)
-        .position(|(channel, reading)| !is_within(channel, reading))
+    for (i, channel) in channels.iter().enumerate() {
+        if !is_within(channel, &readings[i]) {
+            return Some(i as u32);
+        }
+    }
+    None
+}
+
+fn has_shape<A: Allocator>(setup: &Setup<A>, scan: &Scan<A>) -> bool
+    ensures value { result ≡ spec.has_shape setup.now scan.now }
+    ensures shape { OnTrue result ((length scan.now.analog ≡ length setup.now.analog) × (length scan.now.status ≡ length setup.now.status)) }
+{
+    scan.analog().len() == setup.analog.items().len()
+        && scan.status().len() == setup.status.items().len()
+}
+
+/// The first fault of a scan under a set-up of at most 256 analogue channels.
+#[tactic(auto, unfolding(crate::specs::Scans::scan_fault))]
+fn scan_fault<A: Allocator>(setup: &Setup<A>, scan: &Scan<A>) -> Result<(), ScanFault>
+    requires { length setup.now.analog ≤ 256 }
+    ensures fault { MatchResult result (λ _. spec.scan_fault setup.now scan.now ≡ None) (λ fault. spec.scan_fault setup.now scan.now ≡ Some fault) }
+    ensures fits { OnOk result (spec.Fits setup.now scan.now) }
+{
+    if !has_shape(setup, scan) {
+        return Err(ScanFault::Shape);
+    }
+    match lowest_out(setup.analog.items(), scan.analog()) {
+        Some(i) => Err(ScanFault::Range(i)),
+        None => Ok(()),
+    }
+}
+
+/// The instant of scan k of a recorder that starts then and makes so many scans a second.
+fn instant_at(rate: u32, start: i64, k: u64) -> Option<i64>
+    requires rate { (1 ≤ rate) × (rate ≤ 1000000) }
+    requires start { (pos 0 ≤ℤ start) × (start ≤ℤ pos end_of_time) }
+    ensures value { result ≡ spec.within_time (start +ℤ pos (spec.micros rate k)) }
+    ensures early { IfSome result (λ _. k ≤ end_of_time) }
+{
+    let at = start as i128 + (k as u128 * 1_000_000 / rate as u128) as i128;
+    if at <= LAST as i128 {
+        Some(at as i64)
+    } else {
+        None
+    }
 }
 
 impl<A: Allocator> Layout<A> {
-    ghost use Rattle.std.specs.Prelude.{◌≡◌, ◌≤◌, pos, Some, None, ◌<ℤ◌, ◌+ℤ◌, true, Ok, Err, OnOk, IfOk, IfErr, IfSome, MatchResult, length};
-    ghost use Rattle.std.specs.List.{list_all};
+    ghost use Rattle.std.specs.Prelude.{◌≡◌, ◌≤◌, Some, None, OnOk, IfOk, IfErr, IfSome, MatchResult};
     ghost use Rattle.dfr_channels.specs.Setups.{setup_fault, IsLawful, end_of_time};
     ghost use Rattle.dfr_channels.specs.Scans.{instant_of, scan_fault, Fits};
 
@@ -128,12 +171,7 @@ impl<A: Allocator> Layout<A> {
         ensures value { result ≡ instant_of self.now k }
         ensures early { IfSome result (λ _. k ≤ end_of_time) }
     {
-        let passed = k as u128 * 1_000_000 / self.setup.rate as u128;
-        let left = LAST - self.setup.start;
-        if passed > left as u128 {
-            return None;
-        }
-        Some(self.setup.start + passed as i64)
+        instant_at(self.rate(), self.start(), k)
     }
 
     /// Whether a scan has the layout's channels, each value in its channel's range. Takes no memory, and looks at each
@@ -142,18 +180,7 @@ impl<A: Allocator> Layout<A> {
         ensures fault { MatchResult result (λ _. scan_fault self.now scan.now ≡ None) (λ fault. scan_fault self.now scan.now ≡ Some fault) }
         ensures fits { OnOk result (Fits self.now scan.now) }
     {
-        let channels = self.analog();
-        let readings = scan.analog();
-        if readings.len() != channels.len() {
-            return Err(ScanFault::Shape);
-        }
-        if scan.status().len() != self.status().len() {
-            return Err(ScanFault::Shape);
-        }
-        match lowest_out(channels, readings) {
-            Some(i) => Err(ScanFault::Range(i as u32)),
-            None => Ok(()),
-        }
+        scan_fault(&self.setup, scan)
     }
 }
 

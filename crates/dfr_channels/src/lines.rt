@@ -20,7 +20,9 @@ fn without_carriage_return(line: &[u8]) -> &[u8]
 pub fn lines_of<'a, A: Allocator>(alloc: A, text: &'a [u8]) -> Result<Vec<&'a [u8], A>, AllocError>
     ensures { IfOk result (λ v. texts v.items ≡ cut_lines text.now) }
 {
-    text.split(|b| *b == b'\n').map(|line| without_carriage_return(line)).collect(alloc)
+    text.split(|b| *b == b'\n')
+        .map(|line| without_carriage_return(line))
+        .collect(alloc)
 }
 
 /// The lines without the blank ones at their end.
@@ -41,5 +43,7 @@ pub fn without_blank_end<'s, 'a>(lines: &'s [&'a [u8]]) -> &'s [&'a [u8]]
 pub fn fields_of<'a, A: Allocator>(alloc: A, line: &'a [u8]) -> Result<Vec<&'a [u8], A>, AllocError>
     ensures { IfOk result (λ v. texts v.items ≡ fields line.now) }
 {
-    line.split(|b| *b == b',').map(|field| trim(field)).collect(alloc)
+    line.split(|b| *b == b',')
+        .map(|field| trim(field))
+        .collect(alloc)
 }

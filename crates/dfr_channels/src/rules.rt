@@ -59,7 +59,11 @@ impl<A: Allocator> Rules<A> {
     ghost use Rattle.dfr_channels.specs.Firing.{lowest_holding, rules_fit, rules_fault};
 
     /// Takes no memory; a list with a fault is handed back. An empty one is lawful.
-    pub fn new(layout: &Layout<A>, list: Vec<Rule, A>) -> Result<Rules<A>, (RuleFault, Vec<Rule, A>)>
+    #[tactic(auto, unfolding(crate::specs::Firing::rules_fault))]
+    pub fn new(
+        layout: &Layout<A>,
+        list: Vec<Rule, A>,
+    ) -> Result<Rules<A>, (RuleFault, Vec<Rule, A>)>
         ensures made { IfOk result (λ rules. (rules_fault layout.now list.items ≡ None) × (rules ≡ list.items)) }
         ensures fault { IfErr result (λ refused. rules_fault layout.now list.items ≡ Some refused.0) }
         ensures back { IfErr result (λ refused. refused.1.items ≡ list.items) }
@@ -83,10 +87,14 @@ impl<A: Allocator> Rules<A> {
     }
 
     /// Whether each rule names a channel of its kind in the layout.
+    #[tactic(auto, unfolding(crate::specs::Firing::rules_fit))]
     pub fn fits(&self, layout: &Layout<A>) -> bool
         ensures { result ≡ rules_fit layout.now self.now }
     {
-        self.list.items().iter().all(|rule| rule.names_channel(layout))
+        self.list
+            .items()
+            .iter()
+            .all(|rule| rule.names_channel(layout))
     }
 
     /// The lowest rule, from 0, that holds at a scan, after the scan accepted before it. A channel that a scan lacks fires

@@ -27,8 +27,13 @@ impl<A: Allocator> Model for Setup<A> {
     ghost Value = { SetupParts };
 
     ghost view = { λ s. record {
-        station = s.station; device = s.device; analog = s.analog; status = s.status;
-        line_freq = s.line_freq; rate = s.rate; start = s.start
+      station = s.station;
+      device = s.device;
+      analog = s.analog;
+      status = s.status;
+      line_freq = s.line_freq;
+      rate = s.rate;
+      start = s.start;
     } };
 }
 
@@ -58,7 +63,6 @@ pub enum SetupFault {
 
 const LAST: i64 = 253_402_300_799_999_999;
 
-#[tactic(auto, using(std::proofs::lemmas::List::take_all))]
 fn first_256<T>(list: &[T]) -> &[T]
     ensures first { result.now ≡ take 256 list.now }
     ensures few { length result.now ≤ 256 }
@@ -135,6 +139,26 @@ fn has_start(start: i64) -> bool
     0 <= start && start <= LAST
 }
 
+/// The first fault of a clock.
+fn clock_fault_at(rate: u32, start: i64) -> Option<SetupFault>
+    ensures { result ≡ spec.clock_fault rate start }
+{
+    if !has_rate(rate) {
+        return Some(SetupFault::Rate);
+    }
+    if !has_start(start) {
+        return Some(SetupFault::Start);
+    }
+    None
+}
+
+/// The first fault of a set-up's clock.
+fn clock_fault<A: Allocator>(setup: &Setup<A>) -> Option<SetupFault>
+    ensures { result ≡ spec.clock_fault setup.now.rate setup.now.start }
+{
+    clock_fault_at(setup.rate, setup.start)
+}
+
 /// The first fault of a set-up.
 #[tactic(auto, unfolding(crate::specs::Setups::setup_fault))]
 pub(crate) fn setup_fault<A: Allocator>(setup: &Setup<A>) -> Option<SetupFault>
@@ -149,17 +173,36 @@ pub(crate) fn setup_fault<A: Allocator>(setup: &Setup<A>) -> Option<SetupFault>
     if let Some(i) = without_span(setup.analog.items()) {
         return Some(SetupFault::Span(i as u32));
     }
-    if !has_rate(setup.rate) {
-        return Some(SetupFault::Rate);
-    }
-    if !has_start(setup.start) {
-        return Some(SetupFault::Start);
-    }
-    None
+    clock_fault(setup)
 }
 
 impl<A: Allocator + Copy> Setup<A> {
     ghost use Rattle.std.specs.Prelude.{◌≡◌, IfOk};
+
+    /// The set-up over copies of its lists.
+    fn over(
+        &self,
+        station: Items<u8, A>,
+        device: Items<u8, A>,
+        analog: Items<AnalogChannel<A>, A>,
+        status: Items<StatusChannel<A>, A>,
+    ) -> Setup<A>
+        requires station { station ≡ self.now.station }
+        requires device { device ≡ self.now.device }
+        requires analog { analog ≡ self.now.analog }
+        requires status { status ≡ self.now.status }
+        ensures { result ≡ self.now }
+    {
+        Setup {
+            station,
+            device,
+            analog,
+            status,
+            line_freq: self.line_freq,
+            rate: self.rate,
+            start: self.start,
+        }
+    }
 
     /// A copy of its own, on the same allocator.
     pub fn try_clone(&self) -> Result<Setup<A>, Memory>
@@ -170,14 +213,6 @@ impl<A: Allocator + Copy> Setup<A> {
         let device = self.device.try_clone()?;
         let analog = copies_of(alloc, self.analog.items())?;
         let status = copies_of(alloc, self.status.items())?;
-        Ok(Setup {
-            station,
-            device,
-            analog,
-            status,
-            line_freq: self.line_freq,
-            rate: self.rate,
-            start: self.start,
-        })
+        Ok(self.over(station, device, analog, status))
     }
 }

@@ -9,5 +9,5 @@ use Rattle.dfr_channels.proofs.lines.fields_of.Goals as goal
 pub returns : goal.returns
 returns g c = map_from_collect _ c.collect.ensures.ran
     (YieldsList-from_map_by _ (λ x. x.now) trimmed
-        (YieldsList-at c.map.ensures.source (YieldsList-from_slice_split _ (λ b. b == 44) c.args.line.now c.split.ensures.rest c.split.ensures.done c.split.ensures.closure (λ x b q k. search rules)))
-        c.map.ensures.closure (λ x r q k. search rules))
+    (YieldsList-at c.map.ensures.source (YieldsList-from_slice_split _ (λ b. b == 44) c.args.line.now c.split.ensures.rest c.split.ensures.done c.split.ensures.closure (λ x b q k. search rules)))
+    c.map.ensures.closure (λ x r q k. search rules))

@@ -1,6 +1,5 @@
 use Rattle.std.proofs.Common.{rules}
 use Rattle.std.specs.Prelude.{◌==◌}
-use Rattle.dfr_channels.specs.Spelling.{trimmed}
 use Rattle.dfr_channels.specs.Lines.{without_cr}
 use Rattle.std.proofs.lemmas.Iterator.{YieldsList-from_map_by}
 use Rattle.std.proofs.lemmas.Iterator.Consumers.{map_from_collect, YieldsList-at}
@@ -10,5 +9,5 @@ use Rattle.dfr_channels.proofs.lines.lines_of.Goals as goal
 pub returns : goal.returns
 returns g c = map_from_collect _ c.collect.ensures.ran
     (YieldsList-from_map_by _ (λ x. x.now) without_cr
-        (YieldsList-at c.map.ensures.source (YieldsList-from_slice_split _ (λ b. b == 10) c.args.text.now c.split.ensures.rest c.split.ensures.done c.split.ensures.closure (λ x b q k. search rules)))
-        c.map.ensures.closure (λ x r q k. search rules))
+    (YieldsList-at c.map.ensures.source (YieldsList-from_slice_split _ (λ b. b == 10) c.args.text.now c.split.ensures.rest c.split.ensures.done c.split.ensures.closure (λ x b q k. search rules)))
+    c.map.ensures.closure (λ x r q k. search rules))

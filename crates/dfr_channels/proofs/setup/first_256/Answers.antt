@@ -1,7 +1,6 @@
-use Rattle.std.proofs.Common.{rules, ◌≡◌, ◌≤◌, ◌<◌, ◌+◌, ◌&&◌, ℤ, pos, int_le, nat_le, length, take, position, not, IfSome, ℕ, ◌-◌, ◌*◌, ◌/◌, ◌%◌, Bool, true, false, nat_eq, nat_lt, List, [], ◌∷◌, ◌++◌, slice_index_or, slice_set, bit_and, bit_or, Fits, w8, w32, w64, Bor, MutBor}
-use Rattle.dfr_channels.specs.Setups as spec
+use Rattle.std.proofs.Common.{sym, arith, inl, inr}
+use Rattle.std.proofs.lemmas.List.{take_all}
 use Rattle.dfr_channels.proofs.setup.first_256.Goals as goal
 
--- src/setup.rt:61:1
 pub returns-in-None-clause-first : goal.returns-in-None-clause-first
-returns-in-None-clause-first g c = ?
+returns-in-None-clause-first g c = elim c.in-None.ensures.lookup.0 [ inl never ↦ absurd (omega arith) | inr few ↦ sym (take_all 256 c.args.list.now (omega arith)) ]

@@ -1,4 +1,4 @@
-use Rattle.std.proofs.Common.{◌≡◌, ℕ, length}
+use Rattle.std.proofs.Common.{◌≡◌, length}
 use Rattle.std.specs.Prelude.{reverse}
 use Rattle.dfr_channels.specs.Spelling.{trimmed, trim_start}
 use Rattle.dfr_channels.proofs.text.trim.Given as goal
