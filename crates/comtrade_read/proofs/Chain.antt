@@ -25,7 +25,7 @@ lines_append ls (r ∷ rs) ss n =
     rw (lines_append ls rs ss (n + 1), s) (sym (or_assoc (line_fault ls r n) (lines_fault ls rs (n + 1)) (lines_fault ls ss (n + 1 + length rs))))
 
 -- kinds that differ by a number, one after the other
-lines_map : (ls : List (List ℕ)) (g : ℕ → Rule) (n count : ℕ) → lines_fault ls (map g (range_with_len 0 count)) n ≡ first_in (λ i. line_fault ls (g i) (n + i)) count
+pub lines_map : (ls : List (List ℕ)) (g : ℕ → Rule) (n count : ℕ) → lines_fault ls (map g (range_with_len 0 count)) n ≡ first_in (λ i. line_fault ls (g i) (n + i)) count
 unfolding lines_fault first_in
 lines_map ls g n zero = refl
 lines_map ls g n (suc c) =

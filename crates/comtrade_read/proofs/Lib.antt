@@ -3,3 +3,5 @@ pub mod Digits
 pub mod FirstFault
 pub mod Chain
 pub mod HeadRead
+pub mod RowLine
+pub mod Outcomes

@@ -13,7 +13,7 @@ use jiff_core::civil::Date;
 use dfr_channels::numeral_of;
 
 /// Where the byte first stands.
-fn place_of(text: &[u8], byte: u8) -> Option<usize>
+pub(crate) fn place_of(text: &[u8], byte: u8) -> Option<usize>
     ensures { result ≡ position (λ b. b == byte) text.now }
 {
     text.iter().position(|b| *b == byte)

@@ -1,7 +1,10 @@
 //! Reads COMTRADE files of C37.111-1999.
 #![tactic(auto)]
 
+mod ascii;
+mod binary;
 mod channels;
+mod data;
 mod fault;
 mod fields;
 mod head;
@@ -10,6 +13,7 @@ mod laws;
 mod place;
 mod settings;
 
+pub use data::read_dat;
 pub use fault::ReadFault;
 pub use head::read_cfg;
 pub use laws::first_fault;

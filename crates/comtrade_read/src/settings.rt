@@ -2,7 +2,7 @@
 
 ghost use Rattle.std.specs.Prelude.{◌≡◌, ◌+◌, ◌<◌, ◌≤◌, ◌^◌, length, IfOk, List, ℕ, max};
 ghost use Rattle.dfr_channels.specs.Lines.{texts, line_fields, field};
-ghost use Rattle.comtrade_read.specs.Table.{Gives, line_fault, fields_fault, first_in, extra_fault};
+ghost use Rattle.comtrade_read.specs.Table.{Gives, line_fault, fields_fault, first_in};
 ghost use Rattle.comtrade_read.specs.Head.{TailParts};
 ghost use Rattle.comtrade_read.specs.Head as spec;
 ghost use Rattle.comtrade_read.specs.Fields.{whole, scale, free_scale};
@@ -12,7 +12,7 @@ use crate::fields::{count_of, free_scale_of, kind_of, natural_of, scale_of, text
 use comtrade_write::{Kind, Rate};
 use crate::instant::{date_of, instant_at, time_of};
 
-use crate::place::fields_at;
+use crate::place::{end_at, fields_at};
 use dfr_channels::{Decimal, Items, integer_of};
 use std::alloc::Allocator;
 
@@ -225,15 +225,6 @@ fn timemult_at<A: Allocator + Copy>(alloc: A, lines: &[&[u8]], place: usize) -> 
 {
     let fields = fields_at(alloc, lines, place)?;
     timemult_of(place as u64 + 1, &fields)
-}
-
-/// That no line stands at this place.
-#[tactic(auto, unfolding(crate::specs::Table::extra_fault))]
-fn end_at(lines: &[&[u8]], place: usize) -> Result<(), ReadFault>
-    requires { place < 2 ^ 63 }
-    ensures { Gives (λ x. x) (extra_fault (texts lines.now) place) tt result }
-{
-    if place < lines.len() { Err(ReadFault::Extra(place as u64 + 1)) } else { Ok(()) }
 }
 
 /// The part of a head behind its channels.
