@@ -6,3 +6,4 @@ pub mod Faulty
 pub mod Ascii
 pub mod Binary
 pub mod Data
+pub mod Pair

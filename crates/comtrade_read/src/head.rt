@@ -4,7 +4,7 @@ ghost use Rattle.std.specs.Prelude.{◌≡◌, ◌≢◌, IfOk, IfErr};
 ghost use Rattle.comtrade_read.specs.declared.fault.ReadFault.TheVariants as faults;
 ghost use Rattle.dfr_channels.specs.Lines.{texts, lines, line_fields};
 ghost use Rattle.comtrade_read.specs.Table.{Gives};
-ghost use Rattle.comtrade_read.specs.Faulty.{AllObey, Faulty};
+ghost use Rattle.comtrade_read.specs.Pair.{SaysHead, FaultyHead};
 ghost use Rattle.comtrade_read.specs.Head as spec;
 
 use crate::channels::{analogs_of, statuses_of};
@@ -41,22 +41,11 @@ fn head_of<A: Allocator + Copy>(alloc: A, lines: &[&[u8]]) -> Result<Head<A>, Re
     })
 }
 
-/// The head that the lines say, or their first fault.
-fn judged<A: Allocator + Copy>(alloc: A, lines: &[&[u8]]) -> Result<Head<A>, ReadFault>
-    ensures found { IfOk result (λ h. AllObey (texts lines.now) (spec.head_rules (texts lines.now)) × (h ≡ spec.head_value (texts lines.now))) }
-    ensures fault { IfErr result (λ e. e ≢ faults.Memory → Faulty (texts lines.now) (spec.head_rules (texts lines.now)) e) }
-{
-    match head_of(alloc, lines) {
-        Ok(head) => Ok(head),
-        Err(fault) => Err(fault),
-    }
-}
-
 /// The head that a text says.
 pub fn read_cfg<A: Allocator + Copy>(alloc: A, text: &[u8]) -> Result<Head<A>, ReadFault>
-    ensures found { IfOk result (λ h. AllObey (lines text.now) (spec.head_rules (lines text.now)) × (h ≡ spec.head_value (lines text.now))) }
-    ensures fault { IfErr result (λ e. e ≢ faults.Memory → Faulty (lines text.now) (spec.head_rules (lines text.now)) e) }
+    ensures found { IfOk result (SaysHead text.now) }
+    ensures fault { IfErr result (λ e. e ≢ faults.Memory → FaultyHead text.now e) }
 {
     let lines = lines_of(alloc, text)?;
-    judged(alloc, without_blank_end(&lines))
+    head_of(alloc, without_blank_end(&lines))
 }

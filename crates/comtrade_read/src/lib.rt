@@ -10,10 +10,12 @@ mod fields;
 mod head;
 mod instant;
 mod laws;
+mod pair;
 mod place;
 mod settings;
 
 pub use data::read_dat;
 pub use fault::ReadFault;
 pub use head::read_cfg;
+pub use pair::{Part, read};
 pub use laws::first_fault;
