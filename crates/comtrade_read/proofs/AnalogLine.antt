@@ -1,10 +1,8 @@
 -- The line of an analogue channel whose fields were all read.
-use Rattle.std.proofs.Common.{◌≡◌, ℕ, ◌+◌, ◌-◌, List, length, Option, Some, None, ◌<◌, ◌^◌, FitsSigned, of_z, refl, sym, ap, ◌∙◌, arith, ℤ, pos, negsuc, eqb, true, false}
+use Rattle.std.proofs.Common.{◌≡◌, ℕ, ◌+◌, ◌-◌, List, length, Some, None, ◌<◌, ◌^◌, FitsSigned, of_z, refl, ap, arith, ℤ, pos, negsuc, eqb, true, false}
 use Rattle.std.specs.Prelude.{unwrap_or}
 use Rattle.std.specs.Int.{w128}
 use Rattle.std.proofs.lemmas.Bool.Decides.{nat_tests}
-use Rattle.dfr_channels.specs.Spelling.{Number}
-use Rattle.dfr_channels.specs.declared.channel.Side.{Side}
 use Rattle.dfr_channels.specs.Parts.{AnalogParts}
 use Rattle.dfr_channels.specs.Lines.{field, line_fields}
 use Rattle.comtrade_read.specs.Fields.{whole, natural, small, scale, free_scale, side}

@@ -1,10 +1,9 @@
 -- The first fault of a head, part by part, is the first fault of its lines.
-use Rattle.std.proofs.Common.{◌≡◌, ℕ, zero, suc, ◌+◌, ◌-◌, max, List, [], ◌∷◌, ◌++◌, length, map, Option, Some, None, refl, sym, ap, ◌∙◌, arith, length-append}
+use Rattle.std.proofs.Common.{◌≡◌, ℕ, zero, suc, ◌+◌, List, [], ◌∷◌, ◌++◌, length, map, Option, Some, None, refl, sym, ap, ◌∙◌, arith, length-append}
 use Rattle.std.specs.List.{range_with_len}
 use Rattle.std.proofs.lemmas.List.FromFn.{map-range_with_len_more, length-map-range_with_len}
 use Rattle.comtrade_read.specs.declared.fault.ReadFault.{ReadFault}
-use Rattle.comtrade_read.specs.declared.fault.ReadFault.TheVariants as faults
-use Rattle.dfr_channels.specs.Lines.{field, line_fields}
+use Rattle.dfr_channels.specs.Lines.{line_fields}
 use Rattle.dfr_channels.specs.Faults.{◌or◌}
 use Rattle.comtrade_read.specs.Table.{Rule, line_fault, lines_fault, extra_fault, file_fault, first_in}
 use Rattle.comtrade_read.specs.Head.{names_rule, counts_rule, analog_rule, status_rule, frequency_rule, nrates_rule, rate_rule, rate_before, instant_rule, kind_rule, timemult_rule, analog_rules, status_rules, rate_rules, analog_faults, status_faults, rate_faults, analog_count, status_count, rate_count, head_rules, head_fault, tail_fault, chain}
@@ -73,12 +72,12 @@ tail_is ls at r =
     let y : Option ReadFault = first_in (rate_faults ls (at + 2)) r in
     or_assoc f (n or lines_fault ls (rate_rules ls (at + 2) r ++ end_rules) (at + 1 + 1)) x
     ∙ ap (λ (z : Option ReadFault). f or z) (or_assoc n (lines_fault ls (rate_rules ls (at + 2) r ++ end_rules) (at + 1 + 1)) x
-      ∙ ap (λ (z : Option ReadFault). n or z) (
-          ap (λ (p : ℕ). lines_fault ls (rate_rules ls (at + 2) r ++ end_rules) p or x) a
-          ∙ ap (λ (z : Option ReadFault). z or x) list
-          ∙ or_assoc y (lines_fault ls end_rules (at + 2 + r)) x
-          ∙ ap (λ (p : ℕ). y or (lines_fault ls end_rules (at + 2 + r) or extra_fault ls p)) d
-          ∙ ap (λ (z : Option ReadFault). y or z) rest))
+    ∙ ap (λ (z : Option ReadFault). n or z) (
+    ap (λ (p : ℕ). lines_fault ls (rate_rules ls (at + 2) r ++ end_rules) p or x) a
+    ∙ ap (λ (z : Option ReadFault). z or x) list
+    ∙ or_assoc y (lines_fault ls end_rules (at + 2 + r)) x
+    ∙ ap (λ (p : ℕ). y or (lines_fault ls end_rules (at + 2 + r) or extra_fault ls p)) d
+    ∙ ap (λ (z : Option ReadFault). y or z) rest))
 
 tail_length : (ls : List (List ℕ)) (at r : ℕ) → length (tail_rules ls at r) ≡ r + 6
 tail_length ls at r = omega (arith, length-append (rate_rules ls (at + 2) r) end_rules, length-map-range_with_len (λ (i : ℕ). rate_rule (rate_before ls (at + 2) i)) 0 r)
@@ -96,16 +95,22 @@ chain_is ls =
     let ys : Option ReadFault = first_in (analog_faults ls) k in
     let zs : Option ReadFault = first_in (status_faults ls k) m in
     let n : ℕ = suc (suc (length (analog_rules k ++ (status_rules k m ++ ts)))) in
-    let len : n ≡ at + 6 + r = omega (arith, length-append (analog_rules k) (status_rules k m ++ ts), length-append (status_rules k m) ts, tail_length ls at r,
-        length-map-range_with_len (λ (i : ℕ). analog_rule (i + 1)) 0 k, length-map-range_with_len (λ (i : ℕ). status_rule (k + i + 1)) 0 m) in
+    let len : n ≡ at + 6 + r = omega (
+      arith,
+      length-append (analog_rules k) (status_rules k m ++ ts),
+      length-append (status_rules k m) ts,
+      tail_length ls at r,
+      length-map-range_with_len (λ (i : ℕ). analog_rule (i + 1)) 0 k,
+      length-map-range_with_len (λ (i : ℕ). status_rule (k + i + 1)) 0 m,
+    ) in
     let x : Option ReadFault = extra_fault ls n in
     let inner : lines_fault ls (analog_rules k ++ (status_rules k m ++ ts)) 2 ≡ (ys or (zs or lines_fault ls ts at)) =
-        lines_list ls (λ (i : ℕ). analog_rule (i + 1)) 2 k (status_rules k m ++ ts)
-        ∙ ap (λ (z : Option ReadFault). ys or z) (lines_list ls (λ (i : ℕ). status_rule (k + i + 1)) (2 + k) m ts) in
+    lines_list ls (λ (i : ℕ). analog_rule (i + 1)) 2 k (status_rules k m ++ ts)
+    ∙ ap (λ (z : Option ReadFault). ys or z) (lines_list ls (λ (i : ℕ). status_rule (k + i + 1)) (2 + k) m ts) in
     or_assoc a (b or lines_fault ls (analog_rules k ++ (status_rules k m ++ ts)) 2) x
     ∙ ap (λ (z : Option ReadFault). a or z) (or_assoc b (lines_fault ls (analog_rules k ++ (status_rules k m ++ ts)) 2) x
-      ∙ ap (λ (z : Option ReadFault). b or z) (
-          ap (λ (z : Option ReadFault). z or x) inner
-          ∙ or_assoc ys (zs or lines_fault ls ts at) x
-          ∙ ap (λ (z : Option ReadFault). ys or z) (or_assoc zs (lines_fault ls ts at) x
-            ∙ ap (λ (z : Option ReadFault). zs or z) (ap (λ (p : ℕ). lines_fault ls ts at or extra_fault ls p) len ∙ tail_is ls at r))))
+    ∙ ap (λ (z : Option ReadFault). b or z) (
+    ap (λ (z : Option ReadFault). z or x) inner
+    ∙ or_assoc ys (zs or lines_fault ls ts at) x
+    ∙ ap (λ (z : Option ReadFault). ys or z) (or_assoc zs (lines_fault ls ts at) x
+    ∙ ap (λ (z : Option ReadFault). zs or z) (ap (λ (p : ℕ). lines_fault ls ts at or extra_fault ls p) len ∙ tail_is ls at r))))

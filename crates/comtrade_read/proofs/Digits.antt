@@ -1,5 +1,5 @@
 -- A few digits spell a small number.
-use Rattle.std.proofs.Common.{◌≡◌, ℕ, zero, suc, ◌+◌, ◌-◌, ◌*◌, ◌<◌, ◌≤◌, ◌^◌, Bool, true, false, cond, ltb, leb, min, List, [], ◌∷◌, length, Option, Some, None, w8, w16, to_z, refl, sym, ap, ◌∙◌, arith}
+use Rattle.std.proofs.Common.{◌≡◌, ℕ, zero, suc, ◌-◌, ◌*◌, ◌<◌, ◌≤◌, ◌^◌, Bool, true, false, cond, ltb, leb, min, List, [], ◌∷◌, length, Option, Some, None, w8, w16, to_z, refl, ap, arith}
 use Rattle.std.specs.Prelude.{◌&&◌, ℤ, pos}
 use Rattle.std.specs.Char.{is_ascii_digit, digit_value}
 use Rattle.std.specs.Str.{all_ascii_digits}
@@ -94,8 +94,10 @@ day_is y m d None one few is =
   where
     no : false ≡ true → ⊥
     no e = absurd cc
+
     made : 1 ≤ m → m ≤ 12 → 1 ≤ d → d ≤ days_in_month (pos y) m → IsDate (pos y) (pos m) (pos d)
     made a b f g = ((omega (arith, ints), omega (arith, ints)), (omega (arith, ints), omega (arith, ints)), (omega (arith, ints), omega (arith, ints)))
+
     with_tests : (o a b f g : Bool) → (leb 1 m ≡ true → leb m 12 ≡ true → leb 1 d ≡ true → leb d (days_in_month (pos y) m) ≡ true → ⊥) → leb 1 m ≡ a → leb m 12 ≡ b → leb 1 d ≡ f → leb d (days_in_month (pos y) m) ≡ g
         → none_day ≡ cond ((((o && a) && b) && f) && g) (Some (days_from_civil (pos y) m d)) None
     with_tests true true true true true no ea eb ef eg = absurd (no ea eb ef eg)

@@ -1,15 +1,14 @@
 -- The fault that a table gives is the first, and there is none exactly where every line is of its kind.
-use Rattle.std.proofs.Common.{◌≡◌, ℕ, zero, suc, ◌+◌, ◌-◌, ◌<◌, ◌≤◌, Bool, true, false, cond, ltb, eqb, List, [], ◌∷◌, ◌++◌, length, map, get_or, Option, Some, None, refl, sym, ap, subst, ◌∙◌, arith, inl, inr}
-use Rattle.std.specs.Prelude.{◌≢◌, ◌⊎◌, slice_index_or}
-use Rattle.std.specs.List.{range_with_len}
+use Rattle.std.proofs.Common.{◌≡◌, ℕ, zero, suc, ◌+◌, ◌<◌, ◌≤◌, Bool, true, false, cond, ltb, eqb, List, [], ◌∷◌, length, Option, Some, None, refl, arith, inl, inr}
+use Rattle.std.specs.Prelude.{◌≢◌, ◌⊎◌}
 use Rattle.std.proofs.lemmas.Bool.Decides.{nat_tests}
 use Rattle.std.proofs.lemmas.Bool.{ltb-true, ltb-false, lt-ltb, le-ltb, eqb-true, cases_lt}
 use Rattle.comtrade_read.specs.declared.fault.ReadFault.{ReadFault}
 use Rattle.comtrade_read.specs.declared.fault.ReadFault.TheVariants as faults
 use Rattle.dfr_channels.specs.Lines.{field, line_fields}
 use Rattle.dfr_channels.specs.Faults.{◌or◌}
-use Rattle.comtrade_read.specs.Table.{Rule, plain, always, tests_fault, fields_fault, line_fault, lines_fault, extra_fault, file_fault, first_in}
-use Rattle.comtrade_read.specs.Faulty.{passes, ObeysFields, Obeys, IsFieldsFault, few, bad, wrong, IsLineFault, missing, within, rule, AllObey, Faulty, at, extra, FaultLaw, SoundLaw, CompleteLaw}
+use Rattle.comtrade_read.specs.Table.{Rule, tests_fault, fields_fault, line_fault, lines_fault, extra_fault, file_fault, first_in}
+use Rattle.comtrade_read.specs.Faulty.{passes, ObeysFields, Obeys, IsFieldsFault, few, bad, wrong, IsLineFault, missing, within, rule, Faulty, at, extra, FaultLaw, SoundLaw, CompleteLaw}
 
 abbrev some : ReadFault → Option ReadFault
 some e = Some e
@@ -50,6 +49,7 @@ tests_none r line (t ∷ ts) i fs h = with_test (λ e. tests_none r line ts (i +
     each : t (field fs i) ≡ true → ((j : ℕ) → j < length ts → passes ts fs j (i + 1 + j) ≡ true) → (j : ℕ) → j < suc (length ts) → passes (t ∷ ts) fs j (i + j) ≡ true
     each here rest zero lt = let e : i + 0 ≡ i = omega arith in rw e here
     each here rest (suc j) lt = let e : i + suc j ≡ i + 1 + j = omega arith in rw e (rest j (omega arith))
+
     with_test : (tests_fault r line ts (i + 1) fs ≡ None → ((j : ℕ) → j < length ts → passes ts fs j (i + 1 + j) ≡ true) × (r.whole fs ≡ true)) → (b : Bool) → t (field fs i) ≡ b
         → cond b (tests_fault r line ts (i + 1) fs) (some (r.bad line (i + 1))) ≡ None → ((j : ℕ) → j < suc (length ts) → passes (t ∷ ts) fs j (i + j) ≡ true) × (r.whole fs ≡ true)
     with_test rest true here e = let p = rest e in (each here p.0, p.1)
@@ -79,6 +79,7 @@ tests_some r line (t ∷ ts) i fs e h = with_test (λ g. tests_some r line ts (i
     each : t (field fs i) ≡ true → (n : ℕ) → ((j : ℕ) → j < n → passes ts fs j (i + 1 + j) ≡ true) → (j : ℕ) → j < suc n → passes (t ∷ ts) fs j (i + j) ≡ true
     each here n rest zero lt = let z : i + 0 ≡ i = omega arith in rw z here
     each here n rest (suc j) lt = let s : i + suc j ≡ i + 1 + j = omega arith in rw s (rest j (omega arith))
+
     with_test : (tests_fault r line ts (i + 1) fs ≡ Some e → TestsFault r line ts (i + 1) fs e) → (b : Bool) → t (field fs i) ≡ b
         → cond b (tests_fault r line ts (i + 1) fs) (some (r.bad line (i + 1))) ≡ Some e → TestsFault r line (t ∷ ts) i fs e
     with_test rest true here g = elim (rest g) [
@@ -90,18 +91,18 @@ tests_some r line (t ∷ ts) i fs e h = with_test (λ g. tests_some r line ts (i
       | inr p ↦ inr (each here (length ts) p.0, p.1, p.2)
     ]
     with_test rest false here g =
-      let z : i + 0 ≡ i = omega arith in
-      let q : passes (t ∷ ts) fs 0 (i + 0) ≡ false = rw z here in
-      let f : e ≡ r.bad line (i + 0 + 1) = rw z (some_is (r.bad line (i + 1)) e g) in
-      inl (0, omega arith, q, λ j lt. absurd (omega arith), f)
+        let z : i + 0 ≡ i = omega arith in
+        let q : passes (t ∷ ts) fs 0 (i + 0) ≡ false = rw z here in
+        let f : e ≡ r.bad line (i + 0 + 1) = rw z (some_is (r.bad line (i + 1)) e g) in
+        inl (0, omega arith, q, λ j lt. absurd (omega arith), f)
 
 fields_none : (r : Rule) (line : ℕ) (fs : List (List ℕ)) → fields_fault r line fs ≡ None → ObeysFields r fs
 fields_none r line fs h = with_test (eqb (length fs) (length r.tests)) refl h
   where
     with_test : (b : Bool) → eqb (length fs) (length r.tests) ≡ b → cond b (tests_fault r line r.tests 0 fs) (some (r.few line (length fs))) ≡ None → ObeysFields r fs
     with_test true t e =
-      let p = tests_none r line r.tests 0 fs e in
-      record { many = eqb-true _ _ t; each = λ i lt. let z : 0 + i ≡ i = omega arith in rw z at (p.0 i lt); whole = p.1 }
+        let p = tests_none r line r.tests 0 fs e in
+        record { many = eqb-true _ _ t; each = λ i lt. let z : 0 + i ≡ i = omega arith in rw z at (p.0 i lt); whole = p.1 }
     with_test false t e = none_not (r.few line (length fs)) e
 
 fields_again : (r : Rule) (line : ℕ) (fs : List (List ℕ)) → ObeysFields r fs → fields_fault r line fs ≡ None
@@ -113,6 +114,7 @@ fields_some r line fs e h = with_test (eqb (length fs) (length r.tests)) refl h
   where
     at_0 : (n : ℕ) (b : Bool) → passes r.tests fs n (0 + n) ≡ b → passes r.tests fs n n ≡ b
     at_0 n b p = let z : 0 + n ≡ n = omega arith in rw z at p
+
     with_test : (b : Bool) → eqb (length fs) (length r.tests) ≡ b → cond b (tests_fault r line r.tests 0 fs) (some (r.few line (length fs))) ≡ Some e → IsFieldsFault r line fs e
     with_test true t g = elim (tests_some r line r.tests 0 fs e g) [
       | inl p ↦
@@ -168,16 +170,16 @@ lines_some : (ls : List (List ℕ)) (rs : List Rule) (n : ℕ) (e : ReadFault) �
 unfolding lines_fault
 lines_some ls [] n e h = absurd cc
 lines_some ls (r ∷ rs) n e h = elim (or_some (line_fault ls r n) (lines_fault ls rs (n + 1)) e h) [
-      | inl p ↦
-          let z : n + 0 ≡ n = omega arith in
-          let q : IsLineFault ls r (n + 0) e = rw z (line_some ls r n e p) in
-          (0, omega arith, λ j lt. absurd (omega arith), q)
-      | inr p ↦
-          let rest = lines_some ls rs (n + 1) e p.1 in
-          let s : n + suc rest.0 ≡ n + 1 + rest.0 = omega arith in
-          let q : IsLineFault ls (rule rs rest.0) (n + suc rest.0) e = rw s rest.3 in
-          (suc rest.0, omega (arith, rest.1), before rest.0 (line_none ls r n p.0) rest.2, q)
-    ]
+  | inl p ↦
+      let z : n + 0 ≡ n = omega arith in
+      let q : IsLineFault ls r (n + 0) e = rw z (line_some ls r n e p) in
+      (0, omega arith, λ j lt. absurd (omega arith), q)
+  | inr p ↦
+      let rest = lines_some ls rs (n + 1) e p.1 in
+      let s : n + suc rest.0 ≡ n + 1 + rest.0 = omega arith in
+      let q : IsLineFault ls (rule rs rest.0) (n + suc rest.0) e = rw s rest.3 in
+      (suc rest.0, omega (arith, rest.1), before rest.0 (line_none ls r n p.0) rest.2, q)
+]
   where
     before : (k : ℕ) → Obeys ls r n → ((j : ℕ) → j < k → Obeys ls (rule rs j) (n + 1 + j)) → (j : ℕ) → j < suc k → Obeys ls (rule (r ∷ rs) j) (n + j)
     before k here rest zero lt = let z : n + 0 ≡ n = omega arith in rw z here
@@ -205,12 +207,12 @@ file_complete ls rs o =
 pub file_first : FaultLaw
 unfolding file_fault extra_fault
 file_first ls rs e h = elim (or_some (lines_fault ls rs 0) _ e h) [
-      | inl p ↦
-          let q = lines_some ls rs 0 e p in
-          let z : 0 + q.0 ≡ q.0 = omega arith in
-          at q.0 q.1 (λ j lt. from_0 ls rs j (q.2 j lt)) (rw z at q.3)
-      | inr p ↦ with_test (ltb (length rs) (length ls)) refl p.0 p.1
-    ]
+  | inl p ↦
+      let q = lines_some ls rs 0 e p in
+      let z : 0 + q.0 ≡ q.0 = omega arith in
+      at q.0 q.1 (λ j lt. from_0 ls rs j (q.2 j lt)) (rw z at q.3)
+  | inr p ↦ with_test (ltb (length rs) (length ls)) refl p.0 p.1
+]
   where
     with_test : (b : Bool) → ltb (length rs) (length ls) ≡ b → lines_fault ls rs 0 ≡ None → cond b (some (faults.Extra (length rs + 1))) None ≡ Some e → Faulty ls rs e
     with_test true t none g = extra (λ j lt. from_0 ls rs j (lines_none ls rs 0 none j lt)) (ltb-true _ _ t) (some_is _ e g)
@@ -222,9 +224,9 @@ pub stops : (f : ℕ → Option ReadFault) (e : ReadFault) (i count : ℕ) → f
 unfolding first_in
 stops f e i zero none here lt = absurd (omega arith)
 stops f e i (suc n) none here lt = elim (cases_lt i n) [
-      | inl less ↦ rw (stops f e i n none here less) refl
-      | inr same ↦ let is : n ≡ i = omega arith in rw (is, none, here) refl
-    ]
+  | inl less ↦ rw (stops f e i n none here less) refl
+  | inr same ↦ let is : n ≡ i = omega arith in rw (is, none, here) refl
+]
 
 pub goes_on : (f : ℕ → Option ReadFault) (i : ℕ) → first_in f i ≡ None → f i ≡ None → first_in f (i + 1) ≡ None
 unfolding first_in

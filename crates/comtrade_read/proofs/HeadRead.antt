@@ -1,5 +1,5 @@
 -- A head whose lines were all read, or one that fails.
-use Rattle.std.proofs.Common.{◌≡◌, ℕ, ◌+◌, ◌<◌, ◌≤◌, Bool, true, false, cond, leb, ltb, eqb, List, length, Option, Some, None, refl, sym, ap, subst, ◌∙◌, arith}
+use Rattle.std.proofs.Common.{◌≡◌, ℕ, ◌+◌, ◌<◌, ◌≤◌, Bool, true, false, cond, leb, ltb, eqb, List, length, Option, Some, None, refl, ap, ◌∙◌, arith}
 use Rattle.std.specs.Prelude.{◌≢◌, ◌&&◌, ℤ, pos, negsuc, unwrap_or, Result, Ok, Err, IfOk, IfErr}
 use Rattle.std.proofs.lemmas.Bool.{leb-true, eqb-true}
 use Rattle.std.proofs.lemmas.List.FromFn.{length-map-range_with_len}
@@ -9,7 +9,7 @@ use Rattle.comtrade_read.specs.declared.fault.ReadFault.TheVariants as faults
 use Rattle.comtrade_read.specs.Fields.{up_to, natural}
 use Rattle.comtrade_write.specs.Parts.{HeadParts}
 use Rattle.dfr_channels.specs.Lines.{field, line_fields}
-use Rattle.comtrade_read.specs.Table.{Gives, line_fault, first_in, file_fault}
+use Rattle.comtrade_read.specs.Table.{Gives, line_fault, first_in}
 use Rattle.comtrade_read.specs.Faulty.{AllObey, Faulty}
 use Rattle.comtrade_read.specs.Head.{TailParts, names_rule, counts_rule, analog_faults, status_faults, analog_items, status_items, analog_value, status_value, analog_count, status_count, rate_count, head_rules, head_fault, head_value, tail_fault, tail_value, chain, value_of}
 use Rattle.comtrade_read.proofs.FirstFault.{file_first, file_sound}

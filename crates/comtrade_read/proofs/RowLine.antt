@@ -1,5 +1,5 @@
 -- The fault of a line with lists of fields of one kind.
-use Rattle.std.proofs.Common.{◌≡◌, ℕ, zero, suc, ◌+◌, ◌-◌, Bool, true, false, cond, eqb, List, [], ◌∷◌, ◌++◌, length, replicate, Option, Some, None, refl, sym, ap, ◌∙◌, arith, length-append}
+use Rattle.std.proofs.Common.{◌≡◌, ℕ, zero, suc, ◌+◌, Bool, true, false, cond, eqb, List, [], ◌++◌, length, replicate, Option, Some, None, refl, sym, ap, ◌∙◌, arith, length-append}
 use Rattle.comtrade_read.specs.declared.fault.ReadFault.{ReadFault}
 use Rattle.comtrade_read.specs.declared.fault.ReadFault.TheVariants as faults
 use Rattle.dfr_channels.specs.Lines.{field}
@@ -57,8 +57,8 @@ tests_repeat r line (suc n) t us i fs =
     let moved : first_in g n ≡ first_in (λ j. f (j + 1)) n = same_first g (λ j. f (j + 1)) n (λ j. ap (λ (k : ℕ). test_fault r line t fs k) (omega arith)) in
     test_or (t (field fs i)) (tests_fault r line (replicate n t ++ us) (i + 1) fs) (r.bad line (i + 1))
     ∙ ap (λ (y : Option ReadFault). test_fault r line t fs i or y) (tests_repeat r line n t us (i + 1) fs
-        ∙ ap (λ (k : ℕ). first_in g n or tests_fault r line us k fs) s
-        ∙ ap (λ (y : Option ReadFault). y or x) moved)
+    ∙ ap (λ (k : ℕ). first_in g n or tests_fault r line us k fs) s
+    ∙ ap (λ (y : Option ReadFault). y or x) moved)
     ∙ ap (λ (k : ℕ). test_fault r line t fs k or (first_in (λ j. f (j + 1)) n or x)) (sym z)
     ∙ sym (or_assoc (f 0) (first_in (λ j. f (j + 1)) n) x)
     ∙ ap (λ (y : Option ReadFault). y or x) (sym (first_front f n))
@@ -73,8 +73,8 @@ row_tests : (k m line : ℕ) (fs : List (List ℕ)) → tests_fault (row_rule k 
 row_tests k m line fs =
     let r : Rule = row_rule k m in
     let bits : tests_fault r line (replicate m (reads bit)) (2 + k) fs ≡ first_in (bit_faults line k fs) m =
-      ap (λ (us : List (List ℕ → Bool)). tests_fault r line us (2 + k) fs) (sym (append-nil (replicate m (reads bit))))
-      ∙ tests_repeat r line m (reads bit) [] (2 + k) fs ∙ or_nothing (first_in (bit_faults line k fs) m) in
+    ap (λ (us : List (List ℕ → Bool)). tests_fault r line us (2 + k) fs) (sym (append-nil (replicate m (reads bit))))
+    ∙ tests_repeat r line m (reads bit) [] (2 + k) fs ∙ or_nothing (first_in (bit_faults line k fs) m) in
     tests_repeat r line k (reads value) (replicate m (reads bit)) 2 fs ∙ ap (λ (x : Option ReadFault). first_in (value_faults line fs) k or x) bits
 
 eqb-same : (n : ℕ) → eqb n n ≡ true
@@ -90,9 +90,9 @@ row_is k m line fs len =
     let rest = tests_fault r line (lists k m) 2 fs in
     let x : Option ReadFault = cond (reads stamp (field fs 1)) rest (Some (faults.Number line 2)) in
     rw (len, n, eqb-same (2 + k + m)) (
-      test_or (reads (natural 9999999999) (field fs 0)) x (faults.Number line 1)
-      ∙ ap (λ (y : Option ReadFault). field_fault (natural 9999999999) line fs 0 or y) (test_or (reads stamp (field fs 1)) rest (faults.Number line 2)
-        ∙ ap (λ (y : Option ReadFault). field_fault stamp line fs 1 or y) (row_tests k m line fs)))
+    test_or (reads (natural 9999999999) (field fs 0)) x (faults.Number line 1)
+    ∙ ap (λ (y : Option ReadFault). field_fault (natural 9999999999) line fs 0 or y) (test_or (reads stamp (field fs 1)) rest (faults.Number line 2)
+    ∙ ap (λ (y : Option ReadFault). field_fault stamp line fs 1 or y) (row_tests k m line fs)))
 
 pub row_few : (k m line : ℕ) (fs : List (List ℕ)) → length fs ≢ 2 + k + m → fields_fault (row_rule k m) line fs ≡ Some (faults.Fields line)
 row_few k m line fs len =

@@ -1,5 +1,5 @@
 -- The lines of an ASCII data file.
-use Rattle.std.specs.Prelude.{ℕ, ◌+◌, Bool, false, ◌==◌, if◌then◌else◌, List, [], ◌∷◌, ◌++◌, length, map, replicate, Option, Some, None, option_map, unwrap_or, ℤ, pos}
+use Rattle.std.specs.Prelude.{ℕ, ◌+◌, Bool, false, ◌==◌, if◌then◌else◌, List, ◌∷◌, ◌++◌, length, map, replicate, Option, Some, None, option_map, unwrap_or, ℤ, pos}
 use Rattle.std.specs.List.{range_with_len, before_first}
 use Rattle.std.specs.Ordering.{int_eq}
 use Rattle.dfr_channels.specs.Lines.{lines, field, line_fields}
@@ -51,7 +51,7 @@ row_value k m fs = record {
   number = unwrap_or (natural 9999999999 (field fs 0)) 0;
   stamp = unwrap_or (stamp (field fs 1)) None;
   values = value_items fs k;
-  bits = bit_items fs k m
+  bits = bit_items fs k m;
 }
 
 abbrev pub row_items : ℕ → ℕ → List (List ℕ) → ℕ → List RowParts

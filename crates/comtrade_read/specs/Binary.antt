@@ -39,7 +39,7 @@ row_at k m bytes = record {
   number = little_number 4 bytes;
   stamp = stamp_at (drop 4 bytes);
   values = values_at k (drop 8 bytes);
-  bits = bits_at m (drop (8 + 2 * k) bytes)
+  bits = bits_at m (drop (8 + 2 * k) bytes);
 }
 
 -- row i begins behind i rows

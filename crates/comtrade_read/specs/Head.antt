@@ -1,11 +1,10 @@
 -- The kinds of line of a configuration file, and what each says.
-use Rattle.std.specs.Prelude.{◌≡◌, ℕ, ◌+◌, ◌-◌, max, Bool, true, false, ◌||◌, ◌&&◌, ◌==◌, nat_lt, nat_le, if◌then◌else◌, List, [], ◌∷◌, ◌++◌, length, map, slice_index_or, Option, Some, None, is_some, unwrap_or, ℤ, pos, negsuc, codes}
+use Rattle.std.specs.Prelude.{ℕ, ◌+◌, ◌-◌, max, Bool, false, ◌&&◌, ◌==◌, nat_lt, nat_le, if◌then◌else◌, List, [], ◌∷◌, ◌++◌, map, Option, Some, None, unwrap_or, ℤ, pos, negsuc, codes}
 use Rattle.std.specs.Str.{str_eq_ignore_ascii_case}
 use Rattle.std.specs.List.{range_with_len}
 use Rattle.dfr_channels.specs.Spelling.{Number}
 use Rattle.comtrade_read.specs.declared.fault.ReadFault.{ReadFault}
 use Rattle.comtrade_read.specs.declared.fault.ReadFault.TheVariants as faults
-use Rattle.dfr_channels.specs.declared.channel.Side.{Side}
 use Rattle.dfr_channels.specs.declared.channel.Side.TheVariants.{Primary}
 use Rattle.comtrade_write.specs.declared.file.Kind.{Kind}
 use Rattle.comtrade_write.specs.declared.file.Kind.TheVariants.{Ascii, Binary}
@@ -13,7 +12,7 @@ use Rattle.dfr_channels.specs.Parts.{AnalogParts, StatusParts}
 use Rattle.comtrade_write.specs.Parts.{HeadParts}
 use Rattle.comtrade_write.specs.declared.file.Rate.{Rate}
 use Rattle.dfr_channels.specs.Lines.{field, line_fields}
-use Rattle.comtrade_read.specs.Fields.{zero_number, whole, natural, small, scale, free_scale, count, side, bit, free_bit}
+use Rattle.comtrade_read.specs.Fields.{zero_number, whole, natural, small, scale, free_scale, count, side, free_bit}
 use Rattle.comtrade_read.specs.Instant.{date, time, instant_at}
 use Rattle.dfr_channels.specs.Faults.{◌or◌}
 use Rattle.comtrade_read.specs.Table.{Rule, plain, always, reads, file_fault, line_fault, extra_fault, first_in}
@@ -43,7 +42,7 @@ names_rule = record {
   whole = always;
   few = λ line count. if count == 2 then faults.Revision else faults.Fields line;
   bad = λ line i. faults.Revision;
-  wrong = λ line. faults.Revision
+  wrong = λ line. faults.Revision;
 }
 
 -- the numbers of channels
@@ -77,7 +76,7 @@ instant_rule = record {
   whole = always;
   few = λ line count. faults.Fields line;
   bad = λ line i. faults.Instant line;
-  wrong = faults.Instant
+  wrong = faults.Instant;
 }
 
 -- ASCII or BINARY in any case of letters
@@ -90,7 +89,7 @@ kind_rule = record {
   whole = always;
   few = λ line count. faults.Fields line;
   bad = λ line i. faults.Kind;
-  wrong = λ line. faults.Kind
+  wrong = λ line. faults.Kind;
 }
 
 abbrev pub timemult_rule : Rule
@@ -114,7 +113,7 @@ analog_value fs = record {
   max = unwrap_or (small (field fs 9)) (pos 0);
   primary = decimal_in (free_scale (field fs 10));
   secondary = decimal_in (free_scale (field fs 11));
-  side = unwrap_or (side (field fs 12)) Primary
+  side = unwrap_or (side (field fs 12)) Primary;
 }
 
 abbrev pub status_value : List (List ℕ) → StatusParts
@@ -204,7 +203,7 @@ tail_value ls at r = record {
   first = instant_value (line_fields ls (at + 2 + r));
   trigger = instant_value (line_fields ls (at + 3 + r));
   kind = kind_value (line_fields ls (at + 4 + r));
-  timemult = decimal_in (scale (field (line_fields ls (at + 5 + r)) 0))
+  timemult = decimal_in (scale (field (line_fields ls (at + 5 + r)) 0));
 }
 
 -- the first fault of a head with k analogue and m status channels, part by part
@@ -227,7 +226,7 @@ value_of ls k m =
       first = tail.first;
       trigger = tail.trigger;
       kind = tail.kind;
-      timemult = tail.timemult
+      timemult = tail.timemult;
     }
 
 -- what the lines say

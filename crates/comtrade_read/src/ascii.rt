@@ -43,13 +43,22 @@ pub(crate) fn value_of(line: u64, fields: &[&[u8]], i: u32) -> Result<Reading, R
         return Ok(Reading::Missing);
     }
     match small_of(line, fields, i) {
-        Ok(value) => Ok(if value == 99_999 { Reading::Missing } else { Reading::Value(value) }),
+        Ok(value) => Ok(if value == 99_999 {
+            Reading::Missing
+        } else {
+            Reading::Value(value)
+        }),
         Err(fault) => Err(fault),
     }
 }
 
 /// The values.
-pub(crate) fn values_of<A: Allocator + Copy>(alloc: A, line: u64, fields: &[&[u8]], count: u32) -> Result<Vec<Reading, A>, ReadFault>
+pub(crate) fn values_of<A: Allocator + Copy>(
+    alloc: A,
+    line: u64,
+    fields: &[&[u8]],
+    count: u32,
+) -> Result<Vec<Reading, A>, ReadFault>
     requires few { count < 1000000 }
     requires in_line { 2 + count ≤ length fields.now }
     ensures { Gives (λ v. v.items) (first_in (spec.value_faults line (texts fields.now)) count) (spec.value_items (texts fields.now) count) result }
@@ -62,7 +71,13 @@ pub(crate) fn values_of<A: Allocator + Copy>(alloc: A, line: u64, fields: &[&[u8
 }
 
 /// The bits, behind k values.
-pub(crate) fn bits_of<A: Allocator + Copy>(alloc: A, line: u64, fields: &[&[u8]], k: u32, count: u32) -> Result<Vec<bool, A>, ReadFault>
+pub(crate) fn bits_of<A: Allocator + Copy>(
+    alloc: A,
+    line: u64,
+    fields: &[&[u8]],
+    k: u32,
+    count: u32,
+) -> Result<Vec<bool, A>, ReadFault>
     requires k { k < 1000000 }
     requires few { count < 1000000 }
     requires in_line { 2 + k + count ≤ length fields.now }
@@ -76,7 +91,13 @@ pub(crate) fn bits_of<A: Allocator + Copy>(alloc: A, line: u64, fields: &[&[u8]]
 }
 
 /// A row of k values and m bits whose fields are as many.
-fn parts_of<A: Allocator + Copy>(alloc: A, line: u64, k: u32, m: u32, fields: &[&[u8]]) -> Result<Row<A>, ReadFault>
+fn parts_of<A: Allocator + Copy>(
+    alloc: A,
+    line: u64,
+    k: u32,
+    m: u32,
+    fields: &[&[u8]],
+) -> Result<Row<A>, ReadFault>
     requires k { k < 1000000 }
     requires m { m < 1000000 }
     requires many { length fields.now ≡ 2 + k + m }
@@ -86,11 +107,22 @@ fn parts_of<A: Allocator + Copy>(alloc: A, line: u64, k: u32, m: u32, fields: &[
     let stamp = stamp_of(line, fields)?;
     let values = values_of(alloc, line, fields, k)?;
     let bits = bits_of(alloc, line, fields, k, m)?;
-    Ok(Row { number, stamp, values: Items::of(values), bits: Items::of(bits) })
+    Ok(Row {
+        number,
+        stamp,
+        values: Items::of(values),
+        bits: Items::of(bits),
+    })
 }
 
 /// A row of k values and m bits.
-pub(crate) fn row_of<A: Allocator + Copy>(alloc: A, line: u64, k: u32, m: u32, fields: &[&[u8]]) -> Result<Row<A>, ReadFault>
+pub(crate) fn row_of<A: Allocator + Copy>(
+    alloc: A,
+    line: u64,
+    k: u32,
+    m: u32,
+    fields: &[&[u8]],
+) -> Result<Row<A>, ReadFault>
     requires k { k < 1000000 }
     requires m { m < 1000000 }
     ensures { Gives (λ x. x) (fields_fault (spec.row_rule k m) line (texts fields.now)) (spec.row_value k m (texts fields.now)) result }
@@ -103,7 +135,13 @@ pub(crate) fn row_of<A: Allocator + Copy>(alloc: A, line: u64, k: u32, m: u32, f
 
 /// The row on the line at this place.
 #[tactic(auto, unfolding(crate::specs::Table::line_fault))]
-fn row_at<A: Allocator + Copy>(alloc: A, lines: &[&[u8]], place: usize, k: u32, m: u32) -> Result<Row<A>, ReadFault>
+fn row_at<A: Allocator + Copy>(
+    alloc: A,
+    lines: &[&[u8]],
+    place: usize,
+    k: u32,
+    m: u32,
+) -> Result<Row<A>, ReadFault>
     requires place { place + 1 < 2 ^ 64 }
     requires k { k < 1000000 }
     requires m { m < 1000000 }
@@ -114,7 +152,13 @@ fn row_at<A: Allocator + Copy>(alloc: A, lines: &[&[u8]], place: usize, k: u32, 
 }
 
 /// So many rows, one a line.
-fn rows_of<A: Allocator + Copy>(alloc: A, lines: &[&[u8]], k: u32, m: u32, count: u64) -> Result<Vec<Row<A>, A>, ReadFault>
+fn rows_of<A: Allocator + Copy>(
+    alloc: A,
+    lines: &[&[u8]],
+    k: u32,
+    m: u32,
+    count: u64,
+) -> Result<Vec<Row<A>, A>, ReadFault>
     requires k { k < 1000000 }
     requires m { m < 1000000 }
     ensures { Gives (λ v. v.items) (first_in (spec.row_faults k m (texts lines.now)) count) (spec.row_items k m (texts lines.now) count) result }
@@ -127,7 +171,13 @@ fn rows_of<A: Allocator + Copy>(alloc: A, lines: &[&[u8]], k: u32, m: u32, count
 }
 
 /// The rows that the lines say, and no line behind them.
-fn all_rows<A: Allocator + Copy>(alloc: A, lines: &[&[u8]], k: u32, m: u32, count: u64) -> Result<Vec<Row<A>, A>, ReadFault>
+fn all_rows<A: Allocator + Copy>(
+    alloc: A,
+    lines: &[&[u8]],
+    k: u32,
+    m: u32,
+    count: u64,
+) -> Result<Vec<Row<A>, A>, ReadFault>
     requires k { k < 1000000 }
     requires m { m < 1000000 }
     ensures { Gives (λ v. v.items) (file_fault (texts lines.now) (spec.row_rules k m count)) (spec.row_items k m (texts lines.now) count) result }
@@ -149,7 +199,13 @@ fn before_end_mark(dat: &[u8]) -> &[u8]
 }
 
 /// The rows that an ASCII data file says.
-pub(crate) fn ascii_rows<A: Allocator + Copy>(alloc: A, dat: &[u8], k: u32, m: u32, count: u64) -> Result<Vec<Row<A>, A>, ReadFault>
+pub(crate) fn ascii_rows<A: Allocator + Copy>(
+    alloc: A,
+    dat: &[u8],
+    k: u32,
+    m: u32,
+    count: u64,
+) -> Result<Vec<Row<A>, A>, ReadFault>
     requires k { k < 1000000 }
     requires m { m < 1000000 }
     ensures rows { IfOk result (λ v. AllObey (spec.data_lines dat.now) (spec.row_rules k m count) × (v.items ≡ spec.row_items k m (spec.data_lines dat.now) count)) }

@@ -16,7 +16,11 @@ fn value_of(bytes: &[u8]) -> Reading
     ensures { result ≡ spec.value_at bytes.now }
 {
     let value = LittleEndian::read_i16(bytes);
-    if value == -32_768 { Reading::Missing } else { Reading::Value(value as i32) }
+    if value == -32_768 {
+        Reading::Missing
+    } else {
+        Reading::Value(value as i32)
+    }
 }
 
 /// The time stamp in the first four bytes; the highest stands for none.
@@ -25,11 +29,19 @@ fn stamp_of(bytes: &[u8]) -> Option<u64>
     ensures { result ≡ spec.stamp_at bytes.now }
 {
     let stamp = LittleEndian::read_u32(bytes);
-    if stamp == u32::MAX { None } else { Some(stamp as u64) }
+    if stamp == u32::MAX {
+        None
+    } else {
+        Some(stamp as u64)
+    }
 }
 
 /// The first values.
-fn values_of<A: Allocator>(alloc: A, bytes: &[u8], count: usize) -> Result<Vec<Reading, A>, AllocError>
+fn values_of<A: Allocator>(
+    alloc: A,
+    bytes: &[u8],
+    count: usize,
+) -> Result<Vec<Reading, A>, AllocError>
     requires { 2 * count ≤ length bytes.now }
     ensures { IfOk result (λ v. v.items ≡ spec.values_at count bytes.now) }
 {
@@ -55,7 +67,12 @@ fn bits_of<A: Allocator>(alloc: A, bytes: &[u8], count: usize) -> Result<Vec<boo
 
 /// The row that begins the bytes.
 #[tactic(auto, unfolding(crate::specs::Binary::row_at))]
-fn row_of<A: Allocator + Copy>(alloc: A, bytes: &[u8], k: usize, m: usize) -> Result<Row<A>, AllocError>
+fn row_of<A: Allocator + Copy>(
+    alloc: A,
+    bytes: &[u8],
+    k: usize,
+    m: usize,
+) -> Result<Row<A>, AllocError>
     requires k { k < 1000000 }
     requires m { m < 1000000 }
     requires whole { spec.row_size k m ≤ length bytes.now }
@@ -81,7 +98,13 @@ fn row_size(k: usize, m: usize) -> usize
 }
 
 /// So many rows, one behind the other.
-fn rows_of<A: Allocator + Copy>(alloc: A, dat: &[u8], k: usize, m: usize, count: usize) -> Result<Vec<Row<A>, A>, AllocError>
+fn rows_of<A: Allocator + Copy>(
+    alloc: A,
+    dat: &[u8],
+    k: usize,
+    m: usize,
+    count: usize,
+) -> Result<Vec<Row<A>, A>, AllocError>
     requires k { k < 1000000 }
     requires m { m < 1000000 }
     requires whole { length dat.now ≡ count * spec.row_size k m }
@@ -96,7 +119,13 @@ fn rows_of<A: Allocator + Copy>(alloc: A, dat: &[u8], k: usize, m: usize, count:
 }
 
 /// The rows that a binary data file says.
-pub(crate) fn binary_rows<A: Allocator + Copy>(alloc: A, dat: &[u8], k: usize, m: usize, count: u64) -> Result<Vec<Row<A>, A>, ReadFault>
+pub(crate) fn binary_rows<A: Allocator + Copy>(
+    alloc: A,
+    dat: &[u8],
+    k: usize,
+    m: usize,
+    count: u64,
+) -> Result<Vec<Row<A>, A>, ReadFault>
     requires k { k < 1000000 }
     requires m { m < 1000000 }
     ensures rows { IfOk result (λ v. (length dat.now ≡ count * spec.row_size k m) × (v.items ≡ spec.rows_at k m dat.now count)) }

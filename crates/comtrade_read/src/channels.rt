@@ -7,12 +7,17 @@ ghost use Rattle.comtrade_read.specs.Table.{Gives, fields_fault, line_fault, fir
 
 use crate::fault::ReadFault;
 use crate::fields::{free_bit_of, free_scale_of, scale_of, side_of, small_of, text_of, whole_of};
-use dfr_channels::{AnalogChannel, StatusChannel};
 use crate::place::fields_at;
+use dfr_channels::{AnalogChannel, StatusChannel};
 use std::alloc::Allocator;
 
 /// The analogue channel n, counted from 1.
-fn analog_of<A: Allocator + Copy>(alloc: A, line: u64, n: u64, fields: &[&[u8]]) -> Result<AnalogChannel<A>, ReadFault>
+fn analog_of<A: Allocator + Copy>(
+    alloc: A,
+    line: u64,
+    n: u64,
+    fields: &[&[u8]],
+) -> Result<AnalogChannel<A>, ReadFault>
     ensures { Gives (λ x. x) (fields_fault (analog_rule n) line (texts fields.now)) (analog_value (texts fields.now)) result }
 {
     if fields.len() != 13 {
@@ -34,11 +39,29 @@ fn analog_of<A: Allocator + Copy>(alloc: A, line: u64, n: u64, fields: &[&[u8]])
     let phase = text_of(alloc, fields, 2)?;
     let component = text_of(alloc, fields, 3)?;
     let unit = text_of(alloc, fields, 4)?;
-    Ok(AnalogChannel { id, phase, component, unit, a, b, skew, min, max, primary, secondary, side })
+    Ok(AnalogChannel {
+        id,
+        phase,
+        component,
+        unit,
+        a,
+        b,
+        skew,
+        min,
+        max,
+        primary,
+        secondary,
+        side,
+    })
 }
 
 /// The status channel n, counted from 1.
-fn status_of<A: Allocator + Copy>(alloc: A, line: u64, n: u64, fields: &[&[u8]]) -> Result<StatusChannel<A>, ReadFault>
+fn status_of<A: Allocator + Copy>(
+    alloc: A,
+    line: u64,
+    n: u64,
+    fields: &[&[u8]],
+) -> Result<StatusChannel<A>, ReadFault>
     ensures { Gives (λ x. x) (fields_fault (status_rule n) line (texts fields.now)) (status_value (texts fields.now)) result }
 {
     if fields.len() != 5 {
@@ -52,12 +75,22 @@ fn status_of<A: Allocator + Copy>(alloc: A, line: u64, n: u64, fields: &[&[u8]])
     let id = text_of(alloc, fields, 1)?;
     let phase = text_of(alloc, fields, 2)?;
     let component = text_of(alloc, fields, 3)?;
-    Ok(StatusChannel { id, phase, component, normal })
+    Ok(StatusChannel {
+        id,
+        phase,
+        component,
+        normal,
+    })
 }
 
 /// The analogue channel n on the line at this place.
 #[tactic(auto, unfolding(crate::specs::Table::line_fault))]
-fn analog_at<A: Allocator + Copy>(alloc: A, lines: &[&[u8]], place: usize, n: u64) -> Result<AnalogChannel<A>, ReadFault>
+fn analog_at<A: Allocator + Copy>(
+    alloc: A,
+    lines: &[&[u8]],
+    place: usize,
+    n: u64,
+) -> Result<AnalogChannel<A>, ReadFault>
     requires { place < 2 ^ 63 }
     ensures { Gives (λ x. x) (line_fault (texts lines.now) (analog_rule n) place) (analog_value (line_fields (texts lines.now) place)) result }
 {
@@ -66,7 +99,11 @@ fn analog_at<A: Allocator + Copy>(alloc: A, lines: &[&[u8]], place: usize, n: u6
 }
 
 /// The analogue channels.
-pub(crate) fn analogs_of<A: Allocator + Copy>(alloc: A, lines: &[&[u8]], count: usize) -> Result<Vec<AnalogChannel<A>, A>, ReadFault>
+pub(crate) fn analogs_of<A: Allocator + Copy>(
+    alloc: A,
+    lines: &[&[u8]],
+    count: usize,
+) -> Result<Vec<AnalogChannel<A>, A>, ReadFault>
     requires { count < 2 ^ 32 }
     ensures { Gives (λ v. v.items) (first_in (analog_faults (texts lines.now)) count) (analog_items (texts lines.now) count) result }
 {
@@ -79,7 +116,12 @@ pub(crate) fn analogs_of<A: Allocator + Copy>(alloc: A, lines: &[&[u8]], count: 
 
 /// The status channel n on the line at this place.
 #[tactic(auto, unfolding(crate::specs::Table::line_fault))]
-fn status_at<A: Allocator + Copy>(alloc: A, lines: &[&[u8]], place: usize, n: u64) -> Result<StatusChannel<A>, ReadFault>
+fn status_at<A: Allocator + Copy>(
+    alloc: A,
+    lines: &[&[u8]],
+    place: usize,
+    n: u64,
+) -> Result<StatusChannel<A>, ReadFault>
     requires { place < 2 ^ 63 }
     ensures { Gives (λ x. x) (line_fault (texts lines.now) (status_rule n) place) (status_value (line_fields (texts lines.now) place)) result }
 {
@@ -88,7 +130,12 @@ fn status_at<A: Allocator + Copy>(alloc: A, lines: &[&[u8]], place: usize, n: u6
 }
 
 /// The status channels, behind the analogue ones.
-pub(crate) fn statuses_of<A: Allocator + Copy>(alloc: A, lines: &[&[u8]], analog: usize, count: usize) -> Result<Vec<StatusChannel<A>, A>, ReadFault>
+pub(crate) fn statuses_of<A: Allocator + Copy>(
+    alloc: A,
+    lines: &[&[u8]],
+    analog: usize,
+    count: usize,
+) -> Result<Vec<StatusChannel<A>, A>, ReadFault>
     requires analog { analog < 2 ^ 32 }
     requires count { count < 2 ^ 32 }
     ensures { Gives (λ v. v.items) (first_in (status_faults (texts lines.now) analog) count) (status_items (texts lines.now) analog count) result }

@@ -22,7 +22,11 @@ fn last_sample(rates: &[Rate]) -> u64
 }
 
 /// The rows that the data say under the head.
-fn rows_of<A: Allocator + Copy>(alloc: A, head: &Head<A>, dat: &[u8]) -> Result<Vec<Row<A>, A>, ReadFault>
+fn rows_of<A: Allocator + Copy>(
+    alloc: A,
+    head: &Head<A>,
+    dat: &[u8],
+) -> Result<Vec<Row<A>, A>, ReadFault>
     requires { length head.now.analog + length head.now.status < 1000000 }
     ensures rows { IfOk result (λ v. SaysRows head.now dat.now v.items) }
     ensures fault { IfErr result (λ e. e ≢ faults.Memory → FaultyData head.now dat.now e) }
@@ -37,7 +41,11 @@ fn rows_of<A: Allocator + Copy>(alloc: A, head: &Head<A>, dat: &[u8]) -> Result<
 }
 
 /// The files that the head and the data say. A fault hands the head back.
-pub fn read_dat<A: Allocator + Copy>(alloc: A, head: Head<A>, dat: &[u8]) -> Result<File<A>, (ReadFault, Head<A>)>
+pub fn read_dat<A: Allocator + Copy>(
+    alloc: A,
+    head: Head<A>,
+    dat: &[u8],
+) -> Result<File<A>, (ReadFault, Head<A>)>
     requires { length head.analog + length head.status < 1000000 }
     ensures head { IfOk result (λ f. f.head ≡ head) }
     ensures rows { IfOk result (λ f. SaysRows head dat.now f.rows) }
@@ -45,7 +53,10 @@ pub fn read_dat<A: Allocator + Copy>(alloc: A, head: Head<A>, dat: &[u8]) -> Res
     ensures back { IfErr result (λ x. x.1 ≡ head) }
 {
     match rows_of(alloc, &head, dat) {
-        Ok(rows) => Ok(File { head, rows: Items::of(rows) }),
+        Ok(rows) => Ok(File {
+            head,
+            rows: Items::of(rows),
+        }),
         Err(fault) => Err((fault, head)),
     }
 }

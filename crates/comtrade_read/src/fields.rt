@@ -10,7 +10,6 @@ ghost use Rattle.comtrade_read.specs.Table.{Gives, Field};
 
 use crate::fault::ReadFault;
 use comtrade_write::Kind;
-
 use dfr_channels::{Decimal, Items, Side, integer_of};
 use std::alloc::Allocator;
 
@@ -92,7 +91,11 @@ pub(crate) fn scale_of(line: u64, fields: &[&[u8]], i: u32) -> Result<Decimal, R
 fn free_scale(text: &[u8]) -> Option<Decimal>
     ensures { result ≡ spec.free_scale text.now }
 {
-    if text.is_empty() { Decimal::new(0, 0) } else { Decimal::read(text) }
+    if text.is_empty() {
+        Decimal::new(0, 0)
+    } else {
+        Decimal::read(text)
+    }
 }
 
 /// A decimal, or 0 where nothing stands.
@@ -174,7 +177,11 @@ fn as_bit(number: Option<i128>) -> Option<bool>
 fn free_bit(text: &[u8]) -> Option<bool>
     ensures { result ≡ spec.free_bit text.now }
 {
-    if text.is_empty() { Some(false) } else { as_bit(integer_of(text)) }
+    if text.is_empty() {
+        Some(false)
+    } else {
+        as_bit(integer_of(text))
+    }
 }
 
 /// 0 or 1, or 0 where nothing stands.
@@ -222,7 +229,11 @@ pub(crate) fn kind_of(fields: &[&[u8]]) -> Result<Kind, ReadFault>
 }
 
 /// The bytes of a field.
-pub(crate) fn text_of<A: Allocator>(alloc: A, fields: &[&[u8]], i: u32) -> Result<Items<u8, A>, ReadFault>
+pub(crate) fn text_of<A: Allocator>(
+    alloc: A,
+    fields: &[&[u8]],
+    i: u32,
+) -> Result<Items<u8, A>, ReadFault>
     requires { i < length fields.now }
     ensures ok { IfOk result (λ x. x ≡ field (texts fields.now) i) }
     ensures memory { IfErr result (λ e. e ≡ faults.Memory) }

@@ -9,10 +9,9 @@ ghost use Rattle.comtrade_read.specs.Head as spec;
 
 use crate::channels::{analogs_of, statuses_of};
 use crate::fault::ReadFault;
-use comtrade_write::Head;
-
-use dfr_channels::{Items, lines_of, without_blank_end};
 use crate::settings::{counts_at, names_at, tail_of};
+use comtrade_write::Head;
+use dfr_channels::{Items, lines_of, without_blank_end};
 use std::alloc::Allocator;
 
 /// The head that the lines say.
@@ -25,7 +24,11 @@ fn head_of<A: Allocator + Copy>(alloc: A, lines: &[&[u8]]) -> Result<Head<A>, Re
     let (analog_count, status_count) = counts_at(alloc, lines)?;
     let analog = analogs_of(alloc, lines, analog_count as usize)?;
     let status = statuses_of(alloc, lines, analog_count as usize, status_count as usize)?;
-    let tail = tail_of(alloc, lines, 2 + analog_count as usize + status_count as usize)?;
+    let tail = tail_of(
+        alloc,
+        lines,
+        2 + analog_count as usize + status_count as usize,
+    )?;
     Ok(Head {
         station: names.station,
         device: names.device,

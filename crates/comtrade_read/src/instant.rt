@@ -9,8 +9,8 @@ ghost use Rattle.comtrade_read.specs.Table.{Field};
 ghost use Rattle.dfr_channels.specs.Lines.{texts, field};
 
 use crate::fault::ReadFault;
-use jiff_core::civil::Date;
 use dfr_channels::numeral_of;
+use jiff_core::civil::Date;
 
 /// Where the byte first stands.
 pub(crate) fn place_of(text: &[u8], byte: u8) -> Option<usize>
@@ -85,7 +85,11 @@ fn date(text: &[u8]) -> Option<i32>
 {
     let (day, rest) = cut_at(text, b'/')?;
     let (month, year) = cut_at(rest, b'/')?;
-    day_at(digits(4, 4, year)?, digits(1, 2, month)?, digits(1, 2, day)?)
+    day_at(
+        digits(4, 4, year)?,
+        digits(1, 2, month)?,
+        digits(1, 2, day)?,
+    )
 }
 
 /// The microseconds that the digits behind a point say.

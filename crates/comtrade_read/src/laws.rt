@@ -7,5 +7,4 @@ pub fn first_fault()
     ensures first { FaultLaw }
     ensures sound { SoundLaw }
     ensures complete { CompleteLaw }
-{
-}
+{}

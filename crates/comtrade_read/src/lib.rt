@@ -17,5 +17,5 @@ mod settings;
 pub use data::read_dat;
 pub use fault::ReadFault;
 pub use head::read_cfg;
-pub use pair::{Part, read};
 pub use laws::first_fault;
+pub use pair::{Part, read};

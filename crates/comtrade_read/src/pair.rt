@@ -18,7 +18,11 @@ pub enum Part {
 }
 
 /// The files that the two texts say, or the part that could not be read and its first fault.
-pub fn read<A: Allocator + Copy>(alloc: A, cfg: &[u8], dat: &[u8]) -> Result<File<A>, (Part, ReadFault)>
+pub fn read<A: Allocator + Copy>(
+    alloc: A,
+    cfg: &[u8],
+    dat: &[u8],
+) -> Result<File<A>, (Part, ReadFault)>
     ensures found { IfOk result (SaysFile cfg.now dat.now) }
     ensures fault { IfErr result (λ x. x.1 ≢ faults.Memory → FaultyPair cfg.now dat.now x.0 x.1) }
 {

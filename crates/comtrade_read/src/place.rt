@@ -11,7 +11,11 @@ use std::alloc::Allocator;
 
 /// The fields of the line at this place, counted from 0.
 #[tactic(auto, unfolding(dfr_channels::specs::Lines::line_fields))]
-pub(crate) fn fields_at<'a, A: Allocator>(alloc: A, lines: &[&'a [u8]], place: usize) -> Result<Vec<&'a [u8], A>, ReadFault>
+pub(crate) fn fields_at<'a, A: Allocator>(
+    alloc: A,
+    lines: &[&'a [u8]],
+    place: usize,
+) -> Result<Vec<&'a [u8], A>, ReadFault>
     requires { place + 1 < 2 ^ 64 }
     ensures there { IfOk result (λ v. place < length lines.now) }
     ensures fields { IfOk result (λ v. texts v.items ≡ line_fields (texts lines.now) place) }
@@ -28,5 +32,9 @@ pub(crate) fn fields_at<'a, A: Allocator>(alloc: A, lines: &[&'a [u8]], place: u
 pub(crate) fn end_at(lines: &[&[u8]], place: usize) -> Result<(), ReadFault>
     ensures { Gives (λ x. x) (extra_fault (texts lines.now) place) tt result }
 {
-    if place < lines.len() { Err(ReadFault::Extra(place as u64 + 1)) } else { Ok(()) }
+    if place < lines.len() {
+        Err(ReadFault::Extra(place as u64 + 1))
+    } else {
+        Ok(())
+    }
 }

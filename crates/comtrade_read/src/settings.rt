@@ -9,10 +9,9 @@ ghost use Rattle.comtrade_read.specs.Fields.{whole, scale, free_scale};
 
 use crate::fault::ReadFault;
 use crate::fields::{count_of, free_scale_of, kind_of, natural_of, scale_of, text_of};
-use comtrade_write::{Kind, Rate};
 use crate::instant::{date_of, instant_at, time_of};
-
 use crate::place::{end_at, fields_at};
+use comtrade_write::{Kind, Rate};
 use dfr_channels::{Decimal, Items, integer_of};
 use std::alloc::Allocator;
 
@@ -36,7 +35,11 @@ fn names_of<A: Allocator + Copy>(alloc: A, fields: &[&[u8]]) -> Result<Names<A>,
     ensures { Gives {Y = List ℕ × List ℕ} (λ x. (x.station, x.device)) (fields_fault spec.names_rule 1 (texts fields.now)) (field (texts fields.now) 0, field (texts fields.now) 1) result }
 {
     if fields.len() != 3 {
-        return Err(if fields.len() == 2 { ReadFault::Revision } else { ReadFault::Fields(1) });
+        return Err(if fields.len() == 2 {
+            ReadFault::Revision
+        } else {
+            ReadFault::Fields(1)
+        });
     }
     if !is_revision(fields[2]) {
         return Err(ReadFault::Revision);
@@ -133,7 +136,12 @@ fn nrates_of(line: u64, fields: &[&[u8]]) -> Result<u64, ReadFault>
 
 /// The rate on the line at this place.
 #[tactic(auto, unfolding(crate::specs::Table::line_fault))]
-fn rate_at<A: Allocator + Copy>(alloc: A, lines: &[&[u8]], place: usize, before: u64) -> Result<Rate, ReadFault>
+fn rate_at<A: Allocator + Copy>(
+    alloc: A,
+    lines: &[&[u8]],
+    place: usize,
+    before: u64,
+) -> Result<Rate, ReadFault>
     requires { place < 2 ^ 63 }
     ensures { Gives (λ x. x) (line_fault (texts lines.now) (spec.rate_rule before) place) (spec.rate_value (line_fields (texts lines.now) place)) result }
 {
@@ -142,7 +150,12 @@ fn rate_at<A: Allocator + Copy>(alloc: A, lines: &[&[u8]], place: usize, before:
 }
 
 /// The rates.
-pub(crate) fn rates_of<A: Allocator + Copy>(alloc: A, lines: &[&[u8]], start: usize, count: usize) -> Result<Vec<Rate, A>, ReadFault>
+pub(crate) fn rates_of<A: Allocator + Copy>(
+    alloc: A,
+    lines: &[&[u8]],
+    start: usize,
+    count: usize,
+) -> Result<Vec<Rate, A>, ReadFault>
     requires start { start < 2 ^ 32 }
     requires count { count < 2 ^ 32 }
     ensures { Gives (λ v. v.items) (first_in (spec.rate_faults (texts lines.now) start) count) (spec.rate_items (texts lines.now) start count) result }
@@ -159,7 +172,10 @@ pub(crate) fn rates_of<A: Allocator + Copy>(alloc: A, lines: &[&[u8]], start: us
 
 /// Station and device, on the line at this place.
 #[tactic(auto, unfolding(crate::specs::Table::line_fault))]
-pub(crate) fn names_at<A: Allocator + Copy>(alloc: A, lines: &[&[u8]]) -> Result<Names<A>, ReadFault>
+pub(crate) fn names_at<A: Allocator + Copy>(
+    alloc: A,
+    lines: &[&[u8]],
+) -> Result<Names<A>, ReadFault>
     ensures { Gives {Y = List ℕ × List ℕ} (λ x. (x.station, x.device)) (line_fault (texts lines.now) spec.names_rule 0) (field (line_fields (texts lines.now) 0) 0, field (line_fields (texts lines.now) 0) 1) result }
 {
     let fields = fields_at(alloc, lines, 0)?;
@@ -168,7 +184,10 @@ pub(crate) fn names_at<A: Allocator + Copy>(alloc: A, lines: &[&[u8]]) -> Result
 
 /// The numbers of analogue and status channels.
 #[tactic(auto, unfolding(crate::specs::Table::line_fault))]
-pub(crate) fn counts_at<A: Allocator + Copy>(alloc: A, lines: &[&[u8]]) -> Result<(u64, u64), ReadFault>
+pub(crate) fn counts_at<A: Allocator + Copy>(
+    alloc: A,
+    lines: &[&[u8]],
+) -> Result<(u64, u64), ReadFault>
     ensures counts { Gives (λ x. x) (line_fault (texts lines.now) spec.counts_rule 1) (spec.analog_count (line_fields (texts lines.now) 1), spec.status_count (line_fields (texts lines.now) 1)) result }
     ensures bound { IfOk result (λ x. (x.0 < 1000000) × (x.1 < 1000000)) }
 {
@@ -178,7 +197,11 @@ pub(crate) fn counts_at<A: Allocator + Copy>(alloc: A, lines: &[&[u8]]) -> Resul
 
 /// The line frequency, on the line at this place.
 #[tactic(auto, unfolding(crate::specs::Table::line_fault))]
-fn frequency_at<A: Allocator + Copy>(alloc: A, lines: &[&[u8]], place: usize) -> Result<Decimal, ReadFault>
+fn frequency_at<A: Allocator + Copy>(
+    alloc: A,
+    lines: &[&[u8]],
+    place: usize,
+) -> Result<Decimal, ReadFault>
     requires { place < 2 ^ 63 }
     ensures { Gives (λ x. x) (line_fault (texts lines.now) spec.frequency_rule place) (spec.decimal_in (free_scale (field (line_fields (texts lines.now) place) 0))) result }
 {
@@ -199,7 +222,11 @@ fn nrates_at<A: Allocator + Copy>(alloc: A, lines: &[&[u8]], place: usize) -> Re
 
 /// An instant, on the line at this place.
 #[tactic(auto, unfolding(crate::specs::Table::line_fault))]
-fn instant_at_place<A: Allocator + Copy>(alloc: A, lines: &[&[u8]], place: usize) -> Result<i64, ReadFault>
+fn instant_at_place<A: Allocator + Copy>(
+    alloc: A,
+    lines: &[&[u8]],
+    place: usize,
+) -> Result<i64, ReadFault>
     requires { place < 2 ^ 63 }
     ensures { Gives (λ x. x) (line_fault (texts lines.now) spec.instant_rule place) (spec.instant_value (line_fields (texts lines.now) place)) result }
 {
@@ -219,7 +246,11 @@ fn kind_at<A: Allocator + Copy>(alloc: A, lines: &[&[u8]], place: usize) -> Resu
 
 /// The time multiplier, on the line at this place.
 #[tactic(auto, unfolding(crate::specs::Table::line_fault))]
-fn timemult_at<A: Allocator + Copy>(alloc: A, lines: &[&[u8]], place: usize) -> Result<Decimal, ReadFault>
+fn timemult_at<A: Allocator + Copy>(
+    alloc: A,
+    lines: &[&[u8]],
+    place: usize,
+) -> Result<Decimal, ReadFault>
     requires { place < 2 ^ 63 }
     ensures { Gives (λ x. x) (line_fault (texts lines.now) spec.timemult_rule place) (spec.decimal_in (scale (field (line_fields (texts lines.now) place) 0))) result }
 {
@@ -240,7 +271,11 @@ pub(crate) struct Tail<A: Allocator> {
 }
 
 /// The lines behind the channels, from this place on.
-pub(crate) fn tail_of<A: Allocator + Copy>(alloc: A, lines: &[&[u8]], at: usize) -> Result<Tail<A>, ReadFault>
+pub(crate) fn tail_of<A: Allocator + Copy>(
+    alloc: A,
+    lines: &[&[u8]],
+    at: usize,
+) -> Result<Tail<A>, ReadFault>
     requires { at < 2 ^ 31 }
     ensures small { IfOk result (λ x. x.nrates ≤ 999) }
     ensures value { Gives {Y = TailParts} (λ x. record { line_freq = x.line_freq; nrates = x.nrates; rates = x.rates.items; first = x.first; trigger = x.trigger; kind = x.kind; timemult = x.timemult })
@@ -255,5 +290,13 @@ pub(crate) fn tail_of<A: Allocator + Copy>(alloc: A, lines: &[&[u8]], at: usize)
     let kind = kind_at(alloc, lines, at + 4 + count)?;
     let timemult = timemult_at(alloc, lines, at + 5 + count)?;
     end_at(lines, at + 6 + count)?;
-    Ok(Tail { line_freq, nrates, rates, first, trigger, kind, timemult })
+    Ok(Tail {
+        line_freq,
+        nrates,
+        rates,
+        first,
+        trigger,
+        kind,
+        timemult,
+    })
 }

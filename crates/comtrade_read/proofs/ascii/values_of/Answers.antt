@@ -1,4 +1,4 @@
-use Rattle.std.proofs.Common.{◌≡◌, ℕ, ◌+◌, refl, sym, ap, ◌∙◌, arith}
+use Rattle.std.proofs.Common.{◌≡◌, ℕ, ◌+◌, refl, arith}
 use Rattle.std.specs.Prelude.{unwrap_or}
 use Rattle.dfr_channels.specs.declared.scan.Reading.TheVariants.{Missing}
 use Rattle.std.proofs.lemmas.Result.{err_from_is_err_and}

@@ -1,4 +1,4 @@
-use Rattle.std.proofs.Common.{◌≡◌, ℕ, ◌*◌, ◌+◌, length, drop, refl, arith}
+use Rattle.std.proofs.Common.{ℕ, ◌*◌, drop, refl, arith}
 use Rattle.std.proofs.lemmas.List.FromFn.{map-range_with_len_more}
 use Rattle.comtrade_read.specs.Binary.{row_size, row_at}
 use Rattle.comtrade_read.proofs.Outcomes.{part_there, part_is}

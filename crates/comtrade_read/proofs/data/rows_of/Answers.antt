@@ -1,4 +1,4 @@
-use Rattle.std.proofs.Common.{◌≡◌, refl, ap, ◌∙◌, sym, length}
+use Rattle.std.proofs.Common.{ap, ◌∙◌, sym, length}
 use Rattle.std.proofs.lemmas.Result.{IfOk-weaker, IfErr-weaker}
 use Rattle.comtrade_write.specs.Parts.{HeadParts}
 use Rattle.comtrade_write.specs.declared.file.Kind.TheVariants.{Ascii, Binary}
@@ -13,7 +13,8 @@ returns-in-Ascii-clause-rows g c =
       kind_is = sym (ap (λ (h : HeadParts). h.kind) view) ∙ c.in-Ascii.is;
       k_is = sym (ap (λ (h : HeadParts). length h.analog) view) ∙ ap length (sym c.items-k.ensures);
       m_is = sym (ap (λ (h : HeadParts). length h.status) view) ∙ ap length (sym c.items-m.ensures);
-      count_is = sym (ap row_count view) ∙ ap last_sample (sym c.items.ensures) ∙ sym c.last_sample-count.ensures } in
+      count_is = sym (ap row_count view) ∙ ap last_sample (sym c.items.ensures) ∙ sym c.last_sample-count.ensures;
+    } in
     IfOk-weaker c.ascii_rows.result _ _ (λ v. says c.args.head.now Ascii _ _ _ c.args.dat.now t v.items) c.ascii_rows.ensures.rows
 
 pub returns-in-Ascii-clause-fault : goal.returns-in-Ascii-clause-fault
@@ -23,7 +24,8 @@ returns-in-Ascii-clause-fault g c =
       kind_is = sym (ap (λ (h : HeadParts). h.kind) view) ∙ c.in-Ascii.is;
       k_is = sym (ap (λ (h : HeadParts). length h.analog) view) ∙ ap length (sym c.items-k.ensures);
       m_is = sym (ap (λ (h : HeadParts). length h.status) view) ∙ ap length (sym c.items-m.ensures);
-      count_is = sym (ap row_count view) ∙ ap last_sample (sym c.items.ensures) ∙ sym c.last_sample-count.ensures } in
+      count_is = sym (ap row_count view) ∙ ap last_sample (sym c.items.ensures) ∙ sym c.last_sample-count.ensures;
+    } in
     IfErr-weaker c.ascii_rows.result _ _ (λ e. fails c.args.head.now Ascii _ _ _ c.args.dat.now t e) c.ascii_rows.ensures.fault
 
 pub returns-in-Binary-clause-rows : goal.returns-in-Binary-clause-rows
@@ -33,7 +35,8 @@ returns-in-Binary-clause-rows g c =
       kind_is = sym (ap (λ (h : HeadParts). h.kind) view) ∙ c.in-Binary.is;
       k_is = sym (ap (λ (h : HeadParts). length h.analog) view) ∙ ap length (sym c.items-k.ensures);
       m_is = sym (ap (λ (h : HeadParts). length h.status) view) ∙ ap length (sym c.items-m.ensures);
-      count_is = sym (ap row_count view) ∙ ap last_sample (sym c.items.ensures) ∙ sym c.last_sample-count.ensures } in
+      count_is = sym (ap row_count view) ∙ ap last_sample (sym c.items.ensures) ∙ sym c.last_sample-count.ensures;
+    } in
     IfOk-weaker c.binary_rows.result _ _ (λ v. says c.args.head.now Binary _ _ _ c.args.dat.now t v.items) c.binary_rows.ensures.rows
 
 pub returns-in-Binary-clause-fault : goal.returns-in-Binary-clause-fault
@@ -43,5 +46,6 @@ returns-in-Binary-clause-fault g c =
       kind_is = sym (ap (λ (h : HeadParts). h.kind) view) ∙ c.in-Binary.is;
       k_is = sym (ap (λ (h : HeadParts). length h.analog) view) ∙ ap length (sym c.items-k.ensures);
       m_is = sym (ap (λ (h : HeadParts). length h.status) view) ∙ ap length (sym c.items-m.ensures);
-      count_is = sym (ap row_count view) ∙ ap last_sample (sym c.items.ensures) ∙ sym c.last_sample-count.ensures } in
+      count_is = sym (ap row_count view) ∙ ap last_sample (sym c.items.ensures) ∙ sym c.last_sample-count.ensures;
+    } in
     IfErr-weaker c.binary_rows.result _ _ (λ e. fails c.args.head.now Binary _ _ _ c.args.dat.now t e) c.binary_rows.ensures.fault

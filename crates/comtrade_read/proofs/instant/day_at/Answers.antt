@@ -1,4 +1,4 @@
-use Rattle.std.proofs.Common.{◌≡◌, arith, refl}
+use Rattle.std.proofs.Common.{arith}
 use Rattle.comtrade_read.proofs.Digits.{day_found}
 use Rattle.comtrade_read.proofs.instant.day_at.Goals as goal
 

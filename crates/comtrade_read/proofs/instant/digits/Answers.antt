@@ -1,5 +1,4 @@
-use Rattle.std.proofs.Common.{rules, ◌≡◌, ◌+◌, ◌<◌, ◌≤◌, ◌^◌, arith, sym}
-use Rattle.std.specs.Prelude.{Some, ℕ, length}
+use Rattle.std.proofs.Common.{rules, ◌<◌, ◌≤◌, ◌^◌, arith, sym}
 use Rattle.std.proofs.Math.Nat.{pow-le-pow_right}
 use Rattle.comtrade_read.proofs.Digits.{few_digits, no_digits, not_so_long, too_long}
 use Rattle.comtrade_read.proofs.instant.digits.Goals as goal
