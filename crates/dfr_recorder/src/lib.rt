@@ -3,6 +3,8 @@
 
 mod limits;
 mod record;
+mod step;
 
 pub use limits::{LimitFault, Limits};
 pub use record::{Cause, Extent, Record};
+pub use step::{Answer, Hit, ScanRefusal, Scanned, Step, TriggerFault};
