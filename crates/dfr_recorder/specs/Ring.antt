@@ -1,5 +1,5 @@
 -- What is done to ring, open record and shelf, one after the other.
-use Rattle.std.specs.Prelude.{ℕ, ◌-◌, if◌then◌else◌, ◌==◌, List, [], ◌∷◌, ◌++◌, Option, Some, None, option_map}
+use Rattle.std.specs.Prelude.{ℕ, ◌-◌, Bool, false, if◌then◌else◌, ◌==◌, List, [], ◌∷◌, ◌++◌, Option, Some, None, option_map}
 use Rattle.dfr_channels.specs.Parts.{SetupParts, ScanParts}
 use Rattle.dfr_channels.specs.declared.rule.Rule.{Rule}
 use Rattle.dfr_recorder.specs.declared.limits.Limits.{Limits}
@@ -39,6 +39,11 @@ longer r scan = record { extent = r.extent; scans = r.scans ++ scan ∷ [] }
 abbrev pub longer_if : ScanParts → Option RecordParts → Option RecordParts
 longer_if scan None = None
 longer_if scan (Some r) = Some (longer r scan)
+
+-- place n is the open record's last
+abbrev pub ends_at : ℕ → Option RecordParts → Bool
+ends_at n None = false
+ends_at n (Some r) = r.extent.last == n
 
 -- the open record, but where place n is its last
 abbrev pub unless_last : ℕ → Option RecordParts → Option RecordParts

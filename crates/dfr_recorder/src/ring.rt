@@ -4,7 +4,7 @@ ghost use Rattle.std.specs.Prelude.{◌≡◌, ◌≤◌, ◌<◌, ◌-◌, ◌^
 ghost use Rattle.std.specs.VecDeque.{deque_len, deque_capacity};
 ghost use Rattle.dfr_recorder.specs.Parts.{IsWhole};
 ghost use Rattle.dfr_recorder.specs.Kept.{latest, scans_in};
-ghost use Rattle.dfr_recorder.specs.Ring.{extent_of, placed_if, longer_if, unless_last, if_last};
+ghost use Rattle.dfr_recorder.specs.Ring.{extent_of, placed_if, longer_if, unless_last, if_last, ends_at};
 
 use crate::record::Recording;
 use crate::{Extent, Record};
@@ -61,9 +61,9 @@ pub(crate) fn place<A: Allocator + Copy>(
     let Some(extent) = extent else {
         return Ok(());
     };
-    match recording.take() {
-        Some(was) => {
-            *recording = Some(was.moved(extent));
+    match recording {
+        Some(record) => {
+            record.move_to(extent);
             Ok(())
         }
         None => {
@@ -92,19 +92,11 @@ pub(crate) fn grow<A: Allocator + Copy>(
         return Ok(());
     };
     let copy = scan.try_clone()?;
-    match recording.take() {
-        Some(mut was) => {
-            let pushed = was.push(copy);
-            match pushed {
-                Ok(()) => {
-                    *recording = Some(was.moved(extent));
-                    Ok(())
-                }
-                Err(fault) => {
-                    *recording = Some(was);
-                    Err(fault)
-                }
-            }
+    match recording {
+        Some(record) => {
+            record.push(copy)?;
+            record.move_to(extent);
+            Ok(())
         }
         None => {
             let mut scans = copies_from(ring, extent.first, n)?;
@@ -114,6 +106,16 @@ pub(crate) fn grow<A: Allocator + Copy>(
             *recording = Some(Recording::new(extent, scans));
             Ok(())
         }
+    }
+}
+
+/// Whether the open record's last scan is at place `n`.
+fn ends_at<A: Allocator>(recording: &Option<Recording<A>>, n: u64) -> bool
+    ensures { result ≡ ends_at n recording.now }
+{
+    match recording {
+        Some(record) => record.extent().last == n,
+        None => false,
     }
 }
 
@@ -129,14 +131,11 @@ pub(crate) fn shelve<A: Allocator>(
     ensures shelf { shelf.new.items ≡ shelf.old.items ++ if_last n recording.old }
     ensures room { deque_capacity shelf.new ≡ deque_capacity shelf.old }
 {
+    if !ends_at(recording, n) {
+        return;
+    }
     match recording.take() {
-        Some(was) => {
-            if was.extent().last == n {
-                shelf.push_back_reserved(was.close());
-            } else {
-                *recording = Some(was);
-            }
-        }
+        Some(record) => shelf.push_back_reserved(record.close()),
         None => {}
     }
 }
