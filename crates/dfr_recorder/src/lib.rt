@@ -5,6 +5,7 @@ mod limits;
 mod marks;
 mod record;
 mod recorder;
+mod recording;
 mod refusals;
 mod ring;
 mod sequence;

@@ -6,7 +6,7 @@ ghost use Rattle.dfr_recorder.specs.Parts.{IsWhole};
 ghost use Rattle.dfr_recorder.specs.Kept.{scans_in};
 ghost use Rattle.dfr_recorder.specs.Ring.{extent_of, begun, placed_if, longer_if, unless_last, if_last, ends_at};
 
-use crate::record::Recording;
+use crate::recording::Recording;
 use crate::{Extent, Record};
 use circular_buffer::HeapCircularBuffer;
 use dfr_channels::{Memory, Scan};
