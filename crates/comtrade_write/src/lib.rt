@@ -17,6 +17,7 @@ mod parts;
 mod rows_ascii;
 mod rows_binary;
 mod shape;
+mod taken;
 mod texts;
 
 pub use bytes::{ascii_bytes, binary_bytes, cfg_bytes, dat_bytes};
@@ -24,6 +25,7 @@ pub use fault::WriteFault;
 pub use file::{File, Head, Kind, Rate, Row};
 pub use of_record::{FileFault, file_of};
 pub use output::write_all_of;
+pub use taken::file_of_taken;
 
 #[cfg(test)]
 mod tests;
