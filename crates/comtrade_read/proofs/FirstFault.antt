@@ -96,7 +96,7 @@ tests_some r line (t ∷ ts) i fs e h = with_test (λ g. tests_some r line ts (i
         let f : e ≡ r.bad line (i + 0 + 1) = rw z (some_is (r.bad line (i + 1)) e g) in
         inl (0, omega arith, q, λ j lt. absurd (omega arith), f)
 
-fields_none : (r : Rule) (line : ℕ) (fs : List (List ℕ)) → fields_fault r line fs ≡ None → ObeysFields r fs
+pub fields_none : (r : Rule) (line : ℕ) (fs : List (List ℕ)) → fields_fault r line fs ≡ None → ObeysFields r fs
 fields_none r line fs h = with_test (eqb (length fs) (length r.tests)) refl h
   where
     with_test : (b : Bool) → eqb (length fs) (length r.tests) ≡ b → cond b (tests_fault r line r.tests 0 fs) (some (r.few line (length fs))) ≡ None → ObeysFields r fs
@@ -126,7 +126,7 @@ fields_some r line fs e h = with_test (eqb (length fs) (length r.tests)) refl h
 
 -- ---- the lines of a file
 
-line_none : (ls : List (List ℕ)) (r : Rule) (n : ℕ) → line_fault ls r n ≡ None → Obeys ls r n
+pub line_none : (ls : List (List ℕ)) (r : Rule) (n : ℕ) → line_fault ls r n ≡ None → Obeys ls r n
 unfolding line_fault
 line_none ls r n h = with_test (ltb n (length ls)) refl h
   where

@@ -5,3 +5,7 @@ pub mod Chain
 pub mod HeadRead
 pub mod RowLine
 pub mod Outcomes
+pub mod Joining
+pub mod Each
+pub mod Spelled
+pub mod HeadSpelled

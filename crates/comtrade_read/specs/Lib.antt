@@ -7,3 +7,6 @@ pub mod Ascii
 pub mod Binary
 pub mod Data
 pub mod Pair
+pub mod Joined
+pub mod Spells
+pub mod Reads
