@@ -105,7 +105,7 @@ fields_none r line fs h = with_test (eqb (length fs) (length r.tests)) refl h
         record { many = eqb-true _ _ t; each = λ i lt. let z : 0 + i ≡ i = omega arith in rw z at (p.0 i lt); whole = p.1 }
     with_test false t e = none_not (r.few line (length fs)) e
 
-fields_again : (r : Rule) (line : ℕ) (fs : List (List ℕ)) → ObeysFields r fs → fields_fault r line fs ≡ None
+pub fields_again : (r : Rule) (line : ℕ) (fs : List (List ℕ)) → ObeysFields r fs → fields_fault r line fs ≡ None
 fields_again r line fs o =
     rw (o.many, eqb-same (length r.tests)) (tests_again r line r.tests 0 fs (λ j lt. let z : 0 + j ≡ j = omega arith in rw z (o.each j lt)) o.whole)
 

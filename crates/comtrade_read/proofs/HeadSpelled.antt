@@ -78,7 +78,7 @@ from_obeyed ls k m o =
 
 -- ---- a line and its fields
 
-line_at : (ls : List (List ℕ)) (n : ℕ) → n < length ls → line (map fields ls) n ≡ line_fields ls n
+pub line_at : (ls : List (List ℕ)) (n : ℕ) → n < length ls → line (map fields ls) n ≡ line_fields ls n
 unfolding line_fields
 line_at ls n lt = map_at fields ls n [] [] lt
 
@@ -88,11 +88,11 @@ at_place S ls n i x lt e s = rw (e, line_at ls n lt) s
 from_place : {X : Type 0} (S : List (List ℕ) → X → Type 0) (ls : List (List ℕ)) (n i : ℕ) (x : X) → n < length ls → i ≡ n → S (line (map fields ls) i) x → S (line_fields ls n) x
 from_place S ls n i x lt e s = rw (e, line_at ls n lt) at s
 
-line_again : (ls : List (List ℕ)) (r : Rule) (n : ℕ) → n < length ls → fields_fault r (n + 1) (line_fields ls n) ≡ None → line_fault ls r n ≡ None
+pub line_again : (ls : List (List ℕ)) (r : Rule) (n : ℕ) → n < length ls → fields_fault r (n + 1) (line_fields ls n) ≡ None → line_fault ls r n ≡ None
 unfolding line_fault
 line_again ls r n lt e = rw (lt-ltb n (length ls) lt) e
 
-end_is : (ls : List (List ℕ)) (n : ℕ) → extra_fault ls n ≡ None → length ls ≤ n
+pub end_is : (ls : List (List ℕ)) (n : ℕ) → extra_fault ls n ≡ None → length ls ≤ n
 unfolding extra_fault
 end_is ls n h = with_test (ltb n (length ls)) refl h
   where
@@ -100,7 +100,7 @@ end_is ls n h = with_test (ltb n (length ls)) refl h
     with_test true t e = absurd cc
     with_test false t e = ltb-false n (length ls) t
 
-end_again : (ls : List (List ℕ)) (n : ℕ) → length ls ≡ n → extra_fault ls n ≡ None
+pub end_again : (ls : List (List ℕ)) (n : ℕ) → length ls ≡ n → extra_fault ls n ≡ None
 unfolding extra_fault
 end_again ls n e = let t : ltb n (length ls) ≡ false = grind (arith, nat_tests) in rw t refl
 

@@ -31,15 +31,15 @@ EndsFull (l ∷ k ∷ ls) = EndsFull (k ∷ ls)
 
 -- ---- all of a list
 
-All-append : {X : Type 0} (P : X → Type 0) (xs ys : List X) → AllByRecursion P xs → AllByRecursion P ys → AllByRecursion P (xs ++ ys)
+pub All-append : {X : Type 0} (P : X → Type 0) (xs ys : List X) → AllByRecursion P xs → AllByRecursion P ys → AllByRecursion P (xs ++ ys)
 All-append P [] ys h k = k
 All-append P (x ∷ xs) ys h k = (h.0, All-append P xs ys h.1 k)
 
-All-front : {X : Type 0} (P : X → Type 0) (xs ys : List X) → AllByRecursion P (xs ++ ys) → AllByRecursion P xs
+pub All-front : {X : Type 0} (P : X → Type 0) (xs ys : List X) → AllByRecursion P (xs ++ ys) → AllByRecursion P xs
 All-front P [] ys h = tt
 All-front P (x ∷ xs) ys h = (h.0, All-front P xs ys h.1)
 
-All-back : {X : Type 0} (P : X → Type 0) (xs ys : List X) → AllByRecursion P (xs ++ ys) → AllByRecursion P ys
+pub All-back : {X : Type 0} (P : X → Type 0) (xs ys : List X) → AllByRecursion P (xs ++ ys) → AllByRecursion P ys
 All-back P [] ys h = h
 All-back P (x ∷ xs) ys h = All-back P xs ys h.1
 
@@ -247,7 +247,7 @@ blank_fields xs e =
 abbrev Bodies : List Line → List (List ℕ)
 Bodies ls = map (λ l. join_with_byte 44 (map field_bytes (l.first ∷ l.rest))) ls
 
-return_none : (xs : List ℕ) → HasNone 13 xs → HasNoReturn xs
+pub return_none : (xs : List ℕ) → HasNone 13 xs → HasNoReturn xs
 return_none [] h = tt
 return_none (x ∷ []) h = h.0
 return_none (x ∷ y ∷ ys) h = return_none (y ∷ ys) h.1

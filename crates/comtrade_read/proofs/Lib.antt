@@ -9,3 +9,5 @@ pub mod Joining
 pub mod Each
 pub mod Spelled
 pub mod HeadSpelled
+pub mod NoReturn
+pub mod TextSpelled
