@@ -11,3 +11,5 @@ pub mod Spelled
 pub mod HeadSpelled
 pub mod NoReturn
 pub mod TextSpelled
+pub mod BinaryNumbers
+pub mod RowBytes
