@@ -1,22 +1,22 @@
 -- The numbers of a binary row: what is written is read, and what is read is written.
-use Rattle.std.proofs.Common.{◌≡◌, ℕ, zero, suc, ◌+◌, ◌-◌, ◌*◌, ◌/◌, ◌%◌, ◌^◌, ◌<◌, ◌≤◌, Bool, true, false, cond, eqb, get_or, take, drop, List, [], ◌∷◌, ◌++◌, length, map, Option, Some, None, refl, sym, ap, ◌∙◌, arith}
-use Rattle.std.specs.Prelude.{ℤ, pos, negsuc, ◌≤ℤ◌, ◌≢◌, FitsSigned}
+use Rattle.std.proofs.Common.{◌≡◌, ℕ, zero, suc, ◌+◌, ◌*◌, ◌/◌, ◌%◌, ◌^◌, ◌<◌, ◌≤◌, Bool, true, false, cond, eqb, get_or, take, List, [], ◌∷◌, length, map, Option, Some, None, refl, sym, ap, ◌∙◌, arith}
+use Rattle.std.specs.Prelude.{ℤ, pos, negsuc, ◌≢◌, FitsSigned}
 use Rattle.std.specs.Int.{w16, cast_signed, cast_unsigned, bit_at}
 use Rattle.std.specs.Ordering.{int_eq}
-use Rattle.std.specs.List.{range_with_len, flat_map}
+use Rattle.std.specs.List.{range_with_len}
 use Rattle.std.proofs.lemmas.Int.{ints, of_z-to_z, to_z-of_z, fits_signed_from_abs}
 use Rattle.std.proofs.Math.Facts.{sfits_to_z, Fits-of_lt, Fits-of_z, Fits-lt-pow}
 use Rattle.std.proofs.Math.Nat.{pow-suc}
 use Rattle.std.proofs.lemmas.Nat.{le_bytes_2, le_bytes_4}
-use Rattle.std.proofs.lemmas.Nat.Bits.{bit_at-zero, bit_at_lowest, bit_at-suc, bit_at-lt}
+use Rattle.std.proofs.lemmas.Nat.Bits.{bit_at-zero, bit_at_lowest, bit_at-suc}
 use Rattle.std.proofs.lemmas.Bool.Decides.{Decides-int_eq, nat_tests}
 use Rattle.std.proofs.lemmas.Bool.{eqb-true}
 use Rattle.byteorder.specs.Endian.{little_number, little_bytes}
-use Rattle.byteorder.specs.Numbers.{little_number-reads_back, little_from-lt}
+use Rattle.byteorder.specs.Numbers.{little_from-lt}
 use Rattle.dfr_channels.specs.declared.scan.Reading.{Reading}
 use Rattle.dfr_channels.specs.declared.scan.Reading.TheVariants.{Value, Missing}
 use Rattle.comtrade_write.specs.Binary.{reading_number, stamp_number, bits_number}
-use Rattle.comtrade_read.specs.Binary.{reading, value_at, stamp_at}
+use Rattle.comtrade_read.specs.Binary.{reading, stamp_at}
 use Rattle.comtrade_read.specs.Reads.{IsPresent, IsStamp}
 
 abbrev pub AllBytes : List ℕ → Type 0
@@ -61,6 +61,7 @@ number_again n lt = with_test (int_eq (cast_signed w16 n) (negsuc 32767)) refl
   where
     back : cast_unsigned w16 (cast_signed w16 n) ≡ n
     back = of_z-to_z w16 n lt
+
     with_test : (b : Bool) → int_eq (cast_signed w16 n) (negsuc 32767) ≡ b → reading_number (cond b Missing (Value (cast_signed w16 n))) ≡ n
     with_test true t = ap (cast_unsigned w16) (sym ((Decides-int_eq (cast_signed w16 n) (negsuc 32767)).0 t)) ∙ back
     with_test false t = back
@@ -76,6 +77,7 @@ present_number n lt = with_test (int_eq (cast_signed w16 n) (negsuc 32767)) refl
   where
     fits : FitsSigned w16 (cast_signed w16 n)
     fits = sfits_to_z {w = w16} {n = n} (Fits-of_lt {w = w16} {n = n} lt)
+
     with_test : (b : Bool) → int_eq (cast_signed w16 n) (negsuc 32767) ≡ b → IsPresent (cond b Missing (Value (cast_signed w16 n)))
     with_test true t = tt
     with_test false t = let other : int_eq (cast_signed w16 n) (negsuc 32767) ≡ false = t in within (cast_signed w16 n) fits t
@@ -152,7 +154,7 @@ bits_again g (suc c) n i h lt =
     let first : g i ≡ eqb (n % 2) 1 = ap g (sym z) ∙ h 0 (omega arith) ∙ ap (λ (b : ℕ). eqb b 1) (bit_at_lowest n) in
     let small : n / 2 < 2 ^ c = omega (arith, pow-suc 2 c) in
     let rest : bits_number (map g (range_with_len (i + 1) c)) ≡ n / 2 =
-      bits_again g c (n / 2) (i + 1) (λ j jl. ap g (omega arith) ∙ h (suc j) (omega arith) ∙ ap (λ (b : ℕ). eqb b 1) (bit_at-suc n j)) small in
+    bits_again g c (n / 2) (i + 1) (λ j jl. ap g (omega arith) ∙ h (suc j) (omega arith) ∙ ap (λ (b : ℕ). eqb b 1) (bit_at-suc n j)) small in
     with_test (eqb (n % 2) 1) refl first rest
   where
     with_test : (b : Bool) → eqb (n % 2) 1 ≡ b → g i ≡ b → bits_number (map g (range_with_len (i + 1) c)) ≡ n / 2 → bits_number (g i ∷ map g (range_with_len (i + 1) c)) ≡ n

@@ -8,7 +8,7 @@ use Rattle.comtrade_read.specs.declared.fault.ReadFault.TheVariants as faults
 use Rattle.dfr_channels.specs.Lines.{field, line_fields}
 use Rattle.dfr_channels.specs.Faults.{◌or◌}
 use Rattle.comtrade_read.specs.Table.{Rule, tests_fault, fields_fault, line_fault, lines_fault, extra_fault, file_fault, first_in}
-use Rattle.comtrade_read.specs.Faulty.{passes, ObeysFields, Obeys, IsFieldsFault, few, bad, wrong, IsLineFault, missing, within, rule, Faulty, at, extra, FaultLaw, SoundLaw, CompleteLaw}
+use Rattle.comtrade_read.specs.Faulty.{passes, ObeysFields, Obeys, IsFieldsFault, few, bad, wrong, IsLineFault, missing, within, rule, Faulty, at, extra, AllObey}
 
 abbrev some : ReadFault → Option ReadFault
 some e = Some e
@@ -188,7 +188,7 @@ lines_some ls (r ∷ rs) n e h = elim (or_some (line_fault ls r n) (lines_fault 
 from_0 : (ls : List (List ℕ)) (rs : List Rule) (n : ℕ) → Obeys ls (rule rs n) (0 + n) → Obeys ls (rule rs n) n
 from_0 ls rs n o = let z : 0 + n ≡ n = omega arith in rw z at o
 
-pub file_sound : SoundLaw
+pub file_sound : (ls : List (List ℕ)) (rs : List Rule) → file_fault ls rs ≡ None → AllObey ls rs
 unfolding file_fault extra_fault
 file_sound ls rs h =
     let p = or_none (lines_fault ls rs 0) _ h in
@@ -198,13 +198,13 @@ file_sound ls rs h =
     with_test true t e = none_not (faults.Extra (length rs + 1)) e
     with_test false t e = ltb-false _ _ t
 
-pub file_complete : CompleteLaw
+pub file_complete : (ls : List (List ℕ)) (rs : List Rule) → AllObey ls rs → file_fault ls rs ≡ None
 unfolding file_fault extra_fault
 file_complete ls rs o =
     let p = lines_again ls rs 0 (λ j lt. let z : 0 + j ≡ j = omega arith in rw z (o.each j lt)) in
     rw (p, le-ltb (length rs) (length ls) o.end) refl
 
-pub file_first : FaultLaw
+pub file_first : (ls : List (List ℕ)) (rs : List Rule) (e : ReadFault) → file_fault ls rs ≡ Some e → Faulty ls rs e
 unfolding file_fault extra_fault
 file_first ls rs e h = elim (or_some (lines_fault ls rs 0) _ e h) [
   | inl p ↦

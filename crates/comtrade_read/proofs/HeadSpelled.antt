@@ -1,13 +1,11 @@
 -- The lines of a head: each of its kind, and each spelling its part.
-use Rattle.std.proofs.Common.{◌≡◌, ℕ, zero, suc, ◌+◌, ◌-◌, ◌<◌, ◌≤◌, max, Bool, true, false, cond, ltb, eqb, List, [], ◌∷◌, length, map, Option, Some, None, refl, sym, ap, subst, ◌∙◌, arith}
-use Rattle.std.specs.Prelude.{unwrap_or, is_some, option_map, slice_get, ℤ}
-use Rattle.std.specs.List.{range_with_len}
+use Rattle.std.proofs.Common.{◌≡◌, ℕ, zero, suc, ◌+◌, ◌-◌, ◌<◌, ◌≤◌, max, Bool, true, false, cond, ltb, eqb, List, [], length, map, Option, Some, None, refl, sym, ◌∙◌, arith}
+use Rattle.std.specs.Prelude.{slice_get}
 use Rattle.std.proofs.lemmas.List.{length-map}
 use Rattle.std.proofs.lemmas.List.FromFn.{length-map-range_with_len}
 use Rattle.std.proofs.lemmas.Bool.{lt-ltb, ltb-false}
 use Rattle.std.proofs.lemmas.Bool.Decides.{nat_tests}
 use Rattle.dfr_channels.specs.Faults.{◌or◌}
-use Rattle.dfr_channels.specs.Spelling.{Number}
 use Rattle.dfr_channels.specs.Lines.{field, fields, line_fields}
 use Rattle.dfr_channels.specs.Parts.{AnalogParts, StatusParts}
 use Rattle.comtrade_write.specs.declared.file.Kind.TheVariants.{Ascii}
@@ -17,10 +15,10 @@ use Rattle.comtrade_read.specs.declared.fault.ReadFault.{ReadFault}
 use Rattle.comtrade_read.specs.declared.fault.ReadFault.TheVariants as faults
 use Rattle.comtrade_read.specs.Fields.{natural, scale, free_scale, zero_number}
 use Rattle.comtrade_read.specs.Table.{Rule, fields_fault, line_fault, extra_fault, first_in}
-use Rattle.comtrade_read.specs.Faulty.{Obeys, ObeysFields, AllObey}
+use Rattle.comtrade_read.specs.Faulty.{AllObey}
 use Rattle.comtrade_read.specs.Head.{kind, names_rule, counts_rule, analog_rule, status_rule, frequency_rule, nrates_rule, rate_rule, instant_rule, kind_rule, timemult_rule, decimal_in, analog_value, status_value, rate_value, instant_value, kind_value, nrates_value, analog_count, status_count, rate_count, rate_before, analog_items, status_items, rate_items, analog_faults, status_faults, rate_faults, head_rules, head_fault, head_value, value_of, chain}
 use Rattle.comtrade_read.specs.Spells.{EachFrom, line, sample_before, SpellsNames, SpellsCounts, SpellsAnalog, SpellsStatus, SpellsRate, SpellsInstant, SpellsOne, SpellsHead}
-use Rattle.comtrade_read.proofs.Each.{some_of, held, map_at, made_at, each_made, each_same, each_at, none_each, each_none}
+use Rattle.comtrade_read.proofs.Each.{map_at, made_at, each_made, each_same, each_at, none_each, each_none}
 use Rattle.comtrade_read.proofs.FirstFault.{line_none, file_complete, file_sound}
 use Rattle.comtrade_read.proofs.Chain.{chain_is}
 use Rattle.comtrade_read.proofs.Spelled.{names_found, counts_found, analog_found, status_found, rate_found, instant_found, one_found, names_only, counts_only, analog_only, status_only, rate_only, instant_only, kind_only, timemult_only, frequency_only, nrates_only, analog_same, status_same, rate_same, instant_same}
@@ -62,12 +60,19 @@ to_obeyed ls k m h =
     let l = or_none (line_fault ls kind_rule (at + 4 + r)) _ j.1 in
     let o = or_none (line_fault ls timemult_rule (at + 5 + r)) _ l.1 in
     record {
-      names = a.0; counts = b.0;
+      names = a.0;
+      counts = b.0;
       analog = λ n lt. none_each (analog_faults ls) k c.0 n lt;
       status = λ n lt. none_each (status_faults ls k) m d.0 n lt;
-      frequency = e.0; nrates = f.0;
+      frequency = e.0;
+      nrates = f.0;
       rates = λ n lt. none_each (rate_faults ls (at + 2)) r g.0 n lt;
-      first = i.0; trigger = j.0; kind = l.0; timemult = o.0; end = o.1 }
+      first = i.0;
+      trigger = j.0;
+      kind = l.0;
+      timemult = o.0;
+      end = o.1;
+    }
 
 from_obeyed : (ls : List (List ℕ)) (k m : ℕ) → HeadObeyed ls k m (rate_count ls (2 + k + m)) → chain ls k m ≡ None
 from_obeyed ls k m o =
@@ -127,19 +132,20 @@ pub record HeadSpelled (ls : List (List (List ℕ))) (h : HeadParts) (k m r : �
 
 spelled_at : (ls : List (List (List ℕ))) (h : HeadParts) (k m r : ℕ) → HeadSpelled ls h k m r → SpellsHead ls h
 spelled_at ls h k m r s = record {
-    count = rw (s.k_is, s.m_is, s.r_is) s.count;
-    names = s.names;
-    counts = rw (s.k_is, s.m_is) s.counts;
-    analog = s.analog;
-    status = rw s.k_is s.status;
-    line_freq = rw (s.k_is, s.m_is) s.line_freq;
-    nrates = rw (s.k_is, s.m_is) s.nrates;
-    rate_count = s.r_is ∙ s.rate_count;
-    rates = rw (s.k_is, s.m_is) s.rates;
-    first = rw (s.k_is, s.m_is, s.r_is) s.first;
-    trigger = rw (s.k_is, s.m_is, s.r_is) s.trigger;
-    kind = rw (s.k_is, s.m_is, s.r_is) s.kind;
-    timemult = rw (s.k_is, s.m_is, s.r_is) s.timemult }
+  count = rw (s.k_is, s.m_is, s.r_is) s.count;
+  names = s.names;
+  counts = rw (s.k_is, s.m_is) s.counts;
+  analog = s.analog;
+  status = rw s.k_is s.status;
+  line_freq = rw (s.k_is, s.m_is) s.line_freq;
+  nrates = rw (s.k_is, s.m_is) s.nrates;
+  rate_count = s.r_is ∙ s.rate_count;
+  rates = rw (s.k_is, s.m_is) s.rates;
+  first = rw (s.k_is, s.m_is, s.r_is) s.first;
+  trigger = rw (s.k_is, s.m_is, s.r_is) s.trigger;
+  kind = rw (s.k_is, s.m_is, s.r_is) s.kind;
+  timemult = rw (s.k_is, s.m_is, s.r_is) s.timemult;
+}
 
 before_is : (ls : List (List ℕ)) (start r j : ℕ) → j < r → sample_before (rate_items ls start r) j ≡ rate_before ls start j
 unfolding rate_before
@@ -174,19 +180,20 @@ spells_found ls k m ka km o =
       names = rw (line_at ls 0 names.there) (names_found (line_fields ls 0) names.fields);
       counts = rw (line_at ls 1 counts.there) counted;
       analog = each_made (λ i c. SpellsAnalog (i + 1) (line fss (2 + i)) c) (λ (i : ℕ). analog_value (line_fields ls (2 + i))) 0 k
-        (λ j le lt. let x = line_none ls (analog_rule (j + 1)) (2 + j) (o.analog j (omega arith)) in rw (line_at ls (2 + j) x.there) (analog_found (j + 1) (line_fields ls (2 + j)) x.fields));
+          (λ j le lt. let x = line_none ls (analog_rule (j + 1)) (2 + j) (o.analog j (omega arith)) in rw (line_at ls (2 + j) x.there) (analog_found (j + 1) (line_fields ls (2 + j)) x.fields));
       status = each_made (λ i c. SpellsStatus (i + 1) (line fss (2 + k + i)) c) (λ (i : ℕ). status_value (line_fields ls (2 + k + i))) 0 m
-        (λ j le lt. let x = line_none ls (status_rule (j + 1)) (2 + k + j) (o.status j (omega arith)) in rw (line_at ls (2 + k + j) x.there) (status_found (j + 1) (line_fields ls (2 + k + j)) x.fields));
+          (λ j le lt. let x = line_none ls (status_rule (j + 1)) (2 + k + j) (o.status j (omega arith)) in rw (line_at ls (2 + k + j) x.there) (status_found (j + 1) (line_fields ls (2 + k + j)) x.fields));
       line_freq = rw (line_at ls at freq.there) (one_found free_scale zero_number (line_fields ls at) freq.fields.many (freq.fields.each 0 (omega arith)));
       nrates = at_place (SpellsOne (natural 999)) ls (at + 1) (3 + k + m) h.nrates nrates.there (omega arith) (one_found (natural 999) 0 (line_fields ls (at + 1)) nrates.fields.many (nrates.fields.each 0 (omega arith)));
       rate_count = refl;
       rates = each_made (λ i x. SpellsRate (sample_before h.rates i) (line fss (4 + k + m + i)) x) (λ (i : ℕ). rate_value (line_fields ls (at + 2 + i))) 0 r
-        (λ j le lt. let x = line_none ls (rate_rule (rate_before ls (at + 2) j)) (at + 2 + j) (o.rates j (omega arith)) in
+          (λ j le lt. let x = line_none ls (rate_rule (rate_before ls (at + 2) j)) (at + 2 + j) (o.rates j (omega arith)) in
           rw (before_is ls (at + 2) r j (omega arith)) (at_place (SpellsRate (rate_before ls (at + 2) j)) ls (at + 2 + j) (4 + k + m + j) (rate_value (line_fields ls (at + 2 + j))) x.there (omega arith) (rate_found (rate_before ls (at + 2) j) (line_fields ls (at + 2 + j)) x.fields)));
       first = at_place SpellsInstant ls (at + 2 + r) (4 + k + m + r) h.first first.there (omega arith) (instant_found (line_fields ls (at + 2 + r)) first.fields);
       trigger = at_place SpellsInstant ls (at + 3 + r) (5 + k + m + r) h.trigger trigger.there (omega arith) (instant_found (line_fields ls (at + 3 + r)) trigger.fields);
       kind = at_place (SpellsOne kind) ls (at + 4 + r) (6 + k + m + r) h.kind kinds.there (omega arith) (one_found kind Ascii (line_fields ls (at + 4 + r)) kinds.fields.many (kinds.fields.each 0 (omega arith)));
-      timemult = at_place (SpellsOne scale) ls (at + 5 + r) (7 + k + m + r) h.timemult timemult.there (omega arith) (one_found scale zero_number (line_fields ls (at + 5 + r)) timemult.fields.many (timemult.fields.each 0 (omega arith))) })
+      timemult = at_place (SpellsOne scale) ls (at + 5 + r) (7 + k + m + r) h.timemult timemult.there (omega arith) (one_found scale zero_number (line_fields ls (at + 5 + r)) timemult.fields.many (timemult.fields.each 0 (omega arith)));
+    })
 
 pub head_found : (ls : List (List ℕ)) → AllObey ls (head_rules ls) → SpellsHead (map fields ls) (head_value ls)
 unfolding head_value head_fault
@@ -255,18 +262,18 @@ spells_only ls h s =
     let kinds : SpellsOne kind (line_fields ls (at + 4 + r)) h.kind = from_place (SpellsOne kind) ls (at + 4 + r) (6 + k + m + r) h.kind (omega arith) (omega arith) s.kind in
     let timemult : SpellsOne scale (line_fields ls (at + 5 + r)) h.timemult = from_place (SpellsOne scale) ls (at + 5 + r) (7 + k + m + r) h.timemult (omega arith) (omega arith) s.timemult in
     let analog_line : (j : ℕ) (c : AnalogParts) → j < k → SpellsAnalog (j + 1) (line fss (2 + j)) c → SpellsAnalog (j + 1) (line_fields ls (2 + j)) c =
-      λ j c lt x. rw (line_at ls (2 + j) (omega arith)) at x in
+    λ j c lt x. rw (line_at ls (2 + j) (omega arith)) at x in
     let status_line : (j : ℕ) (c : StatusParts) → j < m → SpellsStatus (j + 1) (line fss (2 + k + j)) c → SpellsStatus (j + 1) (line_fields ls (2 + k + j)) c =
-      λ j c lt x. rw (line_at ls (2 + k + j) (omega arith)) at x in
+    λ j c lt x. rw (line_at ls (2 + k + j) (omega arith)) at x in
     let rate_line : (j : ℕ) (x : Rate) → j < r → SpellsRate (sample_before h.rates j) (line fss (4 + k + m + j)) x → SpellsRate (sample_before h.rates j) (line_fields ls (at + 2 + j)) x =
-      λ j x lt y. from_place (SpellsRate (sample_before h.rates j)) ls (at + 2 + j) (4 + k + m + j) x (omega arith) (omega arith) y in
+    λ j x lt y. from_place (SpellsRate (sample_before h.rates j)) ls (at + 2 + j) (4 + k + m + j) x (omega arith) (omega arith) y in
     let rates : (j : ℕ) → j < r → (x : Rate) × ((slice_get h.rates j ≡ Some x) × SpellsRate (sample_before h.rates j) (line_fields ls (at + 2 + j)) x) = λ j lt.
-        let i = each_at (λ i x. SpellsRate (sample_before h.rates i) (line fss (4 + k + m + i)) x) 0 h.rates j s.rates lt in
-        let z : 0 + j ≡ j = omega arith in
-        let g : SpellsRate (sample_before h.rates j) (line fss (4 + k + m + j)) i.item = rw z at i.holds_it in
-        (i.item, (i.there, rate_line j i.item lt g)) in
+    let i = each_at (λ i x. SpellsRate (sample_before h.rates i) (line fss (4 + k + m + i)) x) 0 h.rates j s.rates lt in
+    let z : 0 + j ≡ j = omega arith in
+    let g : SpellsRate (sample_before h.rates j) (line fss (4 + k + m + j)) i.item = rw z at i.holds_it in
+    (i.item, (i.there, rate_line j i.item lt g)) in
     let before : (j : ℕ) → j < r → sample_before h.rates j ≡ rate_before ls (at + 2) j = λ j lt.
-        before_only ls (at + 2) h.rates j lt (λ i il. let p = rates i il in (p.0, (p.1.0, p.1.1.endsamp))) in
+    before_only ls (at + 2) h.rates j lt (λ i il. let p = rates i il in (p.0, (p.1.0, p.1.1.endsamp))) in
     let count : rate_count ls at ≡ r = rw nrates.field (sym s.rate_count) in
     record {
       analog_is = rw counts.analog refl;
@@ -276,41 +283,44 @@ spells_only ls h s =
         names = line_again ls names_rule 0 (omega arith) (names_only (line_fields ls 0) h.station h.device 1 names);
         counts = line_again ls counts_rule 1 (omega arith) (counts_only (line_fields ls 1) k m 2 counts);
         analog = λ j lt.
-          let i = each_at (λ i c. SpellsAnalog (i + 1) (line fss (2 + i)) c) 0 h.analog j s.analog lt in
-          let z : 0 + j ≡ j = omega arith in
-          let g : SpellsAnalog (j + 1) (line fss (2 + j)) i.item = rw z at i.holds_it in
-          line_again ls (analog_rule (j + 1)) (2 + j) (omega arith) (analog_only (j + 1) (2 + j + 1) (line_fields ls (2 + j)) i.item (analog_line j i.item lt g));
+            let i = each_at (λ i c. SpellsAnalog (i + 1) (line fss (2 + i)) c) 0 h.analog j s.analog lt in
+            let z : 0 + j ≡ j = omega arith in
+            let g : SpellsAnalog (j + 1) (line fss (2 + j)) i.item = rw z at i.holds_it in
+            line_again ls (analog_rule (j + 1)) (2 + j) (omega arith) (analog_only (j + 1) (2 + j + 1) (line_fields ls (2 + j)) i.item (analog_line j i.item lt g));
         status = λ j lt.
-          let i = each_at (λ i c. SpellsStatus (i + 1) (line fss (2 + k + i)) c) 0 h.status j s.status lt in
-          let z : 0 + j ≡ j = omega arith in
-          let g : SpellsStatus (j + 1) (line fss (2 + k + j)) i.item = rw z at i.holds_it in
-          line_again ls (status_rule (j + 1)) (2 + k + j) (omega arith) (status_only (j + 1) (2 + k + j + 1) (line_fields ls (2 + k + j)) i.item (status_line j i.item lt g));
+            let i = each_at (λ i c. SpellsStatus (i + 1) (line fss (2 + k + i)) c) 0 h.status j s.status lt in
+            let z : 0 + j ≡ j = omega arith in
+            let g : SpellsStatus (j + 1) (line fss (2 + k + j)) i.item = rw z at i.holds_it in
+            line_again ls (status_rule (j + 1)) (2 + k + j) (omega arith) (status_only (j + 1) (2 + k + j + 1) (line_fields ls (2 + k + j)) i.item (status_line j i.item lt g));
         frequency = line_again ls frequency_rule at (omega arith) (frequency_only (at + 1) (line_fields ls at) h.line_freq freq);
         nrates = line_again ls nrates_rule (at + 1) (omega arith) (nrates_only (at + 1 + 1) (line_fields ls (at + 1)) h.nrates nrates);
         rates = λ j lt.
-          let p = rates j lt in
-          let g : SpellsRate (rate_before ls (at + 2) j) (line_fields ls (at + 2 + j)) p.0 = rw (before j lt) at p.1.1 in
-          line_again ls (rate_rule (rate_before ls (at + 2) j)) (at + 2 + j) (omega arith) (rate_only (rate_before ls (at + 2) j) (at + 2 + j + 1) (line_fields ls (at + 2 + j)) p.0 g);
+            let p = rates j lt in
+            let g : SpellsRate (rate_before ls (at + 2) j) (line_fields ls (at + 2 + j)) p.0 = rw (before j lt) at p.1.1 in
+            line_again ls (rate_rule (rate_before ls (at + 2) j)) (at + 2 + j) (omega arith) (rate_only (rate_before ls (at + 2) j) (at + 2 + j + 1) (line_fields ls (at + 2 + j)) p.0 g);
         first = line_again ls instant_rule (at + 2 + r) (omega arith) (instant_only (at + 2 + r + 1) (line_fields ls (at + 2 + r)) h.first first);
         trigger = line_again ls instant_rule (at + 3 + r) (omega arith) (instant_only (at + 3 + r + 1) (line_fields ls (at + 3 + r)) h.trigger trigger);
         kind = line_again ls kind_rule (at + 4 + r) (omega arith) (kind_only (at + 4 + r + 1) (line_fields ls (at + 4 + r)) h.kind kinds);
         timemult = line_again ls timemult_rule (at + 5 + r) (omega arith) (timemult_only (at + 5 + r + 1) (line_fields ls (at + 5 + r)) h.timemult timemult);
-        end = end_again ls (at + 6 + r) (omega arith) };
+        end = end_again ls (at + 6 + r) (omega arith);
+      };
       says = record {
         station = names.station;
         device = names.device;
         analog = sym (each_same (λ i c. SpellsAnalog (i + 1) (line fss (2 + i)) c) (λ (i : ℕ). analog_value (line_fields ls (2 + i))) 0 h.analog s.analog
-          (λ j c le lt x. analog_same (j + 1) (line_fields ls (2 + j)) c (analog_line j c (omega arith) x)));
+            (λ j c le lt x. analog_same (j + 1) (line_fields ls (2 + j)) c (analog_line j c (omega arith) x)));
         status = sym (each_same (λ i c. SpellsStatus (i + 1) (line fss (2 + k + i)) c) (λ (i : ℕ). status_value (line_fields ls (2 + k + i))) 0 h.status s.status
-          (λ j c le lt x. status_same (j + 1) (line_fields ls (2 + k + j)) c (status_line j c (omega arith) x)));
+            (λ j c le lt x. status_same (j + 1) (line_fields ls (2 + k + j)) c (status_line j c (omega arith) x)));
         line_freq = rw freq.field refl;
         nrates = rw nrates.field refl;
         rates = sym (each_same (λ i x. SpellsRate (sample_before h.rates i) (line fss (4 + k + m + i)) x) (λ (i : ℕ). rate_value (line_fields ls (at + 2 + i))) 0 h.rates s.rates
-          (λ j x le lt y. rate_same (sample_before h.rates j) (line_fields ls (at + 2 + j)) x (rate_line j x (omega arith) y)));
+            (λ j x le lt y. rate_same (sample_before h.rates j) (line_fields ls (at + 2 + j)) x (rate_line j x (omega arith) y)));
         first = sym (instant_same (line_fields ls (at + 2 + r)) h.first first);
         trigger = sym (instant_same (line_fields ls (at + 3 + r)) h.trigger trigger);
         kind = rw kinds.field refl;
-        timemult = rw timemult.field refl } }
+        timemult = rw timemult.field refl;
+      };
+    }
 
 pub head_only : (ls : List (List ℕ)) (h : HeadParts) → SpellsHead (map fields ls) h → AllObey ls (head_rules ls) × (h ≡ head_value ls)
 unfolding head_value head_fault
@@ -319,6 +329,7 @@ head_only ls h s =
     let m = length h.status in
     let o = spells_only ls h s in
     let obeyed : HeadObeyed ls k m (rate_count ls (2 + k + m)) = rw (← o.rates_are) at o.obeyed in
-    let none : chain ls (analog_count (line_fields ls 1)) (status_count (line_fields ls 1)) ≡ None = rw (o.analog_is, o.status_is) (from_obeyed ls k m obeyed) in
-    (file_sound ls (head_rules ls) (chain_is ls ∙ none),
-     sym (parts_are ls h k m (length h.rates) o.rates_are o.says) ∙ rw (o.analog_is, o.status_is) refl)
+    let none : chain ls (analog_count (line_fields ls 1)) (status_count (line_fields ls 1)) ≡ None = rw (o.analog_is, o.status_is) (from_obeyed ls k m obeyed) in (
+      file_sound ls (head_rules ls) (chain_is ls ∙ none),
+      sym (parts_are ls h k m (length h.rates) o.rates_are o.says) ∙ rw (o.analog_is, o.status_is) refl,
+    )

@@ -1,14 +1,14 @@
 -- A text and the lines that it is joined of: what is cut was joined, and what was joined is cut.
-use Rattle.std.proofs.Common.{◌≡◌, ℕ, zero, suc, ◌+◌, ◌-◌, ◌<◌, ◌≤◌, Bool, true, false, cond, eqb, ltb, get_or, take, length-append, List, [], ◌∷◌, ◌++◌, length, map, refl, sym, ap, ◌∙◌, arith, append_assoc}
+use Rattle.std.proofs.Common.{◌≡◌, ℕ, suc, ◌-◌, ◌≤◌, Bool, true, false, cond, eqb, get_or, take, length-append, List, [], ◌∷◌, ◌++◌, length, map, refl, sym, ap, ◌∙◌, arith}
 use Rattle.std.specs.Prelude.{reverse, ◌≢◌}
 use Rattle.std.specs.List.{slice_split, onto_first, join_with_byte, AllByRecursion}
 use Rattle.std.proofs.lemmas.List.{reverse-append, reverse-reverse, take_at, append-nil, map-append}
 use Rattle.std.proofs.lemmas.List.Elements.{All-from_recursion}
-use Rattle.std.proofs.lemmas.List.Splits.{slice_split_none, slice_split_at, join_with_byte-slice_split, slice_split-cons_yes, slice_split-cons_no}
+use Rattle.std.proofs.lemmas.List.Splits.{slice_split_none, slice_split_at, join_with_byte-slice_split}
 use Rattle.std.proofs.lemmas.Bool.Decides.{nat_tests}
 use Rattle.std.proofs.lemmas.Bool.{eqb-true}
 use Rattle.dfr_channels.specs.Spelling.{is_blank, trim_start, trimmed}
-use Rattle.dfr_channels.specs.Lines.{cut_lines, lines, fields, without_cr, is_blank_line, drop_front, drop_end}
+use Rattle.dfr_channels.specs.Lines.{lines, fields, without_cr, is_blank_line, drop_front, drop_end}
 use Rattle.comtrade_read.specs.Joined.{AreBlank, HasNone, Field, field_bytes, IsField, Line, carriage_return, line_bytes, field_texts, IsLine, BlankLine, blank_bytes, IsJoined}
 
 -- the last byte, if there is one, isn't a carriage return
@@ -108,6 +108,7 @@ parts_of q (x ∷ xs) = with_test (q x)
     onto : (ps : List (List ℕ)) → Parts (onto_first x ps)
     onto [] = record { first = x ∷ []; rest = []; is = refl }
     onto (p ∷ ps) = record { first = x ∷ p; rest = ps; is = refl }
+
     with_test : (b : Bool) → Parts (cond b ([] ∷ slice_split q xs) (onto_first x (slice_split q xs)))
     with_test true = record { first = []; rest = slice_split q xs; is = refl }
     with_test false = onto (slice_split q xs)
@@ -183,7 +184,7 @@ unfolding trailing
 trimmed_is xs =
     let ys = trim_start xs in
     let back : trimmed xs ++ reverse (leading (reverse ys)) ≡ ys =
-      sym (reverse-append (leading (reverse ys)) (trim_start (reverse ys))) ∙ ap reverse (leading_is (reverse ys)) ∙ reverse-reverse ys in
+    sym (reverse-append (leading (reverse ys)) (trim_start (reverse ys))) ∙ ap reverse (leading_is (reverse ys)) ∙ reverse-reverse ys in
     ap (λ (zs : List ℕ). leading xs ++ zs) back ∙ leading_is xs
 
 trailing_blank : (xs : List ℕ) → AreBlank (trailing xs)
@@ -195,7 +196,7 @@ unfolding trailing
 trimmed_full xs =
     let ys = trim_start xs in
     let back : trimmed xs ++ reverse (leading (reverse ys)) ≡ ys =
-      sym (reverse-append (leading (reverse ys)) (trim_start (reverse ys))) ∙ ap reverse (leading_is (reverse ys)) ∙ reverse-reverse ys in
+    sym (reverse-append (leading (reverse ys)) (trim_start (reverse ys))) ∙ ap reverse (leading_is (reverse ys)) ∙ reverse-reverse ys in
     full_front (trimmed xs) (reverse (leading (reverse ys))) (rw back (trim_full xs))
 
 pub trimmed_twice : (xs : List ℕ) → trimmed (trimmed xs) ≡ trimmed xs
@@ -315,7 +316,7 @@ body_fields f fs h = ap (map trimmed) (split_again 44 (field_bytes f) (map field
 body_return : (f : Field) (fs : List Field) → AllByRecursion IsField (f ∷ fs) → EndsPlain (map (λ f. f.text) (f ∷ fs)) → HasNoReturn (join_with_byte 44 (map field_bytes (f ∷ fs)))
 body_return f [] h e =
     return-append f.before (f.text ++ f.after) (return_none f.before (blank_none 13 refl f.before h.0.before))
-      (return-append f.text f.after e (return_none f.after (blank_none 13 refl f.after h.0.after)))
+    (return-append f.text f.after e (return_none f.after (blank_none 13 refl f.after h.0.after)))
 body_return f (g ∷ gs) h e =
     return-back (field_bytes f) 44 (join_with_byte 44 (map field_bytes (g ∷ gs))) (return-cons 44 (join_with_byte 44 (map field_bytes (g ∷ gs))) refl (body_return g gs h.1 e))
 
@@ -424,11 +425,11 @@ cut_again text ls j plain full =
     let texts : map fields (Bodies j.lines) ≡ ls = bodies_fields j.lines j.are_lines ∙ j.fields in
     let full' : EndsFull (map fields (Bodies j.lines)) = rw texts full in
     let cut : lines text ≡ Bodies j.lines =
-        ap lines j.bytes
-        ∙ cut_is (ps ++ bs) (All-append (HasNone 10) ps bs (lines_feed j.lines j.are_lines) (blanks_feed j.blank j.are_blank))
-        ∙ ap (drop_end is_blank_line) (map-append without_cr ps bs ∙ ap (λ xs. xs ++ map without_cr bs) (lines_off j.lines j.are_lines plain') ∙ ap (λ xs. Bodies j.lines ++ xs) (blanks_off j.blank j.are_blank))
-        ∙ drop_end_blank is_blank_line (Bodies j.lines) (map (λ l. l.blanks) j.blank) (are_blank_lines j.blank j.are_blank)
-        ∙ end_stays (Bodies j.lines) full' in
+    ap lines j.bytes
+    ∙ cut_is (ps ++ bs) (All-append (HasNone 10) ps bs (lines_feed j.lines j.are_lines) (blanks_feed j.blank j.are_blank))
+    ∙ ap (drop_end is_blank_line) (map-append without_cr ps bs ∙ ap (λ xs. xs ++ map without_cr bs) (lines_off j.lines j.are_lines plain') ∙ ap (λ xs. Bodies j.lines ++ xs) (blanks_off j.blank j.are_blank))
+    ∙ drop_end_blank is_blank_line (Bodies j.lines) (map (λ l. l.blanks) j.blank) (are_blank_lines j.blank j.are_blank)
+    ∙ end_stays (Bodies j.lines) full' in
     ap (map fields) cut ∙ texts
 
 -- ---- from cut to joined
@@ -450,6 +451,7 @@ fronts_of {X = X} p (x ∷ xs) = with_test (fronts_of p xs) (p x) refl
   where
     made : (b : Bool) → p x ≡ b → (ys : List X) → x ∷ xs ≡ ys ++ cond b (drop_front p xs) (x ∷ xs) → AllByRecursion (λ y. p y ≡ true) ys → Fronts p (x ∷ xs)
     made b e ys is pass = record { front = ys; is = rw e is; pass = pass }
+
     with_test : Fronts p xs → (b : Bool) → p x ≡ b → Fronts p (x ∷ xs)
     with_test f true e = made true e (x ∷ f.front) (ap (λ ys. x ∷ ys) f.is) (e, f.pass)
     with_test f false e = made false e [] refl tt
@@ -460,7 +462,8 @@ ends_of p xs =
     record {
       back = reverse f.front;
       is = sym (reverse-reverse xs) ∙ ap reverse f.is ∙ reverse-append f.front (drop_front p (reverse xs));
-      pass = All-reverse _ f.front f.pass }
+      pass = All-reverse _ f.front f.pass;
+    }
 
 reverse-map : {X Y : Type 0} (f : X → Y) (xs : List X) → reverse (map f xs) ≡ map f (reverse xs)
 reverse-map f [] = refl
@@ -556,7 +559,8 @@ made_line bytes h =
       line = record { first = made_field s.first; rest = map made_field s.rest; cr = returns bytes };
       is_line = rw s.is at all;
       bytes_are = ap (λ (xs : List ℕ). xs ++ carriage_return (returns bytes)) (sym (ap (λ xs. join_with_byte 44 (map field_bytes (map made_field xs))) s.is) ∙ joined) ∙ return_is bytes;
-      texts_are = sym (ap (λ xs. map (λ f. f.text) (map made_field xs)) s.is) ∙ texts }
+      texts_are = sym (ap (λ xs. map (λ f. f.text) (map made_field xs)) s.is) ∙ texts;
+    }
 
 -- lines of such bytes
 pub record MadeAll (ps : List (List ℕ)) : Type 0 where
@@ -584,7 +588,8 @@ made_blanks (p ∷ ps) h =
     record {
       lines = record { blanks = without_cr p; cr = returns p } ∷ more.lines;
       are_blank = (blank_line (without_cr p) h.0, more.are_blank);
-      bytes_are = rw (return_is p, more.bytes_are) refl }
+      bytes_are = rw (return_is p, more.bytes_are) refl;
+    }
 
 pub joined_of : (text : List ℕ) → IsJoined text (map fields (lines text))
 joined_of text =
@@ -601,4 +606,5 @@ joined_of text =
       are_lines = ls.are_lines;
       are_blank = bs.are_blank;
       fields = ls.texts_are ∙ ap (map fields) (sym (drop_end-map is_blank_line without_cr ps));
-      bytes = sym (join_with_byte-slice_split 10 text) ∙ ap (join_with_byte 10) (e.is ∙ ap (λ xs. xs ++ e.back) (sym ls.bytes_are) ∙ ap (λ xs. map line_bytes ls.lines ++ xs) (sym bs.bytes_are)) }
+      bytes = sym (join_with_byte-slice_split 10 text) ∙ ap (join_with_byte 10) (e.is ∙ ap (λ xs. xs ++ e.back) (sym ls.bytes_are) ∙ ap (λ xs. map line_bytes ls.lines ++ xs) (sym bs.bytes_are));
+    }

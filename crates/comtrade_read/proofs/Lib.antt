@@ -13,3 +13,4 @@ pub mod NoReturn
 pub mod TextSpelled
 pub mod BinaryNumbers
 pub mod RowBytes
+pub mod OneFile

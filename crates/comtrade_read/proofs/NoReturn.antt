@@ -1,9 +1,9 @@
 -- What spells a number, a side, a bit, a kind or a time has no carriage return at its end.
-use Rattle.std.proofs.Common.{◌≡◌, ℕ, zero, suc, ◌+◌, ◌-◌, ◌<◌, ◌≤◌, Bool, true, false, cond, ltb, leb, eqb, get_or, take, drop, List, [], ◌∷◌, ◌++◌, length, map, Option, Some, None, refl, sym, ap, ◌∙◌, arith}
-use Rattle.std.specs.Prelude.{◌&&◌, ◌||◌, ℤ, pos, negsuc, is_some, not, position, codes, option_map, option_and_then}
-use Rattle.std.specs.List.{AllByRecursion, position_or_len, before_first, after_first}
-use Rattle.std.specs.Char.{is_ascii_digit, to_ascii_lowercase}
-use Rattle.std.specs.Str.{all_ascii_digits, str_eq_ignore_ascii_case, str_to_ascii_lowercase, bytes_eq}
+use Rattle.std.proofs.Common.{◌≡◌, ℕ, zero, suc, ◌+◌, ◌-◌, Bool, true, false, cond, ltb, leb, eqb, get_or, take, drop, List, [], ◌∷◌, ◌++◌, length, Option, Some, None, refl, sym, ap, ◌∙◌, arith}
+use Rattle.std.specs.Prelude.{◌&&◌, ℤ, pos, negsuc, is_some, not, position, codes, option_map, option_and_then}
+use Rattle.std.specs.List.{position_or_len, before_first, after_first}
+use Rattle.std.specs.Char.{is_ascii_digit}
+use Rattle.std.specs.Str.{all_ascii_digits, str_eq_ignore_ascii_case, str_to_ascii_lowercase}
 use Rattle.std.specs.Str.Parse.{without_leading_sign, starts_with_minus, digits_value}
 use Rattle.std.proofs.lemmas.Bool.{eqb-true}
 use Rattle.std.proofs.lemmas.Slice.Eq.{bytes_eq-Decides}
@@ -17,11 +17,11 @@ use Rattle.dfr_channels.specs.declared.scan.Reading.TheVariants as readings
 use Rattle.comtrade_write.specs.declared.file.Kind.{Kind}
 use Rattle.comtrade_write.specs.declared.file.Kind.TheVariants.{Ascii, Binary}
 use Rattle.comtrade_read.specs.Fields.{zero_number, whole, natural, up_to, small, within, scale, free_scale, count, before_letter, side, is_letter, as_bit, bit, free_bit}
-use Rattle.comtrade_read.specs.Instant.{digits, is_slash, is_colon, is_dot, micros, scaled, both, seconds, time_at, time_of, time}
+use Rattle.comtrade_read.specs.Instant.{digits, is_colon, is_dot, micros, scaled, both, seconds, time_of, time}
 use Rattle.comtrade_read.specs.Head.{kind}
 use Rattle.comtrade_read.specs.Ascii.{stamp, value, reading}
 use Rattle.comtrade_read.specs.Joined.{HasNone}
-use Rattle.comtrade_read.proofs.Joining.{HasNoReturn, EndsPlain, return_none, All-append, All-front, All-back}
+use Rattle.comtrade_read.proofs.Joining.{HasNoReturn, EndsPlain, return_none, All-front, All-back}
 
 ands : (a b : Bool) → (a && b) ≡ true → (a ≡ true) × (b ≡ true)
 ands true b e = (refl, e)
@@ -50,6 +50,7 @@ sign_none (c ∷ cs) h = with_minus (eqb c 45) refl h
     with_plus : (b : Bool) → eqb c 43 ≡ b → HasNone 13 (drop (cond b 1 0) (c ∷ cs)) → HasNone 13 (c ∷ cs)
     with_plus true e k = (differs (λ x. eqb x 43) c refl e, k)
     with_plus false e k = k
+
     with_minus : (b : Bool) → eqb c 45 ≡ b → HasNone 13 (cond b cs (drop (cond (eqb c 43) 1 0) (c ∷ cs))) → HasNone 13 (c ∷ cs)
     with_minus true e k = (differs (λ x. eqb x 45) c refl e, k)
     with_minus false e k = with_plus (eqb c 43) refl k
@@ -196,6 +197,7 @@ side_plain f x e = with_p (is_letter 80 f) refl e
     with_s : (b : Bool) → is_letter 83 f ≡ b → cond b (Some Secondary) None ≡ Some x → HasNone 13 f
     with_s true t h = letter_none 83 f refl t
     with_s false t h = absurd cc
+
     with_p : (b : Bool) → is_letter 80 f ≡ b → cond b (Some Primary) (cond (is_letter 83 f) (Some Secondary) None) ≡ Some x → HasNone 13 f
     with_p true t h = letter_none 80 f refl t
     with_p false t h = with_s (is_letter 83 f) refl h
@@ -244,8 +246,8 @@ seconds_plain f p e = with_test (is_some (position is_dot f)) e
   where
     with_test : (t : Bool) → cond t (both (digits 1 2 (before_first is_dot f)) (micros (after_first is_dot f))) (both (digits 1 2 f) (Some 0)) ≡ Some p → HasNone 13 f
     with_test true h =
-      let q = both_some (digits 1 2 (before_first is_dot f)) (micros (after_first is_dot f)) p h in
-      parts_none is_dot f refl (digits_plain 1 2 (before_first is_dot f) q.0 q.2) (micros_plain (after_first is_dot f) q.1 q.3)
+        let q = both_some (digits 1 2 (before_first is_dot f)) (micros (after_first is_dot f)) p h in
+        parts_none is_dot f refl (digits_plain 1 2 (before_first is_dot f) q.0 q.2) (micros_plain (after_first is_dot f) q.1 q.3)
     with_test false h = let q = both_some (digits 1 2 f) (Some 0) p h in digits_plain 1 2 f q.0 q.2
 
 time_parts : (h m : Option ℕ) (s : Option (ℕ × ℕ)) (n : ℕ) → time_of h m s ≡ Some n → (a : ℕ) × (b : ℕ) × (c : ℕ × ℕ) × (h ≡ Some a) × (m ≡ Some b) × (s ≡ Some c)
@@ -263,7 +265,7 @@ time_plain f n e =
     let s = seconds (after_first is_colon rest) in
     let p = time_parts h m s n (inside (is_some (position is_colon f) && is_some (position is_colon rest)) (time_of h m s) e) in
     parts_none is_colon f refl (digits_plain 1 2 (before_first is_colon f) p.0 p.3)
-      (parts_none is_colon rest refl (digits_plain 1 2 (before_first is_colon rest) p.1 p.4) (seconds_plain (after_first is_colon rest) p.2 p.5))
+    (parts_none is_colon rest refl (digits_plain 1 2 (before_first is_colon rest) p.1 p.4) (seconds_plain (after_first is_colon rest) p.2 p.5))
   where
     inside : (b : Bool) (o : Option ℕ) → cond b o None ≡ Some n → o ≡ Some n
     inside true o h = h
@@ -285,13 +287,14 @@ kind_plain f x e = with_ascii (str_eq_ignore_ascii_case f (codes "ASCII")) refl 
   where
     with_binary : (b : Bool) → str_eq_ignore_ascii_case f (codes "BINARY") ≡ b → cond b (Some Binary) None ≡ Some x → HasNone 13 f
     with_binary true t h =
-      let same : str_to_ascii_lowercase f ≡ str_to_ascii_lowercase (codes "BINARY") = (bytes_eq-Decides _ _).0 t in
-      lower_none f (rw same (refl, (refl, (refl, (refl, (refl, (refl, tt)))))))
+        let same : str_to_ascii_lowercase f ≡ str_to_ascii_lowercase (codes "BINARY") = (bytes_eq-Decides _ _).0 t in
+        lower_none f (rw same (refl, (refl, (refl, (refl, (refl, (refl, tt)))))))
     with_binary false t h = absurd cc
+
     with_ascii : (b : Bool) → str_eq_ignore_ascii_case f (codes "ASCII") ≡ b → cond b (Some Ascii) (cond (str_eq_ignore_ascii_case f (codes "BINARY")) (Some Binary) None) ≡ Some x → HasNone 13 f
     with_ascii true t h =
-      let same : str_to_ascii_lowercase f ≡ str_to_ascii_lowercase (codes "ASCII") = (bytes_eq-Decides _ _).0 t in
-      lower_none f (rw same (refl, (refl, (refl, (refl, (refl, tt))))))
+        let same : str_to_ascii_lowercase f ≡ str_to_ascii_lowercase (codes "ASCII") = (bytes_eq-Decides _ _).0 t in
+        lower_none f (rw same (refl, (refl, (refl, (refl, (refl, tt))))))
     with_ascii false t h = with_binary (str_eq_ignore_ascii_case f (codes "BINARY")) refl h
 
 -- ---- the end of a line

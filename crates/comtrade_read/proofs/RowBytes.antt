@@ -1,11 +1,11 @@
 -- The bytes of binary rows: what is written is read, and what is read is written.
-use Rattle.std.proofs.Common.{◌≡◌, ℕ, zero, suc, ◌+◌, ◌-◌, ◌*◌, ◌/◌, ◌%◌, ◌^◌, ◌<◌, ◌≤◌, Bool, true, false, cond, eqb, get_or, take, drop, List, [], ◌∷◌, ◌++◌, length, map, Option, Some, None, refl, sym, ap, ◌∙◌, arith, append_assoc, length-append, length-drop}
-use Rattle.std.specs.Int.{w16, cast_signed, bit_at}
+use Rattle.std.proofs.Common.{◌≡◌, ℕ, zero, suc, ◌+◌, ◌-◌, ◌*◌, ◌/◌, ◌%◌, ◌^◌, ◌<◌, ◌≤◌, Bool, false, eqb, get_or, take, drop, List, [], ◌∷◌, ◌++◌, length, map, refl, sym, ap, ◌∙◌, arith, append_assoc, length-append, length-drop}
+use Rattle.std.specs.Int.{bit_at}
 use Rattle.std.specs.List.{range_with_len, flat_map, concat, AllByRecursion, AllZip}
 use Rattle.std.proofs.Math.Seq.{take-add, drop-append_seam}
 use Rattle.std.proofs.Math.ListN.{get_or-append}
 use Rattle.std.proofs.Math.Nat.{pow-le-pow_right, suc-mul, add-mul, mul-add, mul-suc, mul-zero, zero-mul, mul_comm}
-use Rattle.std.proofs.lemmas.List.{drop-drop, drop-append-le, take_at, take_all, get_or-take, get_or-drop, map-append, length-map, take-append-drop, append-nil, drop-map, length-take}
+use Rattle.std.proofs.lemmas.List.{drop-drop, take_all, get_or-take, get_or-drop, take-append-drop, length-take}
 use Rattle.std.proofs.lemmas.List.FromFn.{length-map-range_with_len, take-map-range_with_len}
 use Rattle.byteorder.specs.Endian.{little_number, little_bytes}
 use Rattle.byteorder.specs.Numbers.{little_number-reads_back, length-bytes_low_first}
@@ -14,7 +14,7 @@ use Rattle.comtrade_write.specs.Parts.{RowParts}
 use Rattle.comtrade_write.specs.Binary.{reading_number, stamp_number, bits_number, group_bytes, status_bytes, row_bytes}
 use Rattle.comtrade_read.specs.Binary.{row_size, value_at, stamp_at, values_at, bit_of, bits_at, row_at, rows_at}
 use Rattle.comtrade_read.specs.Spells.{EachFrom}
-use Rattle.comtrade_read.specs.Reads.{IsPresent, IsStamp, IsRowOf, ReadsBinary}
+use Rattle.comtrade_read.specs.Reads.{IsPresent, IsRowOf, ReadsBinary}
 use Rattle.comtrade_read.proofs.Each.{each_same}
 use Rattle.comtrade_read.proofs.BinaryNumbers.{AllBytes, two_bytes, four_bytes, two_fit, four_fit, number_again, present_number, reading_again, small_number, stamp_again, small_stamp, stamp_back, stamp_is, bits_fit, bit_is, bits_again}
 
@@ -80,9 +80,9 @@ group_at bs a (suc c) (suc g) rest lt =
     let s : a + suc g ≡ a + 1 + g = omega arith in
     let more = flat_map (group_bytes bs) (range_with_len (a + 1) c) in
     let d : drop (2 * suc g) ((group_bytes bs a ++ more) ++ rest) ≡ drop (2 * g) (more ++ rest) =
-      ap (λ (k : ℕ). drop k ((group_bytes bs a ++ more) ++ rest)) (omega arith)
-      ∙ sym (drop-drop (2 * g) 2 ((group_bytes bs a ++ more) ++ rest))
-      ∙ ap (drop (2 * g)) (past 2 (group_bytes bs a) (more ++ rest) ((group_bytes bs a ++ more) ++ rest) (group_long bs a) (append_assoc (group_bytes bs a) more rest)) in
+    ap (λ (k : ℕ). drop k ((group_bytes bs a ++ more) ++ rest)) (omega arith)
+    ∙ sym (drop-drop (2 * g) 2 ((group_bytes bs a ++ more) ++ rest))
+    ∙ ap (drop (2 * g)) (past 2 (group_bytes bs a) (more ++ rest) ((group_bytes bs a ++ more) ++ rest) (group_long bs a) (append_assoc (group_bytes bs a) more rest)) in
     rw (d, s) (group_at bs (a + 1) c g rest (omega arith))
 
 -- a bit of so many groups
@@ -108,8 +108,8 @@ each_by_index f n (x ∷ xs) h =
 bits_each : (bits spare : List Bool) (c : ℕ) (rest : List ℕ) → length bits ≤ 16 * c → EachFrom (λ j b. b ≡ bit_of (flat_map (group_bytes (bits ++ spare)) (range_with_len 0 c) ++ rest) j) 0 bits
 bits_each bits spare c rest le =
     each_by_index (bit_of (flat_map (group_bytes (bits ++ spare)) (range_with_len 0 c) ++ rest)) 0 bits (λ j lt.
-      let z : 0 + j ≡ j = omega arith in
-      rw z (bit_read (bits ++ spare) c j rest (omega arith) ∙ get_or-append bits spare false j lt))
+    let z : 0 + j ≡ j = omega arith in
+    rw z (bit_read (bits ++ spare) c j rest (omega arith) ∙ get_or-append bits spare false j lt))
 
 -- ---- a whole row
 
@@ -141,23 +141,24 @@ row_read k m bytes r x =
     record {
       long = ap length is ∙ omega (arith, length-append a (b ++ (v ++ s)), length-append b (v ++ s), length-append v s, four_long r.number, four_long (stamp_number r.stamp), v_long, s_long);
       reads = λ rest.
-        let xs = bytes ++ rest in
-        let e0 : xs ≡ a ++ (b ++ (v ++ (s ++ rest))) = ap (λ (ys : List ℕ). ys ++ rest) is ∙ simp append_assoc in
-        let e1 : drop 4 xs ≡ b ++ (v ++ (s ++ rest)) = past 4 a (b ++ (v ++ (s ++ rest))) xs (four_long r.number) e0 in
-        let e2 : drop 8 xs ≡ v ++ (s ++ rest) = further 4 4 b (v ++ (s ++ rest)) xs e1 (four_long (stamp_number r.stamp)) in
-        let e3 : drop (8 + 2 * k) xs ≡ s ++ rest = further 8 (2 * k) v (s ++ rest) xs e2 v_long in
-        let number : little_number 4 xs ≡ r.number = ap (little_number 4) e0 ∙ little_number-reads_back 4 r.number (b ++ (v ++ (s ++ rest))) x.number in
-        let stamp_number_is : little_number 4 (drop 4 xs) ≡ stamp_number r.stamp = ap (little_number 4) e1 ∙ little_number-reads_back 4 (stamp_number r.stamp) (v ++ (s ++ rest)) (small_stamp r.stamp x.stamp) in
-        let stamp : stamp_at (drop 4 xs) ≡ r.stamp = rw stamp_number_is (stamp_again r.stamp x.stamp) in
-        let z : drop (2 * 0) (drop 8 xs) ≡ v ++ (s ++ rest) = e2 in
-        let values : r.values ≡ values_at k (drop 8 xs) =
+          let xs = bytes ++ rest in
+          let e0 : xs ≡ a ++ (b ++ (v ++ (s ++ rest))) = ap (λ (ys : List ℕ). ys ++ rest) is ∙ simp append_assoc in
+          let e1 : drop 4 xs ≡ b ++ (v ++ (s ++ rest)) = past 4 a (b ++ (v ++ (s ++ rest))) xs (four_long r.number) e0 in
+          let e2 : drop 8 xs ≡ v ++ (s ++ rest) = further 4 4 b (v ++ (s ++ rest)) xs e1 (four_long (stamp_number r.stamp)) in
+          let e3 : drop (8 + 2 * k) xs ≡ s ++ rest = further 8 (2 * k) v (s ++ rest) xs e2 v_long in
+          let number : little_number 4 xs ≡ r.number = ap (little_number 4) e0 ∙ little_number-reads_back 4 r.number (b ++ (v ++ (s ++ rest))) x.number in
+          let stamp_number_is : little_number 4 (drop 4 xs) ≡ stamp_number r.stamp = ap (little_number 4) e1 ∙ little_number-reads_back 4 (stamp_number r.stamp) (v ++ (s ++ rest)) (small_stamp r.stamp x.stamp) in
+          let stamp : stamp_at (drop 4 xs) ≡ r.stamp = rw stamp_number_is (stamp_again r.stamp x.stamp) in
+          let z : drop (2 * 0) (drop 8 xs) ≡ v ++ (s ++ rest) = e2 in
+          let values : r.values ≡ values_at k (drop 8 xs) =
           each_same (λ j y. y ≡ value_at (drop (2 * j) (drop 8 xs))) (λ (j : ℕ). value_at (drop (2 * j) (drop 8 xs))) 0 r.values (values_each (drop 8 xs) 0 r.values (s ++ rest) z x.values) (λ j y le lt h. h)
           ∙ ap (λ (n : ℕ). values_at n (drop 8 xs)) x.value_count in
-        let fits : length r.bits ≤ 16 * groups m = omega (arith, x.bit_count) in
-        let bits : r.bits ≡ bits_at m (s ++ rest) =
+          let fits : length r.bits ≤ 16 * groups m = omega (arith, x.bit_count) in
+          let bits : r.bits ≡ bits_at m (s ++ rest) =
           each_same (λ j y. y ≡ bit_of (s ++ rest) j) (bit_of (s ++ rest)) 0 r.bits (bits_each r.bits x.spare (groups m) rest fits) (λ j y le lt h. h)
           ∙ ap (λ (n : ℕ). bits_at n (s ++ rest)) x.bit_count in
-        rw (number, stamp, ← values, e3, ← bits) refl }
+          rw (number, stamp, ← values, e3, ← bits) refl;
+    }
 
 -- ---- rows that were written are read
 
@@ -185,9 +186,10 @@ rows_each k m dat n (p ∷ ps) (r ∷ rs) e h =
 
 pub binary_only : (k m : ℕ) (dat : List ℕ) (rows : List RowParts) → ReadsBinary k m dat rows → (length dat ≡ length rows * row_size k m) × (rows ≡ rows_at k m dat (length rows))
 binary_only k m dat rows r =
-    let z : drop (0 * row_size k m) dat ≡ concat r.parts = ap (λ (o : ℕ). drop o dat) (zero-mul (row_size k m)) ∙ r.bytes in
-    (ap length r.bytes ∙ rows_long k m r.parts rows r.each,
-     each_same (λ i x. x ≡ row_at k m (drop (i * row_size k m) dat)) (λ (i : ℕ). row_at k m (drop (i * row_size k m) dat)) 0 rows (rows_each k m dat 0 r.parts rows z r.each) (λ i x le lt h. h))
+    let z : drop (0 * row_size k m) dat ≡ concat r.parts = ap (λ (o : ℕ). drop o dat) (zero-mul (row_size k m)) ∙ r.bytes in (
+      ap length r.bytes ∙ rows_long k m r.parts rows r.each,
+      each_same (λ i x. x ≡ row_at k m (drop (i * row_size k m) dat)) (λ (i : ℕ). row_at k m (drop (i * row_size k m) dat)) 0 rows (rows_each k m dat 0 r.parts rows z r.each) (λ i x le lt h. h),
+    )
 
 -- ---- a row that was read was written
 
@@ -212,10 +214,10 @@ values_written : (k : ℕ) (xs : List ℕ) → 2 * k ≤ length xs → AllBytes 
 values_written k xs le h =
     flat_of_map value_bytes (λ (i : ℕ). value_at (drop (2 * i) xs)) (range_with_len 0 k)
     ∙ parts_joined 2 xs (λ i. value_bytes (value_at (drop (2 * i) xs))) 0 k (λ g ge lt.
-        let ys = drop (2 * g) xs in
-        let fits = drop_bytes (2 * g) xs h in
-        ap (little_bytes 2) (number_again (little_number 2 ys) (two_fit ys fits)) ∙ two_bytes ys (omega (arith, length-drop (2 * g) xs)) fits)
-    
+    let ys = drop (2 * g) xs in
+    let fits = drop_bytes (2 * g) xs h in
+    ap (little_bytes 2) (number_again (little_number 2 ys) (two_fit ys fits)) ∙ two_bytes ys (omega (arith, length-drop (2 * g) xs)) fits)
+
 values_present : (k : ℕ) (xs : List ℕ) (n : ℕ) → AllBytes xs → AllByRecursion IsPresent (map (λ i. value_at (drop (2 * i) xs)) (range_with_len n k))
 values_present zero xs n h = tt
 values_present (suc k) xs n h = (present_number (little_number 2 (drop (2 * n) xs)) (two_fit (drop (2 * n) xs) (drop_bytes (2 * n) xs h)), values_present k xs (n + 1) h)
@@ -236,11 +238,11 @@ group_written c xs g lt le h =
     let x = little_number 2 ys in
     let fits = drop_bytes (2 * g) xs h in
     let part : take 16 (drop (16 * g) all) ≡ map (bit_of xs) (range_with_len (0 + 16 * g) 16) =
-      ap (take 16) (map_range_drop (bit_of xs) 0 (16 * c) (16 * g) (omega arith)) ∙ take-map-range_with_len (bit_of xs) (0 + 16 * g) (16 * c - 16 * g) 16 (omega arith) in
+    ap (take 16) (map_range_drop (bit_of xs) 0 (16 * c) (16 * g) (omega arith)) ∙ take-map-range_with_len (bit_of xs) (0 + 16 * g) (16 * c - 16 * g) 16 (omega arith) in
     let number : bits_number (map (bit_of xs) (range_with_len (0 + 16 * g) 16)) ≡ x = bits_again (bit_of xs) 16 x (0 + 16 * g) (λ j jl.
-        let q : (0 + 16 * g + j) / 16 ≡ g = omega arith in
-        let r : (0 + 16 * g + j) % 16 ≡ j = omega arith in
-        rw (q, r) refl) (two_fit ys fits) in
+    let q : (0 + 16 * g + j) / 16 ≡ g = omega arith in
+    let r : (0 + 16 * g + j) % 16 ≡ j = omega arith in
+    rw (q, r) refl) (two_fit ys fits) in
     ap (λ (bs : List Bool). little_bytes 2 (bits_number bs)) part ∙ ap (little_bytes 2) number ∙ two_bytes ys (omega (arith, length-drop (2 * g) xs)) fits
 
 bits_written : (c : ℕ) (xs : List ℕ) → 2 * c ≤ length xs → AllBytes xs → flat_map (group_bytes (map (bit_of xs) (range_with_len 0 (16 * c)))) (range_with_len 0 c) ≡ take (2 * c) xs
@@ -255,7 +257,7 @@ status_written m xs le h =
     let z : 0 + m ≡ m = omega arith in
     let front : bits_at m xs ≡ take m ys = sym (take-map-range_with_len (bit_of xs) 0 (16 * c) m (omega arith)) in
     let back : map (bit_of xs) (range_with_len m (16 * c - m)) ≡ drop m ys =
-      sym (map_range_drop (bit_of xs) 0 (16 * c) m (omega arith) ∙ ap (λ (a : ℕ). map (bit_of xs) (range_with_len a (16 * c - m))) z) in
+    sym (map_range_drop (bit_of xs) 0 (16 * c) m (omega arith) ∙ ap (λ (a : ℕ). map (bit_of xs) (range_with_len a (16 * c - m))) z) in
     let all : bits_at m xs ++ map (bit_of xs) (range_with_len m (16 * c - m)) ≡ ys = rw (front, back) (take-append-drop m ys) in
     let many : (length ys + 15) / 16 ≡ c = rw (length-map-range_with_len (bit_of xs) 0 (16 * c)) (omega arith) in
     ap status_bytes all ∙ ap (λ (n : ℕ). flat_map (group_bytes ys) (range_with_len 0 n)) many ∙ bits_written c xs le h
@@ -272,16 +274,16 @@ row_written k m xs le h =
     let spare : List Bool = map (bit_of zs) (range_with_len m (16 * c - m)) in
     let number : little_bytes 4 (little_number 4 xs) ≡ take 4 xs = four_bytes xs (omega arith) h in
     let stamp : little_bytes 4 (stamp_number (stamp_at (drop 4 xs))) ≡ take 4 (drop 4 xs) =
-      ap (little_bytes 4) (stamp_back (drop 4 xs)) ∙ four_bytes (drop 4 xs) (omega (arith, length-drop 4 xs)) (drop_bytes 4 xs h) in
+    ap (little_bytes 4) (stamp_back (drop 4 xs)) ∙ four_bytes (drop 4 xs) (omega (arith, length-drop 4 xs)) (drop_bytes 4 xs h) in
     let values : flat_map value_bytes (values_at k ws) ≡ take (2 * k) ws = values_written k ws (omega (arith, length-drop 8 xs)) (drop_bytes 8 xs h) in
     let bits : status_bytes (bits_at m zs ++ spare) ≡ take (2 * c) zs = status_written m zs (omega (arith, length-drop (8 + 2 * k) xs)) (drop_bytes (8 + 2 * k) xs h) in
     let d8 : drop 4 (drop 4 xs) ≡ ws = drop-drop 4 4 xs in
     let dk : drop (2 * k) ws ≡ zs = drop-drop (2 * k) 8 xs in
     let whole : take (row_size k m) xs ≡ take 4 xs ++ (take 4 (drop 4 xs) ++ (take (2 * k) ws ++ take (2 * c) zs)) =
-      ap (λ (n : ℕ). take n xs) (omega arith)
-      ∙ take-add 4 (4 + (2 * k + 2 * c)) xs
-      ∙ ap (λ (ys : List ℕ). take 4 xs ++ ys) (take-add 4 (2 * k + 2 * c) (drop 4 xs)
-        ∙ ap (λ (ys : List ℕ). take 4 (drop 4 xs) ++ ys) (ap (take (2 * k + 2 * c)) d8 ∙ take-add (2 * k) (2 * c) ws ∙ ap (λ (ys : List ℕ). take (2 * k) ws ++ take (2 * c) ys) dk)) in
+    ap (λ (n : ℕ). take n xs) (omega arith)
+    ∙ take-add 4 (4 + (2 * k + 2 * c)) xs
+    ∙ ap (λ (ys : List ℕ). take 4 xs ++ ys) (take-add 4 (2 * k + 2 * c) (drop 4 xs)
+    ∙ ap (λ (ys : List ℕ). take 4 (drop 4 xs) ++ ys) (ap (take (2 * k + 2 * c)) d8 ∙ take-add (2 * k) (2 * c) ws ∙ ap (λ (ys : List ℕ). take (2 * k) ws ++ take (2 * c) ys) dk)) in
     record {
       spare = spare;
       spare_count = length-map-range_with_len (bit_of zs) m (16 * c - m);
@@ -290,7 +292,8 @@ row_written k m xs le h =
       stamp = stamp_is (drop 4 xs) (four_fit (drop 4 xs) (drop_bytes 4 xs h));
       value_count = length-map-range_with_len (λ (i : ℕ). value_at (drop (2 * i) ws)) 0 k;
       values = values_present k ws 0 (drop_bytes 8 xs h);
-      bit_count = length-map-range_with_len (bit_of zs) 0 m }
+      bit_count = length-map-range_with_len (bit_of zs) 0 m;
+    }
 
 -- the bytes of row i and of those behind it
 rows_written : (k m : ℕ) (dat : List ℕ) (a n : ℕ) → length dat ≡ (a + n) * row_size k m → AllBytes dat
@@ -314,11 +317,13 @@ binary_spelled k m n dat rows h e is =
     let z : 0 + n ≡ n = omega arith in
     let e' : length dat ≡ (0 + n) * size = rw z e in
     let joined : flat_map f (range_with_len 0 n) ≡ take (size * n) (drop (size * 0) dat) =
-      parts_joined size dat f 0 n (λ g ge lt. ap (λ (o : ℕ). take size (drop o dat)) (mul_comm g size)) in
+    parts_joined size dat f 0 n (λ g ge lt. ap (λ (o : ℕ). take size (drop o dat)) (mul_comm g size)) in
     let zero_place : drop (size * 0) dat ≡ dat = ap (λ (o : ℕ). drop o dat) (mul-zero size) in
-    let all : take (size * n) dat ≡ dat = take_all (size * n) dat (omega (arith, mul_comm n size)) in
-    (ap length is ∙ length-map-range_with_len (λ (i : ℕ). row_at k m (drop (i * size) dat)) 0 n,
-     record {
-       parts = map f (range_with_len 0 n);
-       bytes = sym (concat_of f (range_with_len 0 n) ∙ joined ∙ ap (take (size * n)) zero_place ∙ all);
-       each = rw is (rows_written k m dat 0 n e' h) })
+    let all : take (size * n) dat ≡ dat = take_all (size * n) dat (omega (arith, mul_comm n size)) in (
+      ap length is ∙ length-map-range_with_len (λ (i : ℕ). row_at k m (drop (i * size) dat)) 0 n,
+      record {
+        parts = map f (range_with_len 0 n);
+        bytes = sym (concat_of f (range_with_len 0 n) ∙ joined ∙ ap (take (size * n)) zero_place ∙ all);
+        each = rw is (rows_written k m dat 0 n e' h);
+      },
+    )

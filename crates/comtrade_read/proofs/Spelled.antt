@@ -1,15 +1,12 @@
 -- A line that is of its kind spells what it says, and the other way round.
-use Rattle.std.proofs.Common.{◌≡◌, ℕ, zero, suc, ◌+◌, ◌-◌, ◌<◌, ◌≤◌, Bool, true, false, cond, ltb, leb, eqb, List, [], ◌∷◌, ◌++◌, length, map, Option, Some, None, refl, sym, ap, ◌∙◌, arith}
-use Rattle.std.specs.Prelude.{◌&&◌, ℤ, pos, negsuc, is_some, unwrap_or, codes}
-use Rattle.std.specs.List.{range_with_len}
+use Rattle.std.proofs.Common.{◌≡◌, ℕ, ◌+◌, ◌<◌, ◌≤◌, Bool, true, false, cond, ltb, leb, eqb, List, length, Option, Some, None, refl, ap, ◌∙◌, arith}
+use Rattle.std.specs.Prelude.{◌&&◌, ℤ, pos, negsuc, is_some, unwrap_or}
 use Rattle.std.proofs.lemmas.List.FromFn.{length-map-range_with_len}
 use Rattle.std.proofs.lemmas.Bool.{leb-true, le-leb, lt-ltb, ltb-true, eqb-true}
 use Rattle.std.proofs.lemmas.Bool.Decides.{nat_tests}
-use Rattle.dfr_channels.specs.Spelling.{whole_number}
-use Rattle.dfr_channels.specs.Lines.{field, line_fields}
+use Rattle.dfr_channels.specs.Lines.{field}
 use Rattle.dfr_channels.specs.Parts.{AnalogParts, StatusParts}
 use Rattle.dfr_channels.specs.declared.channel.Side.TheVariants.{Primary}
-use Rattle.dfr_channels.specs.declared.scan.Reading.{Reading}
 use Rattle.dfr_channels.specs.declared.scan.Reading.TheVariants as readings
 use Rattle.dfr_channels.specs.Faults.{◌or◌}
 use Rattle.comtrade_write.specs.declared.file.Rate.{Rate}
@@ -17,14 +14,13 @@ use Rattle.comtrade_write.specs.Parts.{RowParts}
 use Rattle.comtrade_read.specs.declared.fault.ReadFault.{ReadFault}
 use Rattle.comtrade_read.specs.declared.fault.ReadFault.TheVariants as faults
 use Rattle.comtrade_read.specs.Fields.{whole, natural, up_to, small, scale, free_scale, zero_number, count, side, bit, free_bit}
-use Rattle.comtrade_read.specs.Instant.{date, time, instant_at}
-use Rattle.comtrade_read.specs.Table.{Rule, reads, fields_fault, line_fault, first_in}
+use Rattle.comtrade_read.specs.Instant.{date, time}
+use Rattle.comtrade_read.specs.Table.{fields_fault, first_in}
 use Rattle.comtrade_read.specs.Faulty.{ObeysFields}
-use Rattle.comtrade_read.specs.Head.{kind, is_number, names_rule, counts_rule, analog_rule, status_rule, frequency_rule, nrates_rule, rate_rule, instant_rule, kind_rule, timemult_rule, decimal_in, analog_value, status_value, rate_value, instant_value, kind_value, nrates_value, analog_count, status_count}
+use Rattle.comtrade_read.specs.Head.{kind, is_number, names_rule, counts_rule, analog_rule, status_rule, frequency_rule, nrates_rule, rate_rule, instant_rule, kind_rule, timemult_rule, analog_value, status_value, rate_value, instant_value, analog_count, status_count}
 use Rattle.comtrade_read.specs.Ascii.{stamp, value, row_rule, row_value, value_items, bit_items, value_faults, bit_faults, field_fault, row_chain}
-use Rattle.comtrade_read.specs.Spells.{EachFrom, SpellsNames, SpellsCounts, SpellsAnalog, SpellsStatus, SpellsRate, SpellsInstant, SpellsOne, SpellsRow}
-use Rattle.comtrade_read.proofs.Each.{some_of, held, holds, each_made, each_same, each_at, none_each, each_none}
-use Rattle.comtrade_read.proofs.FirstFault.{fields_none}
+use Rattle.comtrade_read.specs.Spells.{SpellsNames, SpellsCounts, SpellsAnalog, SpellsStatus, SpellsRate, SpellsInstant, SpellsOne, SpellsRow}
+use Rattle.comtrade_read.proofs.Each.{some_of, held, each_made, each_same, each_at, none_each, each_none}
 use Rattle.comtrade_read.proofs.RowLine.{row_is}
 
 eqb-same : (n : ℕ) → eqb n n ≡ true
@@ -57,44 +53,54 @@ counts_found fs o =
       total = some_of (natural 999999 (field fs 0)) 0 (o.each 0 (omega arith)) ∙ ap (λ (n : ℕ). Some n) sum;
       analog = some_of (count 65 (field fs 1)) 0 (o.each 1 (omega arith));
       status = some_of (count 68 (field fs 2)) 0 (o.each 2 (omega arith));
-      some = omega arith }
+      some = omega arith;
+    }
 
 pub analog_found : (n : ℕ) (fs : List (List ℕ)) → ObeysFields (analog_rule n) fs → SpellsAnalog n fs (analog_value fs)
 analog_found n fs o = record {
-    many = o.many;
-    number = number_is n (whole (field fs 0)) o.whole;
-    id = refl; phase = refl; component = refl; unit = refl;
-    a = some_of (scale (field fs 5)) zero_number (o.each 5 (omega arith));
-    b = some_of (free_scale (field fs 6)) zero_number (o.each 6 (omega arith));
-    skew = some_of (free_scale (field fs 7)) zero_number (o.each 7 (omega arith));
-    min = some_of (small (field fs 8)) (pos 0) (o.each 8 (omega arith));
-    max = some_of (small (field fs 9)) (pos 0) (o.each 9 (omega arith));
-    primary = some_of (free_scale (field fs 10)) zero_number (o.each 10 (omega arith));
-    secondary = some_of (free_scale (field fs 11)) zero_number (o.each 11 (omega arith));
-    side = some_of (side (field fs 12)) Primary (o.each 12 (omega arith)) }
+  many = o.many;
+  number = number_is n (whole (field fs 0)) o.whole;
+  id = refl;
+  phase = refl;
+  component = refl;
+  unit = refl;
+  a = some_of (scale (field fs 5)) zero_number (o.each 5 (omega arith));
+  b = some_of (free_scale (field fs 6)) zero_number (o.each 6 (omega arith));
+  skew = some_of (free_scale (field fs 7)) zero_number (o.each 7 (omega arith));
+  min = some_of (small (field fs 8)) (pos 0) (o.each 8 (omega arith));
+  max = some_of (small (field fs 9)) (pos 0) (o.each 9 (omega arith));
+  primary = some_of (free_scale (field fs 10)) zero_number (o.each 10 (omega arith));
+  secondary = some_of (free_scale (field fs 11)) zero_number (o.each 11 (omega arith));
+  side = some_of (side (field fs 12)) Primary (o.each 12 (omega arith));
+}
 
 pub status_found : (n : ℕ) (fs : List (List ℕ)) → ObeysFields (status_rule n) fs → SpellsStatus n fs (status_value fs)
 status_found n fs o = record {
-    many = o.many;
-    number = number_is n (whole (field fs 0)) o.whole;
-    id = refl; phase = refl; component = refl;
-    normal = some_of (free_bit (field fs 4)) false (o.each 4 (omega arith)) }
+  many = o.many;
+  number = number_is n (whole (field fs 0)) o.whole;
+  id = refl;
+  phase = refl;
+  component = refl;
+  normal = some_of (free_bit (field fs 4)) false (o.each 4 (omega arith));
+}
 
 pub rate_found : (before : ℕ) (fs : List (List ℕ)) → ObeysFields (rate_rule before) fs → SpellsRate before fs (rate_value fs)
 rate_found before fs o = record {
-    many = o.many;
-    samp = some_of (scale (field fs 0)) zero_number (o.each 0 (omega arith));
-    endsamp = some_of (natural 9999999999 (field fs 1)) 0 (o.each 1 (omega arith));
-    after = leb-true before (unwrap_or (natural 9999999999 (field fs 1)) 0) o.whole }
+  many = o.many;
+  samp = some_of (scale (field fs 0)) zero_number (o.each 0 (omega arith));
+  endsamp = some_of (natural 9999999999 (field fs 1)) 0 (o.each 1 (omega arith));
+  after = leb-true before (unwrap_or (natural 9999999999 (field fs 1)) 0) o.whole;
+}
 
 pub instant_found : (fs : List (List ℕ)) → ObeysFields instant_rule fs → SpellsInstant fs (instant_value fs)
 instant_found fs o = record {
-    day = unwrap_or (date (field fs 0)) (pos 0);
-    micros = unwrap_or (time (field fs 1)) 0;
-    many = o.many;
-    date = some_of (date (field fs 0)) (pos 0) (o.each 0 (omega arith));
-    time = some_of (time (field fs 1)) 0 (o.each 1 (omega arith));
-    instant = refl }
+  day = unwrap_or (date (field fs 0)) (pos 0);
+  micros = unwrap_or (time (field fs 1)) 0;
+  many = o.many;
+  date = some_of (date (field fs 0)) (pos 0) (o.each 0 (omega arith));
+  time = some_of (time (field fs 1)) 0 (o.each 1 (omega arith));
+  instant = refl;
+}
 
 pub one_found : {A : Type 0} (read : List ℕ → Option A) (d : A) (fs : List (List ℕ)) → length fs ≡ 1 → is_some (read (field fs 0)) ≡ true → SpellsOne read fs (unwrap_or (read (field fs 0)) d)
 one_found read d fs many test = record { many = many; field = some_of (read (field fs 0)) d test }
@@ -179,33 +185,34 @@ row_found k m line fs many none =
       stamp = some_of (stamp (field fs 1)) None (no_fault stamp line fs 1 b.0);
       value_count = length-map-range_with_len (λ (j : ℕ). unwrap_or (value (field fs (2 + j))) readings.Missing) 0 k;
       values = each_made (λ j v. value (field fs (2 + j)) ≡ Some v) (λ (j : ℕ). unwrap_or (value (field fs (2 + j))) readings.Missing) 0 k
-        (λ j le lt. some_of (value (field fs (2 + j))) readings.Missing (no_fault value line fs (2 + j) (none_each (value_faults line fs) k c.0 j (omega arith))));
+          (λ j le lt. some_of (value (field fs (2 + j))) readings.Missing (no_fault value line fs (2 + j) (none_each (value_faults line fs) k c.0 j (omega arith))));
       bit_count = length-map-range_with_len (λ (j : ℕ). unwrap_or (bit (field fs (2 + k + j))) false) 0 m;
       bits = each_made (λ j b. bit (field fs (2 + k + j)) ≡ Some b) (λ (j : ℕ). unwrap_or (bit (field fs (2 + k + j))) false) 0 m
-        (λ j le lt. some_of (bit (field fs (2 + k + j))) false (no_fault bit line fs (2 + k + j) (none_each (bit_faults line k fs) m c.1 j (omega arith)))) }
+          (λ j le lt. some_of (bit (field fs (2 + k + j))) false (no_fault bit line fs (2 + k + j) (none_each (bit_faults line k fs) m c.1 j (omega arith))));
+    }
 
 pub row_only : (k m line : ℕ) (fs : List (List ℕ)) (r : RowParts) → SpellsRow k m fs r → fields_fault (row_rule k m) line fs ≡ None
 row_only k m line fs r s =
     let values : first_in (value_faults line fs) k ≡ None = each_none (value_faults line fs) k (λ j lt.
-        let i = each_at (λ j v. value (field fs (2 + j)) ≡ Some v) 0 r.values j s.values (omega (arith, s.value_count)) in
-        let h : value (field fs (2 + (0 + j))) ≡ Some i.item = i.holds_it in
-        let z : 0 + j ≡ j = omega arith in
-        let g : value (field fs (2 + j)) ≡ Some i.item = rw z at h in
-        rw g refl) in
+    let i = each_at (λ j v. value (field fs (2 + j)) ≡ Some v) 0 r.values j s.values (omega (arith, s.value_count)) in
+    let h : value (field fs (2 + (0 + j))) ≡ Some i.item = i.holds_it in
+    let z : 0 + j ≡ j = omega arith in
+    let g : value (field fs (2 + j)) ≡ Some i.item = rw z at h in
+    rw g refl) in
     let bits : first_in (bit_faults line k fs) m ≡ None = each_none (bit_faults line k fs) m (λ j lt.
-        let i = each_at (λ j b. bit (field fs (2 + k + j)) ≡ Some b) 0 r.bits j s.bits (omega (arith, s.bit_count)) in
-        let h : bit (field fs (2 + k + (0 + j))) ≡ Some i.item = i.holds_it in
-        let z : 0 + j ≡ j = omega arith in
-        let g : bit (field fs (2 + k + j)) ≡ Some i.item = rw z at h in
-        rw g refl) in
+    let i = each_at (λ j b. bit (field fs (2 + k + j)) ≡ Some b) 0 r.bits j s.bits (omega (arith, s.bit_count)) in
+    let h : bit (field fs (2 + k + (0 + j))) ≡ Some i.item = i.holds_it in
+    let z : 0 + j ≡ j = omega arith in
+    let g : bit (field fs (2 + k + j)) ≡ Some i.item = rw z at h in
+    rw g refl) in
     row_is k m line fs s.many ∙ rw (s.number, s.stamp, values, bits) refl
 
 pub row_same : (k m : ℕ) (fs : List (List ℕ)) (r : RowParts) → SpellsRow k m fs r → r ≡ row_value k m fs
 row_same k m fs r s =
     let values : r.values ≡ value_items fs k =
-        each_same (λ j v. value (field fs (2 + j)) ≡ Some v) (λ (j : ℕ). unwrap_or (value (field fs (2 + j))) readings.Missing) 0 r.values s.values (λ j v le lt h. held (value (field fs (2 + j))) readings.Missing v h)
-        ∙ ap (value_items fs) s.value_count in
+    each_same (λ j v. value (field fs (2 + j)) ≡ Some v) (λ (j : ℕ). unwrap_or (value (field fs (2 + j))) readings.Missing) 0 r.values s.values (λ j v le lt h. held (value (field fs (2 + j))) readings.Missing v h)
+    ∙ ap (value_items fs) s.value_count in
     let bits : r.bits ≡ bit_items fs k m =
-        each_same (λ j b. bit (field fs (2 + k + j)) ≡ Some b) (λ (j : ℕ). unwrap_or (bit (field fs (2 + k + j))) false) 0 r.bits s.bits (λ j b le lt h. held (bit (field fs (2 + k + j))) false b h)
-        ∙ ap (bit_items fs k) s.bit_count in
+    each_same (λ j b. bit (field fs (2 + k + j)) ≡ Some b) (λ (j : ℕ). unwrap_or (bit (field fs (2 + k + j))) false) 0 r.bits s.bits (λ j b le lt h. held (bit (field fs (2 + k + j))) false b h)
+    ∙ ap (bit_items fs k) s.bit_count in
     rw (s.number, s.stamp, ← values, ← bits) refl

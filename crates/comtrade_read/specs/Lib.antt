@@ -6,7 +6,7 @@ pub mod Faulty
 pub mod Ascii
 pub mod Binary
 pub mod Data
-pub mod Pair
 pub mod Joined
 pub mod Spells
 pub mod Reads
+pub mod Pair

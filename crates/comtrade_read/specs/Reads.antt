@@ -1,5 +1,5 @@
 -- Which texts read to which files: the grammar of both files, apart from how a reader cuts them and in what order it looks.
-use Rattle.std.specs.Prelude.{◌≡◌, ℕ, ◌+◌, ◌-◌, ◌*◌, ◌/◌, ◌<◌, ◌^◌, ◌≤ℤ◌, Bool, List, ◌++◌, length, Option, Some, None, ℤ, pos, neg_ℤ}
+use Rattle.std.specs.Prelude.{◌≡◌, ℕ, ◌+◌, ◌-◌, ◌*◌, ◌/◌, ◌<◌, ◌^◌, ◌≤ℤ◌, Bool, List, ◌++◌, length, Option, Some, None, pos, neg_ℤ}
 use Rattle.std.specs.List.{before_first, concat, AllByRecursion, AllZip}
 use Rattle.dfr_channels.specs.declared.scan.Reading.{Reading}
 use Rattle.dfr_channels.specs.declared.scan.Reading.TheVariants.{Value, Missing}

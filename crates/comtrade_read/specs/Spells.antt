@@ -1,9 +1,7 @@
 -- Which fields spell which part of a file (C37.111-1999, clauses 5 and 6.1).
-use Rattle.std.specs.Prelude.{◌≡◌, ℕ, ◌+◌, ◌-◌, ◌<◌, ◌≤◌, ◌==◌, if◌then◌else◌, max, Bool, List, [], ◌∷◌, length, slice_get, slice_index_or, option_map, unwrap_or, Option, Some, None, ℤ, pos}
+use Rattle.std.specs.Prelude.{◌≡◌, ℕ, ◌+◌, ◌-◌, ◌<◌, ◌≤◌, ◌==◌, if◌then◌else◌, max, List, [], ◌∷◌, length, slice_get, slice_index_or, option_map, unwrap_or, Option, Some, ℤ, pos}
 use Rattle.dfr_channels.specs.Lines.{field}
-use Rattle.dfr_channels.specs.Spelling.{Number}
 use Rattle.dfr_channels.specs.Parts.{AnalogParts, StatusParts}
-use Rattle.comtrade_write.specs.declared.file.Kind.{Kind}
 use Rattle.comtrade_write.specs.declared.file.Rate.{Rate}
 use Rattle.comtrade_write.specs.Parts.{HeadParts, RowParts}
 use Rattle.comtrade_read.specs.Fields.{whole, natural, small, scale, free_scale, count, side, bit, free_bit}
