@@ -1,3 +1,12 @@
 pub mod Parts
 pub mod Limits
 pub mod Own
+pub mod Steps
+pub mod Answers
+pub mod History
+pub mod Kept
+pub mod Memory
+pub mod Run
+pub mod Marks
+pub mod Ring
+pub mod Sound

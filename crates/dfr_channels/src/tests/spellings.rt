@@ -1,6 +1,6 @@
 //! How texts and numbers are spelled.
 
-use crate::{Decimal, integer_of, trim};
+use crate::{Decimal, Items, fields_of, integer_of, lines_of, trim, without_blank_end};
 use std::test::Fail;
 
 fn reads(text: &[u8], units: i128, places: u8) -> bool {
@@ -90,4 +90,27 @@ fn whole_numbers(rt: HostRuntime) -> Result<(), Fail> {
 fn blanks(rt: HostRuntime) {
     assert_eq!(rt; trim(b" \t a b\t "), b"a b".as_slice());
     assert_eq!(rt; trim(b" \t "), b"".as_slice());
+}
+
+#[test]
+fn cut_texts(rt: HostRuntime) -> Result<(), Fail> {
+    let lines = lines_of(rt.alloc(), b"a\r\n b , c,\n\n \r")?;
+    assert_eq!(rt; lines.len(), 4);
+    let kept = without_blank_end(&lines);
+    assert_eq!(rt; kept.len(), 2);
+    assert_eq!(rt; kept[0], b"a".as_slice());
+    let fields = fields_of(rt.alloc(), kept[1])?;
+    assert_eq!(rt; fields.len(), 3);
+    assert_eq!(rt; fields[0], b"b".as_slice());
+    assert_eq!(rt; fields[2], b"".as_slice());
+    Ok(())
+}
+
+#[test]
+fn lists(rt: HostRuntime) -> Result<(), Fail> {
+    let list = Items::of(Vec::from_slice(rt.alloc(), &[1u8, 2])?);
+    let copy = list.try_clone().ok().ok_or("memory")?;
+    assert!(rt; list == copy);
+    assert!(rt; list != Items::of(Vec::from_slice(rt.alloc(), &[1u8])?));
+    Ok(())
 }

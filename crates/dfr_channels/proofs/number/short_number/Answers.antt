@@ -1,6 +1,6 @@
 use Rattle.std.proofs.Common.{◌<◌, ◌+◌, ◌-◌, ◌*◌, ◌^◌, get_or, sym, ◌∙◌, arith}
 use Rattle.dfr_channels.proofs.Capped.{digits_more}
-use Rattle.dfr_channels.proofs.Short.{digit_few, one_more, room, below_19, value_more}
+use Rattle.dfr_channels.proofs.Short.{digit_few, one_more, room, value_more}
 use Rattle.dfr_channels.proofs.number.short_number.Goals as goal
 
 pub overflow_mul-number : goal.overflow_mul-number
