@@ -4,14 +4,14 @@ use dfr_channels::{AnalogChannel, Decimal, Items, Reading, StatusChannel};
 use std::alloc::{Allocator, Global};
 use std::marker::Model;
 
-/// The form of the data file (C37.111-1999, 5.3.9).
+/// The form of the data file (C37.111-1999, 5.3.8).
 #[derive(Clone, Copy, Debug, PartialEq, Eq)]
 pub enum Kind {
     Ascii,
     Binary,
 }
 
-/// A sampling rate in scans a second, and the number of the last row that was sampled at it (5.3.7).
+/// A sampling rate in scans a second, and the number of the last row that was sampled at it (5.3.6).
 #[derive(Clone, Copy, Debug)]
 pub struct Rate {
     pub samp: Decimal,
@@ -19,7 +19,7 @@ pub struct Rate {
 }
 
 /// What a configuration file says (clause 5). `first` and `trigger` are microseconds since 1970-01-01 00:00:00; `timemult`
-/// multiplies the stamps of the data file (5.3.10).
+/// multiplies the stamps of the data file (5.3.9).
 #[derive(Drop, Debug)]
 pub struct Head<A: Allocator = Global> {
     pub station: Items<u8, A>,

@@ -1,6 +1,29 @@
 //! COMTRADE files of C37.111-1999: the value of a pair of files, and the bytes that are written of it.
 #![tactic(auto)]
 
+mod bounds;
+mod bytes;
+mod cfg;
+mod checks;
+mod dates;
+mod decimal;
+mod fault;
+mod fields;
 mod file;
+mod number;
+mod of_record;
+mod output;
+mod parts;
+mod rows_ascii;
+mod rows_binary;
+mod shape;
+mod texts;
 
+pub use bytes::{ascii_bytes, binary_bytes, cfg_bytes, dat_bytes};
+pub use fault::WriteFault;
 pub use file::{File, Head, Kind, Rate, Row};
+pub use of_record::{FileFault, file_of};
+pub use output::write_all_of;
+
+#[cfg(test)]
+mod tests;

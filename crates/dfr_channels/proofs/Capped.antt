@@ -16,7 +16,7 @@ pub same_capped : (ds : List ℕ) (m n limit : ℕ) → min m limit ≡ min n li
 same_capped [] m n limit e = e
 same_capped (c ∷ cs) m n limit e = same_capped cs (m * 10 + digit_value c) (n * 10 + digit_value c) limit (step m n (digit_value c) limit e)
 
-digit_is : (c : ℕ) → is_ascii_digit c ≡ true → digit_value c ≡ c - 48
+pub digit_is : (c : ℕ) → is_ascii_digit c ≡ true → digit_value c ≡ c - 48
 digit_is c d = grind (arith, common_steps)
 
 -- one more digit

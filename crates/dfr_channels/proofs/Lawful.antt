@@ -37,8 +37,8 @@ all_from_len p (x ∷ xs) h = at (all_from_len p xs) (p x) refl
     at rest false e = let g : suc (length xs) ≤ 0 = rw e at h in absurd (omega arith)
 
 -- no item fails
-pub position-none : {X : Type 0} (p : X → Bool) (xs : List X) → position (λ x. not (p x)) xs ≡ None → list_all p xs ≡ true
-position-none p xs e = all_from_len p xs (place_end (position_or_len (λ x. not (p x)) xs) (length xs) _ refl e)
+pub none_fails : {X : Type 0} (p : X → Bool) (xs : List X) → position (λ x. not (p x)) xs ≡ None → list_all p xs ≡ true
+none_fails p xs e = all_from_len p xs (place_end (position_or_len (λ x. not (p x)) xs) (length xs) _ refl e)
 
 le-so : (a b : ℕ) → nat_le a b ≡ true → a ≤ b
 le-so a b e = grind (arith, nat_tests, e)
@@ -61,8 +61,8 @@ texts s e =
     record {
       station = unless-none _ _ a.0;
       device = unless-none _ _ b.0;
-      analog = position-none has_analog_texts (take 256 s.analog) (map-none _ _ c.0);
-      status = position-none has_status_texts (take 256 s.status) (map-none _ _ c.1);
+      analog = none_fails has_analog_texts (take 256 s.analog) (map-none _ _ c.0);
+      status = none_fails has_status_texts (take 256 s.status) (map-none _ _ c.1);
     }
 
 pub lawful : (s : SetupParts) → setup_fault s ≡ None → IsLawful s
@@ -87,7 +87,7 @@ lawful s e =
       analog_few = analog_few;
       status_few = status_few;
       some = le-so _ _ few.1;
-      spans = position-none has_span s.analog (map-none _ _ c.0);
+      spans = none_fails has_span s.analog (map-none _ _ c.0);
       rate_low = le-so _ _ rate.0;
       rate_high = le-so _ _ rate.1;
       start_low = int_le-so _ _ start.0;

@@ -6,7 +6,7 @@ use Rattle.dfr_channels.specs.Spelling.{is_blank}
 abbrev pub has_length : ℕ → ℕ → List ℕ → Bool
 has_length low high text = nat_le low (length text) && nat_le (length text) high
 
--- bytes from 20 to 7E, and no comma among them
+-- bytes from hexadecimal 20 to 7E, and no comma among them
 abbrev pub is_printable : List ℕ → Bool
 is_printable text = list_all (λ b. nat_le 32 b && nat_le b 126 && not (b == 44)) text
 

@@ -14,7 +14,7 @@ pub enum Side {
     Secondary,
 }
 
-/// An analogue channel, as its line of a configuration file says it (C37.111-1999, 5.3.4). Its value is a·x + b in `unit`,
+/// An analogue channel, as its line of a configuration file says it (C37.111-1999, 5.3.3). Its value is a·x + b in `unit`,
 /// with x a sample from `min` to `max`; `skew` is in microseconds; `primary` and `secondary` are the transformer's ratio.
 #[derive(Drop, Debug)]
 pub struct AnalogChannel<A: Allocator = Global> {
@@ -53,7 +53,7 @@ impl<A: Allocator> Model for AnalogChannel<A> {
     } };
 }
 
-/// A status channel (C37.111-1999, 5.3.5), and its bit while nothing is wrong.
+/// A status channel (C37.111-1999, 5.3.4), and its bit while nothing is wrong.
 #[derive(Drop, Debug)]
 pub struct StatusChannel<A: Allocator = Global> {
     pub id: Items<u8, A>,

@@ -26,8 +26,10 @@ impl Model for Decimal {
 }
 
 impl Decimal {
+    /// Its contract also tells what any decimal has.
     pub fn units(&self) -> i128
-        ensures { result ≡ self.now.units }
+        ensures value { result ≡ self.now.units }
+        ensures lawful { IsNumber self.now }
     {
         self.units
     }
@@ -165,7 +167,7 @@ impl Decimal {
         number_of(minus, number, fraction.len(), exponent)
     }
 
-    /// The number units / 10^places, if both are within the limits.
+    /// The number units / 10^places, where the units lie strictly between -10^36 and 10^36 and the places are at most 80.
     pub fn new(units: i128, places: u8) -> Option<Decimal>
         ensures { SomeIff result (IsNumber (record { units = units; places = places })) (record { units = units; places = places }) }
     {

@@ -175,7 +175,7 @@ impl<A: Allocator> Layout<A> {
     }
 
     /// Whether a scan has the layout's channels, each value in its channel's range. Takes no memory, and looks at each
-    /// reading once.
+    /// reading at most once.
     pub fn check(&self, scan: &Scan<A>) -> Result<(), ScanFault>
         ensures fault { MatchResult result (λ _. scan_fault self.now scan.now ≡ None) (λ fault. scan_fault self.now scan.now ≡ Some fault) }
         ensures fits { OnOk result (Fits self.now scan.now) }

@@ -16,7 +16,7 @@ mod setup;
 mod text;
 
 pub use channel::{AnalogChannel, Side, StatusChannel};
-pub use decimal::Decimal;
+pub use decimal::{Decimal, numeral_of};
 pub use items::{Items, TryClone, copies_of};
 pub use layout::{Layout, ScanFault};
 pub use lines::{fields_of, lines_of, without_blank_end};

@@ -1,6 +1,6 @@
-ghost use Rattle.std.specs.Prelude.{◌≡◌, ◌≤◌, ◌^◌, min, if◌then◌else◌, Some, None};
+ghost use Rattle.std.specs.Prelude.{◌≡◌, ◌≤◌, ◌<◌, ◌^◌, length, min, IfSome, if◌then◌else◌, Some, None};
 ghost use Rattle.std.specs.Str.{all_ascii_digits};
-ghost use Rattle.std.specs.Str.Parse.{digits_value_after, starts_with_minus, without_leading_sign};
+ghost use Rattle.std.specs.Str.Parse.{digits_value, digits_value_after, starts_with_minus, without_leading_sign};
 ghost use Rattle.dfr_channels.specs.Spelling.{whole_number};
 
 /// The first number that is too large, 10^36.
@@ -17,6 +17,22 @@ pub(crate) fn capped_number(start: u128, digits: &[u8]) -> Option<u128>
             return None;
         }
         number = (number * 10 + (*digit - b'0') as u128).min(LIMIT);
+    }
+    Some(number)
+}
+
+/// The number that at most 19 digits make, which 64 bits hold.
+fn short_number(digits: &[u8]) -> Option<u64>
+    requires { length digits.now ≤ 19 }
+    ensures value { result ≡ (if all_ascii_digits digits.now then Some (digits_value 10 digits.now) else None) }
+    ensures short { IfSome result (λ n. n < 10 ^ 19) }
+{
+    let mut number: u64 = 0;
+    for digit in digits {
+        if !digit.is_ascii_digit() {
+            return None;
+        }
+        number = number * 10 + (*digit - b'0') as u64;
     }
     Some(number)
 }
@@ -40,6 +56,10 @@ pub fn integer_of(text: &[u8]) -> Option<i128>
     let (minus, digits) = without_sign(text);
     if digits.is_empty() {
         return None;
+    }
+    if digits.len() <= 19 {
+        let number = short_number(digits)? as i128;
+        return Some(if minus { -number } else { number });
     }
     let number = capped_number(0, digits)?;
     if number == LIMIT {

@@ -3,7 +3,7 @@
 use crate::{Layout, Reading, Scan};
 use std::alloc::Allocator;
 
-/// What fires: a reading at least (`over`) or at most (else) at the threshold, or a bit that rises to 1 or falls to 0.
+/// What fires: a reading that is at least (`over`) or at most (else) the threshold, or a bit that rises to 1 or falls to 0.
 /// A level rule names an analogue channel, an edge rule a status channel, both numbered from 0.
 #[derive(Clone, Copy, Debug, PartialEq, Eq)]
 pub enum Rule {

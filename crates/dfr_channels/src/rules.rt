@@ -55,7 +55,7 @@ fn lowest_holding<A: Allocator>(
 }
 
 impl<A: Allocator> Rules<A> {
-    ghost use Rattle.std.specs.Prelude.{◌≡◌, ◌≤◌, Some, None, IfOk, IfErr, length, option_copied};
+    ghost use Rattle.std.specs.Prelude.{◌≡◌, ◌≤◌, true, Some, None, IfOk, IfErr, length, option_copied};
     ghost use Rattle.dfr_channels.specs.Firing.{lowest_holding, rules_fit, rules_fault};
 
     /// Takes no memory; a list with a fault is handed back. An empty one is lawful.
@@ -65,6 +65,7 @@ impl<A: Allocator> Rules<A> {
         list: Vec<Rule, A>,
     ) -> Result<Rules<A>, (RuleFault, Vec<Rule, A>)>
         ensures made { IfOk result (λ rules. (rules_fault layout.now list.items ≡ None) × (rules ≡ list.items)) }
+        ensures fits { IfOk result (λ rules. rules_fit layout.now rules ≡ true) }
         ensures fault { IfErr result (λ refused. rules_fault layout.now list.items ≡ Some refused.0) }
         ensures back { IfErr result (λ refused. refused.1.items ≡ list.items) }
     {
@@ -98,7 +99,7 @@ impl<A: Allocator> Rules<A> {
     }
 
     /// The lowest rule, from 0, that holds at a scan, after the scan accepted before it. A channel that a scan lacks fires
-    /// nothing. Takes no memory, and looks at each rule once.
+    /// nothing. Takes no memory, and looks at each rule at most once.
     pub fn fires(&self, before: Option<&Scan<A>>, now: &Scan<A>) -> Option<u32>
         ensures { result ≡ lowest_holding (option_copied before.entry) now.now self.now }
     {

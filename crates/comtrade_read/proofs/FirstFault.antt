@@ -1,0 +1,237 @@
+-- The fault that a table gives is the first, and there is none exactly where every line is of its kind.
+use Rattle.std.proofs.Common.{◌≡◌, ℕ, zero, suc, ◌+◌, ◌<◌, ◌≤◌, Bool, true, false, cond, ltb, eqb, List, [], ◌∷◌, length, Option, Some, None, refl, arith, inl, inr}
+use Rattle.std.specs.Prelude.{◌≢◌, ◌⊎◌}
+use Rattle.std.proofs.lemmas.Bool.Decides.{nat_tests}
+use Rattle.std.proofs.lemmas.Bool.{ltb-true, ltb-false, lt-ltb, le-ltb, eqb-true, cases_lt}
+use Rattle.comtrade_read.specs.declared.fault.ReadFault.{ReadFault}
+use Rattle.comtrade_read.specs.declared.fault.ReadFault.TheVariants as faults
+use Rattle.dfr_channels.specs.Lines.{field, line_fields}
+use Rattle.dfr_channels.specs.Faults.{◌or◌}
+use Rattle.comtrade_read.specs.Table.{Rule, tests_fault, fields_fault, line_fault, lines_fault, extra_fault, file_fault, first_in}
+use Rattle.comtrade_read.specs.Faulty.{passes, ObeysFields, Obeys, IsFieldsFault, few, bad, wrong, IsLineFault, missing, within, rule, Faulty, at, extra, FaultLaw, SoundLaw, CompleteLaw}
+
+abbrev some : ReadFault → Option ReadFault
+some e = Some e
+
+some_is : (d e : ReadFault) → some d ≡ Some e → e ≡ d
+some_is d e h = cc
+
+none_not : {P : Type 0} (d : ReadFault) → some d ≡ None → P
+none_not d h = absurd cc
+
+-- the first of two
+or_some : (a b : Option ReadFault) (e : ReadFault) → (a or b) ≡ Some e → (a ≡ Some e) ⊎ ((a ≡ None) × (b ≡ Some e))
+or_some None b e h = inr (refl, h)
+or_some (Some d) b e h = inl h
+
+or_none : (a b : Option ReadFault) → (a or b) ≡ None → (a ≡ None) × (b ≡ None)
+or_none None b h = (refl, h)
+or_none (Some d) b h = none_not d h
+
+not_same : (m n : ℕ) → eqb m n ≡ false → m ≢ n
+not_same m n e h = grind (arith, nat_tests)
+
+eqb-same : (n : ℕ) → eqb n n ≡ true
+eqb-same n = grind (arith, nat_tests)
+
+-- ---- the fields of a line
+
+-- the tests of the fields from i on
+tests_none : (r : Rule) (line : ℕ) (ts : List (List ℕ → Bool)) (i : ℕ) (fs : List (List ℕ)) → tests_fault r line ts i fs ≡ None
+    → ((j : ℕ) → j < length ts → passes ts fs j (i + j) ≡ true) × (r.whole fs ≡ true)
+tests_none r line [] i fs h = with_test (r.whole fs) refl h
+  where
+    with_test : (b : Bool) → r.whole fs ≡ b → cond b None (some (r.wrong line)) ≡ None → ((j : ℕ) → j < 0 → passes [] fs j (i + j) ≡ true) × (r.whole fs ≡ true)
+    with_test true t e = (λ j lt. absurd (omega arith), t)
+    with_test false t e = none_not (r.wrong line) e
+tests_none r line (t ∷ ts) i fs h = with_test (λ e. tests_none r line ts (i + 1) fs e) (t (field fs i)) refl h
+  where
+    each : t (field fs i) ≡ true → ((j : ℕ) → j < length ts → passes ts fs j (i + 1 + j) ≡ true) → (j : ℕ) → j < suc (length ts) → passes (t ∷ ts) fs j (i + j) ≡ true
+    each here rest zero lt = let e : i + 0 ≡ i = omega arith in rw e here
+    each here rest (suc j) lt = let e : i + suc j ≡ i + 1 + j = omega arith in rw e (rest j (omega arith))
+
+    with_test : (tests_fault r line ts (i + 1) fs ≡ None → ((j : ℕ) → j < length ts → passes ts fs j (i + 1 + j) ≡ true) × (r.whole fs ≡ true)) → (b : Bool) → t (field fs i) ≡ b
+        → cond b (tests_fault r line ts (i + 1) fs) (some (r.bad line (i + 1))) ≡ None → ((j : ℕ) → j < suc (length ts) → passes (t ∷ ts) fs j (i + j) ≡ true) × (r.whole fs ≡ true)
+    with_test rest true here e = let p = rest e in (each here p.0, p.1)
+    with_test rest false here e = none_not (r.bad line (i + 1)) e
+
+tests_again : (r : Rule) (line : ℕ) (ts : List (List ℕ → Bool)) (i : ℕ) (fs : List (List ℕ)) → ((j : ℕ) → j < length ts → passes ts fs j (i + j) ≡ true) → r.whole fs ≡ true → tests_fault r line ts i fs ≡ None
+tests_again r line [] i fs each whole = rw whole refl
+tests_again r line (t ∷ ts) i fs each whole =
+    let zero_at : i + 0 ≡ i = omega arith in
+    let here : t (field fs i) ≡ true = rw zero_at at (each 0 (omega arith)) in
+    rw here (tests_again r line ts (i + 1) fs (λ j lt. let e : i + suc j ≡ i + 1 + j = omega arith in rw e at (each (suc j) (omega arith))) whole)
+
+-- the first field that fails, or else the whole
+abbrev TestsFault : Rule → ℕ → List (List ℕ → Bool) → ℕ → List (List ℕ) → ReadFault → Type 0
+TestsFault r line ts i fs e =
+    ((k : ℕ) × (k < length ts) × (passes ts fs k (i + k) ≡ false) × ((j : ℕ) → j < k → passes ts fs j (i + j) ≡ true) × (e ≡ r.bad line (i + k + 1)))
+    ⊎ (((j : ℕ) → j < length ts → passes ts fs j (i + j) ≡ true) × (r.whole fs ≡ false) × (e ≡ r.wrong line))
+
+tests_some : (r : Rule) (line : ℕ) (ts : List (List ℕ → Bool)) (i : ℕ) (fs : List (List ℕ)) (e : ReadFault) → tests_fault r line ts i fs ≡ Some e → TestsFault r line ts i fs e
+tests_some r line [] i fs e h = with_test (r.whole fs) refl h
+  where
+    with_test : (b : Bool) → r.whole fs ≡ b → cond b None (some (r.wrong line)) ≡ Some e → TestsFault r line [] i fs e
+    with_test true t g = absurd cc
+    with_test false t g = inr (λ j lt. absurd (omega arith), t, some_is (r.wrong line) e g)
+tests_some r line (t ∷ ts) i fs e h = with_test (λ g. tests_some r line ts (i + 1) fs e g) (t (field fs i)) refl h
+  where
+    each : t (field fs i) ≡ true → (n : ℕ) → ((j : ℕ) → j < n → passes ts fs j (i + 1 + j) ≡ true) → (j : ℕ) → j < suc n → passes (t ∷ ts) fs j (i + j) ≡ true
+    each here n rest zero lt = let z : i + 0 ≡ i = omega arith in rw z here
+    each here n rest (suc j) lt = let s : i + suc j ≡ i + 1 + j = omega arith in rw s (rest j (omega arith))
+
+    with_test : (tests_fault r line ts (i + 1) fs ≡ Some e → TestsFault r line ts (i + 1) fs e) → (b : Bool) → t (field fs i) ≡ b
+        → cond b (tests_fault r line ts (i + 1) fs) (some (r.bad line (i + 1))) ≡ Some e → TestsFault r line (t ∷ ts) i fs e
+    with_test rest true here g = elim (rest g) [
+      | inl p ↦
+          let s : i + suc p.0 ≡ i + 1 + p.0 = omega arith in
+          let q : passes (t ∷ ts) fs (suc p.0) (i + suc p.0) ≡ false = rw s p.2 in
+          let f : e ≡ r.bad line (i + suc p.0 + 1) = rw s p.4 in
+          inl (suc p.0, omega (arith, p.1), q, each here p.0 p.3, f)
+      | inr p ↦ inr (each here (length ts) p.0, p.1, p.2)
+    ]
+    with_test rest false here g =
+        let z : i + 0 ≡ i = omega arith in
+        let q : passes (t ∷ ts) fs 0 (i + 0) ≡ false = rw z here in
+        let f : e ≡ r.bad line (i + 0 + 1) = rw z (some_is (r.bad line (i + 1)) e g) in
+        inl (0, omega arith, q, λ j lt. absurd (omega arith), f)
+
+fields_none : (r : Rule) (line : ℕ) (fs : List (List ℕ)) → fields_fault r line fs ≡ None → ObeysFields r fs
+fields_none r line fs h = with_test (eqb (length fs) (length r.tests)) refl h
+  where
+    with_test : (b : Bool) → eqb (length fs) (length r.tests) ≡ b → cond b (tests_fault r line r.tests 0 fs) (some (r.few line (length fs))) ≡ None → ObeysFields r fs
+    with_test true t e =
+        let p = tests_none r line r.tests 0 fs e in
+        record { many = eqb-true _ _ t; each = λ i lt. let z : 0 + i ≡ i = omega arith in rw z at (p.0 i lt); whole = p.1 }
+    with_test false t e = none_not (r.few line (length fs)) e
+
+fields_again : (r : Rule) (line : ℕ) (fs : List (List ℕ)) → ObeysFields r fs → fields_fault r line fs ≡ None
+fields_again r line fs o =
+    rw (o.many, eqb-same (length r.tests)) (tests_again r line r.tests 0 fs (λ j lt. let z : 0 + j ≡ j = omega arith in rw z (o.each j lt)) o.whole)
+
+fields_some : (r : Rule) (line : ℕ) (fs : List (List ℕ)) (e : ReadFault) → fields_fault r line fs ≡ Some e → IsFieldsFault r line fs e
+fields_some r line fs e h = with_test (eqb (length fs) (length r.tests)) refl h
+  where
+    at_0 : (n : ℕ) (b : Bool) → passes r.tests fs n (0 + n) ≡ b → passes r.tests fs n n ≡ b
+    at_0 n b p = let z : 0 + n ≡ n = omega arith in rw z at p
+
+    with_test : (b : Bool) → eqb (length fs) (length r.tests) ≡ b → cond b (tests_fault r line r.tests 0 fs) (some (r.few line (length fs))) ≡ Some e → IsFieldsFault r line fs e
+    with_test true t g = elim (tests_some r line r.tests 0 fs e g) [
+      | inl p ↦
+          let z : 0 + p.0 + 1 ≡ p.0 + 1 = omega arith in
+          bad (eqb-true _ _ t) p.0 p.1 (at_0 p.0 false p.2) (λ j lt. at_0 j true (p.3 j lt)) (rw z at p.4)
+      | inr p ↦ wrong (eqb-true _ _ t) (λ j lt. at_0 j true (p.0 j lt)) p.1 p.2
+    ]
+    with_test false t g = few (not_same _ _ t) (some_is _ e g)
+
+-- ---- the lines of a file
+
+line_none : (ls : List (List ℕ)) (r : Rule) (n : ℕ) → line_fault ls r n ≡ None → Obeys ls r n
+unfolding line_fault
+line_none ls r n h = with_test (ltb n (length ls)) refl h
+  where
+    with_test : (b : Bool) → ltb n (length ls) ≡ b → cond b (fields_fault r (n + 1) (line_fields ls n)) (some (faults.Missing (n + 1))) ≡ None → Obeys ls r n
+    with_test true t e = record { there = ltb-true _ _ t; fields = fields_none r (n + 1) (line_fields ls n) e }
+    with_test false t e = none_not (faults.Missing (n + 1)) e
+
+line_again : (ls : List (List ℕ)) (r : Rule) (n : ℕ) → Obeys ls r n → line_fault ls r n ≡ None
+unfolding line_fault
+line_again ls r n o = rw (lt-ltb n (length ls) o.there) (fields_again r (n + 1) (line_fields ls n) o.fields)
+
+line_some : (ls : List (List ℕ)) (r : Rule) (n : ℕ) (e : ReadFault) → line_fault ls r n ≡ Some e → IsLineFault ls r n e
+unfolding line_fault
+line_some ls r n e h = with_test (ltb n (length ls)) refl h
+  where
+    with_test : (b : Bool) → ltb n (length ls) ≡ b → cond b (fields_fault r (n + 1) (line_fields ls n)) (some (faults.Missing (n + 1))) ≡ Some e → IsLineFault ls r n e
+    with_test true t g = within (ltb-true _ _ t) (fields_some r (n + 1) (line_fields ls n) e g)
+    with_test false t g = missing (ltb-false _ _ t) (some_is _ e g)
+
+-- the lines from place n on
+lines_none : (ls : List (List ℕ)) (rs : List Rule) (n : ℕ) → lines_fault ls rs n ≡ None → (j : ℕ) → j < length rs → Obeys ls (rule rs j) (n + j)
+unfolding lines_fault
+lines_none ls [] n h j lt = absurd (omega arith)
+lines_none ls (r ∷ rs) n h zero lt =
+    let z : n + 0 ≡ n = omega arith in
+    rw z (line_none ls r n (or_none (line_fault ls r n) (lines_fault ls rs (n + 1)) h).0)
+lines_none ls (r ∷ rs) n h (suc j) lt =
+    let s : n + suc j ≡ n + 1 + j = omega arith in
+    rw s (lines_none ls rs (n + 1) (or_none (line_fault ls r n) (lines_fault ls rs (n + 1)) h).1 j (omega arith))
+
+lines_again : (ls : List (List ℕ)) (rs : List Rule) (n : ℕ) → ((j : ℕ) → j < length rs → Obeys ls (rule rs j) (n + j)) → lines_fault ls rs n ≡ None
+unfolding lines_fault
+lines_again ls [] n o = refl
+lines_again ls (r ∷ rs) n o =
+    let z : n + 0 ≡ n = omega arith in
+    let here : Obeys ls r n = rw z at (o 0 (omega arith)) in
+    rw (line_again ls r n here) (lines_again ls rs (n + 1) (λ j lt. let s : n + suc j ≡ n + 1 + j = omega arith in rw s at (o (suc j) (omega arith))))
+
+lines_some : (ls : List (List ℕ)) (rs : List Rule) (n : ℕ) (e : ReadFault) → lines_fault ls rs n ≡ Some e
+    → (k : ℕ) × (k < length rs) × ((j : ℕ) → j < k → Obeys ls (rule rs j) (n + j)) × IsLineFault ls (rule rs k) (n + k) e
+unfolding lines_fault
+lines_some ls [] n e h = absurd cc
+lines_some ls (r ∷ rs) n e h = elim (or_some (line_fault ls r n) (lines_fault ls rs (n + 1)) e h) [
+  | inl p ↦
+      let z : n + 0 ≡ n = omega arith in
+      let q : IsLineFault ls r (n + 0) e = rw z (line_some ls r n e p) in
+      (0, omega arith, λ j lt. absurd (omega arith), q)
+  | inr p ↦
+      let rest = lines_some ls rs (n + 1) e p.1 in
+      let s : n + suc rest.0 ≡ n + 1 + rest.0 = omega arith in
+      let q : IsLineFault ls (rule rs rest.0) (n + suc rest.0) e = rw s rest.3 in
+      (suc rest.0, omega (arith, rest.1), before rest.0 (line_none ls r n p.0) rest.2, q)
+]
+  where
+    before : (k : ℕ) → Obeys ls r n → ((j : ℕ) → j < k → Obeys ls (rule rs j) (n + 1 + j)) → (j : ℕ) → j < suc k → Obeys ls (rule (r ∷ rs) j) (n + j)
+    before k here rest zero lt = let z : n + 0 ≡ n = omega arith in rw z here
+    before k here rest (suc j) lt = let s : n + suc j ≡ n + 1 + j = omega arith in rw s (rest j (omega arith))
+
+from_0 : (ls : List (List ℕ)) (rs : List Rule) (n : ℕ) → Obeys ls (rule rs n) (0 + n) → Obeys ls (rule rs n) n
+from_0 ls rs n o = let z : 0 + n ≡ n = omega arith in rw z at o
+
+pub file_sound : SoundLaw
+unfolding file_fault extra_fault
+file_sound ls rs h =
+    let p = or_none (lines_fault ls rs 0) _ h in
+    record { each = λ j lt. from_0 ls rs j (lines_none ls rs 0 p.0 j lt); end = with_test (ltb (length rs) (length ls)) refl p.1 }
+  where
+    with_test : (b : Bool) → ltb (length rs) (length ls) ≡ b → cond b (some (faults.Extra (length rs + 1))) None ≡ None → length ls ≤ length rs
+    with_test true t e = none_not (faults.Extra (length rs + 1)) e
+    with_test false t e = ltb-false _ _ t
+
+pub file_complete : CompleteLaw
+unfolding file_fault extra_fault
+file_complete ls rs o =
+    let p = lines_again ls rs 0 (λ j lt. let z : 0 + j ≡ j = omega arith in rw z (o.each j lt)) in
+    rw (p, le-ltb (length rs) (length ls) o.end) refl
+
+pub file_first : FaultLaw
+unfolding file_fault extra_fault
+file_first ls rs e h = elim (or_some (lines_fault ls rs 0) _ e h) [
+  | inl p ↦
+      let q = lines_some ls rs 0 e p in
+      let z : 0 + q.0 ≡ q.0 = omega arith in
+      at q.0 q.1 (λ j lt. from_0 ls rs j (q.2 j lt)) (rw z at q.3)
+  | inr p ↦ with_test (ltb (length rs) (length ls)) refl p.0 p.1
+]
+  where
+    with_test : (b : Bool) → ltb (length rs) (length ls) ≡ b → lines_fault ls rs 0 ≡ None → cond b (some (faults.Extra (length rs + 1))) None ≡ Some e → Faulty ls rs e
+    with_test true t none g = extra (λ j lt. from_0 ls rs j (lines_none ls rs 0 none j lt)) (ltb-true _ _ t) (some_is _ e g)
+    with_test false t none g = absurd cc
+
+-- ---- one line after the other, as a loop reads them
+
+pub stops : (f : ℕ → Option ReadFault) (e : ReadFault) (i count : ℕ) → first_in f i ≡ None → f i ≡ Some e → i < count → first_in f count ≡ Some e
+unfolding first_in
+stops f e i zero none here lt = absurd (omega arith)
+stops f e i (suc n) none here lt = elim (cases_lt i n) [
+  | inl less ↦ rw (stops f e i n none here less) refl
+  | inr same ↦ let is : n ≡ i = omega arith in rw (is, none, here) refl
+]
+
+pub goes_on : (f : ℕ → Option ReadFault) (i : ℕ) → first_in f i ≡ None → f i ≡ None → first_in f (i + 1) ≡ None
+unfolding first_in
+goes_on f i none here = let s : i + 1 ≡ suc i = omega arith in rw (s, none, here) refl
+
+pub starts : (f : ℕ → Option ReadFault) → first_in f 0 ≡ None
+unfolding first_in
+starts f = refl

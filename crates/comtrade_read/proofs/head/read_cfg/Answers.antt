@@ -1,0 +1,16 @@
+use Rattle.std.proofs.Common.{◌≡◌, ap, ◌∙◌}
+use Rattle.dfr_channels.specs.Lines.{texts, lines, drop_end, is_blank_line}
+use Rattle.comtrade_read.proofs.HeadRead.{cfg_found, cfg_fault}
+use Rattle.comtrade_read.proofs.head.read_cfg.Goals as goal
+
+pub returns-clause-found : goal.returns-clause-found
+returns-clause-found g c =
+    let e : texts c.without_blank_end.result.now ≡ lines c.args.text.now = c.without_blank_end.ensures ∙ ap (λ ls. drop_end is_blank_line ls) (ap texts c.deref.ensures.value ∙ c.in_ok-lines.ensures) in
+    let h = rw e at c.head_of.ensures in
+    cfg_found (lines c.args.text.now) c.head_of.result h
+
+pub returns-clause-fault : goal.returns-clause-fault
+returns-clause-fault g c =
+    let e : texts c.without_blank_end.result.now ≡ lines c.args.text.now = c.without_blank_end.ensures ∙ ap (λ ls. drop_end is_blank_line ls) (ap texts c.deref.ensures.value ∙ c.in_ok-lines.ensures) in
+    let h = rw e at c.head_of.ensures in
+    cfg_fault (lines c.args.text.now) c.head_of.result h

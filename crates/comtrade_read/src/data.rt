@@ -1,0 +1,62 @@
+//! Reads a data file under its head.
+
+ghost use Rattle.std.specs.Prelude.{◌≡◌, ◌≢◌, ◌+◌, ◌<◌, ◌≤◌, length, IfOk, IfErr};
+ghost use Rattle.comtrade_read.specs.declared.fault.ReadFault.TheVariants as faults;
+ghost use Rattle.comtrade_read.specs.Data.{SaysRows, FaultyData, last_sample};
+
+use crate::ascii::ascii_rows;
+use crate::binary::binary_rows;
+use crate::fault::ReadFault;
+use comtrade_write::{File, Head, Kind, Rate, Row};
+use dfr_channels::Items;
+use std::alloc::Allocator;
+
+/// The last sample of the last rate, or 0 where there is none.
+fn last_sample(rates: &[Rate]) -> u64
+    ensures { result ≡ last_sample rates.now }
+{
+    match rates {
+        [.., last] => last.endsamp,
+        [] => 0,
+    }
+}
+
+/// The rows that the data say under the head.
+fn rows_of<A: Allocator + Copy>(
+    alloc: A,
+    head: &Head<A>,
+    dat: &[u8],
+) -> Result<Vec<Row<A>, A>, ReadFault>
+    requires { length head.now.analog + length head.now.status < 1000000 }
+    ensures rows { IfOk result (λ v. SaysRows head.now dat.now v.items) }
+    ensures fault { IfErr result (λ e. e ≢ faults.Memory → FaultyData head.now dat.now e) }
+{
+    let k = head.analog.items().len();
+    let m = head.status.items().len();
+    let count = last_sample(head.rates.items());
+    match head.kind {
+        Kind::Ascii => ascii_rows(alloc, dat, k as u32, m as u32, count),
+        Kind::Binary => binary_rows(alloc, dat, k, m, count),
+    }
+}
+
+/// The files that the head and the data say. A fault hands the head back.
+pub fn read_dat<A: Allocator + Copy>(
+    alloc: A,
+    head: Head<A>,
+    dat: &[u8],
+) -> Result<File<A>, (ReadFault, Head<A>)>
+    requires { length head.analog + length head.status < 1000000 }
+    ensures head { IfOk result (λ f. f.head ≡ head) }
+    ensures rows { IfOk result (λ f. SaysRows head dat.now f.rows) }
+    ensures fault { IfErr result (λ x. x.0 ≢ faults.Memory → FaultyData head dat.now x.0) }
+    ensures back { IfErr result (λ x. x.1 ≡ head) }
+{
+    match rows_of(alloc, &head, dat) {
+        Ok(rows) => Ok(File {
+            head,
+            rows: Items::of(rows),
+        }),
+        Err(fault) => Err((fault, head)),
+    }
+}

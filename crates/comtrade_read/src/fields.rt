@@ -1,0 +1,242 @@
+//! The fields of a line, read one by one.
+
+ghost use Rattle.std.specs.Prelude.{◌≡◌, ◌<◌, ◌+◌, ◌^◌, length, pos, negsuc, IfOk, IfErr, IfSome, ◌≤◌, ◌≤ℤ◌, Some, Ok};
+ghost use Rattle.std.specs.Option.{option_copied};
+ghost use Rattle.comtrade_read.specs.declared.fault.ReadFault.TheVariants as faults;
+ghost use Rattle.dfr_channels.specs.Lines.{texts, field};
+ghost use Rattle.comtrade_read.specs.Fields as spec;
+ghost use Rattle.comtrade_read.specs.Head as head;
+ghost use Rattle.comtrade_read.specs.Table.{Gives, Field};
+
+use crate::fault::ReadFault;
+use comtrade_write::Kind;
+use dfr_channels::{Decimal, Items, Side, integer_of};
+use std::alloc::Allocator;
+
+/// The value of a field, or the fault of its place.
+fn needed<T>(read: Option<T>, line: u64, i: u32) -> Result<T, ReadFault>
+    requires { i + 1 < 2 ^ 32 }
+    ensures { Field read (faults.Number line (i + 1)) result }
+{
+    match read {
+        Some(value) => Ok(value),
+        None => Err(ReadFault::Number(line, i + 1)),
+    }
+}
+
+/// The number, where it lies from 0 to high.
+fn up_to(high: u64, number: Option<i128>) -> Option<u64>
+    ensures value { result ≡ spec.up_to high number }
+    ensures bound { IfSome result (λ n. n ≤ high) }
+{
+    match number {
+        Some(number) if 0 <= number && number <= high as i128 => Some(number as u64),
+        _ => None,
+    }
+}
+
+/// A whole number.
+#[tactic(auto, unfolding(crate::specs::Fields::whole))]
+pub(crate) fn whole_of(line: u64, fields: &[&[u8]], i: u32) -> Result<i128, ReadFault>
+    requires small { i + 1 < 2 ^ 32 }
+    requires in_line { i < length fields.now }
+    ensures { Field (spec.whole (field (texts fields.now) i)) (faults.Number line (i + 1)) result }
+{
+    needed(integer_of(fields[i as usize]), line, i)
+}
+
+/// A whole number from 0 to high.
+#[tactic(auto, unfolding(crate::specs::Fields::natural))]
+pub(crate) fn natural_of(line: u64, fields: &[&[u8]], i: u32, high: u64) -> Result<u64, ReadFault>
+    requires small { i + 1 < 2 ^ 32 }
+    requires in_line { i < length fields.now }
+    ensures value { Field (spec.natural high (field (texts fields.now) i)) (faults.Number line (i + 1)) result }
+    ensures bound { IfOk result (λ n. n ≤ high) }
+{
+    needed(up_to(high, integer_of(fields[i as usize])), line, i)
+}
+
+/// The number, where it lies from -99,999 to 99,999.
+fn within(number: Option<i128>) -> Option<i32>
+    ensures { result ≡ spec.within (negsuc 99998) (pos 99999) number }
+{
+    match number {
+        Some(number) if -99_999 <= number && number <= 99_999 => Some(number as i32),
+        _ => None,
+    }
+}
+
+/// A whole number from -99,999 to 99,999.
+#[tactic(auto, unfolding(crate::specs::Fields::small))]
+pub(crate) fn small_of(line: u64, fields: &[&[u8]], i: u32) -> Result<i32, ReadFault>
+    requires small { i + 1 < 2 ^ 32 }
+    requires in_line { i < length fields.now }
+    ensures { Field (spec.small (field (texts fields.now) i)) (faults.Number line (i + 1)) result }
+{
+    needed(within(integer_of(fields[i as usize])), line, i)
+}
+
+/// A decimal.
+#[tactic(auto, unfolding(crate::specs::Fields::scale))]
+pub(crate) fn scale_of(line: u64, fields: &[&[u8]], i: u32) -> Result<Decimal, ReadFault>
+    requires small { i + 1 < 2 ^ 32 }
+    requires in_line { i < length fields.now }
+    ensures { Field (spec.scale (field (texts fields.now) i)) (faults.Number line (i + 1)) result }
+{
+    needed(Decimal::read(fields[i as usize]), line, i)
+}
+
+/// A decimal, or 0 where nothing stands.
+#[tactic(auto, unfolding(crate::specs::Fields::free_scale))]
+fn free_scale(text: &[u8]) -> Option<Decimal>
+    ensures { result ≡ spec.free_scale text.now }
+{
+    if text.is_empty() {
+        Decimal::new(0, 0)
+    } else {
+        Decimal::read(text)
+    }
+}
+
+/// A decimal, or 0 where nothing stands.
+pub(crate) fn free_scale_of(line: u64, fields: &[&[u8]], i: u32) -> Result<Decimal, ReadFault>
+    requires small { i + 1 < 2 ^ 32 }
+    requires in_line { i < length fields.now }
+    ensures { Field (spec.free_scale (field (texts fields.now) i)) (faults.Number line (i + 1)) result }
+{
+    needed(free_scale(fields[i as usize]), line, i)
+}
+
+/// What stands before the letter at the end of the text.
+fn before_letter(text: &[u8], letter: u8) -> Option<&[u8]>
+    requires { letter < 128 }
+    ensures { option_copied result ≡ spec.before_letter letter text.now }
+{
+    match text {
+        [front @ .., last] if *last == letter || *last == letter + 32 => Some(front),
+        _ => None,
+    }
+}
+
+/// A number of channels directly followed by its letter.
+#[tactic(auto, unfolding(crate::specs::Fields::count))]
+fn count(text: &[u8], letter: u8) -> Option<u64>
+    requires { letter < 128 }
+    ensures value { result ≡ spec.count letter text.now }
+    ensures bound { IfSome result (λ n. n < 1000000) }
+{
+    let front = before_letter(text, letter)?;
+    up_to(999_999, integer_of(front))
+}
+
+/// A number of channels directly followed by its letter.
+pub(crate) fn count_of(line: u64, fields: &[&[u8]], i: u32, letter: u8) -> Result<u64, ReadFault>
+    requires small { i + 1 < 2 ^ 32 }
+    requires in_line { i < length fields.now }
+    requires letter { letter < 128 }
+    ensures value { Field (spec.count letter (field (texts fields.now) i)) (faults.Number line (i + 1)) result }
+    ensures bound { IfOk result (λ n. n < 1000000) }
+{
+    needed(count(fields[i as usize], letter), line, i)
+}
+
+/// The side that the text names.
+#[tactic(auto, unfolding(crate::specs::Fields::side))]
+fn side(text: &[u8]) -> Option<Side>
+    ensures { result ≡ spec.side text.now }
+{
+    match text {
+        [b'P' | b'p'] => Some(Side::Primary),
+        [b'S' | b's'] => Some(Side::Secondary),
+        _ => None,
+    }
+}
+
+/// The side of the values.
+pub(crate) fn side_of(line: u64, fields: &[&[u8]], i: u32) -> Result<Side, ReadFault>
+    requires small { i + 1 < 2 ^ 32 }
+    requires in_line { i < length fields.now }
+    ensures { Field (spec.side (field (texts fields.now) i)) (faults.Number line (i + 1)) result }
+{
+    needed(side(fields[i as usize]), line, i)
+}
+
+/// The bit that the number is.
+fn as_bit(number: Option<i128>) -> Option<bool>
+    ensures { result ≡ spec.as_bit number }
+{
+    match number {
+        Some(0) => Some(false),
+        Some(1) => Some(true),
+        _ => None,
+    }
+}
+
+/// 0 or 1, or 0 where nothing stands.
+#[tactic(auto, unfolding(crate::specs::Fields::free_bit))]
+fn free_bit(text: &[u8]) -> Option<bool>
+    ensures { result ≡ spec.free_bit text.now }
+{
+    if text.is_empty() {
+        Some(false)
+    } else {
+        as_bit(integer_of(text))
+    }
+}
+
+/// 0 or 1, or 0 where nothing stands.
+pub(crate) fn free_bit_of(line: u64, fields: &[&[u8]], i: u32) -> Result<bool, ReadFault>
+    requires small { i + 1 < 2 ^ 32 }
+    requires in_line { i < length fields.now }
+    ensures { Field (spec.free_bit (field (texts fields.now) i)) (faults.Number line (i + 1)) result }
+{
+    needed(free_bit(fields[i as usize]), line, i)
+}
+
+/// 0 or 1.
+#[tactic(auto, unfolding(crate::specs::Fields::bit))]
+pub(crate) fn bit_of(line: u64, fields: &[&[u8]], i: u32) -> Result<bool, ReadFault>
+    requires small { i + 1 < 2 ^ 32 }
+    requires in_line { i < length fields.now }
+    ensures { Field (spec.bit (field (texts fields.now) i)) (faults.Number line (i + 1)) result }
+{
+    needed(as_bit(integer_of(fields[i as usize])), line, i)
+}
+
+/// The kind of data that the text names.
+#[tactic(auto, unfolding(crate::specs::Head::kind))]
+fn kind(text: &[u8]) -> Option<Kind>
+    ensures { result ≡ head.kind text.now }
+{
+    if text.eq_ignore_ascii_case(b"ASCII") {
+        Some(Kind::Ascii)
+    } else if text.eq_ignore_ascii_case(b"BINARY") {
+        Some(Kind::Binary)
+    } else {
+        None
+    }
+}
+
+/// The kind of the data.
+pub(crate) fn kind_of(fields: &[&[u8]]) -> Result<Kind, ReadFault>
+    requires { 0 < length fields.now }
+    ensures { Field (head.kind (field (texts fields.now) 0)) faults.Kind result }
+{
+    match kind(fields[0]) {
+        Some(kind) => Ok(kind),
+        None => Err(ReadFault::Kind),
+    }
+}
+
+/// The bytes of a field.
+pub(crate) fn text_of<A: Allocator>(
+    alloc: A,
+    fields: &[&[u8]],
+    i: u32,
+) -> Result<Items<u8, A>, ReadFault>
+    requires { i < length fields.now }
+    ensures ok { IfOk result (λ x. x ≡ field (texts fields.now) i) }
+    ensures memory { IfErr result (λ e. e ≡ faults.Memory) }
+{
+    Ok(Items::of(Vec::from_slice(alloc, fields[i as usize])?))
+}

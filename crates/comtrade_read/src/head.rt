@@ -1,0 +1,54 @@
+//! Reads a configuration file.
+
+ghost use Rattle.std.specs.Prelude.{◌≡◌, ◌≢◌, IfOk, IfErr};
+ghost use Rattle.comtrade_read.specs.declared.fault.ReadFault.TheVariants as faults;
+ghost use Rattle.dfr_channels.specs.Lines.{texts, lines, line_fields};
+ghost use Rattle.comtrade_read.specs.Table.{Gives};
+ghost use Rattle.comtrade_read.specs.Pair.{SaysHead, FaultyHead};
+ghost use Rattle.comtrade_read.specs.Head as spec;
+
+use crate::channels::{analogs_of, statuses_of};
+use crate::fault::ReadFault;
+use crate::settings::{counts_at, names_at, tail_of};
+use comtrade_write::Head;
+use dfr_channels::{Items, lines_of, without_blank_end};
+use std::alloc::Allocator;
+
+/// The head that the lines say.
+fn head_of<A: Allocator + Copy>(alloc: A, lines: &[&[u8]]) -> Result<Head<A>, ReadFault>
+    ensures { Gives (λ x. x)
+        (spec.chain (texts lines.now) (spec.analog_count (line_fields (texts lines.now) 1)) (spec.status_count (line_fields (texts lines.now) 1)))
+        (spec.value_of (texts lines.now) (spec.analog_count (line_fields (texts lines.now) 1)) (spec.status_count (line_fields (texts lines.now) 1))) result }
+{
+    let names = names_at(alloc, lines)?;
+    let (analog_count, status_count) = counts_at(alloc, lines)?;
+    let analog = analogs_of(alloc, lines, analog_count as usize)?;
+    let status = statuses_of(alloc, lines, analog_count as usize, status_count as usize)?;
+    let tail = tail_of(
+        alloc,
+        lines,
+        2 + analog_count as usize + status_count as usize,
+    )?;
+    Ok(Head {
+        station: names.station,
+        device: names.device,
+        analog: Items::of(analog),
+        status: Items::of(status),
+        line_freq: tail.line_freq,
+        nrates: tail.nrates as u32,
+        rates: Items::of(tail.rates),
+        first: tail.first,
+        trigger: tail.trigger,
+        kind: tail.kind,
+        timemult: tail.timemult,
+    })
+}
+
+/// The head that a text says.
+pub fn read_cfg<A: Allocator + Copy>(alloc: A, text: &[u8]) -> Result<Head<A>, ReadFault>
+    ensures found { IfOk result (SaysHead text.now) }
+    ensures fault { IfErr result (λ e. e ≢ faults.Memory → FaultyHead text.now e) }
+{
+    let lines = lines_of(alloc, text)?;
+    head_of(alloc, without_blank_end(&lines))
+}

@@ -1,0 +1,21 @@
+//! Reads COMTRADE files of C37.111-1999.
+#![tactic(auto)]
+
+mod ascii;
+mod binary;
+mod channels;
+mod data;
+mod fault;
+mod fields;
+mod head;
+mod instant;
+mod laws;
+mod pair;
+mod place;
+mod settings;
+
+pub use data::read_dat;
+pub use fault::ReadFault;
+pub use head::read_cfg;
+pub use laws::first_fault;
+pub use pair::{Part, read};

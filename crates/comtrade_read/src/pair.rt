@@ -1,0 +1,36 @@
+//! Reads a configuration file and its data file.
+
+ghost use Rattle.std.specs.Prelude.{◌≢◌, IfOk, IfErr};
+ghost use Rattle.comtrade_read.specs.declared.fault.ReadFault.TheVariants as faults;
+ghost use Rattle.comtrade_read.specs.Pair.{SaysFile, FaultyPair};
+
+use crate::data::read_dat;
+use crate::fault::ReadFault;
+use crate::head::read_cfg;
+use comtrade_write::File;
+use std::alloc::Allocator;
+
+/// One file of a pair.
+#[derive(Clone, Copy, Debug, PartialEq, Eq)]
+pub enum Part {
+    Cfg,
+    Dat,
+}
+
+/// The files that the two texts say, or the part that could not be read and its first fault.
+pub fn read<A: Allocator + Copy>(
+    alloc: A,
+    cfg: &[u8],
+    dat: &[u8],
+) -> Result<File<A>, (Part, ReadFault)>
+    ensures found { IfOk result (SaysFile cfg.now dat.now) }
+    ensures fault { IfErr result (λ x. x.1 ≢ faults.Memory → FaultyPair cfg.now dat.now x.0 x.1) }
+{
+    match read_cfg(alloc, cfg) {
+        Err(fault) => Err((Part::Cfg, fault)),
+        Ok(head) => match read_dat(alloc, head, dat) {
+            Ok(file) => Ok(file),
+            Err((fault, _)) => Err((Part::Dat, fault)),
+        },
+    }
+}

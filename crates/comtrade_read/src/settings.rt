@@ -1,0 +1,302 @@
+//! The lines that are no channel's.
+
+ghost use Rattle.std.specs.Prelude.{◌≡◌, ◌+◌, ◌<◌, ◌≤◌, ◌^◌, length, IfOk, List, ℕ, max};
+ghost use Rattle.dfr_channels.specs.Lines.{texts, line_fields, field};
+ghost use Rattle.comtrade_read.specs.Table.{Gives, line_fault, fields_fault, first_in};
+ghost use Rattle.comtrade_read.specs.Head.{TailParts};
+ghost use Rattle.comtrade_read.specs.Head as spec;
+ghost use Rattle.comtrade_read.specs.Fields.{whole, scale, free_scale};
+
+use crate::fault::ReadFault;
+use crate::fields::{count_of, free_scale_of, kind_of, natural_of, scale_of, text_of};
+use crate::instant::{date_of, instant_at, time_of};
+use crate::place::{end_at, fields_at};
+use comtrade_write::{Kind, Rate};
+use dfr_channels::{Decimal, Items, integer_of};
+use std::alloc::Allocator;
+
+/// The names of station and device.
+#[derive(Drop)]
+pub(crate) struct Names<A: Allocator> {
+    pub(crate) station: Items<u8, A>,
+    pub(crate) device: Items<u8, A>,
+}
+
+/// Whether the text is the revision's year.
+#[tactic(auto, unfolding(crate::specs::Fields::whole))]
+fn is_revision(text: &[u8]) -> bool
+    ensures { result ≡ spec.is_number 1999 (whole text.now) }
+{
+    integer_of(text) == Some(1999)
+}
+
+/// Station and device.
+fn names_of<A: Allocator + Copy>(alloc: A, fields: &[&[u8]]) -> Result<Names<A>, ReadFault>
+    ensures { Gives {Y = List ℕ × List ℕ} (λ x. (x.station, x.device)) (fields_fault spec.names_rule 1 (texts fields.now)) (field (texts fields.now) 0, field (texts fields.now) 1) result }
+{
+    if fields.len() != 3 {
+        return Err(if fields.len() == 2 {
+            ReadFault::Revision
+        } else {
+            ReadFault::Fields(1)
+        });
+    }
+    if !is_revision(fields[2]) {
+        return Err(ReadFault::Revision);
+    }
+    let station = text_of(alloc, fields, 0)?;
+    let device = text_of(alloc, fields, 1)?;
+    Ok(Names { station, device })
+}
+
+/// The numbers of analogue and status channels.
+fn counts_of(fields: &[&[u8]]) -> Result<(u64, u64), ReadFault>
+    ensures counts { Gives (λ x. x) (fields_fault spec.counts_rule 2 (texts fields.now)) (spec.analog_count (texts fields.now), spec.status_count (texts fields.now)) result }
+    ensures bound { IfOk result (λ x. (x.0 < 1000000) × (x.1 < 1000000)) }
+{
+    if fields.len() != 3 {
+        return Err(ReadFault::Fields(2));
+    }
+    let total = natural_of(2, fields, 0, 999_999)?;
+    let analog = count_of(2, fields, 1, b'A')?;
+    let status = count_of(2, fields, 2, b'D')?;
+    if total != analog + status || total == 0 {
+        return Err(ReadFault::Counts(2));
+    }
+    Ok((analog, status))
+}
+
+/// A rate whose last sample isn't below the one before.
+fn rate_of(line: u64, fields: &[&[u8]], before: u64) -> Result<Rate, ReadFault>
+    ensures { Gives (λ x. x) (fields_fault (spec.rate_rule before) line (texts fields.now)) (spec.rate_value (texts fields.now)) result }
+{
+    if fields.len() != 2 {
+        return Err(ReadFault::Fields(line));
+    }
+    let samp = scale_of(line, fields, 0)?;
+    let endsamp = natural_of(line, fields, 1, 9_999_999_999)?;
+    if endsamp < before {
+        return Err(ReadFault::Counts(line));
+    }
+    Ok(Rate { samp, endsamp })
+}
+
+/// An instant.
+fn instant_of(line: u64, fields: &[&[u8]]) -> Result<i64, ReadFault>
+    ensures { Gives (λ x. x) (fields_fault spec.instant_rule line (texts fields.now)) (spec.instant_value (texts fields.now)) result }
+{
+    if fields.len() != 2 {
+        return Err(ReadFault::Fields(line));
+    }
+    let day = date_of(line, fields)?;
+    let micros = time_of(line, fields)?;
+    Ok(instant_at(day, micros))
+}
+
+/// The kind of the data file.
+fn kind_line(line: u64, fields: &[&[u8]]) -> Result<Kind, ReadFault>
+    ensures { Gives (λ x. x) (fields_fault spec.kind_rule line (texts fields.now)) (spec.kind_value (texts fields.now)) result }
+{
+    if fields.len() != 1 {
+        return Err(ReadFault::Fields(line));
+    }
+    kind_of(fields)
+}
+
+/// The time multiplier.
+fn timemult_of(line: u64, fields: &[&[u8]]) -> Result<Decimal, ReadFault>
+    ensures { Gives (λ x. x) (fields_fault spec.timemult_rule line (texts fields.now)) (spec.decimal_in (scale (field (texts fields.now) 0))) result }
+{
+    if fields.len() != 1 {
+        return Err(ReadFault::Fields(line));
+    }
+    scale_of(line, fields, 0)
+}
+
+/// The line frequency.
+fn frequency_of(line: u64, fields: &[&[u8]]) -> Result<Decimal, ReadFault>
+    ensures { Gives (λ x. x) (fields_fault spec.frequency_rule line (texts fields.now)) (spec.decimal_in (free_scale (field (texts fields.now) 0))) result }
+{
+    if fields.len() != 1 {
+        return Err(ReadFault::Fields(line));
+    }
+    free_scale_of(line, fields, 0)
+}
+
+/// The number of rates.
+fn nrates_of(line: u64, fields: &[&[u8]]) -> Result<u64, ReadFault>
+    ensures value { Gives (λ x. x) (fields_fault spec.nrates_rule line (texts fields.now)) (spec.nrates_value (texts fields.now)) result }
+    ensures bound { IfOk result (λ n. n ≤ 999) }
+{
+    if fields.len() != 1 {
+        return Err(ReadFault::Fields(line));
+    }
+    natural_of(line, fields, 0, 999)
+}
+
+/// The rate on the line at this place.
+#[tactic(auto, unfolding(crate::specs::Table::line_fault))]
+fn rate_at<A: Allocator + Copy>(
+    alloc: A,
+    lines: &[&[u8]],
+    place: usize,
+    before: u64,
+) -> Result<Rate, ReadFault>
+    requires { place < 2 ^ 63 }
+    ensures { Gives (λ x. x) (line_fault (texts lines.now) (spec.rate_rule before) place) (spec.rate_value (line_fields (texts lines.now) place)) result }
+{
+    let fields = fields_at(alloc, lines, place)?;
+    rate_of(place as u64 + 1, &fields, before)
+}
+
+/// The rates.
+pub(crate) fn rates_of<A: Allocator + Copy>(
+    alloc: A,
+    lines: &[&[u8]],
+    start: usize,
+    count: usize,
+) -> Result<Vec<Rate, A>, ReadFault>
+    requires start { start < 2 ^ 32 }
+    requires count { count < 2 ^ 32 }
+    ensures { Gives (λ v. v.items) (first_in (spec.rate_faults (texts lines.now) start) count) (spec.rate_items (texts lines.now) start count) result }
+{
+    let mut list = Vec::new(alloc);
+    let mut before = 0;
+    for i in 0..count {
+        let rate = rate_at(alloc, lines, start + i, before)?;
+        before = rate.endsamp;
+        list.push(rate)?;
+    }
+    Ok(list)
+}
+
+/// Station and device, on the line at this place.
+#[tactic(auto, unfolding(crate::specs::Table::line_fault))]
+pub(crate) fn names_at<A: Allocator + Copy>(
+    alloc: A,
+    lines: &[&[u8]],
+) -> Result<Names<A>, ReadFault>
+    ensures { Gives {Y = List ℕ × List ℕ} (λ x. (x.station, x.device)) (line_fault (texts lines.now) spec.names_rule 0) (field (line_fields (texts lines.now) 0) 0, field (line_fields (texts lines.now) 0) 1) result }
+{
+    let fields = fields_at(alloc, lines, 0)?;
+    names_of(alloc, &fields)
+}
+
+/// The numbers of analogue and status channels.
+#[tactic(auto, unfolding(crate::specs::Table::line_fault))]
+pub(crate) fn counts_at<A: Allocator + Copy>(
+    alloc: A,
+    lines: &[&[u8]],
+) -> Result<(u64, u64), ReadFault>
+    ensures counts { Gives (λ x. x) (line_fault (texts lines.now) spec.counts_rule 1) (spec.analog_count (line_fields (texts lines.now) 1), spec.status_count (line_fields (texts lines.now) 1)) result }
+    ensures bound { IfOk result (λ x. (x.0 < 1000000) × (x.1 < 1000000)) }
+{
+    let fields = fields_at(alloc, lines, 1)?;
+    counts_of(&fields)
+}
+
+/// The line frequency, on the line at this place.
+#[tactic(auto, unfolding(crate::specs::Table::line_fault))]
+fn frequency_at<A: Allocator + Copy>(
+    alloc: A,
+    lines: &[&[u8]],
+    place: usize,
+) -> Result<Decimal, ReadFault>
+    requires { place < 2 ^ 63 }
+    ensures { Gives (λ x. x) (line_fault (texts lines.now) spec.frequency_rule place) (spec.decimal_in (free_scale (field (line_fields (texts lines.now) place) 0))) result }
+{
+    let fields = fields_at(alloc, lines, place)?;
+    frequency_of(place as u64 + 1, &fields)
+}
+
+/// The number of rates, on the line at this place.
+#[tactic(auto, unfolding(crate::specs::Table::line_fault))]
+fn nrates_at<A: Allocator + Copy>(alloc: A, lines: &[&[u8]], place: usize) -> Result<u64, ReadFault>
+    requires { place < 2 ^ 63 }
+    ensures value { Gives (λ x. x) (line_fault (texts lines.now) spec.nrates_rule place) (spec.nrates_value (line_fields (texts lines.now) place)) result }
+    ensures bound { IfOk result (λ n. n ≤ 999) }
+{
+    let fields = fields_at(alloc, lines, place)?;
+    nrates_of(place as u64 + 1, &fields)
+}
+
+/// An instant, on the line at this place.
+#[tactic(auto, unfolding(crate::specs::Table::line_fault))]
+fn instant_at_place<A: Allocator + Copy>(
+    alloc: A,
+    lines: &[&[u8]],
+    place: usize,
+) -> Result<i64, ReadFault>
+    requires { place < 2 ^ 63 }
+    ensures { Gives (λ x. x) (line_fault (texts lines.now) spec.instant_rule place) (spec.instant_value (line_fields (texts lines.now) place)) result }
+{
+    let fields = fields_at(alloc, lines, place)?;
+    instant_of(place as u64 + 1, &fields)
+}
+
+/// The kind of the data file, on the line at this place.
+#[tactic(auto, unfolding(crate::specs::Table::line_fault))]
+fn kind_at<A: Allocator + Copy>(alloc: A, lines: &[&[u8]], place: usize) -> Result<Kind, ReadFault>
+    requires { place < 2 ^ 63 }
+    ensures { Gives (λ x. x) (line_fault (texts lines.now) spec.kind_rule place) (spec.kind_value (line_fields (texts lines.now) place)) result }
+{
+    let fields = fields_at(alloc, lines, place)?;
+    kind_line(place as u64 + 1, &fields)
+}
+
+/// The time multiplier, on the line at this place.
+#[tactic(auto, unfolding(crate::specs::Table::line_fault))]
+fn timemult_at<A: Allocator + Copy>(
+    alloc: A,
+    lines: &[&[u8]],
+    place: usize,
+) -> Result<Decimal, ReadFault>
+    requires { place < 2 ^ 63 }
+    ensures { Gives (λ x. x) (line_fault (texts lines.now) spec.timemult_rule place) (spec.decimal_in (scale (field (line_fields (texts lines.now) place) 0))) result }
+{
+    let fields = fields_at(alloc, lines, place)?;
+    timemult_of(place as u64 + 1, &fields)
+}
+
+/// The part of a head behind its channels.
+#[derive(Drop)]
+pub(crate) struct Tail<A: Allocator> {
+    pub(crate) line_freq: Decimal,
+    pub(crate) nrates: u64,
+    pub(crate) rates: Vec<Rate, A>,
+    pub(crate) first: i64,
+    pub(crate) trigger: i64,
+    pub(crate) kind: Kind,
+    pub(crate) timemult: Decimal,
+}
+
+/// The lines behind the channels, from this place on.
+pub(crate) fn tail_of<A: Allocator + Copy>(
+    alloc: A,
+    lines: &[&[u8]],
+    at: usize,
+) -> Result<Tail<A>, ReadFault>
+    requires { at < 2 ^ 31 }
+    ensures small { IfOk result (λ x. x.nrates ≤ 999) }
+    ensures value { Gives {Y = TailParts} (λ x. record { line_freq = x.line_freq; nrates = x.nrates; rates = x.rates.items; first = x.first; trigger = x.trigger; kind = x.kind; timemult = x.timemult })
+        (spec.tail_fault (texts lines.now) at (spec.rate_count (texts lines.now) at)) (spec.tail_value (texts lines.now) at (spec.rate_count (texts lines.now) at)) result }
+{
+    let line_freq = frequency_at(alloc, lines, at)?;
+    let nrates = nrates_at(alloc, lines, at + 1)?;
+    let count = (nrates as usize).max(1);
+    let rates = rates_of(alloc, lines, at + 2, count)?;
+    let first = instant_at_place(alloc, lines, at + 2 + count)?;
+    let trigger = instant_at_place(alloc, lines, at + 3 + count)?;
+    let kind = kind_at(alloc, lines, at + 4 + count)?;
+    let timemult = timemult_at(alloc, lines, at + 5 + count)?;
+    end_at(lines, at + 6 + count)?;
+    Ok(Tail {
+        line_freq,
+        nrates,
+        rates,
+        first,
+        trigger,
+        kind,
+        timemult,
+    })
+}

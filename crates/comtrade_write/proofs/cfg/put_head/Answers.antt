@@ -1,0 +1,8 @@
+use Rattle.std.proofs.Common.{rules, append_assoc}
+use Rattle.std.proofs.lemmas.Result.{IfOk-equal}
+use Rattle.comtrade_write.specs.Cfg.{cfg}
+use Rattle.comtrade_write.proofs.cfg.put_head.Goals as goal
+
+pub returns : goal.returns
+unfolding cfg
+returns g c = rw (← c.head.view_is) (search (rules, IfOk-equal, append_assoc))

@@ -1,0 +1,7 @@
+use Rattle.std.proofs.Common.{◌≡◌, ◌++◌, take}
+use Rattle.std.specs.List.{flat_map}
+use Rattle.comtrade_write.specs.Binary.{row_bytes}
+use Rattle.comtrade_write.proofs.rows_binary.put_rows.Given as goal
+
+abbrev pub invariant-loop-i : goal.invariant-loop-i
+invariant-loop-i g l = l.out.items ≡ l.initial.out.items ++ flat_map row_bytes (take l.i l.rows)

@@ -1,0 +1,49 @@
+//! Decimals as text.
+
+ghost use Rattle.std.specs.Prelude.{◌≡◌, ◌++◌, ◌∷◌, [], OnOk};
+ghost use Rattle.std.specs.List.{repeat};
+ghost use Rattle.dfr_channels.specs.Written.{pointed, decimal_text};
+
+use dfr_channels::Decimal;
+use itoa::Buffer;
+use std::alloc::{AllocError, Allocator};
+
+fn put_zeros<A: Allocator>(out: &mut Vec<u8, A>, n: usize) -> Result<(), AllocError>
+    ensures { OnOk result (out.new.items ≡ out.old.items ++ repeat n (48 ∷ [])) }
+{
+    for _ in 0..n {
+        out.push(b'0')?;
+    }
+    Ok(())
+}
+
+/// The digits with a point before the last `places` of them, and a digit before the point.
+fn put_pointed<A: Allocator>(out: &mut Vec<u8, A>, digits: &[u8], places: usize) -> Result<(), AllocError>
+    ensures { OnOk result (out.new.items ≡ out.old.items ++ pointed places digits.now) }
+{
+    if places == 0 {
+        return out.extend_from_slice(digits);
+    }
+    if places < digits.len() {
+        let (front, back) = digits.split_at(digits.len() - places);
+        out.extend_from_slice(front)?;
+        out.push(b'.')?;
+        return out.extend_from_slice(back);
+    }
+    out.push(b'0')?;
+    out.push(b'.')?;
+    put_zeros(out, places - digits.len())?;
+    out.extend_from_slice(digits)
+}
+
+pub fn put_decimal<A: Allocator>(out: &mut Vec<u8, A>, d: Decimal) -> Result<(), AllocError>
+    ensures { OnOk result (out.new.items ≡ out.old.items ++ decimal_text d) }
+{
+    let units = d.units();
+    if units < 0 {
+        out.push(b'-')?;
+    }
+    let mut buffer = Buffer::new();
+    let digits = buffer.format(units.unsigned_abs());
+    put_pointed(out, digits.as_bytes(), d.places() as usize)
+}

@@ -1,0 +1,25 @@
+//! Writing all of some bytes, and how many went out where that fails.
+
+ghost use Rattle.std.specs.Prelude.{◌≡◌, ◌<◌, length, take, OnOk, IfErr};
+ghost use Rattle.std.specs.Io.KnownBytes.{Appends};
+
+use std::io::{Error, ErrorKind, Write};
+
+/// Writes all of the bytes. On a fault exactly the first so many of them were written; nothing is tried again. A write
+/// that takes none of them is `WriteZero`. An empty slice makes no call.
+pub fn write_all_of<W: Write>(w: &mut W, bytes: &[u8]) -> Result<(), (usize, Error)>
+    ensures all { OnOk result (Appends (W.contents w.old) (W.contents w.new) bytes.now) }
+    ensures part { IfErr result (λ fault. Appends (W.contents w.old) (W.contents w.new) (take fault.0 bytes.now)) }
+    ensures left { IfErr result (λ fault. fault.0 < length bytes.now) }
+    ensures none { length bytes.now ≡ 0 → w.new ≡ w.old }
+{
+    let mut written = 0;
+    while written < bytes.len() {
+        match w.write(&bytes[written..]) {
+            Ok(0) => return Err((written, Error::from(ErrorKind::WriteZero))),
+            Ok(n) => written += n,
+            Err(error) => return Err((written, error)),
+        }
+    }
+    Ok(())
+}

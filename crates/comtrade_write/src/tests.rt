@@ -1,0 +1,6 @@
+//! The bytes of small files, each refusal of a writer, and writers that fail.
+
+mod files;
+mod outputs;
+mod refusals;
+mod rows;

@@ -1,0 +1,116 @@
+//! How texts and numbers are spelled.
+
+use crate::{Decimal, Items, fields_of, integer_of, lines_of, trim, without_blank_end};
+use std::test::Fail;
+
+fn reads(text: &[u8], units: i128, places: u8) -> bool {
+    match Decimal::read(text) {
+        Some(d) => d.units() == units && d.places() == places,
+        None => false,
+    }
+}
+
+#[test]
+fn decimals(rt: HostRuntime) {
+    assert!(rt; reads(b"1.5E-3", 15, 4));
+    assert!(rt; reads(b"1.50", 150, 2));
+    assert!(rt; reads(b"2E3", 2000, 0));
+    assert!(rt; reads(b".5", 5, 1));
+    assert!(rt; reads(b"5.", 5, 0));
+    assert!(rt; reads(b"-0.0", 0, 1));
+    assert!(rt; reads(b"4.76837158203125E-07", 476_837_158_203_125, 21));
+    assert!(rt; reads(b"0E99", 0, 0));
+    assert!(rt; reads(b"0E99999999999999999999", 0, 0));
+    assert!(rt; reads(b"0.1E36", 10i128.pow(35), 0));
+    assert!(rt; reads(b"+0", 0, 0));
+}
+
+#[test]
+fn refused_decimals(rt: HostRuntime) {
+    for text in [
+        b"1E36".as_slice(),
+        b"0.1E37",
+        b"1E-81",
+        b"0E-81",
+        b".",
+        b"1E",
+        b"1 2",
+        b"",
+        b"1E99999999999999999999",
+        b"1.2.3",
+        b"--1",
+        b"1E+-2",
+        b" 1",
+    ] {
+        assert!(rt; Decimal::read(text) == None);
+    }
+}
+
+#[test]
+fn decimals_by_parts(rt: HostRuntime) {
+    let most = 10i128.pow(36) - 1;
+    assert!(rt; Decimal::new(most, 80) != None);
+    assert!(rt; Decimal::new(-most, 0) != None);
+    assert!(rt; Decimal::new(most + 1, 0) == None);
+    assert!(rt; Decimal::new(-most - 1, 0) == None);
+    assert!(rt; Decimal::new(0, 81) == None);
+    assert!(rt; Decimal::new(15, 1) != Decimal::new(150, 2));
+}
+
+#[test]
+fn whole_numbers(rt: HostRuntime) -> Result<(), Fail> {
+    assert_eq!(rt; integer_of(b"-0"), Some(0));
+    assert_eq!(rt; integer_of(b"+12"), Some(12));
+    assert_eq!(rt; integer_of(b"-007"), Some(-7));
+    assert_eq!(rt;
+        integer_of(b"9999999999999999999"),
+        Some(9_999_999_999_999_999_999)
+    );
+    assert_eq!(rt;
+        integer_of(b"-99999999999999999999"),
+        Some(-99_999_999_999_999_999_999)
+    );
+    assert_eq!(rt; integer_of(b"-"), None);
+    assert_eq!(rt; integer_of(b" 1"), None);
+    assert_eq!(rt; integer_of(b""), None);
+    assert_eq!(rt; integer_of(b"1a"), None);
+    assert_eq!(rt; integer_of(b"1000000000000000000000000000000000000"), None);
+    assert_eq!(rt;
+        integer_of(b"999999999999999999999999999999999999"),
+        Some(10i128.pow(36) - 1)
+    );
+    let mut zeros: Vec<u8> = vec![in rt.alloc(); b'0'; 4096]?;
+    zeros.push(b'1')?;
+    assert_eq!(rt; integer_of(&zeros), Some(1));
+    assert!(rt; reads(&zeros, 1, 0));
+    Ok(())
+}
+
+#[test]
+fn blanks(rt: HostRuntime) {
+    assert_eq!(rt; trim(b" \t a b\t "), b"a b".as_slice());
+    assert_eq!(rt; trim(b" \t "), b"".as_slice());
+}
+
+#[test]
+fn cut_texts(rt: HostRuntime) -> Result<(), Fail> {
+    let lines = lines_of(rt.alloc(), b"a\r\n b , c,\n\n \r")?;
+    assert_eq!(rt; lines.len(), 4);
+    let kept = without_blank_end(&lines);
+    assert_eq!(rt; kept.len(), 2);
+    assert_eq!(rt; kept[0], b"a".as_slice());
+    let fields = fields_of(rt.alloc(), kept[1])?;
+    assert_eq!(rt; fields.len(), 3);
+    assert_eq!(rt; fields[0], b"b".as_slice());
+    assert_eq!(rt; fields[2], b"".as_slice());
+    Ok(())
+}
+
+#[test]
+fn lists(rt: HostRuntime) -> Result<(), Fail> {
+    let list = Items::of(Vec::from_slice(rt.alloc(), &[1u8, 2])?);
+    let copy = list.try_clone().ok().ok_or("memory")?;
+    assert!(rt; list == copy);
+    assert!(rt; list != Items::of(Vec::from_slice(rt.alloc(), &[1u8])?));
+    Ok(())
+}

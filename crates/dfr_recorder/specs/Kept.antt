@@ -1,0 +1,62 @@
+-- What a recorder keeps of its past.
+use Rattle.std.specs.Prelude.{ℕ, ◌≡◌, ◌+◌, ◌-◌, Bool, ◌||◌, nat_lt, if◌then◌else◌, List, [], ◌∷◌, length, take, drop, Option, Some, None, option_to_list}
+use Rattle.dfr_channels.specs.Parts.{SetupParts, ScanParts}
+use Rattle.dfr_channels.specs.declared.rule.Rule.{Rule}
+use Rattle.dfr_recorder.specs.declared.limits.Limits.{Limits}
+use Rattle.dfr_recorder.specs.Parts.{RecordParts}
+use Rattle.dfr_recorder.specs.Steps.{StepParts}
+use Rattle.dfr_recorder.specs.Answers.{AnswerParts}
+use Rattle.dfr_recorder.specs.History.{Opening, Past, past, count, newest, is_open, closed, records, answer}
+
+-- how many scans were accepted, the last ones, the rules, how many records were opened, the open one with its scans so far,
+-- and those that wait, the oldest first
+pub record Kept : Type 0 where
+  pub layout : SetupParts
+  pub limits : Limits
+  pub scans : ℕ
+  pub ring : List ScanParts
+  pub rules : List Rule
+  pub opened : ℕ
+  pub recording : Option RecordParts
+  pub shelf : List RecordParts
+
+-- the last n items
+abbrev pub latest : {X : Type 0} → ℕ → List X → List X
+latest n xs = drop (length xs - n) xs
+
+abbrev pub kept_of : SetupParts → Limits → Past → Kept
+kept_of layout limits p = record {
+  layout = layout;
+  limits = limits;
+  scans = count p;
+  ring = latest (limits.pre + 1) p.scans;
+  rules = p.rules;
+  opened = length p.intervals;
+  recording = if is_open p then newest (records p.scans p.intervals) else None;
+  shelf = drop p.taken (take (closed p) (records p.scans p.intervals));
+}
+
+-- what is kept after a history
+abbrev pub kept : Opening → List StepParts → Kept
+kept o h = kept_of o.layout o.limits (past o h)
+
+-- what a step is answered after a history
+abbrev pub reply : Opening → List StepParts → StepParts → AnswerParts
+reply o h s = answer o.layout o.limits (past o h) s
+
+-- for every history of which `old` is kept, the step is answered so, and `new` is kept after it
+abbrev pub IsStep : Kept → StepParts → AnswerParts → Kept → Type 0
+IsStep old s a new = (o : Opening) (h : List StepParts) → kept o h ≡ old → (reply o h s ≡ a) × (kept o (s ∷ h) ≡ new)
+
+-- after a history, a record is open, or the step opens one
+abbrev pub meets_record : Opening → List StepParts → StepParts → Bool
+meets_record o h s = is_open (past o h) || nat_lt (length (past o h).intervals) (length (past o (s ∷ h)).intervals)
+
+-- how many scans records have
+abbrev pub scans_in : List RecordParts → ℕ
+scans_in [] = 0
+scans_in (r ∷ rs) = length r.scans + scans_in rs
+
+-- how many scans are held in ring, open record and shelf
+abbrev pub held : Kept → ℕ
+held k = length k.ring + scans_in (option_to_list k.recording) + scans_in k.shelf

@@ -1,0 +1,129 @@
+//! How long records are, and how many wait.
+
+ghost use Rattle.std.specs.Prelude.{◌≡◌, ◌≤◌, ◌+◌};
+
+use dfr_channels::Layout;
+use std::alloc::Allocator;
+
+/// How many scans a record has before its trigger (`pre`) and after it (`post`), how many it has at most (`longest`), and
+/// how many closed records wait at most (`shelf`).
+#[derive(Clone, Copy, Debug, PartialEq, Eq)]
+pub struct Limits {
+    pre: u32,
+    post: u32,
+    longest: u32,
+    shelf: u32,
+    ghost some: { (1 ≤ post) × (1 ≤ shelf) },
+    ghost fit: { (pre + 1 + post ≤ longest) × (longest ≤ 1_000_000) },
+    ghost few: { shelf ≤ 64 },
+}
+
+/// Why limits are refused, in the order of the tests.
+#[derive(Clone, Copy, Debug, PartialEq, Eq)]
+pub enum LimitFault {
+    /// `pre` is over 100,000.
+    Pre,
+    /// `post` is 0.
+    Post,
+    /// Not `pre + 1 + post <= longest <= 1,000,000`.
+    Longest,
+    /// `shelf` is not 1 to 64.
+    Shelf,
+    /// The last row of the longest record would have a time stamp over 4,294,967,294 microseconds.
+    Stamp,
+}
+
+const LONGEST_PRE: u32 = 100_000;
+
+const LONGEST: u32 = 1_000_000;
+
+const MOST_WAITING: u32 = 64;
+
+/// The highest time stamp that a binary data file can hold, in microseconds (C37.111-1999, 6.6: FFFFFFFF is a missing one).
+const LAST_STAMP: u64 = 4_294_967_294;
+
+impl Limits {
+    ghost use Rattle.std.specs.Prelude.{◌≡◌, ◌≤◌, Some, None, IfOk, IfErr};
+    ghost use Rattle.dfr_recorder.specs.Limits.{limit_fault, has_stamps};
+
+    /// Whether the time stamps of `longest` rows at this rate, in scans a second, can be written.
+    fn has_stamps(rate: u32, longest: u32) -> bool
+        requires low { 1 ≤ rate }
+        requires some { 1 ≤ longest }
+        ensures { result ≡ has_stamps rate longest }
+    {
+        (longest as u64 - 1) * 1_000_000 / rate as u64 <= LAST_STAMP
+    }
+
+    /// Takes no memory.
+    pub fn new<A: Allocator>(
+        layout: &Layout<A>,
+        pre: u32,
+        post: u32,
+        longest: u32,
+        shelf: u32,
+    ) -> Result<Limits, LimitFault>
+        ensures lawful { IfOk result (λ _. limit_fault layout.now.rate pre post longest shelf ≡ None) }
+        ensures made { IfOk result (λ limits. (limits.pre ≡ pre) × (limits.post ≡ post) × (limits.longest ≡ longest) × (limits.shelf ≡ shelf)) }
+        ensures fault { IfErr result (λ fault. limit_fault layout.now.rate pre post longest shelf ≡ Some fault) }
+    {
+        if pre > LONGEST_PRE {
+            return Err(LimitFault::Pre);
+        }
+        if post == 0 {
+            return Err(LimitFault::Post);
+        }
+        if pre as u64 + 1 + post as u64 > longest as u64 {
+            return Err(LimitFault::Longest);
+        }
+        if longest > LONGEST {
+            return Err(LimitFault::Longest);
+        }
+        if shelf == 0 {
+            return Err(LimitFault::Shelf);
+        }
+        if shelf > MOST_WAITING {
+            return Err(LimitFault::Shelf);
+        }
+        if !Limits::has_stamps(layout.rate(), longest) {
+            return Err(LimitFault::Stamp);
+        }
+        Ok(Limits {
+            pre,
+            post,
+            longest,
+            shelf,
+        })
+    }
+
+    /// Whether the longest record's time stamps can be written at this layout's rate.
+    pub fn fits<A: Allocator>(&self, layout: &Layout<A>) -> bool
+        ensures { result ≡ has_stamps layout.now.rate self.now.longest }
+    {
+        Limits::has_stamps(layout.rate(), self.longest)
+    }
+
+    pub fn pre(&self) -> u32
+        ensures { result ≡ self.now.pre }
+    {
+        self.pre
+    }
+
+    pub fn post(&self) -> u32
+        ensures { result ≡ self.now.post }
+    {
+        self.post
+    }
+
+    pub fn longest(&self) -> u32
+        ensures { result ≡ self.now.longest }
+    {
+        self.longest
+    }
+
+    pub fn shelf(&self) -> u32
+        ensures { result ≡ self.now.shelf }
+    {
+        self.shelf
+    }
+}

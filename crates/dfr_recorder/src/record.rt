@@ -1,0 +1,133 @@
+//! A record of the scans round a trigger.
+
+use dfr_channels::{Items, Memory, Scan};
+use std::alloc::{Allocator, Global};
+use std::marker::Model;
+
+/// What opened a record: a trigger by hand, or the rule of this number, from 0.
+#[derive(Clone, Copy, Debug, PartialEq, Eq)]
+pub enum Cause {
+    Manual,
+    Rule(u32),
+}
+
+/// Which scans a record has. Records are numbered from 1 as they are opened, scans from 0 as they are accepted. It begins
+/// with scan `first` and ends with scan `last`; the trigger that opened it has its place at scan `trigger`.
+#[derive(Clone, Copy, Debug, PartialEq, Eq)]
+pub struct Extent {
+    pub number: u64,
+    pub first: u64,
+    pub trigger: u64,
+    pub last: u64,
+    pub cause: Cause,
+}
+
+/// A record that has all its scans, which contracts see by its parts.
+#[derive(Drop, Debug)]
+pub struct Record<A: Allocator = Global> {
+    extent: Extent,
+    scans: Items<Scan<A>, A>,
+}
+
+impl<A: Allocator> Model for Record<A> {
+    ghost use Rattle.dfr_recorder.specs.Parts.{RecordParts, IsWhole};
+
+    ghost Value = { RecordParts };
+
+    ghost view = { λ r. record { extent = r.extent; scans = r.scans } };
+
+    ghost invariant = { λ r. IsWhole (record { extent = r.extent; scans = r.scans }) };
+}
+
+impl<A: Allocator> Record<A> {
+    ghost use Rattle.std.specs.Prelude.{◌≡◌};
+    ghost use Rattle.dfr_recorder.specs.Parts.{IsWhole};
+
+    /// Its contract also tells what any record has: its trigger lies in it, and it has every scan from its first to its last.
+    pub fn extent(&self) -> Extent
+        ensures value { result ≡ self.now.extent }
+        ensures whole { IsWhole self.now }
+    {
+        self.extent
+    }
+
+    /// Its scans, in order.
+    pub fn scans(&self) -> &[Scan<A>]
+        ensures { result.now ≡ self.now.scans }
+    {
+        self.scans.items()
+    }
+}
+
+/// A record whose last scan is to come.
+#[derive(Drop, Debug)]
+pub(crate) struct Recording<A: Allocator = Global> {
+    extent: Extent,
+    scans: Vec<Scan<A>, A>,
+}
+
+impl<A: Allocator> Model for Recording<A> {
+    ghost use Rattle.dfr_recorder.specs.Parts.{RecordParts};
+
+    ghost Value = { RecordParts };
+
+    ghost view = { λ r. record { extent = r.extent; scans = r.scans.items } };
+}
+
+impl<A: Allocator> Recording<A> {
+    ghost use Rattle.std.specs.Prelude.{◌≡◌, [], ◌∷◌, ◌++◌, length, OnOk, OnErr};
+    ghost use Rattle.dfr_recorder.specs.Parts.{IsWhole};
+
+    pub(crate) fn new(extent: Extent, scans: Vec<Scan<A>, A>) -> Recording<A>
+        ensures extent { result.extent ≡ extent }
+        ensures scans { result.scans ≡ scans.items }
+    {
+        Recording { extent, scans }
+    }
+
+    pub(crate) fn extent(&self) -> Extent
+        ensures { result ≡ self.now.extent }
+    {
+        self.extent
+    }
+
+    pub(crate) fn len(&self) -> usize
+        ensures { result ≡ length self.now.scans }
+    {
+        self.scans.len()
+    }
+
+    /// The same scans, with another last one.
+    pub(crate) fn moved(self, extent: Extent) -> Recording<A>
+        ensures extent { result.extent ≡ extent }
+        ensures scans { result.scans ≡ self.scans }
+    {
+        let Recording { extent: _, scans } = self;
+        Recording { extent, scans }
+    }
+
+    /// Takes a scan in; refused for memory it changes nothing.
+    pub(crate) fn push(&mut self, scan: Scan<A>) -> Result<(), Memory>
+        ensures extent { self.new.extent ≡ self.old.extent }
+        ensures ok { OnOk result (self.new.scans ≡ self.old.scans ++ scan ∷ []) }
+        ensures err { OnErr result (self.new.scans ≡ self.old.scans) }
+    {
+        match self.scans.push(scan) {
+            Ok(()) => Ok(()),
+            Err(_) => Err(Memory),
+        }
+    }
+
+    /// Moves the scans into a record that has them all.
+    pub(crate) fn close(self) -> Record<A>
+        requires { IsWhole self }
+        ensures extent { result.extent ≡ self.extent }
+        ensures scans { result.scans ≡ self.scans }
+    {
+        let Recording { extent, scans } = self;
+        Record {
+            extent,
+            scans: Items::of(scans),
+        }
+    }
+}

@@ -1,0 +1,70 @@
+//! The steps of a recorder, and its answers.
+
+use crate::Record;
+use dfr_channels::{Rules, Scan};
+use std::alloc::{Allocator, Global};
+
+/// What a trigger did, with the number of the record that it met or opened.
+#[derive(Clone, Copy, Debug, PartialEq, Eq)]
+pub enum Hit {
+    /// No record was open; this one is now.
+    Opened(u64),
+    /// The open record's last scan is now the one `post` after the trigger, which may be where it was.
+    Extended(u64),
+    /// The open record's greatest length lets it end no later than before the one `post` after the trigger.
+    AtLimit(u64),
+    /// No record was open, and as many wait on the shelf as may: none was opened.
+    ShelfFull,
+}
+
+/// An accepted scan: its number, what its trigger did where a rule fired, and the number of the record that it closed.
+#[derive(Clone, Copy, Debug, PartialEq, Eq)]
+pub struct Scanned {
+    pub number: u64,
+    pub trigger: Option<Hit>,
+    pub closed: Option<u64>,
+}
+
+/// Why a scan is not accepted, in the order of the tests.
+#[derive(Clone, Copy, Debug, PartialEq, Eq)]
+pub enum ScanRefusal {
+    /// A number of readings or bits that isn't the layout's.
+    Shape,
+    /// The lowest channel, from 0, whose value is out of its range.
+    Range(u32),
+    /// Its instant would be past the year 9999.
+    ClockEnd,
+    /// A growth was refused.
+    Memory,
+}
+
+/// Why a trigger by hand did nothing, in the order of the tests.
+#[derive(Clone, Copy, Debug, PartialEq, Eq)]
+pub enum TriggerFault {
+    /// No scan was accepted yet.
+    NoScan,
+    /// No record is open, and as many wait on the shelf as may.
+    ShelfFull,
+    /// A growth was refused.
+    Memory,
+}
+
+/// One call of a recorder.
+#[derive(Drop, Debug)]
+pub enum Step<A: Allocator = Global> {
+    Scan(Scan<A>),
+    Trigger,
+    Take,
+    SetRules(Rules<A>),
+}
+
+/// What a step was answered.
+#[derive(Drop, Debug)]
+pub enum Answer<A: Allocator = Global> {
+    Scan(Result<Scanned, ScanRefusal>),
+    Trigger(Result<Hit, TriggerFault>),
+    /// The oldest record on the shelf.
+    Take(Option<Record<A>>),
+    /// Whether the rules were set.
+    SetRules(bool),
+}

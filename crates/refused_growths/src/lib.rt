@@ -1,0 +1,8 @@
+//! Tests that refuse each growth of a call in turn: the call then answers want of memory and has changed nothing, and the
+//! same call with ample memory is answered as if nothing had been refused.
+#![tactic(auto)]
+
+#[cfg(test)]
+mod channels;
+#[cfg(test)]
+mod common;
