@@ -48,10 +48,10 @@ left_length None = 0
 left_length (Some text) = length text + 1
 
 -- a part at its place in the list
-text_at : (xs : List (Bor (List ℕ))) (i : ℕ) (d : Bor (List ℕ)) → i < length xs → get_or (texts xs) i d.now ≡ (get_or xs i d).now
+pub text_at : (xs : List (Bor (List ℕ))) (i : ℕ) (d : Bor (List ℕ)) → i < length xs → get_or (texts xs) i d.now ≡ (get_or xs i d).now
 text_at xs i d h = get_or-map (λ x. x.now) xs i d d.now h
 
-within : (xs : List (Bor (List ℕ))) (i : ℕ) → i < length xs → i < length (texts xs)
+pub within : (xs : List (Bor (List ℕ))) (i : ℕ) → i < length xs → i < length (texts xs)
 within xs i h = rw (length-map xs (λ x. x.now)) h
 
 pub part_fails : (p : List ℕ → Bool) (xs : List (Bor (List ℕ))) (i : ℕ) (d : Bor (List ℕ)) → i < length xs → p (get_or xs i d).now ≡ false → list_all p (texts xs) ≡ false

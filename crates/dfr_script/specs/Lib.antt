@@ -6,3 +6,7 @@ pub mod Limits
 pub mod RuleLines
 pub mod ScanLines
 pub mod Settings
+pub mod Parts
+pub mod Drafts
+pub mod Commands
+pub mod Scripts

@@ -1,6 +1,8 @@
 //! The commands that stand behind `go`.
 
-ghost use Rattle.std.specs.Prelude.{◌≡◌};
+ghost use Rattle.std.specs.Prelude.{◌≡◌, Some, option_map};
+ghost use Rattle.dfr_script.specs.Faults.{Gives};
+ghost use Rattle.dfr_script.specs.Commands as spec;
 
 use crate::fault::{LineRefusal, Word};
 use crate::line::{cut, is_silent, is_word};
@@ -19,10 +21,39 @@ pub enum Command<A: Allocator = Global> {
     Rules { line: u64, list: Vec<Rule, A> },
 }
 
-/// The command, where no rest follows it.
-fn bare<A: Allocator>(rest: &[u8], command: Command<A>) -> Result<Command<A>, LineRefusal> {
+/// The words of commands.
+#[derive(Clone, Copy, Debug, PartialEq, Eq)]
+pub(crate) enum Verb {
+    Scan,
+    Trigger,
+    Take,
+    Rules,
+}
+
+/// The command that the word names.
+#[tactic(auto, unfolding(crate::specs::Commands::verb))]
+fn verb_of(word: &[u8]) -> Option<Verb>
+    ensures { result ≡ spec.verb word.now }
+{
+    if is_word(word, "scan") {
+        Some(Verb::Scan)
+    } else if is_word(word, "trigger") {
+        Some(Verb::Trigger)
+    } else if is_word(word, "take") {
+        Some(Verb::Take)
+    } else if is_word(word, "rules") {
+        Some(Verb::Rules)
+    } else {
+        None
+    }
+}
+
+/// That no rest follows a word.
+fn bare(rest: &[u8]) -> Result<(), LineRefusal>
+    ensures { Gives (λ x. x) (spec.bare_fault rest.now) tt result }
+{
     if rest.is_empty() {
-        Ok(command)
+        Ok(())
     } else {
         Err(LineRefusal::Fault(Word::Word))
     }
@@ -32,33 +63,49 @@ fn bare<A: Allocator>(rest: &[u8], command: Command<A>) -> Result<Command<A>, Li
 fn command_in<A: Allocator + Copy>(
     alloc: A,
     line: u64,
-    text: &[u8],
+    verb: Verb,
+    rest: &[u8],
     size: Size,
-) -> Result<Command<A>, LineRefusal> {
-    let (word, rest) = cut(text);
-    if is_word(word, "scan") {
-        Ok(Command::Scan(scan_of(alloc, rest, size)?))
-    } else if is_word(word, "trigger") {
-        bare(rest, Command::Trigger)
-    } else if is_word(word, "take") {
-        bare(rest, Command::Take)
-    } else if is_word(word, "rules") {
-        let list = rules_of(alloc, rest)?;
-        Ok(Command::Rules { line, list })
-    } else {
-        Err(LineRefusal::Fault(Word::Word))
+) -> Result<Command<A>, LineRefusal>
+    ensures { Gives (λ c. Some (spec.parts_of c)) (spec.verb_fault (Some verb) rest.now) (spec.verb_value line (Some verb) rest.now) result }
+{
+    match verb {
+        Verb::Scan => {
+            let scan = scan_of(alloc, rest, size)?;
+            Ok(Command::Scan(scan))
+        }
+        Verb::Trigger => {
+            bare(rest)?;
+            Ok(Command::Trigger)
+        }
+        Verb::Take => {
+            bare(rest)?;
+            Ok(Command::Take)
+        }
+        Verb::Rules => {
+            let list = rules_of(alloc, rest)?;
+            Ok(Command::Rules { line, list })
+        }
     }
 }
 
-/// The command of a line that isn't passed over.
+/// The command of line number `line`; None where it is passed over.
+#[tactic(auto, unfolding(crate::specs::Commands::line_fault, crate::specs::Commands::line_command))]
 pub(crate) fn command_of<A: Allocator + Copy>(
     alloc: A,
     line: u64,
     text: &[u8],
     size: Size,
-) -> Result<Option<Command<A>>, LineRefusal> {
+) -> Result<Option<Command<A>>, LineRefusal>
+    ensures { Gives (option_map spec.parts_of) (spec.line_fault text.now) (spec.line_command line text.now) result }
+{
     if is_silent(text) {
         return Ok(None);
     }
-    Ok(Some(command_in(alloc, line, text, size)?))
+    let (word, rest) = cut(text);
+    let Some(verb) = verb_of(word) else {
+        return Err(LineRefusal::Fault(Word::Word));
+    };
+    let command = command_in(alloc, line, verb, rest, size)?;
+    Ok(Some(command))
 }
