@@ -101,12 +101,12 @@ chain_is ls =
       length-append (status_rules k m) ts,
       tail_length ls at r,
       length-map-range_with_len (λ (i : ℕ). analog_rule (i + 1)) 0 k,
-      length-map-range_with_len (λ (i : ℕ). status_rule (k + i + 1)) 0 m,
+      length-map-range_with_len (λ (i : ℕ). status_rule (i + 1)) 0 m,
     ) in
     let x : Option ReadFault = extra_fault ls n in
     let inner : lines_fault ls (analog_rules k ++ (status_rules k m ++ ts)) 2 ≡ (ys or (zs or lines_fault ls ts at)) =
     lines_list ls (λ (i : ℕ). analog_rule (i + 1)) 2 k (status_rules k m ++ ts)
-    ∙ ap (λ (z : Option ReadFault). ys or z) (lines_list ls (λ (i : ℕ). status_rule (k + i + 1)) (2 + k) m ts) in
+    ∙ ap (λ (z : Option ReadFault). ys or z) (lines_list ls (λ (i : ℕ). status_rule (i + 1)) (2 + k) m ts) in
     or_assoc a (b or lines_fault ls (analog_rules k ++ (status_rules k m ++ ts)) 2) x
     ∙ ap (λ (z : Option ReadFault). a or z) (or_assoc b (lines_fault ls (analog_rules k ++ (status_rules k m ++ ts)) 2) x
     ∙ ap (λ (z : Option ReadFault). b or z) (

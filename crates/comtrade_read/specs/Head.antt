@@ -147,7 +147,7 @@ abbrev pub analog_rules : ℕ → List Rule
 analog_rules k = map (λ i. analog_rule (i + 1)) (range_with_len 0 k)
 
 abbrev pub status_rules : ℕ → ℕ → List Rule
-status_rules k m = map (λ i. status_rule (k + i + 1)) (range_with_len 0 m)
+status_rules k m = map (λ i. status_rule (i + 1)) (range_with_len 0 m)
 
 abbrev pub rate_rules : List (List ℕ) → ℕ → ℕ → List Rule
 rate_rules ls start n = map (λ i. rate_rule (rate_before ls start i)) (range_with_len 0 n)
@@ -177,7 +177,7 @@ abbrev pub analog_items : List (List ℕ) → ℕ → List AnalogParts
 analog_items ls count = map (λ i. analog_value (line_fields ls (2 + i))) (range_with_len 0 count)
 
 abbrev pub status_faults : List (List ℕ) → ℕ → ℕ → Option ReadFault
-status_faults ls k i = line_fault ls (status_rule (k + i + 1)) (2 + k + i)
+status_faults ls k i = line_fault ls (status_rule (i + 1)) (2 + k + i)
 
 abbrev pub status_items : List (List ℕ) → ℕ → ℕ → List StatusParts
 status_items ls k count = map (λ i. status_value (line_fields ls (2 + k + i))) (range_with_len 0 count)

@@ -142,7 +142,7 @@ pub(crate) fn statuses_of<A: Allocator + Copy>(
 {
     let mut list = Vec::new(alloc);
     for i in 0..count {
-        list.push(status_at(alloc, lines, 2 + analog + i, (analog + i) as u64 + 1)?)?;
+        list.push(status_at(alloc, lines, 2 + analog + i, i as u64 + 1)?)?;
     }
     Ok(list)
 }

@@ -15,7 +15,8 @@ use Rattle.dfr_recorder.specs.Steps as step
 use Rattle.dfr_recorder.specs.Parts.{RecordParts}
 use Rattle.dfr_recorder.specs.History.{Opening, Interval, Past, past, after, after_scan, after_trigger, intervals_fired, fires, refusal, count, newest, is_open_at, closed, ended_before, triggered, records, record_of}
 use Rattle.dfr_recorder.specs.Kept.{Kept, kept, kept_of, latest}
-use Rattle.dfr_recorder.proofs.Next.{next, next_scan, next_trigger, mark, mark_fired, fired, add, longer}
+use Rattle.dfr_recorder.proofs.Next.{next, next_scan, next_trigger, mark, mark_fired, fired, add}
+use Rattle.dfr_recorder.specs.Ring.{longer}
 use Rattle.dfr_recorder.proofs.Slices.{newest-push, latest-from, latest-push, range-push, range-so_far, newest-latest}
 
 -- all their scans have come

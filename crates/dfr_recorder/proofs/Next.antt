@@ -18,6 +18,7 @@ use Rattle.dfr_recorder.specs.Answers.{AnswerParts}
 use Rattle.dfr_recorder.specs.Answers as answers
 use Rattle.dfr_recorder.specs.History.{newest, refusal, refused_when_full}
 use Rattle.dfr_recorder.specs.Kept.{Kept, latest}
+use Rattle.dfr_recorder.specs.Ring.{longer}
 
 -- a record whose last scan is moved on
 abbrev pub moved_on : Limits → ℕ → RecordParts → RecordParts
@@ -46,9 +47,6 @@ hit_by s k (Some r) = cond (ltb (r.extent.first + s.limits.longest - 1) (k + s.l
 hit_by s k None = cond (is_full s) ShelfFull (Opened (s.opened + 1))
 
 -- one more scan, at place n, in the open record and perhaps its last
-abbrev pub longer : RecordParts → ScanParts → RecordParts
-longer r scan = record { extent = r.extent; scans = r.scans ++ scan ∷ [] }
-
 abbrev pub still_open : ℕ → ScanParts → Option RecordParts → Option RecordParts
 still_open n scan None = None
 still_open n scan (Some r) = cond (eqb r.extent.last n) None (Some (longer r scan))

@@ -1,5 +1,5 @@
 -- Worked examples, computed by the definitions.
-use Rattle.std.proofs.Common.{ℕ, ◌≡◌, refl, Bool, true, false, List, [], ◌∷◌, ◌++◌, Some, None, Ok, Err, Option, ℤ, pos, negsuc, lit≤, map, reverse}
+use Rattle.std.proofs.Common.{ℕ, ◌≡◌, refl, Bool, true, false, List, [], ◌∷◌, ◌++◌, Some, None, Ok, Err, Option, ℤ, pos, negsuc, lit≤, map}
 use Rattle.dfr_channels.specs.Spelling.{Number}
 use Rattle.dfr_channels.specs.Parts.{AnalogParts, StatusParts, SetupParts, ScanParts}
 use Rattle.dfr_channels.specs.Scans.{scan_fault}
@@ -10,7 +10,6 @@ use Rattle.dfr_channels.specs.declared.scan.Reading.TheVariants.{Value, Missing}
 use Rattle.dfr_channels.specs.declared.rule.Rule.{Rule}
 use Rattle.dfr_channels.specs.declared.rule.Rule.TheVariants as rule
 use Rattle.dfr_recorder.specs.declared.limits.Limits.{Limits}
-use Rattle.dfr_recorder.specs.declared.limits.LimitFault.{LimitFault}
 use Rattle.dfr_recorder.specs.declared.limits.LimitFault.TheVariants.{Pre, Post, Longest, Shelf, Stamp}
 use Rattle.dfr_recorder.specs.declared.record.Cause.{Cause}
 use Rattle.dfr_recorder.specs.declared.record.Cause.TheVariants as cause
@@ -32,10 +31,18 @@ zero_number = record { units = pos 0; places = 0 }
 
 abbrev analog_channel : AnalogParts
 analog_channel = record {
-  id = []; phase = []; component = []; unit = 65 ∷ [];
-  a = zero_number; b = zero_number; skew = zero_number;
-  min = negsuc 32766; max = pos 32767;
-  primary = zero_number; secondary = zero_number; side = Primary;
+  id = [];
+  phase = [];
+  component = [];
+  unit = 65 ∷ [];
+  a = zero_number;
+  b = zero_number;
+  skew = zero_number;
+  min = negsuc 32766;
+  max = pos 32767;
+  primary = zero_number;
+  secondary = zero_number;
+  side = Primary;
 }
 
 abbrev status_channel : StatusParts

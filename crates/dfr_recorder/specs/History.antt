@@ -1,5 +1,5 @@
 -- A history of steps, and what each step is answered after it. Every scan and every record stays here for ever.
-use Rattle.std.specs.Prelude.{ℕ, zero, suc, ◌+◌, ◌-◌, min, Bool, true, false, if◌then◌else◌, ◌==◌, nat_lt, nat_le, List, [], ◌∷◌, ◌++◌, length, slice_range, slice_get, Option, Some, None, option_map, Result, Ok, Err}
+use Rattle.std.specs.Prelude.{ℕ, zero, suc, ◌+◌, ◌-◌, min, Bool, false, if◌then◌else◌, ◌==◌, nat_lt, nat_le, List, [], ◌∷◌, ◌++◌, length, slice_range, slice_get, Option, Some, None, option_map, Result, Ok, Err}
 use Rattle.dfr_channels.specs.Faults.{◌or◌, fault_unless}
 use Rattle.dfr_channels.specs.Parts.{SetupParts, ScanParts}
 use Rattle.dfr_channels.specs.declared.layout.ScanFault.{ScanFault}

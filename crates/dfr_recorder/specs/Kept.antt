@@ -1,5 +1,5 @@
 -- What a recorder keeps of its past.
-use Rattle.std.specs.Prelude.{ℕ, ◌≡◌, ◌+◌, ◌-◌, Bool, ◌||◌, nat_lt, if◌then◌else◌, List, [], ◌∷◌, length, take, drop, Option, Some, None, option_to_list}
+use Rattle.std.specs.Prelude.{ℕ, ◌≡◌, ◌+◌, ◌-◌, if◌then◌else◌, List, [], ◌∷◌, length, take, drop, Option, None, option_to_list}
 use Rattle.dfr_channels.specs.Parts.{SetupParts, ScanParts}
 use Rattle.dfr_channels.specs.declared.rule.Rule.{Rule}
 use Rattle.dfr_recorder.specs.declared.limits.Limits.{Limits}
@@ -47,10 +47,6 @@ reply o h s = answer o.layout o.limits (past o h) s
 -- for every history of which `old` is kept, the step is answered so, and `new` is kept after it
 abbrev pub IsStep : Kept → StepParts → AnswerParts → Kept → Type 0
 IsStep old s a new = (o : Opening) (h : List StepParts) → kept o h ≡ old → (reply o h s ≡ a) × (kept o (s ∷ h) ≡ new)
-
--- after a history, a record is open, or the step opens one
-abbrev pub meets_record : Opening → List StepParts → StepParts → Bool
-meets_record o h s = is_open (past o h) || nat_lt (length (past o h).intervals) (length (past o (s ∷ h)).intervals)
 
 -- how many scans records have
 abbrev pub scans_in : List RecordParts → ℕ

@@ -5,4 +5,8 @@ pub mod Steps
 pub mod Answers
 pub mod History
 pub mod Kept
+pub mod Memory
 pub mod Run
+pub mod Marks
+pub mod Ring
+pub mod Sound

@@ -2,9 +2,16 @@
 #![tactic(auto)]
 
 mod limits;
+mod marks;
 mod record;
+mod recorder;
+mod refusals;
+mod ring;
+mod sequence;
 mod step;
 
 pub use limits::{LimitFault, Limits};
 pub use record::{Cause, Extent, Record};
+pub use recorder::Recorder;
+pub use sequence::{Ran, run};
 pub use step::{Answer, Hit, ScanRefusal, Scanned, Step, TriggerFault};

@@ -97,13 +97,12 @@ impl<A: Allocator> Recording<A> {
         self.scans.len()
     }
 
-    /// The same scans, with another last one.
-    pub(crate) fn moved(self, extent: Extent) -> Recording<A>
-        ensures extent { result.extent ≡ extent }
-        ensures scans { result.scans ≡ self.scans }
+    /// Gives it another last scan.
+    pub(crate) fn move_to(&mut self, extent: Extent)
+        ensures extent { self.new.extent ≡ extent }
+        ensures scans { self.new.scans ≡ self.old.scans }
     {
-        let Recording { extent: _, scans } = self;
-        Recording { extent, scans }
+        self.extent = extent;
     }
 
     /// Takes a scan in; refused for memory it changes nothing.

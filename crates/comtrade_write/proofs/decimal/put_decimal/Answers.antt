@@ -10,7 +10,7 @@ use Rattle.comtrade_write.proofs.decimal.put_decimal.Goals.{then-units-lt0+in_ok
 pub returns : goal.returns
 unfolding decimal_text
 returns g c =
-    let same = c.units-units.ensures in
+    let same = c.units-units.ensures.value in
     let fits : FitsSigned w128 c.units-units.result = search rules in
     let abs = simp to_z-of_z at c.unsigned_abs.ensures.value in
     elim c.if-units-lt0.branch [

@@ -1,0 +1,56 @@
+-- How many scans are held.
+use Rattle.std.proofs.Common.{ℕ, zero, suc, ◌≡◌, ◌+◌, ◌*◌, ◌<◌, ◌≤◌, ap, ◌∙◌, All, List, [], ◌∷◌, length, take, Option, Some, None, arith, slice_index_or}
+use Rattle.std.specs.Prelude.{option_to_list}
+use Rattle.std.proofs.lemmas.List.Elements.{All-head, All-tail}
+use Rattle.std.proofs.Math.Nat.{mul-le-mul_left}
+use Rattle.std.proofs.lemmas.Nat.{mul-le}
+use Rattle.dfr_recorder.specs.declared.limits.Limits.{Limits}
+use Rattle.dfr_recorder.specs.Parts.{RecordParts}
+use Rattle.dfr_recorder.specs.Kept.{Kept, scans_in, held}
+use Rattle.dfr_recorder.specs.Sound.{IsSound, IsShort, IsOpenSound, IsRoomy}
+
+-- the shelf, record by record
+scans-suc : (i : ℕ) (rs : List RecordParts) (r : RecordParts) → i < length rs → r ≡ slice_index_or rs i r → scans_in (take (suc i) rs) ≡ scans_in (take i rs) + length r.scans
+scans-suc i [] r lt e = absurd (omega arith)
+scans-suc zero (x ∷ rs) r lt e = let n : length r.scans ≡ length x.scans = ap (λ (q : RecordParts). length q.scans) e in omega (arith, n)
+scans-suc (suc i) (x ∷ rs) r lt e = omega (arith, scans-suc i rs r (omega arith) e)
+
+pub scans_more : (i : ℕ) (rs : List RecordParts) (r : RecordParts) → i < length rs → r ≡ slice_index_or rs i r → scans_in (take (i + 1) rs) ≡ scans_in (take i rs) + length r.scans
+scans_more i rs r lt e = let one : i + 1 ≡ suc i = omega arith in ap (λ k. scans_in (take k rs)) one ∙ scans-suc i rs r lt e
+
+pub scans_part : (i : ℕ) (rs : List RecordParts) → scans_in (take i rs) ≤ scans_in rs
+scans_part zero rs = omega arith
+scans_part (suc i) [] = omega arith
+scans_part (suc i) (r ∷ rs) = omega (arith, scans_part i rs)
+
+scans-short : (longest : ℕ) (rs : List RecordParts) → All (IsShort longest) rs → scans_in rs ≤ longest * length rs
+scans-short longest [] h = omega arith
+scans-short longest (r ∷ rs) h = omega (arith, All-head (IsShort longest) r rs h, scans-short longest rs (All-tail (IsShort longest) r rs h))
+
+-- the open record and the shelf
+records-bound : (limits : Limits) (n opened : ℕ) (recording : Option RecordParts) (shelf : List RecordParts)
+    → IsOpenSound limits n opened recording → IsRoomy limits (length shelf) recording → All (IsShort limits.longest) shelf
+    → scans_in (option_to_list recording) + scans_in shelf ≤ limits.longest * limits.shelf
+records-bound limits n opened None shelf h room short = omega (arith, scans-short limits.longest shelf short, mul-le-mul_left limits.longest room)
+records-bound limits n opened (Some r) shelf h room short =
+    let m = h.0 in
+    let all : limits.longest * (length shelf + 1) ≤ limits.longest * limits.shelf = mul-le-mul_left limits.longest (omega arith) in
+    omega (arith, scans-short limits.longest shelf short, all, m.short, m.scans, m.to_come)
+
+pub held_bound : (k : Kept) → IsSound k → held k ≤ k.limits.pre + 1 + k.limits.longest * k.limits.shelf
+held_bound k h = omega (arith, h.ring, records-bound k.limits k.scans k.opened k.recording k.shelf h.recording h.room h.short)
+
+pub shelf_bound : (k : Kept) → IsSound k → scans_in k.shelf ≤ k.limits.longest * k.limits.shelf
+shelf_bound k h = omega (arith, records-bound k.limits k.scans k.opened k.recording k.shelf h.recording h.room h.short)
+
+-- the same by numbers
+limits-low : (limits : Limits) → limits.pre + 1 + limits.longest * limits.shelf ≤ 65000000
+limits-low limits =
+    let fit = limits.fit in
+    omega (arith, mul-le limits.longest limits.shelf 1000000 64 (omega arith) limits.few)
+
+pub held_low : (k : Kept) → IsSound k → held k ≤ 65000000
+held_low k h = omega (arith, held_bound k h, limits-low k.limits)
+
+pub shelf_low : (k : Kept) → IsSound k → scans_in k.shelf ≤ 65000000
+shelf_low k h = omega (arith, shelf_bound k h, limits-low k.limits)

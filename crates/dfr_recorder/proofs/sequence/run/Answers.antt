@@ -1,0 +1,94 @@
+use Rattle.std.proofs.Common.{rules, ℕ, ◌+◌, ◌≤◌, ◌≡◌, ◌++◌, [], ◌∷◌, List, suc, length, map, take, drop, sym, ap, subst, ◌∙◌, arith, length-append}
+use Rattle.dfr_recorder.specs.Steps.{StepParts, step_of}
+use Rattle.dfr_recorder.specs.declared.step.Answer.{Answer}
+use Rattle.std.proofs.lemmas.List.Elements.{All-same, All-push, All-nil}
+use Rattle.dfr_recorder.specs.Answers.{AnswerParts, answer_of, is_memory}
+use Rattle.std.specs.Vec.{vec_len, vec_capacity}
+use Rattle.dfr_recorder.specs.Kept.{Kept}
+use Rattle.dfr_recorder.specs.Run.{IsRun}
+use Rattle.dfr_recorder.proofs.Runs.{run_more, take_next, drop_next, room_next, map_push, take_then, nothing_in, ok_gives, run_none, take_rest}
+use Rattle.std.specs.Prelude.{is_err, option_to_list, Some, false}
+use Rattle.dfr_recorder.proofs.sequence.run.Goals as goal
+
+abbrev NotMemory : {A : Type 0} → Answer A → Type 0
+NotMemory answer = is_memory (answer_of answer) ≡ false
+
+pub loop-step-preserved : goal.loop-step-preserved
+loop-step-preserved g c =
+    let n : ℕ = length c.loop-step.answers.items in
+    let front : drop n c.args.steps.items ≡ c.in-Some.step ∷ c.pop_front.new.self.items = sym c.loop-step.invariant.left ∙ c.in-Some.ensures.items in
+    let pushed : c.push_reserved.new.self.items ≡ c.loop-step.answers.items ++ c.in-Ok.answer ∷ [] = search rules in
+    let longer : length c.push_reserved.new.self.items ≡ suc n = omega (arith, ap length pushed, length-append c.loop-step.answers.items (c.in-Ok.answer ∷ [])) in
+    let made : map step_of (take (length c.push_reserved.new.self.items) c.args.steps.items) ≡ map step_of (take n c.args.steps.items) ++ step_of c.in-Some.step ∷ [] =
+    ap (λ m. map step_of (take m c.args.steps.items)) longer ∙ ap (map step_of) (take_next n c.args.steps.items c.in-Some.step c.pop_front.new.self.items front) ∙ map_push step_of (take n c.args.steps.items) c.in-Some.step in
+    let told : map answer_of c.push_reserved.new.self.items ≡ map answer_of c.loop-step.answers.items ++ answer_of c.in-Ok.answer ∷ [] = ap (map answer_of) pushed ∙ map_push answer_of c.loop-step.answers.items c.in-Ok.answer in
+    let P : List StepParts → Type 0 = λ a. IsRun c.args.recorder a (map answer_of c.push_reserved.new.self.items) c.make.new.recorder in
+    let Q : List AnswerParts → Type 0 = λ b. IsRun c.args.recorder (map step_of (take n c.args.steps.items) ++ step_of c.in-Some.step ∷ []) b c.make.new.recorder in
+    let more : IsRun c.args.recorder (map step_of (take n c.args.steps.items) ++ step_of c.in-Some.step ∷ []) (map answer_of c.loop-step.answers.items ++ answer_of c.in-Ok.answer ∷ []) c.make.new.recorder =
+    run_more c.args.recorder c.loop-step.recorder c.make.new.recorder (map step_of (take n c.args.steps.items)) (map answer_of c.loop-step.answers.items) (step_of c.in-Some.step) (answer_of c.in-Ok.answer) c.loop-step.invariant.ran c.in-Ok.ensures.ok in
+    let room = room_next n c.args.steps.items c.in-Some.step c.pop_front.new.self.items front in
+    record {
+      few = omega (arith, longer, room);
+      left = sym (ap (λ m. drop m c.args.steps.items) longer ∙ drop_next n c.args.steps.items c.in-Some.step c.pop_front.new.self.items front);
+      ran = subst P (sym made) (subst Q (sym told) more);
+      told = All-same NotMemory c.push_reserved.new.self.items (c.loop-step.answers.items ++ c.in-Ok.answer ∷ []) pushed (All-push NotMemory c.loop-step.answers.items c.in-Ok.answer c.loop-step.invariant.told c.in-Ok.ensures.told);
+    }
+
+pub returns-then-is_err-clause-run : goal.returns-then-is_err-clause-run
+returns-then-is_err-clause-run g c =
+    let same : c.reserve.new.self.items ≡ c.loop-step.answers.items = search rules in
+    subst (λ l. IsRun c.args.recorder (map step_of (take (length l) c.args.steps.items)) (map answer_of l) c.loop-step.recorder) (sym same) c.loop-step.invariant.ran
+
+pub push_reserved-requires : goal.push_reserved-requires
+push_reserved-requires g c =
+    let no_err : is_err c.reserve.result ≡ false = search rules in
+    let room : vec_len c.reserve.new.self + 1 ≤ vec_capacity c.reserve.new.self = ok_gives c.reserve.result no_err c.reserve.ensures.ok in
+    omega (arith, room)
+
+pub returns-in-Err-clause-list : goal.returns-in-Err-clause-list
+returns-in-Err-clause-list g c =
+    let same : c.reserve.new.self.items ≡ c.loop-step.answers.items = search rules in
+    let back : c.in-Err.step ≡ c.in-Some.step = search rules in
+    ap (λ l. take (length l) c.args.steps.items ++ option_to_list (Some c.in-Err.step) ++ c.pop_front.new.self.items) same
+    ∙ ap (λ s. take (length c.loop-step.answers.items) c.args.steps.items ++ option_to_list (Some s) ++ c.pop_front.new.self.items) back
+    ∙ take_then (length c.loop-step.answers.items) c.args.steps.items c.in-Some.step c.pop_front.new.self.items (sym c.loop-step.invariant.left ∙ c.in-Some.ensures.items)
+
+pub returns-in-Err-clause-run : goal.returns-in-Err-clause-run
+returns-in-Err-clause-run g c =
+    let same : c.reserve.new.self.items ≡ c.loop-step.answers.items = search rules in
+    let stays : c.make.new.recorder ≡ c.loop-step.recorder = search rules in
+    subst (λ (k : Kept). IsRun c.args.recorder (map step_of (take (length c.reserve.new.self.items) c.args.steps.items)) (map answer_of c.reserve.new.self.items) k) (sym stays)
+    (subst (λ l. IsRun c.args.recorder (map step_of (take (length l) c.args.steps.items)) (map answer_of l) c.loop-step.recorder) (sym same) c.loop-step.invariant.ran)
+
+pub returns-clause-whole : goal.returns-clause-whole
+returns-clause-whole g c _ =
+    let empty : length c.pop_front.new.self.items ≡ 0 = search rules in
+    nothing_in c.pop_front.new.self.items empty
+
+pub loop-step-init : goal.loop-step-init
+loop-step-init g c =
+    let none : c.new-answers.result.items ≡ [] = c.new-answers.ensures.items in
+    let P : List (Answer g.row.A.Denot) → Type 0 = λ l. IsRun c.args.recorder (map step_of (take (length l) c.args.steps.items)) (map answer_of l) c.args.recorder in
+    record {
+      few = omega (arith, ap length none);
+      left = sym (ap (λ l. drop (length l) c.args.steps.items) none);
+      ran = subst P (sym none) (run_none c.args.recorder);
+      told = All-same NotMemory c.new-answers.result.items [] none (All-nil NotMemory);
+    }
+
+pub returns-then-is_err-clause-list : goal.returns-then-is_err-clause-list
+returns-then-is_err-clause-list g c =
+    let same : c.reserve.new.self.items ≡ c.loop-step.answers.items = c.reserve.ensures.items in
+    ap (λ l. take (length l) c.args.steps.items ++ option_to_list (Some c.in-Some.step) ++ c.pop_front.new.self.items) same
+    ∙ take_then (length c.loop-step.answers.items) c.args.steps.items c.in-Some.step c.pop_front.new.self.items (sym c.loop-step.invariant.left ∙ c.in-Some.ensures.items)
+
+pub returns-then-is_err-clause-told : goal.returns-then-is_err-clause-told
+returns-then-is_err-clause-told g c = All-same NotMemory c.reserve.new.self.items c.loop-step.answers.items c.reserve.ensures.items c.loop-step.invariant.told
+
+pub returns-in-Err-clause-told : goal.returns-in-Err-clause-told
+returns-in-Err-clause-told g c = All-same NotMemory c.reserve.new.self.items c.loop-step.answers.items c.reserve.ensures.items c.loop-step.invariant.told
+
+pub returns-clause-list : goal.returns-clause-list
+returns-clause-list g c =
+    let rest : c.pop_front.new.self.items ≡ c.loop-step.rest.items = search rules in
+    take_rest (length c.loop-step.answers.items) c.args.steps.items c.pop_front.new.self.items (rest ∙ c.loop-step.invariant.left)

@@ -1,0 +1,232 @@
+//! The recorder.
+
+use crate::marks::{closed_number, closing, mark, mark_if, refused_when_full};
+use crate::record::Recording;
+use crate::refusals::refusal;
+use crate::ring::{extent_of, grow, place, scans_in, scans_so_far, shelve};
+use crate::{Cause, Hit, Limits, Record, ScanRefusal, Scanned, TriggerFault};
+use circular_buffer::HeapCircularBuffer;
+use dfr_channels::{Layout, Memory, Rules, Scan};
+use std::alloc::{Allocator, Global};
+use std::collections::VecDeque;
+use std::marker::Model;
+
+/// A recorder with pre-trigger memory. It holds the last `pre + 1` scans in a ring, the open record, and the closed records
+/// that wait to be taken on a shelf: at most `pre + 1 + longest * shelf` scans. Contracts see it as what is kept of the steps
+/// that it made.
+#[derive(Drop)]
+pub struct Recorder<A: Allocator = Global> {
+    layout: Layout<A>,
+    limits: Limits,
+    rules: Rules<A>,
+    count: u64,
+    ring: HeapCircularBuffer<Scan<A>, A>,
+    opened: u64,
+    recording: Option<Recording<A>>,
+    shelf: VecDeque<Record<A>, A>,
+}
+
+impl<A: Allocator> Model for Recorder<A> {
+    ghost use Rattle.std.specs.VecDeque.{deque_capacity};
+    ghost use Rattle.dfr_recorder.specs.Kept.{Kept};
+    ghost use Rattle.dfr_recorder.specs.Ring.{kept_by};
+    ghost use Rattle.dfr_recorder.specs.Sound.{IsSoundBody};
+
+    ghost Value = { Kept };
+
+    ghost view = { λ a. kept_by a.layout a.limits a.rules a.count a.ring.items a.opened a.recording a.shelf.items };
+
+    ghost invariant = { λ a. IsSoundBody (kept_by a.layout a.limits a.rules a.count a.ring.items a.opened a.recording a.shelf.items) a.ring.capacity (deque_capacity a.shelf) };
+}
+
+impl<A: Allocator> Recorder<A> {
+    ghost use Rattle.std.specs.Prelude.{◌≡◌, ◌≤◌, ◌+◌, ◌*◌, List, [], true, false, IfErr, IfSome, OnOk, length, is_some, IsTrue};
+    ghost use Rattle.dfr_channels.specs.Firing.{rules_fit};
+    ghost use Rattle.dfr_recorder.specs.Limits.{has_stamps};
+    ghost use Rattle.dfr_recorder.specs.Own.{is_own};
+    ghost use Rattle.dfr_recorder.specs.Steps.{StepParts};
+    ghost use Rattle.dfr_recorder.specs.Steps as step;
+    ghost use Rattle.dfr_recorder.specs.Answers as answer;
+    ghost use Rattle.dfr_recorder.specs.History.{Opening, opening, past, waiting, is_open};
+    ghost use Rattle.dfr_recorder.specs.Kept.{kept, held, IsStep};
+
+    pub fn layout(&self) -> &Layout<A>
+        ensures { result.now ≡ self.now.layout }
+    {
+        &self.layout
+    }
+
+    pub fn limits(&self) -> Limits
+        ensures value { result ≡ self.now.limits }
+        ensures fit { IsTrue (has_stamps self.now.layout.rate self.now.limits.longest) }
+    {
+        self.limits
+    }
+
+    /// The rules that hold from the next scan on.
+    pub fn rules(&self) -> &Rules<A>
+        ensures value { result.now ≡ self.now.rules }
+        ensures fit { IsTrue (rules_fit self.now.layout self.now.rules) }
+    {
+        &self.rules
+    }
+
+    /// How many scans were accepted. Where there is none, the recorder is as new over its layout, limits and rules.
+    pub fn scans(&self) -> u64
+        ensures value { result ≡ self.now.scans }
+        ensures fresh { result ≡ 0 → self.now ≡ kept (opening self.now.layout self.now.limits self.now.rules) [] }
+    {
+        self.count
+    }
+
+    /// How many records wait on the shelf.
+    pub fn waiting(&self) -> u32
+        ensures value { result ≡ length self.now.shelf }
+        ensures history { (o : Opening) (h : List StepParts) → kept o h ≡ self.now → result ≡ waiting (past o h) }
+    {
+        self.shelf.len() as u32
+    }
+
+    pub fn is_recording(&self) -> bool
+        ensures value { result ≡ is_some self.now.recording }
+        ensures history { (o : Opening) (h : List StepParts) → kept o h ≡ self.now → result ≡ is_open (past o h) }
+    {
+        self.recording.is_some()
+    }
+
+    /// How many scans ring, open record and shelf hold.
+    pub fn held(&self) -> u64
+        ensures value { result ≡ held self.now }
+        ensures bound { result ≤ self.now.limits.pre + 1 + self.now.limits.longest * self.now.limits.shelf }
+    {
+        self.ring.len() as u64 + scans_so_far(&self.recording) + scans_in(&self.shelf)
+    }
+
+    /// Takes the oldest closed record off the shelf. Its scans pass the layout's check, the last has an instant and its row's
+    /// time stamp can be written. Takes no memory.
+    pub fn take(&mut self) -> Option<Record<A>>
+        ensures step { IsStep self.old step.Take (answer.Take result) self.new }
+        ensures own { IfSome result (λ r. IsTrue (is_own self.old.layout r)) }
+    {
+        self.shelf.pop_front()
+    }
+
+    /// Sets the rules that hold from the next scan on. Rules that don't fit the layout are handed back, and change nothing.
+    /// Takes no memory.
+    pub fn set_rules(&mut self, rules: Rules<A>) -> Result<(), Rules<A>>
+        ensures ok { OnOk result (IsStep self.old (step.SetRules rules) (answer.SetRules true) self.new) }
+        ensures refused { IfErr result (λ _. IsStep self.old (step.SetRules rules) (answer.SetRules false) self.new) }
+        ensures back { IfErr result (λ back. (back ≡ rules) × (self.new ≡ self.old)) }
+    {
+        if !rules.fits(&self.layout) {
+            return Err(rules);
+        }
+        self.rules = rules;
+        Ok(())
+    }
+}
+
+impl<A: Allocator + Copy> Recorder<A> {
+    ghost use Rattle.std.specs.Prelude.{◌≡◌, ◌≢◌, [], IfOk, IfErr, IsTrue};
+    ghost use Rattle.dfr_channels.specs.Firing.{rules_fit};
+    ghost use Rattle.dfr_recorder.specs.Limits.{has_stamps};
+    ghost use Rattle.dfr_recorder.specs.Steps as step;
+    ghost use Rattle.dfr_recorder.specs.Answers as answer;
+    ghost use Rattle.dfr_recorder.specs.History.{opening};
+    ghost use Rattle.dfr_recorder.specs.Kept.{kept, IsStep};
+    ghost use Rattle.dfr_recorder.specs.Memory.{GrowsRecord, OpensRecord};
+
+    /// A recorder without a past. The room of ring and shelf is made here.
+    pub fn new(
+        alloc: A,
+        layout: Layout<A>,
+        limits: Limits,
+        rules: Rules<A>,
+    ) -> Result<Recorder<A>, (Memory, Layout<A>, Rules<A>)>
+        requires limits { IsTrue (has_stamps layout.rate limits.longest) }
+        requires rules { IsTrue (rules_fit layout rules) }
+        ensures made { IfOk result (λ recorder. recorder ≡ kept (opening layout limits rules) []) }
+        ensures back { IfErr result (λ refused. (refused.1 ≡ layout) × (refused.2 ≡ rules)) }
+    {
+        let Ok(ring) = HeapCircularBuffer::with_capacity(alloc, limits.pre() as usize + 1) else {
+            return Err((Memory, layout, rules));
+        };
+        let Ok(shelf) = VecDeque::with_capacity(alloc, limits.shelf() as usize) else {
+            return Err((Memory, layout, rules));
+        };
+        Ok(Recorder {
+            layout,
+            limits,
+            rules,
+            count: 0,
+            ring,
+            opened: 0,
+            recording: None,
+            shelf,
+        })
+    }
+
+    /// Makes a scan's step. A refused scan is handed back and changes nothing. Memory is wanted only for an open record, or to
+    /// open one.
+    pub fn scan(&mut self, scan: Scan<A>) -> Result<Scanned, (ScanRefusal, Scan<A>)>
+        ensures ok { IfOk result (λ scanned. IsStep self.old (step.Scan scan) (answer.Scan (Ok scanned)) self.new) }
+        ensures refused { IfErr result (λ refused. refused.0 ≢ ScanRefusal.Memory → IsStep self.old (step.Scan scan) (answer.Scan (Err refused.0)) self.new) }
+        ensures back { IfErr result (λ refused. (refused.1 ≡ scan) × (self.new ≡ self.old)) }
+        ensures memory { IfErr result (λ refused. refused.0 ≡ ScanRefusal.Memory → GrowsRecord self.old scan) }
+    {
+        let n = self.count;
+        match refusal(&self.layout, n, &scan) {
+            Some(refused) => return Err((refused, scan)),
+            None => {}
+        }
+        let fired = self.rules.fires(self.ring.back(), &scan);
+        let full = self.shelf.len() == self.limits.shelf() as usize;
+        let marked = mark_if(
+            self.limits,
+            n,
+            fired,
+            self.opened,
+            full,
+            extent_of(&self.recording),
+        );
+        if grow(&mut self.recording, marked.recording, n, &self.ring, &scan).is_err() {
+            return Err((ScanRefusal::Memory, scan));
+        }
+        shelve(&mut self.recording, n, &mut self.shelf);
+        let _ = self.ring.push_back(scan);
+        self.count = n + 1;
+        self.opened = marked.opened;
+        let closed = closing(n, marked.recording);
+        Ok(Scanned {
+            number: n,
+            trigger: marked.hit,
+            closed: closed_number(closed, marked.opened),
+        })
+    }
+
+    /// A trigger by hand, at the last scan. Memory is wanted only to open a record.
+    pub fn trigger(&mut self) -> Result<Hit, TriggerFault>
+        ensures step { result ≢ Err TriggerFault.Memory → IsStep self.old step.Trigger (answer.Trigger result) self.new }
+        ensures same { result ≡ Err TriggerFault.Memory → self.new ≡ self.old }
+        ensures memory { result ≡ Err TriggerFault.Memory → OpensRecord self.old }
+    {
+        let n = self.count;
+        if n == 0 {
+            return Err(TriggerFault::NoScan);
+        }
+        let full = self.shelf.len() == self.limits.shelf() as usize;
+        let marked = mark(
+            self.limits,
+            n - 1,
+            Cause::Manual,
+            self.opened,
+            full,
+            extent_of(&self.recording),
+        );
+        if place(&mut self.recording, marked.recording, n, &self.ring).is_err() {
+            return Err(TriggerFault::Memory);
+        }
+        self.opened = marked.opened;
+        refused_when_full(marked.hit)
+    }
+}

@@ -1,0 +1,166 @@
+//! What is done to ring, open record and shelf.
+
+ghost use Rattle.std.specs.Prelude.{◌≡◌, ◌≤◌, ◌<◌, ◌-◌, ◌^◌, ◌++◌, None, IfOk, IfSome, IfNone, IsOk, OnOk, OnErr, IsSome, option_to_list};
+ghost use Rattle.std.specs.VecDeque.{deque_len, deque_capacity};
+ghost use Rattle.dfr_recorder.specs.Parts.{IsWhole};
+ghost use Rattle.dfr_recorder.specs.Kept.{latest, scans_in};
+ghost use Rattle.dfr_recorder.specs.Ring.{extent_of, placed_if, longer_if, unless_last, if_last, ends_at};
+
+use crate::record::Recording;
+use crate::{Extent, Record};
+use circular_buffer::HeapCircularBuffer;
+use dfr_channels::{Memory, Scan};
+use std::alloc::Allocator;
+use std::collections::VecDeque;
+
+pub(crate) fn extent_of<A: Allocator>(recording: &Option<Recording<A>>) -> Option<Extent>
+    ensures { result ≡ extent_of recording.now }
+{
+    match recording {
+        Some(recording) => Some(recording.extent()),
+        None => None,
+    }
+}
+
+/// Copies of the ring's scans from place `first` on, where place `n` is the next.
+pub(crate) fn copies_from<A: Allocator + Copy>(
+    ring: &HeapCircularBuffer<Scan<A>, A>,
+    first: u64,
+    n: u64,
+) -> Result<Vec<Scan<A>, A>, Memory>
+    requires { first ≤ n }
+    ensures { IfOk result (λ copies. copies.items ≡ latest (n - first) ring.now.items) }
+{
+    let skip = ring.len().saturating_sub((n - first) as usize);
+    let mut copies = Vec::new(*ring.allocator());
+    for i in skip..ring.len() {
+        let Some(scan) = ring.get(i) else {
+            unreachable!()
+        };
+        let copy = scan.try_clone()?;
+        if copies.push(copy).is_err() {
+            return Err(Memory);
+        }
+    }
+    Ok(copies)
+}
+
+/// Gives the open record its extent, or opens one. Only an opening takes memory.
+pub(crate) fn place<A: Allocator + Copy>(
+    recording: &mut Option<Recording<A>>,
+    extent: Option<Extent>,
+    n: u64,
+    ring: &HeapCircularBuffer<Scan<A>, A>,
+) -> Result<(), Memory>
+    requires begun { IfSome extent (λ e. e.first ≤ n) }
+    requires none { IfNone extent (recording.old ≡ None) }
+    ensures ok { OnOk result (recording.new ≡ placed_if extent n ring.now.items recording.old) }
+    ensures err { OnErr result (recording.new ≡ recording.old) }
+    ensures free { OnErr result ((recording.old ≡ None) × IsSome extent) }
+{
+    let Some(extent) = extent else {
+        return Ok(());
+    };
+    match recording {
+        Some(record) => {
+            record.move_to(extent);
+            Ok(())
+        }
+        None => {
+            let scans = copies_from(ring, extent.first, n)?;
+            *recording = Some(Recording::new(extent, scans));
+            Ok(())
+        }
+    }
+}
+
+/// The same, and adds a copy of the scan at place `n`. Without a record it takes no memory.
+pub(crate) fn grow<A: Allocator + Copy>(
+    recording: &mut Option<Recording<A>>,
+    extent: Option<Extent>,
+    n: u64,
+    ring: &HeapCircularBuffer<Scan<A>, A>,
+    scan: &Scan<A>,
+) -> Result<(), Memory>
+    requires begun { IfSome extent (λ e. e.first ≤ n) }
+    requires none { IfNone extent (recording.old ≡ None) }
+    ensures ok { OnOk result (recording.new ≡ longer_if scan.now (placed_if extent n ring.now.items recording.old)) }
+    ensures err { OnErr result (recording.new ≡ recording.old) }
+    ensures free { extent ≡ None → IsOk result }
+{
+    let Some(extent) = extent else {
+        return Ok(());
+    };
+    let copy = scan.try_clone()?;
+    match recording {
+        Some(record) => {
+            record.push(copy)?;
+            record.move_to(extent);
+            Ok(())
+        }
+        None => {
+            let mut scans = copies_from(ring, extent.first, n)?;
+            if scans.push(copy).is_err() {
+                return Err(Memory);
+            }
+            *recording = Some(Recording::new(extent, scans));
+            Ok(())
+        }
+    }
+}
+
+/// Whether the open record's last scan is at place `n`.
+fn ends_at<A: Allocator>(recording: &Option<Recording<A>>, n: u64) -> bool
+    ensures { result ≡ ends_at n recording.now }
+{
+    match recording {
+        Some(record) => record.extent().last == n,
+        None => false,
+    }
+}
+
+/// Moves the open record to the shelf where place `n` is its last.
+pub(crate) fn shelve<A: Allocator>(
+    recording: &mut Option<Recording<A>>,
+    n: u64,
+    shelf: &mut VecDeque<Record<A>, A>,
+)
+    requires whole { IfSome recording.old (λ r. r.extent.last ≡ n → IsWhole r) }
+    requires room { IfSome recording.old (λ r. deque_len shelf.old < deque_capacity shelf.old) }
+    ensures going_on { recording.new ≡ unless_last n recording.old }
+    ensures shelf { shelf.new.items ≡ shelf.old.items ++ if_last n recording.old }
+    ensures room { deque_capacity shelf.new ≡ deque_capacity shelf.old }
+{
+    if !ends_at(recording, n) {
+        return;
+    }
+    match recording.take() {
+        Some(record) => shelf.push_back_reserved(record.close()),
+        None => {}
+    }
+}
+
+/// How many scans the open record has, where there is one.
+pub(crate) fn scans_so_far<A: Allocator>(recording: &Option<Recording<A>>) -> u64
+    ensures { result ≡ scans_in (option_to_list recording.now) }
+{
+    match recording {
+        Some(recording) => recording.len() as u64,
+        None => 0,
+    }
+}
+
+/// How many scans the records of the shelf have.
+pub(crate) fn scans_in<A: Allocator>(shelf: &VecDeque<Record<A>, A>) -> u64
+    requires { scans_in shelf.now.items < 2 ^ 62 }
+    ensures { result ≡ scans_in shelf.now.items }
+{
+    let mut all: u64 = 0;
+    for i in 0..shelf.len() {
+        let Some(record) = shelf.get(i) else {
+            unreachable!()
+        };
+        all += record.scans().len() as u64;
+    }
+    all
+}

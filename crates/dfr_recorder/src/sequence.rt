@@ -1,0 +1,98 @@
+//! A list of steps, made in order.
+
+ghost use Rattle.std.specs.Prelude.{◌≡◌, ◌++◌, [], None, false, IfOk, IfErr, length, map, take, option_to_list};
+ghost use Rattle.std.specs.List.{All};
+ghost use Rattle.dfr_recorder.specs.Steps.{step_of};
+ghost use Rattle.dfr_recorder.specs.Answers.{answer_of, is_memory};
+ghost use Rattle.dfr_recorder.specs.Kept.{IsStep};
+ghost use Rattle.dfr_recorder.specs.Run.{IsRun};
+
+use crate::{Answer, Recorder, ScanRefusal, Step, TriggerFault};
+use std::alloc::{Allocator, Global};
+use std::collections::VecDeque;
+
+/// What a run left: the recorder, an answer to each step that was made, the step at which want of memory stopped it, which
+/// wasn't made, and the steps after that one.
+#[derive(Drop)]
+pub struct Ran<A: Allocator = Global> {
+    pub recorder: Recorder<A>,
+    pub answers: Vec<Answer<A>, A>,
+    pub stopped: Option<Step<A>>,
+    pub rest: VecDeque<Step<A>, A>,
+}
+
+/// Makes one step, or hands it back for want of memory.
+fn make<A: Allocator + Copy>(
+    recorder: &mut Recorder<A>,
+    step: Step<A>,
+) -> Result<Answer<A>, Step<A>>
+    ensures ok { IfOk result (λ answer. IsStep recorder.old (step_of step) (answer_of answer) recorder.new) }
+    ensures told { IfOk result (λ answer. is_memory (answer_of answer) ≡ false) }
+    ensures err { IfErr result (λ back. (back ≡ step) × (recorder.new ≡ recorder.old)) }
+{
+    match step {
+        Step::Scan(scan) => match recorder.scan(scan) {
+            Ok(scanned) => Ok(Answer::Scan(Ok(scanned))),
+            Err((ScanRefusal::Memory, scan)) => Err(Step::Scan(scan)),
+            Err((ScanRefusal::Shape, _)) => Ok(Answer::Scan(Err(ScanRefusal::Shape))),
+            Err((ScanRefusal::Range(i), _)) => Ok(Answer::Scan(Err(ScanRefusal::Range(i)))),
+            Err((ScanRefusal::ClockEnd, _)) => Ok(Answer::Scan(Err(ScanRefusal::ClockEnd))),
+        },
+        Step::Trigger => match recorder.trigger() {
+            Ok(hit) => Ok(Answer::Trigger(Ok(hit))),
+            Err(TriggerFault::Memory) => Err(Step::Trigger),
+            Err(TriggerFault::NoScan) => Ok(Answer::Trigger(Err(TriggerFault::NoScan))),
+            Err(TriggerFault::ShelfFull) => Ok(Answer::Trigger(Err(TriggerFault::ShelfFull))),
+        },
+        Step::Take => Ok(Answer::Take(recorder.take())),
+        Step::SetRules(rules) => {
+            if recorder.set_rules(rules).is_err() {
+                return Ok(Answer::SetRules(false));
+            }
+            Ok(Answer::SetRules(true))
+        }
+    }
+}
+
+/// Makes the steps in order, each after room was made for its answer. Where a growth is refused it stops before that step.
+pub fn run<A: Allocator + Copy>(
+    alloc: A,
+    recorder: Recorder<A>,
+    steps: VecDeque<Step<A>, A>,
+) -> Ran<A>
+    ensures list { take (length result.answers.items) steps.items ++ option_to_list result.stopped ++ result.rest.items ≡ steps.items }
+    ensures run { IsRun recorder (map step_of (take (length result.answers.items) steps.items)) (map answer_of result.answers.items) result.recorder }
+    ensures told { All (λ answer. is_memory (answer_of answer) ≡ false) result.answers.items }
+    ensures whole { result.stopped ≡ None → result.rest.items ≡ [] }
+{
+    let mut recorder = recorder;
+    let mut rest = steps;
+    let mut answers = Vec::new(alloc);
+    while let Some(step) = rest.pop_front() {
+        if answers.reserve(1).is_err() {
+            return Ran {
+                recorder,
+                answers,
+                stopped: Some(step),
+                rest,
+            };
+        }
+        match make(&mut recorder, step) {
+            Ok(answer) => answers.push_reserved(answer),
+            Err(step) => {
+                return Ran {
+                    recorder,
+                    answers,
+                    stopped: Some(step),
+                    rest,
+                };
+            }
+        }
+    }
+    Ran {
+        recorder,
+        answers,
+        stopped: None,
+        rest,
+    }
+}
