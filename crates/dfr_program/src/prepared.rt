@@ -1,0 +1,73 @@
+//! A recorder that is made of a script, and its commands.
+
+use dfr_channels::{Layout, RuleFault, Rules, SetupFault};
+use dfr_recorder::{LimitFault, Limits, Recorder};
+use dfr_script::{Command, LimitNumbers, Script, ScriptFault, ScriptRefusal, script_of};
+use std::alloc::Allocator;
+
+/// What is wrong with a script or its set-up, in the order of the tests.
+#[derive(Clone, Copy, Debug, PartialEq, Eq)]
+pub(crate) enum Fault {
+    Script(ScriptFault),
+    Setup(SetupFault),
+    Limits(LimitFault),
+    Rules(RuleFault),
+}
+
+/// Why nothing could be made.
+#[derive(Clone, Copy, Debug, PartialEq, Eq)]
+pub(crate) enum Refusal {
+    Fault(Fault),
+    Memory,
+}
+
+#[derive(Drop)]
+pub(crate) struct Prepared<A: Allocator> {
+    pub(crate) recorder: Recorder<A>,
+    pub(crate) commands: Vec<Command<A>, A>,
+}
+
+/// The limits of these numbers.
+fn limits_of<A: Allocator>(layout: &Layout<A>, numbers: LimitNumbers) -> Result<Limits, LimitFault> {
+    Limits::new(
+        layout,
+        numbers.pre,
+        numbers.post,
+        numbers.longest,
+        numbers.shelf,
+    )
+}
+
+/// Reads the script, and makes its set-up.
+pub(crate) fn prepared_of<A: Allocator + Copy>(
+    alloc: A,
+    text: &[u8],
+) -> Result<Prepared<A>, Refusal> {
+    let script = match script_of(alloc, text) {
+        Ok(script) => script,
+        Err(ScriptRefusal::Fault(fault)) => return Err(Refusal::Fault(Fault::Script(fault))),
+        Err(ScriptRefusal::Memory) => return Err(Refusal::Memory),
+    };
+    let Script {
+        setup,
+        limits,
+        rules,
+        commands,
+    } = script;
+    let layout = match Layout::new(setup) {
+        Ok(layout) => layout,
+        Err((fault, _)) => return Err(Refusal::Fault(Fault::Setup(fault))),
+    };
+    let limits = match limits_of(&layout, limits) {
+        Ok(limits) => limits,
+        Err(fault) => return Err(Refusal::Fault(Fault::Limits(fault))),
+    };
+    let rules = match Rules::new(&layout, rules) {
+        Ok(rules) => rules,
+        Err((fault, _)) => return Err(Refusal::Fault(Fault::Rules(fault))),
+    };
+    match Recorder::new(alloc, layout, limits, rules) {
+        Ok(recorder) => Ok(Prepared { recorder, commands }),
+        Err(_) => Err(Refusal::Memory),
+    }
+}
