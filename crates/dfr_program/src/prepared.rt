@@ -1,5 +1,12 @@
 //! A recorder that is made of a script, and its commands.
 
+ghost use Rattle.std.specs.Prelude.{◌≡◌, IfOk, IfErr, IsTrue, MatchResult, Some, None, map};
+ghost use Rattle.dfr_channels.specs.Lines.{lines};
+ghost use Rattle.dfr_recorder.specs.Limits.{has_stamps, limit_fault};
+ghost use Rattle.dfr_script.specs.Commands.{parts_of};
+ghost use Rattle.dfr_script.specs.Scripts.{script_value};
+ghost use Rattle.dfr_program.specs.Faults as spec;
+
 use dfr_channels::{Layout, RuleFault, Rules, SetupFault};
 use dfr_recorder::{LimitFault, Limits, Recorder};
 use dfr_script::{Command, LimitNumbers, Script, ScriptFault, ScriptRefusal, script_of};
@@ -28,7 +35,12 @@ pub(crate) struct Prepared<A: Allocator> {
 }
 
 /// The limits of these numbers.
-fn limits_of<A: Allocator>(layout: &Layout<A>, numbers: LimitNumbers) -> Result<Limits, LimitFault> {
+#[tactic(auto, using(crate::proofs::Stamps::stamps))]
+fn limits_of<A: Allocator>(layout: &Layout<A>, numbers: LimitNumbers) -> Result<Limits, LimitFault>
+    ensures lawful { IfOk result (λ _. spec.number_fault layout.now.rate numbers ≡ None) }
+    ensures stamps { IfOk result (λ limits. IsTrue (has_stamps layout.now.rate limits.longest)) }
+    ensures fault { IfErr result (λ fault. spec.number_fault layout.now.rate numbers ≡ Some fault) }
+{
     Limits::new(
         layout,
         numbers.pre,
@@ -39,10 +51,15 @@ fn limits_of<A: Allocator>(layout: &Layout<A>, numbers: LimitNumbers) -> Result<
 }
 
 /// Reads the script, and makes its set-up.
+#[tactic(auto, unfolding(crate::specs::Faults::fault))]
 pub(crate) fn prepared_of<A: Allocator + Copy>(
     alloc: A,
     text: &[u8],
-) -> Result<Prepared<A>, Refusal> {
+) -> Result<Prepared<A>, Refusal>
+    ensures { MatchResult result
+        (λ prepared. (spec.fault text.now ≡ None) × (map parts_of prepared.commands.items ≡ (script_value (lines text.now)).commands))
+        (spec.Refuses (spec.fault text.now)) }
+{
     let script = match script_of(alloc, text) {
         Ok(script) => script,
         Err(ScriptRefusal::Fault(fault)) => return Err(Refusal::Fault(Fault::Script(fault))),
