@@ -8,7 +8,7 @@ use Rattle.dfr_recorder.specs.Limits.{limit_fault}
 use Rattle.dfr_recorder.specs.declared.limits.LimitFault.{LimitFault}
 use Rattle.dfr_script.specs.declared.limit_line.LimitNumbers.{LimitNumbers}
 use Rattle.dfr_script.specs.Parts.{ScriptParts}
-use Rattle.dfr_script.specs.Scripts.{script_fault, script_value}
+use Rattle.dfr_script.specs.Scripts as scripts
 use Rattle.dfr_program.specs.declared.prepared.Fault.{Fault}
 use Rattle.dfr_program.specs.declared.prepared.Fault.TheVariants.{Script, Setup, Limits, Rules}
 use Rattle.dfr_program.specs.declared.prepared.Refusal.{Refusal}
@@ -25,8 +25,8 @@ set_up_fault s =
     or option_map Rules (rules_fault s.setup s.rules))
 
 -- of a script's lines, and then of its set-up
-unfoldable pub fault : List ℕ → Option Fault
-fault text = option_map Script (script_fault (lines text)) or set_up_fault (script_value (lines text))
+unfoldable pub script_fault : List ℕ → Option Fault
+script_fault text = option_map Script (scripts.script_fault (lines text)) or set_up_fault (scripts.script_value (lines text))
 
 -- want of memory, or this fault
 abbrev pub Refuses : Option Fault → Refusal → Type 0

@@ -51,14 +51,14 @@ fn limits_of<A: Allocator>(layout: &Layout<A>, numbers: LimitNumbers) -> Result<
 }
 
 /// Reads the script, and makes its set-up.
-#[tactic(auto, unfolding(crate::specs::Faults::fault))]
+#[tactic(auto, unfolding(crate::specs::Faults::script_fault))]
 pub(crate) fn prepared_of<A: Allocator + Copy>(
     alloc: A,
     text: &[u8],
 ) -> Result<Prepared<A>, Refusal>
     ensures { MatchResult result
-        (λ prepared. (spec.fault text.now ≡ None) × (map parts_of prepared.commands.items ≡ (script_value (lines text.now)).commands))
-        (spec.Refuses (spec.fault text.now)) }
+        (λ prepared. (spec.script_fault text.now ≡ None) × (map parts_of prepared.commands.items ≡ (script_value (lines text.now)).commands))
+        (spec.Refuses (spec.script_fault text.now)) }
 {
     let script = match script_of(alloc, text) {
         Ok(script) => script,
