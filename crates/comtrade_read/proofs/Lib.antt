@@ -5,3 +5,12 @@ pub mod Chain
 pub mod HeadRead
 pub mod RowLine
 pub mod Outcomes
+pub mod Joining
+pub mod Each
+pub mod Spelled
+pub mod HeadSpelled
+pub mod NoReturn
+pub mod TextSpelled
+pub mod BinaryNumbers
+pub mod RowBytes
+pub mod OneFile

@@ -17,5 +17,5 @@ mod settings;
 pub use data::read_dat;
 pub use fault::ReadFault;
 pub use head::read_cfg;
-pub use laws::first_fault;
+pub use laws::one_file;
 pub use pair::{Part, read};

@@ -1,7 +1,7 @@
 //! The recorder.
 
 use crate::marks::{closed_number, closing, mark, mark_if, refused_when_full};
-use crate::record::Recording;
+use crate::recording::Recording;
 use crate::refusals::refusal;
 use crate::ring::{extent_of, grow, place, scans_in, scans_so_far, shelve};
 use crate::{Cause, Hit, Limits, Record, ScanRefusal, Scanned, TriggerFault};

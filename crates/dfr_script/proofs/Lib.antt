@@ -1,0 +1,3 @@
+pub mod Cuts
+pub mod CutFields
+pub mod FirstFault
