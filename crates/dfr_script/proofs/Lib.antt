@@ -1,3 +1,4 @@
 pub mod Cuts
 pub mod CutFields
 pub mod FirstFault
+pub mod PlainBits
