@@ -55,7 +55,12 @@ fn data_fault<A: Allocator>(m: Bounds, file: &File<A>) -> Option<WriteFault>
         return Some(WriteFault::Shape);
     }
     let head = head_of(file);
-    rows_fault(m, analog_of(head).len(), status_of(head).len(), rows_of(file))
+    rows_fault(
+        m,
+        analog_of(head).len(),
+        status_of(head).len(),
+        rows_of(file),
+    )
 }
 
 fn ascii_text<A: Allocator + Copy>(alloc: A, rows: &[Row<A>]) -> Result<Vec<u8, A>, AllocError>
@@ -67,7 +72,7 @@ fn ascii_text<A: Allocator + Copy>(alloc: A, rows: &[Row<A>]) -> Result<Vec<u8, 
     Ok(out)
 }
 
-/// The data file in ASCII form (C37.111-1999, 6.1), whatever kind the head names.
+/// The data file in ASCII form (C37.111-1999, clause 6), whatever kind the head names.
 pub fn ascii_bytes<A: Allocator + Copy>(alloc: A, file: &File<A>) -> Result<Vec<u8, A>, WriteFault>
     ensures { Answers (λ v. v.items) result (data_refusal refusals.ascii_bounds file.now) (ascii file.now.rows) }
 {
@@ -83,11 +88,16 @@ fn binary_text<A: Allocator + Copy>(alloc: A, file: &File<A>) -> Result<Vec<u8, 
 {
     let mut out = Vec::new(alloc);
     let head = head_of(file);
-    rows_binary::put_rows(&mut out, analog_of(head).len(), status_of(head).len(), rows_of(file))?;
+    rows_binary::put_rows(
+        &mut out,
+        analog_of(head).len(),
+        status_of(head).len(),
+        rows_of(file),
+    )?;
     Ok(out)
 }
 
-/// The data file in BINARY form (C37.111-1999, 6.2), whatever kind the head names.
+/// The data file in BINARY form (C37.111-1999, clause 6), whatever kind the head names.
 pub fn binary_bytes<A: Allocator + Copy>(alloc: A, file: &File<A>) -> Result<Vec<u8, A>, WriteFault>
     ensures { Answers (λ v. v.items) result (data_refusal refusals.binary_bounds file.now) (binary file.now.rows) }
 {

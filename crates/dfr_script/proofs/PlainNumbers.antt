@@ -125,7 +125,7 @@ begins_digits text n behind d few =
     record {
       field = d.digits;
       cut = rw d.cut (cut_solid d.digits behind (digits_solid d.digits d.all));
-      says = rw d.value (reads_digits d.digits d.some d.all small)
+      says = rw d.value (reads_digits d.digits d.some d.all small);
     }
 
 pub begins_minus : (text rest : List ℕ) (n : ℕ) (behind : Option (List ℕ)) → text ≡ 45 ∷ rest → DigitsFirst rest n behind → n < 10 ^ 9 → Begins text (neg_ℤ (pos n)) behind
@@ -135,7 +135,7 @@ begins_minus text rest n behind is d few =
     record {
       field = 45 ∷ d.digits;
       cut = rw (is, d.cut) (cut_solid (45 ∷ d.digits) behind solid);
-      says = rw d.value (reads_minus d.digits d.some d.all small)
+      says = rw d.value (reads_minus d.digits d.some d.all small);
     }
 
 -- ---- a digit more

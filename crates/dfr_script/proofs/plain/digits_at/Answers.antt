@@ -31,5 +31,5 @@ loop-count-preserved c =
       within = omega arith;
       digits = rw more (digits_more (take i text) d c.loop-count.invariant.digits digit);
       value = rw (more, value_more (take i text) d 0, ← c.loop-count.invariant.value, (digit_is d digit).0) refl;
-      small = r.1
+      small = r.1;
     }
