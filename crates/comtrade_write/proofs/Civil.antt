@@ -15,12 +15,13 @@ unfolding last_that
 last_that-is test zero n h holds fails = omega arith
 last_that-is test (suc top) n h holds fails =
     elim (cases_lt n (suc top)) [
-      inl lt ↦ (let out = fails (suc top) lt (omega arith) in
-        let ih = last_that-is test top n (omega arith) holds (λ k a b. fails k a (omega arith)) in
-        rw out ih)
-    | inr le ↦ (let e : suc top ≡ n = omega arith in
-        let at_top : test (suc top) ≡ true = rw e holds in
-        rw at_top e) ]
+      | inl lt ↦ (let out = fails (suc top) lt (omega arith) in
+          let ih = last_that-is test top n (omega arith) holds (λ k a b. fails k a (omega arith)) in
+          rw out ih)
+      | inr le ↦ (let e : suc top ≡ n = omega arith in
+          let at_top : test (suc top) ≡ true = rw e holds in
+          rw at_top e)
+    ]
 
 int_le-true : (a b : ℤ) → a ≤ℤ b → int_le a b ≡ true
 int_le-true a b h = grind (arith, ints)

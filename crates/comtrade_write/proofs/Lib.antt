@@ -7,3 +7,4 @@ pub mod Bits
 pub mod Refusals
 pub mod Appending
 pub mod Own
+pub mod Groups

@@ -259,5 +259,5 @@ own_writable l r kind p w own =
     record {
       cfg = rw (shaped, texts) refl;
       ascii = rw (shaped, ascii_values, stamps ascii_bounds (omega arith) (omega arith)) refl;
-      binary = rw (shaped, binary_values, stamps binary_bounds (omega arith) (omega arith)) refl
+      binary = rw (shaped, binary_values, stamps binary_bounds (omega arith) (omega arith)) refl;
     }

@@ -69,7 +69,12 @@ pub fn head(alloc: Global, analogs: u32, statuses: u32, rows: u64) -> Result<Hea
     })
 }
 
-pub fn row(alloc: Global, number: u64, stamp: Option<u64>, reading: Reading) -> Result<Row, AllocError> {
+pub fn row(
+    alloc: Global,
+    number: u64,
+    stamp: Option<u64>,
+    reading: Reading,
+) -> Result<Row, AllocError> {
     Ok(Row {
         number,
         stamp,
@@ -98,7 +103,8 @@ fn both_files(rt: HostRuntime) -> Result<(), Fail> {
     let file = file(alloc, 1000, 12)?;
     let cfg = cfg_bytes(alloc, &file)?;
     assert_eq!(rt; cfg.len(), 142);
-    let wanted = b"Bay 1,DFR,1999\r\n1,1A,0D\r\n1,IA,A,,A,1,0,0,-32767,32767,1,1,P\r\n50\r\n1\r\n1000,5\r\n01/01/1970,00:00:00.001000\r\n01/01/1970,00:00:00.003000\r\nASCII\r\n1\r\n";
+    let wanted =
+        b"Bay 1,DFR,1999\r\n1,1A,0D\r\n1,IA,A,,A,1,0,0,-32767,32767,1,1,P\r\n50\r\n1\r\n1000,5\r\n01/01/1970,00:00:00.001000\r\n01/01/1970,00:00:00.003000\r\nASCII\r\n1\r\n";
     assert_eq!(rt; cfg.as_slice(), wanted.as_slice());
     let ascii = ascii_bytes(alloc, &file)?;
     let wanted = b"1,0,11\r\n2,1000,12\r\n3,2000,13\r\n4,3000,14\r\n5,4000,15\r\n\x1A";
@@ -151,7 +157,8 @@ fn further_lines(rt: HostRuntime) -> Result<(), Fail> {
         head,
         rows: Items::of(rows),
     };
-    let wanted = b"Bay 1,DFR,1999\r\n2,1A,1D\r\n1,IA,A,,A,0.0015,-0.5,0.0,-32767,32767,1.50,1,S\r\n1,TRIP,,,1\r\n50\r\n1\r\n1000,1\r\n29/02/2000,00:00:00.000000\r\n31/12/9999,23:59:58.999999\r\nASCII\r\n1\r\n";
+    let wanted =
+        b"Bay 1,DFR,1999\r\n2,1A,1D\r\n1,IA,A,,A,0.0015,-0.5,0.0,-32767,32767,1.50,1,S\r\n1,TRIP,,,1\r\n50\r\n1\r\n1000,1\r\n29/02/2000,00:00:00.000000\r\n31/12/9999,23:59:58.999999\r\nASCII\r\n1\r\n";
     assert_eq!(rt; cfg_bytes(alloc, &file)?.as_slice(), wanted.as_slice());
     Ok(())
 }

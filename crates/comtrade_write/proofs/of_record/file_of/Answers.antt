@@ -10,7 +10,7 @@ head-requires g c =
     let w = c.extent-whole.ensures.whole in
     record {
       first = earlier_instant c.args.layout.now c.args.taken.now.extent.first c.args.taken.now.extent.last (omega (arith, w.begun, w.ended)) o.last;
-      trigger = earlier_instant c.args.layout.now c.args.taken.now.extent.trigger c.args.taken.now.extent.last w.ended o.last
+      trigger = earlier_instant c.args.layout.now c.args.taken.now.extent.trigger c.args.taken.now.extent.last w.ended o.last;
     }
 
 pub rows-requires-clause-few : goal.rows-requires-clause-few
