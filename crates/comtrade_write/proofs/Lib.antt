@@ -8,3 +8,4 @@ pub mod Refusals
 pub mod Appending
 pub mod Own
 pub mod Groups
+pub mod Places

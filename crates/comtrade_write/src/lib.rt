@@ -18,6 +18,7 @@ mod rows_ascii;
 mod rows_binary;
 mod shape;
 mod texts;
+mod value_text;
 
 pub use bytes::{ascii_bytes, binary_bytes, cfg_bytes, dat_bytes};
 pub use fault::WriteFault;
