@@ -33,7 +33,7 @@ large k n low high =
 pub padded_more : (k n : ℕ) → n < 2 ^ 64 → padded (suc (suc k)) n ≡ padded (suc k) (n / 10) ++ (48 + n % 10) ∷ []
 padded_more k n h = elim (cases_lt n 10) [ inl lt ↦ small k n lt | inr le ↦ large k n le h ]
 
-padded_one : (n : ℕ) → n < 10 → padded 1 n ≡ (48 + n) ∷ []
+pub padded_one : (n : ℕ) → n < 10 → padded 1 n ≡ (48 + n) ∷ []
 unfolding padded filled
 padded_one n h = rw (decimal_digit n h) refl
 

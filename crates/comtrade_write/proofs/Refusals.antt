@@ -59,6 +59,9 @@ pub cfg_shaped : (f : FileParts) → cfg_refusal f ≡ None → is_shaped f ≡ 
 unfolding cfg_refusal
 cfg_shaped f e = unless_none _ _ (or-none _ _ e).0
 
+pub row_parts : (k n : ℕ) (r : RowParts) → row_shaped k n r ≡ true → (length r.values ≡ k) × (length r.bits ≡ n)
+row_parts k n r e = (grind (arith, nat_tests), grind (arith, nat_tests))
+
 pub bits_few : (k n : ℕ) (r : RowParts) → row_shaped k n r ≡ true → n < 1_000_000 → length r.bits < 1_000_000
 bits_few k n r e h = grind (arith, nat_tests)
 

@@ -63,11 +63,18 @@ fn data_fault<A: Allocator>(m: Bounds, file: &File<A>) -> Option<WriteFault>
     )
 }
 
-fn ascii_text<A: Allocator + Copy>(alloc: A, rows: &[Row<A>]) -> Result<Vec<u8, A>, AllocError>
-    ensures { IfOk result (λ v. v.items ≡ ascii rows.now) }
+fn ascii_text<A: Allocator + Copy>(alloc: A, file: &File<A>) -> Result<Vec<u8, A>, AllocError>
+    requires { data_refusal refusals.ascii_bounds file.now ≡ None }
+    ensures { IfOk result (λ v. v.items ≡ ascii file.now.rows) }
 {
     let mut out = Vec::new(alloc);
-    rows_ascii::put_rows(&mut out, rows)?;
+    let head = head_of(file);
+    rows_ascii::put_rows(
+        &mut out,
+        analog_of(head).len(),
+        status_of(head).len(),
+        rows_of(file),
+    )?;
     out.extend_from_slice(b"\x1A")?;
     Ok(out)
 }
@@ -79,7 +86,7 @@ pub fn ascii_bytes<A: Allocator + Copy>(alloc: A, file: &File<A>) -> Result<Vec<
     if let Some(fault) = data_fault(ascii_bounds(), file) {
         return Err(fault);
     }
-    Ok(ascii_text(alloc, rows_of(file))?)
+    Ok(ascii_text(alloc, file)?)
 }
 
 fn binary_text<A: Allocator + Copy>(alloc: A, file: &File<A>) -> Result<Vec<u8, A>, AllocError>

@@ -19,6 +19,7 @@ mod rows_binary;
 mod shape;
 mod taken;
 mod texts;
+mod value_text;
 
 pub use bytes::{ascii_bytes, binary_bytes, cfg_bytes, dat_bytes};
 pub use fault::WriteFault;
