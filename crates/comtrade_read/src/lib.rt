@@ -19,3 +19,6 @@ pub use fault::ReadFault;
 pub use head::read_cfg;
 pub use laws::one_file;
 pub use pair::{Part, read};
+
+#[cfg(test)]
+mod tests;
