@@ -6,11 +6,14 @@ use std::io;
 use std::io::{Error, ErrorKind, Read, Write};
 use std::test::Fail;
 
-const SCRIPT: &str = "station Bay 1\ndevice DFR\nanalog IA,A,,A,1,0,0,-32767,32767,1,1,P\nfreq 50\nrate 1000\nstart 0\nlimits 2,2,6,1\ngo\nscan 10/\nscan 11/\nscan 12/\nscan 13/\ntrigger\nscan 14/\nscan 15/\ntake\n";
+const SCRIPT: &str =
+    "station Bay 1\ndevice DFR\nanalog IA,A,,A,1,0,0,-32767,32767,1,1,P\nfreq 50\nrate 1000\nstart 0\nlimits 2,2,6,1\ngo\nscan 10/\nscan 11/\nscan 12/\nscan 13/\ntrigger\nscan 14/\nscan 15/\ntake\n";
 
-const ANSWERS: &str = "scan 0\nscan 1\nscan 2\nscan 3\ntrigger opened 1\nscan 4\nscan 5 closed 1\nrecord 1 1 3 5 manual\n";
+const ANSWERS: &str =
+    "scan 0\nscan 1\nscan 2\nscan 3\ntrigger opened 1\nscan 4\nscan 5 closed 1\nrecord 1 1 3 5 manual\n";
 
-const CFG: &str = "Bay 1,DFR,1999\r\n1,1A,0D\r\n1,IA,A,,A,1,0,0,-32767,32767,1,1,P\r\n50\r\n1\r\n1000,5\r\n01/01/1970,00:00:00.001000\r\n01/01/1970,00:00:00.003000\r\nASCII\r\n1\r\n";
+const CFG: &str =
+    "Bay 1,DFR,1999\r\n1,1A,0D\r\n1,IA,A,,A,1,0,0,-32767,32767,1,1,P\r\n50\r\n1\r\n1000,5\r\n01/01/1970,00:00:00.001000\r\n01/01/1970,00:00:00.003000\r\nASCII\r\n1\r\n";
 
 const DAT: &str = "1,0,11\r\n2,1000,12\r\n3,2000,13\r\n4,3000,14\r\n5,4000,15\r\n\x1a";
 
