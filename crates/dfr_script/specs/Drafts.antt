@@ -1,8 +1,7 @@
 -- What the lines of a set-up add to each other.
-use Rattle.std.specs.Prelude.{ℕ, ◌==◌, Bool, true, false, ◌&&◌, not, if◌then◌else◌, List, [], ◌∷◌, ◌++◌, length, Option, Some, None, is_some, unwrap_or, pos, fold}
+use Rattle.std.specs.Prelude.{ℕ, ◌==◌, Bool, false, ◌&&◌, if◌then◌else◌, List, [], ◌∷◌, ◌++◌, Option, Some, None, is_some, unwrap_or, pos, fold}
 use Rattle.std.specs.List.{list_any}
-use Rattle.dfr_channels.specs.Spelling.{decimal_number, Number}
-use Rattle.dfr_channels.specs.Parts.{SetupParts}
+use Rattle.dfr_channels.specs.Spelling.{decimal_number}
 use Rattle.dfr_script.specs.declared.fault.Word.{Word}
 use Rattle.dfr_script.specs.declared.fault.Word.TheVariants as fault
 use Rattle.dfr_script.specs.declared.limit_line.LimitNumbers.{LimitNumbers}
@@ -18,7 +17,15 @@ use Rattle.dfr_script.specs.Parts.{DraftParts, ScriptParts}
 
 abbrev pub empty : DraftParts
 empty = record {
-  station = None; device = None; analog = []; status = []; line_freq = None; rate = None; start = None; limits = None; rules = None
+  station = None;
+  device = None;
+  analog = [];
+  status = [];
+  line_freq = None;
+  rate = None;
+  start = None;
+  limits = None;
+  rules = None;
 }
 
 -- a setting that stands once came already
@@ -104,9 +111,9 @@ script_in d = record {
     status = d.status;
     line_freq = decimal_in d.line_freq;
     rate = number_in d.rate;
-    start = unwrap_or d.start (pos 0)
+    start = unwrap_or d.start (pos 0);
   };
   limits = unwrap_or d.limits no_limits;
   rules = unwrap_or d.rules [];
-  commands = []
+  commands = [];
 }

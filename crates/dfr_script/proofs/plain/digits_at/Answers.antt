@@ -1,5 +1,4 @@
-use Rattle.std.proofs.Common.{◌≡◌, ℕ, ◌+◌, ◌-◌, ◌*◌, ◌<◌, ◌≤◌, ◌^◌, List, get_or, take, sym, ap, ◌∙◌, arith, refl}
-use Rattle.std.specs.Str.Parse.{digits_value}
+use Rattle.std.proofs.Common.{ℕ, ◌-◌, ◌<◌, List, get_or, take, sym, ◌∙◌, arith, refl}
 use Rattle.std.proofs.lemmas.List.{take_more}
 use Rattle.dfr_script.proofs.PlainNumbers.{digits_more, value_more, digit_is, room}
 use Rattle.dfr_script.proofs.plain.digits_at.Goals as goal
@@ -31,5 +30,5 @@ loop-count-preserved c =
       within = omega arith;
       digits = rw more (digits_more (take i text) d c.loop-count.invariant.digits digit);
       value = rw (more, value_more (take i text) d 0, ← c.loop-count.invariant.value, (digit_is d digit).0) refl;
-      small = r.1
+      small = r.1;
     }

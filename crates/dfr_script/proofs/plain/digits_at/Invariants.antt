@@ -9,7 +9,7 @@ invariant-loop-count l = record {
   within : l.count ≤ length l.text;
   digits : all_ascii_digits (take l.count l.text) ≡ true;
   value : l.number ≡ digits_value 10 (take l.count l.text);
-  small : l.number < 10 ^ l.count
+  small : l.number < 10 ^ l.count;
 }
 
 abbrev pub decreases-loop-count : goal.decreases-loop-count
