@@ -1,5 +1,5 @@
 -- What limits without a fault have.
-use Rattle.std.proofs.Common.{◌≡◌, ℕ, Bool, true, false, Option, Some, None, refl}
+use Rattle.std.proofs.Common.{◌≡◌, ℕ, Bool, true, false, None, refl}
 use Rattle.std.specs.Prelude.{◌+◌, ◌&&◌, nat_le}
 use Rattle.dfr_channels.specs.Faults.{◌or◌, fault_unless}
 use Rattle.dfr_recorder.specs.declared.limits.LimitFault.TheVariants.{Pre, Post, Longest, Shelf, Stamp}

@@ -1,5 +1,5 @@
 -- What is wrong with a script or with the set-up that it says.
-use Rattle.std.specs.Prelude.{◌≡◌, ℕ, List, Option, Some, None, option_map}
+use Rattle.std.specs.Prelude.{◌≡◌, ℕ, List, Option, Some, option_map}
 use Rattle.dfr_channels.specs.Faults.{◌or◌}
 use Rattle.dfr_channels.specs.Firing.{rules_fault}
 use Rattle.dfr_channels.specs.Lines.{lines}

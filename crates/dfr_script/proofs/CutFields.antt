@@ -1,12 +1,12 @@
 -- The fields of a text, cut off one by one, and the parts of a list, read one by one.
-use Rattle.std.proofs.Common.{◌≡◌, ℕ, ◌+◌, ◌<◌, ◌≤◌, Bool, true, false, cond, ltb, List, [], ◌∷◌, ◌++◌, length, map, take, drop, get_or, Option, Some, None, Bor, arith, refl, sym, ap, ◌∙◌, suc}
-use Rattle.std.specs.Prelude.{position, is_some}
-use Rattle.std.specs.List.{position_or_len, before_first, after_first, slice_split, list_all, filter_map}
+use Rattle.std.proofs.Common.{◌≡◌, ℕ, ◌+◌, ◌<◌, ◌≤◌, Bool, true, false, cond, ltb, List, [], ◌∷◌, ◌++◌, length, map, take, drop, get_or, Option, Some, None, Bor, arith, refl, ap, ◌∙◌, suc}
+use Rattle.std.specs.Prelude.{position}
+use Rattle.std.specs.List.{position_or_len, slice_split, list_all, filter_map}
 use borrow.Author.Tests.{ltb-false, ltb-true}
 use Rattle.std.proofs.lemmas.List.{get_or-map, take_more, length-map}
-use Rattle.std.proofs.lemmas.List.Folds.{list_all_at, list_all_more, list_all-append}
+use Rattle.std.proofs.lemmas.List.Folds.{list_all_at, list_all_more}
 use Rattle.std.proofs.lemmas.List.Elements.{filter_map-append}
-use Rattle.std.proofs.lemmas.List.Splits.{slice_split_first, slice_split-cons_no}
+use Rattle.std.proofs.lemmas.List.Splits.{slice_split_first}
 use Rattle.dfr_channels.specs.Spelling.{trimmed}
 use Rattle.dfr_channels.specs.Lines.{texts}
 use Rattle.dfr_script.proofs.Cuts.{before_some, after_some}

@@ -1,12 +1,11 @@
 -- The first fault of lines, as a loop finds it, and the draft of lines.
-use Rattle.std.proofs.Common.{◌≡◌, ℕ, zero, suc, ◌+◌, ◌-◌, ◌<◌, ◌≤◌, List, [], ◌∷◌, ◌++◌, length, map, take, get_or, Option, Some, None, Bor, refl, sym, ap, ◌∙◌, arith, inl, inr}
+use Rattle.std.proofs.Common.{◌≡◌, ℕ, zero, suc, ◌+◌, ◌-◌, ◌<◌, List, [], ◌∷◌, ◌++◌, length, take, Option, Some, None, Bor, refl, sym, ap, ◌∙◌, arith, inl, inr}
 use Rattle.std.specs.Prelude.{fold, option_to_list, position, not, Bool}
 use Rattle.std.specs.List.{filter_map, range_with_len, prefix_len}
 use Rattle.std.proofs.lemmas.Bool.{cases_lt}
 use Rattle.std.proofs.lemmas.List.{take_more, length-map, map-id}
 use Rattle.std.proofs.lemmas.List.Sums.{fold-append}
 use Rattle.dfr_channels.specs.Lines.{texts}
-use Rattle.dfr_channels.specs.Faults.{◌or◌}
 use Rattle.dfr_script.specs.declared.fault.Word.TheVariants as word
 use Rattle.dfr_script.specs.declared.fault.ScriptFault.{ScriptFault}
 use Rattle.dfr_script.specs.declared.fault.ScriptRefusal.{ScriptRefusal}

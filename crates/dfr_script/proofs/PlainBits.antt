@@ -1,6 +1,5 @@
 -- A text that begins with a plain bit and a comma.
-use Rattle.std.proofs.Common.{◌≡◌, ℕ, suc, ◌+◌, ◌<◌, ◌≤◌, Bool, true, false, List, [], ◌∷◌, length, get_or, drop, Option, Some, None, refl, arith}
-use Rattle.dfr_channels.specs.Spelling.{whole_number}
+use Rattle.std.proofs.Common.{◌≡◌, ℕ, ◌≤◌, true, false, List, [], ◌∷◌, length, get_or, drop, Some, refl, arith}
 use Rattle.dfr_script.specs.Fields.{bit}
 use Rattle.dfr_script.specs.ScanLines.{fields}
 

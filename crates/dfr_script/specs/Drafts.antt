@@ -1,8 +1,7 @@
 -- What the lines of a set-up add to each other.
-use Rattle.std.specs.Prelude.{ℕ, ◌==◌, Bool, true, false, ◌&&◌, not, if◌then◌else◌, List, [], ◌∷◌, ◌++◌, length, Option, Some, None, is_some, unwrap_or, pos, fold}
+use Rattle.std.specs.Prelude.{ℕ, ◌==◌, Bool, false, ◌&&◌, if◌then◌else◌, List, [], ◌∷◌, ◌++◌, Option, Some, None, is_some, unwrap_or, pos, fold}
 use Rattle.std.specs.List.{list_any}
-use Rattle.dfr_channels.specs.Spelling.{decimal_number, Number}
-use Rattle.dfr_channels.specs.Parts.{SetupParts}
+use Rattle.dfr_channels.specs.Spelling.{decimal_number}
 use Rattle.dfr_script.specs.declared.fault.Word.{Word}
 use Rattle.dfr_script.specs.declared.fault.Word.TheVariants as fault
 use Rattle.dfr_script.specs.declared.limit_line.LimitNumbers.{LimitNumbers}

@@ -1,5 +1,5 @@
 -- What each kind of field says, where it can be read.
-use Rattle.std.specs.Prelude.{ℕ, ◌+◌, ◌^◌, ◌-◌, Bool, true, false, ◌||◌, ◌&&◌, ◌==◌, nat_lt, nat_le, if◌then◌else◌, List, [], ◌∷◌, length, Option, Some, None, ℤ, pos, negsuc, int_le}
+use Rattle.std.specs.Prelude.{ℕ, Bool, true, false, ◌||◌, ◌&&◌, ◌==◌, nat_le, if◌then◌else◌, List, [], ◌∷◌, length, Option, Some, None, ℤ, pos, negsuc, int_le}
 use Rattle.dfr_channels.specs.Spelling.{whole_number, decimal_number, Number}
 use Rattle.dfr_channels.specs.declared.channel.Side.{Side}
 use Rattle.dfr_channels.specs.declared.channel.Side.TheVariants.{Primary, Secondary}

@@ -1,5 +1,5 @@
 -- What contracts see of a script, whatever its allocator is.
-use Rattle.std.specs.Prelude.{ℕ, ℤ, List, [], ◌∷◌, Option}
+use Rattle.std.specs.Prelude.{ℕ, ℤ, List, Option}
 use Rattle.dfr_channels.specs.Spelling.{Number}
 use Rattle.dfr_channels.specs.Parts.{AnalogParts, StatusParts, SetupParts, ScanParts}
 use Rattle.dfr_channels.specs.declared.rule.Rule.{Rule}

@@ -1,5 +1,5 @@
 -- The rules of a line.
-use Rattle.std.specs.Prelude.{ℕ, ◌==◌, Bool, true, false, ◌&&◌, not, nat_lt, if◌then◌else◌, List, [], length, map, filter, Option, Some, None, is_some, ℤ, codes, option_and_then, option_map}
+use Rattle.std.specs.Prelude.{ℕ, ◌==◌, Bool, true, false, ◌&&◌, not, if◌then◌else◌, List, [], length, filter, Option, Some, None, is_some, ℤ, codes}
 use Rattle.std.specs.List.{slice_split, list_all, filter_map}
 use Rattle.std.specs.Str.{bytes_eq}
 use Rattle.dfr_channels.specs.Lines.{field}

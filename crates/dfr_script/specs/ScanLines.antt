@@ -1,5 +1,5 @@
 -- The readings and bits of a scan's line.
-use Rattle.std.specs.Prelude.{ℕ, ◌==◌, Bool, ◌&&◌, not, if◌then◌else◌, List, [], length, map, Option, Some, None, is_some, position, codes, option_map}
+use Rattle.std.specs.Prelude.{ℕ, ◌==◌, Bool, ◌&&◌, not, if◌then◌else◌, List, [], length, Option, Some, None, is_some, position, codes, option_map}
 use Rattle.std.specs.List.{list_all, filter_map, before_first, after_first}
 use Rattle.std.specs.Str.{bytes_eq}
 use Rattle.dfr_channels.specs.Spelling.{trimmed}

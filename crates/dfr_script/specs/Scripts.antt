@@ -1,5 +1,5 @@
 -- A script as a whole: its first fault by lines, or what it says.
-use Rattle.std.specs.Prelude.{◌≡◌, ℕ, zero, suc, ◌+◌, ◌-◌, ◌==◌, Bool, not, if◌then◌else◌, List, [], length, take, slice_index_or, position, Option, Some, None, option_map, codes}
+use Rattle.std.specs.Prelude.{◌≡◌, ℕ, zero, suc, ◌+◌, ◌-◌, ◌==◌, Bool, if◌then◌else◌, List, [], length, take, slice_index_or, position, Option, Some, None, option_map, codes}
 use Rattle.std.specs.List.{range_with_len, filter_map}
 use Rattle.std.specs.Str.{bytes_eq}
 use Rattle.dfr_channels.specs.Faults.{◌or◌}

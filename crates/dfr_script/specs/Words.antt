@@ -1,5 +1,5 @@
 -- A line of a script: its word, and what stands behind it.
-use Rattle.std.specs.Prelude.{ℕ, ◌==◌, Bool, true, false, ◌||◌, List, [], ◌∷◌, length}
+use Rattle.std.specs.Prelude.{ℕ, ◌==◌, Bool, false, ◌||◌, List, [], ◌∷◌}
 use Rattle.std.specs.List.{before_first, after_first}
 use Rattle.dfr_channels.specs.Spelling as spelling
 use Rattle.dfr_channels.specs.Lines.{is_blank_line}

@@ -18,6 +18,3 @@ pub use command::Command;
 pub use fault::{ScriptFault, ScriptRefusal, Word};
 pub use limit_line::LimitNumbers;
 pub use script::{Script, script_of};
-
-#[cfg(test)]
-mod tests;

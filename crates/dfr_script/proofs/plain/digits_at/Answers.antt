@@ -1,5 +1,4 @@
-use Rattle.std.proofs.Common.{◌≡◌, ℕ, ◌+◌, ◌-◌, ◌*◌, ◌<◌, ◌≤◌, ◌^◌, List, get_or, take, sym, ap, ◌∙◌, arith, refl}
-use Rattle.std.specs.Str.Parse.{digits_value}
+use Rattle.std.proofs.Common.{ℕ, ◌-◌, ◌<◌, List, get_or, take, sym, ◌∙◌, arith, refl}
 use Rattle.std.proofs.lemmas.List.{take_more}
 use Rattle.dfr_script.proofs.PlainNumbers.{digits_more, value_more, digit_is, room}
 use Rattle.dfr_script.proofs.plain.digits_at.Goals as goal

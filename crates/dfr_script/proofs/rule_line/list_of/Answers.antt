@@ -1,5 +1,5 @@
-use Rattle.std.proofs.Common.{◌≡◌, ◌∙◌, ◌++◌, ◌∷◌, [], sym, ap, true, false, refl}
-use Rattle.std.specs.Prelude.{is_some, Some, None}
+use Rattle.std.proofs.Common.{◌∙◌, ◌++◌, ◌∷◌, [], sym, ap, refl}
+use Rattle.std.specs.Prelude.{is_some}
 use Rattle.std.proofs.lemmas.Result.{err_from_is_err_and}
 use Rattle.dfr_script.specs.RuleLines.{rule, words}
 use Rattle.dfr_script.proofs.CutFields.{part_fails, part_passes, part_gives}

@@ -1,4 +1,4 @@
-use Rattle.std.proofs.Common.{◌≡◌, ◌∙◌, sym, refl, []}
+use Rattle.std.proofs.Common.{◌∙◌, sym, refl, []}
 use Rattle.dfr_script.specs.RuleLines.{has_shape, words}
 use Rattle.dfr_script.proofs.CutFields.{part_fails, part_passes}
 use Rattle.dfr_script.proofs.rule_line.shapes_of.Goals as goal

@@ -1,5 +1,4 @@
-use Rattle.std.proofs.Common.{◌≡◌, ◌∙◌, ◌+◌, ◌-◌, ◌≤◌, sym, ap, length, drop, length-drop, arith, ℕ}
-use Rattle.std.specs.Prelude.{Some, None, ◌∷◌}
+use Rattle.std.proofs.Common.{◌∙◌, ◌+◌, ◌-◌, ◌≤◌, sym, length, drop, length-drop, arith}
 use Rattle.std.proofs.lemmas.List.{take_all}
 use Rattle.dfr_script.proofs.CutFields.{fields_some}
 use Rattle.dfr_script.proofs.scan_line.at_comma.Goals as goal

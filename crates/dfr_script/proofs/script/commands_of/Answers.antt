@@ -1,4 +1,4 @@
-use Rattle.std.proofs.Common.{◌≡◌, ◌∙◌, ◌+◌, ◌<◌, length, List, ℕ, None, refl, ap, arith, []}
+use Rattle.std.proofs.Common.{◌≡◌, ◌+◌, ◌<◌, length, List, ℕ, None, refl, ap, arith, []}
 use Rattle.dfr_channels.specs.Lines.{texts}
 use Rattle.dfr_script.specs.Commands as commands
 use Rattle.dfr_script.specs.Scripts.{command_fault, line, at_place}

@@ -1,4 +1,4 @@
-use Rattle.std.proofs.Common.{◌≡◌, ◌∙◌, ◌+◌, ◌-◌, ◌<◌, refl, sym, ap, length, List, ℕ, None, Some, [], take}
+use Rattle.std.proofs.Common.{◌≡◌, ◌+◌, ◌-◌, refl, sym, ap, length, List, ℕ, None, Some, [], take}
 use Rattle.std.proofs.lemmas.List.{length-map}
 use Rattle.dfr_channels.specs.Lines.{texts}
 use Rattle.dfr_script.specs.declared.fault.Word.TheVariants as word
