@@ -28,7 +28,7 @@ unfoldable pub civil_of : ℤ → Civil
 civil_of day = record {
   year = year_of day;
   month = month_of day;
-  day = unsigned_abs (day -ℤ days_from_civil (pos (year_of day)) (month_of day) 1) + 1
+  day = unsigned_abs (day -ℤ days_from_civil (pos (year_of day)) (month_of day) 1) + 1;
 }
 
 -- the number of the day of an instant, which is in microseconds since 1970-01-01 00:00:00

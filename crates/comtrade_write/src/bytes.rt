@@ -55,7 +55,12 @@ fn data_fault<A: Allocator>(m: Bounds, file: &File<A>) -> Option<WriteFault>
         return Some(WriteFault::Shape);
     }
     let head = head_of(file);
-    rows_fault(m, analog_of(head).len(), status_of(head).len(), rows_of(file))
+    rows_fault(
+        m,
+        analog_of(head).len(),
+        status_of(head).len(),
+        rows_of(file),
+    )
 }
 
 fn ascii_text<A: Allocator + Copy>(alloc: A, rows: &[Row<A>]) -> Result<Vec<u8, A>, AllocError>
@@ -83,7 +88,12 @@ fn binary_text<A: Allocator + Copy>(alloc: A, file: &File<A>) -> Result<Vec<u8, 
 {
     let mut out = Vec::new(alloc);
     let head = head_of(file);
-    rows_binary::put_rows(&mut out, analog_of(head).len(), status_of(head).len(), rows_of(file))?;
+    rows_binary::put_rows(
+        &mut out,
+        analog_of(head).len(),
+        status_of(head).len(),
+        rows_of(file),
+    )?;
     Ok(out)
 }
 

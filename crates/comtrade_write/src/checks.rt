@@ -7,10 +7,10 @@ ghost use Rattle.dfr_channels.specs.Faults.{◌or◌, fault_unless};
 ghost use Rattle.comtrade_write.specs.Refusals as spec;
 ghost use Rattle.comtrade_write.specs.Shape.{row_shaped};
 
+use crate::bounds::Bounds;
 use crate::fault::WriteFault;
 use crate::file::Row;
 use crate::parts::values_of;
-use crate::bounds::Bounds;
 use dfr_channels::Reading;
 use std::alloc::Allocator;
 
@@ -51,7 +51,12 @@ fn values_fault(m: Bounds, row: u64, values: &[Reading]) -> Option<WriteFault>
 }
 
 /// The first stamp's fault so far, and that of one more row.
-fn with_stamp<A: Allocator>(m: Bounds, late: Option<WriteFault>, i: u64, row: &Row<A>) -> Option<WriteFault>
+fn with_stamp<A: Allocator>(
+    m: Bounds,
+    late: Option<WriteFault>,
+    i: u64,
+    row: &Row<A>,
+) -> Option<WriteFault>
     ensures { result ≡ (late or fault_unless (spec.takes_times m row.now) (Stamp i)) }
 {
     match late {
@@ -67,7 +72,12 @@ fn with_stamp<A: Allocator>(m: Bounds, late: Option<WriteFault>, i: u64, row: &R
 }
 
 /// The first value or else the first stamp that isn't taken, in one pass.
-pub fn rows_fault<A: Allocator>(m: Bounds, k: usize, n: usize, rows: &[Row<A>]) -> Option<WriteFault>
+pub fn rows_fault<A: Allocator>(
+    m: Bounds,
+    k: usize,
+    n: usize,
+    rows: &[Row<A>],
+) -> Option<WriteFault>
     requires few { k < 1000000 }
     requires shaped { list_all (row_shaped k n) rows.now ≡ true }
     ensures { result ≡ spec.rows_refusal m rows.now }

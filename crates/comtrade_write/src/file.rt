@@ -41,8 +41,17 @@ impl<A: Allocator> Model for Head<A> {
     ghost Value = { HeadParts };
 
     ghost view = { λ h. record {
-        station = h.station; device = h.device; analog = h.analog; status = h.status; line_freq = h.line_freq;
-        nrates = h.nrates; rates = h.rates; first = h.first; trigger = h.trigger; kind = h.kind; timemult = h.timemult
+      station = h.station;
+      device = h.device;
+      analog = h.analog;
+      status = h.status;
+      line_freq = h.line_freq;
+      nrates = h.nrates;
+      rates = h.rates;
+      first = h.first;
+      trigger = h.trigger;
+      kind = h.kind;
+      timemult = h.timemult;
     } };
 }
 

@@ -70,7 +70,13 @@ fn put_fields<A: Allocator>(
 fn put_row<A: Allocator>(out: &mut Vec<u8, A>, row: &Row<A>) -> Result<(), AllocError>
     ensures { OnOk result (out.new.items ≡ out.old.items ++ row_line row.now) }
 {
-    put_fields(out, row.number, row.stamp, row.values.items(), row.bits.items())
+    put_fields(
+        out,
+        row.number,
+        row.stamp,
+        row.values.items(),
+        row.bits.items(),
+    )
 }
 
 /// A line for each row.

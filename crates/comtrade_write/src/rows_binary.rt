@@ -9,8 +9,8 @@ ghost use Rattle.comtrade_write.specs.Refusals.{binary_bounds, takes_reading, ta
 ghost use Rattle.comtrade_write.specs.Shape.{row_shaped};
 
 use crate::file::Row;
-use dfr_channels::Reading;
 use byteorder::{ByteOrder, LittleEndian};
+use dfr_channels::Reading;
 use std::alloc::{AllocError, Allocator};
 
 fn put_u16<A: Allocator>(out: &mut Vec<u8, A>, n: u16) -> Result<(), AllocError>
@@ -47,7 +47,11 @@ fn put_reading<A: Allocator>(out: &mut Vec<u8, A>, reading: Reading) -> Result<(
     }
 }
 
-fn put_readings<A: Allocator>(out: &mut Vec<u8, A>, row: u64, readings: &[Reading]) -> Result<(), AllocError>
+fn put_readings<A: Allocator>(
+    out: &mut Vec<u8, A>,
+    row: u64,
+    readings: &[Reading],
+) -> Result<(), AllocError>
     requires { values_refusal binary_bounds row readings.now ≡ None }
     ensures { OnOk result (out.new.items ≡ out.old.items ++ flat_map (λ v. little_bytes 2 (reading_number v)) readings.now) }
 {
@@ -116,7 +120,12 @@ fn put_row<A: Allocator>(out: &mut Vec<u8, A>, number: u64, row: &Row<A>) -> Res
 }
 
 /// The bytes of each row. The rows are numbered from 1 in the checks that they passed.
-pub fn put_rows<A: Allocator>(out: &mut Vec<u8, A>, k: usize, n: usize, rows: &[Row<A>]) -> Result<(), AllocError>
+pub fn put_rows<A: Allocator>(
+    out: &mut Vec<u8, A>,
+    k: usize,
+    n: usize,
+    rows: &[Row<A>],
+) -> Result<(), AllocError>
     requires shaped { list_all (row_shaped k n) rows.now ≡ true }
     requires few { n < 1000000 }
     requires values { value_refusal binary_bounds rows.now ≡ None }

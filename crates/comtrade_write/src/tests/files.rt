@@ -69,7 +69,12 @@ pub fn head(alloc: Global, analogs: u32, statuses: u32, rows: u64) -> Result<Hea
     })
 }
 
-pub fn row(alloc: Global, number: u64, stamp: Option<u64>, reading: Reading) -> Result<Row, AllocError> {
+pub fn row(
+    alloc: Global,
+    number: u64,
+    stamp: Option<u64>,
+    reading: Reading,
+) -> Result<Row, AllocError> {
     Ok(Row {
         number,
         stamp,
@@ -97,7 +102,8 @@ fn cfg_of_one_channel(rt: HostRuntime) -> Result<(), Fail> {
     let alloc = rt.alloc();
     let cfg = cfg_bytes(alloc, &file(alloc, 1000, 12)?)?;
     assert_eq!(rt; cfg.len(), 142);
-    let wanted = b"Bay 1,DFR,1999\r\n1,1A,0D\r\n1,IA,A,,A,1,0,0,-32767,32767,1,1,P\r\n50\r\n1\r\n1000,5\r\n01/01/1970,00:00:00.001000\r\n01/01/1970,00:00:00.003000\r\nASCII\r\n1\r\n";
+    let wanted =
+        b"Bay 1,DFR,1999\r\n1,1A,0D\r\n1,IA,A,,A,1,0,0,-32767,32767,1,1,P\r\n50\r\n1\r\n1000,5\r\n01/01/1970,00:00:00.001000\r\n01/01/1970,00:00:00.003000\r\nASCII\r\n1\r\n";
     assert!(rt; cfg.as_slice() == wanted.as_slice());
     Ok(())
 }
@@ -116,7 +122,8 @@ fn ascii_of_one_channel(rt: HostRuntime) -> Result<(), Fail> {
 fn binary_of_one_channel(rt: HostRuntime) -> Result<(), Fail> {
     let alloc = rt.alloc();
     let binary = binary_bytes(alloc, &file(alloc, 1000, 12)?)?;
-    let wanted = b"\x01\0\0\0\0\0\0\0\x0B\0\x02\0\0\0\xE8\x03\0\0\x0C\0\x03\0\0\0\xD0\x07\0\0\x0D\0\x04\0\0\0\xB8\x0B\0\0\x0E\0\x05\0\0\0\xA0\x0F\0\0\x0F\0";
+    let wanted =
+        b"\x01\0\0\0\0\0\0\0\x0B\0\x02\0\0\0\xE8\x03\0\0\x0C\0\x03\0\0\0\xD0\x07\0\0\x0D\0\x04\0\0\0\xB8\x0B\0\0\x0E\0\x05\0\0\0\xA0\x0F\0\0\x0F\0";
     assert!(rt; binary.as_slice() == wanted.as_slice());
     Ok(())
 }
@@ -161,7 +168,8 @@ fn further_file(alloc: Global) -> Result<File, Fail> {
 fn further_lines(rt: HostRuntime) -> Result<(), Fail> {
     let alloc = rt.alloc();
     let cfg = cfg_bytes(alloc, &further_file(alloc)?)?;
-    let wanted = b"Bay 1,DFR,1999\r\n2,1A,1D\r\n1,IA,A,,A,0.0015,-0.5,0.0,-32767,32767,1.50,1,S\r\n1,TRIP,,,1\r\n50\r\n1\r\n1000,0\r\n29/02/2000,00:00:00.000000\r\n31/12/9999,23:59:58.999999\r\nASCII\r\n1\r\n";
+    let wanted =
+        b"Bay 1,DFR,1999\r\n2,1A,1D\r\n1,IA,A,,A,0.0015,-0.5,0.0,-32767,32767,1.50,1,S\r\n1,TRIP,,,1\r\n50\r\n1\r\n1000,0\r\n29/02/2000,00:00:00.000000\r\n31/12/9999,23:59:58.999999\r\nASCII\r\n1\r\n";
     assert!(rt; cfg.as_slice() == wanted.as_slice());
     Ok(())
 }

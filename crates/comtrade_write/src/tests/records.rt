@@ -31,12 +31,19 @@ fn recorder(rt: &impl Abort, alloc: Global) -> Result<Recorder, Fail> {
     let limits = Limits::new(&layout, 0, 3, 4, 1)?;
     let rules = Rules::new(&layout, Vec::new(alloc)).ok().ok_or("lawful")?;
     assert!(rt; limits.fits(&layout) && rules.fits(&layout));
-    Ok(Recorder::new(alloc, layout, limits, rules).ok().ok_or("room")?)
+    Ok(
+        Recorder::new(alloc, layout, limits, rules)
+            .ok()
+            .ok_or("room")?,
+    )
 }
 
 fn scan(recorder: &mut Recorder, alloc: Global, value: i32) -> Result<(), Fail> {
     let readings = Vec::from_slice(alloc, &[Reading::Value(value)])?;
-    recorder.scan(Scan::new(readings, Vec::new(alloc))).ok().ok_or("accepted")?;
+    recorder
+        .scan(Scan::new(readings, Vec::new(alloc)))
+        .ok()
+        .ok_or("accepted")?;
     Ok(())
 }
 

@@ -10,13 +10,14 @@ pub loop-bit-preserved : goal.loop-bit-preserved
 loop-bit-preserved c =
     let next = next_weight c.loop-bit.bit-index c.loop-bit.weight c.loop-bit.invariant.weight in
     elim c.if-bit.branch [
-      then-bit w ↦ record {
+      | then-bit w ↦ record {
         so_far = more_set c.args.bits.now c.loop-bit.bit-index c.loop-bit.group c.loop-bit.weight c.if-bit.group c.loop-bit-test.true c.loop-bit.invariant.so_far c.loop-bit.invariant.weight w.if-bit.true w.group-is;
         weight = next;
-        small = omega arith
+        small = omega arith;
       }
-    | else-bit w ↦ record {
+      | else-bit w ↦ record {
         so_far = more_clear c.args.bits.now c.loop-bit.bit-index c.loop-bit.group c.if-bit.group c.loop-bit-test.true c.loop-bit.invariant.so_far w.if-bit.false w.group-is;
         weight = next;
-        small = omega arith
-      } ]
+        small = omega arith;
+      }
+    ]

@@ -6,5 +6,5 @@ abbrev pub invariant-loop-bit : goal.invariant-loop-bit
 invariant-loop-bit l = record {
   so_far : l.group ≡ bits_number (take l.bit-index l.bits);
   weight : l.weight ≡ 2 ^ l.bit-index;
-  small : l.group < l.weight
+  small : l.group < l.weight;
 }

@@ -1,4 +1,4 @@
-use Rattle.std.proofs.Common.{◌≡◌, ◌+◌, ◌<◌, get_or, length, None, true, arith, subst, sym}
+use Rattle.std.proofs.Common.{◌≡◌, ◌+◌, ◌<◌, get_or, length, None, true, subst, sym}
 use Rattle.comtrade_write.specs.Parts.{RowParts}
 use Rattle.comtrade_write.specs.Shape.{row_shaped}
 use Rattle.comtrade_write.specs.Refusals.{binary_bounds, takes_times, values_refusal}
@@ -18,5 +18,5 @@ put_row-requires g c =
     record {
       values = subst V (sym c.index-rows-i.is) (values_taken binary_bounds rows i d lt c.requires.values);
       times = subst T (sym c.index-rows-i.is) (times_taken binary_bounds rows i d lt c.requires.stamps);
-      few = subst F (sym c.index-rows-i.is) (bits_few c.args.k c.args.n (get_or rows i d) (all_at (row_shaped c.args.k c.args.n) rows i d lt c.requires.shaped) c.requires.few)
+      few = subst F (sym c.index-rows-i.is) (bits_few c.args.k c.args.n (get_or rows i d) (all_at (row_shaped c.args.k c.args.n) rows i d lt c.requires.shaped) c.requires.few);
     }

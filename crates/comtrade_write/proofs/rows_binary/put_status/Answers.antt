@@ -1,4 +1,4 @@
-use Rattle.std.proofs.Common.{arith, rules}
+use Rattle.std.proofs.Common.{arith}
 use Rattle.std.proofs.lemmas.Grind.{common_steps}
 use Rattle.comtrade_write.specs.Binary.{status_bytes}
 use Rattle.comtrade_write.proofs.Bits.{range_more}
