@@ -1,4 +1,4 @@
--- The date and time stamps of a configuration file (C37.111-1999, 5.3.8).
+-- The date and time stamps of a configuration file (C37.111-1999, 5.3.7).
 use Rattle.std.specs.Prelude.{ℕ, zero, suc, ◌+◌, ◌/◌, ◌%◌, Bool, if◌then◌else◌, ℤ, pos, int_le, unsigned_abs, ◌-ℤ◌, List, ◌∷◌, ◌++◌}
 use Rattle.std.specs.Int.{int_div_euclid, int_rem_euclid}
 use Rattle.jiff_core.specs.Calendar.{days_from_civil}

@@ -72,7 +72,7 @@ fn ascii_text<A: Allocator + Copy>(alloc: A, rows: &[Row<A>]) -> Result<Vec<u8, 
     Ok(out)
 }
 
-/// The data file in ASCII form (C37.111-1999, 6.1), whatever kind the head names.
+/// The data file in ASCII form (C37.111-1999, clause 6), whatever kind the head names.
 pub fn ascii_bytes<A: Allocator + Copy>(alloc: A, file: &File<A>) -> Result<Vec<u8, A>, WriteFault>
     ensures { Answers (λ v. v.items) result (data_refusal refusals.ascii_bounds file.now) (ascii file.now.rows) }
 {
@@ -97,7 +97,7 @@ fn binary_text<A: Allocator + Copy>(alloc: A, file: &File<A>) -> Result<Vec<u8, 
     Ok(out)
 }
 
-/// The data file in BINARY form (C37.111-1999, 6.2), whatever kind the head names.
+/// The data file in BINARY form (C37.111-1999, clause 6), whatever kind the head names.
 pub fn binary_bytes<A: Allocator + Copy>(alloc: A, file: &File<A>) -> Result<Vec<u8, A>, WriteFault>
     ensures { Answers (λ v. v.items) result (data_refusal refusals.binary_bounds file.now) (binary file.now.rows) }
 {

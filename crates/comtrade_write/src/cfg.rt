@@ -1,4 +1,4 @@
-//! The lines of the configuration file (C37.111-1999, 5.3).
+//! The lines of the configuration file (C37.111-1999, clause 5).
 
 ghost use Rattle.std.specs.Prelude.{◌≡◌, ◌++◌, ◌∷◌, ◌<◌, ◌+◌, [], OnOk, length, decimal, true};
 ghost use Rattle.std.specs.List.{flat_map};

@@ -55,7 +55,7 @@ impl<A: Allocator> Model for Head<A> {
     } };
 }
 
-/// A row of a data file (clause 6): its number, its time stamp in microseconds where there is one, a value for each
+/// A row of a data file (clause 6): its number, its time stamp where there is one (times `timemult` it is in microseconds), a value for each
 /// analogue channel and a bit for each status channel.
 #[derive(Drop, Debug)]
 pub struct Row<A: Allocator = Global> {

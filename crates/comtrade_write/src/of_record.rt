@@ -35,7 +35,7 @@ impl From<Memory> for FileFault {
     }
 }
 
-/// The highest stamp that a binary data file can hold, in microseconds (C37.111-1999, 6.2).
+/// The highest stamp that a binary data file can hold, in microseconds (C37.111-1999, clause 6).
 const LAST_STAMP: u128 = 4_294_967_294;
 
 fn passes<A: Allocator>(layout: &Layout<A>, scan: &Scan<A>) -> bool

@@ -1,6 +1,7 @@
 //! The program: `dfr replay [--kind ascii|binary]`, `dfr read CFG DAT`.
 #![tactic(auto)]
 
+use comtrade_write::Kind;
 use dfr_program::{Command, RunFault, command_of, read_all, read_over, replay_over};
 use std::alloc::Global;
 use std::fs::File;
@@ -8,8 +9,6 @@ use std::io::Write;
 use std::process::ExitCode;
 use std::rt::{Env, Files};
 use std::{env, io};
-
-use comtrade_write::Kind;
 
 fn replay_input<R: Input + Print + AllocGlobal>(rt: &R, kind: Kind) -> Result<bool, RunFault> {
     let mut out = io::writer(rt);

@@ -16,4 +16,4 @@ last_holds false b c d e f g h i j n = absurd cc
 pub stamps : (rate pre post longest shelf : ℕ) → limit_fault rate pre post longest shelf ≡ None → has_stamps rate longest ≡ true
 stamps rate pre post longest shelf n =
     last_holds (nat_le pre 100_000) (nat_le 1 post) (nat_le (pre + 1 + post) longest && nat_le longest 1_000_000) (nat_le 1 shelf && nat_le shelf 64) (has_stamps rate longest)
-      Pre Post Longest Shelf Stamp n
+    Pre Post Longest Shelf Stamp n

@@ -14,11 +14,7 @@ use comtrade_write::File;
 use std::alloc::{AllocError, Allocator};
 use std::io::Write;
 
-fn put_line<A: Allocator>(
-    out: &mut Vec<u8, A>,
-    name: &str,
-    text: &[u8],
-) -> Result<(), AllocError> {
+fn put_line<A: Allocator>(out: &mut Vec<u8, A>, name: &str, text: &[u8]) -> Result<(), AllocError> {
     put(out, name)?;
     out.extend_from_slice(text)?;
     put(out, "\n")
@@ -76,11 +72,7 @@ fn put_read_fault<A: Allocator>(
 }
 
 /// Prints what is in a pair of files.
-fn print_file<A: Allocator, W: Write>(
-    alloc: A,
-    file: &File<A>,
-    w: &mut W,
-) -> Result<bool, RunFault>
+fn print_file<A: Allocator, W: Write>(alloc: A, file: &File<A>, w: &mut W) -> Result<bool, RunFault>
     ensures grows { Grows (W.contents w.old) (W.contents w.new) }
     ensures whole { IfOk result (λ done. done ≡ true) }
     ensures fault { IfErr result (λ fault. fault ≢ RunFault.Input) }

@@ -1,6 +1,8 @@
 //! The worked examples that no clause says: that the calls succeed, and what they answer.
 
-use crate::{Answer, Cause, Hit, LimitFault, Limits, Recorder, Step, TriggerFault, run};
+use crate::{
+    Answer, Cause, Extent, Hit, LimitFault, Limits, Record, Recorder, Step, TriggerFault, run,
+};
 use dfr_channels::{
     AnalogChannel, Decimal, Items, Layout, Reading, Rule, Rules, Scan, Setup, Side,
 };
@@ -77,62 +79,93 @@ fn recorder(alloc: Global, shelf: u32) -> Result<Recorder, Fail> {
     Ok(recorder.ok_or("memory")?)
 }
 
-/// The answer to a scan of this value.
-fn scan(
-    alloc: Global,
-    recorder: &mut Recorder,
-    x: i32,
-) -> Result<(Option<Hit>, Option<u64>), Fail> {
-    let scanned = recorder.scan(value(alloc, x)?).ok().ok_or("scan")?;
-    Ok((scanned.trigger, scanned.closed))
-}
+/// A scan of this value, what its trigger does, and the record that it closes.
+type Told = (i32, Option<Hit>, Option<u64>);
 
-fn values(recorder: &[Scan], want: &[i32]) -> bool {
-    if recorder.len() != want.len() {
-        return false;
-    }
-    for (i, scan) in recorder.iter().enumerate() {
-        match scan.analog() {
-            [Reading::Value(x)] => {
-                if *x != want[i] {
-                    return false;
-                }
-            }
-            _ => return false,
+/// Whether the scans are accepted and answered so.
+fn are_told(alloc: Global, recorder: &mut Recorder, scans: &[Told]) -> Result<bool, Fail> {
+    for (x, trigger, closed) in scans {
+        let Ok(scanned) = recorder.scan(value(alloc, *x)?) else {
+            return Ok(false);
+        };
+        if scanned.trigger != *trigger || scanned.closed != *closed {
+            return Ok(false);
         }
     }
-    true
+    Ok(true)
+}
+
+/// Whether the record has this extent and these values.
+fn is_record(record: &Record, extent: Extent, values: &[i32]) -> bool {
+    record.extent() == extent && are_values(record.scans(), values)
+}
+
+fn are_values(scans: &[Scan], values: &[i32]) -> bool {
+    scans.len() == values.len() && scans.iter().zip(values).all(|(scan, x)| is_value(scan, *x))
+}
+
+fn is_value(scan: &Scan, x: i32) -> bool {
+    matches!(scan.analog(), [Reading::Value(y)] if *y == x)
+}
+
+const FIRST: Extent = Extent {
+    number: 1,
+    first: 1,
+    trigger: 3,
+    last: 5,
+    cause: Cause::Manual,
+};
+
+const BEFORE: [Told; 4] = [
+    (10, None, None),
+    (11, None, None),
+    (12, None, None),
+    (13, None, None),
+];
+
+const AFTER: [Told; 2] = [(14, None, None), (15, None, Some(1))];
+
+fn is_first(record: Option<Record>) -> bool {
+    match record {
+        Some(record) => is_record(&record, FIRST, &[11, 12, 13, 14, 15]),
+        None => false,
+    }
+}
+
+/// What the readers say of a recorder.
+fn reads(recorder: &Recorder, scans: u64, held: u64, waiting: u32, is_recording: bool) -> bool {
+    recorder.scans() == scans
+        && recorder.held() == held
+        && recorder.waiting() == waiting
+        && recorder.is_recording() == is_recording
+        && recorder.layout().rate() == 1000
+        && recorder.limits().longest() == 6
+        && recorder.rules().list().len() == 0
 }
 
 #[test]
 fn records_round_a_trigger(rt: HostRuntime) -> Result<(), Fail> {
     let alloc = rt.alloc();
     let mut recorder = recorder(alloc, 1)?;
-    assert_eq!(rt; recorder.layout().rate(), 1000);
-    assert_eq!(rt; recorder.limits().longest(), 6);
-    assert_eq!(rt; recorder.rules().list().len(), 0);
-    for x in 10..14 {
-        assert_eq!(rt; scan(alloc, &mut recorder, x)?, (None, None));
-    }
-    assert_eq!(rt; recorder.held(), 3);
-    assert_eq!(rt; recorder.trigger(), Ok(Hit::Opened(1)));
-    assert!(rt; recorder.is_recording());
-    assert_eq!(rt; recorder.held(), 6);
-    assert_eq!(rt; scan(alloc, &mut recorder, 14)?, (None, None));
-    assert_eq!(rt; scan(alloc, &mut recorder, 15)?, (None, Some(1)));
-    assert_eq!(rt; recorder.scans(), 6);
-    assert_eq!(rt; recorder.waiting(), 1);
-    let record = recorder.take().ok_or("take")?;
-    let extent = record.extent();
-    assert_eq!(rt; extent.number, 1);
-    assert_eq!(rt; extent.first, 1);
-    assert_eq!(rt; extent.trigger, 3);
-    assert_eq!(rt; extent.last, 5);
-    assert_eq!(rt; extent.cause, Cause::Manual);
-    assert!(rt; values(record.scans(), &[11, 12, 13, 14, 15]));
-    assert!(rt; recorder.take().is_none());
+    assert!(rt; are_told(alloc, &mut recorder, &BEFORE)?);
+    assert!(rt; recorder.trigger() == Ok(Hit::Opened(1)));
+    assert!(rt; reads(&recorder, 4, 6, 0, true));
+    assert!(rt; are_told(alloc, &mut recorder, &AFTER)?);
+    assert!(rt; reads(&recorder, 6, 8, 1, false));
+    assert!(rt; is_first(recorder.take()));
     Ok(())
 }
+
+const HIGH: [Told; 8] = [
+    (0, None, None),
+    (0, None, None),
+    (0, None, None),
+    (100, Some(Hit::Opened(1)), None),
+    (100, Some(Hit::Extended(1)), None),
+    (100, Some(Hit::AtLimit(1)), None),
+    (100, Some(Hit::AtLimit(1)), Some(1)),
+    (100, Some(Hit::Opened(2)), None),
+];
 
 #[test]
 fn grows_to_the_greatest_length(rt: HostRuntime) -> Result<(), Fail> {
@@ -140,92 +173,69 @@ fn grows_to_the_greatest_length(rt: HostRuntime) -> Result<(), Fail> {
     let mut recorder = recorder(alloc, 2)?;
     let rules = over_100(alloc, recorder.layout())?;
     assert!(rt; recorder.set_rules(rules).is_ok());
-    for _ in 0..3u32 {
-        assert_eq!(rt; scan(alloc, &mut recorder, 0)?, (None, None));
-    }
-    assert_eq!(rt;
-        scan(alloc, &mut recorder, 100)?,
-        (Some(Hit::Opened(1)), None)
-    );
-    assert_eq!(rt;
-        scan(alloc, &mut recorder, 100)?,
-        (Some(Hit::Extended(1)), None)
-    );
-    assert_eq!(rt;
-        scan(alloc, &mut recorder, 100)?,
-        (Some(Hit::AtLimit(1)), None)
-    );
-    assert_eq!(rt;
-        scan(alloc, &mut recorder, 100)?,
-        (Some(Hit::AtLimit(1)), Some(1))
-    );
-    assert_eq!(rt;
-        scan(alloc, &mut recorder, 100)?,
-        (Some(Hit::Opened(2)), None)
-    );
-    let record = recorder.take().ok_or("take")?;
-    assert_eq!(rt; record.extent().cause, Cause::Rule(0));
-    assert!(rt; values(record.scans(), &[0, 0, 100, 100, 100, 100]));
+    assert!(rt; are_told(alloc, &mut recorder, &HIGH)?);
     Ok(())
 }
+
+/// Limits at one scan a second, and what is wrong with them.
+const LIMITS: [(u32, u32, u32, u32, Option<LimitFault>); 6] = [
+    (100_001, 1, 1_000_000, 1, Some(LimitFault::Pre)),
+    (0, 0, 1, 1, Some(LimitFault::Post)),
+    (2, 2, 4, 1, Some(LimitFault::Longest)),
+    (0, 1, 2, 65, Some(LimitFault::Shelf)),
+    (0, 1, 4296, 1, Some(LimitFault::Stamp)),
+    (0, 1, 4295, 1, None),
+];
 
 #[test]
 fn limits_in_order(rt: HostRuntime) -> Result<(), Fail> {
     let layout = layout(rt.alloc(), 1)?;
-    assert_eq!(rt;
-        Limits::new(&layout, 100_001, 1, 1_000_000, 1),
-        Err(LimitFault::Pre)
-    );
-    assert_eq!(rt; Limits::new(&layout, 0, 0, 1, 1), Err(LimitFault::Post));
-    assert_eq!(rt; Limits::new(&layout, 2, 2, 4, 1), Err(LimitFault::Longest));
-    assert_eq!(rt; Limits::new(&layout, 0, 1, 2, 65), Err(LimitFault::Shelf));
-    assert_eq!(rt; Limits::new(&layout, 0, 1, 4296, 1), Err(LimitFault::Stamp));
-    let limits = Limits::new(&layout, 0, 1, 4295, 1).ok().ok_or("limits")?;
-    assert_eq!(rt; limits.pre(), 0);
-    assert_eq!(rt; limits.post(), 1);
-    assert_eq!(rt; limits.longest(), 4295);
-    assert_eq!(rt; limits.shelf(), 1);
-    assert!(rt; limits.fits(&layout));
+    for (pre, post, longest, shelf, fault) in LIMITS {
+        let limits = Limits::new(&layout, pre, post, longest, shelf);
+        assert_eq!(rt; limits.err(), fault);
+    }
     Ok(())
 }
 
-/// Four scans, a trigger and two scans close a record; on a shelf of one, a second trigger waits for a take.
+/// Four scans, a trigger and two scans, which close a record; a trigger, which a shelf of one refuses, a take and a trigger.
+fn steps(alloc: Global) -> Result<VecDeque<Step>, Fail> {
+    let mut steps = VecDeque::new(alloc);
+    for (x, _, _) in BEFORE {
+        steps
+            .push_back(Step::Scan(value(alloc, x)?))
+            .ok()
+            .ok_or("step")?;
+    }
+    steps.push_back(Step::Trigger).ok().ok_or("step")?;
+    for (x, _, _) in AFTER {
+        steps
+            .push_back(Step::Scan(value(alloc, x)?))
+            .ok()
+            .ok_or("step")?;
+    }
+    for step in [Step::Trigger, Step::Take, Step::Trigger] {
+        steps.push_back(step).ok().ok_or("step")?;
+    }
+    Ok(steps)
+}
+
+fn ends_so(answers: &[Answer]) -> bool {
+    match answers {
+        [
+            ..,
+            Answer::Trigger(Err(TriggerFault::ShelfFull)),
+            Answer::Take(Some(record)),
+            Answer::Trigger(Ok(Hit::Opened(2))),
+        ] => { is_record(record, FIRST, &[11, 12, 13, 14, 15]) }
+        _ => false,
+    }
+}
+
 #[test]
 fn runs_steps(rt: HostRuntime) -> Result<(), Fail> {
     let alloc = rt.alloc();
-    let mut steps = VecDeque::new(alloc);
-    for x in 10..14 {
-        steps
-            .push_back(Step::Scan(value(alloc, x)?))
-            .ok()
-            .ok_or("step")?;
-    }
-    steps.push_back(Step::Trigger).ok().ok_or("step")?;
-    for x in 14..16 {
-        steps
-            .push_back(Step::Scan(value(alloc, x)?))
-            .ok()
-            .ok_or("step")?;
-    }
-    steps.push_back(Step::Trigger).ok().ok_or("step")?;
-    steps.push_back(Step::Take).ok().ok_or("step")?;
-    steps.push_back(Step::Trigger).ok().ok_or("step")?;
-    let ran = run(alloc, recorder(alloc, 1)?, steps);
-    assert!(rt; ran.stopped.is_none());
-    assert_eq!(rt; ran.rest.len(), 0);
-    match ran.answers.as_slice() {
-        [
-            ..,
-            Answer::Trigger(refused),
-            Answer::Take(Some(record)),
-            Answer::Trigger(opened),
-        ] => {
-            assert_eq!(rt; *refused, Err(TriggerFault::ShelfFull));
-            assert!(rt; values(record.scans(), &[11, 12, 13, 14, 15]));
-            assert_eq!(rt; *opened, Ok(Hit::Opened(2)));
-        }
-        _ => assert!(rt; false, "other answers"),
-    }
-    assert_eq!(rt; ran.answers.len(), 10);
+    let ran = run(alloc, recorder(alloc, 1)?, steps(alloc)?);
+    assert!(rt; ran.stopped.is_none() && ran.answers.len() == 10);
+    assert!(rt; ends_so(&ran.answers));
     Ok(())
 }

@@ -30,9 +30,9 @@ stops : (f : ℕ → Option ScriptFault) (e : ScriptFault) (i count : ℕ) → f
 unfolding first_in
 stops f e i zero none here lt = absurd (omega arith)
 stops f e i (suc n) none here lt = elim (cases_lt i n) [
-      | inl less ↦ rw (stops f e i n none here less) refl
-      | inr same ↦ let is : n ≡ i = omega arith in rw (is, none, here) refl
-    ]
+  | inl less ↦ rw (stops f e i n none here less) refl
+  | inr same ↦ let is : n ≡ i = omega arith in rw (is, none, here) refl
+]
 
 pub tells_first : (f : ℕ → Option ScriptFault) (r : ScriptRefusal) (i count : ℕ) → first_in f i ≡ None → Tells (f i) r → i < count → Tells (first_in f count) r
 tells_first f (Fault e) i count none here lt = stops f e i count none here lt
@@ -73,7 +73,6 @@ length_until p (x ∷ xs) = rw (length_until p xs) refl
 
 pub position_texts : (p : List ℕ → Bool) (xs : List (Bor (List ℕ))) → position (λ l. p l.now) xs ≡ position p (texts xs)
 position_texts p xs = rw (length_until p xs, length-map xs (λ (x : Bor (List ℕ)). x.now)) refl
-
 
 -- ---- the parts of a script, one behind the other
 

@@ -34,7 +34,7 @@ analog_value fs = record {
   max = unwrap_or (small (field fs 8)) (pos 0);
   primary = decimal_in (free_scale (field fs 9));
   secondary = decimal_in (free_scale (field fs 10));
-  side = unwrap_or (side (field fs 11)) Primary
+  side = unwrap_or (side (field fs 11)) Primary;
 }
 
 abbrev pub reads_status : List (List ℕ) → Bool

@@ -18,7 +18,15 @@ use Rattle.dfr_script.specs.Parts.{DraftParts, ScriptParts}
 
 abbrev pub empty : DraftParts
 empty = record {
-  station = None; device = None; analog = []; status = []; line_freq = None; rate = None; start = None; limits = None; rules = None
+  station = None;
+  device = None;
+  analog = [];
+  status = [];
+  line_freq = None;
+  rate = None;
+  start = None;
+  limits = None;
+  rules = None;
 }
 
 -- a setting that stands once came already
@@ -104,9 +112,9 @@ script_in d = record {
     status = d.status;
     line_freq = decimal_in d.line_freq;
     rate = number_in d.rate;
-    start = unwrap_or d.start (pos 0)
+    start = unwrap_or d.start (pos 0);
   };
   limits = unwrap_or d.limits no_limits;
   rules = unwrap_or d.rules [];
-  commands = []
+  commands = [];
 }

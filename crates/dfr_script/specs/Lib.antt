@@ -5,6 +5,7 @@ pub mod Channels
 pub mod Limits
 pub mod RuleLines
 pub mod ScanLines
+pub mod Plain
 pub mod Settings
 pub mod Parts
 pub mod Drafts

@@ -21,7 +21,7 @@ limits_value fs = record {
   pre = number_in (natural (field fs 0));
   post = number_in (natural (field fs 1));
   longest = number_in (natural (field fs 2));
-  shelf = number_in (natural (field fs 3))
+  shelf = number_in (natural (field fs 3));
 }
 
 -- the rest of a line `limits`

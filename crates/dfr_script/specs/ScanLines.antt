@@ -38,9 +38,12 @@ reading f = if bytes_eq f (codes "*") then Some Missing else option_map Value (s
 unfoldable pub part_fields : List ℕ → List (List ℕ)
 part_fields part = if length (trimmed part) == 0 then [] else fields part
 
--- each field of a part can be read
+-- each field can be read
+abbrev pub reads_all : {X : Type 0} → (List ℕ → Option X) → List (List ℕ) → Bool
+reads_all read fs = list_all (λ f. is_some (read f)) fs
+
 abbrev pub part_fault : {X : Type 0} → (List ℕ → Option X) → List ℕ → Option Word
-part_fault read part = if list_all (λ f. is_some (read f)) (part_fields part) then None else Some fault.Number
+part_fault read part = if reads_all read (part_fields part) then None else Some fault.Number
 
 -- what the fields of a part say
 abbrev pub part_value : {X : Type 0} → (List ℕ → Option X) → List ℕ → List X

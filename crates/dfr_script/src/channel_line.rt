@@ -9,7 +9,7 @@ use crate::fields::{free_bit_at, free_scale_at, scale_at, side_at, small_at, tex
 use dfr_channels::{AnalogChannel, StatusChannel, fields_of};
 use std::alloc::Allocator;
 
-/// An analogue channel, by the fields of its line of a configuration file (C37.111-1999, 5.3.4) without the number.
+/// An analogue channel, by the fields of its line of a configuration file (C37.111-1999, 5.3.3) without the number.
 fn analog_in<A: Allocator + Copy>(
     alloc: A,
     fields: &[&[u8]],
@@ -58,7 +58,7 @@ pub(crate) fn analog_of<A: Allocator + Copy>(
     analog_in(alloc, &fields)
 }
 
-/// A status channel, by the fields of its line of a configuration file (5.3.5) without the number.
+/// A status channel, by the fields of its line of a configuration file (5.3.4) without the number.
 fn status_in<A: Allocator + Copy>(
     alloc: A,
     fields: &[&[u8]],

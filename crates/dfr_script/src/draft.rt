@@ -35,8 +35,15 @@ impl<A: Allocator> Model for Draft<A> {
     ghost Value = { DraftParts };
 
     ghost view = { λ d. record {
-        station = d.station; device = d.device; analog = d.analog.items; status = d.status.items;
-        line_freq = d.line_freq; rate = d.rate; start = d.start; limits = d.limits; rules = option_map (λ v. v.items) d.rules
+      station = d.station;
+      device = d.device;
+      analog = d.analog.items;
+      status = d.status.items;
+      line_freq = d.line_freq;
+      rate = d.rate;
+      start = d.start;
+      limits = d.limits;
+      rules = option_map (λ v. v.items) d.rules;
     } };
 }
 
@@ -148,12 +155,7 @@ impl<A: Allocator + Copy> Draft<A> {
 
     /// Adds a line; a fault leaves the draft as it was.
     #[tactic(auto, unfolding(crate::specs::Drafts::add_fault))]
-    pub(crate) fn add(
-        &mut self,
-        alloc: A,
-        setting: Setting,
-        rest: &[u8],
-    ) -> Result<(), LineRefusal>
+    pub(crate) fn add(&mut self, alloc: A, setting: Setting, rest: &[u8]) -> Result<(), LineRefusal>
         ensures { MatchResult result
             (λ _. (add_fault self.old setting rest.now ≡ None) × (self.new ≡ added self.old setting rest.now))
             (λ e. Refuses (add_fault self.old setting rest.now) e × (self.new ≡ self.old)) }

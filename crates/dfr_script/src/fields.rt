@@ -89,7 +89,11 @@ pub(crate) fn bit_of(text: &[u8]) -> Option<bool>
 pub(crate) fn free_bit_of(text: &[u8]) -> Option<bool>
     ensures { result ≡ spec.free_bit text.now }
 {
-    if text.is_empty() { Some(false) } else { bit_of(text) }
+    if text.is_empty() {
+        Some(false)
+    } else {
+        bit_of(text)
+    }
 }
 
 /// The side that the text names.

@@ -23,7 +23,9 @@ fn parts_of<'a, A: Allocator>(alloc: A, rest: &'a [u8]) -> Result<Vec<&'a [u8], 
 fn words_of<'a, A: Allocator>(alloc: A, part: &'a [u8]) -> Result<Vec<&'a [u8], A>, AllocError>
     ensures { IfOk result (λ v. texts v.items ≡ spec.words part.now) }
 {
-    part.split(|b| is_blank(*b)).filter(|word| !word.is_empty()).collect(alloc)
+    part.split(|b| is_blank(*b))
+        .filter(|word| !word.is_empty())
+        .collect(alloc)
 }
 
 /// Whether a rule of this first word has as many words as it needs: four a level, three an edge, and any other at least one.
@@ -127,10 +129,7 @@ fn shapes_of<A: Allocator + Copy>(alloc: A, parts: &[&[u8]]) -> Result<(), LineR
 }
 
 /// The rules of the parts.
-fn list_of<A: Allocator + Copy>(
-    alloc: A,
-    parts: &[&[u8]],
-) -> Result<Vec<Rule, A>, LineRefusal>
+fn list_of<A: Allocator + Copy>(alloc: A, parts: &[&[u8]]) -> Result<Vec<Rule, A>, LineRefusal>
     ensures { Gives (λ v. v.items) (spec.words_fault (texts parts.now)) (spec.rule_list (texts parts.now)) result }
 {
     let mut list = Vec::new(alloc);

@@ -1,12 +1,15 @@
 //! The readings and bits of a scan's line.
 
-ghost use Rattle.std.specs.Prelude.{◌≡◌, ◌<◌, ◌∷◌, IfSome, length, position, option_copied};
+ghost use Rattle.std.specs.Prelude.{◌≡◌, ◌<◌, ◌∷◌, ◌++◌, ◌&&◌, IfSome, is_some, length, position, option_copied, option_to_list};
+ghost use Rattle.std.specs.List.{filter_map};
+ghost use Rattle.dfr_script.specs.Fields.{bit};
 ghost use Rattle.dfr_script.specs.Faults.{Gives};
 ghost use Rattle.dfr_script.specs.ScanLines as spec;
 
 use crate::fault::{LineRefusal, Word};
 use crate::fields::{bit_of, needed, small_of};
 use crate::line::is_word;
+use crate::plain::plain_field;
 use dfr_channels::{Reading, Scan, trim};
 use std::alloc::Allocator;
 
@@ -55,6 +58,21 @@ fn reading_of(text: &[u8]) -> Option<Reading>
     }
 }
 
+/// The reading that a text begins with, and what stands behind its comma if it has one.
+fn next_reading(text: &[u8]) -> (Option<Reading>, Option<&[u8]>)
+    ensures all { spec.reads_all spec.reading (spec.fields text.now) ≡ (is_some result.0 && spec.reads_all spec.reading (spec.fields_behind (option_copied result.1))) }
+    ensures values { filter_map spec.reading (spec.fields text.now) ≡ option_to_list result.0 ++ filter_map spec.reading (spec.fields_behind (option_copied result.1)) }
+    ensures shorter { IfSome result.1 (λ behind. length behind.now < length text.now) }
+{
+    match plain_field(text) {
+        Some((value, behind)) => (Some(Reading::Value(value)), behind),
+        None => {
+            let (field, behind) = at_comma(text);
+            (reading_of(field), behind)
+        }
+    }
+}
+
 /// The readings between the commas of a part; none in an empty one.
 #[tactic(auto, unfolding(crate::specs::ScanLines::part_fields))]
 fn readings_of<A: Allocator>(
@@ -71,11 +89,28 @@ fn readings_of<A: Allocator>(
     let mut list = Vec::with_capacity(alloc, room.min(part.len() / 2 + 1))?;
     let mut left = Some(part);
     while let Some(text) = left {
-        let (field, behind) = at_comma(text);
-        list.push(needed(reading_of(field))?)?;
+        let (reading, behind) = next_reading(text);
+        list.push(needed(reading)?)?;
         left = behind;
     }
     Ok(list)
+}
+
+/// The bit that a text begins with, and what stands behind its comma if it has one.
+#[tactic(auto, using(crate::proofs::PlainBits::plain_bits))]
+fn next_bit(text: &[u8]) -> (Option<bool>, Option<&[u8]>)
+    ensures all { spec.reads_all bit (spec.fields text.now) ≡ (is_some result.0 && spec.reads_all bit (spec.fields_behind (option_copied result.1))) }
+    ensures values { filter_map bit (spec.fields text.now) ≡ option_to_list result.0 ++ filter_map bit (spec.fields_behind (option_copied result.1)) }
+    ensures shorter { IfSome result.1 (λ behind. length behind.now < length text.now) }
+{
+    match text {
+        [b'0', b',', behind @ ..] => (Some(false), Some(behind)),
+        [b'1', b',', behind @ ..] => (Some(true), Some(behind)),
+        _ => {
+            let (field, behind) = at_comma(text);
+            (bit_of(field), behind)
+        }
+    }
 }
 
 /// The bits between the commas of a part; none in an empty one.
@@ -89,8 +124,8 @@ fn bits_of<A: Allocator>(alloc: A, part: &[u8], room: usize) -> Result<Vec<bool,
     let mut list = Vec::with_capacity(alloc, room.min(part.len() / 2 + 1))?;
     let mut left = Some(part);
     while let Some(text) = left {
-        let (field, behind) = at_comma(text);
-        list.push(needed(bit_of(field))?)?;
+        let (bit, behind) = next_bit(text);
+        list.push(needed(bit)?)?;
         left = behind;
     }
     Ok(list)

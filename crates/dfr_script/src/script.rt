@@ -38,7 +38,10 @@ impl<A: Allocator> Model for Script<A> {
     ghost Value = { ScriptParts };
 
     ghost view = { λ s. record {
-        setup = s.setup; limits = s.limits; rules = s.rules.items; commands = map parts_of s.commands.items
+      setup = s.setup;
+      limits = s.limits;
+      rules = s.rules.items;
+      commands = map parts_of s.commands.items;
     } };
 }
 
@@ -216,10 +219,7 @@ fn with_commands<A: Allocator>(script: Script<A>, commands: Vec<Command<A>, A>) 
 
 /// The script of these lines.
 #[tactic(auto, unfolding(crate::specs::Scripts::script_fault, crate::specs::Scripts::script_value))]
-fn script_in<A: Allocator + Copy>(
-    alloc: A,
-    lines: &[&[u8]],
-) -> Result<Script<A>, ScriptRefusal>
+fn script_in<A: Allocator + Copy>(alloc: A, lines: &[&[u8]]) -> Result<Script<A>, ScriptRefusal>
     ensures { MatchResult result
         (λ script. (spec.script_fault (texts lines.now) ≡ None) × (script ≡ spec.script_value (texts lines.now)))
         (Tells (spec.script_fault (texts lines.now))) }

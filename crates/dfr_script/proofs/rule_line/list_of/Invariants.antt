@@ -8,5 +8,5 @@ use Rattle.dfr_script.proofs.rule_line.list_of.Given as goal
 abbrev pub invariant-loop-part : goal.invariant-loop-part
 invariant-loop-part g l = record {
   reads : list_all (λ p. is_some (rule (words p))) (take l.part-index (texts l.parts)) ≡ true;
-  same : l.list.items ≡ filter_map (λ p. rule (words p)) (take l.part-index (texts l.parts))
+  same : l.list.items ≡ filter_map (λ p. rule (words p)) (take l.part-index (texts l.parts));
 }

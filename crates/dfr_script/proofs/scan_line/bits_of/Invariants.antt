@@ -9,7 +9,7 @@ use Rattle.dfr_script.proofs.scan_line.bits_of.Given as goal
 abbrev pub invariant-loop-left : goal.invariant-loop-left
 invariant-loop-left g l = record {
   reads : list_all (λ f. is_some (bit f)) (fields l.part) ≡ list_all (λ f. is_some (bit f)) (fields_behind (option_copied l.left));
-  same : filter_map bit (fields l.part) ≡ l.list.items ++ filter_map bit (fields_behind (option_copied l.left))
+  same : filter_map bit (fields l.part) ≡ l.list.items ++ filter_map bit (fields_behind (option_copied l.left));
 }
 
 abbrev pub decreases-loop-left : goal.decreases-loop-left

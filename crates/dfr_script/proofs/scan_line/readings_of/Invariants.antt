@@ -9,7 +9,7 @@ use Rattle.dfr_script.proofs.scan_line.readings_of.Given as goal
 abbrev pub invariant-loop-left : goal.invariant-loop-left
 invariant-loop-left g l = record {
   reads : list_all (λ f. is_some (reading f)) (fields l.part) ≡ list_all (λ f. is_some (reading f)) (fields_behind (option_copied l.left));
-  same : filter_map reading (fields l.part) ≡ l.list.items ++ filter_map reading (fields_behind (option_copied l.left))
+  same : filter_map reading (fields l.part) ≡ l.list.items ++ filter_map reading (fields_behind (option_copied l.left));
 }
 
 abbrev pub decreases-loop-left : goal.decreases-loop-left

@@ -7,5 +7,5 @@ use Rattle.dfr_script.proofs.script.draft_of.Given as goal
 abbrev pub invariant-loop-i : goal.invariant-loop-i
 invariant-loop-i g l = record {
   sound : first_in (setting_fault (texts l.lines)) l.i ≡ None;
-  same : l.draft ≡ drafts.draft_of (take l.i (texts l.lines))
+  same : l.draft ≡ drafts.draft_of (take l.i (texts l.lines));
 }

@@ -19,9 +19,10 @@ returns g c =
     let p : ℕ = c.in-Some.go in
     let n : length ls ≡ length c.args.lines.now = length-map c.args.lines.now (λ x. x.now) in
     let place = sym c.in-Some.ensures.place in
-    let t = text_at c.args.lines.now p record {ref_ptr = (0, 0); now = []} c.in-Some.ensures.within in
+    let t = text_at c.args.lines.now p record { ref_ptr = (0, 0); now = [] } c.in-Some.ensures.within in
     let w : go_word (draft_of (take p ls)) (line ls p) ≡ None = rw (t, ← c.in_ok-draft.ensures.1) c.in_ok-script.ensures.0 in
     let go : go_fault ls p ≡ None = ap (at_place p) w in
-    let behind : first_in (command_fault ls (p + 1)) (length ls - (p + 1)) ≡ None = rw n c.in_ok-commands.ensures.0 in
-    (without_fault ls p place c.in_ok-draft.ensures.0 go behind,
-     rw (value_at ls p place, n, ← c.in_ok-commands.ensures.1, ← c.in_ok-draft.ensures.1, ← c.in_ok-script.ensures.1) c.with_commands.ensures)
+    let behind : first_in (command_fault ls (p + 1)) (length ls - (p + 1)) ≡ None = rw n c.in_ok-commands.ensures.0 in (
+      without_fault ls p place c.in_ok-draft.ensures.0 go behind,
+      rw (value_at ls p place, n, ← c.in_ok-commands.ensures.1, ← c.in_ok-draft.ensures.1, ← c.in_ok-script.ensures.1) c.with_commands.ensures,
+    )
