@@ -1,5 +1,5 @@
 -- Files of the right shape: what the configuration file counts stands in the data file, and each number is in its range.
-use Rattle.std.specs.Prelude.{ℕ, ◌+◌, ◌-◌, ◌==◌, ℤ, pos, neg_ℤ, Bool, true, false, ◌&&◌, nat_le, nat_lt, int_le, if◌then◌else◌, Option, Some, None, List, [], ◌∷◌, length}
+use Rattle.std.specs.Prelude.{ℕ, ◌+◌, ◌-◌, ◌==◌, ℤ, pos, neg_ℤ, Bool, false, ◌&&◌, nat_le, nat_lt, int_le, if◌then◌else◌, Option, Some, None, List, [], ◌∷◌, length}
 use Rattle.std.specs.List.{list_all}
 use Rattle.dfr_channels.specs.Parts.{AnalogParts}
 use Rattle.comtrade_write.specs.declared.file.Rate.{Rate}

@@ -1,4 +1,4 @@
-use Rattle.std.proofs.Common.{arith, rules, append_assoc, to_z-of_z, FitsSigned, ◌∙◌, ap, ◌<ℤ◌, ◌≤ℤ◌, pos}
+use Rattle.std.proofs.Common.{arith, rules, append_assoc, to_z-of_z, FitsSigned, ◌<ℤ◌, ◌≤ℤ◌, pos}
 use Rattle.std.specs.Int.{w128}
 use Rattle.std.proofs.lemmas.Int.{ints}
 use Rattle.std.proofs.lemmas.Result.{IfOk-equal}
