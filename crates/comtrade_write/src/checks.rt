@@ -38,10 +38,24 @@ fn takes_times<A: Allocator>(m: Bounds, row: &Row<A>) -> bool
     row.number <= m.number && takes_stamp(m, row.stamp)
 }
 
+/// Whether each value is taken. It has no branch, since nearly every row passes.
+fn takes_all(m: Bounds, values: &[Reading]) -> bool
+    ensures { result ≡ list_all (spec.takes_reading m) values.now }
+{
+    let mut all = true;
+    for reading in values {
+        all = all & takes_reading(m, *reading);
+    }
+    all
+}
+
 fn values_fault(m: Bounds, row: u64, values: &[Reading]) -> Option<WriteFault>
     requires { length values.now < 1000000 }
     ensures { result ≡ spec.values_refusal m row values.now }
 {
+    if takes_all(m, values) {
+        return None;
+    }
     for (i, reading) in values.iter().enumerate() {
         if !takes_reading(m, *reading) {
             return Some(WriteFault::Value(row, 1 + i as u32));

@@ -40,12 +40,8 @@ fn group_of(bits: &[bool]) -> u16
     ensures { result ≡ bits_number bits.now }
 {
     let mut group = 0u32;
-    let mut weight = 1u32;
-    for bit in bits {
-        if *bit {
-            group += weight;
-        }
-        weight *= 2;
+    for i in 0..bits.len() {
+        group = 2 * group + bits[bits.len() - 1 - i] as u32;
     }
     group as u16
 }
