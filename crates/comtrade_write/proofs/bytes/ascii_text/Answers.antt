@@ -1,4 +1,4 @@
-use Rattle.std.proofs.Common.{arith, length}
+use Rattle.std.proofs.Common.{arith}
 use Rattle.std.proofs.lemmas.Grind.{common_steps}
 use Rattle.comtrade_write.specs.Ascii.{ascii}
 use Rattle.comtrade_write.specs.Refusals.{ascii_bounds}

@@ -1,4 +1,4 @@
-use Rattle.std.proofs.Common.{◌+◌, arith, sym, ◌∙◌}
+use Rattle.std.proofs.Common.{◌+◌, sym, ◌∙◌}
 use Rattle.comtrade_write.proofs.Numbered.{values_from-pass, values_from-stop, values_from-end, values_from-all}
 use Rattle.comtrade_write.proofs.checks.values_fault.Goals as goal
 

@@ -1,7 +1,6 @@
-use Rattle.std.proofs.Common.{◌≡◌, ◌*◌, ◌+◌, ◌-◌, ◌∷◌, Bool, false, arith, length, drop, sym, ◌∙◌, refl}
+use Rattle.std.proofs.Common.{◌≡◌, ◌*◌, ◌+◌, ◌-◌, arith, length, drop, sym, ◌∙◌}
 use Rattle.std.proofs.lemmas.List.{take_all}
 use borrow.Rule.Slice.PartMut.{mid_of, post_of}
-use Rattle.comtrade_write.specs.Lines.{bit_text}
 use Rattle.comtrade_write.proofs.Places.{bit_step}
 use Rattle.comtrade_write.proofs.rows_ascii.write_bits.Goals as goal
 

@@ -1,4 +1,4 @@
-use Rattle.std.proofs.Common.{◌≡◌, ◌-◌, length, drop, arith, refl, sym, ◌∙◌, ap, get_or, false}
+use Rattle.std.proofs.Common.{◌-◌, length, arith, refl, sym, ◌∙◌, ap, get_or, false}
 use Rattle.std.proofs.lemmas.List.{drop_all}
 use Rattle.comtrade_write.specs.Binary.{bits_number}
 use Rattle.comtrade_write.proofs.Bits.{bits_number-none, more_low, small_more}

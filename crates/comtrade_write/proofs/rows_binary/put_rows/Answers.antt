@@ -1,4 +1,4 @@
-use Rattle.std.proofs.Common.{◌≡◌, ◌+◌, ◌*◌, ◌/◌, ◌<◌, get_or, length, None, true, arith, subst, sym, ◌∙◌, ap}
+use Rattle.std.proofs.Common.{◌≡◌, ◌+◌, ◌*◌, ◌/◌, ◌<◌, get_or, length, None, true, subst, sym, ◌∙◌, ap}
 use Rattle.comtrade_write.specs.Parts.{RowParts}
 use Rattle.comtrade_write.specs.Shape.{row_shaped}
 use Rattle.comtrade_write.specs.Refusals.{binary_bounds, takes_times, values_refusal}

@@ -1,4 +1,4 @@
-use Rattle.std.proofs.Common.{◌≡◌, ◌*◌, ◌+◌, ◌-◌, arith, length, drop, get_or, sym, ◌∙◌, refl, ap, pos}
+use Rattle.std.proofs.Common.{◌≡◌, ◌*◌, ◌+◌, ◌-◌, arith, length, drop, sym, ◌∙◌, refl, ap, pos}
 use Rattle.std.proofs.lemmas.List.{take_all}
 use Rattle.byteorder.specs.Endian.{little_bytes}
 use borrow.Rule.Slice.PartMut.{mid_of, post_of}

@@ -1,9 +1,9 @@
-use Rattle.std.proofs.Common.{◌≡◌, ◌*◌, ◌+◌, ◌-◌, ◌/◌, arith, length, take, drop, sym, ◌∙◌, refl, ap}
+use Rattle.std.proofs.Common.{◌≡◌, ◌*◌, ◌+◌, ◌-◌, ◌/◌, arith, length, drop, sym, ◌∙◌, refl, ap}
 use Rattle.std.proofs.lemmas.List.{take_all}
 use Rattle.std.specs.List.{flat_map, range_with_len}
 use borrow.Rule.Slice.PartMut.{mid_of, post_of}
 use Rattle.byteorder.specs.Endian.{little_bytes}
-use Rattle.comtrade_write.specs.Binary.{bits_number, group_bytes, status_bytes}
+use Rattle.comtrade_write.specs.Binary.{group_bytes, status_bytes}
 use Rattle.comtrade_write.proofs.Groups.{group_step}
 use Rattle.comtrade_write.proofs.rows_binary.write_status.Goals as goal
 

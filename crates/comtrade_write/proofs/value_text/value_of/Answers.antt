@@ -1,4 +1,4 @@
-use Rattle.std.proofs.Common.{◌≡◌, ℕ, List, arith, ap, sym, ◌∙◌, codes, decimal}
+use Rattle.std.proofs.Common.{◌≡◌, arith, ap, sym, ◌∙◌, codes, decimal}
 use Rattle.std.proofs.lemmas.Fmt.{decimal_digit}
 use Rattle.itoa.proofs.Decimal.{decimal_four}
 use Rattle.comtrade_write.specs.Ascii.{reading_text}

@@ -1,4 +1,4 @@
-use Rattle.std.proofs.Common.{◌≡◌, ℕ, ◌+◌, ◌-◌, ◌*◌, ◌/◌, ◌^◌, List, ◌++◌, length, take, drop, arith, ap, ◌∙◌}
+use Rattle.std.proofs.Common.{ℕ, ◌-◌, ◌*◌, ◌/◌, ◌^◌, List, ◌++◌, length, take, drop, arith, ap, ◌∙◌}
 use Rattle.std.specs.Int.{bytes_low_first}
 use borrow.Rule.Slice.PartMut.{mid_of, post_of}
 use Rattle.comtrade_write.proofs.Places.{stored, digits_left}
