@@ -40,7 +40,8 @@ const LONGEST: u32 = 1_000_000;
 
 const MOST_WAITING: u32 = 64;
 
-/// The highest time stamp that a binary data file can hold, in microseconds (C37.111-1999, clause 6: FFFFFFFF is a missing one).
+/// The highest time stamp that a binary data file can hold, in microseconds (C37.111-1999, clause 6: FFFFFFFF is a missing
+/// one).
 const LAST_STAMP: u64 = 4_294_967_294;
 
 impl Limits {
@@ -104,24 +105,28 @@ impl Limits {
         Limits::has_stamps(layout.rate(), self.longest)
     }
 
+    /// The most scans before a trigger.
     pub fn pre(&self) -> u32
         ensures { result ≡ self.now.pre }
     {
         self.pre
     }
 
+    /// The scans after a trigger.
     pub fn post(&self) -> u32
         ensures { result ≡ self.now.post }
     {
         self.post
     }
 
+    /// The most scans of a record.
     pub fn longest(&self) -> u32
         ensures { result ≡ self.now.longest }
     {
         self.longest
     }
 
+    /// The most closed records that wait.
     pub fn shelf(&self) -> u32
         ensures { result ≡ self.now.shelf }
     {

@@ -40,7 +40,7 @@ impl<A: Allocator> Model for Recorder<A> {
 }
 
 impl<A: Allocator> Recorder<A> {
-    ghost use Rattle.std.specs.Prelude.{◌≡◌, ◌≤◌, ◌+◌, ◌*◌, List, [], true, false, IfErr, IfSome, OnOk, OnErr, length, is_some, IsTrue};
+    ghost use Rattle.std.specs.Prelude.{◌≡◌, ◌≤◌, ◌+◌, ◌*◌, List, [], true, false, IfErr, IfSome, OnOk, length, is_ok, is_some, IsTrue};
     ghost use Rattle.dfr_channels.specs.Firing.{rules_fit};
     ghost use Rattle.dfr_recorder.specs.Limits.{has_stamps};
     ghost use Rattle.dfr_recorder.specs.Own.{is_own};
@@ -50,12 +50,14 @@ impl<A: Allocator> Recorder<A> {
     ghost use Rattle.dfr_recorder.specs.History.{Opening, opening, past, waiting, is_open};
     ghost use Rattle.dfr_recorder.specs.Kept.{kept, held, IsStep};
 
+    /// The layout of its channels, which stays the same.
     pub fn layout(&self) -> &Layout<A>
         ensures { result.now ≡ self.now.layout }
     {
         &self.layout
     }
 
+    /// Its limits, which fit its layout and stay the same.
     pub fn limits(&self) -> Limits
         ensures value { result ≡ self.now.limits }
         ensures fit { IsTrue (has_stamps self.now.layout.rate self.now.limits.longest) }
@@ -63,7 +65,7 @@ impl<A: Allocator> Recorder<A> {
         self.limits
     }
 
-    /// The rules that hold from the next scan on.
+    /// The rules that hold from the next scan on, which fit its layout.
     pub fn rules(&self) -> &Rules<A>
         ensures value { result.now ≡ self.now.rules }
         ensures fit { IsTrue (rules_fit self.now.layout self.now.rules) }
@@ -87,6 +89,7 @@ impl<A: Allocator> Recorder<A> {
         self.shelf.len() as u32
     }
 
+    /// Whether a record is open.
     pub fn is_recording(&self) -> bool
         ensures value { result ≡ is_some self.now.recording }
         ensures history { (o : Opening) (h : List StepParts) → kept o h ≡ self.now → result ≡ is_open (past o h) }
@@ -116,11 +119,10 @@ impl<A: Allocator> Recorder<A> {
     /// Takes no memory.
     pub fn set_rules(&mut self, rules: Rules<A>) -> Result<(), Rules<A>>
         ensures ok { OnOk result (IsStep self.old (step.SetRules rules) (answer.SetRules true) self.new) }
-        ensures fit { OnOk result (rules_fit self.old.layout rules ≡ true) }
-        ensures unfit { OnErr result (rules_fit self.old.layout rules ≡ false) }
         ensures opening { (self.new.layout ≡ self.old.layout) × (self.new.limits ≡ self.old.limits) }
         ensures refused { IfErr result (λ _. IsStep self.old (step.SetRules rules) (answer.SetRules false) self.new) }
         ensures back { IfErr result (λ back. (back ≡ rules) × (self.new ≡ self.old)) }
+        ensures exact { is_ok result ≡ rules_fit self.old.layout rules }
     {
         if !rules.fits(&self.layout) {
             return Err(rules);
