@@ -1,4 +1,4 @@
--- Which fields spell which part of a file (C37.111-1999, clauses 5 and 6.1).
+-- Which fields spell which part of a file (C37.111-1999, clauses 5 and 6).
 use Rattle.std.specs.Prelude.{◌≡◌, ℕ, ◌+◌, ◌-◌, ◌<◌, ◌≤◌, ◌==◌, if◌then◌else◌, max, List, [], ◌∷◌, length, slice_get, slice_index_or, option_map, unwrap_or, Option, Some, ℤ, pos}
 use Rattle.dfr_channels.specs.Lines.{field}
 use Rattle.dfr_channels.specs.Parts.{AnalogParts, StatusParts}

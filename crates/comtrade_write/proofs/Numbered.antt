@@ -2,6 +2,7 @@
 use Rattle.std.proofs.Common.{◌≡◌, ℕ, zero, suc, ◌+◌, ◌<◌, Option, Some, None, Bool, true, false, List, [], ◌∷◌, ◌++◌, length, get_or, drop, ◌≤◌, refl, sym, ap, ◌∙◌, arith, add-one, append_assoc}
 use Rattle.std.proofs.Math.Seq.{drop-cons}
 use Rattle.std.proofs.lemmas.List.{drop_all}
+use Rattle.std.proofs.lemmas.Bool.{and_parts}
 use Rattle.dfr_channels.specs.declared.scan.Reading.{Reading}
 use Rattle.comtrade_write.specs.Parts.{RowParts}
 use Rattle.comtrade_write.specs.declared.fault.WriteFault.{WriteFault}
@@ -76,6 +77,15 @@ values_from-stop m row values i d h e =
 pub values_from-end : (m : Bounds) (row n i : ℕ) (values : List Reading) → length values ≤ i → values_from m row n (drop i values) ≡ None
 unfolding values_from
 values_from-end m row n i values h = none_left (λ channel v. fault_unless (takes_reading m v) (faults.Value row channel)) n i values h
+
+-- a row whose values are all taken
+pub values_from-all : (m : Bounds) (row n : ℕ) (values : List Reading) → list_all (takes_reading m) values ≡ true → values_from m row n values ≡ None
+unfolding values_from
+values_from-all m row n [] e = refl
+values_from-all m row n (v ∷ values) e =
+    let p = and_parts (takes_reading m v) (list_all (takes_reading m) values) e in
+    let rest = values_from-all m row (n + 1) values p.1 in
+    rw (p.0) rest
 
 pub all_at : {X : Type 0} (test : X → Bool) (xs : List X) (i : ℕ) (d : X) → i < length xs → list_all test xs ≡ true → test (get_or xs i d) ≡ true
 all_at test [] i d h e = absurd (omega arith)

@@ -1,5 +1,5 @@
 -- What isn't written, and how that is answered.
-use Rattle.std.specs.Prelude.{◌≡◌, ℕ, ◌+◌, Bool, true, false, ◌&&◌, nat_le, int_le, Option, Some, None, Result, Ok, Err, pos, neg_ℤ, List, [], ◌∷◌, length}
+use Rattle.std.specs.Prelude.{◌≡◌, ℕ, ◌+◌, Bool, true, ◌&&◌, nat_le, int_le, Option, Some, None, Result, Ok, Err, pos, neg_ℤ, List, length}
 use Rattle.dfr_channels.specs.Faults.{◌or◌, fault_unless}
 use Rattle.dfr_channels.specs.Texts.{is_plain}
 use Rattle.dfr_channels.specs.Parts.{AnalogParts, StatusParts}

@@ -55,26 +55,38 @@ fn data_fault<A: Allocator>(m: Bounds, file: &File<A>) -> Option<WriteFault>
         return Some(WriteFault::Shape);
     }
     let head = head_of(file);
-    rows_fault(m, analog_of(head).len(), status_of(head).len(), rows_of(file))
+    rows_fault(
+        m,
+        analog_of(head).len(),
+        status_of(head).len(),
+        rows_of(file),
+    )
 }
 
-fn ascii_text<A: Allocator + Copy>(alloc: A, rows: &[Row<A>]) -> Result<Vec<u8, A>, AllocError>
-    ensures { IfOk result (λ v. v.items ≡ ascii rows.now) }
+fn ascii_text<A: Allocator + Copy>(alloc: A, file: &File<A>) -> Result<Vec<u8, A>, AllocError>
+    requires { data_refusal refusals.ascii_bounds file.now ≡ None }
+    ensures { IfOk result (λ v. v.items ≡ ascii file.now.rows) }
 {
     let mut out = Vec::new(alloc);
-    rows_ascii::put_rows(&mut out, rows)?;
+    let head = head_of(file);
+    rows_ascii::put_rows(
+        &mut out,
+        analog_of(head).len(),
+        status_of(head).len(),
+        rows_of(file),
+    )?;
     out.extend_from_slice(b"\x1A")?;
     Ok(out)
 }
 
-/// The data file in ASCII form (C37.111-1999, 6.1), whatever kind the head names.
+/// The data file in ASCII form (C37.111-1999, clause 6), whatever kind the head names.
 pub fn ascii_bytes<A: Allocator + Copy>(alloc: A, file: &File<A>) -> Result<Vec<u8, A>, WriteFault>
     ensures { Answers (λ v. v.items) result (data_refusal refusals.ascii_bounds file.now) (ascii file.now.rows) }
 {
     if let Some(fault) = data_fault(ascii_bounds(), file) {
         return Err(fault);
     }
-    Ok(ascii_text(alloc, rows_of(file))?)
+    Ok(ascii_text(alloc, file)?)
 }
 
 fn binary_text<A: Allocator + Copy>(alloc: A, file: &File<A>) -> Result<Vec<u8, A>, AllocError>
@@ -83,11 +95,16 @@ fn binary_text<A: Allocator + Copy>(alloc: A, file: &File<A>) -> Result<Vec<u8, 
 {
     let mut out = Vec::new(alloc);
     let head = head_of(file);
-    rows_binary::put_rows(&mut out, analog_of(head).len(), status_of(head).len(), rows_of(file))?;
+    rows_binary::put_rows(
+        &mut out,
+        analog_of(head).len(),
+        status_of(head).len(),
+        rows_of(file),
+    )?;
     Ok(out)
 }
 
-/// The data file in BINARY form (C37.111-1999, 6.2), whatever kind the head names.
+/// The data file in BINARY form (C37.111-1999, clause 6), whatever kind the head names.
 pub fn binary_bytes<A: Allocator + Copy>(alloc: A, file: &File<A>) -> Result<Vec<u8, A>, WriteFault>
     ensures { Answers (λ v. v.items) result (data_refusal refusals.binary_bounds file.now) (binary file.now.rows) }
 {

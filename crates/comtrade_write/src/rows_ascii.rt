@@ -1,23 +1,19 @@
-//! The lines of ASCII data (C37.111-1999, 6.1).
+//! The lines of ASCII data (C37.111-1999, clause 6).
 
-ghost use Rattle.std.specs.Prelude.{◌≡◌, ◌++◌, ◌∷◌, OnOk};
-ghost use Rattle.std.specs.List.{flat_map};
+ghost use Rattle.std.specs.Prelude.{◌≡◌, ◌++◌, ◌∷◌, ◌≤◌, ◌<◌, ◌*◌, ◌+◌, true, None, OnOk, length, take};
+ghost use Rattle.std.specs.List.{flat_map, list_all};
+ghost use Rattle.byteorder.specs.Endian.{little_bytes};
 ghost use Rattle.comtrade_write.specs.Lines.{bit_text};
-ghost use Rattle.comtrade_write.specs.Ascii.{reading_text, stamp_text, fields_line, row_line};
+ghost use Rattle.comtrade_write.specs.Ascii.{reading_text, stamp_text, row_line};
+ghost use Rattle.comtrade_write.specs.Refusals.{ascii_bounds, values_refusal, value_refusal};
+ghost use Rattle.comtrade_write.specs.Shape.{row_shaped};
 
 use crate::file::Row;
-use crate::number::{put_number, put_signed};
+use crate::number::put_number;
+use crate::value_text::write_reading;
+use byteorder::{ByteOrder, LittleEndian};
 use dfr_channels::Reading;
 use std::alloc::{AllocError, Allocator};
-
-fn put_reading<A: Allocator>(out: &mut Vec<u8, A>, reading: Reading) -> Result<(), AllocError>
-    ensures { OnOk result (out.new.items ≡ out.old.items ++ reading_text reading) }
-{
-    match reading {
-        Reading::Value(x) => put_signed(out, x),
-        Reading::Missing => out.extend_from_slice(b"99999"),
-    }
-}
 
 fn put_stamp<A: Allocator>(out: &mut Vec<u8, A>, stamp: Option<u64>) -> Result<(), AllocError>
     ensures { OnOk result (out.new.items ≡ out.old.items ++ stamp_text stamp) }
@@ -28,57 +24,77 @@ fn put_stamp<A: Allocator>(out: &mut Vec<u8, A>, stamp: Option<u64>) -> Result<(
     }
 }
 
-fn put_readings<A: Allocator>(out: &mut Vec<u8, A>, readings: &[Reading]) -> Result<(), AllocError>
-    ensures { OnOk result (out.new.items ≡ out.old.items ++ flat_map (λ v. 44 ∷ reading_text v) readings.now) }
+/// Writes the values' fields from the slot's start on, and answers the place after them.
+fn write_readings(slot: &mut [u8], row: u64, readings: &[Reading]) -> usize
+    requires taken { values_refusal ascii_bounds row readings.now ≡ None }
+    requires room { length slot.old ≡ 7 * length readings.now + 8 }
+    ensures text { take result slot.new ≡ flat_map (λ v. 44 ∷ reading_text v) readings.now }
+    ensures within { result ≤ length slot.old }
 {
-    for reading in readings {
-        out.push(b',')?;
-        put_reading(out, *reading)?;
+    let mut at = 0;
+    for i in 0..readings.len() {
+        at = write_reading(slot, at, readings[i]);
     }
-    Ok(())
+    at
 }
 
-fn put_bits<A: Allocator>(out: &mut Vec<u8, A>, bits: &[bool]) -> Result<(), AllocError>
-    ensures { OnOk result (out.new.items ≡ out.old.items ++ flat_map (λ b. 44 ∷ bit_text b) bits.now) }
+/// The two bytes of a bit's field, the comma in the lower one.
+fn bit_word(bit: bool) -> u16
+    ensures { little_bytes 2 result ≡ 44 ∷ bit_text bit }
 {
-    for bit in bits {
-        out.push(b',')?;
-        out.push(if *bit { b'1' } else { b'0' })?;
-    }
-    Ok(())
+    if bit { 0x312C } else { 0x302C }
 }
 
-fn put_fields<A: Allocator>(
+/// Fills the slot with the fields of a row's bits.
+fn write_bits(slot: &mut [u8], bits: &[bool])
+    requires { length slot.old ≡ 2 * length bits.now }
+    ensures { slot.new ≡ flat_map (λ b. 44 ∷ bit_text b) bits.now }
+{
+    for i in 0..bits.len() {
+        LittleEndian::write_u16(&mut slot[2 * i..], bit_word(bits[i]));
+    }
+}
+
+/// A row's line, whose values and bits are put together in slots that are large enough for them.
+fn put_row<A: Allocator>(
     out: &mut Vec<u8, A>,
+    values: &mut [u8],
+    bits: &mut [u8],
     number: u64,
-    stamp: Option<u64>,
-    values: &[Reading],
-    bits: &[bool],
+    row: &Row<A>,
 ) -> Result<(), AllocError>
-    ensures { OnOk result (out.new.items ≡ out.old.items ++ fields_line number stamp values.now bits.now) }
-{
-    put_number(out, number)?;
-    out.push(b',')?;
-    put_stamp(out, stamp)?;
-    put_readings(out, values)?;
-    put_bits(out, bits)?;
-    out.push(b'\r')?;
-    out.push(b'\n')?;
-    Ok(())
-}
-
-fn put_row<A: Allocator>(out: &mut Vec<u8, A>, row: &Row<A>) -> Result<(), AllocError>
+    requires taken { values_refusal ascii_bounds number row.now.values ≡ None }
+    requires values_room { length values.old ≡ 7 * length row.now.values + 8 }
+    requires bits_room { length bits.old ≡ 2 * length row.now.bits }
     ensures { OnOk result (out.new.items ≡ out.old.items ++ row_line row.now) }
 {
-    put_fields(out, row.number, row.stamp, row.values.items(), row.bits.items())
+    let end = write_readings(values, number, row.values.items());
+    write_bits(bits, row.bits.items());
+    put_number(out, row.number)?;
+    out.push(b',')?;
+    put_stamp(out, row.stamp)?;
+    out.extend_from_slice(&values[..end])?;
+    out.extend_from_slice(bits)?;
+    out.extend_from_slice(b"\r\n")
 }
 
-/// A line for each row.
-pub fn put_rows<A: Allocator>(out: &mut Vec<u8, A>, rows: &[Row<A>]) -> Result<(), AllocError>
+/// A line for each row. The rows are numbered from 1 in the checks that they passed.
+pub fn put_rows<A: Allocator + Copy>(
+    out: &mut Vec<u8, A>,
+    k: usize,
+    n: usize,
+    rows: &[Row<A>],
+) -> Result<(), AllocError>
+    requires shaped { list_all (row_shaped k n) rows.now ≡ true }
+    requires many { k < 1000000 }
+    requires few { n < 1000000 }
+    requires values { value_refusal ascii_bounds rows.now ≡ None }
     ensures { OnOk result (out.new.items ≡ out.old.items ++ flat_map row_line rows.now) }
 {
-    for row in rows {
-        put_row(out, row)?;
+    let mut values = vec![in *out.allocator(); 0u8; 7 * k + 8]?;
+    let mut bits = vec![in *out.allocator(); 0u8; 2 * n]?;
+    for (i, row) in rows.iter().enumerate() {
+        put_row(out, &mut values, &mut bits, 1 + i as u64, row)?;
     }
     Ok(())
 }

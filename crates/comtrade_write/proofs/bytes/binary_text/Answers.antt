@@ -1,8 +1,8 @@
-use Rattle.std.proofs.Common.{arith, length}
+use Rattle.std.proofs.Common.{arith}
 use Rattle.std.proofs.lemmas.Grind.{common_steps}
 use Rattle.comtrade_write.specs.Binary.{binary}
 use Rattle.comtrade_write.specs.Refusals.{binary_bounds}
-use Rattle.comtrade_write.proofs.Refusals.{passes, shaped_parts, head_parts, m_few}
+use Rattle.comtrade_write.proofs.Refusals.{passes, shaped_parts, head_parts, k_few, m_few}
 use Rattle.comtrade_write.proofs.bytes.binary_text.Goals as goal
 
 pub put_rows-requires : goal.put_rows-requires
@@ -10,7 +10,8 @@ put_rows-requires g c =
     let p = passes binary_bounds c.args.file.now c.requires in
     let s = shaped_parts _ p.shaped in
     let few = m_few _ _ (head_parts _ s.head).channels in
-    rw (c.rows_of.ensures, c.analog_of.ensures, c.status_of.ensures, c.head_of-head.ensures) (record { shaped = s.rows; few = few; values = p.values; stamps = p.stamps })
+    let many = k_few _ _ (head_parts _ s.head).channels in
+    rw (c.rows_of.ensures, c.analog_of.ensures, c.status_of.ensures, c.head_of-head.ensures) (record { shaped = s.rows; many = many; few = few; values = p.values; stamps = p.stamps })
 
 pub returns : goal.returns
 unfolding binary
