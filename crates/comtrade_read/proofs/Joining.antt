@@ -132,11 +132,11 @@ only_blanks [] h = refl
 only_blanks (w ∷ ws) h = rw h.0 (only_blanks ws h.1)
 
 -- the first byte, if there is one, is no blank
-abbrev StartsFull : List ℕ → Type 0
+abbrev pub StartsFull : List ℕ → Type 0
 StartsFull [] = Unit {0}
 StartsFull (b ∷ bs) = is_blank b ≡ false
 
-full_stays : (xs : List ℕ) → StartsFull xs → trim_start xs ≡ xs
+pub full_stays : (xs : List ℕ) → StartsFull xs → trim_start xs ≡ xs
 full_stays [] h = refl
 full_stays (x ∷ xs) h = rw h refl
 
@@ -381,16 +381,16 @@ stays p y ys zs h = with_test (p y) refl
         absurd (omega (arith, drop_shorter p ys))
     with_test false e = refl
 
-record Some1 {X : Type 0} (xs : List X) : Type 0 where
-  first : X
-  rest : List X
-  is : xs ≡ first ∷ rest
+pub record Some1 {X : Type 0} (xs : List X) : Type 0 where
+  pub first : X
+  pub rest : List X
+  pub is : xs ≡ first ∷ rest
 
 append_some : {X : Type 0} (xs : List X) (y : X) → Some1 (xs ++ y ∷ [])
 append_some [] y = record { first = y; rest = []; is = refl }
 append_some (x ∷ xs) y = record { first = x; rest = xs ++ y ∷ []; is = refl }
 
-reverse_some : {X : Type 0} (x : X) (xs : List X) → Some1 (reverse (x ∷ xs))
+pub reverse_some : {X : Type 0} (x : X) (xs : List X) → Some1 (reverse (x ∷ xs))
 reverse_some x xs = let s = append_some (reverse xs) x in record { first = s.first; rest = s.rest; is = reverse-append (x ∷ []) xs ∙ s.is }
 
 not_blank : (x : List ℕ) → fields x ≢ [] ∷ [] → is_blank_line x ≡ false

@@ -14,3 +14,10 @@ pub mod TextSpelled
 pub mod BinaryNumbers
 pub mod RowBytes
 pub mod OneFile
+pub mod Numerals
+pub mod WrittenFields
+pub mod WrittenLines
+pub mod WrittenDates
+pub mod WrittenRows
+pub mod WrittenHead
+pub mod ReadBack

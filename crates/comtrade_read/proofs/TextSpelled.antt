@@ -25,7 +25,7 @@ use Rattle.comtrade_read.proofs.HeadSpelled.{head_found, head_only, line_at, lin
 use Rattle.comtrade_read.proofs.NoReturn.{ends_plain, no_return, whole_plain, natural_plain, bit_plain, free_bit_plain, stamp_plain, value_plain, scale_plain, free_scale_plain, side_plain, count_plain, time_plain, kind_plain}
 use Rattle.comtrade_read.proofs.Spelled.{row_found, row_only, row_same}
 
-below : (i a : ℕ) → (i < a) ⊎ (a ≤ i)
+pub below : (i a : ℕ) → (i < a) ⊎ (a ≤ i)
 below i a = with_test (ltb i a) refl
   where
     with_test : (b : Bool) → ltb i a ≡ b → (i < a) ⊎ (a ≤ i)

@@ -10,3 +10,4 @@ pub mod Joined
 pub mod Spells
 pub mod Reads
 pub mod Pair
+pub mod ReadBack

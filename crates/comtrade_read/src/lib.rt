@@ -17,7 +17,7 @@ mod settings;
 pub use data::read_dat;
 pub use fault::ReadFault;
 pub use head::read_cfg;
-pub use laws::one_file;
+pub use laws::{one_file, read_back};
 pub use pair::{Part, read};
 
 #[cfg(test)]
