@@ -49,6 +49,13 @@ fn takes_all(m: Bounds, values: &[Reading]) -> bool
     all
 }
 
+/// Whether a row's values, number and stamp are taken.
+pub fn takes_row<A: Allocator>(m: Bounds, row: &Row<A>) -> bool
+    ensures { result ≡ spec.takes_row m row.now }
+{
+    takes_all(m, values_of(row)) && takes_times(m, row)
+}
+
 fn values_fault(m: Bounds, row: u64, values: &[Reading]) -> Option<WriteFault>
     requires { length values.now < 1000000 }
     ensures { result ≡ spec.values_refusal m row values.now }

@@ -1,13 +1,16 @@
 //! The lines of ASCII data (C37.111-1999, clause 6).
 
-ghost use Rattle.std.specs.Prelude.{◌≡◌, ◌++◌, ◌∷◌, ◌≤◌, ◌<◌, ◌*◌, ◌+◌, true, None, OnOk, length, take};
+ghost use Rattle.std.specs.Prelude.{◌≡◌, ◌++◌, ◌∷◌, ◌≤◌, ◌<◌, ◌*◌, ◌+◌, true, OnOk, IfOk, length, take};
 ghost use Rattle.std.specs.List.{flat_map, list_all};
 ghost use Rattle.byteorder.specs.Endian.{little_bytes};
 ghost use Rattle.comtrade_write.specs.Lines.{bit_text};
 ghost use Rattle.comtrade_write.specs.Ascii.{reading_text, stamp_text, row_line};
-ghost use Rattle.comtrade_write.specs.Refusals.{ascii_bounds, values_refusal, value_refusal};
+ghost use Rattle.comtrade_write.specs.Refusals.{WritesTaken};
+ghost use Rattle.comtrade_write.specs.Refusals as spec;
 ghost use Rattle.comtrade_write.specs.Shape.{row_shaped};
 
+use crate::bounds::ascii_bounds;
+use crate::checks::takes_row;
 use crate::file::Row;
 use crate::number::put_number;
 use crate::value_text::write_reading;
@@ -25,8 +28,8 @@ fn put_stamp<A: Allocator>(out: &mut Vec<u8, A>, stamp: Option<u64>) -> Result<(
 }
 
 /// Writes the values' fields from the slot's start on, and answers the place after them.
-fn write_readings(slot: &mut [u8], row: u64, readings: &[Reading]) -> usize
-    requires taken { values_refusal ascii_bounds row readings.now ≡ None }
+fn write_readings(slot: &mut [u8], readings: &[Reading]) -> usize
+    requires taken { list_all (spec.takes_reading spec.ascii_bounds) readings.now ≡ true }
     requires room { length slot.old ≡ 7 * length readings.now + 8 }
     ensures text { take result slot.new ≡ flat_map (λ v. 44 ∷ reading_text v) readings.now }
     ensures within { result ≤ length slot.old }
@@ -60,15 +63,14 @@ fn put_row<A: Allocator>(
     out: &mut Vec<u8, A>,
     values: &mut [u8],
     bits: &mut [u8],
-    number: u64,
     row: &Row<A>,
 ) -> Result<(), AllocError>
-    requires taken { values_refusal ascii_bounds number row.now.values ≡ None }
+    requires taken { list_all (spec.takes_reading spec.ascii_bounds) row.now.values ≡ true }
     requires values_room { length values.old ≡ 7 * length row.now.values + 8 }
     requires bits_room { length bits.old ≡ 2 * length row.now.bits }
     ensures { OnOk result (out.new.items ≡ out.old.items ++ row_line row.now) }
 {
-    let end = write_readings(values, number, row.values.items());
+    let end = write_readings(values, row.values.items());
     write_bits(bits, row.bits.items());
     put_number(out, row.number)?;
     out.push(b',')?;
@@ -78,23 +80,25 @@ fn put_row<A: Allocator>(
     out.extend_from_slice(b"\r\n")
 }
 
-/// A line for each row. The rows are numbered from 1 in the checks that they passed.
+/// A line for each row, and whether every row is taken. At the first one that isn't the writing stops.
 pub fn put_rows<A: Allocator + Copy>(
     out: &mut Vec<u8, A>,
     k: usize,
     n: usize,
     rows: &[Row<A>],
-) -> Result<(), AllocError>
+) -> Result<bool, AllocError>
     requires shaped { list_all (row_shaped k n) rows.now ≡ true }
     requires many { k < 1000000 }
     requires few { n < 1000000 }
-    requires values { value_refusal ascii_bounds rows.now ≡ None }
-    ensures { OnOk result (out.new.items ≡ out.old.items ++ flat_map row_line rows.now) }
+    ensures { IfOk result (λ all. WritesTaken all (list_all (spec.takes_row spec.ascii_bounds) rows.now) (out.new.items ≡ out.old.items ++ flat_map row_line rows.now)) }
 {
     let mut values = vec![in *out.allocator(); 0u8; 7 * k + 8]?;
     let mut bits = vec![in *out.allocator(); 0u8; 2 * n]?;
-    for (i, row) in rows.iter().enumerate() {
-        put_row(out, &mut values, &mut bits, 1 + i as u64, row)?;
+    for row in rows {
+        if !takes_row(ascii_bounds(), row) {
+            return Ok(false);
+        }
+        put_row(out, &mut values, &mut bits, row)?;
     }
-    Ok(())
+    Ok(true)
 }

@@ -1,12 +1,15 @@
 //! The rows of BINARY data (C37.111-1999, clause 6).
 
-ghost use Rattle.std.specs.Prelude.{◌≡◌, ◌++◌, ◌≤◌, ◌<◌, ◌*◌, ◌+◌, ◌/◌, true, None, OnOk, length, take, drop};
+ghost use Rattle.std.specs.Prelude.{◌≡◌, ◌++◌, ◌≤◌, ◌<◌, ◌*◌, ◌+◌, ◌/◌, true, OnOk, IfOk, length, take, drop};
 ghost use Rattle.std.specs.List.{flat_map, list_all};
 ghost use Rattle.byteorder.specs.Endian.{little_bytes};
 ghost use Rattle.comtrade_write.specs.Binary.{reading_number, stamp_number, bits_number, status_bytes, row_bytes};
-ghost use Rattle.comtrade_write.specs.Refusals.{binary_bounds, takes_reading, takes_stamp, takes_times, values_refusal, value_refusal, stamp_refusal};
+ghost use Rattle.comtrade_write.specs.Refusals.{WritesTaken, takes_reading, takes_stamp, takes_times};
+ghost use Rattle.comtrade_write.specs.Refusals as spec;
 ghost use Rattle.comtrade_write.specs.Shape.{row_shaped};
 
+use crate::bounds::binary_bounds;
+use crate::checks::takes_row;
 use crate::file::Row;
 use byteorder::{ByteOrder, LittleEndian};
 use dfr_channels::Reading;
@@ -14,7 +17,7 @@ use std::alloc::{AllocError, Allocator};
 
 /// The number whose two bytes a reading is written as.
 fn word_of(reading: Reading) -> u16
-    requires { takes_reading binary_bounds reading ≡ true }
+    requires { takes_reading spec.binary_bounds reading ≡ true }
     ensures { result ≡ reading_number reading }
 {
     match reading {
@@ -24,8 +27,8 @@ fn word_of(reading: Reading) -> u16
 }
 
 /// Fills the slot with the values of a row.
-fn write_readings(slot: &mut [u8], row: u64, readings: &[Reading])
-    requires taken { values_refusal binary_bounds row readings.now ≡ None }
+fn write_readings(slot: &mut [u8], readings: &[Reading])
+    requires taken { list_all (takes_reading spec.binary_bounds) readings.now ≡ true }
     requires room { length slot.old ≡ 2 * length readings.now }
     ensures { slot.new ≡ flat_map (λ v. little_bytes 2 (reading_number v)) readings.now }
 {
@@ -68,7 +71,7 @@ fn write_status(slot: &mut [u8], bits: &[bool])
 }
 
 fn stamp_of(stamp: Option<u64>) -> u32
-    requires { takes_stamp binary_bounds stamp ≡ true }
+    requires { takes_stamp spec.binary_bounds stamp ≡ true }
     ensures { result ≡ stamp_number stamp }
 {
     match stamp {
@@ -90,17 +93,16 @@ fn put_row<A: Allocator>(
     out: &mut Vec<u8, A>,
     values: &mut [u8],
     status: &mut [u8],
-    number: u64,
     row: &Row<A>,
 ) -> Result<(), AllocError>
-    requires taken { values_refusal binary_bounds number row.now.values ≡ None }
-    requires times { takes_times binary_bounds row.now ≡ true }
+    requires taken { list_all (takes_reading spec.binary_bounds) row.now.values ≡ true }
+    requires times { takes_times spec.binary_bounds row.now ≡ true }
     requires few { length row.now.bits < 1000000 }
     requires values_room { length values.old ≡ 2 * length row.now.values }
     requires status_room { length status.old ≡ 2 * ((length row.now.bits + 15) / 16) }
     ensures { OnOk result (out.new.items ≡ out.old.items ++ row_bytes row.now) }
 {
-    write_readings(values, number, row.values.items());
+    write_readings(values, row.values.items());
     write_status(status, row.bits.items());
     put_u32(out, row.number as u32)?;
     put_u32(out, stamp_of(row.stamp))?;
@@ -108,24 +110,25 @@ fn put_row<A: Allocator>(
     out.extend_from_slice(status)
 }
 
-/// The bytes of each row. The rows are numbered from 1 in the checks that they passed.
+/// The bytes of each row, and whether every row is taken. At the first one that isn't the writing stops.
 pub fn put_rows<A: Allocator + Copy>(
     out: &mut Vec<u8, A>,
     k: usize,
     n: usize,
     rows: &[Row<A>],
-) -> Result<(), AllocError>
+) -> Result<bool, AllocError>
     requires shaped { list_all (row_shaped k n) rows.now ≡ true }
     requires many { k < 1000000 }
     requires few { n < 1000000 }
-    requires values { value_refusal binary_bounds rows.now ≡ None }
-    requires stamps { stamp_refusal binary_bounds rows.now ≡ None }
-    ensures { OnOk result (out.new.items ≡ out.old.items ++ flat_map row_bytes rows.now) }
+    ensures { IfOk result (λ all. WritesTaken all (list_all (spec.takes_row spec.binary_bounds) rows.now) (out.new.items ≡ out.old.items ++ flat_map row_bytes rows.now)) }
 {
     let mut values = vec![in *out.allocator(); 0u8; 2 * k]?;
     let mut status = vec![in *out.allocator(); 0u8; 2 * ((n + 15) / 16)]?;
-    for (i, row) in rows.iter().enumerate() {
-        put_row(out, &mut values, &mut status, 1 + i as u64, row)?;
+    for row in rows {
+        if !takes_row(binary_bounds(), row) {
+            return Ok(false);
+        }
+        put_row(out, &mut values, &mut status, row)?;
     }
-    Ok(())
+    Ok(true)
 }

@@ -2,7 +2,8 @@ use Rattle.std.proofs.Common.{◌∷◌, arith, pos}
 use Rattle.dfr_channels.specs.declared.scan.Reading.{Reading}
 use Rattle.dfr_channels.specs.declared.scan.Reading.TheVariants.{Value}
 use Rattle.comtrade_write.specs.Ascii.{reading_text}
-use Rattle.comtrade_write.proofs.Numbered.{reading_taken}
+use Rattle.comtrade_write.specs.Refusals.{ascii_bounds, takes_reading}
+use Rattle.comtrade_write.proofs.Numbered.{all_at}
 use Rattle.comtrade_write.proofs.Places.{more_at}
 use Rattle.comtrade_write.proofs.rows_ascii.write_readings.Goals as goal
 
@@ -10,7 +11,7 @@ pub write_reading-at-requires : goal.write_reading-at-requires
 write_reading-at-requires c =
     let len = c.loop-i.auto.slot in
     record {
-      taken = reading_taken _ c.args.row c.args.readings.now c.loop-i.i _ (omega arith) c.requires.taken;
+      taken = all_at (takes_reading ascii_bounds) c.args.readings.now c.loop-i.i _ (omega arith) c.requires.taken;
       room = omega arith;
     }
 

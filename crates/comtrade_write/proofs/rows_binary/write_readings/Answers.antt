@@ -5,11 +5,12 @@ use borrow.Rule.Slice.PartMut.{mid_of, post_of}
 use Rattle.byteorder.proofs.Slices.{write_step}
 use Rattle.dfr_channels.specs.declared.scan.Reading.TheVariants.{Value}
 use Rattle.comtrade_write.specs.Binary.{reading_number}
-use Rattle.comtrade_write.proofs.Numbered.{reading_taken}
+use Rattle.comtrade_write.specs.Refusals.{binary_bounds, takes_reading}
+use Rattle.comtrade_write.proofs.Numbered.{all_at}
 use Rattle.comtrade_write.proofs.rows_binary.write_readings.Goals as goal
 
 pub word_of-requires : goal.word_of-requires
-word_of-requires c = reading_taken _ c.args.row c.args.readings.now c.loop-i.i _ (omega arith) c.requires.taken
+word_of-requires c = all_at (takes_reading binary_bounds) c.args.readings.now c.loop-i.i _ (omega arith) c.requires.taken
 
 pub loop-i-preserved : goal.loop-i-preserved
 loop-i-preserved c =
