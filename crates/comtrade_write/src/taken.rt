@@ -1,7 +1,7 @@
 //! The File of a record that a recorder gives: the law that joins the recorder with the writers.
 
-ghost use Rattle.std.specs.Prelude.{◌≡◌, IfSome, IfOk};
-ghost use Rattle.comtrade_write.specs.OfRecord.{IsWritable};
+ghost use Rattle.std.specs.Prelude.{◌≡◌};
+ghost use Rattle.comtrade_write.specs.Taken.{TakesFile};
 
 use crate::file::{File, Kind};
 use crate::of_record::{FileFault, file_of};
@@ -19,7 +19,7 @@ pub fn file_of_taken<A: Allocator + Copy>(
     kind: Kind,
 ) -> Option<Result<File<A>, Memory>>
     requires { layout.now ≡ recorder.old.layout }
-    ensures { IfSome result (λ made. IfOk made (λ file. IsWritable file)) }
+    ensures { TakesFile recorder.old recorder.new layout.now kind result }
 {
     let taken = recorder.take()?;
     match file_of(alloc, layout, &taken, kind) {
