@@ -43,7 +43,8 @@ fn rows_of<A: Allocator + Copy>(
     }
 }
 
-/// The files that the head and the data say. A fault hands the head back.
+/// The file of this head and of the rows that the data say, in the head's kind (C37.111-1999, clause 6). As many rows are
+/// wanted as the last rate's last sample says, or none where the head has no rate. A fault hands the head back.
 pub fn read_dat<A: Allocator + Copy>(
     alloc: A,
     head: Head<A>,

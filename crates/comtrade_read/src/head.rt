@@ -45,7 +45,10 @@ fn head_of<A: Allocator + Copy>(alloc: A, lines: &[&[u8]]) -> Result<Head<A>, Re
     })
 }
 
-/// The head that a text says.
+/// The head that a configuration file says (C37.111-1999, clause 5), or its first fault.
+///
+/// Lines end with LF or CR LF, blanks round fields and blank lines at the end are free, and numbers, dates and letters may be
+/// spelled as other programs spell them. Any bytes are a station, a device or a channel's text.
 pub fn read_cfg<A: Allocator + Copy>(alloc: A, text: &[u8]) -> Result<Head<A>, ReadFault>
     ensures found { IfOk result (ReadsHead text.now) }
     ensures fault { IfErr result (λ e. e ≢ faults.Memory → FaultyHead text.now e) }

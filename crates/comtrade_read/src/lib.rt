@@ -1,4 +1,5 @@
-//! Reads COMTRADE files of C37.111-1999.
+//! Reads COMTRADE files of C37.111-1999. `specs/Reads` says which texts read to which files; `specs/Faulty` says which fault
+//! is the first.
 #![tactic(auto)]
 
 mod ascii;

@@ -18,7 +18,8 @@ pub enum Part {
     Dat,
 }
 
-/// The files that the two texts say, or the part that could not be read and its first fault.
+/// The file that a configuration file and its data file say, or the part that isn't read and its first fault. The data are
+/// looked at where the configuration file reads.
 pub fn read<A: Allocator + Copy>(
     alloc: A,
     cfg: &[u8],
