@@ -23,9 +23,13 @@ kept_by layout limits rules n ring opened recording shelf = record {
 abbrev pub extent_of : Option RecordParts → Option Extent
 extent_of recording = option_map (λ (r : RecordParts). r.extent) recording
 
--- the open record, which now has this extent, or a new one with the scans of the ring that lie in it
+-- a new record with the scans of the ring that lie in it, where place n is the next
+abbrev pub begun : Extent → ℕ → List ScanParts → RecordParts
+begun e n ring = record { extent = e; scans = latest (n - e.first) ring }
+
+-- the open record, which now has this extent, or a new one
 abbrev pub placed : Extent → ℕ → List ScanParts → Option RecordParts → RecordParts
-placed e n ring None = record { extent = e; scans = latest (n - e.first) ring }
+placed e n ring None = begun e n ring
 placed e n ring (Some r) = record { extent = e; scans = r.scans }
 
 abbrev pub placed_if : Option Extent → ℕ → List ScanParts → Option RecordParts → Option RecordParts

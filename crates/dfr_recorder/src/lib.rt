@@ -5,6 +5,7 @@ mod limits;
 mod marks;
 mod record;
 mod recorder;
+mod recording;
 mod refusals;
 mod ring;
 mod sequence;
@@ -15,3 +16,6 @@ pub use record::{Cause, Extent, Record};
 pub use recorder::Recorder;
 pub use sequence::{Ran, run};
 pub use step::{Answer, Hit, ScanRefusal, Scanned, Step, TriggerFault};
+
+#[cfg(test)]
+mod tests;

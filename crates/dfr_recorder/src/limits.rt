@@ -16,6 +16,7 @@ pub struct Limits {
     ghost some: { (1 ≤ post) × (1 ≤ shelf) },
     ghost fit: { (pre + 1 + post ≤ longest) × (longest ≤ 1_000_000) },
     ghost few: { shelf ≤ 64 },
+    ghost early: { pre ≤ 100_000 },
 }
 
 /// Why limits are refused, in the order of the tests.
@@ -39,7 +40,8 @@ const LONGEST: u32 = 1_000_000;
 
 const MOST_WAITING: u32 = 64;
 
-/// The highest time stamp that a binary data file can hold, in microseconds (C37.111-1999, 6.6: FFFFFFFF is a missing one).
+/// The highest time stamp that a binary data file can hold, in microseconds (C37.111-1999, clause 6: FFFFFFFF is a missing
+/// one).
 const LAST_STAMP: u64 = 4_294_967_294;
 
 impl Limits {
@@ -55,7 +57,7 @@ impl Limits {
         (longest as u64 - 1) * 1_000_000 / rate as u64 <= LAST_STAMP
     }
 
-    /// Takes no memory.
+    /// Limits for records of this layout, or the first test that fails. Takes no memory.
     pub fn new<A: Allocator>(
         layout: &Layout<A>,
         pre: u32,
@@ -103,24 +105,28 @@ impl Limits {
         Limits::has_stamps(layout.rate(), self.longest)
     }
 
+    /// The most scans before a trigger.
     pub fn pre(&self) -> u32
         ensures { result ≡ self.now.pre }
     {
         self.pre
     }
 
+    /// The scans after a trigger.
     pub fn post(&self) -> u32
         ensures { result ≡ self.now.post }
     {
         self.post
     }
 
+    /// The most scans of a record.
     pub fn longest(&self) -> u32
         ensures { result ≡ self.now.longest }
     {
         self.longest
     }
 
+    /// The most closed records that wait.
     pub fn shelf(&self) -> u32
         ensures { result ≡ self.now.shelf }
     {

@@ -1,6 +1,6 @@
 //! What a trigger does to the open record, by numbers alone.
 
-ghost use Rattle.std.specs.Prelude.{◌≡◌, ◌<◌, ◌^◌, IfSome, option_map};
+ghost use Rattle.std.specs.Prelude.{◌≡◌, ◌+◌, ◌<◌, ◌^◌, Some, None, false, IfSome, option_map};
 ghost use Rattle.dfr_recorder.specs.Marks.{marked_recording, marked_opened, marked_hit, recording_if, opened_if, hit_if, closing};
 ghost use Rattle.dfr_recorder.specs.History.{refused_when_full};
 
@@ -12,6 +12,51 @@ pub(crate) struct Marked {
     pub(crate) hit: Hit,
     pub(crate) opened: u64,
     pub(crate) recording: Option<Extent>,
+}
+
+/// A trigger at place `k` moves the open record's last scan on, as far as the greatest length lets it.
+fn extend(limits: Limits, k: u64, opened: u64, extent: Extent) -> Marked
+    requires early { k < 2 ^ 62 }
+    requires begun { extent.first < 2 ^ 62 }
+    ensures hit { result.hit ≡ marked_hit limits k opened false (Some extent) }
+    ensures opened { result.opened ≡ opened }
+    ensures recording { result.recording ≡ marked_recording limits k extent.cause opened false (Some extent) }
+{
+    let asked = k + limits.post() as u64;
+    let limit = extent.first + limits.longest() as u64 - 1;
+    let hit = if asked > limit {
+        Hit::AtLimit(opened)
+    } else {
+        Hit::Extended(opened)
+    };
+    let last = asked.min(limit);
+    Marked {
+        hit,
+        opened,
+        recording: Some(Extent { last, ..extent }),
+    }
+}
+
+/// A trigger at place `k` opens a record.
+fn begin(limits: Limits, k: u64, cause: Cause, opened: u64) -> Marked
+    requires early { k < 2 ^ 62 }
+    requires few { opened < 2 ^ 62 }
+    ensures hit { result.hit ≡ marked_hit limits k opened false None }
+    ensures opened { result.opened ≡ opened + 1 }
+    ensures recording { result.recording ≡ marked_recording limits k cause opened false None }
+{
+    let number = opened + 1;
+    Marked {
+        hit: Hit::Opened(number),
+        opened: number,
+        recording: Some(Extent {
+            number,
+            first: k.saturating_sub(limits.pre() as u64),
+            trigger: k,
+            last: k + limits.post() as u64,
+            cause,
+        }),
+    }
 }
 
 /// A trigger at place `k`, where `opened` records were opened, the shelf is or isn't full, and this record is open.
@@ -30,22 +75,8 @@ pub(crate) fn mark(
     ensures opened { result.opened ≡ marked_opened opened full recording }
     ensures recording { result.recording ≡ marked_recording limits k cause opened full recording }
 {
-    let last = k + limits.post() as u64;
     match recording {
-        Some(extent) => {
-            let limit = extent.first + limits.longest() as u64 - 1;
-            let hit = if last > limit {
-                Hit::AtLimit(opened)
-            } else {
-                Hit::Extended(opened)
-            };
-            let last = last.min(limit);
-            Marked {
-                hit,
-                opened,
-                recording: Some(Extent { last, ..extent }),
-            }
-        }
+        Some(extent) => extend(limits, k, opened, extent),
         None => {
             if full {
                 return Marked {
@@ -54,18 +85,7 @@ pub(crate) fn mark(
                     recording: None,
                 };
             }
-            let number = opened + 1;
-            Marked {
-                hit: Hit::Opened(number),
-                opened: number,
-                recording: Some(Extent {
-                    number,
-                    first: k.saturating_sub(limits.pre() as u64),
-                    trigger: k,
-                    last,
-                    cause,
-                }),
-            }
+            begin(limits, k, cause, opened)
         }
     }
 }
@@ -80,7 +100,7 @@ pub(crate) fn refused_when_full(hit: Hit) -> Result<Hit, TriggerFault>
     }
 }
 
-/// The same where there may be no trigger.
+/// What a scan did that may have fired no rule; else as `Marked`.
 #[derive(Clone, Copy, Debug)]
 pub(crate) struct MarkedIf {
     pub(crate) hit: Option<Hit>,

@@ -1,7 +1,7 @@
 //! The recorder.
 
 use crate::marks::{closed_number, closing, mark, mark_if, refused_when_full};
-use crate::record::Recording;
+use crate::recording::Recording;
 use crate::refusals::refusal;
 use crate::ring::{extent_of, grow, place, scans_in, scans_so_far, shelve};
 use crate::{Cause, Hit, Limits, Record, ScanRefusal, Scanned, TriggerFault};
@@ -40,7 +40,7 @@ impl<A: Allocator> Model for Recorder<A> {
 }
 
 impl<A: Allocator> Recorder<A> {
-    ghost use Rattle.std.specs.Prelude.{◌≡◌, ◌≤◌, ◌+◌, ◌*◌, List, [], true, false, IfErr, IfSome, OnOk, length, is_some, IsTrue};
+    ghost use Rattle.std.specs.Prelude.{◌≡◌, ◌≤◌, ◌+◌, ◌*◌, List, [], true, false, IfErr, IfSome, OnOk, length, is_ok, is_some, IsTrue};
     ghost use Rattle.dfr_channels.specs.Firing.{rules_fit};
     ghost use Rattle.dfr_recorder.specs.Limits.{has_stamps};
     ghost use Rattle.dfr_recorder.specs.Own.{is_own};
@@ -50,12 +50,14 @@ impl<A: Allocator> Recorder<A> {
     ghost use Rattle.dfr_recorder.specs.History.{Opening, opening, past, waiting, is_open};
     ghost use Rattle.dfr_recorder.specs.Kept.{kept, held, IsStep};
 
+    /// The layout of its channels, which stays the same.
     pub fn layout(&self) -> &Layout<A>
         ensures { result.now ≡ self.now.layout }
     {
         &self.layout
     }
 
+    /// Its limits, which fit its layout and stay the same.
     pub fn limits(&self) -> Limits
         ensures value { result ≡ self.now.limits }
         ensures fit { IsTrue (has_stamps self.now.layout.rate self.now.limits.longest) }
@@ -63,7 +65,7 @@ impl<A: Allocator> Recorder<A> {
         self.limits
     }
 
-    /// The rules that hold from the next scan on.
+    /// The rules that hold from the next scan on, which fit its layout.
     pub fn rules(&self) -> &Rules<A>
         ensures value { result.now ≡ self.now.rules }
         ensures fit { IsTrue (rules_fit self.now.layout self.now.rules) }
@@ -87,6 +89,7 @@ impl<A: Allocator> Recorder<A> {
         self.shelf.len() as u32
     }
 
+    /// Whether a record is open.
     pub fn is_recording(&self) -> bool
         ensures value { result ≡ is_some self.now.recording }
         ensures history { (o : Opening) (h : List StepParts) → kept o h ≡ self.now → result ≡ is_open (past o h) }
@@ -106,6 +109,7 @@ impl<A: Allocator> Recorder<A> {
     /// time stamp can be written. Takes no memory.
     pub fn take(&mut self) -> Option<Record<A>>
         ensures step { IsStep self.old step.Take (answer.Take result) self.new }
+        ensures opening { (self.new.layout ≡ self.old.layout) × (self.new.limits ≡ self.old.limits) }
         ensures own { IfSome result (λ r. IsTrue (is_own self.old.layout r)) }
     {
         self.shelf.pop_front()
@@ -115,8 +119,10 @@ impl<A: Allocator> Recorder<A> {
     /// Takes no memory.
     pub fn set_rules(&mut self, rules: Rules<A>) -> Result<(), Rules<A>>
         ensures ok { OnOk result (IsStep self.old (step.SetRules rules) (answer.SetRules true) self.new) }
+        ensures opening { (self.new.layout ≡ self.old.layout) × (self.new.limits ≡ self.old.limits) }
         ensures refused { IfErr result (λ _. IsStep self.old (step.SetRules rules) (answer.SetRules false) self.new) }
         ensures back { IfErr result (λ back. (back ≡ rules) × (self.new ≡ self.old)) }
+        ensures exact { is_ok result ≡ rules_fit self.old.layout rules }
     {
         if !rules.fits(&self.layout) {
             return Err(rules);
@@ -127,7 +133,7 @@ impl<A: Allocator> Recorder<A> {
 }
 
 impl<A: Allocator + Copy> Recorder<A> {
-    ghost use Rattle.std.specs.Prelude.{◌≡◌, ◌≢◌, [], IfOk, IfErr, IsTrue};
+    ghost use Rattle.std.specs.Prelude.{◌≡◌, ◌≢◌, [], IfOk, IfErr, OnErr, IsTrue};
     ghost use Rattle.dfr_channels.specs.Firing.{rules_fit};
     ghost use Rattle.dfr_recorder.specs.Limits.{has_stamps};
     ghost use Rattle.dfr_recorder.specs.Steps as step;
@@ -136,7 +142,8 @@ impl<A: Allocator + Copy> Recorder<A> {
     ghost use Rattle.dfr_recorder.specs.Kept.{kept, IsStep};
     ghost use Rattle.dfr_recorder.specs.Memory.{GrowsRecord, OpensRecord};
 
-    /// A recorder without a past. The room of ring and shelf is made here.
+    /// A recorder without a past. The limits and the rules have to fit the layout. The room of ring and shelf is made here; where
+    /// memory is wanted for it, layout and rules are handed back.
     pub fn new(
         alloc: A,
         layout: Layout<A>,
@@ -172,6 +179,7 @@ impl<A: Allocator + Copy> Recorder<A> {
         ensures ok { IfOk result (λ scanned. IsStep self.old (step.Scan scan) (answer.Scan (Ok scanned)) self.new) }
         ensures refused { IfErr result (λ refused. refused.0 ≢ ScanRefusal.Memory → IsStep self.old (step.Scan scan) (answer.Scan (Err refused.0)) self.new) }
         ensures back { IfErr result (λ refused. (refused.1 ≡ scan) × (self.new ≡ self.old)) }
+        ensures opening { (self.new.layout ≡ self.old.layout) × (self.new.limits ≡ self.old.limits) }
         ensures memory { IfErr result (λ refused. refused.0 ≡ ScanRefusal.Memory → GrowsRecord self.old scan) }
     {
         let n = self.count;
@@ -204,10 +212,12 @@ impl<A: Allocator + Copy> Recorder<A> {
         })
     }
 
-    /// A trigger by hand, at the last scan. Memory is wanted only to open a record.
+    /// A trigger by hand, at the last scan. A refused one changes nothing. Memory is wanted only to open a record.
     pub fn trigger(&mut self) -> Result<Hit, TriggerFault>
         ensures step { result ≢ Err TriggerFault.Memory → IsStep self.old step.Trigger (answer.Trigger result) self.new }
-        ensures same { result ≡ Err TriggerFault.Memory → self.new ≡ self.old }
+        ensures same { OnErr result (self.new ≡ self.old) }
+        ensures held { IfOk result (λ hit. hit ≢ Hit.ShelfFull) }
+        ensures opening { (self.new.layout ≡ self.old.layout) × (self.new.limits ≡ self.old.limits) }
         ensures memory { result ≡ Err TriggerFault.Memory → OpensRecord self.old }
     {
         let n = self.count;

@@ -1,12 +1,12 @@
 //! What is done to ring, open record and shelf.
 
-ghost use Rattle.std.specs.Prelude.{◌≡◌, ◌≤◌, ◌<◌, ◌-◌, ◌^◌, ◌++◌, None, IfOk, IfSome, IfNone, IsOk, OnOk, OnErr, IsSome, option_to_list};
+ghost use Rattle.std.specs.Prelude.{◌≡◌, ◌≤◌, ◌<◌, ◌-◌, ◌^◌, ◌++◌, Some, None, length, slice_get, IfOk, IfSome, IfNone, IsOk, OnOk, OnErr, IsSome, option_to_list};
 ghost use Rattle.std.specs.VecDeque.{deque_len, deque_capacity};
 ghost use Rattle.dfr_recorder.specs.Parts.{IsWhole};
-ghost use Rattle.dfr_recorder.specs.Kept.{latest, scans_in};
-ghost use Rattle.dfr_recorder.specs.Ring.{extent_of, placed_if, longer_if, unless_last, if_last, ends_at};
+ghost use Rattle.dfr_recorder.specs.Kept.{scans_in};
+ghost use Rattle.dfr_recorder.specs.Ring.{extent_of, begun, placed_if, longer_if, unless_last, if_last, ends_at};
 
-use crate::record::Recording;
+use crate::recording::Recording;
 use crate::{Extent, Record};
 use circular_buffer::HeapCircularBuffer;
 use dfr_channels::{Memory, Scan};
@@ -22,27 +22,38 @@ pub(crate) fn extent_of<A: Allocator>(recording: &Option<Recording<A>>) -> Optio
     }
 }
 
-/// Copies of the ring's scans from place `first` on, where place `n` is the next.
-pub(crate) fn copies_from<A: Allocator + Copy>(
-    ring: &HeapCircularBuffer<Scan<A>, A>,
-    first: u64,
-    n: u64,
-) -> Result<Vec<Scan<A>, A>, Memory>
-    requires { first ≤ n }
-    ensures { IfOk result (λ copies. copies.items ≡ latest (n - first) ring.now.items) }
+/// The ring's scan at this place, from its oldest.
+fn scan_at<A: Allocator>(ring: &HeapCircularBuffer<Scan<A>, A>, i: usize) -> &Scan<A>
+    requires { i < length ring.now.items }
+    ensures { slice_get ring.now.items i ≡ Some result.now }
 {
-    let skip = ring.len().saturating_sub((n - first) as usize);
-    let mut copies = Vec::new(*ring.allocator());
+    let Some(scan) = ring.get(i) else {
+        unreachable!()
+    };
+    scan
+}
+
+/// How many scans a record is to have.
+fn room_for(extent: Extent) -> usize {
+    (extent.last.saturating_sub(extent.first) as usize).saturating_add(1)
+}
+
+/// A record with copies of the ring's scans that lie in it, where place `n` is the next, and with room for the others.
+fn begin<A: Allocator + Copy>(
+    ring: &HeapCircularBuffer<Scan<A>, A>,
+    extent: Extent,
+    n: u64,
+) -> Result<Recording<A>, Memory>
+    requires { extent.first ≤ n }
+    ensures { IfOk result (λ r. r ≡ begun extent n ring.now.items) }
+{
+    let skip = ring.len().saturating_sub((n - extent.first) as usize);
+    let mut scans = Vec::with_capacity(*ring.allocator(), room_for(extent))?;
     for i in skip..ring.len() {
-        let Some(scan) = ring.get(i) else {
-            unreachable!()
-        };
-        let copy = scan.try_clone()?;
-        if copies.push(copy).is_err() {
-            return Err(Memory);
-        }
+        let copy = scan_at(ring, i).try_clone()?;
+        scans.push(copy)?;
     }
-    Ok(copies)
+    Ok(Recording::new(extent, scans))
 }
 
 /// Gives the open record its extent, or opens one. Only an opening takes memory.
@@ -67,8 +78,7 @@ pub(crate) fn place<A: Allocator + Copy>(
             Ok(())
         }
         None => {
-            let scans = copies_from(ring, extent.first, n)?;
-            *recording = Some(Recording::new(extent, scans));
+            *recording = Some(begin(ring, extent, n)?);
             Ok(())
         }
     }
@@ -99,11 +109,9 @@ pub(crate) fn grow<A: Allocator + Copy>(
             Ok(())
         }
         None => {
-            let mut scans = copies_from(ring, extent.first, n)?;
-            if scans.push(copy).is_err() {
-                return Err(Memory);
-            }
-            *recording = Some(Recording::new(extent, scans));
+            let mut record = begin(ring, extent, n)?;
+            record.push(copy)?;
+            *recording = Some(record);
             Ok(())
         }
     }
