@@ -39,6 +39,7 @@ pub(crate) struct Prepared<A: Allocator> {
 fn limits_of<A: Allocator>(layout: &Layout<A>, numbers: LimitNumbers) -> Result<Limits, LimitFault>
     ensures lawful { IfOk result (λ _. spec.number_fault layout.now.rate numbers ≡ None) }
     ensures stamps { IfOk result (λ limits. IsTrue (has_stamps layout.now.rate limits.longest)) }
+    ensures same { IfOk result (spec.HasNumbers numbers) }
     ensures fault { IfErr result (λ fault. spec.number_fault layout.now.rate numbers ≡ Some fault) }
 {
     Limits::new(
@@ -57,7 +58,9 @@ pub(crate) fn prepared_of<A: Allocator + Copy>(
     text: &[u8],
 ) -> Result<Prepared<A>, Refusal>
     ensures { MatchResult result
-        (λ prepared. (spec.script_fault text.now ≡ None) × (map parts_of prepared.commands.items ≡ (script_value (lines text.now)).commands))
+        (λ prepared. (spec.script_fault text.now ≡ None)
+            × spec.IsMadeOf (script_value (lines text.now)) prepared.recorder
+            × (map parts_of prepared.commands.items ≡ (script_value (lines text.now)).commands))
         (spec.Refuses (spec.script_fault text.now)) }
 {
     let script = match script_of(alloc, text) {
