@@ -4,6 +4,7 @@ pub mod FirstFault
 pub mod Chain
 pub mod HeadRead
 pub mod RowLine
+pub mod OneByOne
 pub mod Outcomes
 pub mod Joining
 pub mod Each

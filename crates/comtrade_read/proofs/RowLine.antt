@@ -35,7 +35,7 @@ test_or : (b : Bool) (x : Option ReadFault) (e : ReadFault) → cond b x (Some e
 test_or true x e = refl
 test_or false x e = refl
 
-same_first : (f g : ℕ → Option ReadFault) (n : ℕ) → ((j : ℕ) → f j ≡ g j) → first_in f n ≡ first_in g n
+pub same_first : (f g : ℕ → Option ReadFault) (n : ℕ) → ((j : ℕ) → f j ≡ g j) → first_in f n ≡ first_in g n
 unfolding first_in
 same_first f g zero h = refl
 same_first f g (suc n) h = ap (λ (x : Option ReadFault). x or f n) (same_first f g n h) ∙ ap (λ (x : Option ReadFault). first_in g n or x) (h n)

@@ -57,7 +57,15 @@ row_value k m fs = record {
 abbrev pub row_items : ℕ → ℕ → List (List ℕ) → ℕ → List RowParts
 row_items k m ls count = map (λ i. row_value k m (line_fields ls i)) (range_with_len 0 count)
 
+-- what the first fields say, where each can be read; d stands for one that can't
+abbrev pub cells : {A : Type 0} → (List ℕ → Option A) → A → List (List ℕ) → ℕ → List A
+cells read d fs count = map (λ j. unwrap_or (read (field fs j)) d) (range_with_len 0 count)
+
 -- ---- the faults, one after the other
+
+-- the fault of field j of those that begin with field number `at`, from 0
+abbrev pub cell_faults : {A : Type 0} → (List ℕ → Option A) → ℕ → ℕ → List (List ℕ) → ℕ → Option ReadFault
+cell_faults read line at fs j = if reads read (field fs j) then None else Some (faults.Number line (at + j + 1))
 
 -- the fault of field i, from 0
 abbrev pub field_fault : {A : Type 0} → (List ℕ → Option A) → ℕ → List (List ℕ) → ℕ → Option ReadFault

@@ -1,91 +1,94 @@
 //! The lines of an ASCII data file.
 
-ghost use Rattle.std.specs.Prelude.{◌≡◌, ◌≢◌, ◌+◌, ◌<◌, ◌≤◌, ◌^◌, length, IfOk, IfErr};
+ghost use Rattle.std.specs.Prelude.{◌≡◌, ◌≢◌, ◌+◌, ◌<◌, ◌≤◌, ◌^◌, length, drop, IfOk, IfErr, false};
 ghost use Rattle.std.specs.List.{before_first};
 ghost use Rattle.comtrade_read.specs.declared.fault.ReadFault.TheVariants as faults;
-ghost use Rattle.dfr_channels.specs.Lines.{texts, field, line_fields};
-ghost use Rattle.comtrade_read.specs.Fields.{small, natural};
-ghost use Rattle.comtrade_read.specs.Table.{Gives, Field, first_in, fields_fault, line_fault, file_fault};
+ghost use Rattle.dfr_channels.specs.Lines.{texts, fields, line_fields};
+ghost use Rattle.dfr_channels.specs.declared.scan.Reading.TheVariants as readings;
+ghost use Rattle.comtrade_read.specs.Fields.{bit as read_bit};
+ghost use Rattle.comtrade_read.specs.Table.{Gives, first_in, fields_fault, line_fault, file_fault};
 ghost use Rattle.comtrade_read.specs.Faulty.{AllObey, Faulty};
 ghost use Rattle.comtrade_read.specs.Ascii as spec;
 
+use crate::cells::{field_count, first_field};
 use crate::fault::ReadFault;
-use crate::fields::{bit_of, natural_of, small_of};
+use crate::fields::{bit, natural, needed, within};
 use crate::instant::place_of;
-use crate::place::{end_at, fields_at};
+use crate::place::end_at;
 use comtrade_write::Row;
-use dfr_channels::{Items, Reading, lines_of, without_blank_end};
+use dfr_channels::{Items, Reading, integer_of, lines_of, without_blank_end};
 use std::alloc::Allocator;
 
 /// A stamp, or none where nothing stands.
 #[tactic(auto, unfolding(crate::specs::Ascii::stamp))]
-pub(crate) fn stamp_of(line: u64, fields: &[&[u8]]) -> Result<Option<u64>, ReadFault>
-    requires { 1 < length fields.now }
-    ensures { Field (spec.stamp (field (texts fields.now) 1)) (faults.Number line 2) result }
+fn stamp_of(text: &[u8]) -> Option<Option<u64>>
+    ensures { result ≡ spec.stamp text.now }
 {
-    if fields[1].is_empty() {
-        return Ok(None);
+    if text.is_empty() {
+        return Some(None);
     }
-    match natural_of(line, fields, 1, 9_999_999_999) {
-        Ok(stamp) => Ok(Some(stamp)),
-        Err(fault) => Err(fault),
+    match natural(text, 9_999_999_999) {
+        Some(stamp) => Some(Some(stamp)),
+        None => None,
     }
 }
 
 /// A value; 99,999 and nothing stand for a missing one.
-#[tactic(auto, unfolding(crate::specs::Ascii::value))]
-pub(crate) fn value_of(line: u64, fields: &[&[u8]], i: u32) -> Result<Reading, ReadFault>
-    requires small { i + 1 < 2 ^ 32 }
-    requires in_line { i < length fields.now }
-    ensures { Field (spec.value (field (texts fields.now) i)) (faults.Number line (i + 1)) result }
+#[tactic(auto, unfolding(crate::specs::Ascii::value, crate::specs::Fields::small))]
+fn value_of(text: &[u8]) -> Option<Reading>
+    ensures { result ≡ spec.value text.now }
 {
-    if fields[i as usize].is_empty() {
-        return Ok(Reading::Missing);
+    if text.is_empty() {
+        return Some(Reading::Missing);
     }
-    match small_of(line, fields, i) {
-        Ok(value) => Ok(if value == 99_999 {
-            Reading::Missing
-        } else {
-            Reading::Value(value)
-        }),
-        Err(fault) => Err(fault),
+    match within(integer_of(text)) {
+        Some(99_999) => Some(Reading::Missing),
+        Some(value) => Some(Reading::Value(value)),
+        None => None,
     }
 }
 
-/// The values.
-pub(crate) fn values_of<A: Allocator + Copy>(
+/// The first values of the text, whose first field has this number, and what stands behind them.
+fn values_of<'a, A: Allocator + Copy>(
     alloc: A,
     line: u64,
-    fields: &[&[u8]],
+    text: &'a [u8],
     count: u32,
-) -> Result<Vec<Reading, A>, ReadFault>
+) -> Result<(Vec<Reading, A>, &'a [u8]), ReadFault>
     requires few { count < 1000000 }
-    requires in_line { 2 + count ≤ length fields.now }
-    ensures { Gives (λ v. v.items) (first_in (spec.value_faults line (texts fields.now)) count) (spec.value_items (texts fields.now) count) result }
+    requires there { count ≤ length (fields text.now) }
+    ensures values { Gives (λ x. x.0.items) (first_in (spec.cell_faults spec.value line 2 (fields text.now)) count) (spec.cells spec.value readings.Missing (fields text.now) count) result }
+    ensures rest { IfOk result (λ x. count < length (fields text.now) → fields x.1.now ≡ drop count (fields text.now)) }
 {
-    let mut list = Vec::new(alloc);
+    let mut list = Vec::with_capacity(alloc, count as usize)?;
+    let mut left = text;
     for i in 0..count {
-        list.push(value_of(line, fields, 2 + i)?)?;
+        let (field, rest) = first_field(left);
+        list.push(needed(value_of(field), line, 2 + i)?)?;
+        left = rest;
     }
-    Ok(list)
+    Ok((list, left))
 }
 
-/// The bits, behind k values.
-pub(crate) fn bits_of<A: Allocator + Copy>(
+/// The first bits of the text, behind k values.
+fn bits_of<A: Allocator + Copy>(
     alloc: A,
     line: u64,
-    fields: &[&[u8]],
+    text: &[u8],
     k: u32,
     count: u32,
 ) -> Result<Vec<bool, A>, ReadFault>
     requires k { k < 1000000 }
     requires few { count < 1000000 }
-    requires in_line { 2 + k + count ≤ length fields.now }
-    ensures { Gives (λ v. v.items) (first_in (spec.bit_faults line k (texts fields.now)) count) (spec.bit_items (texts fields.now) k count) result }
+    requires there { count ≤ length (fields text.now) }
+    ensures { Gives (λ v. v.items) (first_in (spec.cell_faults read_bit line (2 + k) (fields text.now)) count) (spec.cells read_bit false (fields text.now) count) result }
 {
-    let mut list = Vec::new(alloc);
+    let mut list = Vec::with_capacity(alloc, count as usize)?;
+    let mut left = text;
     for i in 0..count {
-        list.push(bit_of(line, fields, 2 + k + i)?)?;
+        let (field, rest) = first_field(left);
+        list.push(needed(bit(field), line, 2 + k + i)?)?;
+        left = rest;
     }
     Ok(list)
 }
@@ -96,17 +99,19 @@ fn parts_of<A: Allocator + Copy>(
     line: u64,
     k: u32,
     m: u32,
-    fields: &[&[u8]],
+    text: &[u8],
 ) -> Result<Row<A>, ReadFault>
     requires k { k < 1000000 }
     requires m { m < 1000000 }
-    requires many { length fields.now ≡ 2 + k + m }
-    ensures { Gives (λ x. x) (spec.row_chain k m line (texts fields.now)) (spec.row_value k m (texts fields.now)) result }
+    requires many { length (fields text.now) ≡ 2 + k + m }
+    ensures { Gives (λ x. x) (spec.row_chain k m line (fields text.now)) (spec.row_value k m (fields text.now)) result }
 {
-    let number = natural_of(line, fields, 0, 9_999_999_999)?;
-    let stamp = stamp_of(line, fields)?;
-    let values = values_of(alloc, line, fields, k)?;
-    let bits = bits_of(alloc, line, fields, k, m)?;
+    let (field, rest) = first_field(text);
+    let number = needed(natural(field, 9_999_999_999), line, 0)?;
+    let (field, rest) = first_field(rest);
+    let stamp = needed(stamp_of(field), line, 1)?;
+    let (values, rest) = values_of(alloc, line, rest, k)?;
+    let bits = bits_of(alloc, line, rest, k, m)?;
     Ok(Row {
         number,
         stamp,
@@ -116,25 +121,25 @@ fn parts_of<A: Allocator + Copy>(
 }
 
 /// A row of k values and m bits.
-pub(crate) fn row_of<A: Allocator + Copy>(
+fn row_of<A: Allocator + Copy>(
     alloc: A,
     line: u64,
     k: u32,
     m: u32,
-    fields: &[&[u8]],
+    text: &[u8],
 ) -> Result<Row<A>, ReadFault>
     requires k { k < 1000000 }
     requires m { m < 1000000 }
-    ensures { Gives (λ x. x) (fields_fault (spec.row_rule k m) line (texts fields.now)) (spec.row_value k m (texts fields.now)) result }
+    ensures { Gives (λ x. x) (fields_fault (spec.row_rule k m) line (fields text.now)) (spec.row_value k m (fields text.now)) result }
 {
-    if fields.len() != 2 + k as usize + m as usize {
+    if field_count(text) != 2 + k as usize + m as usize {
         return Err(ReadFault::Fields(line));
     }
-    parts_of(alloc, line, k, m, fields)
+    parts_of(alloc, line, k, m, text)
 }
 
 /// The row on the line at this place.
-#[tactic(auto, unfolding(crate::specs::Table::line_fault))]
+#[tactic(auto, unfolding(crate::specs::Table::line_fault, dfr_channels::specs::Lines::line_fields))]
 fn row_at<A: Allocator + Copy>(
     alloc: A,
     lines: &[&[u8]],
@@ -147,8 +152,10 @@ fn row_at<A: Allocator + Copy>(
     requires m { m < 1000000 }
     ensures { Gives (λ x. x) (line_fault (texts lines.now) (spec.row_rule k m) place) (spec.row_value k m (line_fields (texts lines.now) place)) result }
 {
-    let fields = fields_at(alloc, lines, place)?;
-    row_of(alloc, place as u64 + 1, k, m, &fields)
+    match lines.get(place) {
+        Some(text) => row_of(alloc, place as u64 + 1, k, m, text),
+        None => Err(ReadFault::Missing(place as u64 + 1)),
+    }
 }
 
 /// So many rows, one a line.

@@ -14,7 +14,7 @@ use dfr_channels::{Decimal, Items, Side, integer_of};
 use std::alloc::Allocator;
 
 /// The value of a field, or the fault of its place.
-fn needed<T>(read: Option<T>, line: u64, i: u32) -> Result<T, ReadFault>
+pub(crate) fn needed<T>(read: Option<T>, line: u64, i: u32) -> Result<T, ReadFault>
     requires { i + 1 < 2 ^ 32 }
     ensures { Field read (faults.Number line (i + 1)) result }
 {
@@ -25,7 +25,7 @@ fn needed<T>(read: Option<T>, line: u64, i: u32) -> Result<T, ReadFault>
 }
 
 /// The number, where it lies from 0 to high.
-fn up_to(high: u64, number: Option<i128>) -> Option<u64>
+pub(crate) fn up_to(high: u64, number: Option<i128>) -> Option<u64>
     ensures value { result ≡ spec.up_to high number }
     ensures bound { IfSome result (λ n. n ≤ high) }
 {
@@ -45,19 +45,27 @@ pub(crate) fn whole_of(line: u64, fields: &[&[u8]], i: u32) -> Result<i128, Read
     needed(integer_of(fields[i as usize]), line, i)
 }
 
-/// A whole number from 0 to high.
+/// The whole number from 0 to high that the text spells.
 #[tactic(auto, unfolding(crate::specs::Fields::natural))]
+pub(crate) fn natural(text: &[u8], high: u64) -> Option<u64>
+    ensures value { result ≡ spec.natural high text.now }
+    ensures bound { IfSome result (λ n. n ≤ high) }
+{
+    up_to(high, integer_of(text))
+}
+
+/// A whole number from 0 to high.
 pub(crate) fn natural_of(line: u64, fields: &[&[u8]], i: u32, high: u64) -> Result<u64, ReadFault>
     requires small { i + 1 < 2 ^ 32 }
     requires in_line { i < length fields.now }
     ensures value { Field (spec.natural high (field (texts fields.now) i)) (faults.Number line (i + 1)) result }
     ensures bound { IfOk result (λ n. n ≤ high) }
 {
-    needed(up_to(high, integer_of(fields[i as usize])), line, i)
+    needed(natural(fields[i as usize], high), line, i)
 }
 
 /// The number, where it lies from -99,999 to 99,999.
-fn within(number: Option<i128>) -> Option<i32>
+pub(crate) fn within(number: Option<i128>) -> Option<i32>
     ensures { result ≡ spec.within (negsuc 99998) (pos 99999) number }
 {
     match number {
@@ -193,14 +201,12 @@ pub(crate) fn free_bit_of(line: u64, fields: &[&[u8]], i: u32) -> Result<bool, R
     needed(free_bit(fields[i as usize]), line, i)
 }
 
-/// 0 or 1.
+/// The bit that the text spells.
 #[tactic(auto, unfolding(crate::specs::Fields::bit))]
-pub(crate) fn bit_of(line: u64, fields: &[&[u8]], i: u32) -> Result<bool, ReadFault>
-    requires small { i + 1 < 2 ^ 32 }
-    requires in_line { i < length fields.now }
-    ensures { Field (spec.bit (field (texts fields.now) i)) (faults.Number line (i + 1)) result }
+pub(crate) fn bit(text: &[u8]) -> Option<bool>
+    ensures { result ≡ spec.bit text.now }
 {
-    needed(as_bit(integer_of(fields[i as usize])), line, i)
+    as_bit(integer_of(text))
 }
 
 /// The kind of data that the text names.

@@ -4,6 +4,7 @@
 
 mod ascii;
 mod binary;
+mod cells;
 mod channels;
 mod data;
 mod fault;

@@ -1,12 +1,14 @@
-use Rattle.std.proofs.Common.{◌≡◌}
-use Rattle.std.specs.Prelude.{None}
-use Rattle.dfr_channels.specs.Lines.{texts}
+use Rattle.std.proofs.Common.{◌≡◌, ◌<◌, ◌+◌}
+use Rattle.std.specs.Prelude.{None, drop, length, false}
+use Rattle.comtrade_read.specs.Fields.{bit}
+use Rattle.comtrade_read.specs.Ascii.{cells, cell_faults}
+use Rattle.dfr_channels.specs.Lines.{fields}
 use Rattle.comtrade_read.specs.Table.{first_in}
-use Rattle.comtrade_read.specs.Ascii.{bit_faults, bit_items}
 use Rattle.comtrade_read.proofs.ascii.bits_of.Given as goal
 
 abbrev pub invariant-loop-i : goal.invariant-loop-i
 invariant-loop-i g l = record {
-  sound : first_in (bit_faults l.line l.k (texts l.fields)) l.i ≡ None;
-  same : l.list.items ≡ bit_items (texts l.fields) l.k l.i;
+  sound : first_in (cell_faults bit l.line (2 + l.k) (fields l.text)) l.i ≡ None;
+  same : l.list.items ≡ cells bit false (fields l.text) l.i;
+  rest : l.i < length (fields l.text) → fields l.left ≡ drop l.i (fields l.text);
 }

@@ -1,0 +1,34 @@
+//! The fields of a line, one after the other.
+
+ghost use Rattle.std.specs.Prelude.{◌≡◌, ◌<◌, ◌≤◌, ◌==◌, count_by, length, drop};
+ghost use Rattle.dfr_channels.specs.Lines.{fields, field};
+
+use crate::instant::place_of;
+use dfr_channels::trim;
+
+/// How many commas stand in the line.
+fn comma_count(line: &[u8]) -> usize
+    ensures value { result ≡ count_by (λ b. b == 44) line.now }
+    ensures bound { result ≤ length line.now }
+{
+    line.iter().filter(|b| **b == b',').count()
+}
+
+/// How many fields the line has.
+#[tactic(auto, using(crate::proofs::OneByOne::many))]
+pub(crate) fn field_count(line: &[u8]) -> usize
+    ensures { result ≡ length (fields line.now) }
+{
+    comma_count(line) + 1
+}
+
+/// The first field, and what stands behind its comma.
+pub(crate) fn first_field(line: &[u8]) -> (&[u8], &[u8])
+    ensures first { result.0.now ≡ field (fields line.now) 0 }
+    ensures rest { 1 < length (fields line.now) → fields result.1.now ≡ drop 1 (fields line.now) }
+{
+    match place_of(line, b',') {
+        Some(at) => (trim(&line[..at]), &line[at + 1..]),
+        None => (trim(line), &[]),
+    }
+}
