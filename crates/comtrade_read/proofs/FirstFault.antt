@@ -8,7 +8,7 @@ use Rattle.comtrade_read.specs.declared.fault.ReadFault.TheVariants as faults
 use Rattle.dfr_channels.specs.Lines.{field, line_fields}
 use Rattle.dfr_channels.specs.Faults.{◌or◌}
 use Rattle.comtrade_read.specs.Table.{Rule, tests_fault, fields_fault, line_fault, lines_fault, extra_fault, file_fault, first_in}
-use Rattle.comtrade_read.specs.Faulty.{passes, ObeysFields, Obeys, IsFieldsFault, few, bad, wrong, IsLineFault, missing, within, rule, Faulty, at, extra, FaultLaw, SoundLaw, CompleteLaw}
+use Rattle.comtrade_read.specs.Faulty.{passes, ObeysFields, Obeys, IsFieldsFault, few, bad, wrong, IsLineFault, missing, within, rule, Faulty, at, extra, AllObey}
 
 abbrev some : ReadFault → Option ReadFault
 some e = Some e
@@ -96,7 +96,7 @@ tests_some r line (t ∷ ts) i fs e h = with_test (λ g. tests_some r line ts (i
         let f : e ≡ r.bad line (i + 0 + 1) = rw z (some_is (r.bad line (i + 1)) e g) in
         inl (0, omega arith, q, λ j lt. absurd (omega arith), f)
 
-fields_none : (r : Rule) (line : ℕ) (fs : List (List ℕ)) → fields_fault r line fs ≡ None → ObeysFields r fs
+pub fields_none : (r : Rule) (line : ℕ) (fs : List (List ℕ)) → fields_fault r line fs ≡ None → ObeysFields r fs
 fields_none r line fs h = with_test (eqb (length fs) (length r.tests)) refl h
   where
     with_test : (b : Bool) → eqb (length fs) (length r.tests) ≡ b → cond b (tests_fault r line r.tests 0 fs) (some (r.few line (length fs))) ≡ None → ObeysFields r fs
@@ -105,7 +105,7 @@ fields_none r line fs h = with_test (eqb (length fs) (length r.tests)) refl h
         record { many = eqb-true _ _ t; each = λ i lt. let z : 0 + i ≡ i = omega arith in rw z at (p.0 i lt); whole = p.1 }
     with_test false t e = none_not (r.few line (length fs)) e
 
-fields_again : (r : Rule) (line : ℕ) (fs : List (List ℕ)) → ObeysFields r fs → fields_fault r line fs ≡ None
+pub fields_again : (r : Rule) (line : ℕ) (fs : List (List ℕ)) → ObeysFields r fs → fields_fault r line fs ≡ None
 fields_again r line fs o =
     rw (o.many, eqb-same (length r.tests)) (tests_again r line r.tests 0 fs (λ j lt. let z : 0 + j ≡ j = omega arith in rw z (o.each j lt)) o.whole)
 
@@ -126,7 +126,7 @@ fields_some r line fs e h = with_test (eqb (length fs) (length r.tests)) refl h
 
 -- ---- the lines of a file
 
-line_none : (ls : List (List ℕ)) (r : Rule) (n : ℕ) → line_fault ls r n ≡ None → Obeys ls r n
+pub line_none : (ls : List (List ℕ)) (r : Rule) (n : ℕ) → line_fault ls r n ≡ None → Obeys ls r n
 unfolding line_fault
 line_none ls r n h = with_test (ltb n (length ls)) refl h
   where
@@ -188,7 +188,7 @@ lines_some ls (r ∷ rs) n e h = elim (or_some (line_fault ls r n) (lines_fault 
 from_0 : (ls : List (List ℕ)) (rs : List Rule) (n : ℕ) → Obeys ls (rule rs n) (0 + n) → Obeys ls (rule rs n) n
 from_0 ls rs n o = let z : 0 + n ≡ n = omega arith in rw z at o
 
-pub file_sound : SoundLaw
+pub file_sound : (ls : List (List ℕ)) (rs : List Rule) → file_fault ls rs ≡ None → AllObey ls rs
 unfolding file_fault extra_fault
 file_sound ls rs h =
     let p = or_none (lines_fault ls rs 0) _ h in
@@ -198,13 +198,13 @@ file_sound ls rs h =
     with_test true t e = none_not (faults.Extra (length rs + 1)) e
     with_test false t e = ltb-false _ _ t
 
-pub file_complete : CompleteLaw
+pub file_complete : (ls : List (List ℕ)) (rs : List Rule) → AllObey ls rs → file_fault ls rs ≡ None
 unfolding file_fault extra_fault
 file_complete ls rs o =
     let p = lines_again ls rs 0 (λ j lt. let z : 0 + j ≡ j = omega arith in rw z (o.each j lt)) in
     rw (p, le-ltb (length rs) (length ls) o.end) refl
 
-pub file_first : FaultLaw
+pub file_first : (ls : List (List ℕ)) (rs : List Rule) (e : ReadFault) → file_fault ls rs ≡ Some e → Faulty ls rs e
 unfolding file_fault extra_fault
 file_first ls rs e h = elim (or_some (lines_fault ls rs 0) _ e h) [
   | inl p ↦

@@ -83,6 +83,9 @@ eqb-same n = grind (arith, nat_tests)
 eqb-not : (m n : ℕ) → m ≢ n → eqb m n ≡ false
 eqb-not m n h = grind (arith, nat_tests)
 
+pub row_many : (k m : ℕ) → length (row_rule k m).tests ≡ 2 + k + m
+row_many k m = omega (arith, many k m)
+
 pub row_is : (k m line : ℕ) (fs : List (List ℕ)) → length fs ≡ 2 + k + m → fields_fault (row_rule k m) line fs ≡ row_chain k m line fs
 row_is k m line fs len =
     let n : suc (suc (length (lists k m))) ≡ 2 + k + m = omega (arith, many k m) in

@@ -1,9 +1,9 @@
 -- The fault of a file: in the first line that isn't of its kind, the first by the order in which a line's parts are named.
-use Rattle.std.specs.Prelude.{◌≡◌, ◌≢◌, ℕ, ◌+◌, ◌<◌, ◌≤◌, Bool, true, false, List, [], length, slice_index_or, Some, None}
+use Rattle.std.specs.Prelude.{◌≡◌, ◌≢◌, ℕ, ◌+◌, ◌<◌, ◌≤◌, Bool, true, false, List, [], length, slice_index_or}
 use Rattle.comtrade_read.specs.declared.fault.ReadFault.{ReadFault}
 use Rattle.comtrade_read.specs.declared.fault.ReadFault.TheVariants as faults
 use Rattle.dfr_channels.specs.Lines.{field, line_fields}
-use Rattle.comtrade_read.specs.Table.{Rule, plain, always, file_fault}
+use Rattle.comtrade_read.specs.Table.{Rule, plain, always}
 
 -- whether field i, from 0, can be read
 abbrev pub passes : List (List ℕ → Bool) → List (List ℕ) → ℕ → ℕ → Bool
@@ -42,13 +42,3 @@ pub record AllObey (ls : List (List ℕ)) (rs : List Rule) : Type 0 where
 pub data Faulty (ls : List (List ℕ)) (rs : List Rule) (e : ReadFault) : Type 0 where
   at : (n : ℕ) → n < length rs → ((j : ℕ) → j < n → Obeys ls (rule rs j) j) → IsLineFault ls (rule rs n) n e → Faulty ls rs e
   extra : ((j : ℕ) → j < length rs → Obeys ls (rule rs j) j) → length rs < length ls → e ≡ faults.Extra (length rs + 1) → Faulty ls rs e
-
--- the fault that is computed is the first, whatever the kinds of the lines
-abbrev pub FaultLaw : Type 0
-FaultLaw = (ls : List (List ℕ)) (rs : List Rule) (e : ReadFault) → file_fault ls rs ≡ Some e → Faulty ls rs e
-
-abbrev pub SoundLaw : Type 0
-SoundLaw = (ls : List (List ℕ)) (rs : List Rule) → file_fault ls rs ≡ None → AllObey ls rs
-
-abbrev pub CompleteLaw : Type 0
-CompleteLaw = (ls : List (List ℕ)) (rs : List Rule) → AllObey ls rs → file_fault ls rs ≡ None

@@ -6,4 +6,8 @@ pub mod Faulty
 pub mod Ascii
 pub mod Binary
 pub mod Data
+pub mod Joined
+pub mod Spells
+pub mod Reads
 pub mod Pair
+pub mod ReadBack

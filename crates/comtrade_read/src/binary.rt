@@ -1,4 +1,4 @@
-//! The rows of a binary data file (C37.111-1999, 6.4).
+//! The rows of a binary data file (C37.111-1999, clause 6).
 
 ghost use Rattle.std.specs.Prelude.{◌≡◌, ◌≢◌, ◌≤◌, ◌<◌, ◌*◌, ◌+◌, ◌/◌, ◌^◌, length, map, IfOk, IfErr};
 ghost use Rattle.comtrade_read.specs.declared.fault.ReadFault.TheVariants as faults;

@@ -2,7 +2,9 @@
 
 ghost use Rattle.std.specs.Prelude.{◌≡◌, ◌≢◌, ◌+◌, ◌<◌, ◌≤◌, length, IfOk, IfErr};
 ghost use Rattle.comtrade_read.specs.declared.fault.ReadFault.TheVariants as faults;
-ghost use Rattle.comtrade_read.specs.Data.{SaysRows, FaultyData, last_sample};
+ghost use Rattle.comtrade_read.specs.Data.{FaultyData, last_sample};
+ghost use Rattle.comtrade_read.specs.Reads.{ReadsRows};
+ghost use Rattle.comtrade_read.specs.Pair.{IsNoData};
 
 use crate::ascii::ascii_rows;
 use crate::binary::binary_rows;
@@ -28,8 +30,9 @@ fn rows_of<A: Allocator + Copy>(
     dat: &[u8],
 ) -> Result<Vec<Row<A>, A>, ReadFault>
     requires { length head.now.analog + length head.now.status < 1000000 }
-    ensures rows { IfOk result (λ v. SaysRows head.now dat.now v.items) }
+    ensures rows { IfOk result (λ v. ReadsRows head.now dat.now v.items) }
     ensures fault { IfErr result (λ e. e ≢ faults.Memory → FaultyData head.now dat.now e) }
+    ensures unread { IfErr result (λ e. e ≢ faults.Memory → IsNoData head.now dat.now) }
 {
     let k = head.analog.items().len();
     let m = head.status.items().len();
@@ -40,7 +43,8 @@ fn rows_of<A: Allocator + Copy>(
     }
 }
 
-/// The files that the head and the data say. A fault hands the head back.
+/// The file of this head and of the rows that the data say, in the head's kind (C37.111-1999, clause 6). As many rows are
+/// wanted as the last rate's last sample says, or none where the head has no rate. A fault hands the head back.
 pub fn read_dat<A: Allocator + Copy>(
     alloc: A,
     head: Head<A>,
@@ -48,8 +52,9 @@ pub fn read_dat<A: Allocator + Copy>(
 ) -> Result<File<A>, (ReadFault, Head<A>)>
     requires { length head.analog + length head.status < 1000000 }
     ensures head { IfOk result (λ f. f.head ≡ head) }
-    ensures rows { IfOk result (λ f. SaysRows head dat.now f.rows) }
+    ensures rows { IfOk result (λ f. ReadsRows head dat.now f.rows) }
     ensures fault { IfErr result (λ x. x.0 ≢ faults.Memory → FaultyData head dat.now x.0) }
+    ensures unread { IfErr result (λ x. x.0 ≢ faults.Memory → IsNoData head dat.now) }
     ensures back { IfErr result (λ x. x.1 ≡ head) }
 {
     match rows_of(alloc, &head, dat) {

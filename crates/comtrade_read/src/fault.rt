@@ -5,18 +5,31 @@ ghost use Rattle.comtrade_read.specs.declared.fault.ReadFault.TheVariants.{Memor
 
 use std::alloc::{AllocError, AllocFailed};
 
-/// Lines and fields count from 1.
+/// Why a file is not read: of the lines in order, the first that isn't of its kind, and in it what comes first of: it isn't
+/// there, it has another number of fields, a field can't be read (from the left), it contradicts itself. Lines and fields
+/// count from 1. The numbers of C37.111-1999 name the clause that a line's rule comes from.
 #[derive(Clone, Copy, Debug, PartialEq, Eq)]
 pub enum ReadFault {
+    /// The first line has two fields, or a third that isn't the year 1999 (5.3.1).
     Revision,
+    /// The line has another number of fields than its kind wants.
     Fields(u64),
+    /// The line, and the field that can't be read or is out of its range.
     Number(u64, u32),
+    /// The line of the counts doesn't add up or counts no channel (5.3.2), a channel's number isn't its own (5.3.3, 5.3.4),
+    /// or a rate's last sample is below the one before (5.3.6).
     Counts(u64),
+    /// The line has two fields that aren't a date and a time of day of the years 1 to 9999 (5.3.7).
     Instant(u64),
+    /// The data file's type is neither ASCII nor BINARY, in any case of letters (5.3.8).
     Kind,
+    /// The file ends before this line.
     Missing(u64),
+    /// A line that isn't blank stands behind the last one.
     Extra(u64),
+    /// Binary data aren't as long as their rows (clause 6).
     Length,
+    /// A growth was refused; the texts may have a fault besides.
     Memory,
 }
 

@@ -4,7 +4,8 @@ ghost use Rattle.std.specs.Prelude.{◌≡◌, ◌≢◌, IfOk, IfErr};
 ghost use Rattle.comtrade_read.specs.declared.fault.ReadFault.TheVariants as faults;
 ghost use Rattle.dfr_channels.specs.Lines.{texts, lines, line_fields};
 ghost use Rattle.comtrade_read.specs.Table.{Gives};
-ghost use Rattle.comtrade_read.specs.Pair.{SaysHead, FaultyHead};
+ghost use Rattle.comtrade_read.specs.Pair.{FaultyHead, IsNoHead};
+ghost use Rattle.comtrade_read.specs.Reads.{ReadsHead};
 ghost use Rattle.comtrade_read.specs.Head as spec;
 
 use crate::channels::{analogs_of, statuses_of};
@@ -44,10 +45,14 @@ fn head_of<A: Allocator + Copy>(alloc: A, lines: &[&[u8]]) -> Result<Head<A>, Re
     })
 }
 
-/// The head that a text says.
+/// The head that a configuration file says (C37.111-1999, clause 5), or its first fault.
+///
+/// Lines end with LF or CR LF, blanks round fields and blank lines at the end are free, and numbers, dates and letters may be
+/// spelled as other programs spell them. Any bytes are a station, a device or a channel's text.
 pub fn read_cfg<A: Allocator + Copy>(alloc: A, text: &[u8]) -> Result<Head<A>, ReadFault>
-    ensures found { IfOk result (SaysHead text.now) }
+    ensures found { IfOk result (ReadsHead text.now) }
     ensures fault { IfErr result (λ e. e ≢ faults.Memory → FaultyHead text.now e) }
+    ensures unread { IfErr result (λ e. e ≢ faults.Memory → IsNoHead text.now) }
 {
     let lines = lines_of(alloc, text)?;
     head_of(alloc, without_blank_end(&lines))

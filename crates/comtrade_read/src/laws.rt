@@ -1,10 +1,14 @@
-//! Laws of the tables.
+//! Laws of the grammar.
 
-ghost use Rattle.comtrade_read.specs.Faulty.{FaultLaw, SoundLaw, CompleteLaw};
+ghost use Rattle.comtrade_read.specs.Pair.{OneFileLaw};
+ghost use Rattle.comtrade_read.specs.ReadBack.{ReadBackLaw};
 
-/// The fault that a table gives is the first, and there is none exactly where every line is of its kind.
-pub fn first_fault()
-    ensures first { FaultLaw }
-    ensures sound { SoundLaw }
-    ensures complete { CompleteLaw }
+/// No pair of texts reads to two files.
+pub fn one_file()
+    ensures { OneFileLaw }
+{}
+
+/// A file that the writers don't refuse is read from its own texts.
+pub fn read_back()
+    ensures { ReadBackLaw }
 {}

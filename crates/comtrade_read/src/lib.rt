@@ -1,4 +1,5 @@
-//! Reads COMTRADE files of C37.111-1999.
+//! Reads COMTRADE files of C37.111-1999. `specs/Reads` says which texts read to which files; `specs/Faulty` says which fault
+//! is the first.
 #![tactic(auto)]
 
 mod ascii;
@@ -17,5 +18,8 @@ mod settings;
 pub use data::read_dat;
 pub use fault::ReadFault;
 pub use head::read_cfg;
-pub use laws::first_fault;
+pub use laws::{one_file, read_back};
 pub use pair::{Part, read};
+
+#[cfg(test)]
+mod tests;

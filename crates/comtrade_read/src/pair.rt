@@ -2,7 +2,8 @@
 
 ghost use Rattle.std.specs.Prelude.{◌≢◌, IfOk, IfErr};
 ghost use Rattle.comtrade_read.specs.declared.fault.ReadFault.TheVariants as faults;
-ghost use Rattle.comtrade_read.specs.Pair.{SaysFile, FaultyPair};
+ghost use Rattle.comtrade_read.specs.Pair.{FaultyPair, IsNoFile};
+ghost use Rattle.comtrade_read.specs.Reads.{Reads};
 
 use crate::data::read_dat;
 use crate::fault::ReadFault;
@@ -17,14 +18,16 @@ pub enum Part {
     Dat,
 }
 
-/// The files that the two texts say, or the part that could not be read and its first fault.
+/// The file that a configuration file and its data file say, or the part that isn't read and its first fault. The data are
+/// looked at where the configuration file reads.
 pub fn read<A: Allocator + Copy>(
     alloc: A,
     cfg: &[u8],
     dat: &[u8],
 ) -> Result<File<A>, (Part, ReadFault)>
-    ensures found { IfOk result (SaysFile cfg.now dat.now) }
+    ensures found { IfOk result (Reads cfg.now dat.now) }
     ensures fault { IfErr result (λ x. x.1 ≢ faults.Memory → FaultyPair cfg.now dat.now x.0 x.1) }
+    ensures unread { IfErr result (λ x. x.1 ≢ faults.Memory → IsNoFile cfg.now dat.now) }
 {
     match read_cfg(alloc, cfg) {
         Err(fault) => Err((Part::Cfg, fault)),

@@ -1,7 +1,8 @@
 -- Sixteen bits as a number.
-use Rattle.std.proofs.Common.{◌≡◌, ℕ, zero, suc, ◌+◌, ◌-◌, ◌*◌, ◌^◌, ◌<◌, ◌≤◌, Bool, true, false, List, [], ◌∷◌, ◌++◌, length, take, refl, sym, ap, ◌∙◌, arith, add-one, get_or, length-take}
-use Rattle.std.proofs.lemmas.List.{take_more}
+use Rattle.std.proofs.Common.{◌≡◌, ℕ, zero, suc, ◌+◌, ◌-◌, ◌*◌, ◌^◌, ◌<◌, ◌≤◌, Bool, true, false, List, [], ◌∷◌, ◌++◌, length, drop, refl, sym, ap, ◌∙◌, arith, add-one, get_or}
 use Rattle.std.proofs.Math.Nat.{pow-suc}
+use Rattle.std.proofs.Math.Seq.{drop-cons}
+use mir.Val.{bool_byte}
 use Rattle.std.specs.List.{range_with_len}
 use Rattle.comtrade_write.specs.Binary.{bits_number}
 
@@ -29,19 +30,29 @@ range_more a (suc n) =
     let ih = range_more (a + 1) n in
     rw two (ap (λ (xs : List ℕ). a ∷ xs) (ih ∙ ap (λ (x : ℕ). range_with_len (a + 1) n ++ x ∷ []) s))
 
--- one more bit that is set, and one that isn't
-pub more_set : (bits : List Bool) (i g w h : ℕ) → i < length bits → g ≡ bits_number (take i bits) → w ≡ 2 ^ i → get_or bits i false ≡ true → h ≡ g + w → h ≡ bits_number (take (i + 1) bits)
-more_set bits i g w h lt g_is w_is bit h_is =
-    let t = take_more bits i false lt in
-    let len : length (take i bits) ≡ i = omega (arith, length-take i bits) in
-    let set = bits_number-set (take i bits) in
-    rw (t, bit, set, len, ← g_is, ← w_is) h_is
+-- one more bit in front
+bits_number-cons : (b : Bool) (bits : List Bool) → bits_number (b ∷ bits) ≡ 2 * bits_number bits + bool_byte b
+unfolding bits_number
+bits_number-cons true bits = omega arith
+bits_number-cons false bits = omega arith
 
-pub more_clear : (bits : List Bool) (i g h : ℕ) → i < length bits → g ≡ bits_number (take i bits) → get_or bits i false ≡ false → h ≡ g → h ≡ bits_number (take (i + 1) bits)
-more_clear bits i g h lt g_is bit h_is =
-    let t = take_more bits i false lt in
-    let clear = bits_number-clear (take i bits) in
-    rw (t, bit, clear, ← g_is) h_is
+one_at_most : (b : Bool) → bool_byte b ≤ 1
+one_at_most true = omega arith
+one_at_most false = omega arith
 
-pub next_weight : (i w : ℕ) → w ≡ 2 ^ i → w * 2 ≡ 2 ^ (i + 1)
-next_weight i w e = rw (add-one, pow-suc 2 i) (omega arith)
+-- one more bit, from the last one back
+pub more_low : (bits : List Bool) (i g h : ℕ) → i < length bits → g ≡ bits_number (drop (length bits - i) bits)
+    → h ≡ 2 * g + bool_byte (get_or bits (length bits - 1 - i) false) → h ≡ bits_number (drop (length bits - (i + 1)) bits)
+more_low bits i g h lt so_far e =
+    let j : ℕ = length bits - 1 - i in
+    let here : length bits - (i + 1) ≡ j = omega arith in
+    let above : suc j ≡ length bits - i = omega arith in
+    let cut = drop-cons bits j false (omega arith) in
+    let step = bits_number-cons (get_or bits j false) (drop (suc j) bits) in
+    e ∙ ap (λ (n : ℕ). 2 * n + bool_byte (get_or bits j false)) (so_far ∙ ap (λ (k : ℕ). bits_number (drop k bits)) (sym above))
+    ∙ sym step ∙ ap bits_number (sym cut) ∙ ap (λ (k : ℕ). bits_number (drop k bits)) (sym here)
+
+pub small_more : (b : Bool) (i g : ℕ) → g < 2 ^ i → 2 * g + bool_byte b < 2 ^ (i + 1)
+small_more b i g h =
+    let one = one_at_most b in
+    rw (add-one, pow-suc 2 i) (omega arith)

@@ -1,26 +1,26 @@
 -- The civil date of a day number is the date that has that day number.
-use Rattle.std.proofs.Common.{◌≡◌, ℕ, zero, suc, ◌+◌, ◌-◌, ◌*◌, ◌<◌, ◌≤◌, Bool, true, false, cond, inl, inr, refl, sym, ap, ◌∙◌, arith, ℤ, pos, negsuc, neg_ℤ, ◌-ℤ◌, ◌≤ℤ◌, ◌<ℤ◌, unsigned_abs}
+use Rattle.std.proofs.Common.{◌≡◌, ℕ, zero, suc, ◌+◌, ◌-◌, ◌<◌, ◌≤◌, Bool, true, false, inl, inr, refl, sym, ap, ◌∙◌, arith, ℤ, pos, negsuc, neg_ℤ, ◌-ℤ◌, ◌≤ℤ◌, ◌<ℤ◌, unsigned_abs}
 use Rattle.std.specs.Prelude.{int_le}
 use Rattle.std.proofs.lemmas.Int.{ints}
 use Rattle.std.proofs.lemmas.Bool.{cases_lt}
-use Rattle.jiff_core.specs.Calendar.{IsCivilDate, IsYear, day_count, days_from_civil, days_in_month, day_of_year}
+use Rattle.jiff_core.specs.Calendar.{IsCivilDate, day_count, days_from_civil}
 use Rattle.jiff_core.proofs.CalendarLemmas.{days_from_civil-day_count, day_count-day_of_year, day_count-lt_year, day_count-lt_month, day_count-day}
 use Rattle.jiff_core.proofs.SignedLemmas.{signed_arith}
 use Rattle.jiff_core.proofs.MarchLemmas.{day_count-early}
-use borrow.Author.Differences.{up, down}
-use Rattle.comtrade_write.specs.Dates.{Civil, last_that, year_of, month_of, civil_of}
+use Rattle.comtrade_write.specs.Dates.{last_that, year_of, month_of, civil_of}
 
 last_that-is : (test : ℕ → Bool) (top n : ℕ) → n ≤ top → test n ≡ true → ((k : ℕ) → n < k → k ≤ top → test k ≡ false) → last_that test top ≡ n
 unfolding last_that
 last_that-is test zero n h holds fails = omega arith
 last_that-is test (suc top) n h holds fails =
     elim (cases_lt n (suc top)) [
-      inl lt ↦ (let out = fails (suc top) lt (omega arith) in
-        let ih = last_that-is test top n (omega arith) holds (λ k a b. fails k a (omega arith)) in
-        rw out ih)
-    | inr le ↦ (let e : suc top ≡ n = omega arith in
-        let at_top : test (suc top) ≡ true = rw e holds in
-        rw at_top e) ]
+      | inl lt ↦ (let out = fails (suc top) lt (omega arith) in
+          let ih = last_that-is test top n (omega arith) holds (λ k a b. fails k a (omega arith)) in
+          rw out ih)
+      | inr le ↦ (let e : suc top ≡ n = omega arith in
+          let at_top : test (suc top) ≡ true = rw e holds in
+          rw at_top e)
+    ]
 
 int_le-true : (a b : ℤ) → a ≤ℤ b → int_le a b ≡ true
 int_le-true a b h = grind (arith, ints)

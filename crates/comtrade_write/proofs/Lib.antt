@@ -7,3 +7,5 @@ pub mod Bits
 pub mod Refusals
 pub mod Appending
 pub mod Own
+pub mod Groups
+pub mod Places

@@ -1,14 +1,15 @@
 -- Going on by one item in a numbered list.
-use Rattle.std.proofs.Common.{◌≡◌, ℕ, zero, suc, ◌+◌, ◌<◌, Option, Some, None, Bool, true, false, List, [], ◌∷◌, ◌++◌, length, get_or, drop, ◌≤◌, refl, sym, ap, ◌∙◌, arith, add-one, append_assoc}
+use Rattle.std.proofs.Common.{◌≡◌, ℕ, zero, suc, ◌+◌, ◌<◌, Option, Some, None, Bool, true, false, List, [], ◌∷◌, ◌++◌, length, get_or, take, drop, ◌&&◌, ◌≤◌, refl, sym, ap, ◌∙◌, arith, add-one, append_assoc, true≢false}
 use Rattle.std.proofs.Math.Seq.{drop-cons}
 use Rattle.std.proofs.lemmas.List.{drop_all}
+use Rattle.std.proofs.lemmas.Bool.{and_parts, and_from}
 use Rattle.dfr_channels.specs.declared.scan.Reading.{Reading}
 use Rattle.comtrade_write.specs.Parts.{RowParts}
 use Rattle.comtrade_write.specs.declared.fault.WriteFault.{WriteFault}
 use Rattle.comtrade_write.specs.declared.fault.WriteFault.TheVariants as faults
 use Rattle.dfr_channels.specs.Faults.{◌or◌, fault_unless}
 use Rattle.comtrade_write.specs.Numbered.{first_from, each_from, numbered}
-use Rattle.comtrade_write.specs.Refusals.{takes_reading, takes_times, values_from, rows_from, stamps_from, values_refusal, value_refusal, stamp_refusal}
+use Rattle.comtrade_write.specs.Refusals.{takes_reading, takes_times, takes_row, rows_refusal, WritesTaken, values_from, rows_from, stamps_from, values_refusal, value_refusal, stamp_refusal}
 use Rattle.comtrade_write.specs.declared.bounds.Bounds.{Bounds}
 use Rattle.std.specs.List.{list_all}
 
@@ -77,10 +78,38 @@ pub values_from-end : (m : Bounds) (row n i : ℕ) (values : List Reading) → l
 unfolding values_from
 values_from-end m row n i values h = none_left (λ channel v. fault_unless (takes_reading m v) (faults.Value row channel)) n i values h
 
+-- a row whose values are all taken
+pub values_from-all : (m : Bounds) (row n : ℕ) (values : List Reading) → list_all (takes_reading m) values ≡ true → values_from m row n values ≡ None
+unfolding values_from
+values_from-all m row n [] e = refl
+values_from-all m row n (v ∷ values) e =
+    let p = and_parts (takes_reading m v) (list_all (takes_reading m) values) e in
+    let rest = values_from-all m row (n + 1) values p.1 in
+    rw (p.0) rest
+
 pub all_at : {X : Type 0} (test : X → Bool) (xs : List X) (i : ℕ) (d : X) → i < length xs → list_all test xs ≡ true → test (get_or xs i d) ≡ true
 all_at test [] i d h e = absurd (omega arith)
 all_at test (x ∷ xs) zero d h e = grind arith
 all_at test (x ∷ xs) (suc i) d h e = let ih = all_at test xs i d (omega arith) in grind (arith, ih)
+
+and_false : (b : Bool) → (b && false) ≡ false
+and_false true = refl
+and_false false = refl
+
+-- one item that fails, and one more item that passes
+pub not_all : {X : Type 0} (test : X → Bool) (xs : List X) (i : ℕ) (d : X) → i < length xs → test (get_or xs i d) ≡ false → list_all test xs ≡ false
+not_all test [] i d h e = absurd (omega arith)
+not_all test (x ∷ xs) zero d h e = rw e refl
+not_all test (x ∷ xs) (suc i) d h e = let ih = not_all test xs i d (omega arith) e in rw ih (and_false (test x))
+
+pub all_more : {X : Type 0} (test : X → Bool) (xs : List X) (i : ℕ) (d : X) → i < length xs → test (get_or xs i d) ≡ true → list_all test (take i xs) ≡ true → list_all test (take (i + 1) xs) ≡ true
+all_more test [] i d h e before = absurd (omega arith)
+all_more test (x ∷ xs) zero d h e before = rw e refl
+all_more test (x ∷ xs) (suc i) d h e before =
+    let p = and_parts (test x) (list_all test (take i xs)) before in
+    let ih = all_more test xs i d (omega arith) e p.1 in
+    let s : suc i + 1 ≡ suc (i + 1) = omega arith in
+    rw (s, p.0) ih
 
 -- going on where an item answers nothing, and stopping where it answers
 pub first_from-pass : {X F : Type 0} (f : ℕ → X → Option F) (n : ℕ) (xs : List X) (i : ℕ) (d : X) → i < length xs → f (n + i) (get_or xs i d) ≡ None → first_from f (n + (i + 1)) (drop (i + 1) xs) ≡ first_from f (n + i) (drop i xs)
@@ -137,3 +166,46 @@ numbered-more {X} {Y} f n xs i k x y out new total number lt item made written s
     ap (λ (r : List Y). r ++ numbered f (n + (i + 1)) (drop (i + 1) xs)) (written ∙ ap (λ (z : Y). out ++ z ∷ []) here)
     ∙ append_assoc out (f (n + i) (get_or xs i x) ∷ []) (numbered f (n + (i + 1)) (drop (i + 1) xs))
     ∙ ap (λ (r : List Y). out ++ r) (sym step) ∙ so_far
+
+values_all : (m : Bounds) (row n : ℕ) (values : List Reading) → values_from m row n values ≡ None → list_all (takes_reading m) values ≡ true
+unfolding values_from
+values_all m row n [] e = refl
+values_all m row n (v ∷ values) e =
+    let p = or-none (fault_unless (takes_reading m v) (faults.Value row n)) (values_from m row (n + 1) values) e in
+    and_from _ _ (unless_none (takes_reading m v) (faults.Value row n) p.0) (values_all m row (n + 1) values p.1)
+
+-- rows that are all taken have no refusal, and rows with no refusal are all taken
+pub taken_none : (m : Bounds) (n : ℕ) (rows : List RowParts) → list_all (takes_row m) rows ≡ true → (rows_from m n rows ≡ None) × (stamps_from m n rows ≡ None)
+unfolding rows_from stamps_from
+taken_none m n [] e = (refl, refl)
+taken_none m n (r ∷ rows) e =
+    let p = and_parts (takes_row m r) (list_all (takes_row m) rows) e in
+    let q = and_parts (list_all (takes_reading m) r.values) (takes_times m r) p.0 in
+    let rest = taken_none m (n + 1) rows p.1 in
+    let v = values_from-all m n 1 r.values q.0 in
+    (rw v rest.0, rw (q.1) rest.1)
+
+pub none_taken : (m : Bounds) (n : ℕ) (rows : List RowParts) → rows_from m n rows ≡ None → stamps_from m n rows ≡ None → list_all (takes_row m) rows ≡ true
+unfolding rows_from stamps_from
+none_taken m n [] e f = refl
+none_taken m n (r ∷ rows) e f =
+    let p = or-none (values_refusal m n r.values) (rows_from m (n + 1) rows) e in
+    let q = or-none (fault_unless (takes_times m r) (faults.Stamp n)) (stamps_from m (n + 1) rows) f in
+    and_from _ _ (and_from _ _ (values_all m n 1 r.values p.0) (unless_none (takes_times m r) (faults.Stamp n) q.0)) (none_taken m (n + 1) rows p.1 q.1)
+
+pub refusal_none : (m : Bounds) (rows : List RowParts) → list_all (takes_row m) rows ≡ true → rows_refusal m rows ≡ None
+refusal_none m rows e = let t = taken_none m 1 rows e in rw (t.0) (t.1)
+
+pub refusal_some : (m : Bounds) (rows : List RowParts) → list_all (takes_row m) rows ≡ false → ¬ (rows_refusal m rows ≡ None)
+refusal_some m rows e n =
+    let p = or-none (value_refusal m rows) (stamp_refusal m rows) n in
+    let t = none_taken m 1 rows p.0 p.1 in
+    true≢false (sym t ∙ e)
+
+pub written_if : (b all : Bool) (P : Type 0) → b ≡ true → WritesTaken b all P → (all ≡ true) × P
+written_if true all P e w = w
+written_if false all P e w = cc
+
+pub refused_if : (b all : Bool) (P : Type 0) → b ≡ false → WritesTaken b all P → all ≡ false
+refused_if true all P e w = cc
+refused_if false all P e w = w

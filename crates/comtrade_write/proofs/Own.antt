@@ -1,6 +1,6 @@
 -- No writer refuses the File of a record that is the layout's own.
-use Rattle.std.proofs.Common.{◌≡◌, ℕ, zero, suc, ◌+◌, ◌-◌, ◌*◌, ◌/◌, ◌<◌, ◌≤◌, Bool, true, false, ◌&&◌, Option, Some, None, List, [], ◌∷◌, length, refl, sym, ap, ◌∙◌, arith, ℤ, pos, negsuc, ◌≤ℤ◌, ◌+ℤ◌, nat_le, nat_lt, ◌==◌, if◌then◌else◌, is_some, is_none}
-use Rattle.std.specs.Prelude.{int_le, not, option_map}
+use Rattle.std.proofs.Common.{◌≡◌, ℕ, zero, suc, ◌+◌, ◌-◌, ◌*◌, ◌/◌, ◌<◌, ◌≤◌, Bool, true, false, ◌&&◌, Option, Some, None, List, [], ◌∷◌, length, refl, ap, arith, ℤ, pos, negsuc, ◌≤ℤ◌, ◌+ℤ◌, nat_le, ◌==◌, if◌then◌else◌, is_some, is_none}
+use Rattle.std.specs.Prelude.{int_le}
 use Rattle.std.proofs.Math.Nat.{div-mul-le_self}
 use Rattle.std.proofs.lemmas.Nat.{le-div}
 use Rattle.std.proofs.lemmas.Int.{ints}
@@ -8,23 +8,18 @@ use Rattle.std.proofs.lemmas.Bool.{and_parts, and_from}
 use Rattle.std.proofs.lemmas.Bool.Decides.{nat_tests}
 use Rattle.std.specs.List.{list_all}
 use Rattle.dfr_channels.specs.Spelling.{Number}
-use Rattle.dfr_channels.specs.Faults.{◌or◌, fault_unless}
-use Rattle.dfr_channels.specs.Texts.{is_plain, is_name, is_phase, is_unit}
+use Rattle.dfr_channels.specs.Texts.{is_plain}
 use Rattle.dfr_channels.specs.Parts.{AnalogParts, StatusParts, ScanParts, SetupParts}
 use Rattle.dfr_channels.specs.Setups.{has_span, has_analog_texts, has_status_texts, IsLawful}
-use Rattle.dfr_channels.specs.Scans.{micros, within_time, instant_of, is_within, has_shape, lowest_out, scan_fault}
+use Rattle.dfr_channels.specs.Scans.{micros, is_within, has_shape, lowest_out, scan_fault}
 use Rattle.dfr_channels.specs.declared.scan.Reading.{Reading}
 use Rattle.dfr_channels.specs.declared.scan.Reading.TheVariants.{Value, Missing}
 use Rattle.dfr_channels.specs.declared.layout.ScanFault.TheVariants.{Range}
 use Rattle.dfr_channels.proofs.Lawful.{or-none, unless-none, map-none}
 use Rattle.dfr_recorder.specs.Parts.{RecordParts, IsWhole}
-use Rattle.dfr_recorder.specs.Limits.{has_stamps}
 use Rattle.dfr_recorder.specs.Own.{passes, has_instant, is_own}
 use Rattle.comtrade_write.specs.declared.bounds.Bounds.{Bounds}
 use Rattle.comtrade_write.specs.declared.file.Kind.{Kind}
-use Rattle.comtrade_write.specs.declared.fault.WriteFault.{WriteFault}
-use Rattle.comtrade_write.specs.declared.fault.WriteFault.TheVariants as faults
-use Rattle.comtrade_write.specs.Parts.{HeadParts, RowParts, FileParts}
 use Rattle.comtrade_write.specs.Numbered.{first_from, numbered}
 use Rattle.comtrade_write.specs.Shape.{channels_fit, rates_end, is_some_of, is_writable, has_bounds, head_shaped, row_shaped, is_shaped}
 use Rattle.comtrade_write.specs.Refusals.{ascii_bounds, binary_bounds, takes_reading, values_from, rows_from, stamps_from, data_refusal, analog_refusal, status_refusal, text_refusal, cfg_refusal}
@@ -259,5 +254,5 @@ own_writable l r kind p w own =
     record {
       cfg = rw (shaped, texts) refl;
       ascii = rw (shaped, ascii_values, stamps ascii_bounds (omega arith) (omega arith)) refl;
-      binary = rw (shaped, binary_values, stamps binary_bounds (omega arith) (omega arith)) refl
+      binary = rw (shaped, binary_values, stamps binary_bounds (omega arith) (omega arith)) refl;
     }

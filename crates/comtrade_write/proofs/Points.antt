@@ -1,5 +1,5 @@
 -- Where the point stands.
-use Rattle.std.proofs.Common.{◌≡◌, ℕ, zero, suc, ◌+◌, ◌-◌, ◌<◌, ◌≤◌, List, [], ◌∷◌, ◌++◌, length, take, drop, refl, sym, ap, ◌∙◌, arith, ℤ, pos, negsuc, ◌<ℤ◌, ◌≤ℤ◌, append_assoc, length-append, add-one}
+use Rattle.std.proofs.Common.{◌≡◌, ℕ, zero, suc, ◌+◌, ◌-◌, ◌<◌, ◌≤◌, List, [], ◌∷◌, ◌++◌, length, take, drop, refl, ap, arith, ℤ, pos, negsuc, ◌<ℤ◌, ◌≤ℤ◌, length-append, add-one}
 use Rattle.std.specs.List.{repeat}
 use Rattle.std.proofs.lemmas.Int.{ints}
 use Rattle.dfr_channels.specs.Written.{filled}

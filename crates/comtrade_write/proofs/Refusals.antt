@@ -1,5 +1,5 @@
 -- What a file that isn't refused is known to have.
-use Rattle.std.proofs.Common.{◌≡◌, ℕ, ◌+◌, Bool, true, false, Option, Some, None, List, length, refl, ◌&&◌, ◌<◌, arith}
+use Rattle.std.proofs.Common.{◌≡◌, ℕ, ◌+◌, Bool, true, false, Option, Some, None, length, refl, ◌<◌, arith}
 use Rattle.std.proofs.lemmas.Bool.{and_parts}
 use Rattle.std.proofs.lemmas.Bool.Decides.{nat_tests}
 use Rattle.std.specs.List.{list_all}
@@ -58,6 +58,9 @@ passes m f e =
 pub cfg_shaped : (f : FileParts) → cfg_refusal f ≡ None → is_shaped f ≡ true
 unfolding cfg_refusal
 cfg_shaped f e = unless_none _ _ (or-none _ _ e).0
+
+pub row_parts : (k n : ℕ) (r : RowParts) → row_shaped k n r ≡ true → (length r.values ≡ k) × (length r.bits ≡ n)
+row_parts k n r e = (grind (arith, nat_tests), grind (arith, nat_tests))
 
 pub bits_few : (k n : ℕ) (r : RowParts) → row_shaped k n r ≡ true → n < 1_000_000 → length r.bits < 1_000_000
 bits_few k n r e h = grind (arith, nat_tests)

@@ -1,4 +1,4 @@
--- The data file in ASCII form (C37.111-1999, 6.1).
+-- The data file in ASCII form (C37.111-1999, clause 6).
 use Rattle.std.specs.Prelude.{ℕ, Bool, Option, Some, None, List, [], ◌∷◌, ◌++◌, map, codes}
 use Rattle.std.specs.List.{flat_map}
 use Rattle.std.specs.Fmt.{decimal, signed_decimal}

@@ -1,4 +1,4 @@
--- The data file in BINARY form (C37.111-1999, 6.2). Every number has its least significant byte first.
+-- The data file in BINARY form (C37.111-1999, clause 6). Every number has its least significant byte first.
 use Rattle.std.specs.Prelude.{ℕ, ◌+◌, ◌*◌, ◌/◌, Bool, true, false, Option, Some, None, List, [], ◌∷◌, ◌++◌, length, take, drop}
 use Rattle.std.specs.List.{flat_map, range_with_len}
 use Rattle.std.specs.Int.{w16, cast_unsigned}

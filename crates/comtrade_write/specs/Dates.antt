@@ -1,4 +1,4 @@
--- The date and time stamps of a configuration file (C37.111-1999, 5.3.8).
+-- The date and time stamps of a configuration file (C37.111-1999, 5.3.7).
 use Rattle.std.specs.Prelude.{ℕ, zero, suc, ◌+◌, ◌/◌, ◌%◌, Bool, if◌then◌else◌, ℤ, pos, int_le, unsigned_abs, ◌-ℤ◌, List, ◌∷◌, ◌++◌}
 use Rattle.std.specs.Int.{int_div_euclid, int_rem_euclid}
 use Rattle.jiff_core.specs.Calendar.{days_from_civil}
@@ -28,7 +28,7 @@ unfoldable pub civil_of : ℤ → Civil
 civil_of day = record {
   year = year_of day;
   month = month_of day;
-  day = unsigned_abs (day -ℤ days_from_civil (pos (year_of day)) (month_of day) 1) + 1
+  day = unsigned_abs (day -ℤ days_from_civil (pos (year_of day)) (month_of day) 1) + 1;
 }
 
 -- the number of the day of an instant, which is in microseconds since 1970-01-01 00:00:00

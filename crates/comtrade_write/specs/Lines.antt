@@ -1,4 +1,4 @@
--- Lines of fields, in the configuration file (C37.111-1999, 5.3) and in ASCII data (6.1).
+-- Lines of fields, in the configuration file (C37.111-1999, clause 5) and in ASCII data (clause 6).
 use Rattle.std.specs.Prelude.{ℕ, Bool, true, false, List, [], ◌∷◌, ◌++◌}
 use Rattle.std.specs.List.{join_with_byte}
 

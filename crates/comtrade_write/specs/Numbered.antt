@@ -1,5 +1,5 @@
 -- Lists whose items are numbered on.
-use Rattle.std.specs.Prelude.{ℕ, ◌+◌, Option, Some, None, List, [], ◌∷◌, ◌++◌}
+use Rattle.std.specs.Prelude.{ℕ, ◌+◌, Option, None, List, [], ◌∷◌, ◌++◌}
 use Rattle.dfr_channels.specs.Faults.{◌or◌}
 
 -- the first answer that f gives of an item and its number, counted from n

@@ -21,9 +21,17 @@ instant_at layout k = layout.start +ℤ pos (micros layout.rate k)
 -- one rate, and as many rows as the record has scans; stamps are microseconds
 abbrev pub head_of : SetupParts → RecordParts → Kind → HeadParts
 head_of layout r kind = record {
-  station = layout.station; device = layout.device; analog = layout.analog; status = layout.status;
-  line_freq = layout.line_freq; nrates = 1; rates = record { samp = whole layout.rate; endsamp = length r.scans } ∷ [];
-  first = instant_at layout r.extent.first; trigger = instant_at layout r.extent.trigger; kind = kind; timemult = whole 1
+  station = layout.station;
+  device = layout.device;
+  analog = layout.analog;
+  status = layout.status;
+  line_freq = layout.line_freq;
+  nrates = 1;
+  rates = record { samp = whole layout.rate; endsamp = length r.scans } ∷ [];
+  first = instant_at layout r.extent.first;
+  trigger = instant_at layout r.extent.trigger;
+  kind = kind;
+  timemult = whole 1;
 }
 
 -- row i, from 1, and the microseconds from the first row's scan to its own

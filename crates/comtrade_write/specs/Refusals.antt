@@ -1,5 +1,6 @@
 -- What isn't written, and how that is answered.
-use Rattle.std.specs.Prelude.{◌≡◌, ℕ, ◌+◌, Bool, true, false, ◌&&◌, nat_le, int_le, Option, Some, None, Result, Ok, Err, pos, neg_ℤ, List, [], ◌∷◌, length}
+use Rattle.std.specs.Prelude.{◌≡◌, ℕ, ◌+◌, Bool, true, false, ◌&&◌, nat_le, int_le, Option, Some, None, Result, Ok, Err, pos, neg_ℤ, List, length}
+use Rattle.std.specs.List.{list_all}
 use Rattle.dfr_channels.specs.Faults.{◌or◌, fault_unless}
 use Rattle.dfr_channels.specs.Texts.{is_plain}
 use Rattle.dfr_channels.specs.Parts.{AnalogParts, StatusParts}
@@ -31,6 +32,10 @@ takes_stamp m None = true
 
 abbrev pub takes_times : Bounds → RowParts → Bool
 takes_times m r = nat_le r.number m.number && takes_stamp m r.stamp
+
+-- a row whose values, number and stamp are taken
+abbrev pub takes_row : Bounds → RowParts → Bool
+takes_row m r = list_all (takes_reading m) r.values && takes_times m r
 
 -- the first value of a row that isn't taken, where its channels count from n
 unfoldable pub values_from : Bounds → ℕ → ℕ → List Reading → Option WriteFault
@@ -93,6 +98,16 @@ Fails faults.Shape refusal = refusal ≡ Some faults.Shape
 Fails (faults.Text line field) refusal = refusal ≡ Some (faults.Text line field)
 Fails (faults.Value row channel) refusal = refusal ≡ Some (faults.Value row channel)
 Fails (faults.Stamp row) refusal = refusal ≡ Some (faults.Stamp row)
+
+-- whether all rows are taken is answered, and they are written where they are
+abbrev pub WritesTaken : Bool → Bool → Type 0 → Type 0
+WritesTaken true all written = (all ≡ true) × written
+WritesTaken false all written = all ≡ false
+
+-- a text where nothing is refused, and none where something is
+abbrev pub GivesText : {V : Type 0} → (V → List ℕ) → Option V → Option WriteFault → List ℕ → Type 0
+GivesText view (Some v) refusal text = (refusal ≡ None) × (view v ≡ text)
+GivesText view None refusal text = ¬ (refusal ≡ None)
 
 -- a writer's answer: the text where nothing is refused, else the refusal, or want of memory
 abbrev pub Answers : {V : Type 0} → (V → List ℕ) → Result V WriteFault → Option WriteFault → List ℕ → Type 0

@@ -1,5 +1,5 @@
 -- Files of the right shape: what the configuration file counts stands in the data file, and each number is in its range.
-use Rattle.std.specs.Prelude.{ℕ, ◌+◌, ◌-◌, ◌==◌, ℤ, pos, neg_ℤ, Bool, true, false, ◌&&◌, nat_le, nat_lt, int_le, if◌then◌else◌, Option, Some, None, List, [], ◌∷◌, length}
+use Rattle.std.specs.Prelude.{ℕ, ◌+◌, ◌-◌, ◌==◌, ℤ, pos, neg_ℤ, Bool, false, ◌&&◌, nat_le, nat_lt, int_le, if◌then◌else◌, Option, Some, None, List, [], ◌∷◌, length}
 use Rattle.std.specs.List.{list_all}
 use Rattle.dfr_channels.specs.Parts.{AnalogParts}
 use Rattle.comtrade_write.specs.declared.file.Rate.{Rate}
@@ -9,7 +9,7 @@ use Rattle.comtrade_write.specs.Parts.{HeadParts, RowParts, FileParts}
 abbrev pub channels_fit : ℕ → ℕ → Bool
 channels_fit k m = nat_lt k 1_000_000 && nat_lt m (1_000_000 - k) && nat_lt 0 (k + m)
 
--- how many rate lines there are; without a rate there is one line (5.3.7)
+-- how many rate lines there are; without a rate there is one line (5.3.6)
 abbrev pub rate_lines : ℕ → ℕ
 rate_lines nrates = if nat_lt 0 nrates then nrates else 1
 

@@ -15,11 +15,21 @@ pub struct Bounds {
 pub fn ascii_bounds() -> Bounds
     ensures { result ≡ spec.ascii_bounds }
 {
-    Bounds { low: -99_999, high: 99_998, number: 9_999_999_999, stamp: 9_999_999_999 }
+    Bounds {
+        low: -99_999,
+        high: 99_998,
+        number: 9_999_999_999,
+        stamp: 9_999_999_999,
+    }
 }
 
 pub fn binary_bounds() -> Bounds
     ensures { result ≡ spec.binary_bounds }
 {
-    Bounds { low: -32_767, high: 32_767, number: 4_294_967_295, stamp: 4_294_967_294 }
+    Bounds {
+        low: -32_767,
+        high: 32_767,
+        number: 4_294_967_295,
+        stamp: 4_294_967_294,
+    }
 }

@@ -2,7 +2,8 @@
 
 ghost use Rattle.std.specs.Prelude.{◌≡◌, None, true, IfOk};
 ghost use Rattle.comtrade_write.specs.Refusals as refusals;
-ghost use Rattle.comtrade_write.specs.Refusals.{Answers, cfg_refusal, data_refusal};
+ghost use Rattle.comtrade_write.specs.Refusals.{Answers, GivesText, cfg_refusal, data_refusal, rows_refusal};
+ghost use Rattle.comtrade_write.specs.Shape as shapes;
 ghost use Rattle.comtrade_write.specs.Shape.{head_shaped};
 ghost use Rattle.comtrade_write.specs.Cfg.{cfg};
 ghost use Rattle.comtrade_write.specs.Ascii.{ascii};
@@ -55,46 +56,83 @@ fn data_fault<A: Allocator>(m: Bounds, file: &File<A>) -> Option<WriteFault>
         return Some(WriteFault::Shape);
     }
     let head = head_of(file);
-    rows_fault(m, analog_of(head).len(), status_of(head).len(), rows_of(file))
+    rows_fault(
+        m,
+        analog_of(head).len(),
+        status_of(head).len(),
+        rows_of(file),
+    )
 }
 
-fn ascii_text<A: Allocator + Copy>(alloc: A, rows: &[Row<A>]) -> Result<Vec<u8, A>, AllocError>
-    ensures { IfOk result (λ v. v.items ≡ ascii rows.now) }
-{
-    let mut out = Vec::new(alloc);
-    rows_ascii::put_rows(&mut out, rows)?;
-    out.extend_from_slice(b"\x1A")?;
-    Ok(out)
-}
-
-/// The data file in ASCII form (C37.111-1999, 6.1), whatever kind the head names.
-pub fn ascii_bytes<A: Allocator + Copy>(alloc: A, file: &File<A>) -> Result<Vec<u8, A>, WriteFault>
-    ensures { Answers (λ v. v.items) result (data_refusal refusals.ascii_bounds file.now) (ascii file.now.rows) }
-{
-    if let Some(fault) = data_fault(ascii_bounds(), file) {
-        return Err(fault);
-    }
-    Ok(ascii_text(alloc, rows_of(file))?)
-}
-
-fn binary_text<A: Allocator + Copy>(alloc: A, file: &File<A>) -> Result<Vec<u8, A>, AllocError>
-    requires { data_refusal refusals.binary_bounds file.now ≡ None }
-    ensures { IfOk result (λ v. v.items ≡ binary file.now.rows) }
+/// The rows in ASCII form, or `None` where one of them isn't taken.
+fn ascii_text<A: Allocator + Copy>(
+    alloc: A,
+    file: &File<A>,
+) -> Result<Option<Vec<u8, A>>, AllocError>
+    requires { shapes.is_shaped file.now ≡ true }
+    ensures { IfOk result (λ text. GivesText (λ v. v.items) text (rows_refusal refusals.ascii_bounds file.now.rows) (ascii file.now.rows)) }
 {
     let mut out = Vec::new(alloc);
     let head = head_of(file);
-    rows_binary::put_rows(&mut out, analog_of(head).len(), status_of(head).len(), rows_of(file))?;
-    Ok(out)
+    let all = rows_ascii::put_rows(
+        &mut out,
+        analog_of(head).len(),
+        status_of(head).len(),
+        rows_of(file),
+    )?;
+    out.extend_from_slice(b"\x1A")?;
+    if all { Ok(Some(out)) } else { Ok(None) }
 }
 
-/// The data file in BINARY form (C37.111-1999, 6.2), whatever kind the head names.
+/// The data file in ASCII form (C37.111-1999, clause 6), whatever kind the head names.
+pub fn ascii_bytes<A: Allocator + Copy>(alloc: A, file: &File<A>) -> Result<Vec<u8, A>, WriteFault>
+    ensures { Answers (λ v. v.items) result (data_refusal refusals.ascii_bounds file.now) (ascii file.now.rows) }
+{
+    if !is_shaped(file) {
+        return Err(WriteFault::Shape);
+    }
+    if let Some(text) = ascii_text(alloc, file)? {
+        return Ok(text);
+    }
+    match data_fault(ascii_bounds(), file) {
+        Some(fault) => Err(fault),
+        None => unreachable!(),
+    }
+}
+
+/// The rows in BINARY form, or `None` where one of them isn't taken.
+fn binary_text<A: Allocator + Copy>(
+    alloc: A,
+    file: &File<A>,
+) -> Result<Option<Vec<u8, A>>, AllocError>
+    requires { shapes.is_shaped file.now ≡ true }
+    ensures { IfOk result (λ text. GivesText (λ v. v.items) text (rows_refusal refusals.binary_bounds file.now.rows) (binary file.now.rows)) }
+{
+    let mut out = Vec::new(alloc);
+    let head = head_of(file);
+    let all = rows_binary::put_rows(
+        &mut out,
+        analog_of(head).len(),
+        status_of(head).len(),
+        rows_of(file),
+    )?;
+    if all { Ok(Some(out)) } else { Ok(None) }
+}
+
+/// The data file in BINARY form (C37.111-1999, clause 6), whatever kind the head names.
 pub fn binary_bytes<A: Allocator + Copy>(alloc: A, file: &File<A>) -> Result<Vec<u8, A>, WriteFault>
     ensures { Answers (λ v. v.items) result (data_refusal refusals.binary_bounds file.now) (binary file.now.rows) }
 {
-    if let Some(fault) = data_fault(binary_bounds(), file) {
-        return Err(fault);
+    if !is_shaped(file) {
+        return Err(WriteFault::Shape);
     }
-    Ok(binary_text(alloc, file)?)
+    if let Some(text) = binary_text(alloc, file)? {
+        return Ok(text);
+    }
+    match data_fault(binary_bounds(), file) {
+        Some(fault) => Err(fault),
+        None => unreachable!(),
+    }
 }
 
 /// The data file in the form of the head's kind (C37.111-1999, clause 6).

@@ -1,4 +1,4 @@
-//! The lines of the configuration file (C37.111-1999, 5.3).
+//! The lines of the configuration file (C37.111-1999, clause 5).
 
 ghost use Rattle.std.specs.Prelude.{◌≡◌, ◌++◌, ◌∷◌, ◌<◌, ◌+◌, [], OnOk, length, decimal, true};
 ghost use Rattle.std.specs.List.{flat_map};
@@ -11,14 +11,20 @@ ghost use Rattle.comtrade_write.specs.Shape.{is_writable};
 ghost use Rattle.comtrade_write.specs.Cfg as spec;
 
 use crate::dates::put_instant;
-use crate::fields::{decimal_field, decimal_line, end_line, number_field, number_line, signed_field, text_field};
+use crate::fields::{
+    decimal_field, decimal_line, end_line, number_field, number_line, signed_field, text_field,
+};
 use crate::file::{Head, Kind, Rate};
 use crate::number::put_number;
 use crate::parts::{analog_of, device_of, station_of, status_of};
 use dfr_channels::{AnalogChannel, Decimal, Side, StatusChannel};
 use std::alloc::{AllocError, Allocator};
 
-fn put_station<A: Allocator>(out: &mut Vec<u8, A>, station: &[u8], device: &[u8]) -> Result<(), AllocError>
+fn put_station<A: Allocator>(
+    out: &mut Vec<u8, A>,
+    station: &[u8],
+    device: &[u8],
+) -> Result<(), AllocError>
     ensures { OnOk result (out.new.items ≡ out.old.items ++ spec.station_line station.now device.now) }
 {
     text_field(out, station)?;
@@ -38,7 +44,13 @@ fn put_counts<A: Allocator>(out: &mut Vec<u8, A>, k: usize, m: usize) -> Result<
     out.extend_from_slice(b"D\r\n")
 }
 
-fn put_top<A: Allocator>(out: &mut Vec<u8, A>, station: &[u8], device: &[u8], k: usize, m: usize) -> Result<(), AllocError>
+fn put_top<A: Allocator>(
+    out: &mut Vec<u8, A>,
+    station: &[u8],
+    device: &[u8],
+    k: usize,
+    m: usize,
+) -> Result<(), AllocError>
     requires { k + m < 1000000 }
     ensures { OnOk result (out.new.items ≡ out.old.items ++ spec.top_lines station.now device.now k m) }
 {
@@ -47,7 +59,11 @@ fn put_top<A: Allocator>(out: &mut Vec<u8, A>, station: &[u8], device: &[u8], k:
 }
 
 /// The fields of an analogue line up to the unit.
-fn analog_names<A: Allocator>(out: &mut Vec<u8, A>, n: u64, channel: &AnalogChannel<A>) -> Result<(), AllocError>
+fn analog_names<A: Allocator>(
+    out: &mut Vec<u8, A>,
+    n: u64,
+    channel: &AnalogChannel<A>,
+) -> Result<(), AllocError>
     ensures { OnOk result (out.new.items ≡ out.old.items ++ (field (decimal n) ++ (field channel.now.id
         ++ (field channel.now.phase ++ (field channel.now.component ++ field channel.now.unit))))) }
 {
@@ -59,7 +75,10 @@ fn analog_names<A: Allocator>(out: &mut Vec<u8, A>, n: u64, channel: &AnalogChan
 }
 
 /// The fields from a to max.
-fn analog_scale<A: Allocator>(out: &mut Vec<u8, A>, channel: &AnalogChannel<A>) -> Result<(), AllocError>
+fn analog_scale<A: Allocator>(
+    out: &mut Vec<u8, A>,
+    channel: &AnalogChannel<A>,
+) -> Result<(), AllocError>
     ensures { OnOk result (out.new.items ≡ out.old.items ++ (field (decimal_text channel.now.a) ++ (field (decimal_text channel.now.b)
         ++ (field (decimal_text channel.now.skew) ++ (field (signed_decimal channel.now.min) ++ field (signed_decimal channel.now.max)))))) }
 {
@@ -79,7 +98,11 @@ fn put_side<A: Allocator>(out: &mut Vec<u8, A>, side: Side) -> Result<(), AllocE
     }
 }
 
-fn put_analog<A: Allocator>(out: &mut Vec<u8, A>, n: u64, channel: &AnalogChannel<A>) -> Result<(), AllocError>
+fn put_analog<A: Allocator>(
+    out: &mut Vec<u8, A>,
+    n: u64,
+    channel: &AnalogChannel<A>,
+) -> Result<(), AllocError>
     ensures { OnOk result (out.new.items ≡ out.old.items ++ spec.analog_line n channel.now) }
 {
     analog_names(out, n, channel)?;
@@ -90,7 +113,10 @@ fn put_analog<A: Allocator>(out: &mut Vec<u8, A>, n: u64, channel: &AnalogChanne
     end_line(out)
 }
 
-fn put_analogs<A: Allocator>(out: &mut Vec<u8, A>, channels: &[AnalogChannel<A>]) -> Result<(), AllocError>
+fn put_analogs<A: Allocator>(
+    out: &mut Vec<u8, A>,
+    channels: &[AnalogChannel<A>],
+) -> Result<(), AllocError>
     requires { length channels.now < 1000000 }
     ensures { OnOk result (out.new.items ≡ out.old.items ++ each_from spec.analog_line 1 channels.now) }
 {
@@ -100,7 +126,11 @@ fn put_analogs<A: Allocator>(out: &mut Vec<u8, A>, channels: &[AnalogChannel<A>]
     Ok(())
 }
 
-fn put_status<A: Allocator>(out: &mut Vec<u8, A>, n: u64, channel: &StatusChannel<A>) -> Result<(), AllocError>
+fn put_status<A: Allocator>(
+    out: &mut Vec<u8, A>,
+    n: u64,
+    channel: &StatusChannel<A>,
+) -> Result<(), AllocError>
     ensures { OnOk result (out.new.items ≡ out.old.items ++ spec.status_line n channel.now) }
 {
     number_field(out, n)?;
@@ -111,7 +141,10 @@ fn put_status<A: Allocator>(out: &mut Vec<u8, A>, n: u64, channel: &StatusChanne
     end_line(out)
 }
 
-fn put_statuses<A: Allocator>(out: &mut Vec<u8, A>, channels: &[StatusChannel<A>]) -> Result<(), AllocError>
+fn put_statuses<A: Allocator>(
+    out: &mut Vec<u8, A>,
+    channels: &[StatusChannel<A>],
+) -> Result<(), AllocError>
     requires { length channels.now < 1000000 }
     ensures { OnOk result (out.new.items ≡ out.old.items ++ each_from spec.status_line 1 channels.now) }
 {
@@ -142,7 +175,13 @@ fn put_front<A: Allocator>(out: &mut Vec<u8, A>, head: &Head<A>) -> Result<(), A
     requires { length head.now.analog + length head.now.status < 1000000 }
     ensures { OnOk result (out.new.items ≡ out.old.items ++ spec.channel_lines head.now) }
 {
-    put_channels(out, station_of(head), device_of(head), analog_of(head), status_of(head))
+    put_channels(
+        out,
+        station_of(head),
+        device_of(head),
+        analog_of(head),
+        status_of(head),
+    )
 }
 
 fn put_rate<A: Allocator>(out: &mut Vec<u8, A>, rate: &Rate) -> Result<(), AllocError>
@@ -162,7 +201,12 @@ fn put_rates<A: Allocator>(out: &mut Vec<u8, A>, rates: &[Rate]) -> Result<(), A
     Ok(())
 }
 
-fn put_rate_lines<A: Allocator>(out: &mut Vec<u8, A>, line_freq: Decimal, nrates: u32, rates: &[Rate]) -> Result<(), AllocError>
+fn put_rate_lines<A: Allocator>(
+    out: &mut Vec<u8, A>,
+    line_freq: Decimal,
+    nrates: u32,
+    rates: &[Rate],
+) -> Result<(), AllocError>
     ensures { OnOk result (out.new.items ≡ out.old.items ++ spec.rate_lines line_freq nrates rates.now) }
 {
     decimal_line(out, line_freq)?;

@@ -1,4 +1,4 @@
-//! Instants as the date and time stamps of a configuration file (C37.111-1999, 5.3.8).
+//! Instants as the date and time stamps of a configuration file (C37.111-1999, 5.3.7).
 
 ghost use Rattle.std.specs.Prelude.{◌≡◌, ◌++◌, ◌<◌, ℤ, pos, neg_ℤ, OnOk};
 ghost use Rattle.jiff_core.specs.Calendar.{IsBetween};

@@ -18,7 +18,11 @@ fn put_zeros<A: Allocator>(out: &mut Vec<u8, A>, n: usize) -> Result<(), AllocEr
 }
 
 /// The digits with a point before the last `places` of them, and a digit before the point.
-fn put_pointed<A: Allocator>(out: &mut Vec<u8, A>, digits: &[u8], places: usize) -> Result<(), AllocError>
+fn put_pointed<A: Allocator>(
+    out: &mut Vec<u8, A>,
+    digits: &[u8],
+    places: usize,
+) -> Result<(), AllocError>
     ensures { OnOk result (out.new.items ≡ out.old.items ++ pointed places digits.now) }
 {
     if places == 0 {

@@ -9,18 +9,18 @@ use std::alloc::AllocError;
 /// then channel. All of them are counted from 1.
 #[derive(Clone, Copy, Debug, PartialEq, Eq)]
 pub enum WriteFault {
-    /// Not 1 to 999,999 channels; over 999 rates, or another number of them than `nrates` says, where 0 wants one (5.3.7);
+    /// Not 1 to 999,999 channels; over 999 rates, or another number of them than `nrates` says, where 0 wants one (5.3.6);
     /// an `endsamp` below the one before or over 9,999,999,999; another number of rows than the last `endsamp`; a row
-    /// without a value and a bit for each channel; an instant outside the years 1 to 9999; a `min` or `max` outside
-    /// -99,999 to 99,999 (5.3.4).
+    /// whose numbers of values and bits aren't those of the analogue and the status channels; an instant outside the years 1 to 9999; a `min` or `max` outside
+    /// -99,999 to 99,999 (5.3.3).
     Shape,
-    /// The line and the field of a text that isn't made of bytes 20 to 7E without a comma and without a blank at either
-    /// end, or not of 0 to 64 bytes (station, device, id, component), 0 to 2 (phase), 1 to 32 (unit) (5.3.2, 5.3.4, 5.3.5).
+    /// From `cfg_bytes` alone: the line and the field of a text that isn't made of bytes 20 to 7E without a comma and without a blank at either
+    /// end, or not of 0 to 64 bytes (station, device, id, component), 0 to 2 (phase), 1 to 32 (unit) (5.3.1, 5.3.3, 5.3.4).
     Text(u64, u32),
-    /// The row and the channel of a value outside -99,999 to 99,998 (ASCII, 6.1) or -32,767 to 32,767 (BINARY, 6.2).
+    /// From the data writers alone: the row and the channel of a value outside -99,999 to 99,998 (ASCII) or -32,767 to 32,767 (BINARY) (clause 6).
     Value(u64, u32),
-    /// The row whose number or stamp is over 9,999,999,999 (ASCII, 6.1), or whose number is over 4,294,967,295 or stamp
-    /// over 4,294,967,294 (BINARY, 6.2).
+    /// From the data writers alone: the row whose number or stamp is over 9,999,999,999 (ASCII), or whose number is over 4,294,967,295 or stamp
+    /// over 4,294,967,294 (BINARY) (clause 6).
     Stamp(u64),
     /// A growth was refused.
     Memory,

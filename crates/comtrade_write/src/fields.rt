@@ -1,4 +1,4 @@
-//! Fields and lines of the configuration file (C37.111-1999, 5.3).
+//! Fields and lines of the configuration file (C37.111-1999, clause 5).
 
 ghost use Rattle.std.specs.Prelude.{◌≡◌, ◌++◌, ◌∷◌, [], OnOk, decimal};
 ghost use Rattle.std.specs.Fmt.{signed_decimal};

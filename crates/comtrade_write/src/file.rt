@@ -41,12 +41,21 @@ impl<A: Allocator> Model for Head<A> {
     ghost Value = { HeadParts };
 
     ghost view = { λ h. record {
-        station = h.station; device = h.device; analog = h.analog; status = h.status; line_freq = h.line_freq;
-        nrates = h.nrates; rates = h.rates; first = h.first; trigger = h.trigger; kind = h.kind; timemult = h.timemult
+      station = h.station;
+      device = h.device;
+      analog = h.analog;
+      status = h.status;
+      line_freq = h.line_freq;
+      nrates = h.nrates;
+      rates = h.rates;
+      first = h.first;
+      trigger = h.trigger;
+      kind = h.kind;
+      timemult = h.timemult;
     } };
 }
 
-/// A row of a data file (clause 6): its number, its time stamp in microseconds where there is one, a value for each
+/// A row of a data file (clause 6): its number, its time stamp where there is one (times `timemult` it is in microseconds), a value for each
 /// analogue channel and a bit for each status channel.
 #[derive(Drop, Debug)]
 pub struct Row<A: Allocator = Global> {

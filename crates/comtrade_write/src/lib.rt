@@ -17,13 +17,16 @@ mod parts;
 mod rows_ascii;
 mod rows_binary;
 mod shape;
+mod taken;
 mod texts;
+mod value_text;
 
 pub use bytes::{ascii_bytes, binary_bytes, cfg_bytes, dat_bytes};
 pub use fault::WriteFault;
 pub use file::{File, Head, Kind, Rate, Row};
 pub use of_record::{FileFault, file_of};
 pub use output::write_all_of;
+pub use taken::file_of_taken;
 
 #[cfg(test)]
 mod tests;

@@ -35,7 +35,7 @@ impl From<Memory> for FileFault {
     }
 }
 
-/// The highest stamp that a binary data file can hold, in microseconds (C37.111-1999, 6.2).
+/// The highest stamp that a binary data file can hold, in microseconds (C37.111-1999, clause 6).
 const LAST_STAMP: u128 = 4_294_967_294;
 
 fn passes<A: Allocator>(layout: &Layout<A>, scan: &Scan<A>) -> bool
@@ -114,11 +114,19 @@ fn one_rate<A: Allocator + Copy>(alloc: A, rate: u32, rows: u64) -> Result<Items
     ensures { IfOk result (λ r. r ≡ record { samp = spec.whole rate; endsamp = rows } ∷ []) }
 {
     let mut list = Vec::new(alloc);
-    list.push(Rate { samp: whole(rate), endsamp: rows })?;
+    list.push(Rate {
+        samp: whole(rate),
+        endsamp: rows,
+    })?;
     Ok(Items::of(list))
 }
 
-fn head<A: Allocator + Copy>(alloc: A, layout: &Layout<A>, taken: &Record<A>, kind: Kind) -> Result<Head<A>, Memory>
+fn head<A: Allocator + Copy>(
+    alloc: A,
+    layout: &Layout<A>,
+    taken: &Record<A>,
+    kind: Kind,
+) -> Result<Head<A>, Memory>
     requires first { own.has_instant layout.now taken.now.extent.first ≡ true }
     requires trigger { own.has_instant layout.now taken.now.extent.trigger ≡ true }
     ensures { IfOk result (λ h. h ≡ spec.head_of layout.now taken.now kind) }
@@ -146,15 +154,29 @@ fn head<A: Allocator + Copy>(alloc: A, layout: &Layout<A>, taken: &Record<A>, ki
     })
 }
 
-fn row<A: Allocator + Copy>(alloc: A, number: u64, stamp: u64, scan: &Scan<A>) -> Result<Row<A>, Memory>
+fn row<A: Allocator + Copy>(
+    alloc: A,
+    number: u64,
+    stamp: u64,
+    scan: &Scan<A>,
+) -> Result<Row<A>, Memory>
     ensures { IfOk result (λ r. r ≡ record { number = number; stamp = Some stamp; values = scan.now.analog; bits = scan.now.status }) }
 {
     let values = copied(alloc, scan.analog())?;
     let bits = copied(alloc, scan.status())?;
-    Ok(Row { number, stamp: Some(stamp), values, bits })
+    Ok(Row {
+        number,
+        stamp: Some(stamp),
+        values,
+        bits,
+    })
 }
 
-fn rows<A: Allocator + Copy>(alloc: A, rate: u32, scans: &[Scan<A>]) -> Result<Items<Row<A>, A>, Memory>
+fn rows<A: Allocator + Copy>(
+    alloc: A,
+    rate: u32,
+    scans: &[Scan<A>],
+) -> Result<Items<Row<A>, A>, Memory>
     requires rate { 1 ≤ rate }
     requires few { length scans.now ≤ 4_294_967_295 }
     ensures { IfOk result (λ r. r ≡ numbered (spec.row_of rate) 1 scans.now) }

@@ -1,23 +1,22 @@
-//! The lines of ASCII data (C37.111-1999, 6.1).
+//! The lines of ASCII data (C37.111-1999, clause 6).
 
-ghost use Rattle.std.specs.Prelude.{◌≡◌, ◌++◌, ◌∷◌, OnOk};
-ghost use Rattle.std.specs.List.{flat_map};
+ghost use Rattle.std.specs.Prelude.{◌≡◌, ◌++◌, ◌∷◌, ◌≤◌, ◌<◌, ◌*◌, ◌+◌, true, OnOk, IfOk, length, take};
+ghost use Rattle.std.specs.List.{flat_map, list_all};
+ghost use Rattle.byteorder.specs.Endian.{little_bytes};
 ghost use Rattle.comtrade_write.specs.Lines.{bit_text};
-ghost use Rattle.comtrade_write.specs.Ascii.{reading_text, stamp_text, fields_line, row_line};
+ghost use Rattle.comtrade_write.specs.Ascii.{reading_text, stamp_text, row_line};
+ghost use Rattle.comtrade_write.specs.Refusals.{WritesTaken};
+ghost use Rattle.comtrade_write.specs.Refusals as spec;
+ghost use Rattle.comtrade_write.specs.Shape.{row_shaped};
 
+use crate::bounds::ascii_bounds;
+use crate::checks::takes_row;
 use crate::file::Row;
-use crate::number::{put_number, put_signed};
+use crate::number::put_number;
+use crate::value_text::write_reading;
+use byteorder::{ByteOrder, LittleEndian};
 use dfr_channels::Reading;
 use std::alloc::{AllocError, Allocator};
-
-fn put_reading<A: Allocator>(out: &mut Vec<u8, A>, reading: Reading) -> Result<(), AllocError>
-    ensures { OnOk result (out.new.items ≡ out.old.items ++ reading_text reading) }
-{
-    match reading {
-        Reading::Value(x) => put_signed(out, x),
-        Reading::Missing => out.extend_from_slice(b"99999"),
-    }
-}
 
 fn put_stamp<A: Allocator>(out: &mut Vec<u8, A>, stamp: Option<u64>) -> Result<(), AllocError>
     ensures { OnOk result (out.new.items ≡ out.old.items ++ stamp_text stamp) }
@@ -28,57 +27,78 @@ fn put_stamp<A: Allocator>(out: &mut Vec<u8, A>, stamp: Option<u64>) -> Result<(
     }
 }
 
-fn put_readings<A: Allocator>(out: &mut Vec<u8, A>, readings: &[Reading]) -> Result<(), AllocError>
-    ensures { OnOk result (out.new.items ≡ out.old.items ++ flat_map (λ v. 44 ∷ reading_text v) readings.now) }
+/// Writes the values' fields from the slot's start on, and answers the place after them.
+fn write_readings(slot: &mut [u8], readings: &[Reading]) -> usize
+    requires taken { list_all (spec.takes_reading spec.ascii_bounds) readings.now ≡ true }
+    requires room { length slot.old ≡ 7 * length readings.now + 8 }
+    ensures text { take result slot.new ≡ flat_map (λ v. 44 ∷ reading_text v) readings.now }
+    ensures within { result ≤ length slot.old }
 {
-    for reading in readings {
-        out.push(b',')?;
-        put_reading(out, *reading)?;
+    let mut at = 0;
+    for i in 0..readings.len() {
+        at = write_reading(slot, at, readings[i]);
     }
-    Ok(())
+    at
 }
 
-fn put_bits<A: Allocator>(out: &mut Vec<u8, A>, bits: &[bool]) -> Result<(), AllocError>
-    ensures { OnOk result (out.new.items ≡ out.old.items ++ flat_map (λ b. 44 ∷ bit_text b) bits.now) }
+/// The two bytes of a bit's field, the comma in the lower one.
+fn bit_word(bit: bool) -> u16
+    ensures { little_bytes 2 result ≡ 44 ∷ bit_text bit }
 {
-    for bit in bits {
-        out.push(b',')?;
-        out.push(if *bit { b'1' } else { b'0' })?;
-    }
-    Ok(())
+    if bit { 0x312C } else { 0x302C }
 }
 
-fn put_fields<A: Allocator>(
+/// Fills the slot with the fields of a row's bits.
+fn write_bits(slot: &mut [u8], bits: &[bool])
+    requires { length slot.old ≡ 2 * length bits.now }
+    ensures { slot.new ≡ flat_map (λ b. 44 ∷ bit_text b) bits.now }
+{
+    for i in 0..bits.len() {
+        LittleEndian::write_u16(&mut slot[2 * i..], bit_word(bits[i]));
+    }
+}
+
+/// A row's line, whose values and bits are put together in slots that are large enough for them.
+fn put_row<A: Allocator>(
     out: &mut Vec<u8, A>,
-    number: u64,
-    stamp: Option<u64>,
-    values: &[Reading],
-    bits: &[bool],
+    values: &mut [u8],
+    bits: &mut [u8],
+    row: &Row<A>,
 ) -> Result<(), AllocError>
-    ensures { OnOk result (out.new.items ≡ out.old.items ++ fields_line number stamp values.now bits.now) }
-{
-    put_number(out, number)?;
-    out.push(b',')?;
-    put_stamp(out, stamp)?;
-    put_readings(out, values)?;
-    put_bits(out, bits)?;
-    out.push(b'\r')?;
-    out.push(b'\n')?;
-    Ok(())
-}
-
-fn put_row<A: Allocator>(out: &mut Vec<u8, A>, row: &Row<A>) -> Result<(), AllocError>
+    requires taken { list_all (spec.takes_reading spec.ascii_bounds) row.now.values ≡ true }
+    requires values_room { length values.old ≡ 7 * length row.now.values + 8 }
+    requires bits_room { length bits.old ≡ 2 * length row.now.bits }
     ensures { OnOk result (out.new.items ≡ out.old.items ++ row_line row.now) }
 {
-    put_fields(out, row.number, row.stamp, row.values.items(), row.bits.items())
+    let end = write_readings(values, row.values.items());
+    write_bits(bits, row.bits.items());
+    put_number(out, row.number)?;
+    out.push(b',')?;
+    put_stamp(out, row.stamp)?;
+    out.extend_from_slice(&values[..end])?;
+    out.extend_from_slice(bits)?;
+    out.extend_from_slice(b"\r\n")
 }
 
-/// A line for each row.
-pub fn put_rows<A: Allocator>(out: &mut Vec<u8, A>, rows: &[Row<A>]) -> Result<(), AllocError>
-    ensures { OnOk result (out.new.items ≡ out.old.items ++ flat_map row_line rows.now) }
+/// A line for each row, and whether every row is taken. At the first one that isn't the writing stops.
+pub fn put_rows<A: Allocator + Copy>(
+    out: &mut Vec<u8, A>,
+    k: usize,
+    n: usize,
+    rows: &[Row<A>],
+) -> Result<bool, AllocError>
+    requires shaped { list_all (row_shaped k n) rows.now ≡ true }
+    requires many { k < 1000000 }
+    requires few { n < 1000000 }
+    ensures { IfOk result (λ all. WritesTaken all (list_all (spec.takes_row spec.ascii_bounds) rows.now) (out.new.items ≡ out.old.items ++ flat_map row_line rows.now)) }
 {
+    let mut values = vec![in *out.allocator(); 0u8; 7 * k + 8]?;
+    let mut bits = vec![in *out.allocator(); 0u8; 2 * n]?;
     for row in rows {
-        put_row(out, row)?;
+        if !takes_row(ascii_bounds(), row) {
+            return Ok(false);
+        }
+        put_row(out, &mut values, &mut bits, row)?;
     }
-    Ok(())
+    Ok(true)
 }

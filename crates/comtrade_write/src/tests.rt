@@ -2,5 +2,6 @@
 
 mod files;
 mod outputs;
+mod records;
 mod refusals;
 mod rows;

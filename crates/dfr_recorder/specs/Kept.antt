@@ -8,7 +8,7 @@ use Rattle.dfr_recorder.specs.Steps.{StepParts}
 use Rattle.dfr_recorder.specs.Answers.{AnswerParts}
 use Rattle.dfr_recorder.specs.History.{Opening, Past, past, count, newest, is_open, closed, records, answer}
 
--- how many scans were accepted, the last ones, the rules, how many records were opened, the open one with its scans so far,
+-- layout and limits, how many scans were accepted, the last ones, the rules, how many records were opened, the open one with its scans so far,
 -- and those that wait, the oldest first
 pub record Kept : Type 0 where
   pub layout : SetupParts

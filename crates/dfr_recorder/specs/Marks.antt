@@ -7,15 +7,18 @@ use Rattle.dfr_recorder.specs.declared.record.Extent.{Extent}
 use Rattle.dfr_recorder.specs.declared.step.Hit.{Hit}
 use Rattle.dfr_recorder.specs.declared.step.Hit.TheVariants.{Opened, Extended, AtLimit, ShelfFull}
 
+-- the open record after a trigger at place k
 abbrev pub marked_recording : Limits → ℕ → Cause → ℕ → Bool → Option Extent → Option Extent
 marked_recording limits k cause opened full (Some e) = Some (record e { last = min (k + limits.post) (e.first + limits.longest - 1) })
 marked_recording limits k cause opened full None =
     if full then None else (Some (record { number = opened + 1; first = k - limits.pre; trigger = k; last = k + limits.post; cause = cause }))
 
+-- how many records were opened
 abbrev pub marked_opened : ℕ → Bool → Option Extent → ℕ
 marked_opened opened full (Some e) = opened
 marked_opened opened full None = if full then opened else (opened + 1)
 
+-- and what the trigger did
 abbrev pub marked_hit : Limits → ℕ → ℕ → Bool → Option Extent → Hit
 marked_hit limits k opened full (Some e) = if nat_lt (e.first + limits.longest - 1) (k + limits.post) then AtLimit opened else Extended opened
 marked_hit limits k opened full None = if full then ShelfFull else Opened (opened + 1)

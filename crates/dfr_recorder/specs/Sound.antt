@@ -1,4 +1,4 @@
--- What holds of all that is kept of a history.
+-- What holds of all that is kept of a history whose limits and rules fit its layout.
 use Rattle.std.specs.Prelude.{ℕ, ◌≡◌, ◌+◌, ◌-◌, ◌<◌, ◌≤◌, min, length, Option, Some, None, IfSome, IsTrue}
 use Rattle.std.specs.List.{All}
 use Rattle.dfr_channels.specs.Parts.{SetupParts, ScanParts}

@@ -16,6 +16,7 @@ pub struct Limits {
     ghost some: { (1 ≤ post) × (1 ≤ shelf) },
     ghost fit: { (pre + 1 + post ≤ longest) × (longest ≤ 1_000_000) },
     ghost few: { shelf ≤ 64 },
+    ghost early: { pre ≤ 100_000 },
 }
 
 /// Why limits are refused, in the order of the tests.
@@ -56,7 +57,7 @@ impl Limits {
         (longest as u64 - 1) * 1_000_000 / rate as u64 <= LAST_STAMP
     }
 
-    /// Takes no memory.
+    /// Limits for records of this layout, or the first test that fails. Takes no memory.
     pub fn new<A: Allocator>(
         layout: &Layout<A>,
         pre: u32,

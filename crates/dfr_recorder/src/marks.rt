@@ -100,7 +100,7 @@ pub(crate) fn refused_when_full(hit: Hit) -> Result<Hit, TriggerFault>
     }
 }
 
-/// The same where there may be no trigger.
+/// What a scan did that may have fired no rule; else as `Marked`.
 #[derive(Clone, Copy, Debug)]
 pub(crate) struct MarkedIf {
     pub(crate) hit: Option<Hit>,

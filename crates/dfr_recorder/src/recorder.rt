@@ -109,6 +109,7 @@ impl<A: Allocator> Recorder<A> {
     /// time stamp can be written. Takes no memory.
     pub fn take(&mut self) -> Option<Record<A>>
         ensures step { IsStep self.old step.Take (answer.Take result) self.new }
+        ensures opening { (self.new.layout ≡ self.old.layout) × (self.new.limits ≡ self.old.limits) }
         ensures own { IfSome result (λ r. IsTrue (is_own self.old.layout r)) }
     {
         self.shelf.pop_front()
@@ -118,6 +119,7 @@ impl<A: Allocator> Recorder<A> {
     /// Takes no memory.
     pub fn set_rules(&mut self, rules: Rules<A>) -> Result<(), Rules<A>>
         ensures ok { OnOk result (IsStep self.old (step.SetRules rules) (answer.SetRules true) self.new) }
+        ensures opening { (self.new.layout ≡ self.old.layout) × (self.new.limits ≡ self.old.limits) }
         ensures refused { IfErr result (λ _. IsStep self.old (step.SetRules rules) (answer.SetRules false) self.new) }
         ensures back { IfErr result (λ back. (back ≡ rules) × (self.new ≡ self.old)) }
         ensures exact { is_ok result ≡ rules_fit self.old.layout rules }
@@ -131,7 +133,7 @@ impl<A: Allocator> Recorder<A> {
 }
 
 impl<A: Allocator + Copy> Recorder<A> {
-    ghost use Rattle.std.specs.Prelude.{◌≡◌, ◌≢◌, [], IfOk, IfErr, IsTrue};
+    ghost use Rattle.std.specs.Prelude.{◌≡◌, ◌≢◌, [], IfOk, IfErr, OnErr, IsTrue};
     ghost use Rattle.dfr_channels.specs.Firing.{rules_fit};
     ghost use Rattle.dfr_recorder.specs.Limits.{has_stamps};
     ghost use Rattle.dfr_recorder.specs.Steps as step;
@@ -140,7 +142,8 @@ impl<A: Allocator + Copy> Recorder<A> {
     ghost use Rattle.dfr_recorder.specs.Kept.{kept, IsStep};
     ghost use Rattle.dfr_recorder.specs.Memory.{GrowsRecord, OpensRecord};
 
-    /// A recorder without a past. The room of ring and shelf is made here.
+    /// A recorder without a past. The limits and the rules have to fit the layout. The room of ring and shelf is made here; where
+    /// memory is wanted for it, layout and rules are handed back.
     pub fn new(
         alloc: A,
         layout: Layout<A>,
@@ -176,6 +179,7 @@ impl<A: Allocator + Copy> Recorder<A> {
         ensures ok { IfOk result (λ scanned. IsStep self.old (step.Scan scan) (answer.Scan (Ok scanned)) self.new) }
         ensures refused { IfErr result (λ refused. refused.0 ≢ ScanRefusal.Memory → IsStep self.old (step.Scan scan) (answer.Scan (Err refused.0)) self.new) }
         ensures back { IfErr result (λ refused. (refused.1 ≡ scan) × (self.new ≡ self.old)) }
+        ensures opening { (self.new.layout ≡ self.old.layout) × (self.new.limits ≡ self.old.limits) }
         ensures memory { IfErr result (λ refused. refused.0 ≡ ScanRefusal.Memory → GrowsRecord self.old scan) }
     {
         let n = self.count;
@@ -208,10 +212,12 @@ impl<A: Allocator + Copy> Recorder<A> {
         })
     }
 
-    /// A trigger by hand, at the last scan. Memory is wanted only to open a record.
+    /// A trigger by hand, at the last scan. A refused one changes nothing. Memory is wanted only to open a record.
     pub fn trigger(&mut self) -> Result<Hit, TriggerFault>
         ensures step { result ≢ Err TriggerFault.Memory → IsStep self.old step.Trigger (answer.Trigger result) self.new }
-        ensures same { result ≡ Err TriggerFault.Memory → self.new ≡ self.old }
+        ensures same { OnErr result (self.new ≡ self.old) }
+        ensures held { IfOk result (λ hit. hit ≢ Hit.ShelfFull) }
+        ensures opening { (self.new.layout ≡ self.old.layout) × (self.new.limits ≡ self.old.limits) }
         ensures memory { result ≡ Err TriggerFault.Memory → OpensRecord self.old }
     {
         let n = self.count;

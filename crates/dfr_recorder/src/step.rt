@@ -9,9 +9,9 @@ use std::alloc::{Allocator, Global};
 pub enum Hit {
     /// No record was open; this one is now.
     Opened(u64),
-    /// The open record's last scan is now the one `post` after the trigger, which may be where it was.
+    /// The open record's last scan is now the one `post` after the trigger, which it may have been before.
     Extended(u64),
-    /// The open record's greatest length lets it end no later than before the one `post` after the trigger.
+    /// The one `post` after the trigger would make the open record longer than `longest`: it now ends where it has `longest` scans.
     AtLimit(u64),
     /// No record was open, and as many wait on the shelf as may: none was opened.
     ShelfFull,

@@ -6,3 +6,9 @@
 mod channels;
 #[cfg(test)]
 mod common;
+#[cfg(test)]
+mod files;
+#[cfg(test)]
+mod program;
+#[cfg(test)]
+mod recorder;

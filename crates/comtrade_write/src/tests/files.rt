@@ -69,7 +69,12 @@ pub fn head(alloc: Global, analogs: u32, statuses: u32, rows: u64) -> Result<Hea
     })
 }
 
-pub fn row(alloc: Global, number: u64, stamp: Option<u64>, reading: Reading) -> Result<Row, AllocError> {
+pub fn row(
+    alloc: Global,
+    number: u64,
+    stamp: Option<u64>,
+    reading: Reading,
+) -> Result<Row, AllocError> {
     Ok(Row {
         number,
         stamp,
@@ -93,23 +98,33 @@ pub fn file(alloc: Global, stamp: u64, value: i32) -> Result<File, Fail> {
 }
 
 #[test]
-fn both_files(rt: HostRuntime) -> Result<(), Fail> {
+fn cfg_of_one_channel(rt: HostRuntime) -> Result<(), Fail> {
     let alloc = rt.alloc();
-    let file = file(alloc, 1000, 12)?;
-    let cfg = cfg_bytes(alloc, &file)?;
+    let cfg = cfg_bytes(alloc, &file(alloc, 1000, 12)?)?;
     assert_eq!(rt; cfg.len(), 142);
-    let wanted = b"Bay 1,DFR,1999\r\n1,1A,0D\r\n1,IA,A,,A,1,0,0,-32767,32767,1,1,P\r\n50\r\n1\r\n1000,5\r\n01/01/1970,00:00:00.001000\r\n01/01/1970,00:00:00.003000\r\nASCII\r\n1\r\n";
-    assert_eq!(rt; cfg.as_slice(), wanted.as_slice());
-    let ascii = ascii_bytes(alloc, &file)?;
-    let wanted = b"1,0,11\r\n2,1000,12\r\n3,2000,13\r\n4,3000,14\r\n5,4000,15\r\n\x1A";
+    let wanted =
+        b"Bay 1,DFR,1999\r\n1,1A,0D\r\n1,IA,A,,A,1,0,0,-32767,32767,1,1,P\r\n50\r\n1\r\n1000,5\r\n01/01/1970,00:00:00.001000\r\n01/01/1970,00:00:00.003000\r\nASCII\r\n1\r\n";
+    assert!(rt; cfg.as_slice() == wanted.as_slice());
+    Ok(())
+}
+
+#[test]
+fn ascii_of_one_channel(rt: HostRuntime) -> Result<(), Fail> {
+    let alloc = rt.alloc();
+    let ascii = ascii_bytes(alloc, &file(alloc, 1000, 12)?)?;
     assert_eq!(rt; ascii.len(), 53);
-    assert_eq!(rt; ascii.as_slice(), wanted.as_slice());
-    let binary = binary_bytes(alloc, &file)?;
-    let wanted = [
-        1, 0, 0, 0, 0, 0, 0, 0, 11, 0, 2, 0, 0, 0, 0xE8, 3, 0, 0, 12, 0, 3, 0, 0, 0, 0xD0, 7, 0, 0,
-        13, 0, 4, 0, 0, 0, 0xB8, 11, 0, 0, 14, 0, 5, 0, 0, 0, 0xA0, 15, 0, 0, 15, 0,
-    ];
-    assert_eq!(rt; binary.as_slice(), wanted.as_slice());
+    let wanted = b"1,0,11\r\n2,1000,12\r\n3,2000,13\r\n4,3000,14\r\n5,4000,15\r\n\x1A";
+    assert!(rt; ascii.as_slice() == wanted.as_slice());
+    Ok(())
+}
+
+#[test]
+fn binary_of_one_channel(rt: HostRuntime) -> Result<(), Fail> {
+    let alloc = rt.alloc();
+    let binary = binary_bytes(alloc, &file(alloc, 1000, 12)?)?;
+    let wanted =
+        b"\x01\0\0\0\0\0\0\0\x0B\0\x02\0\0\0\xE8\x03\0\0\x0C\0\x03\0\0\0\xD0\x07\0\0\x0D\0\x04\0\0\0\xB8\x0B\0\0\x0E\0\x05\0\0\0\xA0\x0F\0\0\x0F\0";
+    assert!(rt; binary.as_slice() == wanted.as_slice());
     Ok(())
 }
 
@@ -124,34 +139,37 @@ fn data_of_the_kind(rt: HostRuntime) -> Result<(), Fail> {
     Ok(())
 }
 
-/// A leap day, the last instant, a scaled channel of the secondary side, a contact, and a decimal of each form.
-#[test]
-fn further_lines(rt: HostRuntime) -> Result<(), Fail> {
-    let alloc = rt.alloc();
-    let mut head = head(alloc, 0, 1, 1)?;
+/// A channel of the secondary side, with a decimal of each form.
+fn scaled(alloc: Global) -> Result<AnalogChannel, Fail> {
     let mut channel = analog(alloc)?;
     channel.a = Decimal::read(b"1.5E-3").ok_or("a")?;
     channel.b = Decimal::read(b"-.5").ok_or("b")?;
     channel.skew = Decimal::read(b"0.0").ok_or("skew")?;
     channel.primary = Decimal::read(b"1.50").ok_or("primary")?;
     channel.side = Side::Secondary;
+    Ok(channel)
+}
+
+/// A scaled channel and a contact, at a leap day and at the last second.
+fn further_file(alloc: Global) -> Result<File, Fail> {
+    let mut head = head(alloc, 0, 1, 0)?;
     let mut channels = Vec::new(alloc);
-    channels.push(channel)?;
+    channels.push(scaled(alloc)?)?;
     head.analog = Items::of(channels);
     head.first = 951782400000000;
     head.trigger = 253402300798999999;
-    let mut rows = Vec::new(alloc);
-    rows.push(Row {
-        number: 1,
-        stamp: Some(0),
-        values: Items::of(Vec::from_slice(alloc, &[Reading::Missing])?),
-        bits: Items::of(Vec::from_slice(alloc, &[true])?),
-    })?;
-    let file = File {
+    Ok(File {
         head,
-        rows: Items::of(rows),
-    };
-    let wanted = b"Bay 1,DFR,1999\r\n2,1A,1D\r\n1,IA,A,,A,0.0015,-0.5,0.0,-32767,32767,1.50,1,S\r\n1,TRIP,,,1\r\n50\r\n1\r\n1000,1\r\n29/02/2000,00:00:00.000000\r\n31/12/9999,23:59:58.999999\r\nASCII\r\n1\r\n";
-    assert_eq!(rt; cfg_bytes(alloc, &file)?.as_slice(), wanted.as_slice());
+        rows: Items::of(Vec::new(alloc)),
+    })
+}
+
+#[test]
+fn further_lines(rt: HostRuntime) -> Result<(), Fail> {
+    let alloc = rt.alloc();
+    let cfg = cfg_bytes(alloc, &further_file(alloc)?)?;
+    let wanted =
+        b"Bay 1,DFR,1999\r\n2,1A,1D\r\n1,IA,A,,A,0.0015,-0.5,0.0,-32767,32767,1.50,1,S\r\n1,TRIP,,,1\r\n50\r\n1\r\n1000,0\r\n29/02/2000,00:00:00.000000\r\n31/12/9999,23:59:58.999999\r\nASCII\r\n1\r\n";
+    assert!(rt; cfg.as_slice() == wanted.as_slice());
     Ok(())
 }

@@ -20,7 +20,10 @@ fn texts(rt: HostRuntime) -> Result<(), Fail> {
     let alloc = rt.alloc();
     let mut file = file(alloc, 1000, 12)?;
     file.head.station = text(alloc, b"a,b")?;
-    assert_eq!(rt; faults(alloc, &file), [Some(WriteFault::Text(1, 1)), None, None]);
+    assert_eq!(rt;
+        faults(alloc, &file),
+        [Some(WriteFault::Text(1, 1)), None, None]
+    );
     Ok(())
 }
 
@@ -28,9 +31,15 @@ fn texts(rt: HostRuntime) -> Result<(), Fail> {
 fn values_and_stamps(rt: HostRuntime) -> Result<(), Fail> {
     let alloc = rt.alloc();
     let wide = file(alloc, 1000, 32768)?;
-    assert_eq!(rt; faults(alloc, &wide), [None, None, Some(WriteFault::Value(2, 1))]);
+    assert_eq!(rt;
+        faults(alloc, &wide),
+        [None, None, Some(WriteFault::Value(2, 1))]
+    );
     let late = file(alloc, 4294967295, 12)?;
-    assert_eq!(rt; faults(alloc, &late), [None, None, Some(WriteFault::Stamp(2))]);
+    assert_eq!(rt;
+        faults(alloc, &late),
+        [None, None, Some(WriteFault::Stamp(2))]
+    );
     let widest = file(alloc, 10000000000, 99999)?;
     let value = Some(WriteFault::Value(2, 1));
     assert_eq!(rt; faults(alloc, &widest), [None, value, value]);

@@ -6,7 +6,13 @@ use dfr_channels::{Items, Reading};
 use std::alloc::Global;
 use std::test::Fail;
 
-fn file(alloc: Global, number: u64, stamp: u64, values: &[Reading], bits: &[bool]) -> Result<File, Fail> {
+fn file(
+    alloc: Global,
+    number: u64,
+    stamp: u64,
+    values: &[Reading],
+    bits: &[bool],
+) -> Result<File, Fail> {
     let mut rows = Vec::new(alloc);
     rows.push(Row {
         number,
@@ -33,12 +39,18 @@ fn six_and_six(rt: HostRuntime) -> Result<(), Fail> {
         Reading::Value(-140),
         Reading::Value(-502),
     ];
-    let file = file(alloc, 5, 667, &values, &[false, false, false, false, true, true])?;
+    let file = file(
+        alloc,
+        5,
+        667,
+        &values,
+        &[false, false, false, false, true, true],
+    )?;
     let wanted = b"5,667,-760,1274,72,61,-140,-502,0,0,0,0,1,1\r\n\x1A";
     assert_eq!(rt; ascii_bytes(alloc, &file)?.as_slice(), wanted.as_slice());
     let wanted = [
-        0x05, 0, 0, 0, 0x9B, 0x02, 0, 0, 0x08, 0xFD, 0xFA, 0x04, 0x48, 0, 0x3D, 0, 0x74, 0xFF, 0x0A,
-        0xFE, 0x30, 0,
+        0x05, 0, 0, 0, 0x9B, 0x02, 0, 0, 0x08, 0xFD, 0xFA, 0x04, 0x48, 0, 0x3D, 0, 0x74, 0xFF,
+        0x0A, 0xFE, 0x30, 0,
     ];
     assert_eq!(rt; binary_bytes(alloc, &file)?.as_slice(), wanted.as_slice());
     Ok(())

@@ -1,17 +1,31 @@
-use Rattle.std.proofs.Common.{arith, length}
-use Rattle.std.proofs.lemmas.Grind.{common_steps}
-use Rattle.comtrade_write.specs.Binary.{binary}
-use Rattle.comtrade_write.specs.Refusals.{binary_bounds}
-use Rattle.comtrade_write.proofs.Refusals.{passes, shaped_parts, head_parts, m_few}
+use Rattle.std.proofs.Common.{◌≡◌, ◌++◌, None, List, ℕ, ap, subst, ◌∙◌}
+use Rattle.std.specs.List.{flat_map, list_all}
+use Rattle.comtrade_write.specs.Binary.{binary, row_bytes}
+use Rattle.comtrade_write.specs.Refusals.{binary_bounds, rows_refusal, takes_row}
+use Rattle.comtrade_write.specs.Parts.{RowParts}
+use Rattle.comtrade_write.proofs.Numbered.{refusal_none, refusal_some, written_if, refused_if}
+use Rattle.comtrade_write.proofs.Refusals.{shaped_parts, head_parts, k_few, m_few}
 use Rattle.comtrade_write.proofs.bytes.binary_text.Goals as goal
 
 pub put_rows-requires : goal.put_rows-requires
 put_rows-requires g c =
-    let p = passes binary_bounds c.args.file.now c.requires in
-    let s = shaped_parts _ p.shaped in
+    let s = shaped_parts _ c.requires in
     let few = m_few _ _ (head_parts _ s.head).channels in
-    rw (c.rows_of.ensures, c.analog_of.ensures, c.status_of.ensures, c.head_of-head.ensures) (record { shaped = s.rows; few = few; values = p.values; stamps = p.stamps })
+    let many = k_few _ _ (head_parts _ s.head).channels in
+    rw (c.rows_of.ensures, c.analog_of.ensures, c.status_of.ensures, c.head_of-head.ensures) (record { shaped = s.rows; many = many; few = few })
 
-pub returns : goal.returns
+pub returns-then-all : goal.returns-then-all
 unfolding binary
-returns g c = grind (arith, common_steps)
+returns-then-all g c =
+    let rows = c.rows_of.result.now in
+    let out = c.put_rows.new.out.items in
+    let w = written_if c.in_ok-all.all (list_all (takes_row binary_bounds) rows) (out ≡ c.new-out.result.items ++ flat_map row_bytes rows) c.if-all.true c.in_ok-all.ensures in
+    let G : List RowParts → Type 0 = λ rs. (rows_refusal binary_bounds rs ≡ None) × (out ≡ flat_map row_bytes rs) in
+    subst G c.rows_of.ensures (refusal_none binary_bounds rows w.0, w.1 ∙ ap (λ (r : List ℕ). r ++ flat_map row_bytes rows) c.new-out.ensures.items)
+
+pub returns-else-all : goal.returns-else-all
+returns-else-all g c =
+    let rows = c.rows_of.result.now in
+    let w = refused_if c.in_ok-all.all (list_all (takes_row binary_bounds) rows) (c.put_rows.new.out.items ≡ c.new-out.result.items ++ flat_map row_bytes rows) c.if-all.false c.in_ok-all.ensures in
+    let G : List RowParts → Type 0 = λ rs. ¬ (rows_refusal binary_bounds rs ≡ None) in
+    subst G c.rows_of.ensures (refusal_some binary_bounds rows w)

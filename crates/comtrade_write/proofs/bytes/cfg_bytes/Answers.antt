@@ -1,4 +1,4 @@
-use Rattle.std.proofs.Common.{◌≡◌, sym, ◌∙◌}
+use Rattle.std.proofs.Common.{sym, ◌∙◌}
 use Rattle.comtrade_write.proofs.Refusals.{cfg_shaped, shaped_parts}
 use Rattle.comtrade_write.proofs.bytes.cfg_bytes.Goals as goal
 

@@ -1,4 +1,4 @@
-use Rattle.std.proofs.Common.{◌≡◌, true, sym, ◌∙◌, ap, arith}
+use Rattle.std.proofs.Common.{sym, ◌∙◌, ap}
 use Rattle.comtrade_write.specs.Refusals.{text_refusal}
 use Rattle.comtrade_write.proofs.Refusals.{cfg_unshaped, cfg_from_shaped, shaped_parts, head_parts, channels_few}
 use Rattle.comtrade_write.proofs.bytes.cfg_fault.Goals as goal

@@ -1,4 +1,3 @@
-use Rattle.std.proofs.Common.{◌≡◌}
 use Rattle.comtrade_write.proofs.Refusals.{head_parts, channels_few}
 use Rattle.comtrade_write.proofs.bytes.cfg_text.Goals as goal
 

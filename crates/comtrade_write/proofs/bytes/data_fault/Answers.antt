@@ -1,4 +1,4 @@
-use Rattle.std.proofs.Common.{◌≡◌, true, sym, ◌∙◌, arith}
+use Rattle.std.proofs.Common.{sym, ◌∙◌}
 use Rattle.comtrade_write.proofs.Refusals.{data_unshaped, data_shaped, shaped_parts, head_parts, k_few}
 use Rattle.comtrade_write.proofs.bytes.data_fault.Goals as goal
 

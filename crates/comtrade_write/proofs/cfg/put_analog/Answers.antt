@@ -1,4 +1,4 @@
-use Rattle.std.proofs.Common.{arith, rules, append_assoc}
+use Rattle.std.proofs.Common.{rules, append_assoc}
 use Rattle.std.proofs.lemmas.Result.{IfOk-equal}
 use Rattle.comtrade_write.specs.Cfg.{analog_line}
 use Rattle.comtrade_write.proofs.Lines.{line-cons, line-last}

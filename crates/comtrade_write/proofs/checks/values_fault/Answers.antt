@@ -1,6 +1,10 @@
-use Rattle.std.proofs.Common.{◌+◌, arith, sym, ◌∙◌}
-use Rattle.comtrade_write.proofs.Numbered.{values_from-pass, values_from-stop, values_from-end}
+use Rattle.std.proofs.Common.{◌+◌, sym, ◌∙◌}
+use Rattle.comtrade_write.proofs.Numbered.{values_from-pass, values_from-stop, values_from-end, values_from-all}
 use Rattle.comtrade_write.proofs.checks.values_fault.Goals as goal
+
+pub returns-then-takes_all : goal.returns-then-takes_all
+returns-then-takes_all c =
+    sym (values_from-all c.args.m c.args.row 1 c.args.values.now (sym c.takes_all.ensures ∙ c.if-takes_all.true))
 
 pub returns-then-not-takes_reading : goal.returns-then-not-takes_reading
 returns-then-not-takes_reading c =

@@ -1,4 +1,4 @@
-use Rattle.std.proofs.Common.{arith, append_assoc, rules, to_z-of_z, FitsSigned, w16, w64}
+use Rattle.std.proofs.Common.{append_assoc, rules, to_z-of_z, FitsSigned, w16, w64}
 use Rattle.std.proofs.lemmas.Result.{IfOk-equal}
 use Rattle.comtrade_write.specs.Dates.{date_text}
 use Rattle.comtrade_write.proofs.Civil.{civil_of-date}

@@ -1,4 +1,4 @@
-use Rattle.std.proofs.Common.{arith, append_assoc, rules}
+use Rattle.std.proofs.Common.{append_assoc, rules}
 use Rattle.std.proofs.lemmas.Result.{IfOk-equal}
 use Rattle.comtrade_write.proofs.Digits.{padded_four}
 use Rattle.comtrade_write.proofs.dates.put_four.Goals as goal

@@ -1,4 +1,4 @@
-use Rattle.std.proofs.Common.{arith, append_assoc, rules, to_z-of_z, FitsSigned, w64}
+use Rattle.std.proofs.Common.{append_assoc, rules, to_z-of_z, FitsSigned, w64}
 use Rattle.std.proofs.lemmas.Result.{IfOk-equal}
 use Rattle.comtrade_write.specs.Dates.{instant_text, day_number, time_of_day}
 use Rattle.comtrade_write.proofs.dates.put_instant.Goals as goal

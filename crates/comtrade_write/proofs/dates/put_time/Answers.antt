@@ -1,4 +1,4 @@
-use Rattle.std.proofs.Common.{arith, append_assoc, rules}
+use Rattle.std.proofs.Common.{append_assoc, rules}
 use Rattle.std.proofs.lemmas.Result.{IfOk-equal}
 use Rattle.comtrade_write.specs.Dates.{time_text}
 use Rattle.comtrade_write.proofs.dates.put_time.Goals as goal

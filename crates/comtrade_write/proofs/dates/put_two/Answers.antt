@@ -1,4 +1,4 @@
-use Rattle.std.proofs.Common.{arith, append_assoc}
+use Rattle.std.proofs.Common.{arith}
 use Rattle.std.proofs.lemmas.Grind.{common_steps}
 use Rattle.comtrade_write.proofs.Digits.{padded_two}
 use Rattle.comtrade_write.proofs.dates.put_two.Goals as goal

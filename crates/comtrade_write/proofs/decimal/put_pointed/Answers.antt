@@ -1,7 +1,5 @@
-use Rattle.std.proofs.Common.{arith, rules, append_assoc, ap, ◌≡◌, sym}
-use Rattle.std.proofs.lemmas.Result.{IfOk-equal}
+use Rattle.std.proofs.Common.{arith}
 use Rattle.std.proofs.lemmas.Grind.{common_steps}
-use Rattle.dfr_channels.specs.Written.{pointed}
 use Rattle.comtrade_write.proofs.Points.{pointed_none, pointed_inside, pointed_before}
 use Rattle.comtrade_write.proofs.decimal.put_pointed.Goals as goal
 

@@ -1,5 +1,4 @@
-use Rattle.std.proofs.Common.{◌≡◌, true, sym, ◌∙◌, subst, refl, arith}
-use Rattle.comtrade_write.specs.Parts.{FileParts}
+use Rattle.std.proofs.Common.{sym, ◌∙◌, subst, refl, arith}
 use Rattle.comtrade_write.specs.OfRecord.{file, IsWritable}
 use Rattle.comtrade_write.proofs.Own.{own_parts, own_writable, earlier_instant, scans_few}
 use Rattle.comtrade_write.proofs.of_record.file_of.Goals as goal
@@ -10,7 +9,7 @@ head-requires g c =
     let w = c.extent-whole.ensures.whole in
     record {
       first = earlier_instant c.args.layout.now c.args.taken.now.extent.first c.args.taken.now.extent.last (omega (arith, w.begun, w.ended)) o.last;
-      trigger = earlier_instant c.args.layout.now c.args.taken.now.extent.trigger c.args.taken.now.extent.last w.ended o.last
+      trigger = earlier_instant c.args.layout.now c.args.taken.now.extent.trigger c.args.taken.now.extent.last w.ended o.last;
     }
 
 pub rows-requires-clause-few : goal.rows-requires-clause-few

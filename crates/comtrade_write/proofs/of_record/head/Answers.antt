@@ -1,4 +1,4 @@
-use Rattle.std.proofs.Common.{◌≡◌, to_z-of_z, FitsSigned, w64, rules, refl}
+use Rattle.std.proofs.Common.{to_z-of_z, FitsSigned, w64, rules, refl}
 use Rattle.comtrade_write.specs.OfRecord.{head_of}
 use Rattle.comtrade_write.proofs.of_record.head.Goals as goal
 

@@ -1,4 +1,4 @@
-use Rattle.std.proofs.Common.{◌≡◌, ◌+◌, ◌-◌, arith, refl, ◌∙◌, ap, Some}
+use Rattle.std.proofs.Common.{◌≡◌, ◌+◌, ◌-◌, arith, refl}
 use Rattle.comtrade_write.specs.OfRecord.{row_of}
 use Rattle.comtrade_write.proofs.Numbered.{numbered-more}
 use Rattle.comtrade_write.proofs.of_record.rows.Goals as goal

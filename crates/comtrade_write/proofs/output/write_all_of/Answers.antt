@@ -6,5 +6,5 @@ pub loop-written-preserved : goal.loop-written-preserved
 loop-written-preserved g c = record {
   within = within_more c.args.bytes.now c.loop-written.written c.in-Ok.n c.loop-written.invariant.within c.in-Ok.ensures.bound;
   bytes = appends_more _ _ _ c.args.bytes.now c.loop-written.written c.in-Ok.n c.loop-written.invariant.bytes c.in-Ok.ensures.bytes;
-  none = λ e. absurd (omega arith)
+  none = λ e. absurd (omega arith);
 }

@@ -1,22 +1,18 @@
-use Rattle.std.proofs.Common.{arith, refl, sym}
-use Rattle.comtrade_write.proofs.Bits.{bits_number-none, more_set, more_clear, next_weight}
+use Rattle.std.proofs.Common.{◌-◌, length, arith, refl, sym, ◌∙◌, ap, get_or, false}
+use Rattle.std.proofs.lemmas.List.{drop_all}
+use Rattle.comtrade_write.specs.Binary.{bits_number}
+use Rattle.comtrade_write.proofs.Bits.{bits_number-none, more_low, small_more}
 use Rattle.comtrade_write.proofs.rows_binary.group_of.Goals as goal
-use Rattle.comtrade_write.proofs.rows_binary.group_of.Goals.{then-bit, else-bit}
 
-pub loop-bit-init : goal.loop-bit-init
-loop-bit-init c = record { so_far = sym bits_number-none; weight = refl; small = omega arith }
+pub loop-i-init : goal.loop-i-init
+loop-i-init c =
+    let bits = c.args.bits.now in
+    record { so_far = sym (ap bits_number (drop_all (length bits - 0) bits (omega arith)) ∙ bits_number-none); small = omega arith }
 
-pub loop-bit-preserved : goal.loop-bit-preserved
-loop-bit-preserved c =
-    let next = next_weight c.loop-bit.bit-index c.loop-bit.weight c.loop-bit.invariant.weight in
-    elim c.if-bit.branch [
-      then-bit w ↦ record {
-        so_far = more_set c.args.bits.now c.loop-bit.bit-index c.loop-bit.group c.loop-bit.weight c.if-bit.group c.loop-bit-test.true c.loop-bit.invariant.so_far c.loop-bit.invariant.weight w.if-bit.true w.group-is;
-        weight = next;
-        small = omega arith
-      }
-    | else-bit w ↦ record {
-        so_far = more_clear c.args.bits.now c.loop-bit.bit-index c.loop-bit.group c.if-bit.group c.loop-bit-test.true c.loop-bit.invariant.so_far w.if-bit.false w.group-is;
-        weight = next;
-        small = omega arith
-      } ]
+pub loop-i-preserved : goal.loop-i-preserved
+loop-i-preserved c =
+    let bits = c.args.bits.now in
+    let i = c.loop-i.i in record {
+      so_far = more_low bits i c.loop-i.group _ c.loop-i-test.true c.loop-i.invariant.so_far refl;
+      small = small_more (get_or bits (length bits - 1 - i) false) i c.loop-i.group c.loop-i.invariant.small;
+    }

@@ -1,5 +1,4 @@
-use Rattle.std.proofs.Common.{◌≡◌, ◌+◌, sym, ap, ◌∙◌}
-use Rattle.dfr_channels.specs.Parts.{AnalogParts}
+use Rattle.std.proofs.Common.{◌+◌, sym, ap, ◌∙◌}
 use Rattle.comtrade_write.specs.Refusals.{analog_refusal}
 use Rattle.comtrade_write.proofs.Numbered.{first_from-pass, first_from-stop, first_from-end}
 use Rattle.comtrade_write.proofs.texts.analogs_fault.Goals as goal

@@ -1,4 +1,4 @@
-use Rattle.std.proofs.Common.{rules, ◌≡◌, ◌≤◌, ◌∙◌, ◌++◌, ◌∷◌, [], Some}
+use Rattle.std.proofs.Common.{rules, ◌≡◌, ◌∙◌, ◌++◌, ◌∷◌, [], Some}
 use Rattle.std.specs.Prelude.{slice_get}
 use Rattle.dfr_recorder.proofs.Copying.{copied_more}
 use Rattle.dfr_recorder.proofs.ring.begin.Goals as goal

@@ -1,0 +1,2 @@
+# one byte more
+yes "#" | head -c 16777217 | "$dfr"

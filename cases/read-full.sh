@@ -1,0 +1,1 @@
+"$dfr" read files/first.cfg files/first.dat > /dev/full

@@ -1,0 +1,299 @@
+-- Rows that are written are read.
+use Rattle.std.proofs.Common.{◌≡◌, ℕ, zero, suc, ◌+◌, ◌-◌, ◌*◌, ◌/◌, ◌<◌, ◌≤◌, ◌^◌, Bool, true, false, cond, ltb, leb, eqb, List, [], ◌∷◌, ◌++◌, length, map, get_or, take, drop, replicate, Option, Some, None, refl, sym, ap, ◌∙◌, arith, length-append}
+use Rattle.std.specs.Prelude.{ℤ, pos, negsuc, neg_ℤ, ◌≤ℤ◌, int_le, ◌&&◌, slice_get, slice_index_or, unsigned_abs}
+use Rattle.std.specs.List.{range_with_len, flat_map, concat, list_all, before_first, AllByRecursion, AllZip}
+use Rattle.std.specs.Fmt.{decimal}
+use Rattle.std.proofs.lemmas.List.{get_or-take, get_or-drop, get_or-append-add, length-take, length-map, length-replicate, take_at}
+use Rattle.std.proofs.Math.ListN.{get_or-append}
+use Rattle.std.proofs.lemmas.Int.{ints}
+use Rattle.std.proofs.lemmas.Bool.{leb-true, eqb-true}
+use Rattle.std.proofs.lemmas.Bool.Decides.{nat_tests}
+use Rattle.byteorder.specs.Endian.{little_bytes}
+use Rattle.dfr_channels.specs.Faults.{◌or◌, fault_unless}
+use Rattle.dfr_channels.specs.Lines.{field}
+use Rattle.dfr_channels.specs.declared.scan.Reading.{Reading}
+use Rattle.dfr_channels.specs.declared.scan.Reading.TheVariants.{Value, Missing}
+use Rattle.comtrade_write.specs.declared.bounds.Bounds.{Bounds}
+use Rattle.comtrade_write.specs.Parts.{RowParts}
+use Rattle.comtrade_write.specs.Lines.{line, bit_text}
+use Rattle.comtrade_write.specs.Ascii.{reading_text, stamp_text, fields_line, row_line, ascii}
+use Rattle.comtrade_write.specs.Binary.{reading_number, stamp_number, bits_number, group_bytes, status_bytes, row_bytes, binary}
+use Rattle.comtrade_write.specs.Shape.{row_shaped}
+use Rattle.comtrade_write.specs.Refusals.{ascii_bounds, binary_bounds, takes_reading, takes_stamp, takes_times, values_from, rows_from, stamps_from}
+use Rattle.comtrade_read.specs.Fields.{bit}
+use Rattle.comtrade_read.specs.Ascii.{stamp, value, is_end_mark}
+use Rattle.comtrade_read.specs.Spells.{EachFrom, SpellsRow}
+use Rattle.comtrade_read.specs.Reads.{IsPresent, IsStamp, IsRowOf, ReadsBinary, ReadsAscii}
+use Rattle.comtrade_read.proofs.Joining.{All-append}
+use Rattle.comtrade_read.proofs.Numerals.{place_at}
+use Rattle.comtrade_read.proofs.WrittenFields.{IsClean, Printed, clean_printed, natural_written, value_written, missing_written, stamp_written, no_stamp_written, bit_written, printed_decimal, printed_signed, printed_missing, printed_bit}
+use Rattle.comtrade_read.proofs.WrittenLines.{IsCleanLine, written_joined, lines_no_end}
+
+-- ---- what the writers' refusals leave
+
+pub ands : (a b : Bool) → (a && b) ≡ true → (a ≡ true) × (b ≡ true)
+ands true b e = (refl, e)
+ands false b e = absurd cc
+
+pub or_none : {F : Type 0} (a b : Option F) → (a or b) ≡ None → (a ≡ None) × (b ≡ None)
+or_none None b e = (refl, e)
+or_none (Some x) b e = absurd cc
+
+pub unless_none : {F : Type 0} (b : Bool) (e : F) → fault_unless b e ≡ None → b ≡ true
+unless_none true e h = refl
+unless_none false e h = absurd cc
+
+-- a row that the writer of these bounds takes
+pub record RowTaken (b : Bounds) (k m : ℕ) (r : RowParts) : Type 0 where
+  pub value_count : length r.values ≡ k
+  pub bit_count : length r.bits ≡ m
+  pub values : AllByRecursion (λ v. takes_reading b v ≡ true) r.values
+  pub number : leb r.number b.number ≡ true
+  pub stamp : takes_stamp b r.stamp ≡ true
+
+values_taken : (b : Bounds) (row n : ℕ) (vs : List Reading) → values_from b row n vs ≡ None → AllByRecursion (λ v. takes_reading b v ≡ true) vs
+unfolding values_from
+values_taken b row n [] h = tt
+values_taken b row n (v ∷ vs) h =
+    let p = or_none _ _ h in
+    (unless_none (takes_reading b v) _ p.0, values_taken b row (n + 1) vs p.1)
+
+pub rows_taken : (b : Bounds) (k m n : ℕ) (rows : List RowParts) → list_all (row_shaped k m) rows ≡ true → rows_from b n rows ≡ None → stamps_from b n rows ≡ None → AllByRecursion (RowTaken b k m) rows
+unfolding rows_from stamps_from
+rows_taken b k m n [] s v t = tt
+rows_taken b k m n (r ∷ rs) s v t =
+    let shaped = ands (row_shaped k m r) (list_all (row_shaped k m) rs) s in
+    let counts = ands (eqb (length r.values) k) (eqb (length r.bits) m) shaped.0 in
+    let p = or_none _ _ v in
+    let q = or_none _ _ t in
+    let times = ands (leb r.number b.number) (takes_stamp b r.stamp) (unless_none (takes_times b r) _ q.0) in (
+      record {
+        value_count = eqb-true (length r.values) k counts.0;
+        bit_count = eqb-true (length r.bits) m counts.1;
+        values = values_taken b n 1 r.values p.0;
+        number = times.0;
+        stamp = times.1;
+      },
+      rows_taken b k m (n + 1) rs shaped.1 p.1 q.1,
+    )
+
+pub int_le-is : (a b : ℤ) → int_le a b ≡ true → a ≤ℤ b
+int_le-is a b h = grind (arith, ints)
+
+-- ---- BINARY rows
+
+bits_same : (xs ys : List Bool) → ((i : ℕ) → get_or xs i false ≡ get_or ys i false) → bits_number xs ≡ bits_number ys
+unfolding bits_number
+bits_same [] [] h = refl
+bits_same [] (true ∷ ys) h = let e : false ≡ true = h 0 in absurd cc
+bits_same [] (false ∷ ys) h = let e : 0 ≡ bits_number ys = bits_same [] ys (λ i. h (suc i)) in omega arith
+bits_same (true ∷ xs) [] h = let e : true ≡ false = h 0 in absurd cc
+bits_same (false ∷ xs) [] h = let e : bits_number xs ≡ 0 = bits_same xs [] (λ i. h (suc i)) in omega arith
+bits_same (true ∷ xs) (true ∷ ys) h = ap (λ (n : ℕ). 1 + 2 * n) (bits_same xs ys (λ i. h (suc i)))
+bits_same (false ∷ xs) (false ∷ ys) h = ap (λ (n : ℕ). 2 * n) (bits_same xs ys (λ i. h (suc i)))
+bits_same (true ∷ xs) (false ∷ ys) h = let e : true ≡ false = h 0 in absurd cc
+bits_same (false ∷ xs) (true ∷ ys) h = let e : false ≡ true = h 0 in absurd cc
+
+clear_at : (n i : ℕ) → get_or (replicate n false) i false ≡ false
+clear_at zero i = refl
+clear_at (suc n) zero = refl
+clear_at (suc n) (suc i) = clear_at n i
+
+filled_at : (xs : List Bool) (n i : ℕ) → get_or (xs ++ replicate n false) i false ≡ get_or xs i false
+filled_at [] n i = clear_at n i
+filled_at (x ∷ xs) n zero = refl
+filled_at (x ∷ xs) n (suc i) = filled_at xs n i
+
+beyond : (xs : List Bool) (i : ℕ) → length xs ≤ i → get_or xs i false ≡ false
+beyond [] i le = refl
+beyond (x ∷ xs) zero le = absurd (omega arith)
+beyond (x ∷ xs) (suc i) le = beyond xs i (omega arith)
+
+group_at : (zs : List Bool) (n i : ℕ) → get_or (take 16 (drop n zs)) i false ≡ cond (ltb i 16) (get_or zs (n + i) false) false
+group_at zs n i = with_test (ltb i 16) refl
+  where
+    with_test : (b : Bool) → ltb i 16 ≡ b → get_or (take 16 (drop n zs)) i false ≡ cond b (get_or zs (n + i) false) false
+    with_test true t = get_or-take 16 (drop n zs) i false (grind (arith, nat_tests)) ∙ get_or-drop n zs i false
+    with_test false t = let ge : 16 ≤ i = grind (arith, nat_tests) in beyond (take 16 (drop n zs)) i (omega (arith, length-take 16 (drop n zs)))
+
+group_same : (bits : List Bool) (n g : ℕ) → group_bytes (bits ++ replicate n false) g ≡ group_bytes bits g
+unfolding group_bytes
+group_same bits n g =
+    ap (little_bytes 2) (bits_same (take 16 (drop (16 * g) (bits ++ replicate n false))) (take 16 (drop (16 * g) bits))
+    (λ i. group_at (bits ++ replicate n false) (16 * g) i ∙ ap (λ (b : Bool). cond (ltb i 16) b false) (filled_at bits n (16 * g + i)) ∙ sym (group_at bits (16 * g) i)))
+
+flat_same : (f g : ℕ → List ℕ) (ns : List ℕ) → ((n : ℕ) → f n ≡ g n) → flat_map f ns ≡ flat_map g ns
+flat_same f g [] h = refl
+flat_same f g (n ∷ ns) h = rw (h n, flat_same f g ns h) refl
+
+status_same : (m : ℕ) (bits : List Bool) → length bits ≡ m → status_bytes (bits ++ replicate (16 * ((m + 15) / 16) - m) false) ≡ status_bytes bits
+unfolding status_bytes
+status_same m bits e =
+    let n = 16 * ((m + 15) / 16) - m in
+    let many : (length (bits ++ replicate n false) + 15) / 16 ≡ (length bits + 15) / 16 = omega (arith, length-append bits (replicate n false), length-replicate n false) in
+    ap (λ (c : ℕ). flat_map (group_bytes (bits ++ replicate n false)) (range_with_len 0 c)) many
+    ∙ flat_same (group_bytes (bits ++ replicate n false)) (group_bytes bits) (range_with_len 0 ((length bits + 15) / 16)) (group_same bits n)
+
+present : (v : Reading) → takes_reading binary_bounds v ≡ true → IsPresent v
+present Missing h = tt
+present (Value x) h = let p = ands (int_le (neg_ℤ (pos 32767)) x) (int_le x (pos 32767)) h in (int_le-is (neg_ℤ (pos 32767)) x p.0, int_le-is x (pos 32767) p.1)
+
+all_present : (vs : List Reading) → AllByRecursion (λ v. takes_reading binary_bounds v ≡ true) vs → AllByRecursion IsPresent vs
+all_present [] h = tt
+all_present (v ∷ vs) h = (present v h.0, all_present vs h.1)
+
+stamp_fits : (s : Option ℕ) → takes_stamp binary_bounds s ≡ true → IsStamp s
+stamp_fits None h = tt
+stamp_fits (Some t) h = let le : t ≤ 4294967294 = leb-true t 4294967294 h in omega arith
+
+row_of : (k m : ℕ) (r : RowParts) → RowTaken binary_bounds k m r → IsRowOf k m (row_bytes r) r
+unfolding row_bytes
+row_of k m r t =
+    let n = 16 * ((m + 15) / 16) - m in
+    let le : r.number ≤ 4294967295 = leb-true r.number 4294967295 t.number in
+    record {
+      spare = replicate n false;
+      spare_count = length-replicate n false;
+      written = ap (λ (s : List ℕ). little_bytes 4 r.number ++ (little_bytes 4 (stamp_number r.stamp) ++ (flat_map (λ v. little_bytes 2 (reading_number v)) r.values ++ s))) (sym (status_same m r.bits t.bit_count));
+      number = omega arith;
+      stamp = stamp_fits r.stamp t.stamp;
+      value_count = t.value_count;
+      values = all_present r.values t.values;
+      bit_count = t.bit_count;
+    }
+
+concat_rows : (rows : List RowParts) → concat (map row_bytes rows) ≡ flat_map row_bytes rows
+concat_rows [] = refl
+concat_rows (r ∷ rs) = ap (λ (ys : List ℕ). row_bytes r ++ ys) (concat_rows rs)
+
+each_row : (k m : ℕ) (rows : List RowParts) → AllByRecursion (RowTaken binary_bounds k m) rows → AllZip (IsRowOf k m) (map row_bytes rows) rows
+each_row k m [] h = tt
+each_row k m (r ∷ rs) h = (row_of k m r h.0, each_row k m rs h.1)
+
+pub binary_written : (k m : ℕ) (rows : List RowParts) → AllByRecursion (RowTaken binary_bounds k m) rows → ReadsBinary k m (binary rows) rows
+unfolding binary
+binary_written k m rows h = record { parts = map row_bytes rows; bytes = sym (concat_rows rows); each = each_row k m rows h }
+
+-- ---- by index
+
+pub each_by : {X : Type 0} (P : ℕ → X → Type 0) (n : ℕ) (xs : List X) → ((j : ℕ) (x : X) → slice_get xs j ≡ Some x → P (n + j) x) → EachFrom P n xs
+each_by P n [] h = tt
+each_by P n (x ∷ xs) h =
+    let z : n + 0 ≡ n = omega arith in
+    (rw z at (h 0 x refl), each_by P (n + 1) xs (λ j y e. let s : n + suc j ≡ n + 1 + j = omega arith in rw s at (h (suc j) y e)))
+
+pub got_map : {X Y : Type 0} (f : X → Y) (xs : List X) (j : ℕ) (d : Y) (x : X) → slice_get xs j ≡ Some x → get_or (map f xs) j d ≡ f x
+got_map f [] j d x e = absurd cc
+got_map f (y ∷ ys) zero d x e = let same : y ≡ x = cc in ap f same
+got_map f (y ∷ ys) (suc j) d x e = got_map f ys j d x e
+
+pub got_below : {X : Type 0} (xs : List X) (j : ℕ) (x : X) → slice_get xs j ≡ Some x → j < length xs
+got_below [] j x e = absurd cc
+got_below (y ∷ ys) zero x e = omega arith
+got_below (y ∷ ys) (suc j) x e = let h = got_below ys j x e in omega arith
+
+pub all_got : {X : Type 0} (P : X → Type 0) (xs : List X) (j : ℕ) (x : X) → AllByRecursion P xs → slice_get xs j ≡ Some x → P x
+all_got P [] j x h e = absurd cc
+all_got P (y ∷ ys) zero x h e = let same : y ≡ x = cc in rw same at h.0
+all_got P (y ∷ ys) (suc j) x h e = all_got P ys j x h.1 e
+
+-- ---- ASCII rows
+
+row_fields : RowParts → List (List ℕ)
+row_fields r = decimal r.number ∷ stamp_text r.stamp ∷ (map reading_text r.values ++ map bit_text r.bits)
+
+value_again : (v : Reading) → takes_reading ascii_bounds v ≡ true → value (reading_text v) ≡ Some v
+value_again Missing h = missing_written
+value_again (Value x) h = let p = ands (int_le (neg_ℤ (pos 99999)) x) (int_le x (pos 99998)) h in value_written x (int_le-is (neg_ℤ (pos 99999)) x p.0) (int_le-is x (pos 99998) p.1)
+
+stamp_again : (s : Option ℕ) → takes_stamp ascii_bounds s ≡ true → stamp (stamp_text s) ≡ Some s
+stamp_again None h = no_stamp_written
+stamp_again (Some t) h = stamp_written t (leb-true t 9999999999 h)
+
+row_spelled : (k m : ℕ) (r : RowParts) → RowTaken ascii_bounds k m r → SpellsRow k m (row_fields r) r
+unfolding row_fields
+row_spelled k m r t =
+    let vs = map reading_text r.values in
+    let bs = map bit_text r.bits in
+    let le : r.number ≤ 9999999999 = leb-true r.number 9999999999 t.number in
+    let vlen : length vs ≡ k = length-map r.values reading_text ∙ t.value_count in
+    let blen : length bs ≡ m = length-map r.bits bit_text ∙ t.bit_count in
+    record {
+      many = omega (arith, length-append vs bs);
+      number = natural_written 9999999999 r.number le (omega arith);
+      stamp = stamp_again r.stamp t.stamp;
+      value_count = t.value_count;
+      values = each_by (λ j v. value (field (decimal r.number ∷ stamp_text r.stamp ∷ (vs ++ bs)) (2 + j)) ≡ Some v) 0 r.values (λ j v e.
+          let s : 2 + (0 + j) ≡ suc (suc j) = omega arith in
+          let lt = got_below r.values j v e in
+          let f : get_or (vs ++ bs) j [] ≡ reading_text v = get_or-append vs bs [] j (omega (arith, vlen, t.value_count)) ∙ got_map reading_text r.values j [] v e in
+          rw (s, f) (value_again v (all_got (λ y. takes_reading ascii_bounds y ≡ true) r.values j v t.values e)));
+      bit_count = t.bit_count;
+      bits = each_by (λ j b. bit (field (decimal r.number ∷ stamp_text r.stamp ∷ (vs ++ bs)) (2 + k + j)) ≡ Some b) 0 r.bits (λ j b e.
+          let s : 2 + k + (0 + j) ≡ suc (suc (length vs + j)) = omega (arith, vlen) in
+          let f : get_or (vs ++ bs) (length vs + j) [] ≡ bit_text b = get_or-append-add vs bs j [] ∙ got_map bit_text r.bits j [] b e in
+          rw (s, f) (bit_written b));
+    }
+
+printed_values : (vs : List Reading) → AllByRecursion (λ v. takes_reading ascii_bounds v ≡ true) vs → AllByRecursion Printed (map reading_text vs)
+printed_values [] h = tt
+printed_values (Missing ∷ vs) h = (printed_missing, printed_values vs h.1)
+printed_values (Value x ∷ vs) h =
+    let p = ands (int_le (neg_ℤ (pos 99999)) x) (int_le x (pos 99998)) h.0 in
+    (printed_signed x (few x (int_le-is (neg_ℤ (pos 99999)) x p.0) (int_le-is x (pos 99998) p.1)), printed_values vs h.1)
+  where
+    few : (z : ℤ) → neg_ℤ (pos 99999) ≤ℤ z → z ≤ℤ pos 99998 → unsigned_abs z < 10 ^ 64
+    few (pos n) a b = omega (arith, ints)
+    few (negsuc n) a b = omega (arith, ints)
+
+printed_bits : (bs : List Bool) → AllByRecursion Printed (map bit_text bs)
+printed_bits [] = tt
+printed_bits (b ∷ bs) = (printed_bit b, printed_bits bs)
+
+printed_stamp : (s : Option ℕ) → takes_stamp ascii_bounds s ≡ true → Printed (stamp_text s)
+printed_stamp None h = tt
+printed_stamp (Some t) h = let le : t ≤ 9999999999 = leb-true t 9999999999 h in printed_decimal t (omega arith)
+
+printed_row : (k m : ℕ) (r : RowParts) → RowTaken ascii_bounds k m r → AllByRecursion Printed (row_fields r)
+unfolding row_fields
+printed_row k m r t =
+    let le : r.number ≤ 9999999999 = leb-true r.number 9999999999 t.number in
+    (printed_decimal r.number (omega arith), (printed_stamp r.stamp t.stamp, All-append Printed (map reading_text r.values) (map bit_text r.bits) (printed_values r.values t.values) (printed_bits r.bits)))
+
+clean_all : (fs : List (List ℕ)) → AllByRecursion Printed fs → AllByRecursion IsClean fs
+clean_all [] h = tt
+clean_all (f ∷ fs) h = (clean_printed f h.0, clean_all fs h.1)
+
+clean_row : (k m : ℕ) (r : RowParts) → RowTaken ascii_bounds k m r → IsCleanLine (row_fields r)
+unfolding row_fields
+clean_row k m r t = clean_all (decimal r.number ∷ stamp_text r.stamp ∷ (map reading_text r.values ++ map bit_text r.bits)) (printed_row k m r t)
+
+clean_rows : (k m : ℕ) (rows : List RowParts) → AllByRecursion (RowTaken ascii_bounds k m) rows → AllByRecursion IsCleanLine (map row_fields rows)
+clean_rows k m [] h = tt
+clean_rows k m (r ∷ rs) h = (clean_row k m r h.0, clean_rows k m rs h.1)
+
+printed_rows : (k m : ℕ) (rows : List RowParts) → AllByRecursion (RowTaken ascii_bounds k m) rows → AllByRecursion (AllByRecursion Printed) (map row_fields rows)
+printed_rows k m [] h = tt
+printed_rows k m (r ∷ rs) h = (printed_row k m r h.0, printed_rows k m rs h.1)
+
+rows_lines : (rows : List RowParts) → flat_map row_line rows ≡ flat_map line (map row_fields rows)
+unfolding fields_line row_fields
+rows_lines [] = refl
+rows_lines (r ∷ rs) = ap (λ (ys : List ℕ). row_line r ++ ys) (rows_lines rs)
+
+pub ascii_written : (k m : ℕ) (rows : List RowParts) → AllByRecursion (RowTaken ascii_bounds k m) rows → ReadsAscii k m (ascii rows) rows
+unfolding ascii
+ascii_written k m rows h =
+    let ls = map row_fields rows in
+    let text = flat_map line ls in
+    let n = place_at is_end_mark text 26 [] (lines_no_end ls (printed_rows k m rows h)) refl in
+    let front : before_first is_end_mark (text ++ 26 ∷ []) ≡ text = rw n (take_at text (26 ∷ []) (length text) refl) in
+    let whole : before_first is_end_mark (ascii rows) ≡ text = ap (λ (t : List ℕ). before_first is_end_mark (t ++ 26 ∷ [])) (rows_lines rows) ∙ front in
+    record {
+      lines = ls;
+      joined = rw whole (written_joined ls (clean_rows k m rows h));
+      count = length-map rows row_fields;
+      each = each_by (λ i r. SpellsRow k m (slice_index_or ls i []) r) 0 rows (λ j r e.
+          let z : 0 + j ≡ j = omega arith in
+          rw (z, got_map row_fields rows j [] r e) (row_spelled k m r (all_got (RowTaken ascii_bounds k m) rows j r h e)));
+    }

@@ -1,0 +1,29 @@
+-- What is written is read.
+use Rattle.std.specs.Prelude.{◌≡◌, None}
+use Rattle.std.specs.List.{AllByRecursion}
+use Rattle.dfr_channels.specs.Spelling.{IsNumber}
+use Rattle.dfr_channels.specs.Parts.{AnalogParts}
+use Rattle.comtrade_write.specs.Parts.{HeadParts, FileParts}
+use Rattle.comtrade_write.specs.Cfg.{cfg}
+use Rattle.comtrade_write.specs.Data.{dat, dat_refusal}
+use Rattle.comtrade_write.specs.Refusals.{cfg_refusal}
+use Rattle.comtrade_read.specs.Reads.{Reads}
+
+-- each number of a channel is one that a Decimal holds
+pub record HasScale (c : AnalogParts) : Type 0 where
+  pub a : IsNumber c.a
+  pub b : IsNumber c.b
+  pub skew : IsNumber c.skew
+  pub primary : IsNumber c.primary
+  pub secondary : IsNumber c.secondary
+
+-- the same of a head, as every value of the type Head has it
+pub record HasNumbers (h : HeadParts) : Type 0 where
+  pub analog : AllByRecursion HasScale h.analog
+  pub line_freq : IsNumber h.line_freq
+  pub rates : AllByRecursion (λ r. IsNumber r.samp) h.rates
+  pub timemult : IsNumber h.timemult
+
+-- a file that no writer refuses is read from its own texts
+abbrev pub ReadBackLaw : Type 0
+ReadBackLaw = (f : FileParts) → HasNumbers f.head → cfg_refusal f ≡ None → dat_refusal f.head.kind f ≡ None → Reads (cfg f.head) (dat f.head.kind f) f

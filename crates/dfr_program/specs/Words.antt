@@ -1,0 +1,22 @@
+-- What the words after the program's name ask for.
+use Rattle.std.specs.Prelude.{ℕ, ◌&&◌, if◌then◌else◌, List, [], ◌∷◌, Option, Some, None, option_map, codes}
+use Rattle.std.specs.Str.{bytes_eq}
+use Rattle.comtrade_write.specs.declared.file.Kind.{Kind}
+use Rattle.comtrade_write.specs.declared.file.Kind.TheVariants.{Ascii, Binary}
+use Rattle.dfr_program.specs.declared.command.Command.{Command}
+use Rattle.dfr_program.specs.declared.command.Command.TheVariants.{Replay, Read}
+
+-- `ascii` or `binary`
+abbrev pub kind : List ℕ → Option Kind
+kind word = if bytes_eq word (codes "ascii") then Some Ascii else if bytes_eq word (codes "binary") then Some Binary else None
+
+-- no word, `replay`, `replay --kind K` or `read CFG DAT`, and nothing else
+abbrev pub command : List (List ℕ) → Option Command
+command [] = Some (Replay Ascii)
+command (verb ∷ []) = if bytes_eq verb (codes "replay") then Some (Replay Ascii) else None
+command (verb ∷ x ∷ []) = None
+command (verb ∷ x ∷ y ∷ []) =
+    if bytes_eq verb (codes "replay") && bytes_eq x (codes "--kind") then option_map Replay (kind y)
+    else if bytes_eq verb (codes "read") then Some (Read 1)
+    else None
+command (verb ∷ x ∷ y ∷ z ∷ more) = None

@@ -1,0 +1,21 @@
+//! The program: a script replayed, and a pair of files read, over readers and writers that are handed in.
+#![tactic(auto)]
+
+mod answers;
+mod command;
+mod fault;
+mod faults;
+mod input;
+mod prepared;
+mod reading;
+mod replay;
+mod text;
+
+pub use command::{Command, command_of};
+pub use fault::RunFault;
+pub use input::read_all;
+pub use reading::read_over;
+pub use replay::replay_over;
+
+#[cfg(test)]
+mod tests;

@@ -1,0 +1,136 @@
+//! What no clause says: printed texts over memory, and readers and writers that fail.
+
+use super::*;
+use comtrade_write::Kind;
+use std::io;
+use std::io::{Error, ErrorKind, Read, Write};
+use std::test::Fail;
+
+const SCRIPT: &str =
+    "station Bay 1\ndevice DFR\nanalog IA,A,,A,1,0,0,-32767,32767,1,1,P\nfreq 50\nrate 1000\nstart 0\nlimits 2,2,6,1\ngo\nscan 10/\nscan 11/\nscan 12/\nscan 13/\ntrigger\nscan 14/\nscan 15/\ntake\n";
+
+const ANSWERS: &str =
+    "scan 0\nscan 1\nscan 2\nscan 3\ntrigger opened 1\nscan 4\nscan 5 closed 1\nrecord 1 1 3 5 manual\n";
+
+const CFG: &str =
+    "Bay 1,DFR,1999\r\n1,1A,0D\r\n1,IA,A,,A,1,0,0,-32767,32767,1,1,P\r\n50\r\n1\r\n1000,5\r\n01/01/1970,00:00:00.001000\r\n01/01/1970,00:00:00.003000\r\nASCII\r\n1\r\n";
+
+const DAT: &str = "1,0,11\r\n2,1000,12\r\n3,2000,13\r\n4,3000,14\r\n5,4000,15\r\n\x1a";
+
+/// A writer that takes one byte a call, and none after so many.
+struct Narrow<'a> {
+    bytes: &'a mut [u8],
+    len: usize,
+    limit: usize,
+}
+
+impl Drop for Narrow<'_> {
+    fn drop(self) {
+        let Narrow {
+            bytes: _,
+            len: _,
+            limit: _,
+        } = self;
+    }
+}
+
+impl Write for Narrow<'_> {
+    fn write(&mut self, buf: &[u8]) -> io::Result<usize> {
+        if self.len >= self.limit || self.len >= self.bytes.len() {
+            return Err(Error::from(ErrorKind::Other));
+        }
+        match buf.first() {
+            Some(byte) => {
+                self.bytes[self.len] = *byte;
+                self.len += 1;
+                Ok(1)
+            }
+            None => Ok(0),
+        }
+    }
+
+    fn flush(&mut self) -> io::Result<()> {
+        Ok(())
+    }
+}
+
+/// A reader that fails.
+#[derive(Drop)]
+struct Broken;
+
+impl Read for Broken {
+    fn read(&mut self, _buf: &mut [u8]) -> io::Result<usize> {
+        Err(Error::from(ErrorKind::Other))
+    }
+}
+
+#[test]
+fn replays_the_first_script(rt: HostRuntime) -> Result<(), Fail> {
+    let mut out = Vec::new(rt.alloc());
+    let whole = replay_over(rt.alloc(), &mut SCRIPT.as_bytes(), &mut out, Kind::Ascii)?;
+    assert!(rt; whole);
+    let want = format!(in rt.alloc(); "{ANSWERS}cfg 142\n{CFG}dat 53\n{DAT}\n")?;
+    assert_eq!(rt; out.as_slice(), want.as_bytes());
+    Ok(())
+}
+
+#[test]
+fn prints_one_line_of_a_fault(rt: HostRuntime) -> Result<(), Fail> {
+    let mut out = Vec::new(rt.alloc());
+    let whole = replay_over(rt.alloc(), &mut b"".as_slice(), &mut out, Kind::Binary)?;
+    assert!(rt; !whole);
+    assert_eq!(rt; out.as_slice(), b"fault line 1 setup\n".as_slice());
+    Ok(())
+}
+
+#[test]
+fn reads_the_first_pair(rt: HostRuntime) -> Result<(), Fail> {
+    let mut out = Vec::new(rt.alloc());
+    let whole = read_over(rt.alloc(), CFG.as_bytes(), DAT.as_bytes(), &mut out)?;
+    assert!(rt; whole);
+    let want = b"station Bay 1\ndevice DFR\nanalog 1 status 0 rows 5\nfirst 1000 trigger 3000\n";
+    assert_eq!(rt; out.as_slice(), want.as_slice());
+    Ok(())
+}
+
+#[test]
+fn a_failing_writer_has_a_prefix(rt: HostRuntime) -> Result<(), Fail> {
+    let want = format!(in rt.alloc(); "{ANSWERS}cfg 142\n{CFG}dat 53\n{DAT}\n")?;
+    for limit in 0..want.len() {
+        let mut bytes = [0u8; 400];
+        let mut narrow = Narrow {
+            bytes: &mut bytes,
+            len: 0,
+            limit,
+        };
+        let ended = replay_over(rt.alloc(), &mut SCRIPT.as_bytes(), &mut narrow, Kind::Ascii);
+        assert_eq!(rt; ended, Err(RunFault::Output), "at {limit}");
+        let len = narrow.len;
+        drop(narrow);
+        assert_eq!(rt; len, limit);
+        assert_eq!(rt; bytes.get(..limit), want.as_bytes().get(..limit));
+    }
+    Ok(())
+}
+
+#[test]
+fn a_failing_reader_is_input(rt: HostRuntime) -> Result<(), Fail> {
+    let mut out = Vec::new(rt.alloc());
+    let ended = replay_over(rt.alloc(), &mut Broken, &mut out, Kind::Ascii);
+    assert_eq!(rt; ended, Err(RunFault::Input));
+    assert!(rt; out.is_empty());
+    Ok(())
+}
+
+#[test]
+fn faults_have_their_texts(rt: HostRuntime) -> Result<(), Fail> {
+    for (fault, want) in [
+        (RunFault::Input, "dfr: input"),
+        (RunFault::Output, "dfr: output"),
+        (RunFault::Memory, "dfr: memory"),
+    ] {
+        let text = format!(in rt.alloc(); "{fault}")?;
+        assert_eq!(rt; text.as_str(), want);
+    }
+    Ok(())
+}

@@ -1,0 +1,16 @@
+use Rattle.std.proofs.Common.{◌≡◌, ◌++◌}
+use Rattle.std.specs.Prelude.{is_some, option_copied}
+use Rattle.std.specs.List.{list_all, filter_map}
+use Rattle.dfr_script.specs.ScanLines.{reading}
+use Rattle.dfr_script.specs.ScanLines.{fields, fields_behind}
+use Rattle.dfr_script.proofs.CutFields.{left_length}
+use Rattle.dfr_script.proofs.scan_line.readings_of.Given as goal
+
+abbrev pub invariant-loop-left : goal.invariant-loop-left
+invariant-loop-left g l = record {
+  reads : list_all (λ f. is_some (reading f)) (fields l.part) ≡ list_all (λ f. is_some (reading f)) (fields_behind (option_copied l.left));
+  same : filter_map reading (fields l.part) ≡ l.list.items ++ filter_map reading (fields_behind (option_copied l.left));
+}
+
+abbrev pub decreases-loop-left : goal.decreases-loop-left
+decreases-loop-left g l = left_length (option_copied l.left)

@@ -1,0 +1,13 @@
+pub mod Faults
+pub mod Words
+pub mod Fields
+pub mod Channels
+pub mod Limits
+pub mod RuleLines
+pub mod ScanLines
+pub mod Plain
+pub mod Settings
+pub mod Parts
+pub mod Drafts
+pub mod Commands
+pub mod Scripts

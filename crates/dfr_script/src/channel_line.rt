@@ -1,0 +1,92 @@
+//! The channels that lines of a set-up name.
+
+ghost use Rattle.dfr_script.specs.Faults.{Gives};
+ghost use Rattle.dfr_script.specs.Channels as spec;
+ghost use Rattle.dfr_channels.specs.Lines.{texts};
+
+use crate::fault::{LineRefusal, Word};
+use crate::fields::{free_bit_at, free_scale_at, scale_at, side_at, small_at, text_at};
+use dfr_channels::{AnalogChannel, StatusChannel, fields_of};
+use std::alloc::Allocator;
+
+/// An analogue channel, by the fields of its line of a configuration file (C37.111-1999, 5.3.3) without the number.
+fn analog_in<A: Allocator + Copy>(
+    alloc: A,
+    fields: &[&[u8]],
+) -> Result<AnalogChannel<A>, LineRefusal>
+    ensures { Gives (λ x. x) (spec.analog_fault (texts fields.now)) (spec.analog_value (texts fields.now)) result }
+{
+    if fields.len() != 12 {
+        return Err(LineRefusal::Fault(Word::Fields));
+    }
+    let a = scale_at(fields, 4)?;
+    let b = free_scale_at(fields, 5)?;
+    let skew = free_scale_at(fields, 6)?;
+    let min = small_at(fields, 7)?;
+    let max = small_at(fields, 8)?;
+    let primary = free_scale_at(fields, 9)?;
+    let secondary = free_scale_at(fields, 10)?;
+    let side = side_at(fields, 11)?;
+    let id = text_at(alloc, fields, 0)?;
+    let phase = text_at(alloc, fields, 1)?;
+    let component = text_at(alloc, fields, 2)?;
+    let unit = text_at(alloc, fields, 3)?;
+    Ok(AnalogChannel {
+        id,
+        phase,
+        component,
+        unit,
+        a,
+        b,
+        skew,
+        min,
+        max,
+        primary,
+        secondary,
+        side,
+    })
+}
+
+/// The analogue channel that the rest of its line says.
+pub(crate) fn analog_of<A: Allocator + Copy>(
+    alloc: A,
+    rest: &[u8],
+) -> Result<AnalogChannel<A>, LineRefusal>
+    ensures { Gives (λ x. x) (spec.analog_line_fault rest.now) (spec.analog_line_value rest.now) result }
+{
+    let fields = fields_of(alloc, rest)?;
+    analog_in(alloc, &fields)
+}
+
+/// A status channel, by the fields of its line of a configuration file (5.3.4) without the number.
+fn status_in<A: Allocator + Copy>(
+    alloc: A,
+    fields: &[&[u8]],
+) -> Result<StatusChannel<A>, LineRefusal>
+    ensures { Gives (λ x. x) (spec.status_fault (texts fields.now)) (spec.status_value (texts fields.now)) result }
+{
+    if fields.len() != 4 {
+        return Err(LineRefusal::Fault(Word::Fields));
+    }
+    let normal = free_bit_at(fields, 3)?;
+    let id = text_at(alloc, fields, 0)?;
+    let phase = text_at(alloc, fields, 1)?;
+    let component = text_at(alloc, fields, 2)?;
+    Ok(StatusChannel {
+        id,
+        phase,
+        component,
+        normal,
+    })
+}
+
+/// The status channel that the rest of its line says.
+pub(crate) fn status_of<A: Allocator + Copy>(
+    alloc: A,
+    rest: &[u8],
+) -> Result<StatusChannel<A>, LineRefusal>
+    ensures { Gives (λ x. x) (spec.status_line_fault rest.now) (spec.status_line_value rest.now) result }
+{
+    let fields = fields_of(alloc, rest)?;
+    status_in(alloc, &fields)
+}

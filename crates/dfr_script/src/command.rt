@@ -1,0 +1,111 @@
+//! The commands that stand behind `go`.
+
+ghost use Rattle.std.specs.Prelude.{◌≡◌, Some, option_map};
+ghost use Rattle.dfr_script.specs.Faults.{Gives};
+ghost use Rattle.dfr_script.specs.Commands as spec;
+
+use crate::fault::{LineRefusal, Word};
+use crate::line::{cut, is_silent, is_word};
+use crate::rule_line::rules_of;
+use crate::scan_line::{Size, scan_of};
+use dfr_channels::{Rule, Scan};
+use std::alloc::{Allocator, Global};
+
+/// What a line behind `go` asks for.
+#[derive(Drop, Debug)]
+pub enum Command<A: Allocator = Global> {
+    Scan(Scan<A>),
+    Trigger,
+    Take,
+    /// Rules that hold from the next scan on, and the number of their line, from 1.
+    Rules { line: u64, list: Vec<Rule, A> },
+}
+
+/// The words of commands.
+#[derive(Clone, Copy, Debug, PartialEq, Eq)]
+pub(crate) enum Verb {
+    Scan,
+    Trigger,
+    Take,
+    Rules,
+}
+
+/// The command that the word names.
+#[tactic(auto, unfolding(crate::specs::Commands::verb))]
+fn verb_of(word: &[u8]) -> Option<Verb>
+    ensures { result ≡ spec.verb word.now }
+{
+    if is_word(word, "scan") {
+        Some(Verb::Scan)
+    } else if is_word(word, "trigger") {
+        Some(Verb::Trigger)
+    } else if is_word(word, "take") {
+        Some(Verb::Take)
+    } else if is_word(word, "rules") {
+        Some(Verb::Rules)
+    } else {
+        None
+    }
+}
+
+/// That no rest follows a word.
+fn bare(rest: &[u8]) -> Result<(), LineRefusal>
+    ensures { Gives (λ x. x) (spec.bare_fault rest.now) tt result }
+{
+    if rest.is_empty() {
+        Ok(())
+    } else {
+        Err(LineRefusal::Fault(Word::Word))
+    }
+}
+
+/// The command of line number `line`.
+fn command_in<A: Allocator + Copy>(
+    alloc: A,
+    line: u64,
+    verb: Verb,
+    rest: &[u8],
+    size: Size,
+) -> Result<Command<A>, LineRefusal>
+    ensures { Gives (λ c. Some (spec.parts_of c)) (spec.verb_fault (Some verb) rest.now) (spec.verb_value line (Some verb) rest.now) result }
+{
+    match verb {
+        Verb::Scan => {
+            let scan = scan_of(alloc, rest, size)?;
+            Ok(Command::Scan(scan))
+        }
+        Verb::Trigger => {
+            bare(rest)?;
+            Ok(Command::Trigger)
+        }
+        Verb::Take => {
+            bare(rest)?;
+            Ok(Command::Take)
+        }
+        Verb::Rules => {
+            let list = rules_of(alloc, rest)?;
+            Ok(Command::Rules { line, list })
+        }
+    }
+}
+
+/// The command of line number `line`; None where it is passed over.
+#[tactic(auto, unfolding(crate::specs::Commands::line_fault, crate::specs::Commands::line_command))]
+pub(crate) fn command_of<A: Allocator + Copy>(
+    alloc: A,
+    line: u64,
+    text: &[u8],
+    size: Size,
+) -> Result<Option<Command<A>>, LineRefusal>
+    ensures { Gives (option_map spec.parts_of) (spec.line_fault text.now) (spec.line_command line text.now) result }
+{
+    if is_silent(text) {
+        return Ok(None);
+    }
+    let (word, rest) = cut(text);
+    let Some(verb) = verb_of(word) else {
+        return Err(LineRefusal::Fault(Word::Word));
+    };
+    let command = command_in(alloc, line, verb, rest, size)?;
+    Ok(Some(command))
+}

@@ -1,0 +1,208 @@
+//! The lines of a set-up that came so far.
+
+ghost use Rattle.std.specs.Prelude.{◌≡◌, MatchResult, Some, None, [], option_map, unwrap_or};
+ghost use Rattle.dfr_script.specs.Faults.{Refuses};
+ghost use Rattle.dfr_script.specs.Drafts.{single_fault};
+
+use crate::channel_line::{analog_of, status_of};
+use crate::fault::{LineRefusal, Word};
+use crate::fields::{instant_of, natural_of, needed, text_of};
+use crate::limit_line::{LimitNumbers, limits_of};
+use crate::rule_line::rules_of;
+use crate::script::Script;
+use crate::setting::Setting;
+use dfr_channels::{AnalogChannel, Decimal, Items, Rule, Setup, StatusChannel};
+use std::alloc::Allocator;
+use std::marker::Model;
+
+#[derive(Drop)]
+pub(crate) struct Draft<A: Allocator> {
+    station: Option<Items<u8, A>>,
+    device: Option<Items<u8, A>>,
+    analog: Vec<AnalogChannel<A>, A>,
+    status: Vec<StatusChannel<A>, A>,
+    line_freq: Option<Decimal>,
+    rate: Option<u32>,
+    start: Option<i64>,
+    limits: Option<LimitNumbers>,
+    rules: Option<Vec<Rule, A>>,
+}
+
+impl<A: Allocator> Model for Draft<A> {
+    ghost use Rattle.std.specs.Prelude.{option_map};
+    ghost use Rattle.dfr_script.specs.Parts.{DraftParts};
+
+    ghost Value = { DraftParts };
+
+    ghost view = { λ d. record {
+      station = d.station;
+      device = d.device;
+      analog = d.analog.items;
+      status = d.status.items;
+      line_freq = d.line_freq;
+      rate = d.rate;
+      start = d.start;
+      limits = d.limits;
+      rules = option_map (λ v. v.items) d.rules;
+    } };
+}
+
+/// The rules, or none where no line named any.
+fn rules_or_none<A: Allocator>(alloc: A, rules: Option<Vec<Rule, A>>) -> Vec<Rule, A>
+    ensures { result.items ≡ unwrap_or (option_map (λ v. v.items) rules) [] }
+{
+    match rules {
+        Some(rules) => rules,
+        None => Vec::new(alloc),
+    }
+}
+
+/// A rest of one field, and what was read of it.
+fn single<T: Drop>(rest: &[u8], read: Option<T>) -> Result<T, LineRefusal>
+    ensures { MatchResult result (λ x. (single_fault rest.now read ≡ None) × (read ≡ Some x)) (Refuses (single_fault rest.now read)) }
+{
+    if rest.contains(&b',') {
+        return Err(LineRefusal::Fault(Word::Fields));
+    }
+    needed(read)
+}
+
+impl<A: Allocator + Copy> Draft<A> {
+    ghost use Rattle.std.specs.Prelude.{◌≡◌, MatchResult, MatchOption, true, false, None};
+    ghost use Rattle.dfr_script.specs.Faults.{Refuses};
+    ghost use Rattle.dfr_script.specs.Drafts.{empty, has, add_fault, added, rest_fault, is_complete, script_in};
+
+    pub(crate) fn new(alloc: A) -> Draft<A>
+        ensures { result ≡ empty }
+    {
+        Draft {
+            station: None,
+            device: None,
+            analog: Vec::new(alloc),
+            status: Vec::new(alloc),
+            line_freq: None,
+            rate: None,
+            start: None,
+            limits: None,
+            rules: None,
+        }
+    }
+
+    /// Whether the setting came and may not come again.
+    #[tactic(auto, unfolding(crate::specs::Drafts::has))]
+    fn has(&self, setting: Setting) -> bool
+        ensures { result ≡ has self.now setting }
+    {
+        match setting {
+            Setting::Station => self.station.is_some(),
+            Setting::Device => self.device.is_some(),
+            Setting::Analog | Setting::Status => false,
+            Setting::Freq => self.line_freq.is_some(),
+            Setting::Rate => self.rate.is_some(),
+            Setting::Start => self.start.is_some(),
+            Setting::Limits => self.limits.is_some(),
+            Setting::Rules => self.rules.is_some(),
+        }
+    }
+
+    /// Puts what the rest of a line says in its place; a fault leaves the draft as it was.
+    #[tactic(auto, unfolding(crate::specs::Drafts::rest_fault, crate::specs::Drafts::added))]
+    fn put(&mut self, alloc: A, setting: Setting, rest: &[u8]) -> Result<(), LineRefusal>
+        ensures { MatchResult result
+            (λ _. (rest_fault setting rest.now ≡ None) × (self.new ≡ added self.old setting rest.now))
+            (λ e. Refuses (rest_fault setting rest.now) e × (self.new ≡ self.old)) }
+    {
+        match setting {
+            Setting::Station => {
+                let station = text_of(alloc, rest)?;
+                self.station = Some(station);
+            }
+            Setting::Device => {
+                let device = text_of(alloc, rest)?;
+                self.device = Some(device);
+            }
+            Setting::Analog => {
+                let channel = analog_of(alloc, rest)?;
+                self.analog.push(channel)?;
+            }
+            Setting::Status => {
+                let channel = status_of(alloc, rest)?;
+                self.status.push(channel)?;
+            }
+            Setting::Freq => {
+                let freq = single(rest, Decimal::read(rest))?;
+                self.line_freq = Some(freq);
+            }
+            Setting::Rate => {
+                let rate = single(rest, natural_of(rest))?;
+                self.rate = Some(rate);
+            }
+            Setting::Start => {
+                let start = single(rest, instant_of(rest))?;
+                self.start = Some(start);
+            }
+            Setting::Limits => {
+                let limits = limits_of(alloc, rest)?;
+                self.limits = Some(limits);
+            }
+            Setting::Rules => {
+                let rules = rules_of(alloc, rest)?;
+                self.rules = Some(rules);
+            }
+        }
+        Ok(())
+    }
+
+    /// Adds a line; a fault leaves the draft as it was.
+    #[tactic(auto, unfolding(crate::specs::Drafts::add_fault))]
+    pub(crate) fn add(&mut self, alloc: A, setting: Setting, rest: &[u8]) -> Result<(), LineRefusal>
+        ensures { MatchResult result
+            (λ _. (add_fault self.old setting rest.now ≡ None) × (self.new ≡ added self.old setting rest.now))
+            (λ e. Refuses (add_fault self.old setting rest.now) e × (self.new ≡ self.old)) }
+    {
+        if self.has(setting) {
+            return Err(LineRefusal::Fault(Word::Word));
+        }
+        self.put(alloc, setting, rest)
+    }
+
+    /// The script of the lines that came, without commands; None where a line is missing.
+    #[tactic(auto, unfolding(crate::specs::Drafts::is_complete, crate::specs::Drafts::script_in))]
+    pub(crate) fn finish(self, alloc: A) -> Option<Script<A>>
+        ensures { MatchOption result (is_complete self ≡ false) (λ script. (is_complete self ≡ true) × (script ≡ script_in self)) }
+    {
+        let Draft {
+            station,
+            device,
+            analog,
+            status,
+            line_freq,
+            rate,
+            start,
+            limits,
+            rules,
+        } = self;
+        let rules = rules_or_none(alloc, rules);
+        let station = station?;
+        let device = device?;
+        let line_freq = line_freq?;
+        let rate = rate?;
+        let start = start?;
+        let limits = limits?;
+        let setup = Setup {
+            station,
+            device,
+            analog: Items::of(analog),
+            status: Items::of(status),
+            line_freq,
+            rate,
+            start,
+        };
+        Some(Script {
+            setup,
+            limits,
+            rules,
+            commands: Vec::new(alloc),
+        })
+    }
+}

@@ -1,0 +1,56 @@
+//! Why a script is refused.
+
+ghost use Rattle.std.specs.Prelude.{◌≡◌, Some, None};
+ghost use Rattle.dfr_script.specs.declared.fault.LineRefusal.TheVariants.{Memory};
+
+use std::alloc::{AllocError, AllocFailed};
+
+/// What is wrong with a line, in the order of the tests.
+#[derive(Clone, Copy, Debug, PartialEq, Eq)]
+pub enum Word {
+    /// An unknown or misplaced word, a second line where one is lawful, or a rest where there is none.
+    Word,
+    /// A wrong number of fields, of words of a rule, or of strokes of a scan.
+    Fields,
+    /// A field or a word of a rule that can't be read, or a number that doesn't fit its type.
+    Number,
+    /// A line of the set-up is missing.
+    Setup,
+}
+
+/// The first fault of a script; lines count from 1.
+#[derive(Clone, Copy, Debug, PartialEq, Eq)]
+pub struct ScriptFault {
+    pub line: u64,
+    pub word: Word,
+}
+
+/// Why a script could not be read.
+#[derive(Clone, Copy, Debug, PartialEq, Eq)]
+pub enum ScriptRefusal {
+    Fault(ScriptFault),
+    Memory,
+}
+
+/// Why a line could not be read.
+#[derive(Clone, Copy, Debug, PartialEq, Eq)]
+pub(crate) enum LineRefusal {
+    Fault(Word),
+    Memory,
+}
+
+impl From<AllocError> for LineRefusal {
+    ghost from_gives = { λ _ e. e ≡ Memory };
+
+    fn from(_error: AllocError) -> LineRefusal {
+        LineRefusal::Memory
+    }
+}
+
+impl<T: Drop> From<AllocFailed<T>> for LineRefusal {
+    ghost from_gives = { λ _ e. e ≡ Memory };
+
+    fn from(_error: AllocFailed<T>) -> LineRefusal {
+        LineRefusal::Memory
+    }
+}

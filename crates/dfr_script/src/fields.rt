@@ -1,0 +1,178 @@
+//! The fields of a line, read one by one.
+
+ghost use Rattle.std.specs.Prelude.{◌≡◌, IfOk, IfErr, length, ◌<◌};
+ghost use Rattle.dfr_channels.specs.Lines.{texts, field};
+ghost use Rattle.dfr_channels.specs.Spelling.{decimal_number};
+ghost use Rattle.dfr_script.specs.Fields as spec;
+ghost use Rattle.dfr_script.specs.Faults.{Field, OnlyMemory};
+
+use crate::fault::{LineRefusal, Word};
+use dfr_channels::{Decimal, Items, Side, integer_of};
+use std::alloc::Allocator;
+
+/// The value, or the fault of what can't be read.
+pub(crate) fn needed<T>(read: Option<T>) -> Result<T, LineRefusal>
+    ensures { Field read result }
+{
+    match read {
+        Some(value) => Ok(value),
+        None => Err(LineRefusal::Fault(Word::Number)),
+    }
+}
+
+/// A whole number that fits an i32.
+#[tactic(auto, unfolding(crate::specs::Fields::small))]
+pub(crate) fn small_of(text: &[u8]) -> Option<i32>
+    ensures { result ≡ spec.small text.now }
+{
+    match integer_of(text) {
+        Some(n) if i32::MIN as i128 <= n && n <= i32::MAX as i128 => Some(n as i32),
+        _ => None,
+    }
+}
+
+/// A whole number that fits a u32.
+#[tactic(auto, unfolding(crate::specs::Fields::natural))]
+pub(crate) fn natural_of(text: &[u8]) -> Option<u32>
+    ensures { result ≡ spec.natural text.now }
+{
+    match integer_of(text) {
+        Some(n) if 0 <= n && n <= u32::MAX as i128 => Some(n as u32),
+        _ => None,
+    }
+}
+
+/// A whole number that fits an i64.
+#[tactic(auto, unfolding(crate::specs::Fields::instant))]
+pub(crate) fn instant_of(text: &[u8]) -> Option<i64>
+    ensures { result ≡ spec.instant text.now }
+{
+    match integer_of(text) {
+        Some(n) if i64::MIN as i128 <= n && n <= i64::MAX as i128 => Some(n as i64),
+        _ => None,
+    }
+}
+
+/// A decimal, or 0 where nothing stands.
+#[tactic(auto, unfolding(crate::specs::Fields::free_scale))]
+pub(crate) fn free_scale_of(text: &[u8]) -> Option<Decimal>
+    ensures { result ≡ spec.free_scale text.now }
+{
+    if text.is_empty() {
+        Decimal::new(0, 0)
+    } else {
+        Decimal::read(text)
+    }
+}
+
+/// The bit that the number is.
+fn as_bit(number: Option<i128>) -> Option<bool>
+    ensures { result ≡ spec.as_bit number }
+{
+    match number {
+        Some(0) => Some(false),
+        Some(1) => Some(true),
+        _ => None,
+    }
+}
+
+/// 0 or 1.
+#[tactic(auto, unfolding(crate::specs::Fields::bit))]
+pub(crate) fn bit_of(text: &[u8]) -> Option<bool>
+    ensures { result ≡ spec.bit text.now }
+{
+    as_bit(integer_of(text))
+}
+
+/// 0 or 1, or 0 where nothing stands.
+#[tactic(auto, unfolding(crate::specs::Fields::free_bit))]
+pub(crate) fn free_bit_of(text: &[u8]) -> Option<bool>
+    ensures { result ≡ spec.free_bit text.now }
+{
+    if text.is_empty() {
+        Some(false)
+    } else {
+        bit_of(text)
+    }
+}
+
+/// The side that the text names.
+#[tactic(auto, unfolding(crate::specs::Fields::side))]
+pub(crate) fn side_of(text: &[u8]) -> Option<Side>
+    ensures { result ≡ spec.side text.now }
+{
+    match text {
+        [b'P' | b'p'] => Some(Side::Primary),
+        [b'S' | b's'] => Some(Side::Secondary),
+        _ => None,
+    }
+}
+
+/// A field that is a decimal.
+pub(crate) fn scale_at(fields: &[&[u8]], i: usize) -> Result<Decimal, LineRefusal>
+    requires { i < length fields.now }
+    ensures { Field (decimal_number (field (texts fields.now) i)) result }
+{
+    needed(Decimal::read(fields[i]))
+}
+
+/// A field that is a decimal or empty.
+pub(crate) fn free_scale_at(fields: &[&[u8]], i: usize) -> Result<Decimal, LineRefusal>
+    requires { i < length fields.now }
+    ensures { Field (spec.free_scale (field (texts fields.now) i)) result }
+{
+    needed(free_scale_of(fields[i]))
+}
+
+/// A field that is a whole number of 32 bits and a sign.
+pub(crate) fn small_at(fields: &[&[u8]], i: usize) -> Result<i32, LineRefusal>
+    requires { i < length fields.now }
+    ensures { Field (spec.small (field (texts fields.now) i)) result }
+{
+    needed(small_of(fields[i]))
+}
+
+/// A field that is a whole number of 32 bits.
+pub(crate) fn natural_at(fields: &[&[u8]], i: usize) -> Result<u32, LineRefusal>
+    requires { i < length fields.now }
+    ensures { Field (spec.natural (field (texts fields.now) i)) result }
+{
+    needed(natural_of(fields[i]))
+}
+
+/// A field that is 0, 1 or empty.
+pub(crate) fn free_bit_at(fields: &[&[u8]], i: usize) -> Result<bool, LineRefusal>
+    requires { i < length fields.now }
+    ensures { Field (spec.free_bit (field (texts fields.now) i)) result }
+{
+    needed(free_bit_of(fields[i]))
+}
+
+/// A field that names a side.
+pub(crate) fn side_at(fields: &[&[u8]], i: usize) -> Result<Side, LineRefusal>
+    requires { i < length fields.now }
+    ensures { Field (spec.side (field (texts fields.now) i)) result }
+{
+    needed(side_of(fields[i]))
+}
+
+/// The bytes of a field.
+pub(crate) fn text_at<A: Allocator>(
+    alloc: A,
+    fields: &[&[u8]],
+    i: usize,
+) -> Result<Items<u8, A>, LineRefusal>
+    requires { i < length fields.now }
+    ensures ok { IfOk result (λ x. x ≡ field (texts fields.now) i) }
+    ensures memory { IfErr result OnlyMemory }
+{
+    text_of(alloc, fields[i])
+}
+
+/// The bytes of a text.
+pub(crate) fn text_of<A: Allocator>(alloc: A, text: &[u8]) -> Result<Items<u8, A>, LineRefusal>
+    ensures ok { IfOk result (λ x. x ≡ text.now) }
+    ensures memory { IfErr result OnlyMemory }
+{
+    Ok(Items::of(Vec::from_slice(alloc, text)?))
+}

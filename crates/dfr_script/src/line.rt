@@ -1,0 +1,50 @@
+//! The word of a line, and what stands behind it.
+
+ghost use Rattle.std.specs.Prelude.{◌≡◌, position};
+ghost use Rattle.std.specs.Str.{bytes_eq};
+ghost use Rattle.dfr_script.specs.Words as spec;
+
+use dfr_channels::trim;
+
+/// A space or a tab.
+pub(crate) fn is_blank(b: u8) -> bool
+    ensures { result ≡ spec.is_blank b }
+{
+    b == b' ' || b == b'\t'
+}
+
+fn place_of_blank(line: &[u8]) -> Option<usize>
+    ensures { result ≡ position spec.is_blank line.now }
+{
+    line.iter().position(|b| is_blank(*b))
+}
+
+/// Whether the word is this text.
+pub(crate) fn is_word(word: &[u8], text: &str) -> bool
+    ensures { result ≡ bytes_eq word.now text.now }
+{
+    word == text.as_bytes()
+}
+
+/// What stands before the first blank, and what stands behind it without the blanks around it.
+#[tactic(auto, using(crate::proofs::Cuts::cuts), unfolding(crate::specs::Words::word, crate::specs::Words::rest))]
+pub(crate) fn cut(line: &[u8]) -> (&[u8], &[u8])
+    ensures word { result.0.now ≡ spec.word line.now }
+    ensures rest { result.1.now ≡ spec.rest line.now }
+{
+    match place_of_blank(line) {
+        None => (line, &[]),
+        Some(at) => (&line[..at], trim(&line[at + 1..])),
+    }
+}
+
+/// Whether the line is blank or a comment, which is passed over.
+#[tactic(auto, unfolding(crate::specs::Words::is_silent))]
+pub(crate) fn is_silent(line: &[u8]) -> bool
+    ensures { result ≡ spec.is_silent line.now }
+{
+    match line {
+        [b'#', ..] => true,
+        _ => trim(line).is_empty(),
+    }
+}

@@ -1,0 +1,157 @@
+//! The rules of a line.
+
+ghost use Rattle.std.specs.Prelude.{◌≡◌, IfOk, length};
+ghost use Rattle.dfr_script.specs.Faults.{Gives};
+ghost use Rattle.dfr_script.specs.RuleLines as spec;
+ghost use Rattle.dfr_channels.specs.Lines.{texts};
+
+use crate::fault::{LineRefusal, Word};
+use crate::fields::{natural_of, needed, small_of};
+use crate::line::{is_blank, is_word};
+use dfr_channels::Rule;
+use std::alloc::{AllocError, Allocator};
+
+/// What stands between the semicolons.
+fn parts_of<'a, A: Allocator>(alloc: A, rest: &'a [u8]) -> Result<Vec<&'a [u8], A>, AllocError>
+    ensures { IfOk result (λ v. texts v.items ≡ spec.parts rest.now) }
+{
+    rest.split(|b| *b == b';').collect(alloc)
+}
+
+/// The words between the blanks.
+#[tactic(auto, unfolding(crate::specs::RuleLines::words))]
+fn words_of<'a, A: Allocator>(alloc: A, part: &'a [u8]) -> Result<Vec<&'a [u8], A>, AllocError>
+    ensures { IfOk result (λ v. texts v.items ≡ spec.words part.now) }
+{
+    part.split(|b| is_blank(*b))
+        .filter(|word| !word.is_empty())
+        .collect(alloc)
+}
+
+/// Whether a rule of this first word has as many words as it needs: four a level, three an edge, and any other at least one.
+#[tactic(auto, unfolding(crate::specs::RuleLines::has_shape))]
+fn has_shape(words: &[&[u8]]) -> bool
+    ensures { result ≡ spec.has_shape (texts words.now) }
+{
+    if words.is_empty() {
+        return false;
+    }
+    if is_word(words[0], "level") {
+        return words.len() == 4;
+    }
+    if is_word(words[0], "edge") {
+        return words.len() == 3;
+    }
+    true
+}
+
+/// Which of two words stands there.
+fn either(word: &[u8], yes: &str, no: &str) -> Option<bool>
+    ensures { result ≡ spec.either word.now yes.now no.now }
+{
+    if is_word(word, yes) {
+        Some(true)
+    } else if is_word(word, no) {
+        Some(false)
+    } else {
+        None
+    }
+}
+
+/// The level rule of four words.
+#[tactic(auto, unfolding(crate::specs::RuleLines::level))]
+fn level_in(words: &[&[u8]]) -> Option<Rule>
+    requires { length words.now ≡ 4 }
+    ensures { result ≡ spec.level (texts words.now) }
+{
+    let channel = natural_of(words[1])?;
+    let over = either(words[2], "over", "under")?;
+    let threshold = small_of(words[3])?;
+    Some(Rule::Level {
+        channel,
+        over,
+        threshold,
+    })
+}
+
+/// The edge rule of three words.
+#[tactic(auto, unfolding(crate::specs::RuleLines::edge))]
+fn edge_in(words: &[&[u8]]) -> Option<Rule>
+    requires { length words.now ≡ 3 }
+    ensures { result ≡ spec.edge (texts words.now) }
+{
+    let channel = natural_of(words[1])?;
+    let rise = either(words[2], "rise", "fall")?;
+    Some(Rule::Edge { channel, rise })
+}
+
+/// `level C over T`, `level C under T`, `edge C rise` or `edge C fall`.
+#[tactic(auto, unfolding(crate::specs::RuleLines::rule))]
+fn rule_in(words: &[&[u8]]) -> Option<Rule>
+    ensures { result ≡ spec.rule (texts words.now) }
+{
+    if words.len() == 4 && is_word(words[0], "level") {
+        level_in(words)
+    } else if words.len() == 3 && is_word(words[0], "edge") {
+        edge_in(words)
+    } else {
+        None
+    }
+}
+
+/// Whether the rule of a part has as many words as it needs.
+fn is_shaped<A: Allocator>(alloc: A, part: &[u8]) -> Result<bool, AllocError>
+    ensures { IfOk result (λ b. b ≡ spec.has_shape (spec.words part.now)) }
+{
+    let words = words_of(alloc, part)?;
+    Ok(has_shape(&words))
+}
+
+/// The rule of a part; None where its words can't be read.
+fn rule_of<A: Allocator>(alloc: A, part: &[u8]) -> Result<Option<Rule>, AllocError>
+    ensures { IfOk result (λ r. r ≡ spec.rule (spec.words part.now)) }
+{
+    let words = words_of(alloc, part)?;
+    Ok(rule_in(&words))
+}
+
+/// That each rule has as many words as it needs.
+fn shapes_of<A: Allocator + Copy>(alloc: A, parts: &[&[u8]]) -> Result<(), LineRefusal>
+    ensures { Gives (λ x. x) (spec.shapes_fault (texts parts.now)) tt result }
+{
+    for part in parts {
+        let shaped = is_shaped(alloc, part)?;
+        if !shaped {
+            return Err(LineRefusal::Fault(Word::Fields));
+        }
+    }
+    Ok(())
+}
+
+/// The rules of the parts.
+fn list_of<A: Allocator + Copy>(alloc: A, parts: &[&[u8]]) -> Result<Vec<Rule, A>, LineRefusal>
+    ensures { Gives (λ v. v.items) (spec.words_fault (texts parts.now)) (spec.rule_list (texts parts.now)) result }
+{
+    let mut list = Vec::new(alloc);
+    for part in parts {
+        let read = rule_of(alloc, part)?;
+        list.push(needed(read)?)?;
+    }
+    Ok(list)
+}
+
+/// The rules that the rest of a line says, parted by `;`.
+#[tactic(auto, unfolding(crate::specs::RuleLines::rules_fault, crate::specs::RuleLines::rules_value))]
+pub(crate) fn rules_of<A: Allocator + Copy>(
+    alloc: A,
+    rest: &[u8],
+) -> Result<Vec<Rule, A>, LineRefusal>
+    ensures { Gives (λ v. v.items) (spec.rules_fault rest.now) (spec.rules_value rest.now) result }
+{
+    if rest.is_empty() {
+        return Ok(Vec::new(alloc));
+    }
+    let parts = parts_of(alloc, rest)?;
+    shapes_of(alloc, &parts)?;
+    list_of(alloc, &parts)
+}

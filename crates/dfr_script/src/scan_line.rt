@@ -1,0 +1,154 @@
+//! The readings and bits of a scan's line.
+
+ghost use Rattle.std.specs.Prelude.{◌≡◌, ◌<◌, ◌∷◌, ◌++◌, ◌&&◌, IfSome, is_some, length, position, option_copied, option_to_list};
+ghost use Rattle.std.specs.List.{filter_map};
+ghost use Rattle.dfr_script.specs.Fields.{bit};
+ghost use Rattle.dfr_script.specs.Faults.{Gives};
+ghost use Rattle.dfr_script.specs.ScanLines as spec;
+
+use crate::fault::{LineRefusal, Word};
+use crate::fields::{bit_of, needed, small_of};
+use crate::line::is_word;
+use crate::plain::plain_field;
+use dfr_channels::{Reading, Scan, trim};
+use std::alloc::Allocator;
+
+/// How many readings and bits the set-up's scans have: the room to make for a line's.
+#[derive(Clone, Copy, Debug)]
+pub(crate) struct Size {
+    pub(crate) analog: usize,
+    pub(crate) status: usize,
+}
+
+fn place_of_stroke(rest: &[u8]) -> Option<usize>
+    ensures { result ≡ position spec.is_stroke rest.now }
+{
+    rest.iter().position(|b| *b == b'/')
+}
+
+fn place_of_comma(text: &[u8]) -> Option<usize>
+    ensures { result ≡ position spec.is_comma text.now }
+{
+    text.iter().position(|b| *b == b',')
+}
+
+/// The first field of a text, and what stands behind its comma if it has one.
+#[tactic(auto, using(crate::proofs::CutFields::comma_fields))]
+fn at_comma(text: &[u8]) -> (&[u8], Option<&[u8]>)
+    ensures fields { spec.fields text.now ≡ result.0.now ∷ spec.fields_behind (option_copied result.1) }
+    ensures shorter { IfSome result.1 (λ behind. length behind.now < length text.now) }
+{
+    match place_of_comma(text) {
+        None => (trim(text), None),
+        Some(at) => (trim(&text[..at]), Some(&text[at + 1..])),
+    }
+}
+
+/// A whole number, or `*` for a missing one.
+#[tactic(auto, unfolding(crate::specs::ScanLines::reading))]
+fn reading_of(text: &[u8]) -> Option<Reading>
+    ensures { result ≡ spec.reading text.now }
+{
+    if is_word(text, "*") {
+        return Some(Reading::Missing);
+    }
+    match small_of(text) {
+        Some(x) => Some(Reading::Value(x)),
+        None => None,
+    }
+}
+
+/// The reading that a text begins with, and what stands behind its comma if it has one.
+fn next_reading(text: &[u8]) -> (Option<Reading>, Option<&[u8]>)
+    ensures all { spec.reads_all spec.reading (spec.fields text.now) ≡ (is_some result.0 && spec.reads_all spec.reading (spec.fields_behind (option_copied result.1))) }
+    ensures values { filter_map spec.reading (spec.fields text.now) ≡ option_to_list result.0 ++ filter_map spec.reading (spec.fields_behind (option_copied result.1)) }
+    ensures shorter { IfSome result.1 (λ behind. length behind.now < length text.now) }
+{
+    match plain_field(text) {
+        Some((value, behind)) => (Some(Reading::Value(value)), behind),
+        None => {
+            let (field, behind) = at_comma(text);
+            (reading_of(field), behind)
+        }
+    }
+}
+
+/// The readings between the commas of a part; none in an empty one.
+#[tactic(auto, unfolding(crate::specs::ScanLines::part_fields))]
+fn readings_of<A: Allocator>(
+    alloc: A,
+    part: &[u8],
+    room: usize,
+) -> Result<Vec<Reading, A>, LineRefusal>
+    ensures { Gives (λ v. v.items) (spec.readings_fault part.now) (spec.readings_value part.now) result }
+{
+    if trim(part).is_empty() {
+        return Ok(Vec::new(alloc));
+    }
+    // a text has no more fields than this, however many channels there are
+    let mut list = Vec::with_capacity(alloc, room.min(part.len() / 2 + 1))?;
+    let mut left = Some(part);
+    while let Some(text) = left {
+        let (reading, behind) = next_reading(text);
+        list.push(needed(reading)?)?;
+        left = behind;
+    }
+    Ok(list)
+}
+
+/// The bit that a text begins with, and what stands behind its comma if it has one.
+#[tactic(auto, using(crate::proofs::PlainBits::plain_bits))]
+fn next_bit(text: &[u8]) -> (Option<bool>, Option<&[u8]>)
+    ensures all { spec.reads_all bit (spec.fields text.now) ≡ (is_some result.0 && spec.reads_all bit (spec.fields_behind (option_copied result.1))) }
+    ensures values { filter_map bit (spec.fields text.now) ≡ option_to_list result.0 ++ filter_map bit (spec.fields_behind (option_copied result.1)) }
+    ensures shorter { IfSome result.1 (λ behind. length behind.now < length text.now) }
+{
+    match text {
+        [b'0', b',', behind @ ..] => (Some(false), Some(behind)),
+        [b'1', b',', behind @ ..] => (Some(true), Some(behind)),
+        _ => {
+            let (field, behind) = at_comma(text);
+            (bit_of(field), behind)
+        }
+    }
+}
+
+/// The bits between the commas of a part; none in an empty one.
+#[tactic(auto, unfolding(crate::specs::ScanLines::part_fields))]
+fn bits_of<A: Allocator>(alloc: A, part: &[u8], room: usize) -> Result<Vec<bool, A>, LineRefusal>
+    ensures { Gives (λ v. v.items) (spec.bits_fault part.now) (spec.bits_value part.now) result }
+{
+    if trim(part).is_empty() {
+        return Ok(Vec::new(alloc));
+    }
+    let mut list = Vec::with_capacity(alloc, room.min(part.len() / 2 + 1))?;
+    let mut left = Some(part);
+    while let Some(text) = left {
+        let (bit, behind) = next_bit(text);
+        list.push(needed(bit)?)?;
+        left = behind;
+    }
+    Ok(list)
+}
+
+/// The scan that the rest of a line says: readings, one stroke, bits.
+#[tactic(auto, unfolding(crate::specs::ScanLines::scan_fault, crate::specs::ScanLines::scan_value))]
+pub(crate) fn scan_of<A: Allocator + Copy>(
+    alloc: A,
+    rest: &[u8],
+    size: Size,
+) -> Result<Scan<A>, LineRefusal>
+    ensures { Gives (λ x. x) (spec.scan_fault rest.now) (spec.scan_value rest.now) result }
+{
+    let Some(at) = place_of_stroke(rest) else {
+        return Err(LineRefusal::Fault(Word::Fields));
+    };
+    let front = &rest[..at];
+    let back = &rest[at + 1..];
+    if place_of_stroke(back).is_some() {
+        return Err(LineRefusal::Fault(Word::Fields));
+    }
+    let readings = readings_of(alloc, front, size.analog)?;
+    let bits = bits_of(alloc, back, size.status)?;
+    Ok(Scan::new(readings, bits))
+}

@@ -1,0 +1,250 @@
+//! A script as a whole.
+
+ghost use Rattle.std.specs.Prelude.{◌≡◌, ◌+◌, ◌-◌, ◌<◌, ◌≤◌, ◌^◌, ◌++◌, Option, option_to_list, MatchResult, IfSome, Some, None, length, map, position, take};
+ghost use Rattle.dfr_channels.specs.Lines.{texts, lines};
+ghost use Rattle.dfr_script.specs.declared.fault.Word.{Word};
+ghost use Rattle.dfr_script.specs.Faults.{Refuses};
+ghost use Rattle.dfr_script.specs.Scripts.{Tells};
+ghost use Rattle.dfr_script.specs.Commands.{parts_of};
+ghost use Rattle.dfr_script.specs.Commands as commands;
+ghost use Rattle.dfr_script.specs.Drafts as drafts;
+ghost use Rattle.dfr_script.specs.Scripts as spec;
+
+use crate::command::{Command, command_of};
+use crate::draft::Draft;
+use crate::fault::{LineRefusal, ScriptFault, ScriptRefusal, Word};
+use crate::limit_line::LimitNumbers;
+use crate::line::{cut, is_silent, is_word};
+use crate::scan_line::Size;
+use crate::setting::setting_of;
+use dfr_channels::{Rule, Setup, lines_of, without_blank_end};
+use std::alloc::{Allocator, Global};
+use std::marker::Model;
+
+/// What a script says: the set-up, the four numbers of its limits, its first rules, and the commands in order.
+#[derive(Drop, Debug)]
+pub struct Script<A: Allocator = Global> {
+    pub setup: Setup<A>,
+    pub limits: LimitNumbers,
+    pub rules: Vec<Rule, A>,
+    pub commands: Vec<Command<A>, A>,
+}
+
+impl<A: Allocator> Model for Script<A> {
+    ghost use Rattle.std.specs.Prelude.{map};
+    ghost use Rattle.dfr_script.specs.Parts.{ScriptParts};
+    ghost use Rattle.dfr_script.specs.Commands.{parts_of};
+
+    ghost Value = { ScriptParts };
+
+    ghost view = { λ s. record {
+      setup = s.setup;
+      limits = s.limits;
+      rules = s.rules.items;
+      commands = map parts_of s.commands.items;
+    } };
+}
+
+/// The refusal of the line at this place, from 0.
+fn at_place(place: usize, refusal: LineRefusal) -> ScriptRefusal
+    requires { place + 1 < 2 ^ 64 }
+    ensures { (w : Option Word) → Refuses w refusal → Tells (spec.at_place place w) result }
+{
+    match refusal {
+        LineRefusal::Fault(word) => ScriptRefusal::Fault(ScriptFault {
+            line: place as u64 + 1,
+            word,
+        }),
+        LineRefusal::Memory => ScriptRefusal::Memory,
+    }
+}
+
+/// Adds a line before `go`; a fault leaves the draft as it was.
+#[tactic(auto, unfolding(crate::specs::Drafts::line_fault, crate::specs::Drafts::with_line))]
+fn add_line<A: Allocator + Copy>(
+    alloc: A,
+    draft: &mut Draft<A>,
+    text: &[u8],
+) -> Result<(), LineRefusal>
+    ensures { MatchResult result
+        (λ _. (drafts.line_fault draft.old text.now ≡ None) × (draft.new ≡ drafts.with_line draft.old text.now))
+        (Refuses (drafts.line_fault draft.old text.now)) }
+{
+    if is_silent(text) {
+        return Ok(());
+    }
+    let (word, rest) = cut(text);
+    match setting_of(word) {
+        Some(setting) => draft.add(alloc, setting, rest),
+        None => Err(LineRefusal::Fault(Word::Word)),
+    }
+}
+
+/// The first `count` lines, which stand before `go`.
+fn draft_of<A: Allocator + Copy>(
+    alloc: A,
+    lines: &[&[u8]],
+    count: usize,
+) -> Result<Draft<A>, ScriptRefusal>
+    requires { count ≤ length lines.now }
+    ensures { MatchResult result
+        (λ draft. (spec.first_in (spec.setting_fault (texts lines.now)) count ≡ None) × (draft ≡ drafts.draft_of (take count (texts lines.now))))
+        (Tells (spec.first_in (spec.setting_fault (texts lines.now)) count)) }
+{
+    let mut draft = Draft::new(alloc);
+    for i in 0..count {
+        match add_line(alloc, &mut draft, lines[i]) {
+            Ok(()) => {}
+            Err(refusal) => return Err(at_place(i, refusal)),
+        }
+    }
+    Ok(draft)
+}
+
+/// Whether the line's word is `go`.
+#[tactic(auto, unfolding(crate::specs::Scripts::is_go))]
+fn is_go(line: &[u8]) -> bool
+    ensures { result ≡ spec.is_go line.now }
+{
+    let (word, _) = cut(line);
+    is_word(word, "go")
+}
+
+fn first_go(lines: &[&[u8]]) -> Option<usize>
+    ensures place { result ≡ position (λ line. spec.is_go line.now) lines.now }
+    ensures within { IfSome result (λ at. at < length lines.now) }
+{
+    lines.iter().position(|line| is_go(line))
+}
+
+/// Where the first line of `go` stands.
+fn place_of_go(lines: &[&[u8]]) -> Option<usize>
+    ensures place { result ≡ position spec.is_go (texts lines.now) }
+    ensures within { IfSome result (λ at. at < length lines.now) }
+{
+    first_go(lines)
+}
+
+/// The script of the lines before `go`, without commands; `go` stands at this place.
+#[tactic(auto, unfolding(crate::specs::Scripts::go_word))]
+fn set_up_of<A: Allocator + Copy>(
+    alloc: A,
+    draft: Draft<A>,
+    place: usize,
+    go: &[u8],
+) -> Result<Script<A>, ScriptRefusal>
+    requires { place + 1 < 2 ^ 64 }
+    ensures { MatchResult result
+        (λ script. (spec.go_word draft go.now ≡ None) × (script ≡ drafts.script_in draft))
+        (Tells (spec.at_place place (spec.go_word draft go.now))) }
+{
+    let (_, rest) = cut(go);
+    if !rest.is_empty() {
+        return Err(at_place(place, LineRefusal::Fault(Word::Word)));
+    }
+    match draft.finish(alloc) {
+        Some(script) => Ok(script),
+        None => Err(at_place(place, LineRefusal::Fault(Word::Setup))),
+    }
+}
+
+/// Adds the command of line number `line`, where it isn't passed over.
+fn add_command<A: Allocator + Copy>(
+    alloc: A,
+    list: &mut Vec<Command<A>, A>,
+    line: u64,
+    text: &[u8],
+    size: Size,
+) -> Result<(), LineRefusal>
+    ensures { MatchResult result
+        (λ _. (commands.line_fault text.now ≡ None) × (map parts_of list.new.items ≡ map parts_of list.old.items ++ option_to_list (commands.line_command line text.now)))
+        (Refuses (commands.line_fault text.now)) }
+{
+    if let Some(command) = command_of(alloc, line, text, size)? {
+        list.push(command)?;
+    }
+    Ok(())
+}
+
+/// The commands of `count` lines from place `from` on.
+fn commands_of<A: Allocator + Copy>(
+    alloc: A,
+    lines: &[&[u8]],
+    from: usize,
+    count: usize,
+    size: Size,
+) -> Result<Vec<Command<A>, A>, ScriptRefusal>
+    requires { from + count ≤ length lines.now }
+    ensures { MatchResult result
+        (λ list. (spec.first_in (spec.command_fault (texts lines.now) from) count ≡ None) × (map parts_of list.items ≡ spec.commands_in (texts lines.now) from count))
+        (Tells (spec.first_in (spec.command_fault (texts lines.now) from) count)) }
+{
+    let mut list = Vec::new(alloc);
+    for k in 0..count {
+        let i = from + k;
+        match add_command(alloc, &mut list, i as u64 + 1, lines[i], size) {
+            Ok(()) => {}
+            Err(refusal) => return Err(at_place(i, refusal)),
+        }
+    }
+    Ok(list)
+}
+
+/// How many readings and bits the script's scans have.
+fn size_of<A: Allocator>(script: &Script<A>) -> Size {
+    Size {
+        analog: script.setup.analog.items().len(),
+        status: script.setup.status.items().len(),
+    }
+}
+
+/// The same script with these commands.
+fn with_commands<A: Allocator>(script: Script<A>, commands: Vec<Command<A>, A>) -> Script<A>
+    ensures { result ≡ record script { commands = map parts_of commands.items } }
+{
+    let Script {
+        setup,
+        limits,
+        rules,
+        commands: none,
+    } = script;
+    drop(none);
+    Script {
+        setup,
+        limits,
+        rules,
+        commands,
+    }
+}
+
+/// The script of these lines.
+#[tactic(auto, unfolding(crate::specs::Scripts::script_fault, crate::specs::Scripts::script_value))]
+fn script_in<A: Allocator + Copy>(alloc: A, lines: &[&[u8]]) -> Result<Script<A>, ScriptRefusal>
+    ensures { MatchResult result
+        (λ script. (spec.script_fault (texts lines.now) ≡ None) × (script ≡ spec.script_value (texts lines.now)))
+        (Tells (spec.script_fault (texts lines.now))) }
+{
+    let Some(go) = place_of_go(lines) else {
+        draft_of(alloc, lines, lines.len())?;
+        return Err(at_place(lines.len(), LineRefusal::Fault(Word::Setup)));
+    };
+    let draft = draft_of(alloc, lines, go)?;
+    let script = set_up_of(alloc, draft, go, lines[go])?;
+    let size = size_of(&script);
+    let commands = commands_of(alloc, lines, go + 1, lines.len() - (go + 1), size)?;
+    Ok(with_commands(script, commands))
+}
+
+/// The script that a text says, or its first fault: by lines, and in a line in the order word, fields, number. Where `go`
+/// is missing the fault is `Setup` behind the last line. Lines are cut as those of a configuration file; blank lines and
+/// comments are passed over.
+pub fn script_of<A: Allocator + Copy>(alloc: A, text: &[u8]) -> Result<Script<A>, ScriptRefusal>
+    ensures { MatchResult result
+        (λ script. (spec.script_fault (lines text.now) ≡ None) × (script ≡ spec.script_value (lines text.now)))
+        (Tells (spec.script_fault (lines text.now))) }
+{
+    let Ok(lines) = lines_of(alloc, text) else {
+        return Err(ScriptRefusal::Memory);
+    };
+    script_in(alloc, without_blank_end(&lines))
+}

@@ -1,0 +1,79 @@
+//! Scans of an idle recorder, of one with rules, and of one with a record open.
+
+use crate::clock::{Amount, Least, now};
+use crate::numbers::Numbers;
+use crate::station::recorder;
+use anyhow::{Context, Result};
+use dfr_channels::Scan;
+use dfr_recorder::Recorder;
+use std::alloc::Global;
+use std::rt::Clock;
+
+/// How many scans the ring holds.
+const RING: u32 = 1_000;
+
+#[derive(Clone, Copy)]
+struct State {
+    name: &'static str,
+    rules: u32,
+    open: bool,
+}
+
+const STATES: [State; 3] = [
+    State {
+        name: "scan, idle, no rule",
+        rules: 0,
+        open: false,
+    },
+    State {
+        name: "scan, idle, 8 level rules",
+        rules: 8,
+        open: false,
+    },
+    State {
+        name: "scan, record open, no rule",
+        rules: 0,
+        open: true,
+    },
+];
+
+fn feed(recorder: &mut Recorder, scans: Vec<Scan>) -> Result<()> {
+    for scan in scans {
+        recorder.scan(scan).ok().context("a lawful scan")?;
+    }
+    Ok(())
+}
+
+/// A recorder with a full ring.
+fn prepared(alloc: Global, state: State) -> Result<Recorder> {
+    let mut recorder = recorder(alloc, RING - 1, 900_000, state.rules)?;
+    feed(&mut recorder, Numbers::new(2).scans(alloc, RING)?)?;
+    if state.open {
+        recorder.trigger().ok().context("a record opens")?;
+    }
+    Ok(recorder)
+}
+
+fn measure_state<R: Clock + Print + AllocGlobal>(
+    rt: &R,
+    amount: Amount,
+    state: State,
+) -> Result<()> {
+    let mut least = Least::none();
+    for _ in 0..amount.runs {
+        let mut recorder = prepared(rt.alloc(), state)?;
+        let scans = Numbers::new(1).scans(rt.alloc(), amount.scans)?;
+        let start = now(rt)?;
+        feed(&mut recorder, scans)?;
+        least.add(start.elapsed(rt)?);
+    }
+    least.print(rt, amount, state.name, amount.scans as u64)?;
+    Ok(())
+}
+
+pub fn measure<R: Clock + Print + AllocGlobal>(rt: &R, amount: Amount) -> Result<()> {
+    for state in STATES.iter() {
+        measure_state(rt, amount, *state)?;
+    }
+    Ok(())
+}
