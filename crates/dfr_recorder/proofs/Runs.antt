@@ -7,11 +7,11 @@ use Rattle.dfr_recorder.specs.History.{Opening}
 use Rattle.dfr_recorder.specs.Kept.{Kept, kept, reply, IsStep}
 use Rattle.dfr_recorder.specs.Run.{followed_by, replies, IsRun}
 
-followed_by-push : (h ss : List StepParts) (s : StepParts) → followed_by h (ss ++ s ∷ []) ≡ s ∷ followed_by h ss
+pub followed_by-push : (h ss : List StepParts) (s : StepParts) → followed_by h (ss ++ s ∷ []) ≡ s ∷ followed_by h ss
 followed_by-push h [] s = refl
 followed_by-push h (x ∷ ss) s = followed_by-push (x ∷ h) ss s
 
-replies-push : (o : Opening) (h ss : List StepParts) (s : StepParts) → replies o h (ss ++ s ∷ []) ≡ replies o h ss ++ reply o (followed_by h ss) s ∷ []
+pub replies-push : (o : Opening) (h ss : List StepParts) (s : StepParts) → replies o h (ss ++ s ∷ []) ≡ replies o h ss ++ reply o (followed_by h ss) s ∷ []
 replies-push o h [] s = refl
 replies-push o h (x ∷ ss) s = ap (λ l. reply o h x ∷ l) (replies-push o (x ∷ h) ss s)
 

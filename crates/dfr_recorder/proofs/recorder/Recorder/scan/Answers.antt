@@ -8,6 +8,7 @@ use Rattle.dfr_recorder.specs.Marks.{hit_if, opened_if, recording_if}
 use Rattle.dfr_recorder.specs.Ring.{kept_by, extent_of, placed_if, longer_if, unless_last, if_last}
 use Rattle.dfr_recorder.specs.Sound.{IsSoundBody}
 use Rattle.dfr_recorder.proofs.Memory.{grows_law}
+use Rattle.dfr_recorder.proofs.Buffers.{pushed-items, pushed-places}
 use Rattle.dfr_recorder.proofs.Body.{scan_body, next_body, placed_some}
 use Rattle.dfr_recorder.proofs.Sound.{closes, closes_whole, closes_room, sound_body}
 use Rattle.dfr_recorder.proofs.Own.{own_scan}
@@ -54,9 +55,10 @@ invariant_of-self-2 g c =
     let grown : c.grow.new.recording ≡ longer_if c.args.scan (placed_if c.mark_if-marked.result.recording c.self.inside.count c.self.inside.ring.items c.self.inside.recording) = search rules in
     let shelf : c.shelve.new.shelf.items ≡ c.self.inside.shelf.items ++ if_last c.self.inside.count c.grow.new.recording = search rules in
     let going_on : c.shelve.new.recording ≡ unless_last c.self.inside.count c.grow.new.recording = search rules in
-    let capacity : c.push_back.new.self.capacity ≡ c.self.inside.ring.capacity = search rules in
+    let places : c.push_back.new.self.capacity ≡ c.self.inside.limits.pre + 1 =
+    pushed-places c.self.inside.ring c.push_back.new.self c.args.scan (c.self.inside.limits.pre + 1) c.push_back.ensures.items c.self.invariant.ring in
     let ring : c.push_back.new.self.items ≡ latest (c.self.inside.limits.pre + 1) (c.self.inside.ring.items ++ c.args.scan ∷ []) =
-    ap (λ b. b.items) c.push_back.ensures.items ∙ ap (λ (m : ℕ). latest m (c.self.inside.ring.items ++ c.args.scan ∷ [])) c.self.invariant.ring in
+    pushed-items c.self.inside.ring c.push_back.new.self c.args.scan (c.self.inside.limits.pre + 1) c.push_back.ensures.items c.self.invariant.ring in
     let no : refusal c.self.inside.layout c.self.inside.count c.args.scan ≡ None = sym c.in-None.ensures.value in
     let room : deque_capacity c.shelve.new.shelf ≡ deque_capacity c.self.inside.shelf = search rules in
     record {
@@ -64,7 +66,7 @@ invariant_of-self-2 g c =
       own = own_scan _ _ _ _ _ _ _ _ _ _ _ _ _ _ _ _ _ c.self.invariant.sound c.self.invariant.own no full recording grown going_on shelf ring;
       fit = c.self.invariant.fit;
       early = omega (arith, c.in-None.ensures.early);
-      ring = capacity ∙ c.self.invariant.ring;
+      ring = places;
       shelf = omega (arith, room, c.self.invariant.shelf);
     }
 
@@ -80,6 +82,6 @@ returns-clause-ok g c =
     let shelf : c.shelve.new.shelf.items ≡ c.self.inside.shelf.items ++ if_last c.self.inside.count c.grow.new.recording = search rules in
     let going_on : c.shelve.new.recording ≡ unless_last c.self.inside.count c.grow.new.recording = search rules in
     let ring : c.push_back.new.self.items ≡ latest (c.self.inside.limits.pre + 1) (c.self.inside.ring.items ++ c.args.scan ∷ []) =
-    ap (λ b. b.items) c.push_back.ensures.items ∙ ap (λ (m : ℕ). latest m (c.self.inside.ring.items ++ c.args.scan ∷ [])) c.self.invariant.ring in
+    pushed-items c.self.inside.ring c.push_back.new.self c.args.scan (c.self.inside.limits.pre + 1) c.push_back.ensures.items c.self.invariant.ring in
     scan_body _ _ _ _ _ _ _ _ _ _ _ _ _ _ _ _ _ _ c.self.view_is no fired_is full hit opened recording c.closing-closed.ensures c.closed_number.ensures
     (next_body _ _ _ _ _ _ _ _ _ _ _ _ _ _ _ _ _ _ fired_is full opened recording grown going_on shelf ring refl)
