@@ -15,12 +15,12 @@ fn number(units: i128) -> Result<Decimal, Fail> {
     Ok(Decimal::new(units, 0).ok_or("a number")?)
 }
 
-fn analog(alloc: Global, min: i32, max: i32) -> Result<AnalogChannel, Fail> {
+fn analog(alloc: Global, unit: &[u8], min: i32, max: i32) -> Result<AnalogChannel, Fail> {
     Ok(AnalogChannel {
         id: text(alloc, b"IA")?,
         phase: text(alloc, b"A")?,
         component: text(alloc, b"")?,
-        unit: text(alloc, b"A")?,
+        unit: text(alloc, unit)?,
         a: number(1)?,
         b: number(0)?,
         skew: number(0)?,
@@ -32,28 +32,44 @@ fn analog(alloc: Global, min: i32, max: i32) -> Result<AnalogChannel, Fail> {
     })
 }
 
-fn status(alloc: Global) -> Result<StatusChannel, Fail> {
+fn status(alloc: Global, phase: &[u8]) -> Result<StatusChannel, Fail> {
     Ok(StatusChannel {
         id: text(alloc, b"TRIP")?,
-        phase: text(alloc, b"")?,
+        phase: text(alloc, phase)?,
         component: text(alloc, b"")?,
         normal: false,
     })
 }
 
-/// One analogue channel of 16 bits, 1,000 scans a second from 1970 on.
-pub fn setup(alloc: Global, bits: u32) -> Result<Setup, Fail> {
+/// One analogue channel of this unit and range.
+fn one_analog(
+    alloc: Global,
+    unit: &[u8],
+    min: i32,
+    max: i32,
+) -> Result<Items<AnalogChannel>, Fail> {
     let mut channels = Vec::new(alloc);
-    channels.push(analog(alloc, -32767, 32767)?)?;
-    let mut contacts = Vec::new(alloc);
-    for _ in 0..bits {
-        contacts.push(status(alloc)?)?;
+    channels.push(analog(alloc, unit, min, max)?)?;
+    Ok(Items::of(channels))
+}
+
+/// So many status channels, the last of this phase.
+fn contacts(alloc: Global, count: u32, last: &[u8]) -> Result<Items<StatusChannel>, Fail> {
+    let mut all = Vec::new(alloc);
+    for i in 0..count {
+        let phase: &[u8] = if i + 1 == count { last } else { b"" };
+        all.push(status(alloc, phase)?)?;
     }
+    Ok(Items::of(all))
+}
+
+/// One analogue channel of 16 bits, 1,000 scans a second from 1970 on.
+fn setup(alloc: Global, bits: u32) -> Result<Setup, Fail> {
     Ok(Setup {
         station: text(alloc, b"Bay 1")?,
         device: text(alloc, b"DFR")?,
-        analog: Items::of(channels),
-        status: Items::of(contacts),
+        analog: one_analog(alloc, b"A", -32767, 32767)?,
+        status: contacts(alloc, bits, b"")?,
         line_freq: number(50)?,
         rate: 1000,
         start: 0,
@@ -71,73 +87,112 @@ fn fault(setup: Setup) -> Option<SetupFault> {
     }
 }
 
+fn fault_of_names(
+    alloc: Global,
+    station: &[u8],
+    device: &[u8],
+) -> Result<Option<SetupFault>, Fail> {
+    let mut named = setup(alloc, 0)?;
+    named.station = text(alloc, station)?;
+    named.device = text(alloc, device)?;
+    named.rate = 0;
+    Ok(fault(named))
+}
+
 #[test]
-fn refused_setups(rt: HostRuntime) -> Result<(), Fail> {
-    let alloc = rt.alloc();
-    let mut comma = setup(alloc, 0)?;
-    comma.station = text(alloc, b"a,b")?;
-    comma.rate = 0;
-    assert_eq!(rt; fault(comma), Some(SetupFault::Text(Place::Station)));
-    let mut blank = setup(alloc, 0)?;
-    blank.device = text(alloc, b"DFR ")?;
-    assert_eq!(rt; fault(blank), Some(SetupFault::Text(Place::Device)));
-    let mut empty = setup(alloc, 0)?;
-    empty.analog = Items::of(Vec::new(alloc));
-    assert_eq!(rt; fault(empty), Some(SetupFault::Channels));
-    let mut crossed = setup(alloc, 0)?;
-    let mut channels = Vec::new(alloc);
-    channels.push(analog(alloc, 1, 0)?)?;
-    crossed.analog = Items::of(channels);
-    assert_eq!(rt; fault(crossed), Some(SetupFault::Span(0)));
-    let mut still = setup(alloc, 0)?;
-    still.rate = 0;
-    still.start = -1;
-    assert_eq!(rt; fault(still), Some(SetupFault::Rate));
-    let mut early = setup(alloc, 0)?;
-    early.start = -1;
-    assert_eq!(rt; fault(early), Some(SetupFault::Start));
-    assert_eq!(rt; fault(setup(alloc, 256)?), None);
-    assert_eq!(rt; fault(setup(alloc, 257)?), Some(SetupFault::Channels));
+fn refused_names(rt: HostRuntime) -> Result<(), Fail> {
+    let station = fault_of_names(rt.alloc(), b"a,b", b"DFR ")?;
+    assert_eq!(rt; station, Some(SetupFault::Text(Place::Station)));
+    let device = fault_of_names(rt.alloc(), b"Bay 1", b"DFR ")?;
+    assert_eq!(rt; device, Some(SetupFault::Text(Place::Device)));
+    Ok(())
+}
+
+fn fault_of_clock(alloc: Global, rate: u32, start: i64) -> Result<Option<SetupFault>, Fail> {
+    let mut clocked = setup(alloc, 0)?;
+    clocked.rate = rate;
+    clocked.start = start;
+    Ok(fault(clocked))
+}
+
+#[test]
+fn refused_clocks(rt: HostRuntime) -> Result<(), Fail> {
+    assert_eq!(rt; fault_of_clock(rt.alloc(), 0, -1)?, Some(SetupFault::Rate));
+    assert_eq!(rt; fault_of_clock(rt.alloc(), 1, -1)?, Some(SetupFault::Start));
+    Ok(())
+}
+
+fn fault_of_analog(
+    alloc: Global,
+    unit: &[u8],
+    min: i32,
+    max: i32,
+) -> Result<Option<SetupFault>, Fail> {
+    let mut channels = setup(alloc, 0)?;
+    channels.analog = one_analog(alloc, unit, min, max)?;
+    Ok(fault(channels))
+}
+
+#[test]
+fn refused_analog_channels(rt: HostRuntime) -> Result<(), Fail> {
+    let crossed = fault_of_analog(rt.alloc(), b"A", 1, 0)?;
+    assert_eq!(rt; crossed, Some(SetupFault::Span(0)));
+    let bare = fault_of_analog(rt.alloc(), b"", 0, 1)?;
+    assert_eq!(rt; bare, Some(SetupFault::Text(Place::Analog(0))));
+    Ok(())
+}
+
+fn fault_of_contacts(alloc: Global, count: u32, last: &[u8]) -> Result<Option<SetupFault>, Fail> {
+    let mut channels = setup(alloc, 0)?;
+    channels.analog = Items::of(Vec::new(alloc));
+    channels.status = contacts(alloc, count, last)?;
+    Ok(fault(channels))
+}
+
+#[test]
+fn refused_contacts(rt: HostRuntime) -> Result<(), Fail> {
+    let long = fault_of_contacts(rt.alloc(), 2, b"ABC")?;
+    assert_eq!(rt; long, Some(SetupFault::Text(Place::Status(1))));
+    assert_eq!(rt;
+        fault_of_contacts(rt.alloc(), 0, b"")?,
+        Some(SetupFault::Channels)
+    );
     Ok(())
 }
 
 #[test]
-fn refused_texts_of_channels(rt: HostRuntime) -> Result<(), Fail> {
-    let alloc = rt.alloc();
-    let mut named = setup(alloc, 2)?;
-    let mut contacts = Vec::new(alloc);
-    contacts.push(status(alloc)?)?;
-    let mut long = status(alloc)?;
-    long.phase = text(alloc, b"ABC")?;
-    contacts.push(long)?;
-    named.status = Items::of(contacts);
-    assert_eq!(rt; fault(named), Some(SetupFault::Text(Place::Status(1))));
-    let mut unnamed = setup(alloc, 0)?;
-    let mut channels = Vec::new(alloc);
-    let mut bare = analog(alloc, 0, 1)?;
-    bare.unit = text(alloc, b"")?;
-    channels.push(bare)?;
-    unnamed.analog = Items::of(channels);
-    assert_eq!(rt; fault(unnamed), Some(SetupFault::Text(Place::Analog(0))));
+fn many_contacts(rt: HostRuntime) -> Result<(), Fail> {
+    assert_eq!(rt; fault_of_contacts(rt.alloc(), 256, b"")?, None);
+    assert_eq!(rt;
+        fault_of_contacts(rt.alloc(), 257, b"")?,
+        Some(SetupFault::Channels)
+    );
     Ok(())
 }
 
+fn is_same(one: &Layout, other: &Layout) -> bool {
+    one.station() == other.station()
+        && one.device() == other.device()
+        && one.analog().len() == other.analog().len()
+        && one.status().len() == other.status().len()
+}
+
+fn is_same_clock(one: &Layout, other: &Layout) -> bool {
+    one.rate() == other.rate()
+        && one.start() == other.start()
+        && one.line_freq() == other.line_freq()
+}
+
+fn copy_of(layout: &Layout) -> Result<Layout, Fail> {
+    Ok(layout.try_clone().ok().ok_or("memory")?)
+}
+
 #[test]
-fn copies(rt: HostRuntime) -> Result<(), Fail> {
-    let alloc = rt.alloc();
-    let made = layout(alloc, 1)?;
-    let copy = made.try_clone().ok().ok_or("memory")?;
-    assert_eq!(rt; copy.station(), b"Bay 1".as_slice());
-    assert_eq!(rt; copy.device(), b"DFR".as_slice());
-    assert_eq!(rt; copy.analog().len(), 1);
-    assert_eq!(rt; copy.status().len(), 1);
-    assert_eq!(rt; copy.rate(), 1000);
-    assert_eq!(rt; copy.start(), 0);
-    assert!(rt; copy.line_freq() == made.line_freq());
-    let scan = scan(alloc, &[Reading::Missing], &[true])?;
-    let copy = scan.try_clone().ok().ok_or("memory")?;
-    assert_eq!(rt; copy.analog(), [Reading::Missing].as_slice());
-    assert_eq!(rt; copy.status(), [true].as_slice());
+fn copied_layout(rt: HostRuntime) -> Result<(), Fail> {
+    let made = layout(rt.alloc(), 1)?;
+    let copy = copy_of(&made)?;
+    assert!(rt; is_same(&made, &copy));
+    assert!(rt; is_same_clock(&made, &copy));
     Ok(())
 }
 
@@ -148,36 +203,64 @@ pub fn scan(alloc: Global, readings: &[Reading], bits: &[bool]) -> Result<Scan, 
     ))
 }
 
+fn is_scan(scan: &Scan, readings: &[Reading], bits: &[bool]) -> bool {
+    scan.analog() == readings && scan.status() == bits
+}
+
 #[test]
-fn scans_that_fit(rt: HostRuntime) -> Result<(), Fail> {
-    let alloc = rt.alloc();
-    let layout = layout(alloc, 0)?;
-    let two = scan(alloc, &[Reading::Value(1), Reading::Value(2)], &[])?;
-    assert_eq!(rt; layout.check(&two), Err(ScanFault::Shape));
-    let wide = scan(alloc, &[Reading::Value(32768)], &[])?;
-    assert_eq!(rt; layout.check(&wide), Err(ScanFault::Range(0)));
-    let missing = scan(alloc, &[Reading::Missing], &[])?;
-    assert_eq!(rt; layout.check(&missing), Ok(()));
-    let with_bit = scan(alloc, &[Reading::Value(1)], &[true])?;
-    assert_eq!(rt; layout.check(&with_bit), Err(ScanFault::Shape));
+fn copied_scan(rt: HostRuntime) -> Result<(), Fail> {
+    let made = scan(rt.alloc(), &[Reading::Missing], &[true])?;
+    let copy = made.try_clone().ok().ok_or("memory")?;
+    assert!(rt; is_scan(&copy, &[Reading::Missing], &[true]));
+    Ok(())
+}
+
+fn scan_fault(
+    alloc: Global,
+    readings: &[Reading],
+    bits: &[bool],
+) -> Result<Option<ScanFault>, Fail> {
+    let scan = scan(alloc, readings, bits)?;
+    Ok(layout(alloc, 0)?.check(&scan).err())
+}
+
+#[test]
+fn scans_of_another_shape(rt: HostRuntime) -> Result<(), Fail> {
+    let two = scan_fault(rt.alloc(), &[Reading::Value(1), Reading::Value(2)], &[])?;
+    assert_eq!(rt; two, Some(ScanFault::Shape));
+    let with_bit = scan_fault(rt.alloc(), &[Reading::Value(1)], &[true])?;
+    assert_eq!(rt; with_bit, Some(ScanFault::Shape));
     Ok(())
 }
 
 #[test]
+fn scans_in_and_out_of_range(rt: HostRuntime) -> Result<(), Fail> {
+    let wide = scan_fault(rt.alloc(), &[Reading::Value(32768)], &[])?;
+    assert_eq!(rt; wide, Some(ScanFault::Range(0)));
+    assert_eq!(rt; scan_fault(rt.alloc(), &[Reading::Missing], &[])?, None);
+    Ok(())
+}
+
+fn clock(alloc: Global, rate: u32, start: i64) -> Result<Layout, Fail> {
+    let mut clocked = setup(alloc, 0)?;
+    clocked.rate = rate;
+    clocked.start = start;
+    Ok(Layout::new(clocked).ok().ok_or("lawful")?)
+}
+
+#[test]
 fn instants(rt: HostRuntime) -> Result<(), Fail> {
-    let alloc = rt.alloc();
-    let mut fast = setup(alloc, 0)?;
-    fast.rate = 4800;
-    let fast = Layout::new(fast).ok().ok_or("lawful")?;
-    assert_eq!(rt; fast.instant(0), Some(0));
-    assert_eq!(rt; fast.instant(1), Some(208));
-    assert_eq!(rt; fast.instant(2), Some(416));
-    assert_eq!(rt; fast.instant(3), Some(625));
+    let fast = clock(rt.alloc(), 4800, 0)?;
+    for (k, at) in [(0, 0), (1, 208), (2, 416), (3, 625)] {
+        assert_eq!(rt; fast.instant(k), Some(at));
+    }
     assert_eq!(rt; fast.instant(u64::MAX), None);
-    let mut late = setup(alloc, 0)?;
-    late.rate = 1;
-    late.start = 253_402_300_798_999_999;
-    let late = Layout::new(late).ok().ok_or("lawful")?;
+    Ok(())
+}
+
+#[test]
+fn last_instant(rt: HostRuntime) -> Result<(), Fail> {
+    let late = clock(rt.alloc(), 1, 253_402_300_798_999_999)?;
     assert_eq!(rt; late.instant(1), Some(253_402_300_799_999_999));
     assert_eq!(rt; late.instant(2), None);
     Ok(())
