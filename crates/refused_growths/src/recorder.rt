@@ -99,7 +99,7 @@ fn scans_refused(rt: HostRuntime) -> Result<(), Fail> {
                     assert!(rt; met);
                     assert_eq!(rt; fault, ScanRefusal::Memory);
                     assert_eq!(rt; recorder.held(), held);
-                    refusals += 1;
+                    refusals = n;
                     next = back;
                 }
             }
