@@ -59,8 +59,8 @@ pub(crate) fn prepared_of<A: Allocator + Copy>(
 ) -> Result<Prepared<A>, Refusal>
     ensures { MatchResult result
         (λ prepared. (spec.script_fault text.now ≡ None)
-            × spec.IsMadeOf (script_value (lines text.now)) prepared.recorder
-            × (map parts_of prepared.commands.items ≡ (script_value (lines text.now)).commands))
+        × spec.IsMadeOf (script_value (lines text.now)) prepared.recorder
+        × (map parts_of prepared.commands.items ≡ (script_value (lines text.now)).commands))
         (spec.Refuses (spec.script_fault text.now)) }
 {
     let script = match script_of(alloc, text) {
