@@ -9,6 +9,7 @@ use Rattle.dfr_channels.specs.Lines.{field, line_fields}
 use Rattle.dfr_channels.specs.Faults.{◌or◌}
 use Rattle.comtrade_read.specs.Table.{Rule, tests_fault, fields_fault, line_fault, lines_fault, extra_fault, file_fault, first_in}
 use Rattle.comtrade_read.specs.Faulty.{passes, ObeysFields, Obeys, IsFieldsFault, few, bad, wrong, IsLineFault, missing, within, rule, Faulty, at, extra, AllObey}
+use Rattle.dfr_channels.proofs.Lawful.{or-none}
 
 abbrev some : ReadFault → Option ReadFault
 some e = Some e
@@ -23,10 +24,6 @@ none_not d h = absurd cc
 or_some : (a b : Option ReadFault) (e : ReadFault) → (a or b) ≡ Some e → (a ≡ Some e) ⊎ ((a ≡ None) × (b ≡ Some e))
 or_some None b e h = inr (refl, h)
 or_some (Some d) b e h = inl h
-
-or_none : (a b : Option ReadFault) → (a or b) ≡ None → (a ≡ None) × (b ≡ None)
-or_none None b h = (refl, h)
-or_none (Some d) b h = none_not d h
 
 not_same : (m n : ℕ) → eqb m n ≡ false → m ≢ n
 not_same m n e h = grind (arith, nat_tests)
@@ -152,10 +149,10 @@ unfolding lines_fault
 lines_none ls [] n h j lt = absurd (omega arith)
 lines_none ls (r ∷ rs) n h zero lt =
     let z : n + 0 ≡ n = omega arith in
-    rw z (line_none ls r n (or_none (line_fault ls r n) (lines_fault ls rs (n + 1)) h).0)
+    rw z (line_none ls r n (or-none (line_fault ls r n) (lines_fault ls rs (n + 1)) h).0)
 lines_none ls (r ∷ rs) n h (suc j) lt =
     let s : n + suc j ≡ n + 1 + j = omega arith in
-    rw s (lines_none ls rs (n + 1) (or_none (line_fault ls r n) (lines_fault ls rs (n + 1)) h).1 j (omega arith))
+    rw s (lines_none ls rs (n + 1) (or-none (line_fault ls r n) (lines_fault ls rs (n + 1)) h).1 j (omega arith))
 
 lines_again : (ls : List (List ℕ)) (rs : List Rule) (n : ℕ) → ((j : ℕ) → j < length rs → Obeys ls (rule rs j) (n + j)) → lines_fault ls rs n ≡ None
 unfolding lines_fault
@@ -191,7 +188,7 @@ from_0 ls rs n o = let z : 0 + n ≡ n = omega arith in rw z at o
 pub file_sound : (ls : List (List ℕ)) (rs : List Rule) → file_fault ls rs ≡ None → AllObey ls rs
 unfolding file_fault extra_fault
 file_sound ls rs h =
-    let p = or_none (lines_fault ls rs 0) _ h in
+    let p = or-none (lines_fault ls rs 0) _ h in
     record { each = λ j lt. from_0 ls rs j (lines_none ls rs 0 p.0 j lt); end = with_test (ltb (length rs) (length ls)) refl p.1 }
   where
     with_test : (b : Bool) → ltb (length rs) (length ls) ≡ b → cond b (some (faults.Extra (length rs + 1))) None ≡ None → length ls ≤ length rs

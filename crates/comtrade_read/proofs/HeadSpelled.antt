@@ -22,6 +22,7 @@ use Rattle.comtrade_read.proofs.Each.{map_at, made_at, each_made, each_same, eac
 use Rattle.comtrade_read.proofs.FirstFault.{line_none, file_complete, file_sound}
 use Rattle.comtrade_read.proofs.Chain.{chain_is}
 use Rattle.comtrade_read.proofs.Spelled.{names_found, counts_found, analog_found, status_found, rate_found, instant_found, one_found, names_only, counts_only, analog_only, status_only, rate_only, instant_only, kind_only, timemult_only, frequency_only, nrates_only, analog_same, status_same, rate_same, instant_same}
+use Rattle.dfr_channels.proofs.Lawful.{or-none}
 
 -- ---- the lines by their places
 
@@ -40,25 +41,21 @@ pub record HeadObeyed (ls : List (List ℕ)) (k m r : ℕ) : Type 0 where
   pub timemult : line_fault ls timemult_rule (2 + k + m + 5 + r) ≡ None
   pub end : extra_fault ls (2 + k + m + 6 + r) ≡ None
 
-or_none : (a b : Option ReadFault) → (a or b) ≡ None → (a ≡ None) × (b ≡ None)
-or_none None b h = (refl, h)
-or_none (Some d) b h = absurd cc
-
 to_obeyed : (ls : List (List ℕ)) (k m : ℕ) → chain ls k m ≡ None → HeadObeyed ls k m (rate_count ls (2 + k + m))
 to_obeyed ls k m h =
     let at = 2 + k + m in
     let r = rate_count ls at in
-    let a = or_none (line_fault ls names_rule 0) _ h in
-    let b = or_none (line_fault ls counts_rule 1) _ a.1 in
-    let c = or_none (first_in (analog_faults ls) k) _ b.1 in
-    let d = or_none (first_in (status_faults ls k) m) _ c.1 in
-    let e = or_none (line_fault ls frequency_rule at) _ d.1 in
-    let f = or_none (line_fault ls nrates_rule (at + 1)) _ e.1 in
-    let g = or_none (first_in (rate_faults ls (at + 2)) r) _ f.1 in
-    let i = or_none (line_fault ls instant_rule (at + 2 + r)) _ g.1 in
-    let j = or_none (line_fault ls instant_rule (at + 3 + r)) _ i.1 in
-    let l = or_none (line_fault ls kind_rule (at + 4 + r)) _ j.1 in
-    let o = or_none (line_fault ls timemult_rule (at + 5 + r)) _ l.1 in
+    let a = or-none (line_fault ls names_rule 0) _ h in
+    let b = or-none (line_fault ls counts_rule 1) _ a.1 in
+    let c = or-none (first_in (analog_faults ls) k) _ b.1 in
+    let d = or-none (first_in (status_faults ls k) m) _ c.1 in
+    let e = or-none (line_fault ls frequency_rule at) _ d.1 in
+    let f = or-none (line_fault ls nrates_rule (at + 1)) _ e.1 in
+    let g = or-none (first_in (rate_faults ls (at + 2)) r) _ f.1 in
+    let i = or-none (line_fault ls instant_rule (at + 2 + r)) _ g.1 in
+    let j = or-none (line_fault ls instant_rule (at + 3 + r)) _ i.1 in
+    let l = or-none (line_fault ls kind_rule (at + 4 + r)) _ j.1 in
+    let o = or-none (line_fault ls timemult_rule (at + 5 + r)) _ l.1 in
     record {
       names = a.0;
       counts = b.0;

@@ -5,7 +5,7 @@ use Rattle.std.specs.List.{position_or_len, before_first, after_first}
 use Rattle.std.specs.Char.{is_ascii_digit}
 use Rattle.std.specs.Str.{all_ascii_digits, str_eq_ignore_ascii_case, str_to_ascii_lowercase}
 use Rattle.std.specs.Str.Parse.{without_leading_sign, starts_with_minus, digits_value}
-use Rattle.std.proofs.lemmas.Bool.{eqb-true}
+use Rattle.std.proofs.lemmas.Bool.{eqb-true, and_parts}
 use Rattle.std.proofs.lemmas.Slice.Eq.{bytes_eq-Decides}
 use Rattle.dfr_channels.specs.Spelling.{whole_number, decimal_number, decimal_of, number, shifted, exponent, exponent_text, is_numeral, is_point, is_exponent_mark, Number}
 use Rattle.dfr_channels.specs.Lines.{field}
@@ -21,11 +21,8 @@ use Rattle.comtrade_read.specs.Instant.{digits, is_colon, is_dot, micros, scaled
 use Rattle.comtrade_read.specs.Head.{kind}
 use Rattle.comtrade_read.specs.Ascii.{stamp, value, reading}
 use Rattle.comtrade_read.specs.Joined.{HasNone}
-use Rattle.comtrade_read.proofs.Joining.{HasNoReturn, EndsPlain, return_none, All-front, All-back}
-
-ands : (a b : Bool) → (a && b) ≡ true → (a ≡ true) × (b ≡ true)
-ands true b e = (refl, e)
-ands false b e = absurd cc
+use Rattle.comtrade_read.proofs.LineEnds.{HasNoReturn, EndsPlain, return_none}
+use Rattle.comtrade_read.proofs.AllOf.{All-front, All-back}
 
 -- a choice that isn't nothing was made
 chosen : {A : Type 0} (b : Bool) (x : A) (y : A) → cond b (Some x) None ≡ Some y → b ≡ true
@@ -41,7 +38,7 @@ differs P c not_it it_is = with_test (eqb c 13) refl
 
 digits_none : (ds : List ℕ) → all_ascii_digits ds ≡ true → HasNone 13 ds
 digits_none [] h = tt
-digits_none (c ∷ cs) h = let p = ands (is_ascii_digit c) (all_ascii_digits cs) h in (differs is_ascii_digit c refl p.0, digits_none cs p.1)
+digits_none (c ∷ cs) h = let p = and_parts (is_ascii_digit c) (all_ascii_digits cs) h in (differs is_ascii_digit c refl p.0, digits_none cs p.1)
 
 sign_none : (f : List ℕ) → HasNone 13 (without_leading_sign f) → HasNone 13 f
 sign_none [] h = tt
@@ -56,7 +53,7 @@ sign_none (c ∷ cs) h = with_minus (eqb c 45) refl h
     with_minus false e k = with_plus (eqb c 43) refl k
 
 numeral_none : (ds : List ℕ) → is_numeral ds ≡ true → HasNone 13 ds
-numeral_none ds h = digits_none ds (ands (ltb 0 (length ds)) (all_ascii_digits ds) h).1
+numeral_none ds h = digits_none ds (and_parts (ltb 0 (length ds)) (all_ascii_digits ds) h).1
 
 -- a text without it on both sides of a cut
 parts_none : (p : ℕ → Bool) (xs : List ℕ) → p 13 ≡ false → HasNone 13 (before_first p xs) → HasNone 13 (after_first p xs) → HasNone 13 xs
@@ -77,7 +74,7 @@ number_none : (f : List ℕ) (o : Option ℤ) → whole_number f ≡ o → is_so
 number_none f None e h = absurd cc
 number_none f (Some z) e h =
     let ds = without_leading_sign f in
-    sign_none f (numeral_none ds (ands (is_numeral ds) _ (chosen _ _ z e)).0)
+    sign_none f (numeral_none ds (and_parts (is_numeral ds) _ (chosen _ _ z e)).0)
 
 up_some : (high n : ℕ) (o : Option ℤ) → up_to high o ≡ Some n → is_some o ≡ true
 up_some high n None e = absurd cc
@@ -219,13 +216,13 @@ count_plain letter f n a e =
     let p = and_then_some whole_number (before_letter letter f) (up_some 999999 n (option_and_then whole_number (before_letter letter f)) e) in
     let last = get_or f (length f - 1) 0 in
     let t : (ltb 0 (length f) && is_letter letter (last ∷ [])) ≡ true = chosen _ _ p.0 p.1 in
-    last_not f (differs (λ c. is_letter letter (c ∷ [])) last a (ands (ltb 0 (length f)) (is_letter letter (last ∷ [])) t).1)
+    last_not f (differs (λ c. is_letter letter (c ∷ [])) last a (and_parts (ltb 0 (length f)) (is_letter letter (last ∷ [])) t).1)
 
 -- ---- times
 
 digits_plain : (low high : ℕ) (f : List ℕ) (n : ℕ) → digits low high f ≡ Some n → HasNone 13 f
 unfolding digits
-digits_plain low high f n e = digits_none f (ands (leb low (length f) && leb (length f) high) (all_ascii_digits f) (chosen _ _ n e)).1
+digits_plain low high f n e = digits_none f (and_parts (leb low (length f) && leb (length f) high) (all_ascii_digits f) (chosen _ _ n e)).1
 
 micros_plain : (f : List ℕ) (n : ℕ) → micros f ≡ Some n → HasNone 13 f
 unfolding micros

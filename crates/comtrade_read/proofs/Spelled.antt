@@ -22,6 +22,7 @@ use Rattle.comtrade_read.specs.Ascii.{stamp, value, row_rule, row_value, value_i
 use Rattle.comtrade_read.specs.Spells.{SpellsNames, SpellsCounts, SpellsAnalog, SpellsStatus, SpellsRate, SpellsInstant, SpellsOne, SpellsRow}
 use Rattle.comtrade_read.proofs.Each.{some_of, held, each_made, each_same, each_at, none_each, each_none}
 use Rattle.comtrade_read.proofs.RowLine.{row_is}
+use Rattle.dfr_channels.proofs.Lawful.{or-none}
 
 eqb-same : (n : ℕ) → eqb n n ≡ true
 eqb-same n = grind (arith, nat_tests)
@@ -170,15 +171,11 @@ no_fault read line fs i e = with_test (is_some (read (field fs i))) refl e
     with_test true t h = refl
     with_test false t h = absurd cc
 
-or_none : (a b : Option ReadFault) → (a or b) ≡ None → (a ≡ None) × (b ≡ None)
-or_none None b h = (refl, h)
-or_none (Some d) b h = absurd cc
-
 pub row_found : (k m line : ℕ) (fs : List (List ℕ)) → length fs ≡ 2 + k + m → row_chain k m line fs ≡ None → SpellsRow k m fs (row_value k m fs)
 row_found k m line fs many none =
-    let a = or_none (field_fault (natural 9999999999) line fs 0) _ none in
-    let b = or_none (field_fault stamp line fs 1) _ a.1 in
-    let c = or_none (first_in (value_faults line fs) k) (first_in (bit_faults line k fs) m) b.1 in
+    let a = or-none (field_fault (natural 9999999999) line fs 0) _ none in
+    let b = or-none (field_fault stamp line fs 1) _ a.1 in
+    let c = or-none (first_in (value_faults line fs) k) (first_in (bit_faults line k fs) m) b.1 in
     record {
       many = many;
       number = some_of (natural 9999999999 (field fs 0)) 0 (no_fault (natural 9999999999) line fs 0 a.0);

@@ -20,10 +20,13 @@ use Rattle.comtrade_read.specs.Reads.{ReadsHead, ReadsAscii}
 use Rattle.comtrade_read.proofs.Each.{all_at, each_at, each_made, each_same, none_each, each_none}
 use Rattle.comtrade_read.proofs.FirstFault.{fields_again, line_none, file_complete, file_sound}
 use Rattle.comtrade_read.proofs.RowLine.{rows_are, row_is, row_many}
-use Rattle.comtrade_read.proofs.Joining.{EndsPlain, EndsFull, cut_again, joined_of}
+use Rattle.comtrade_read.proofs.LineEnds.{EndsPlain, EndsFull}
+use Rattle.comtrade_read.proofs.Joining.{cut_again}
+use Rattle.comtrade_read.proofs.Cutting.{joined_of}
 use Rattle.comtrade_read.proofs.HeadSpelled.{head_found, head_only, line_at, line_again, end_is, end_again}
 use Rattle.comtrade_read.proofs.NoReturn.{ends_plain, no_return, whole_plain, natural_plain, bit_plain, free_bit_plain, stamp_plain, value_plain, scale_plain, free_scale_plain, side_plain, count_plain, time_plain, kind_plain}
 use Rattle.comtrade_read.proofs.Spelled.{row_found, row_only, row_same}
+use Rattle.dfr_channels.proofs.Lawful.{or-none}
 
 pub below : (i a : ℕ) → (i < a) ⊎ (a ≤ i)
 below i a = with_test (ltb i a) refl
@@ -112,14 +115,10 @@ cfg_only cfg h r =
 
 -- ---- ASCII data
 
-or_none : (a b : Option ReadFault) → (a or b) ≡ None → (a ≡ None) × (b ≡ None)
-or_none None b h = (refl, h)
-or_none (Some d) b h = absurd cc
-
 lines_found : (ls : List (List ℕ)) (k m n : ℕ) → AllObey ls (row_rules k m n) → (length ls ≡ n) × EachFrom (λ i r. SpellsRow k m (line (map fields ls) i) r) 0 (row_items k m ls n)
 lines_found ls k m n o =
     let none : (first_in (row_faults k m ls) n or extra_fault ls n) ≡ None = sym (rows_are ls k m n) ∙ file_complete ls (row_rules k m n) o in
-    let p = or_none (first_in (row_faults k m ls) n) (extra_fault ls n) none in
+    let p = or-none (first_in (row_faults k m ls) n) (extra_fault ls n) none in
     let each : (i : ℕ) → i < n → line_fault ls (row_rule k m) i ≡ None = λ i lt. none_each (row_faults k m ls) n p.0 i lt in (
       count n each (end_is ls n p.1),
       each_made (λ i r. SpellsRow k m (line (map fields ls) i) r) (λ (i : ℕ). row_value k m (line_fields ls i)) 0 n (λ j le lt.

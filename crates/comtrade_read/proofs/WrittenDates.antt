@@ -18,7 +18,7 @@ use Rattle.comtrade_write.specs.Dates.{civil_of, day_number, time_of_day, date_t
 use Rattle.comtrade_write.proofs.Civil.{civil_of-is}
 use Rattle.comtrade_read.specs.Instant.{digits, is_slash, is_colon, is_dot, day_at, date, micros, seconds, time_at, time, instant_at}
 use Rattle.comtrade_read.proofs.TextSpelled.{below}
-use Rattle.comtrade_read.proofs.Joining.{All-append}
+use Rattle.comtrade_read.proofs.AllOf.{All-append}
 use Rattle.comtrade_read.proofs.WrittenFields.{Printed, printed, printed_digits}
 use Rattle.comtrade_read.proofs.Numerals.{padded_is, place_at, past_mark, digits_tested}
 

@@ -9,7 +9,7 @@ use Rattle.std.proofs.lemmas.Fmt.{decimal_is_IsNumeral_wide}
 use Rattle.std.proofs.lemmas.Str.Parse.{digit_from_value}
 use Rattle.std.proofs.lemmas.List.{reverse-append, reverse-reverse, take_at}
 use Rattle.std.proofs.lemmas.Int.{ints}
-use Rattle.std.proofs.lemmas.Bool.{lt-ltb, le-leb, eqb-true}
+use Rattle.std.proofs.lemmas.Bool.{lt-ltb, le-leb, eqb-true, and_parts}
 use Rattle.std.proofs.lemmas.Bool.Decides.{nat_tests, Decides-int_eq}
 use Rattle.dfr_channels.specs.Spelling.{is_blank, trim_start, trimmed, Number, IsNumber}
 use Rattle.dfr_channels.specs.Written.{decimal_text}
@@ -27,7 +27,9 @@ use Rattle.comtrade_read.specs.Fields.{whole, natural, small, scale, free_scale,
 use Rattle.comtrade_read.specs.Head.{kind}
 use Rattle.comtrade_read.specs.Ascii.{stamp, value, reading}
 use Rattle.comtrade_read.specs.Joined.{HasNone}
-use Rattle.comtrade_read.proofs.Joining.{All-append, StartsFull, full_stays, reverse_some}
+use Rattle.comtrade_read.proofs.AllOf.{All-append}
+use Rattle.comtrade_read.proofs.Blanks.{StartsFull, full_stays}
+use Rattle.comtrade_read.proofs.Joining.{reverse_some}
 use Rattle.comtrade_read.proofs.Numerals.{whole_again, decimal_again, pointed_is, sign_is, sign_text, point_text, abs_small}
 
 -- ---- numbers
@@ -269,10 +271,6 @@ printed_stamp t h = printed_decimal t h
 
 -- ---- texts of a set-up
 
-ands : (a b : Bool) → (a && b) ≡ true → (a ≡ true) × (b ≡ true)
-ands true b e = (refl, e)
-ands false b e = absurd cc
-
 nots : (a : Bool) → not a ≡ true → a ≡ false
 nots true e = absurd cc
 nots false e = refl
@@ -284,7 +282,7 @@ ors false b e = (refl, e)
 printable_none : (c : ℕ) → (leb 32 c && leb c 126 && not (eqb c 44)) ≡ false → (t : List ℕ) → is_printable t ≡ true → HasNone c t
 printable_none c none [] h = tt
 printable_none c none (x ∷ xs) h =
-    let p = ands (leb 32 x && leb x 126 && not (eqb x 44)) (is_printable xs) h in
+    let p = and_parts (leb 32 x && leb x 126 && not (eqb x 44)) (is_printable xs) h in
     (with_test p.0 (eqb x c) refl, printable_none c none xs p.1)
   where
     with_test : (leb 32 x && leb x 126 && not (eqb x 44)) ≡ true → (b : Bool) → eqb x c ≡ b → b ≡ false
@@ -311,8 +309,8 @@ back_full (x ∷ y ∷ ys) h =
 pub clean_plain : (low high : ℕ) (t : List ℕ) → is_plain low high t ≡ true → IsClean t
 unfolding is_plain
 clean_plain low high t h =
-    let p = ands (has_length low high t && is_printable t) (not (has_blank_end t)) h in
-    let printable = (ands (has_length low high t) (is_printable t) p.0).1 in
+    let p = and_parts (has_length low high t && is_printable t) (not (has_blank_end t)) h in
+    let printable = (and_parts (has_length low high t) (is_printable t) p.0).1 in
     let ends = ors (is_blank (get_or t 0 0)) (is_blank (get_or t (length t - 1) 0)) (nots (has_blank_end t) p.1) in
     record {
       bare = both_ends t (front_full t ends.0) (back_full t ends.1);

@@ -4,7 +4,7 @@ use Rattle.std.specs.List.{AllByRecursion, flat_map, join_with_byte}
 use Rattle.std.proofs.lemmas.List.{append-nil}
 use Rattle.comtrade_write.specs.Lines.{line}
 use Rattle.comtrade_read.specs.Joined.{HasNone, Field, field_bytes, IsField, Line, line_bytes, field_texts, IsLine, IsJoined}
-use Rattle.comtrade_read.proofs.Joining.{All-append}
+use Rattle.comtrade_read.proofs.AllOf.{All-append}
 use Rattle.comtrade_read.proofs.WrittenFields.{IsClean, Printed, printed_no_end}
 
 -- a line has a field, and each is clean

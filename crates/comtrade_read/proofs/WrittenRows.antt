@@ -6,7 +6,7 @@ use Rattle.std.specs.Fmt.{decimal}
 use Rattle.std.proofs.lemmas.List.{get_or-take, get_or-drop, get_or-append-add, length-take, length-map, length-replicate, take_at}
 use Rattle.std.proofs.Math.ListN.{get_or-append}
 use Rattle.std.proofs.lemmas.Int.{ints}
-use Rattle.std.proofs.lemmas.Bool.{leb-true, eqb-true}
+use Rattle.std.proofs.lemmas.Bool.{leb-true, eqb-true, and_parts}
 use Rattle.std.proofs.lemmas.Bool.Decides.{nat_tests}
 use Rattle.byteorder.specs.Endian.{little_bytes}
 use Rattle.dfr_channels.specs.Faults.{◌or◌, fault_unless}
@@ -24,24 +24,13 @@ use Rattle.comtrade_read.specs.Fields.{bit}
 use Rattle.comtrade_read.specs.Ascii.{stamp, value, is_end_mark}
 use Rattle.comtrade_read.specs.Spells.{EachFrom, SpellsRow}
 use Rattle.comtrade_read.specs.Reads.{IsPresent, IsStamp, IsRowOf, ReadsBinary, ReadsAscii}
-use Rattle.comtrade_read.proofs.Joining.{All-append}
+use Rattle.comtrade_read.proofs.AllOf.{All-append}
 use Rattle.comtrade_read.proofs.Numerals.{place_at}
 use Rattle.comtrade_read.proofs.WrittenFields.{IsClean, Printed, clean_printed, natural_written, value_written, missing_written, stamp_written, no_stamp_written, bit_written, printed_decimal, printed_signed, printed_missing, printed_bit}
 use Rattle.comtrade_read.proofs.WrittenLines.{IsCleanLine, written_joined, lines_no_end}
+use Rattle.dfr_channels.proofs.Lawful.{or-none, unless-none}
 
 -- ---- what the writers' refusals leave
-
-pub ands : (a b : Bool) → (a && b) ≡ true → (a ≡ true) × (b ≡ true)
-ands true b e = (refl, e)
-ands false b e = absurd cc
-
-pub or_none : {F : Type 0} (a b : Option F) → (a or b) ≡ None → (a ≡ None) × (b ≡ None)
-or_none None b e = (refl, e)
-or_none (Some x) b e = absurd cc
-
-pub unless_none : {F : Type 0} (b : Bool) (e : F) → fault_unless b e ≡ None → b ≡ true
-unless_none true e h = refl
-unless_none false e h = absurd cc
 
 -- a row that the writer of these bounds takes
 pub record RowTaken (b : Bounds) (k m : ℕ) (r : RowParts) : Type 0 where
@@ -55,18 +44,18 @@ values_taken : (b : Bounds) (row n : ℕ) (vs : List Reading) → values_from b 
 unfolding values_from
 values_taken b row n [] h = tt
 values_taken b row n (v ∷ vs) h =
-    let p = or_none _ _ h in
-    (unless_none (takes_reading b v) _ p.0, values_taken b row (n + 1) vs p.1)
+    let p = or-none _ _ h in
+    (unless-none (takes_reading b v) _ p.0, values_taken b row (n + 1) vs p.1)
 
 pub rows_taken : (b : Bounds) (k m n : ℕ) (rows : List RowParts) → list_all (row_shaped k m) rows ≡ true → rows_from b n rows ≡ None → stamps_from b n rows ≡ None → AllByRecursion (RowTaken b k m) rows
 unfolding rows_from stamps_from
 rows_taken b k m n [] s v t = tt
 rows_taken b k m n (r ∷ rs) s v t =
-    let shaped = ands (row_shaped k m r) (list_all (row_shaped k m) rs) s in
-    let counts = ands (eqb (length r.values) k) (eqb (length r.bits) m) shaped.0 in
-    let p = or_none _ _ v in
-    let q = or_none _ _ t in
-    let times = ands (leb r.number b.number) (takes_stamp b r.stamp) (unless_none (takes_times b r) _ q.0) in (
+    let shaped = and_parts (row_shaped k m r) (list_all (row_shaped k m) rs) s in
+    let counts = and_parts (eqb (length r.values) k) (eqb (length r.bits) m) shaped.0 in
+    let p = or-none _ _ v in
+    let q = or-none _ _ t in
+    let times = and_parts (leb r.number b.number) (takes_stamp b r.stamp) (unless-none (takes_times b r) _ q.0) in (
       record {
         value_count = eqb-true (length r.values) k counts.0;
         bit_count = eqb-true (length r.bits) m counts.1;
@@ -136,7 +125,7 @@ status_same m bits e =
 
 present : (v : Reading) → takes_reading binary_bounds v ≡ true → IsPresent v
 present Missing h = tt
-present (Value x) h = let p = ands (int_le (neg_ℤ (pos 32767)) x) (int_le x (pos 32767)) h in (int_le-is (neg_ℤ (pos 32767)) x p.0, int_le-is x (pos 32767) p.1)
+present (Value x) h = let p = and_parts (int_le (neg_ℤ (pos 32767)) x) (int_le x (pos 32767)) h in (int_le-is (neg_ℤ (pos 32767)) x p.0, int_le-is x (pos 32767) p.1)
 
 all_present : (vs : List Reading) → AllByRecursion (λ v. takes_reading binary_bounds v ≡ true) vs → AllByRecursion IsPresent vs
 all_present [] h = tt
@@ -204,7 +193,7 @@ row_fields r = decimal r.number ∷ stamp_text r.stamp ∷ (map reading_text r.v
 
 value_again : (v : Reading) → takes_reading ascii_bounds v ≡ true → value (reading_text v) ≡ Some v
 value_again Missing h = missing_written
-value_again (Value x) h = let p = ands (int_le (neg_ℤ (pos 99999)) x) (int_le x (pos 99998)) h in value_written x (int_le-is (neg_ℤ (pos 99999)) x p.0) (int_le-is x (pos 99998) p.1)
+value_again (Value x) h = let p = and_parts (int_le (neg_ℤ (pos 99999)) x) (int_le x (pos 99998)) h in value_written x (int_le-is (neg_ℤ (pos 99999)) x p.0) (int_le-is x (pos 99998) p.1)
 
 stamp_again : (s : Option ℕ) → takes_stamp ascii_bounds s ≡ true → stamp (stamp_text s) ≡ Some s
 stamp_again None h = no_stamp_written
@@ -239,7 +228,7 @@ printed_values : (vs : List Reading) → AllByRecursion (λ v. takes_reading asc
 printed_values [] h = tt
 printed_values (Missing ∷ vs) h = (printed_missing, printed_values vs h.1)
 printed_values (Value x ∷ vs) h =
-    let p = ands (int_le (neg_ℤ (pos 99999)) x) (int_le x (pos 99998)) h.0 in
+    let p = and_parts (int_le (neg_ℤ (pos 99999)) x) (int_le x (pos 99998)) h.0 in
     (printed_signed x (few x (int_le-is (neg_ℤ (pos 99999)) x p.0) (int_le-is x (pos 99998) p.1)), printed_values vs h.1)
   where
     few : (z : ℤ) → neg_ℤ (pos 99999) ≤ℤ z → z ≤ℤ pos 99998 → unsigned_abs z < 10 ^ 64

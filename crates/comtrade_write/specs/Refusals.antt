@@ -2,7 +2,7 @@
 use Rattle.std.specs.Prelude.{◌≡◌, ℕ, ◌+◌, Bool, true, false, ◌&&◌, nat_le, int_le, Option, Some, None, Result, Ok, Err, pos, neg_ℤ, List, length}
 use Rattle.std.specs.List.{list_all}
 use Rattle.dfr_channels.specs.Faults.{◌or◌, fault_unless}
-use Rattle.dfr_channels.specs.Texts.{is_plain}
+use Rattle.dfr_channels.specs.Texts.{is_name, is_phase, is_unit}
 use Rattle.dfr_channels.specs.Parts.{AnalogParts, StatusParts}
 use Rattle.dfr_channels.specs.declared.scan.Reading.{Reading}
 use Rattle.dfr_channels.specs.declared.scan.Reading.TheVariants.{Value, Missing}
@@ -67,19 +67,19 @@ unfoldable pub data_refusal : Bounds → FileParts → Option WriteFault
 data_refusal m f = fault_unless (is_shaped f) faults.Shape or rows_refusal m f.rows
 
 -- a text that breaks the rule, by its place
-abbrev pub text_fault : ℕ → ℕ → List ℕ → ℕ → ℕ → Option WriteFault
-text_fault low high text line field = fault_unless (is_plain low high text) (faults.Text line field)
+abbrev pub text_fault : Bool → ℕ → ℕ → Option WriteFault
+text_fault fits line field = fault_unless fits (faults.Text line field)
 
 abbrev pub names_refusal : HeadParts → Option WriteFault
-names_refusal h = text_fault 0 64 h.station 1 1 or text_fault 0 64 h.device 1 2
+names_refusal h = text_fault (is_name h.station) 1 1 or text_fault (is_name h.device) 1 2
 
 unfoldable pub analog_refusal : ℕ → AnalogParts → Option WriteFault
 analog_refusal line c =
-    text_fault 0 64 c.id line 2 or text_fault 0 2 c.phase line 3
-    or text_fault 0 64 c.component line 4 or text_fault 1 32 c.unit line 5
+    text_fault (is_name c.id) line 2 or text_fault (is_phase c.phase) line 3
+    or text_fault (is_name c.component) line 4 or text_fault (is_unit c.unit) line 5
 
 unfoldable pub status_refusal : ℕ → StatusParts → Option WriteFault
-status_refusal line c = text_fault 0 64 c.id line 2 or text_fault 0 2 c.phase line 3 or text_fault 0 64 c.component line 4
+status_refusal line c = text_fault (is_name c.id) line 2 or text_fault (is_phase c.phase) line 3 or text_fault (is_name c.component) line 4
 
 -- the first text that breaks the rule, by its line and field in the file that would be written
 abbrev pub text_refusal : HeadParts → Option WriteFault

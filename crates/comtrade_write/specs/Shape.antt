@@ -10,11 +10,11 @@ abbrev pub channels_fit : ℕ → ℕ → Bool
 channels_fit k m = nat_lt k 1_000_000 && nat_lt m (1_000_000 - k) && nat_lt 0 (k + m)
 
 -- how many rate lines there are; without a rate there is one line (5.3.6)
-abbrev pub rate_lines : ℕ → ℕ
-rate_lines nrates = if nat_lt 0 nrates then nrates else 1
+abbrev pub rate_line_count : ℕ → ℕ
+rate_line_count nrates = if nat_lt 0 nrates then nrates else 1
 
 abbrev pub rates_counted : HeadParts → Bool
-rates_counted h = nat_le h.nrates 999 && (length h.rates == rate_lines h.nrates)
+rates_counted h = nat_le h.nrates 999 && (length h.rates == rate_line_count h.nrates)
 
 abbrev pub endsamp_fits : ℕ → ℕ → Bool
 endsamp_fits before endsamp = nat_le before endsamp && nat_le endsamp 9_999_999_999

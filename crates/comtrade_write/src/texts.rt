@@ -1,6 +1,7 @@
 //! The first text that a configuration file can't hold.
 
 ghost use Rattle.std.specs.Prelude.{◌≡◌, ◌<◌, ◌+◌, true, length};
+ghost use Rattle.dfr_channels.specs.Texts.{is_plain};
 ghost use Rattle.comtrade_write.specs.Numbered.{first_from};
 ghost use Rattle.comtrade_write.specs.Refusals as spec;
 
@@ -11,7 +12,7 @@ use dfr_channels::{AnalogChannel, StatusChannel, is_plain};
 use std::alloc::Allocator;
 
 fn text_fault(low: usize, high: usize, text: &[u8], line: u64, field: u32) -> Option<WriteFault>
-    ensures { result ≡ spec.text_fault low high text.now line field }
+    ensures { result ≡ spec.text_fault (is_plain low high text.now) line field }
 {
     if is_plain(low, high, text) {
         None

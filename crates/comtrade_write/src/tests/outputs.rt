@@ -68,6 +68,36 @@ fn one_byte_a_call(rt: HostRuntime) -> Result<(), Fail> {
     Ok(())
 }
 
+/// Answers `Interrupted` once, and would take all from then on.
+#[derive(Drop)]
+struct InterruptedOnce {
+    calls: usize,
+}
+
+impl Write for InterruptedOnce {
+    fn write(&mut self, buf: &[u8]) -> io::Result<usize> {
+        self.calls = self.calls.saturating_add(1);
+        if self.calls == 2 {
+            return Err(Error::from(ErrorKind::Interrupted));
+        }
+        Ok(buf.len().min(3))
+    }
+
+    fn flush(&mut self) -> io::Result<()> {
+        Ok(())
+    }
+}
+
+#[test]
+fn nothing_tried_again(rt: HostRuntime) -> Result<(), Fail> {
+    let mut w = InterruptedOnce { calls: 0 };
+    let (written, error) = write_all_of(&mut w, &TEN).err().ok_or("all")?;
+    assert_eq!(rt; written, 3);
+    assert!(rt; error.kind() == ErrorKind::Interrupted);
+    assert_eq!(rt; w.calls, 2);
+    Ok(())
+}
+
 #[test]
 fn nothing_to_write(rt: HostRuntime) {
     let mut w = taking(rt.alloc(), 0, 1, false);

@@ -1,0 +1,168 @@
+-- What holds of a head that the writers don't refuse.
+use Rattle.std.proofs.Common.{◌≡◌, ℕ, zero, suc, ◌+◌, ◌-◌, ◌<◌, ◌≤◌, max, Bool, true, false, cond, ltb, leb, eqb, List, [], ◌∷◌, length, Option, Some, None, refl, ap, ◌∙◌, arith}
+use Rattle.std.specs.Prelude.{ℤ, pos, neg_ℤ, int_le, ◌&&◌, slice_get}
+use Rattle.std.specs.List.{list_all, AllByRecursion}
+use Rattle.std.proofs.lemmas.Bool.{leb-true, ltb-true, eqb-true, and_parts}
+use Rattle.std.proofs.lemmas.Bool.Decides.{nat_tests}
+use Rattle.dfr_channels.specs.Faults.{◌or◌}
+use Rattle.dfr_channels.specs.Texts.{is_name, is_phase, is_unit}
+use Rattle.dfr_channels.specs.Parts.{AnalogParts, StatusParts}
+use Rattle.comtrade_write.specs.declared.file.Rate.{Rate}
+use Rattle.comtrade_write.specs.Parts.{HeadParts}
+use Rattle.comtrade_write.specs.Numbered.{first_from}
+use Rattle.comtrade_write.specs.Shape as shape
+use Rattle.comtrade_write.specs.Refusals.{text_fault, names_refusal, analog_refusal, status_refusal, text_refusal}
+use Rattle.comtrade_read.specs.Fields.{scale}
+use Rattle.comtrade_read.specs.Spells.{sample_before}
+use Rattle.comtrade_read.specs.Data.{last_sample}
+use Rattle.comtrade_read.specs.ReadBack.{HasScale, HasNumbers}
+use Rattle.comtrade_read.proofs.WrittenDates.{Instant, instant_written}
+use Rattle.comtrade_read.proofs.WrittenRows.{int_le-is}
+use Rattle.dfr_channels.proofs.Lawful.{or-none, unless-none}
+
+-- a channel that the writer takes
+pub record AnalogTaken (c : AnalogParts) : Type 0 where
+  pub scale : HasScale c
+  pub id : is_name c.id ≡ true
+  pub phase : is_phase c.phase ≡ true
+  pub component : is_name c.component ≡ true
+  pub unit : is_unit c.unit ≡ true
+  pub bounds : shape.has_bounds c ≡ true
+
+pub record StatusTaken (c : StatusParts) : Type 0 where
+  pub id : is_name c.id ≡ true
+  pub phase : is_phase c.phase ≡ true
+  pub component : is_name c.component ≡ true
+
+analog_taken : (n : ℕ) (cs : List AnalogParts) → AllByRecursion HasScale cs → list_all shape.has_bounds cs ≡ true → first_from analog_refusal n cs ≡ None → AllByRecursion AnalogTaken cs
+unfolding analog_refusal
+analog_taken n [] h b e = tt
+analog_taken n (c ∷ cs) h b e =
+    let p = or-none (analog_refusal n c) (first_from analog_refusal (n + 1) cs) e in
+    let q = or-none (text_fault (is_name c.id) n 2) _ p.0 in
+    let r = or-none (text_fault (is_phase c.phase) n 3) _ q.1 in
+    let s = or-none (text_fault (is_name c.component) n 4) (text_fault (is_unit c.unit) n 5) r.1 in
+    let t = and_parts (shape.has_bounds c) (list_all shape.has_bounds cs) b in (
+      record {
+        scale = h.0;
+        id = unless-none (is_name c.id) _ q.0;
+        phase = unless-none (is_phase c.phase) _ r.0;
+        component = unless-none (is_name c.component) _ s.0;
+        unit = unless-none (is_unit c.unit) _ s.1;
+        bounds = t.0;
+      },
+      analog_taken (n + 1) cs h.1 t.1 p.1,
+    )
+
+status_taken : (n : ℕ) (cs : List StatusParts) → first_from status_refusal n cs ≡ None → AllByRecursion StatusTaken cs
+unfolding status_refusal
+status_taken n [] e = tt
+status_taken n (c ∷ cs) e =
+    let p = or-none (status_refusal n c) (first_from status_refusal (n + 1) cs) e in
+    let q = or-none (text_fault (is_name c.id) n 2) _ p.0 in
+    let r = or-none (text_fault (is_phase c.phase) n 3) (text_fault (is_name c.component) n 4) q.1 in (
+      record {
+        id = unless-none (is_name c.id) _ q.0;
+        phase = unless-none (is_phase c.phase) _ r.0;
+        component = unless-none (is_name c.component) _ r.1;
+      },
+      status_taken (n + 1) cs p.1,
+    )
+
+-- rates whose last samples don't fall
+pub record RatesTaken (before : ℕ) (rates : List Rate) (last : ℕ) : Type 0 where
+  pub each : (j : ℕ) (r : Rate) → slice_get rates j ≡ Some r → (cond (eqb j 0) before (sample_before rates j) ≤ r.endsamp) × (r.endsamp ≤ 9999999999)
+  pub end : 0 < length rates → last_sample rates ≡ last
+
+before_next : (before : ℕ) (x : Rate) (xs : List Rate) (j : ℕ) → cond (eqb (suc j) 0) before (sample_before (x ∷ xs) (suc j)) ≡ cond (eqb j 0) x.endsamp (sample_before xs j)
+before_next before x xs zero = refl
+before_next before x xs (suc j) =
+    let a : eqb (suc (suc j)) 0 ≡ false = grind (arith, nat_tests) in
+    let b : eqb (suc j) 0 ≡ false = grind (arith, nat_tests) in
+    let c : suc (suc j) - 1 ≡ suc j = omega arith in
+    let d : suc j - 1 ≡ j = omega arith in
+    rw (a, b, c, d) refl
+
+last_next : (x : Rate) (xs : List Rate) (last : ℕ) → shape.rates_end x.endsamp xs ≡ Some last → (0 < length xs → last_sample xs ≡ last) → last_sample (x ∷ xs) ≡ last
+last_next x [] last e h = cc
+last_next x (y ∷ ys) last e h =
+    let c : suc (suc (length ys)) - 1 ≡ suc (length ys) = omega arith in
+    let d : suc (length ys) - 1 ≡ length ys = omega arith in
+    let g : last_sample (y ∷ ys) ≡ last = h (omega arith) in
+    rw c (rw d at g)
+
+rates_taken : (before : ℕ) (rates : List Rate) (last : ℕ) → shape.rates_end before rates ≡ Some last → RatesTaken before rates last
+rates_taken before [] last e = record { each = λ j r g. absurd cc; end = λ lt. absurd (omega arith) }
+rates_taken before (x ∷ xs) last e = with_test (shape.endsamp_fits before x.endsamp) refl e (λ g. rates_taken x.endsamp xs last g)
+  where
+    each : (leb before x.endsamp ≡ true) × (leb x.endsamp 9999999999 ≡ true) → RatesTaken x.endsamp xs last → (j : ℕ) (r : Rate) → slice_get (x ∷ xs) j ≡ Some r
+        → (cond (eqb j 0) before (sample_before (x ∷ xs) j) ≤ r.endsamp) × (r.endsamp ≤ 9999999999)
+    each p more zero r f = let same : x ≡ r = cc in rw (← same) (leb-true before x.endsamp p.0, leb-true x.endsamp 9999999999 p.1)
+    each p more (suc j) r f = let q = more.each j r f in (rw (before_next before x xs j) q.0, q.1)
+
+    with_test : (b : Bool) → shape.endsamp_fits before x.endsamp ≡ b → cond b (shape.rates_end x.endsamp xs) None ≡ Some last → (shape.rates_end x.endsamp xs ≡ Some last → RatesTaken x.endsamp xs last) → RatesTaken before (x ∷ xs) last
+    with_test false t g rest = absurd cc
+    with_test true t g rest =
+        let p = and_parts (leb before x.endsamp) (leb x.endsamp 9999999999) t in
+        let more = rest g in
+        record { each = each p more; end = λ lt. last_next x xs last g more.end }
+
+rate_line_count_max : (n : ℕ) → shape.rate_line_count n ≡ max 1 n
+rate_line_count_max zero = refl
+rate_line_count_max (suc n) = let t : ltb 0 (suc n) ≡ true = grind (arith, nat_tests) in rw t (omega arith)
+
+end_is : (o : Option ℕ) (n : ℕ) → shape.is_some_of o n ≡ true → o ≡ Some n
+end_is None n e = absurd cc
+end_is (Some x) n e = ap (λ (y : ℕ). Some y) (eqb-true x n e)
+
+-- a head that the writer takes, with so many rows
+pub record HeadTaken (h : HeadParts) (rows : ℕ) : Type 0 where
+  pub numbers : HasNumbers h
+  pub some : 0 < length h.analog + length h.status
+  pub few : length h.analog + length h.status < 1000000
+  pub nrates : h.nrates ≤ 999
+  pub rate_count : length h.rates ≡ max 1 h.nrates
+  pub rates : RatesTaken 0 h.rates rows
+  pub first : Instant h.first
+  pub trigger : Instant h.trigger
+  pub station : is_name h.station ≡ true
+  pub device : is_name h.device ≡ true
+  pub analog : AllByRecursion AnalogTaken h.analog
+  pub status : AllByRecursion StatusTaken h.status
+
+writable : (t : ℤ) → shape.is_writable t ≡ true → Instant t
+writable t e =
+    let p = and_parts (int_le (neg_ℤ (pos 62_135_596_800_000_000)) t) (int_le t (pos 253_402_300_799_999_999)) e in
+    instant_written t (int_le-is (neg_ℤ (pos 62_135_596_800_000_000)) t p.0) (int_le-is t (pos 253_402_300_799_999_999) p.1)
+
+pub head_taken : (h : HeadParts) (rows : ℕ) → HasNumbers h → shape.head_shaped h ≡ true → shape.is_some_of (shape.rates_end 0 h.rates) rows ≡ true → text_refusal h ≡ None → HeadTaken h rows
+unfolding shape.head_shaped
+head_taken h rows n s l t =
+    let k = length h.analog in
+    let m = length h.status in
+    let a = and_parts (shape.channels_fit k m && shape.rates_counted h && shape.instants_fit h) (list_all shape.has_bounds h.analog) s in
+    let b = and_parts (shape.channels_fit k m && shape.rates_counted h) (shape.instants_fit h) a.0 in
+    let c = and_parts (shape.channels_fit k m) (shape.rates_counted h) b.0 in
+    let d = and_parts (ltb k 1_000_000 && ltb m (1_000_000 - k)) (ltb 0 (k + m)) c.0 in
+    let e = and_parts (ltb k 1_000_000) (ltb m (1_000_000 - k)) d.0 in
+    let r = and_parts (leb h.nrates 999) (eqb (length h.rates) (shape.rate_line_count h.nrates)) c.1 in
+    let i = and_parts (shape.is_writable h.first) (shape.is_writable h.trigger) b.1 in
+    let x = or-none (names_refusal h) _ t in
+    let y = or-none (first_from analog_refusal 3 h.analog) (first_from status_refusal (3 + k) h.status) x.1 in
+    let z = or-none (text_fault (is_name h.station) 1 1) (text_fault (is_name h.device) 1 2) x.0 in
+    let k_low = ltb-true k 1_000_000 e.0 in
+    let m_low = ltb-true m (1_000_000 - k) e.1 in
+    record {
+      numbers = n;
+      some = ltb-true 0 (k + m) d.1;
+      few = omega arith;
+      nrates = leb-true h.nrates 999 r.0;
+      rate_count = eqb-true (length h.rates) (shape.rate_line_count h.nrates) r.1 ∙ rate_line_count_max h.nrates;
+      rates = rates_taken 0 h.rates rows (end_is (shape.rates_end 0 h.rates) rows l);
+      first = writable h.first i.0;
+      trigger = writable h.trigger i.1;
+      station = unless-none (is_name h.station) _ z.0;
+      device = unless-none (is_name h.device) _ z.1;
+      analog = analog_taken 3 h.analog n.analog a.1 y.0;
+      status = status_taken (3 + k) h.status y.1;
+    }
