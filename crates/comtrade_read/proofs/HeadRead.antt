@@ -1,7 +1,7 @@
 -- A head whose lines were all read, or one that fails.
 use Rattle.std.proofs.Common.{◌≡◌, ℕ, ◌+◌, ◌<◌, ◌≤◌, Bool, true, false, cond, leb, ltb, eqb, List, length, Option, Some, None, refl, ap, ◌∙◌, arith}
 use Rattle.std.specs.Prelude.{◌≢◌, ◌&&◌, ℤ, pos, negsuc, unwrap_or, Result, Ok, Err, IfOk, IfErr}
-use Rattle.std.proofs.lemmas.Bool.{leb-true, eqb-true}
+use Rattle.std.proofs.lemmas.Bool.{and_parts, leb-true, eqb-true}
 use Rattle.std.proofs.lemmas.List.FromFn.{length-map-range_with_len}
 use Rattle.dfr_channels.specs.Spelling.{whole_number}
 use Rattle.comtrade_read.specs.declared.fault.ReadFault.{ReadFault}
@@ -53,10 +53,6 @@ unfolding head_fault
 cfg_fault ls (Ok h) o = tt
 cfg_fault ls (Err e) o = λ n. file_first ls (head_rules ls) e (chain_is ls ∙ o n)
 
-both : (a b : Bool) → (a && b) ≡ true → (a ≡ true) × (b ≡ true)
-both true b e = (refl, e)
-both false b e = absurd cc
-
 natural_high : (high : ℕ) (o : Option ℤ) → unwrap_or (up_to high o) 0 ≤ high
 natural_high high None = omega arith
 natural_high high (Some (pos n)) = with_test (leb n high) refl
@@ -75,7 +71,7 @@ few_channels ls h o e =
     let fs = line_fields ls 1 in
     let total = unwrap_or (natural 999999 (field fs 0)) 0 in
     let whole : (eqb total (k + m) && ltb 0 total) ≡ true = (o.each 1 (omega arith)).fields.whole in
-    let sum : total ≡ k + m = eqb-true total (k + m) (both (eqb total (k + m)) (ltb 0 total) whole).0 in
+    let sum : total ≡ k + m = eqb-true total (k + m) (and_parts (eqb total (k + m)) (ltb 0 total) whole).0 in
     let high : total ≤ 999999 = natural_high 999999 (whole_number (field fs 0)) in
     let a : length h.analog ≡ k = ap (λ (x : HeadParts). length x.analog) e ∙ length-map-range_with_len (λ (i : ℕ). analog_value (line_fields ls (2 + i))) 0 k in
     let s : length h.status ≡ m = ap (λ (x : HeadParts). length x.status) e ∙ length-map-range_with_len (λ (i : ℕ). status_value (line_fields ls (2 + k + i))) 0 m in

@@ -6,7 +6,12 @@ pub mod HeadRead
 pub mod RowLine
 pub mod OneByOne
 pub mod Outcomes
+pub mod AllOf
+pub mod Parts
+pub mod Blanks
+pub mod LineEnds
 pub mod Joining
+pub mod Cutting
 pub mod Each
 pub mod Spelled
 pub mod HeadSpelled
@@ -20,5 +25,8 @@ pub mod WrittenFields
 pub mod WrittenLines
 pub mod WrittenDates
 pub mod WrittenRows
+pub mod HeadLines
+pub mod HeadTaken
+pub mod HeadClean
 pub mod WrittenHead
 pub mod ReadBack

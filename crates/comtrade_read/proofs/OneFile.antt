@@ -69,7 +69,7 @@ no_head cfg e f h r = no_fault _ _ e (cfg_only cfg h r).0 f
 pub one_head : (cfg : List ℕ) (g h : HeadParts) → ReadsHead cfg g → ReadsHead cfg h → g ≡ h
 one_head cfg g h r s = (cfg_only cfg g r).1 ∙ sym (cfg_only cfg h s).1
 
-rows_same : (h : HeadParts) (dat : List ℕ) (a b : List RowParts) → ReadsRows h dat a → ReadsRows h dat b → a ≡ b
+pub rows_same : (h : HeadParts) (dat : List ℕ) (a b : List RowParts) → ReadsRows h dat a → ReadsRows h dat b → a ≡ b
 rows_same h dat a b r s = as_same h.kind (length h.analog) (length h.status) (row_count h) dat a b (rows_only h dat a r) (rows_only h dat b s)
 
 pub one_file : OneFileLaw

@@ -34,6 +34,13 @@ IsNoData h dat = (rows : List RowParts) → ReadsRows h dat rows → ⊥
 abbrev pub IsNoFile : List ℕ → List ℕ → Type 0
 IsNoFile cfg dat = (f : FileParts) → Reads cfg dat f → ⊥
 
--- no texts read to two files
+-- ---- texts that read read to one thing
+
+abbrev pub OneHeadLaw : Type 0
+OneHeadLaw = (cfg : List ℕ) (g h : HeadParts) → ReadsHead cfg g → ReadsHead cfg h → g ≡ h
+
+abbrev pub OneRowsLaw : Type 0
+OneRowsLaw = (h : HeadParts) (dat : List ℕ) (a b : List RowParts) → ReadsRows h dat a → ReadsRows h dat b → a ≡ b
+
 abbrev pub OneFileLaw : Type 0
 OneFileLaw = (cfg dat : List ℕ) (f g : FileParts) → Reads cfg dat f → Reads cfg dat g → f ≡ g

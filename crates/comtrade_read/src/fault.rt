@@ -14,7 +14,8 @@ pub enum ReadFault {
     Revision,
     /// The line has another number of fields than its kind wants.
     Fields(u64),
-    /// The line, and the field that can't be read or is out of its range.
+    /// The line, and the field that can't be read or is out of its range. In the first line, in an instant and in the type it
+    /// is `Revision`, `Instant` and `Kind`.
     Number(u64, u32),
     /// The line of the counts doesn't add up or counts no channel (5.3.2), a channel's number isn't its own (5.3.3, 5.3.4),
     /// or a rate's last sample is below the one before (5.3.6).
@@ -23,9 +24,9 @@ pub enum ReadFault {
     Instant(u64),
     /// The data file's type is neither ASCII nor BINARY, in any case of letters (5.3.8).
     Kind,
-    /// The file ends before this line.
+    /// The file ends before this line; blank lines at its end don't count.
     Missing(u64),
-    /// A line that isn't blank stands behind the last one.
+    /// Behind the last line stands something that isn't blank. The number is that of the first line behind the last.
     Extra(u64),
     /// Binary data aren't as long as their rows (clause 6).
     Length,

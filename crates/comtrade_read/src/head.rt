@@ -1,6 +1,6 @@
 //! Reads a configuration file.
 
-ghost use Rattle.std.specs.Prelude.{◌≡◌, ◌≢◌, IfOk, IfErr};
+ghost use Rattle.std.specs.Prelude.{◌≡◌, ◌≢◌, ◌+◌, ◌<◌, length, IfOk, IfErr};
 ghost use Rattle.comtrade_read.specs.declared.fault.ReadFault.TheVariants as faults;
 ghost use Rattle.dfr_channels.specs.Lines.{texts, lines, line_fields};
 ghost use Rattle.comtrade_read.specs.Table.{Gives};
@@ -48,9 +48,11 @@ fn head_of<A: Allocator + Copy>(alloc: A, lines: &[&[u8]]) -> Result<Head<A>, Re
 /// The head that a configuration file says (C37.111-1999, clause 5), or its first fault.
 ///
 /// Lines end with LF or CR LF, blanks round fields and blank lines at the end are free, and numbers, dates and letters may be
-/// spelled as other programs spell them. Any bytes are a station, a device or a channel's text.
+/// spelled as other programs spell them. Any bytes without a comma, a line feed or a blank at either end are a station, a device or a
+/// channel's text. A head that is read has at most 999,999 channels, as `read_dat` wants it.
 pub fn read_cfg<A: Allocator + Copy>(alloc: A, text: &[u8]) -> Result<Head<A>, ReadFault>
     ensures found { IfOk result (ReadsHead text.now) }
+    ensures few { IfOk result (λ h. length h.analog + length h.status < 1000000) }
     ensures fault { IfErr result (λ e. e ≢ faults.Memory → FaultyHead text.now e) }
     ensures unread { IfErr result (λ e. e ≢ faults.Memory → IsNoHead text.now) }
 {

@@ -1,11 +1,13 @@
 //! Laws of the grammar.
 
-ghost use Rattle.comtrade_read.specs.Pair.{OneFileLaw};
+ghost use Rattle.comtrade_read.specs.Pair.{OneHeadLaw, OneRowsLaw, OneFileLaw};
 ghost use Rattle.comtrade_read.specs.ReadBack.{ReadBackLaw};
 
-/// No pair of texts reads to two files.
+/// No configuration file reads to two heads, no data to two lists of rows under one head, and no pair of texts to two files.
 pub fn one_file()
-    ensures { OneFileLaw }
+    ensures head { OneHeadLaw }
+    ensures rows { OneRowsLaw }
+    ensures file { OneFileLaw }
 {}
 
 /// A file that the writers don't refuse is read from its own texts.

@@ -14,7 +14,9 @@ use std::alloc::Allocator;
 /// One file of a pair.
 #[derive(Clone, Copy, Debug, PartialEq, Eq)]
 pub enum Part {
+    /// The configuration file.
     Cfg,
+    /// The data file.
     Dat,
 }
 

@@ -133,9 +133,6 @@ fn data_refused(rt: HostRuntime) -> Result<(), Fail> {
         let dat = dat_bytes(&heap, &file).ok().ok_or("memory")?;
         let mut head = read_cfg(&heap, &cfg).ok().ok_or("its own text")?;
         for n in 1..1000u64 {
-            if head.analog.items().len() + head.status.items().len() > 999_999 {
-                return Err("two channels")?;
-            }
             heap.refuse(n);
             let result = read_dat(&heap, head, &dat);
             let met = heap.has_refused();

@@ -2,26 +2,90 @@
 
 use super::*;
 use comtrade_write::Kind;
-use dfr_channels::Decimal;
+use dfr_channels::{AnalogChannel, Decimal, Side};
 
 const LENIENT: &[u8] =
     b" Bay 1 , DFR,1999\n1,1a,0d\n1, IA ,A,,A,1.5E-3,+0,,-32767,32767,001,1,p\n\n1\n1000,5\n1/1/1970,0:0:0.001\n01/01/1970,00:00:00.003000\nbinary\n1";
 
-/// The units and places of a, b, skew and the primary ratio of the first channel.
-fn scale(head: &Head) -> Option<[Decimal; 4]> {
-    let channel = head.analog.items().first()?;
-    Some([channel.a, channel.b, channel.skew, channel.primary])
+fn is(number: Decimal, units: i128, places: u8) -> bool {
+    number.units() == units && number.places() == places
+}
+
+/// a 1.5E-3, no b, no skew, a primary of 1 and a secondary of 1.
+fn has_lenient_numbers(channel: &AnalogChannel) -> bool {
+    is(channel.a, 15, 4)
+        && is(channel.b, 0, 0)
+        && is(channel.skew, 0, 0)
+        && is(channel.primary, 1, 0)
+        && is(channel.secondary, 1, 0)
+}
+
+fn has_lenient_channel(head: &Head) -> bool {
+    let Some(channel) = head.analog.items().first() else {
+        return false;
+    };
+    channel.id.items() == b"IA".as_slice()
+        && channel.phase.items() == b"A".as_slice()
+        && channel.component.items().is_empty()
+        && channel.unit.items() == b"A".as_slice()
+        && (channel.min, channel.max) == (-32_767, 32_767)
+        && channel.side == Side::Primary
+        && has_lenient_numbers(channel)
+}
+
+fn has_lenient_rate(head: &Head) -> bool {
+    let Some(rate) = head.rates.items().first() else {
+        return false;
+    };
+    is(head.line_freq, 0, 0)
+        && head.nrates == 1
+        && is(rate.samp, 1000, 0)
+        && rate.endsamp == 5
+        && is(head.timemult, 1, 0)
 }
 
 #[test]
 fn lenient(rt: HostRuntime) -> Result<(), Fail> {
     let head = read_cfg(rt.alloc(), LENIENT).ok().ok_or("it reads")?;
-    let [a, b, skew, primary] = scale(&head).ok_or("it has a channel")?;
-    assert_eq!(rt; (a.units(), a.places()), (15, 4));
-    assert_eq!(rt; (b.units(), skew.units(), primary.units()), (0, 0, 1));
+    assert_eq!(rt; head.station.items(), b"Bay 1".as_slice());
+    assert_eq!(rt; head.device.items(), b"DFR".as_slice());
+    assert!(rt; has_lenient_channel(&head));
+    assert!(rt; head.status.items().is_empty());
+    assert!(rt; has_lenient_rate(&head));
     assert_eq!(rt; (head.first, head.trigger), (1000, 3000));
     assert!(rt; head.kind == Kind::Binary);
-    assert_eq!(rt; head.station.items(), b"Bay 1".as_slice());
+    Ok(())
+}
+
+/// The numbers of the first channel where its line is this.
+fn first_channel(rt: &HostRuntime, line: &[u8]) -> Option<[Decimal; 3]> {
+    let text = with_line(rt, CFG, 3, line).ok()?;
+    let head = read_cfg(rt.alloc(), &text).ok()?;
+    let channel = head.analog.items().first()?;
+    Some([channel.a, channel.primary, channel.secondary])
+}
+
+#[test]
+fn numbers_of_a_channel(rt: HostRuntime) -> Result<(), Fail> {
+    let [a, primary, secondary] = first_channel(&rt, b"1,IA,A,,A,1,0,0,-32767,32767,,,P").ok_or(
+        "it reads",
+    )?;
+    assert!(rt; is(a, 1, 0) && is(primary, 0, 0) && is(secondary, 0, 0));
+    let line = b"1,IA,A,,A,0E99999999999999999999,0,0,-32767,32767,1,1,P";
+    let [a, _, _] = first_channel(&rt, line).ok_or("it reads")?;
+    assert!(rt; is(a, 0, 0));
+    Ok(())
+}
+
+#[test]
+fn long_number(rt: HostRuntime) -> Result<(), Fail> {
+    let mut line = Vec::from_slice(rt.alloc(), b"1,IA,A,,A,")?;
+    for _ in 0..4096u32 {
+        line.push(b'0')?;
+    }
+    line.extend_from_slice(b"1,0,0,-32767,32767,1,1,P")?;
+    let [a, _, _] = first_channel(&rt, &line).ok_or("it reads")?;
+    assert!(rt; is(a, 1, 0));
     Ok(())
 }
 
@@ -30,6 +94,12 @@ fn lenient_data(rt: HostRuntime) {
     assert_eq!(rt; dat_fault(&rt, LENIENT, BINARY), None);
     assert_eq!(rt;
         dat_fault(&rt, LENIENT, &BINARY[..49]),
+        Some((Part::Dat, ReadFault::Length))
+    );
+    let mut longer = [0u8; 60];
+    longer[..50].copy_from_slice(BINARY);
+    assert_eq!(rt;
+        dat_fault(&rt, LENIENT, &longer),
         Some((Part::Dat, ReadFault::Length))
     );
 }
@@ -49,12 +119,12 @@ fn refused(rt: HostRuntime) -> Result<(), Fail> {
         ),
         (
             3,
-            b"1,IA,A,,A,1E99999999999999999999,0,0,0,0,1,1,P".as_slice(),
+            b"1,IA,A,,A,1E99999999999999999999,0,0,-32767,32767,1,1,P".as_slice(),
             ReadFault::Number(3, 6),
         ),
         (
             3,
-            b"1,IA,A,,A,0E-81,0,0,0,0,1,1,P".as_slice(),
+            b"1,IA,A,,A,0E-81,0,0,-32767,32767,1,1,P".as_slice(),
             ReadFault::Number(3, 6),
         ),
         (
@@ -77,6 +147,10 @@ fn refused(rt: HostRuntime) -> Result<(), Fail> {
     ] {
         let text = with_line(&rt, CFG, n, line)?;
         assert_eq!(rt; cfg_fault(&rt, text.as_slice()), Some(fault));
+        assert_eq!(rt;
+            dat_fault(&rt, text.as_slice(), DAT),
+            Some((Part::Cfg, fault))
+        );
     }
     Ok(())
 }
@@ -94,6 +168,7 @@ fn status_counts(rt: HostRuntime) -> Result<(), Fail> {
 #[test]
 fn ten_digits_of_rows(rt: HostRuntime) -> Result<(), Fail> {
     let text = with_line(&rt, CFG, 6, b"1000,9999999999")?;
+    assert_eq!(rt; cfg_fault(&rt, text.as_slice()), None);
     assert_eq!(rt;
         dat_fault(&rt, text.as_slice(), DAT),
         Some((Part::Dat, ReadFault::Missing(6)))
