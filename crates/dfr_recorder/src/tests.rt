@@ -1,4 +1,7 @@
-//! The worked examples that no clause says: that the calls succeed, and what they answer.
+//! Small runs, worked out by hand: that the calls succeed, which no clause says, and what they answer.
+
+mod held;
+mod rules;
 
 use crate::{
     Answer, Cause, Extent, Hit, LimitFault, Limits, Record, Recorder, Step, TriggerFault, run,
@@ -197,8 +200,8 @@ fn limits_in_order(rt: HostRuntime) -> Result<(), Fail> {
     Ok(())
 }
 
-/// Four scans, a trigger and two scans, which close a record; a trigger, which a shelf of one refuses, a take and a trigger.
-fn steps(alloc: Global) -> Result<VecDeque<Step>, Fail> {
+/// Four scans, a trigger and two scans, which close a record; then these steps.
+fn steps<const N: usize>(alloc: Global, last: [Step; N]) -> Result<VecDeque<Step>, Fail> {
     let mut steps = VecDeque::new(alloc);
     for (x, _, _) in BEFORE {
         steps
@@ -213,7 +216,7 @@ fn steps(alloc: Global) -> Result<VecDeque<Step>, Fail> {
             .ok()
             .ok_or("step")?;
     }
-    for step in [Step::Trigger, Step::Take, Step::Trigger] {
+    for step in last {
         steps.push_back(step).ok().ok_or("step")?;
     }
     Ok(steps)
@@ -232,10 +235,23 @@ fn ends_so(answers: &[Answer]) -> bool {
 }
 
 #[test]
-fn runs_steps(rt: HostRuntime) -> Result<(), Fail> {
+fn runs_a_take(rt: HostRuntime) -> Result<(), Fail> {
     let alloc = rt.alloc();
-    let ran = run(alloc, recorder(alloc, 1)?, steps(alloc)?);
-    assert!(rt; ran.stopped.is_none() && ran.answers.len() == 10);
+    let ran = run(alloc, recorder(alloc, 1)?, steps(alloc, [Step::Take])?);
+    assert!(rt; ran.stopped.is_none() && ran.rest.is_empty() && ran.answers.len() == 8);
+    assert!(rt;
+        matches!(ran.answers.as_slice(), [.., Answer::Take(Some(record))] if is_record(record, FIRST, &[11, 12, 13, 14, 15]))
+    );
+    Ok(())
+}
+
+/// A trigger that a shelf of one refuses, a take, and a trigger that opens.
+#[test]
+fn runs_on_a_full_shelf(rt: HostRuntime) -> Result<(), Fail> {
+    let alloc = rt.alloc();
+    let steps = steps(alloc, [Step::Trigger, Step::Take, Step::Trigger])?;
+    let ran = run(alloc, recorder(alloc, 1)?, steps);
+    assert!(rt; ran.stopped.is_none() && ran.rest.is_empty() && ran.answers.len() == 10);
     assert!(rt; ends_so(&ran.answers));
     Ok(())
 }
