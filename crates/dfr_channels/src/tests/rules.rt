@@ -51,6 +51,10 @@ fn refused_rules(rt: HostRuntime) -> Result<(), Fail> {
         fault(rt.alloc(), 0, &[OVER, RISE])?,
         Some((RuleFault::NoChannel(1), 2))
     );
+    assert_eq!(rt;
+        fault(rt.alloc(), 0, &[RISE])?,
+        Some((RuleFault::NoChannel(0), 1))
+    );
     assert_eq!(rt; fault(rt.alloc(), 0, &[])?, None);
     Ok(())
 }
