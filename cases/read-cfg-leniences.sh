@@ -1,4 +1,4 @@
-# the first configuration with one line replaced, beside the first data, which is read all the same: line, text, what is printed, status
+# the first configuration with a line replaced, which is read all the same: line, text, what is printed, status
 folder=$(mktemp -d)
 trap 'rm -r "$folder"' EXIT
 tried() {
