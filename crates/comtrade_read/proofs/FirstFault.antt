@@ -1,15 +1,19 @@
 -- The fault that a table gives is the first, and there is none exactly where every line is of its kind.
 use Rattle.std.proofs.Common.{◌≡◌, ℕ, zero, suc, ◌+◌, ◌<◌, ◌≤◌, Bool, true, false, cond, ltb, eqb, List, [], ◌∷◌, length, Option, Some, None, refl, arith, inl, inr}
-use Rattle.std.specs.Prelude.{◌≢◌, ◌⊎◌}
+use Rattle.std.specs.Prelude.{◌≢◌, ◌⊎◌, slice_index_or}
 use Rattle.std.proofs.lemmas.Bool.Decides.{nat_tests}
 use Rattle.std.proofs.lemmas.Bool.{ltb-true, ltb-false, lt-ltb, le-ltb, eqb-true, cases_lt}
 use Rattle.comtrade_read.specs.declared.fault.ReadFault.{ReadFault}
 use Rattle.comtrade_read.specs.declared.fault.ReadFault.TheVariants as faults
 use Rattle.dfr_channels.specs.Lines.{field, line_fields}
 use Rattle.dfr_channels.specs.Faults.{◌or◌}
-use Rattle.comtrade_read.specs.Table.{Rule, tests_fault, fields_fault, line_fault, lines_fault, extra_fault, file_fault, first_in}
-use Rattle.comtrade_read.specs.Faulty.{passes, ObeysFields, Obeys, IsFieldsFault, few, bad, wrong, IsLineFault, missing, within, rule, Faulty, at, extra, AllObey}
+use Rattle.comtrade_read.specs.Table.{Rule, always, tests_fault, fields_fault, line_fault, lines_fault, extra_fault, file_fault, first_in}
+use Rattle.comtrade_read.specs.Faulty.{ObeysFields, Obeys, IsFieldsFault, few, bad, wrong, IsLineFault, missing, within, rule, Faulty, at, extra, AllObey}
 use Rattle.dfr_channels.proofs.Lawful.{or-none}
+
+-- whether test i passes the field at a place
+abbrev passes_at : List (List ℕ → Bool) → List (List ℕ) → ℕ → ℕ → Bool
+passes_at tests fs i at = (slice_index_or tests i always) (field fs at)
 
 abbrev some : ReadFault → Option ReadFault
 some e = Some e
@@ -35,24 +39,24 @@ eqb-same n = grind (arith, nat_tests)
 
 -- the tests of the fields from i on
 tests_none : (r : Rule) (line : ℕ) (ts : List (List ℕ → Bool)) (i : ℕ) (fs : List (List ℕ)) → tests_fault r line ts i fs ≡ None
-    → ((j : ℕ) → j < length ts → passes ts fs j (i + j) ≡ true) × (r.whole fs ≡ true)
+    → ((j : ℕ) → j < length ts → passes_at ts fs j (i + j) ≡ true) × (r.whole fs ≡ true)
 tests_none r line [] i fs h = with_test (r.whole fs) refl h
   where
-    with_test : (b : Bool) → r.whole fs ≡ b → cond b None (some (r.wrong line)) ≡ None → ((j : ℕ) → j < 0 → passes [] fs j (i + j) ≡ true) × (r.whole fs ≡ true)
+    with_test : (b : Bool) → r.whole fs ≡ b → cond b None (some (r.wrong line)) ≡ None → ((j : ℕ) → j < 0 → passes_at [] fs j (i + j) ≡ true) × (r.whole fs ≡ true)
     with_test true t e = (λ j lt. absurd (omega arith), t)
     with_test false t e = none_not (r.wrong line) e
 tests_none r line (t ∷ ts) i fs h = with_test (λ e. tests_none r line ts (i + 1) fs e) (t (field fs i)) refl h
   where
-    each : t (field fs i) ≡ true → ((j : ℕ) → j < length ts → passes ts fs j (i + 1 + j) ≡ true) → (j : ℕ) → j < suc (length ts) → passes (t ∷ ts) fs j (i + j) ≡ true
+    each : t (field fs i) ≡ true → ((j : ℕ) → j < length ts → passes_at ts fs j (i + 1 + j) ≡ true) → (j : ℕ) → j < suc (length ts) → passes_at (t ∷ ts) fs j (i + j) ≡ true
     each here rest zero lt = let e : i + 0 ≡ i = omega arith in rw e here
     each here rest (suc j) lt = let e : i + suc j ≡ i + 1 + j = omega arith in rw e (rest j (omega arith))
 
-    with_test : (tests_fault r line ts (i + 1) fs ≡ None → ((j : ℕ) → j < length ts → passes ts fs j (i + 1 + j) ≡ true) × (r.whole fs ≡ true)) → (b : Bool) → t (field fs i) ≡ b
-        → cond b (tests_fault r line ts (i + 1) fs) (some (r.bad line (i + 1))) ≡ None → ((j : ℕ) → j < suc (length ts) → passes (t ∷ ts) fs j (i + j) ≡ true) × (r.whole fs ≡ true)
+    with_test : (tests_fault r line ts (i + 1) fs ≡ None → ((j : ℕ) → j < length ts → passes_at ts fs j (i + 1 + j) ≡ true) × (r.whole fs ≡ true)) → (b : Bool) → t (field fs i) ≡ b
+        → cond b (tests_fault r line ts (i + 1) fs) (some (r.bad line (i + 1))) ≡ None → ((j : ℕ) → j < suc (length ts) → passes_at (t ∷ ts) fs j (i + j) ≡ true) × (r.whole fs ≡ true)
     with_test rest true here e = let p = rest e in (each here p.0, p.1)
     with_test rest false here e = none_not (r.bad line (i + 1)) e
 
-tests_again : (r : Rule) (line : ℕ) (ts : List (List ℕ → Bool)) (i : ℕ) (fs : List (List ℕ)) → ((j : ℕ) → j < length ts → passes ts fs j (i + j) ≡ true) → r.whole fs ≡ true → tests_fault r line ts i fs ≡ None
+tests_again : (r : Rule) (line : ℕ) (ts : List (List ℕ → Bool)) (i : ℕ) (fs : List (List ℕ)) → ((j : ℕ) → j < length ts → passes_at ts fs j (i + j) ≡ true) → r.whole fs ≡ true → tests_fault r line ts i fs ≡ None
 tests_again r line [] i fs each whole = rw whole refl
 tests_again r line (t ∷ ts) i fs each whole =
     let zero_at : i + 0 ≡ i = omega arith in
@@ -62,8 +66,8 @@ tests_again r line (t ∷ ts) i fs each whole =
 -- the first field that fails, or else the whole
 abbrev TestsFault : Rule → ℕ → List (List ℕ → Bool) → ℕ → List (List ℕ) → ReadFault → Type 0
 TestsFault r line ts i fs e =
-    ((k : ℕ) × (k < length ts) × (passes ts fs k (i + k) ≡ false) × ((j : ℕ) → j < k → passes ts fs j (i + j) ≡ true) × (e ≡ r.bad line (i + k + 1)))
-    ⊎ (((j : ℕ) → j < length ts → passes ts fs j (i + j) ≡ true) × (r.whole fs ≡ false) × (e ≡ r.wrong line))
+    ((k : ℕ) × (k < length ts) × (passes_at ts fs k (i + k) ≡ false) × ((j : ℕ) → j < k → passes_at ts fs j (i + j) ≡ true) × (e ≡ r.bad line (i + k + 1)))
+    ⊎ (((j : ℕ) → j < length ts → passes_at ts fs j (i + j) ≡ true) × (r.whole fs ≡ false) × (e ≡ r.wrong line))
 
 tests_some : (r : Rule) (line : ℕ) (ts : List (List ℕ → Bool)) (i : ℕ) (fs : List (List ℕ)) (e : ReadFault) → tests_fault r line ts i fs ≡ Some e → TestsFault r line ts i fs e
 tests_some r line [] i fs e h = with_test (r.whole fs) refl h
@@ -73,7 +77,7 @@ tests_some r line [] i fs e h = with_test (r.whole fs) refl h
     with_test false t g = inr (λ j lt. absurd (omega arith), t, some_is (r.wrong line) e g)
 tests_some r line (t ∷ ts) i fs e h = with_test (λ g. tests_some r line ts (i + 1) fs e g) (t (field fs i)) refl h
   where
-    each : t (field fs i) ≡ true → (n : ℕ) → ((j : ℕ) → j < n → passes ts fs j (i + 1 + j) ≡ true) → (j : ℕ) → j < suc n → passes (t ∷ ts) fs j (i + j) ≡ true
+    each : t (field fs i) ≡ true → (n : ℕ) → ((j : ℕ) → j < n → passes_at ts fs j (i + 1 + j) ≡ true) → (j : ℕ) → j < suc n → passes_at (t ∷ ts) fs j (i + j) ≡ true
     each here n rest zero lt = let z : i + 0 ≡ i = omega arith in rw z here
     each here n rest (suc j) lt = let s : i + suc j ≡ i + 1 + j = omega arith in rw s (rest j (omega arith))
 
@@ -82,14 +86,14 @@ tests_some r line (t ∷ ts) i fs e h = with_test (λ g. tests_some r line ts (i
     with_test rest true here g = elim (rest g) [
       | inl p ↦
           let s : i + suc p.0 ≡ i + 1 + p.0 = omega arith in
-          let q : passes (t ∷ ts) fs (suc p.0) (i + suc p.0) ≡ false = rw s p.2 in
+          let q : passes_at (t ∷ ts) fs (suc p.0) (i + suc p.0) ≡ false = rw s p.2 in
           let f : e ≡ r.bad line (i + suc p.0 + 1) = rw s p.4 in
           inl (suc p.0, omega (arith, p.1), q, each here p.0 p.3, f)
       | inr p ↦ inr (each here (length ts) p.0, p.1, p.2)
     ]
     with_test rest false here g =
         let z : i + 0 ≡ i = omega arith in
-        let q : passes (t ∷ ts) fs 0 (i + 0) ≡ false = rw z here in
+        let q : passes_at (t ∷ ts) fs 0 (i + 0) ≡ false = rw z here in
         let f : e ≡ r.bad line (i + 0 + 1) = rw z (some_is (r.bad line (i + 1)) e g) in
         inl (0, omega arith, q, λ j lt. absurd (omega arith), f)
 
@@ -109,7 +113,7 @@ fields_again r line fs o =
 fields_some : (r : Rule) (line : ℕ) (fs : List (List ℕ)) (e : ReadFault) → fields_fault r line fs ≡ Some e → IsFieldsFault r line fs e
 fields_some r line fs e h = with_test (eqb (length fs) (length r.tests)) refl h
   where
-    at_0 : (n : ℕ) (b : Bool) → passes r.tests fs n (0 + n) ≡ b → passes r.tests fs n n ≡ b
+    at_0 : (n : ℕ) (b : Bool) → passes_at r.tests fs n (0 + n) ≡ b → passes_at r.tests fs n n ≡ b
     at_0 n b p = let z : 0 + n ≡ n = omega arith in rw z at p
 
     with_test : (b : Bool) → eqb (length fs) (length r.tests) ≡ b → cond b (tests_fault r line r.tests 0 fs) (some (r.few line (length fs))) ≡ Some e → IsFieldsFault r line fs e

@@ -17,7 +17,7 @@ use Rattle.comtrade_read.specs.Fields.{natural, scale, free_scale, zero_number}
 use Rattle.comtrade_read.specs.Table.{Rule, fields_fault, line_fault, extra_fault, first_in}
 use Rattle.comtrade_read.specs.Faulty.{AllObey}
 use Rattle.comtrade_read.specs.Head.{kind, names_rule, counts_rule, analog_rule, status_rule, frequency_rule, nrates_rule, rate_rule, instant_rule, kind_rule, timemult_rule, decimal_in, analog_value, status_value, rate_value, instant_value, kind_value, nrates_value, analog_count, status_count, rate_count, rate_before, analog_items, status_items, rate_items, analog_faults, status_faults, rate_faults, head_rules, head_fault, head_value, value_of, chain}
-use Rattle.comtrade_read.specs.Spells.{EachFrom, line, sample_before, SpellsNames, SpellsCounts, SpellsAnalog, SpellsStatus, SpellsRate, SpellsInstant, SpellsOne, SpellsHead}
+use Rattle.comtrade_read.specs.Spells.{EachFrom, fields_at, sample_before, SpellsNames, SpellsCounts, SpellsAnalog, SpellsStatus, SpellsRate, SpellsInstant, SpellsOne, SpellsHead}
 use Rattle.comtrade_read.proofs.Each.{map_at, made_at, each_made, each_same, each_at, none_each, each_none}
 use Rattle.comtrade_read.proofs.FirstFault.{line_none, file_complete, file_sound}
 use Rattle.comtrade_read.proofs.Chain.{chain_is}
@@ -80,14 +80,14 @@ from_obeyed ls k m o =
 
 -- ---- a line and its fields
 
-pub line_at : (ls : List (List ℕ)) (n : ℕ) → n < length ls → line (map fields ls) n ≡ line_fields ls n
+pub line_at : (ls : List (List ℕ)) (n : ℕ) → n < length ls → fields_at (map fields ls) n ≡ line_fields ls n
 unfolding line_fields
 line_at ls n lt = map_at fields ls n [] [] lt
 
-at_place : {X : Type 0} (S : List (List ℕ) → X → Type 0) (ls : List (List ℕ)) (n i : ℕ) (x : X) → n < length ls → i ≡ n → S (line_fields ls n) x → S (line (map fields ls) i) x
+at_place : {X : Type 0} (S : List (List ℕ) → X → Type 0) (ls : List (List ℕ)) (n i : ℕ) (x : X) → n < length ls → i ≡ n → S (line_fields ls n) x → S (fields_at (map fields ls) i) x
 at_place S ls n i x lt e s = rw (e, line_at ls n lt) s
 
-from_place : {X : Type 0} (S : List (List ℕ) → X → Type 0) (ls : List (List ℕ)) (n i : ℕ) (x : X) → n < length ls → i ≡ n → S (line (map fields ls) i) x → S (line_fields ls n) x
+from_place : {X : Type 0} (S : List (List ℕ) → X → Type 0) (ls : List (List ℕ)) (n i : ℕ) (x : X) → n < length ls → i ≡ n → S (fields_at (map fields ls) i) x → S (line_fields ls n) x
 from_place S ls n i x lt e s = rw (e, line_at ls n lt) at s
 
 pub line_again : (ls : List (List ℕ)) (r : Rule) (n : ℕ) → n < length ls → fields_fault r (n + 1) (line_fields ls n) ≡ None → line_fault ls r n ≡ None
@@ -114,18 +114,18 @@ pub record HeadSpelled (ls : List (List (List ℕ))) (h : HeadParts) (k m r : �
   pub m_is : length h.status ≡ m
   pub r_is : length h.rates ≡ r
   pub count : length ls ≡ 8 + k + m + r
-  pub names : SpellsNames (line ls 0) h.station h.device
-  pub counts : SpellsCounts (line ls 1) k m
-  pub analog : EachFrom (λ i c. SpellsAnalog (i + 1) (line ls (2 + i)) c) 0 h.analog
-  pub status : EachFrom (λ i c. SpellsStatus (i + 1) (line ls (2 + k + i)) c) 0 h.status
-  pub line_freq : SpellsOne free_scale (line ls (2 + k + m)) h.line_freq
-  pub nrates : SpellsOne (natural 999) (line ls (3 + k + m)) h.nrates
+  pub names : SpellsNames (fields_at ls 0) h.station h.device
+  pub counts : SpellsCounts (fields_at ls 1) k m
+  pub analog : EachFrom (λ i c. SpellsAnalog (i + 1) (fields_at ls (2 + i)) c) 0 h.analog
+  pub status : EachFrom (λ i c. SpellsStatus (i + 1) (fields_at ls (2 + k + i)) c) 0 h.status
+  pub line_freq : SpellsOne free_scale (fields_at ls (2 + k + m)) h.line_freq
+  pub nrates : SpellsOne (natural 999) (fields_at ls (3 + k + m)) h.nrates
   pub rate_count : r ≡ max 1 h.nrates
-  pub rates : EachFrom (λ i r. SpellsRate (sample_before h.rates i) (line ls (4 + k + m + i)) r) 0 h.rates
-  pub first : SpellsInstant (line ls (4 + k + m + r)) h.first
-  pub trigger : SpellsInstant (line ls (5 + k + m + r)) h.trigger
-  pub kind : SpellsOne kind (line ls (6 + k + m + r)) h.kind
-  pub timemult : SpellsOne scale (line ls (7 + k + m + r)) h.timemult
+  pub rates : EachFrom (λ i r. SpellsRate (sample_before h.rates i) (fields_at ls (4 + k + m + i)) r) 0 h.rates
+  pub first : SpellsInstant (fields_at ls (4 + k + m + r)) h.first
+  pub trigger : SpellsInstant (fields_at ls (5 + k + m + r)) h.trigger
+  pub kind : SpellsOne kind (fields_at ls (6 + k + m + r)) h.kind
+  pub timemult : SpellsOne scale (fields_at ls (7 + k + m + r)) h.timemult
 
 spelled_at : (ls : List (List (List ℕ))) (h : HeadParts) (k m r : ℕ) → HeadSpelled ls h k m r → SpellsHead ls h
 spelled_at ls h k m r s = record {
@@ -176,14 +176,14 @@ spells_found ls k m ka km o =
       count = length-map ls fields ∙ omega (arith, end_is ls (at + 6 + r) o.end, timemult.there);
       names = rw (line_at ls 0 names.there) (names_found (line_fields ls 0) names.fields);
       counts = rw (line_at ls 1 counts.there) counted;
-      analog = each_made (λ i c. SpellsAnalog (i + 1) (line fss (2 + i)) c) (λ (i : ℕ). analog_value (line_fields ls (2 + i))) 0 k
+      analog = each_made (λ i c. SpellsAnalog (i + 1) (fields_at fss (2 + i)) c) (λ (i : ℕ). analog_value (line_fields ls (2 + i))) 0 k
           (λ j le lt. let x = line_none ls (analog_rule (j + 1)) (2 + j) (o.analog j (omega arith)) in rw (line_at ls (2 + j) x.there) (analog_found (j + 1) (line_fields ls (2 + j)) x.fields));
-      status = each_made (λ i c. SpellsStatus (i + 1) (line fss (2 + k + i)) c) (λ (i : ℕ). status_value (line_fields ls (2 + k + i))) 0 m
+      status = each_made (λ i c. SpellsStatus (i + 1) (fields_at fss (2 + k + i)) c) (λ (i : ℕ). status_value (line_fields ls (2 + k + i))) 0 m
           (λ j le lt. let x = line_none ls (status_rule (j + 1)) (2 + k + j) (o.status j (omega arith)) in rw (line_at ls (2 + k + j) x.there) (status_found (j + 1) (line_fields ls (2 + k + j)) x.fields));
       line_freq = rw (line_at ls at freq.there) (one_found free_scale zero_number (line_fields ls at) freq.fields.many (freq.fields.each 0 (omega arith)));
       nrates = at_place (SpellsOne (natural 999)) ls (at + 1) (3 + k + m) h.nrates nrates.there (omega arith) (one_found (natural 999) 0 (line_fields ls (at + 1)) nrates.fields.many (nrates.fields.each 0 (omega arith)));
       rate_count = refl;
-      rates = each_made (λ i x. SpellsRate (sample_before h.rates i) (line fss (4 + k + m + i)) x) (λ (i : ℕ). rate_value (line_fields ls (at + 2 + i))) 0 r
+      rates = each_made (λ i x. SpellsRate (sample_before h.rates i) (fields_at fss (4 + k + m + i)) x) (λ (i : ℕ). rate_value (line_fields ls (at + 2 + i))) 0 r
           (λ j le lt. let x = line_none ls (rate_rule (rate_before ls (at + 2) j)) (at + 2 + j) (o.rates j (omega arith)) in
           rw (before_is ls (at + 2) r j (omega arith)) (at_place (SpellsRate (rate_before ls (at + 2) j)) ls (at + 2 + j) (4 + k + m + j) (rate_value (line_fields ls (at + 2 + j))) x.there (omega arith) (rate_found (rate_before ls (at + 2) j) (line_fields ls (at + 2 + j)) x.fields)));
       first = at_place SpellsInstant ls (at + 2 + r) (4 + k + m + r) h.first first.there (omega arith) (instant_found (line_fields ls (at + 2 + r)) first.fields);
@@ -258,16 +258,16 @@ spells_only ls h s =
     let trigger : SpellsInstant (line_fields ls (at + 3 + r)) h.trigger = from_place SpellsInstant ls (at + 3 + r) (5 + k + m + r) h.trigger (omega arith) (omega arith) s.trigger in
     let kinds : SpellsOne kind (line_fields ls (at + 4 + r)) h.kind = from_place (SpellsOne kind) ls (at + 4 + r) (6 + k + m + r) h.kind (omega arith) (omega arith) s.kind in
     let timemult : SpellsOne scale (line_fields ls (at + 5 + r)) h.timemult = from_place (SpellsOne scale) ls (at + 5 + r) (7 + k + m + r) h.timemult (omega arith) (omega arith) s.timemult in
-    let analog_line : (j : ℕ) (c : AnalogParts) → j < k → SpellsAnalog (j + 1) (line fss (2 + j)) c → SpellsAnalog (j + 1) (line_fields ls (2 + j)) c =
+    let analog_line : (j : ℕ) (c : AnalogParts) → j < k → SpellsAnalog (j + 1) (fields_at fss (2 + j)) c → SpellsAnalog (j + 1) (line_fields ls (2 + j)) c =
     λ j c lt x. rw (line_at ls (2 + j) (omega arith)) at x in
-    let status_line : (j : ℕ) (c : StatusParts) → j < m → SpellsStatus (j + 1) (line fss (2 + k + j)) c → SpellsStatus (j + 1) (line_fields ls (2 + k + j)) c =
+    let status_line : (j : ℕ) (c : StatusParts) → j < m → SpellsStatus (j + 1) (fields_at fss (2 + k + j)) c → SpellsStatus (j + 1) (line_fields ls (2 + k + j)) c =
     λ j c lt x. rw (line_at ls (2 + k + j) (omega arith)) at x in
-    let rate_line : (j : ℕ) (x : Rate) → j < r → SpellsRate (sample_before h.rates j) (line fss (4 + k + m + j)) x → SpellsRate (sample_before h.rates j) (line_fields ls (at + 2 + j)) x =
+    let rate_line : (j : ℕ) (x : Rate) → j < r → SpellsRate (sample_before h.rates j) (fields_at fss (4 + k + m + j)) x → SpellsRate (sample_before h.rates j) (line_fields ls (at + 2 + j)) x =
     λ j x lt y. from_place (SpellsRate (sample_before h.rates j)) ls (at + 2 + j) (4 + k + m + j) x (omega arith) (omega arith) y in
     let rates : (j : ℕ) → j < r → (x : Rate) × ((slice_get h.rates j ≡ Some x) × SpellsRate (sample_before h.rates j) (line_fields ls (at + 2 + j)) x) = λ j lt.
-    let i = each_at (λ i x. SpellsRate (sample_before h.rates i) (line fss (4 + k + m + i)) x) 0 h.rates j s.rates lt in
+    let i = each_at (λ i x. SpellsRate (sample_before h.rates i) (fields_at fss (4 + k + m + i)) x) 0 h.rates j s.rates lt in
     let z : 0 + j ≡ j = omega arith in
-    let g : SpellsRate (sample_before h.rates j) (line fss (4 + k + m + j)) i.item = rw z at i.holds_it in
+    let g : SpellsRate (sample_before h.rates j) (fields_at fss (4 + k + m + j)) i.item = rw z at i.holds_it in
     (i.item, (i.there, rate_line j i.item lt g)) in
     let before : (j : ℕ) → j < r → sample_before h.rates j ≡ rate_before ls (at + 2) j = λ j lt.
     before_only ls (at + 2) h.rates j lt (λ i il. let p = rates i il in (p.0, (p.1.0, p.1.1.endsamp))) in
@@ -280,14 +280,14 @@ spells_only ls h s =
         names = line_again ls names_rule 0 (omega arith) (names_only (line_fields ls 0) h.station h.device 1 names);
         counts = line_again ls counts_rule 1 (omega arith) (counts_only (line_fields ls 1) k m 2 counts);
         analog = λ j lt.
-            let i = each_at (λ i c. SpellsAnalog (i + 1) (line fss (2 + i)) c) 0 h.analog j s.analog lt in
+            let i = each_at (λ i c. SpellsAnalog (i + 1) (fields_at fss (2 + i)) c) 0 h.analog j s.analog lt in
             let z : 0 + j ≡ j = omega arith in
-            let g : SpellsAnalog (j + 1) (line fss (2 + j)) i.item = rw z at i.holds_it in
+            let g : SpellsAnalog (j + 1) (fields_at fss (2 + j)) i.item = rw z at i.holds_it in
             line_again ls (analog_rule (j + 1)) (2 + j) (omega arith) (analog_only (j + 1) (2 + j + 1) (line_fields ls (2 + j)) i.item (analog_line j i.item lt g));
         status = λ j lt.
-            let i = each_at (λ i c. SpellsStatus (i + 1) (line fss (2 + k + i)) c) 0 h.status j s.status lt in
+            let i = each_at (λ i c. SpellsStatus (i + 1) (fields_at fss (2 + k + i)) c) 0 h.status j s.status lt in
             let z : 0 + j ≡ j = omega arith in
-            let g : SpellsStatus (j + 1) (line fss (2 + k + j)) i.item = rw z at i.holds_it in
+            let g : SpellsStatus (j + 1) (fields_at fss (2 + k + j)) i.item = rw z at i.holds_it in
             line_again ls (status_rule (j + 1)) (2 + k + j) (omega arith) (status_only (j + 1) (2 + k + j + 1) (line_fields ls (2 + k + j)) i.item (status_line j i.item lt g));
         frequency = line_again ls frequency_rule at (omega arith) (frequency_only (at + 1) (line_fields ls at) h.line_freq freq);
         nrates = line_again ls nrates_rule (at + 1) (omega arith) (nrates_only (at + 1 + 1) (line_fields ls (at + 1)) h.nrates nrates);
@@ -304,13 +304,13 @@ spells_only ls h s =
       says = record {
         station = names.station;
         device = names.device;
-        analog = sym (each_same (λ i c. SpellsAnalog (i + 1) (line fss (2 + i)) c) (λ (i : ℕ). analog_value (line_fields ls (2 + i))) 0 h.analog s.analog
+        analog = sym (each_same (λ i c. SpellsAnalog (i + 1) (fields_at fss (2 + i)) c) (λ (i : ℕ). analog_value (line_fields ls (2 + i))) 0 h.analog s.analog
             (λ j c le lt x. analog_same (j + 1) (line_fields ls (2 + j)) c (analog_line j c (omega arith) x)));
-        status = sym (each_same (λ i c. SpellsStatus (i + 1) (line fss (2 + k + i)) c) (λ (i : ℕ). status_value (line_fields ls (2 + k + i))) 0 h.status s.status
+        status = sym (each_same (λ i c. SpellsStatus (i + 1) (fields_at fss (2 + k + i)) c) (λ (i : ℕ). status_value (line_fields ls (2 + k + i))) 0 h.status s.status
             (λ j c le lt x. status_same (j + 1) (line_fields ls (2 + k + j)) c (status_line j c (omega arith) x)));
         line_freq = rw freq.field refl;
         nrates = rw nrates.field refl;
-        rates = sym (each_same (λ i x. SpellsRate (sample_before h.rates i) (line fss (4 + k + m + i)) x) (λ (i : ℕ). rate_value (line_fields ls (at + 2 + i))) 0 h.rates s.rates
+        rates = sym (each_same (λ i x. SpellsRate (sample_before h.rates i) (fields_at fss (4 + k + m + i)) x) (λ (i : ℕ). rate_value (line_fields ls (at + 2 + i))) 0 h.rates s.rates
             (λ j x le lt y. rate_same (sample_before h.rates j) (line_fields ls (at + 2 + j)) x (rate_line j x (omega arith) y)));
         first = sym (instant_same (line_fields ls (at + 2 + r)) h.first first);
         trigger = sym (instant_same (line_fields ls (at + 3 + r)) h.trigger trigger);

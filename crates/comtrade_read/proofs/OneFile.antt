@@ -23,7 +23,7 @@ not_both false e f = absurd cc
 
 no_fields_fault : (r : Rule) (line : ℕ) (fs : List (List ℕ)) (e : ReadFault) → ObeysFields r fs → IsFieldsFault r line fs e → ⊥
 no_fields_fault r line fs e o (few f is) = f o.many
-no_fields_fault r line fs e o (bad many i lt fails before is) = not_both (passes r.tests fs i i) (o.each i lt) fails
+no_fields_fault r line fs e o (bad many i lt fails before is) = not_both (passes r.tests fs i) (o.each i lt) fails
 no_fields_fault r line fs e o (wrong many each fails is) = not_both (r.whole fs) o.whole fails
 
 no_line_fault : (ls : List (List ℕ)) (r : Rule) (n : ℕ) (e : ReadFault) → Obeys ls r n → IsLineFault ls r n e → ⊥

@@ -15,7 +15,7 @@ use Rattle.comtrade_read.specs.Table.{file_fault, line_fault, extra_fault, first
 use Rattle.comtrade_read.specs.Faulty.{AllObey}
 use Rattle.comtrade_read.specs.Ascii.{value, data_lines, row_rule, row_rules, row_value, row_items, row_faults, row_chain, is_end_mark}
 use Rattle.comtrade_read.specs.Pair.{SaysHead}
-use Rattle.comtrade_read.specs.Spells.{EachFrom, line, SpellsAnalog, SpellsStatus, SpellsRate, SpellsHead, SpellsRow, sample_before}
+use Rattle.comtrade_read.specs.Spells.{EachFrom, fields_at, SpellsAnalog, SpellsStatus, SpellsRate, SpellsHead, SpellsRow, sample_before}
 use Rattle.comtrade_read.specs.Reads.{ReadsHead, ReadsAscii}
 use Rattle.comtrade_read.proofs.Each.{all_at, each_at, each_made, each_same, none_each, each_none}
 use Rattle.comtrade_read.proofs.FirstFault.{fields_again, line_none, file_complete, file_sound}
@@ -49,32 +49,32 @@ head_ends ls h s i lt =
     let m = length h.status in
     let r = length h.rates in
     elim (below i 1) [
-      | inl a ↦ moved ls i 0 (omega arith) (no_return (line ls 0) 2 s.names.many (whole_plain (field (line ls 0) 2) _ s.names.revision))
+      | inl a ↦ moved ls i 0 (omega arith) (no_return (fields_at ls 0) 2 s.names.many (whole_plain (field (fields_at ls 0) 2) _ s.names.revision))
       | inr a ↦ elim (below i 2) [
-        | inl b ↦ moved ls i 1 (omega arith) (ends_plain (line ls 1) 2 s.counts.many (count_plain 68 (field (line ls 1) 2) _ refl s.counts.status))
+        | inl b ↦ moved ls i 1 (omega arith) (ends_plain (fields_at ls 1) 2 s.counts.many (count_plain 68 (field (fields_at ls 1) 2) _ refl s.counts.status))
         | inr b ↦ elim (below i (2 + k)) [
           | inl c ↦
-              let x = each_at (λ i c. SpellsAnalog (i + 1) (line ls (2 + i)) c) 0 h.analog (i - 2) s.analog (omega arith) in
-              moved ls i (2 + (0 + (i - 2))) (omega arith) (no_return (line ls (2 + (0 + (i - 2)))) 12 x.holds_it.many (side_plain (field (line ls (2 + (0 + (i - 2)))) 12) _ x.holds_it.side))
+              let x = each_at (λ i c. SpellsAnalog (i + 1) (fields_at ls (2 + i)) c) 0 h.analog (i - 2) s.analog (omega arith) in
+              moved ls i (2 + (0 + (i - 2))) (omega arith) (no_return (fields_at ls (2 + (0 + (i - 2)))) 12 x.holds_it.many (side_plain (field (fields_at ls (2 + (0 + (i - 2)))) 12) _ x.holds_it.side))
           | inr c ↦ elim (below i (2 + k + m)) [
             | inl d ↦
-                let x = each_at (λ i c. SpellsStatus (i + 1) (line ls (2 + k + i)) c) 0 h.status (i - (2 + k)) s.status (omega arith) in
-                moved ls i (2 + k + (0 + (i - (2 + k)))) (omega arith) (no_return (line ls (2 + k + (0 + (i - (2 + k))))) 4 x.holds_it.many (free_bit_plain (field (line ls (2 + k + (0 + (i - (2 + k))))) 4) _ x.holds_it.normal))
+                let x = each_at (λ i c. SpellsStatus (i + 1) (fields_at ls (2 + k + i)) c) 0 h.status (i - (2 + k)) s.status (omega arith) in
+                moved ls i (2 + k + (0 + (i - (2 + k)))) (omega arith) (no_return (fields_at ls (2 + k + (0 + (i - (2 + k))))) 4 x.holds_it.many (free_bit_plain (field (fields_at ls (2 + k + (0 + (i - (2 + k))))) 4) _ x.holds_it.normal))
             | inr d ↦ elim (below i (3 + k + m)) [
-              | inl e ↦ moved ls i (2 + k + m) (omega arith) (no_return (line ls (2 + k + m)) 0 s.line_freq.many (free_scale_plain (field (line ls (2 + k + m)) 0) _ s.line_freq.field))
+              | inl e ↦ moved ls i (2 + k + m) (omega arith) (no_return (fields_at ls (2 + k + m)) 0 s.line_freq.many (free_scale_plain (field (fields_at ls (2 + k + m)) 0) _ s.line_freq.field))
               | inr e ↦ elim (below i (4 + k + m)) [
-                | inl f ↦ moved ls i (3 + k + m) (omega arith) (no_return (line ls (3 + k + m)) 0 s.nrates.many (natural_plain 999 (field (line ls (3 + k + m)) 0) _ s.nrates.field))
+                | inl f ↦ moved ls i (3 + k + m) (omega arith) (no_return (fields_at ls (3 + k + m)) 0 s.nrates.many (natural_plain 999 (field (fields_at ls (3 + k + m)) 0) _ s.nrates.field))
                 | inr f ↦ elim (below i (4 + k + m + r)) [
                   | inl g ↦
-                      let x = each_at (λ i r. SpellsRate (sample_before h.rates i) (line ls (4 + k + m + i)) r) 0 h.rates (i - (4 + k + m)) s.rates (omega arith) in
-                      moved ls i (4 + k + m + (0 + (i - (4 + k + m)))) (omega arith) (no_return (line ls (4 + k + m + (0 + (i - (4 + k + m))))) 1 x.holds_it.many (natural_plain 9999999999 (field (line ls (4 + k + m + (0 + (i - (4 + k + m))))) 1) _ x.holds_it.endsamp))
+                      let x = each_at (λ i r. SpellsRate (sample_before h.rates i) (fields_at ls (4 + k + m + i)) r) 0 h.rates (i - (4 + k + m)) s.rates (omega arith) in
+                      moved ls i (4 + k + m + (0 + (i - (4 + k + m)))) (omega arith) (no_return (fields_at ls (4 + k + m + (0 + (i - (4 + k + m))))) 1 x.holds_it.many (natural_plain 9999999999 (field (fields_at ls (4 + k + m + (0 + (i - (4 + k + m))))) 1) _ x.holds_it.endsamp))
                   | inr g ↦ elim (below i (5 + k + m + r)) [
-                    | inl j ↦ moved ls i (4 + k + m + r) (omega arith) (no_return (line ls (4 + k + m + r)) 1 s.first.many (time_plain (field (line ls (4 + k + m + r)) 1) _ s.first.time))
+                    | inl j ↦ moved ls i (4 + k + m + r) (omega arith) (no_return (fields_at ls (4 + k + m + r)) 1 s.first.many (time_plain (field (fields_at ls (4 + k + m + r)) 1) _ s.first.time))
                     | inr j ↦ elim (below i (6 + k + m + r)) [
-                      | inl l ↦ moved ls i (5 + k + m + r) (omega arith) (no_return (line ls (5 + k + m + r)) 1 s.trigger.many (time_plain (field (line ls (5 + k + m + r)) 1) _ s.trigger.time))
+                      | inl l ↦ moved ls i (5 + k + m + r) (omega arith) (no_return (fields_at ls (5 + k + m + r)) 1 s.trigger.many (time_plain (field (fields_at ls (5 + k + m + r)) 1) _ s.trigger.time))
                       | inr l ↦ elim (below i (7 + k + m + r)) [
-                        | inl o ↦ moved ls i (6 + k + m + r) (omega arith) (no_return (line ls (6 + k + m + r)) 0 s.kind.many (kind_plain (field (line ls (6 + k + m + r)) 0) _ s.kind.field))
-                        | inr o ↦ moved ls i (7 + k + m + r) (omega (arith, s.count)) (no_return (line ls (7 + k + m + r)) 0 s.timemult.many (scale_plain (field (line ls (7 + k + m + r)) 0) _ s.timemult.field))
+                        | inl o ↦ moved ls i (6 + k + m + r) (omega arith) (no_return (fields_at ls (6 + k + m + r)) 0 s.kind.many (kind_plain (field (fields_at ls (6 + k + m + r)) 0) _ s.kind.field))
+                        | inr o ↦ moved ls i (7 + k + m + r) (omega (arith, s.count)) (no_return (fields_at ls (7 + k + m + r)) 0 s.timemult.many (scale_plain (field (fields_at ls (7 + k + m + r)) 0) _ s.timemult.field))
                       ]
                     ]
                   ]
@@ -100,7 +100,7 @@ no_scale fs x h e = let g : scale [] ≡ Some x = rw e at h in absurd cc
 head_full : (ls : List (List (List ℕ))) (h : HeadParts) → SpellsHead ls h → EndsFull ls
 head_full ls h s =
     let n = 7 + length h.analog + length h.status + length h.rates in
-    full_at ls n (omega (arith, s.count)) (no_scale (line ls n) h.timemult s.timemult.field)
+    full_at ls n (omega (arith, s.count)) (no_scale (fields_at ls n) h.timemult s.timemult.field)
 
 -- ---- a configuration file
 
@@ -115,13 +115,13 @@ cfg_only cfg h r =
 
 -- ---- ASCII data
 
-lines_found : (ls : List (List ℕ)) (k m n : ℕ) → AllObey ls (row_rules k m n) → (length ls ≡ n) × EachFrom (λ i r. SpellsRow k m (line (map fields ls) i) r) 0 (row_items k m ls n)
+lines_found : (ls : List (List ℕ)) (k m n : ℕ) → AllObey ls (row_rules k m n) → (length ls ≡ n) × EachFrom (λ i r. SpellsRow k m (fields_at (map fields ls) i) r) 0 (row_items k m ls n)
 lines_found ls k m n o =
     let none : (first_in (row_faults k m ls) n or extra_fault ls n) ≡ None = sym (rows_are ls k m n) ∙ file_complete ls (row_rules k m n) o in
     let p = or-none (first_in (row_faults k m ls) n) (extra_fault ls n) none in
     let each : (i : ℕ) → i < n → line_fault ls (row_rule k m) i ≡ None = λ i lt. none_each (row_faults k m ls) n p.0 i lt in (
       count n each (end_is ls n p.1),
-      each_made (λ i r. SpellsRow k m (line (map fields ls) i) r) (λ (i : ℕ). row_value k m (line_fields ls i)) 0 n (λ j le lt.
+      each_made (λ i r. SpellsRow k m (fields_at (map fields ls) i) r) (λ (i : ℕ). row_value k m (line_fields ls i)) 0 n (λ j le lt.
           let x = line_none ls (row_rule k m) j (each j (omega arith)) in
           let fs = line_fields ls j in
           let len : length fs ≡ 2 + k + m = x.fields.many ∙ row_many k m in
@@ -166,23 +166,23 @@ ascii_only k m dat rows r =
     let text = before_first is_end_mark dat in
     let ls = lines text in
     let n = length rows in
-    let row : (i : ℕ) → i < length r.lines → (x : RowParts) × SpellsRow k m (line r.lines i) x = λ i lt.
-    let x = each_at (λ i r'. SpellsRow k m (line r.lines i) r') 0 rows i r.each (omega (arith, r.count)) in
+    let row : (i : ℕ) → i < length r.lines → (x : RowParts) × SpellsRow k m (fields_at r.lines i) x = λ i lt.
+    let x = each_at (λ i r'. SpellsRow k m (fields_at r.lines i) r') 0 rows i r.each (omega (arith, r.count)) in
     let z : 0 + i ≡ i = omega arith in
-    let g : SpellsRow k m (line r.lines i) x.item = rw z at x.holds_it in
+    let g : SpellsRow k m (fields_at r.lines i) x.item = rw z at x.holds_it in
     (x.item, g) in
     let cut : map fields ls ≡ r.lines = cut_again text r.lines r.joined
-    (all_at EndsPlain [] r.lines (λ i lt. let p = row i lt in row_end k m (line r.lines i) p.0 p.1))
-    (all_full r.lines (λ i lt. let p = row i lt in row_full k m (line r.lines i) p.0 p.1)) in
-    let each : EachFrom (λ i r'. SpellsRow k m (line (map fields ls) i) r') 0 rows = rw cut r.each in
+    (all_at EndsPlain [] r.lines (λ i lt. let p = row i lt in row_end k m (fields_at r.lines i) p.0 p.1))
+    (all_full r.lines (λ i lt. let p = row i lt in row_full k m (fields_at r.lines i) p.0 p.1)) in
+    let each : EachFrom (λ i r'. SpellsRow k m (fields_at (map fields ls) i) r') 0 rows = rw cut r.each in
     let len : length ls ≡ n = sym (length-map ls fields) ∙ ap length cut ∙ r.count in
-    let here : (j : ℕ) (x : RowParts) → j < n → SpellsRow k m (line (map fields ls) j) x → SpellsRow k m (line_fields ls j) x = λ j x lt s. rw (line_at ls j (omega arith)) at s in
+    let here : (j : ℕ) (x : RowParts) → j < n → SpellsRow k m (fields_at (map fields ls) j) x → SpellsRow k m (line_fields ls j) x = λ j x lt s. rw (line_at ls j (omega arith)) at s in
     let faults : first_in (row_faults k m ls) n ≡ None = each_none (row_faults k m ls) n (λ j lt.
-    let x = each_at (λ i r'. SpellsRow k m (line (map fields ls) i) r') 0 rows j each lt in
+    let x = each_at (λ i r'. SpellsRow k m (fields_at (map fields ls) i) r') 0 rows j each lt in
     let z : 0 + j ≡ j = omega arith in
-    let g : SpellsRow k m (line (map fields ls) j) x.item = rw z at x.holds_it in
+    let g : SpellsRow k m (fields_at (map fields ls) j) x.item = rw z at x.holds_it in
     line_again ls (row_rule k m) j (omega arith) (row_only k m (j + 1) (line_fields ls j) x.item (here j x.item lt g))) in
     let none : file_fault ls (row_rules k m n) ≡ None = rows_are ls k m n ∙ rw (faults, end_again ls n len) refl in (
       file_sound ls (row_rules k m n) none,
-      each_same (λ i r'. SpellsRow k m (line (map fields ls) i) r') (λ (i : ℕ). row_value k m (line_fields ls i)) 0 rows each (λ j x le lt s. row_same k m (line_fields ls j) x (here j x (omega arith) s)),
+      each_same (λ i r'. SpellsRow k m (fields_at (map fields ls) i) r') (λ (i : ℕ). row_value k m (line_fields ls i)) 0 rows each (λ j x le lt s. row_same k m (line_fields ls j) x (here j x (omega arith) s)),
     )

@@ -6,12 +6,12 @@ use Rattle.dfr_channels.specs.Lines.{field, line_fields}
 use Rattle.comtrade_read.specs.Table.{Rule, plain, always}
 
 -- whether field i, from 0, can be read
-abbrev pub passes : List (List ℕ → Bool) → List (List ℕ) → ℕ → ℕ → Bool
-passes tests fs i at = (slice_index_or tests i always) (field fs at)
+abbrev pub passes : List (List ℕ → Bool) → List (List ℕ) → ℕ → Bool
+passes tests fs i = (slice_index_or tests i always) (field fs i)
 
 pub record ObeysFields (r : Rule) (fs : List (List ℕ)) : Type 0 where
   pub many : length fs ≡ length r.tests
-  pub each : (i : ℕ) → i < length r.tests → passes r.tests fs i i ≡ true
+  pub each : (i : ℕ) → i < length r.tests → passes r.tests fs i ≡ true
   pub whole : r.whole fs ≡ true
 
 -- the line at place n is there, and of this kind
@@ -22,8 +22,13 @@ pub record Obeys (ls : List (List ℕ)) (r : Rule) (n : ℕ) : Type 0 where
 -- the first fault of the fields of a line
 pub data IsFieldsFault (r : Rule) (line : ℕ) (fs : List (List ℕ)) (e : ReadFault) : Type 0 where
   few : length fs ≢ length r.tests → e ≡ r.few line (length fs) → IsFieldsFault r line fs e
-  bad : length fs ≡ length r.tests → (i : ℕ) → i < length r.tests → passes r.tests fs i i ≡ false → ((j : ℕ) → j < i → passes r.tests fs j j ≡ true) → e ≡ r.bad line (i + 1) → IsFieldsFault r line fs e
-  wrong : length fs ≡ length r.tests → ((i : ℕ) → i < length r.tests → passes r.tests fs i i ≡ true) → r.whole fs ≡ false → e ≡ r.wrong line → IsFieldsFault r line fs e
+  bad : length fs ≡ length r.tests
+      → (i : ℕ) → i < length r.tests → passes r.tests fs i ≡ false
+      → ((j : ℕ) → j < i → passes r.tests fs j ≡ true)
+      → e ≡ r.bad line (i + 1) → IsFieldsFault r line fs e
+  wrong : length fs ≡ length r.tests
+      → ((i : ℕ) → i < length r.tests → passes r.tests fs i ≡ true)
+      → r.whole fs ≡ false → e ≡ r.wrong line → IsFieldsFault r line fs e
 
 -- the first fault of the line at place n
 pub data IsLineFault (ls : List (List ℕ)) (r : Rule) (n : ℕ) (e : ReadFault) : Type 0 where

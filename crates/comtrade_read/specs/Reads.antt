@@ -8,7 +8,7 @@ use Rattle.comtrade_write.specs.declared.file.Kind.TheVariants.{Ascii, Binary}
 use Rattle.comtrade_write.specs.Parts.{HeadParts, RowParts, FileParts}
 use Rattle.comtrade_write.specs.Binary.{row_bytes}
 use Rattle.comtrade_read.specs.Joined.{IsJoined}
-use Rattle.comtrade_read.specs.Spells.{SpellsHead, SpellsRow, EachFrom, line}
+use Rattle.comtrade_read.specs.Spells.{SpellsHead, SpellsRow, EachFrom, fields_at}
 use Rattle.comtrade_read.specs.Ascii.{is_end_mark}
 use Rattle.comtrade_read.specs.Data.{row_count}
 
@@ -23,7 +23,7 @@ pub record ReadsAscii (k m : ℕ) (dat : List ℕ) (rows : List RowParts) : Type
   pub lines : List (List (List ℕ))
   pub joined : IsJoined (before_first is_end_mark dat) lines
   pub count : length lines ≡ length rows
-  pub each : EachFrom (λ i r. SpellsRow k m (line lines i) r) 0 rows
+  pub each : EachFrom (λ i r. SpellsRow k m (fields_at lines i) r) 0 rows
 
 -- a value whose bytes aren't those of a missing one
 abbrev pub IsPresent : Reading → Type 0

@@ -15,8 +15,8 @@ EachFrom P n [] = Unit {0}
 EachFrom P n (x ∷ xs) = P n x × EachFrom P (n + 1) xs
 
 -- the fields of line n, from 0
-abbrev pub line : List (List (List ℕ)) → ℕ → List (List ℕ)
-line ls n = slice_index_or ls n []
+abbrev pub fields_at : List (List (List ℕ)) → ℕ → List (List ℕ)
+fields_at ls n = slice_index_or ls n []
 
 -- station, recording device and the year of the standard
 pub record SpellsNames (fs : List (List ℕ)) (first second : List ℕ) : Type 0 where
@@ -86,18 +86,18 @@ sample_before rates i = if i == 0 then 0 else unwrap_or (option_map (λ r. r.end
 -- the lines spell the head, in this order; where there is no rate there is one rate line
 pub record SpellsHead (ls : List (List (List ℕ))) (h : HeadParts) : Type 0 where
   pub count : length ls ≡ 8 + length h.analog + length h.status + length h.rates
-  pub names : SpellsNames (line ls 0) h.station h.device
-  pub counts : SpellsCounts (line ls 1) (length h.analog) (length h.status)
-  pub analog : EachFrom (λ i c. SpellsAnalog (i + 1) (line ls (2 + i)) c) 0 h.analog
-  pub status : EachFrom (λ i c. SpellsStatus (i + 1) (line ls (2 + length h.analog + i)) c) 0 h.status
-  pub line_freq : SpellsOne free_scale (line ls (2 + length h.analog + length h.status)) h.line_freq
-  pub nrates : SpellsOne (natural 999) (line ls (3 + length h.analog + length h.status)) h.nrates
+  pub names : SpellsNames (fields_at ls 0) h.station h.device
+  pub counts : SpellsCounts (fields_at ls 1) (length h.analog) (length h.status)
+  pub analog : EachFrom (λ i c. SpellsAnalog (i + 1) (fields_at ls (2 + i)) c) 0 h.analog
+  pub status : EachFrom (λ i c. SpellsStatus (i + 1) (fields_at ls (2 + length h.analog + i)) c) 0 h.status
+  pub line_freq : SpellsOne free_scale (fields_at ls (2 + length h.analog + length h.status)) h.line_freq
+  pub nrates : SpellsOne (natural 999) (fields_at ls (3 + length h.analog + length h.status)) h.nrates
   pub rate_count : length h.rates ≡ max 1 h.nrates
-  pub rates : EachFrom (λ i r. SpellsRate (sample_before h.rates i) (line ls (4 + length h.analog + length h.status + i)) r) 0 h.rates
-  pub first : SpellsInstant (line ls (4 + length h.analog + length h.status + length h.rates)) h.first
-  pub trigger : SpellsInstant (line ls (5 + length h.analog + length h.status + length h.rates)) h.trigger
-  pub kind : SpellsOne kind (line ls (6 + length h.analog + length h.status + length h.rates)) h.kind
-  pub timemult : SpellsOne scale (line ls (7 + length h.analog + length h.status + length h.rates)) h.timemult
+  pub rates : EachFrom (λ i r. SpellsRate (sample_before h.rates i) (fields_at ls (4 + length h.analog + length h.status + i)) r) 0 h.rates
+  pub first : SpellsInstant (fields_at ls (4 + length h.analog + length h.status + length h.rates)) h.first
+  pub trigger : SpellsInstant (fields_at ls (5 + length h.analog + length h.status + length h.rates)) h.trigger
+  pub kind : SpellsOne kind (fields_at ls (6 + length h.analog + length h.status + length h.rates)) h.kind
+  pub timemult : SpellsOne scale (fields_at ls (7 + length h.analog + length h.status + length h.rates)) h.timemult
 
 -- an ASCII row of k values and m bits
 pub record SpellsRow (k m : ℕ) (fs : List (List ℕ)) (r : RowParts) : Type 0 where

@@ -65,6 +65,6 @@ Gives view fault value (Ok x) = (fault ≡ None) × (view x ≡ value)
 Gives view fault value (Err e) = e ≢ faults.Memory → fault ≡ Some e
 
 -- what reading a field gave
-abbrev pub Field : {A : Type 0} → Option A → ReadFault → Result A ReadFault → Type 0
-Field read fault (Ok x) = read ≡ Some x
-Field read fault (Err e) = (read ≡ None) × (e ≡ fault)
+abbrev pub GivesField : {A : Type 0} → Option A → ReadFault → Result A ReadFault → Type 0
+GivesField read fault (Ok x) = read ≡ Some x
+GivesField read fault (Err e) = (read ≡ None) × (e ≡ fault)

@@ -6,7 +6,7 @@ ghost use Rattle.comtrade_read.specs.declared.fault.ReadFault.TheVariants as fau
 ghost use Rattle.dfr_channels.specs.Lines.{texts, field};
 ghost use Rattle.comtrade_read.specs.Fields as spec;
 ghost use Rattle.comtrade_read.specs.Head as head;
-ghost use Rattle.comtrade_read.specs.Table.{Gives, Field};
+ghost use Rattle.comtrade_read.specs.Table.{Gives, GivesField};
 
 use crate::fault::ReadFault;
 use comtrade_write::Kind;
@@ -16,7 +16,7 @@ use std::alloc::Allocator;
 /// The value of a field, or the fault of its place.
 pub(crate) fn needed<T>(read: Option<T>, line: u64, i: u32) -> Result<T, ReadFault>
     requires { i + 1 < 2 ^ 32 }
-    ensures { Field read (faults.Number line (i + 1)) result }
+    ensures { GivesField read (faults.Number line (i + 1)) result }
 {
     match read {
         Some(value) => Ok(value),
@@ -40,7 +40,7 @@ pub(crate) fn up_to(high: u64, number: Option<i128>) -> Option<u64>
 pub(crate) fn whole_of(line: u64, fields: &[&[u8]], i: u32) -> Result<i128, ReadFault>
     requires small { i + 1 < 2 ^ 32 }
     requires in_line { i < length fields.now }
-    ensures { Field (spec.whole (field (texts fields.now) i)) (faults.Number line (i + 1)) result }
+    ensures { GivesField (spec.whole (field (texts fields.now) i)) (faults.Number line (i + 1)) result }
 {
     needed(integer_of(fields[i as usize]), line, i)
 }
@@ -58,7 +58,7 @@ pub(crate) fn natural(text: &[u8], high: u64) -> Option<u64>
 pub(crate) fn natural_of(line: u64, fields: &[&[u8]], i: u32, high: u64) -> Result<u64, ReadFault>
     requires small { i + 1 < 2 ^ 32 }
     requires in_line { i < length fields.now }
-    ensures value { Field (spec.natural high (field (texts fields.now) i)) (faults.Number line (i + 1)) result }
+    ensures value { GivesField (spec.natural high (field (texts fields.now) i)) (faults.Number line (i + 1)) result }
     ensures bound { IfOk result (λ n. n ≤ high) }
 {
     needed(natural(fields[i as usize], high), line, i)
@@ -79,7 +79,7 @@ pub(crate) fn within(number: Option<i128>) -> Option<i32>
 pub(crate) fn small_of(line: u64, fields: &[&[u8]], i: u32) -> Result<i32, ReadFault>
     requires small { i + 1 < 2 ^ 32 }
     requires in_line { i < length fields.now }
-    ensures { Field (spec.small (field (texts fields.now) i)) (faults.Number line (i + 1)) result }
+    ensures { GivesField (spec.small (field (texts fields.now) i)) (faults.Number line (i + 1)) result }
 {
     needed(within(integer_of(fields[i as usize])), line, i)
 }
@@ -89,7 +89,7 @@ pub(crate) fn small_of(line: u64, fields: &[&[u8]], i: u32) -> Result<i32, ReadF
 pub(crate) fn scale_of(line: u64, fields: &[&[u8]], i: u32) -> Result<Decimal, ReadFault>
     requires small { i + 1 < 2 ^ 32 }
     requires in_line { i < length fields.now }
-    ensures { Field (spec.scale (field (texts fields.now) i)) (faults.Number line (i + 1)) result }
+    ensures { GivesField (spec.scale (field (texts fields.now) i)) (faults.Number line (i + 1)) result }
 {
     needed(Decimal::read(fields[i as usize]), line, i)
 }
@@ -110,7 +110,7 @@ fn free_scale(text: &[u8]) -> Option<Decimal>
 pub(crate) fn free_scale_of(line: u64, fields: &[&[u8]], i: u32) -> Result<Decimal, ReadFault>
     requires small { i + 1 < 2 ^ 32 }
     requires in_line { i < length fields.now }
-    ensures { Field (spec.free_scale (field (texts fields.now) i)) (faults.Number line (i + 1)) result }
+    ensures { GivesField (spec.free_scale (field (texts fields.now) i)) (faults.Number line (i + 1)) result }
 {
     needed(free_scale(fields[i as usize]), line, i)
 }
@@ -142,7 +142,7 @@ pub(crate) fn count_of(line: u64, fields: &[&[u8]], i: u32, letter: u8) -> Resul
     requires small { i + 1 < 2 ^ 32 }
     requires in_line { i < length fields.now }
     requires letter { letter < 128 }
-    ensures value { Field (spec.count letter (field (texts fields.now) i)) (faults.Number line (i + 1)) result }
+    ensures value { GivesField (spec.count letter (field (texts fields.now) i)) (faults.Number line (i + 1)) result }
     ensures bound { IfOk result (λ n. n < 1000000) }
 {
     needed(count(fields[i as usize], letter), line, i)
@@ -164,7 +164,7 @@ fn side(text: &[u8]) -> Option<Side>
 pub(crate) fn side_of(line: u64, fields: &[&[u8]], i: u32) -> Result<Side, ReadFault>
     requires small { i + 1 < 2 ^ 32 }
     requires in_line { i < length fields.now }
-    ensures { Field (spec.side (field (texts fields.now) i)) (faults.Number line (i + 1)) result }
+    ensures { GivesField (spec.side (field (texts fields.now) i)) (faults.Number line (i + 1)) result }
 {
     needed(side(fields[i as usize]), line, i)
 }
@@ -196,7 +196,7 @@ fn free_bit(text: &[u8]) -> Option<bool>
 pub(crate) fn free_bit_of(line: u64, fields: &[&[u8]], i: u32) -> Result<bool, ReadFault>
     requires small { i + 1 < 2 ^ 32 }
     requires in_line { i < length fields.now }
-    ensures { Field (spec.free_bit (field (texts fields.now) i)) (faults.Number line (i + 1)) result }
+    ensures { GivesField (spec.free_bit (field (texts fields.now) i)) (faults.Number line (i + 1)) result }
 {
     needed(free_bit(fields[i as usize]), line, i)
 }
@@ -226,7 +226,7 @@ fn kind(text: &[u8]) -> Option<Kind>
 /// The kind of the data.
 pub(crate) fn kind_of(fields: &[&[u8]]) -> Result<Kind, ReadFault>
     requires { 0 < length fields.now }
-    ensures { Field (head.kind (field (texts fields.now) 0)) faults.Kind result }
+    ensures { GivesField (head.kind (field (texts fields.now) 0)) faults.Kind result }
 {
     match kind(fields[0]) {
         Some(kind) => Ok(kind),

@@ -5,7 +5,7 @@ ghost use Rattle.std.specs.List.{before_first, after_first};
 ghost use Rattle.jiff_core.specs.Calendar.{IsBetween, IsDate, days_from_civil};
 ghost use Rattle.comtrade_read.specs.declared.fault.ReadFault.TheVariants as faults;
 ghost use Rattle.comtrade_read.specs.Instant as spec;
-ghost use Rattle.comtrade_read.specs.Table.{Field};
+ghost use Rattle.comtrade_read.specs.Table.{GivesField};
 ghost use Rattle.dfr_channels.specs.Lines.{texts, field};
 
 use crate::fault::ReadFault;
@@ -134,7 +134,7 @@ fn time(text: &[u8]) -> Option<u64>
 /// The day number of a date field.
 pub(crate) fn date_of(line: u64, fields: &[&[u8]]) -> Result<i32, ReadFault>
     requires { 0 < length fields.now }
-    ensures value { Field (spec.date (field (texts fields.now) 0)) (faults.Instant line) result }
+    ensures value { GivesField (spec.date (field (texts fields.now) 0)) (faults.Instant line) result }
     ensures bound { IfOk result (λ n. IsBetween (neg_ℤ (pos 4371587)) (pos 2932896) n) }
 {
     match date(fields[0]) {
@@ -146,7 +146,7 @@ pub(crate) fn date_of(line: u64, fields: &[&[u8]]) -> Result<i32, ReadFault>
 /// The microseconds of a time field.
 pub(crate) fn time_of(line: u64, fields: &[&[u8]]) -> Result<u64, ReadFault>
     requires { 1 < length fields.now }
-    ensures value { Field (spec.time (field (texts fields.now) 1)) (faults.Instant line) result }
+    ensures value { GivesField (spec.time (field (texts fields.now) 1)) (faults.Instant line) result }
     ensures bound { IfOk result (λ n. n < 86400000000) }
 {
     match time(fields[1]) {
