@@ -1,5 +1,6 @@
 pub mod Cuts
 pub mod CutFields
+pub mod FirstByte
 pub mod FirstFault
 pub mod PlainBits
 pub mod PlainNumbers

@@ -6,6 +6,7 @@ pub mod Limits
 pub mod RuleLines
 pub mod ScanLines
 pub mod Plain
+pub mod PlainBits
 pub mod Settings
 pub mod Parts
 pub mod Drafts

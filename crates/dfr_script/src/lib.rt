@@ -9,6 +9,7 @@ mod fields;
 mod limit_line;
 mod line;
 mod plain;
+mod plain_bits;
 mod rule_line;
 mod scan_line;
 mod script;

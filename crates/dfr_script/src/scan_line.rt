@@ -10,7 +10,9 @@ use crate::fault::{LineRefusal, Word};
 use crate::fields::{bit_of, needed, small_of};
 use crate::line::is_word;
 use crate::plain::plain_field;
+use crate::plain_bits::plain_bits;
 use dfr_channels::{Reading, Scan, trim};
+use memchr::memchr;
 use std::alloc::Allocator;
 
 /// How many readings and bits the set-up's scans have: the room to make for a line's.
@@ -23,7 +25,7 @@ pub(crate) struct Size {
 fn place_of_stroke(rest: &[u8]) -> Option<usize>
     ensures { result ≡ position spec.is_stroke rest.now }
 {
-    rest.iter().position(|b| *b == b'/')
+    memchr(b'/', rest)
 }
 
 fn place_of_comma(text: &[u8]) -> Option<usize>
@@ -97,29 +99,29 @@ fn readings_of<A: Allocator>(
 }
 
 /// The bit that a text begins with, and what stands behind its comma if it has one.
-#[tactic(auto, using(crate::proofs::PlainBits::plain_bits))]
 fn next_bit(text: &[u8]) -> (Option<bool>, Option<&[u8]>)
     ensures all { spec.reads_all bit (spec.fields text.now) ≡ (is_some result.0 && spec.reads_all bit (spec.fields_behind (option_copied result.1))) }
     ensures values { filter_map bit (spec.fields text.now) ≡ option_to_list result.0 ++ filter_map bit (spec.fields_behind (option_copied result.1)) }
     ensures shorter { IfSome result.1 (λ behind. length behind.now < length text.now) }
 {
-    match text {
-        [b'0', b',', behind @ ..] => (Some(false), Some(behind)),
-        [b'1', b',', behind @ ..] => (Some(true), Some(behind)),
-        _ => {
-            let (field, behind) = at_comma(text);
-            (bit_of(field), behind)
-        }
-    }
+    let (field, behind) = at_comma(text);
+    (bit_of(field), behind)
 }
 
 /// The bits between the commas of a part; none in an empty one.
 #[tactic(auto, unfolding(crate::specs::ScanLines::part_fields))]
-fn bits_of<A: Allocator>(alloc: A, part: &[u8], room: usize) -> Result<Vec<bool, A>, LineRefusal>
+fn bits_of<A: Allocator + Copy>(
+    alloc: A,
+    part: &[u8],
+    room: usize,
+) -> Result<Vec<bool, A>, LineRefusal>
     ensures { Gives (λ v. v.items) (spec.bits_fault part.now) (spec.bits_value part.now) result }
 {
     if trim(part).is_empty() {
         return Ok(Vec::new(alloc));
+    }
+    if let Some(bits) = plain_bits(alloc, part)? {
+        return Ok(bits);
     }
     let mut list = Vec::with_capacity(alloc, room.min(part.len() / 2 + 1))?;
     let mut left = Some(part);
