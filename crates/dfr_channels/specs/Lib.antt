@@ -2,6 +2,7 @@ pub mod Faults
 pub mod Spelling
 pub mod Written
 pub mod Lines
+pub mod PlainNumbers
 pub mod Texts
 pub mod Parts
 pub mod Setups

@@ -1,6 +1,8 @@
 //! How texts and numbers are spelled.
 
-use crate::{Decimal, Items, fields_of, integer_of, lines_of, trim, without_blank_end};
+use crate::{
+    Decimal, Items, fields_of, integer_of, lines_of, plain_number, trim, without_blank_end,
+};
 use std::test::Fail;
 
 fn reads(text: &[u8], units: i128, places: u8) -> bool {
@@ -84,6 +86,43 @@ fn whole_numbers(rt: HostRuntime) -> Result<(), Fail> {
     assert_eq!(rt; integer_of(&zeros), Some(1));
     assert!(rt; reads(&zeros, 1, 0));
     Ok(())
+}
+
+/// Whether a text begins with this number in its plain spelling, with so many bytes behind its comma.
+fn begins(text: &[u8], number: i64, behind: usize) -> bool {
+    match plain_number(text) {
+        Some((found, Some(rest))) => found == number && rest.len() == behind,
+        _ => false,
+    }
+}
+
+/// Whether a text is this number in its plain spelling.
+fn is_number(text: &[u8], number: i64) -> bool {
+    match plain_number(text) {
+        Some((found, None)) => found == number,
+        _ => false,
+    }
+}
+
+#[test]
+fn plain_numbers(rt: HostRuntime) {
+    assert!(rt; begins(b"12,-7", 12, 2));
+    assert!(rt; begins(b"-32767,", -32_767, 0));
+    assert!(rt; begins(b"9999999999,1 ", 9_999_999_999, 2));
+    assert!(rt; is_number(b"007", 7));
+    assert!(rt; is_number(b"-0", 0));
+    for text in [
+        b"".as_slice(),
+        b"-",
+        b",1",
+        b"+1",
+        b" 1,2",
+        b"1 ,2",
+        b"1a",
+        b"10000000000",
+    ] {
+        assert!(rt; plain_number(text).is_none());
+    }
 }
 
 #[test]

@@ -1,0 +1,79 @@
+//! Numbers in their plain spelling, read in one pass.
+
+ghost use Rattle.std.specs.Prelude.{◌≡◌, ◌-◌, ◌≤◌, ◌<◌, ◌<ℤ◌, ◌^◌, ◌∷◌, IfSome, option_copied, true, length, take, if◌then◌else◌, pos, negsuc, neg_ℤ};
+ghost use Rattle.std.specs.Str.{all_ascii_digits};
+ghost use Rattle.std.specs.Str.Parse.{digits_value};
+ghost use Rattle.dfr_channels.specs.PlainNumbers.{DigitsFirst, Begins};
+
+/// Whether a minus stands first, and what follows it.
+fn without_minus(text: &[u8]) -> (bool, &[u8])
+    ensures cut { text.now ≡ (if result.0 then 45 ∷ result.1.now else result.1.now) }
+{
+    match text {
+        [b'-', rest @ ..] => (true, rest),
+        _ => (false, text),
+    }
+}
+
+/// The digits at the front of a text, ten at most: how many, and the number that they make.
+fn digits_at(text: &[u8]) -> (usize, u64)
+    ensures within { result.0 ≤ length text.now }
+    ensures digits { all_ascii_digits (take result.0 text.now) ≡ true }
+    ensures value { result.1 ≡ digits_value 10 (take result.0 text.now) }
+    ensures small { result.1 < 10 ^ 10 }
+{
+    let mut count = 0;
+    let mut number: u64 = 0;
+    while count < text.len() && count < 10 {
+        let digit = text[count];
+        if !digit.is_ascii_digit() {
+            return (count, number);
+        }
+        number = number * 10 + (digit - b'0') as u64;
+        count += 1;
+    }
+    (count, number)
+}
+
+/// The number of the one to ten digits that a text begins with, and what stands behind its comma if it has one.
+fn plain_digits(text: &[u8]) -> Option<(u64, Option<&[u8]>)>
+    ensures first { IfSome result (λ r. DigitsFirst text.now r.0 (option_copied r.1)) }
+    ensures small { IfSome result (λ r. r.0 < 10 ^ 10) }
+    ensures shorter { IfSome result (λ r. IfSome r.1 (λ behind. length behind.now < length text.now)) }
+{
+    let (count, number) = digits_at(text);
+    if count == 0 {
+        return None;
+    }
+    match &text[count..] {
+        [] => Some((number, None)),
+        [b',', behind @ ..] => Some((number, Some(behind))),
+        _ => None,
+    }
+}
+
+/// The number with this sign.
+fn signed(minus: bool, number: u64) -> i64
+    requires { number < 10 ^ 10 }
+    ensures value { result ≡ (if minus then neg_ℤ (pos number) else pos number) }
+    ensures above { negsuc (10 ^ 10 - 1) <ℤ result }
+    ensures below { result <ℤ pos (10 ^ 10) }
+{
+    let number = number as i64;
+    if minus { -number } else { number }
+}
+
+/// The number that a text begins with, and what stands behind its comma if it has one, where the field is a minus or nothing
+/// and one to ten digits. None says no more than that the field is spelled otherwise.
+pub fn plain_number(text: &[u8]) -> Option<(i64, Option<&[u8]>)>
+    ensures first { IfSome result (λ r. Begins text.now r.0 (option_copied r.1)) }
+    ensures above { IfSome result (λ r. negsuc (10 ^ 10 - 1) <ℤ r.0) }
+    ensures below { IfSome result (λ r. r.0 <ℤ pos (10 ^ 10)) }
+    ensures shorter { IfSome result (λ r. IfSome r.1 (λ behind. length behind.now < length text.now)) }
+{
+    let (minus, digits) = without_minus(text);
+    match plain_digits(digits) {
+        Some((number, behind)) => Some((signed(minus, number), behind)),
+        None => None,
+    }
+}
