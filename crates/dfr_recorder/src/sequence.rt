@@ -66,7 +66,7 @@ pub fn run<A: Allocator + Copy>(
     ensures list { take (length result.answers.items) steps.items ++ option_to_list result.stopped ++ result.rest.items ≡ steps.items }
     ensures run { IsRun recorder (map step_of (take (length result.answers.items) steps.items)) (map answer_of result.answers.items) result.recorder }
     ensures told { All (λ answer. is_memory (answer_of answer) ≡ false) result.answers.items }
-    ensures own { All (λ answer. IsOwnAnswer recorder.layout (answer_of answer)) result.answers.items }
+    ensures own { All (λ answer. IsOwnAnswer result.recorder.layout (answer_of answer)) result.answers.items }
     ensures opening { (result.recorder.layout ≡ recorder.layout) × (result.recorder.limits ≡ recorder.limits) }
     ensures whole { result.stopped ≡ None → result.rest.items ≡ [] }
 {

@@ -1,4 +1,4 @@
-use Rattle.std.proofs.Common.{rules, refl, ℕ, ◌+◌, ◌≤◌, ◌≡◌, ◌++◌, [], ◌∷◌, List, suc, length, map, take, drop, sym, ap, subst, ◌∙◌, arith, length-append}
+use Rattle.std.proofs.Common.{All, rules, refl, ℕ, ◌+◌, ◌≤◌, ◌≡◌, ◌++◌, [], ◌∷◌, List, suc, length, map, take, drop, sym, ap, subst, ◌∙◌, arith, length-append}
 use Rattle.dfr_recorder.specs.Steps.{StepParts, step_of}
 use Rattle.dfr_recorder.specs.declared.step.Answer.{Answer}
 use Rattle.std.proofs.lemmas.List.Elements.{All-same, All-push, All-nil}
@@ -30,14 +30,15 @@ loop-step-preserved g c =
     let Q : List AnswerParts → Type 0 = λ b. IsRun c.args.recorder (map step_of (take n c.args.steps.items) ++ step_of c.in-Some.step ∷ []) b c.make.new.recorder in
     let more : IsRun c.args.recorder (map step_of (take n c.args.steps.items) ++ step_of c.in-Some.step ∷ []) (map answer_of c.loop-step.answers.items ++ answer_of c.in-Ok.answer ∷ []) c.make.new.recorder =
     run_more c.args.recorder c.loop-step.recorder c.make.new.recorder (map step_of (take n c.args.steps.items)) (map answer_of c.loop-step.answers.items) (step_of c.in-Some.step) (answer_of c.in-Ok.answer) c.loop-step.invariant.ran c.in-Ok.ensures.ok in
-    let own : OwnTo c.args.recorder.layout c.in-Ok.answer = subst (λ (l : SetupParts). OwnTo l c.in-Ok.answer) c.loop-step.invariant.layout c.in-Ok.ensures.own in
+    let own : All (OwnTo c.loop-step.recorder.layout) c.push_reserved.new.self.items =
+    All-same (OwnTo c.loop-step.recorder.layout) c.push_reserved.new.self.items (c.loop-step.answers.items ++ c.in-Ok.answer ∷ []) pushed (All-push (OwnTo c.loop-step.recorder.layout) c.loop-step.answers.items c.in-Ok.answer c.loop-step.invariant.own c.in-Ok.ensures.own) in
     let room = room_next n c.args.steps.items c.in-Some.step c.pop_front.new.self.items front in
     record {
       few = omega (arith, longer, room);
       left = sym (ap (λ m. drop m c.args.steps.items) longer ∙ drop_next n c.args.steps.items c.in-Some.step c.pop_front.new.self.items front);
       ran = subst P (sym made) (subst Q (sym told) more);
       told = All-same NotMemory c.push_reserved.new.self.items (c.loop-step.answers.items ++ c.in-Ok.answer ∷ []) pushed (All-push NotMemory c.loop-step.answers.items c.in-Ok.answer c.loop-step.invariant.told c.in-Ok.ensures.told);
-      own = All-same (OwnTo c.args.recorder.layout) c.push_reserved.new.self.items (c.loop-step.answers.items ++ c.in-Ok.answer ∷ []) pushed (All-push (OwnTo c.args.recorder.layout) c.loop-step.answers.items c.in-Ok.answer c.loop-step.invariant.own own);
+      own = subst (λ (l : SetupParts). All (OwnTo l) c.push_reserved.new.self.items) (sym c.make.ensures.opening.0) own;
       layout = c.make.ensures.opening.0 ∙ c.loop-step.invariant.layout;
       limits = c.make.ensures.opening.1 ∙ c.loop-step.invariant.limits;
     }
@@ -97,10 +98,12 @@ pub returns-then-is_err-clause-told : goal.returns-then-is_err-clause-told
 returns-then-is_err-clause-told g c = All-same NotMemory c.reserve.new.self.items c.loop-step.answers.items c.reserve.ensures.items c.loop-step.invariant.told
 
 pub returns-then-is_err-clause-own : goal.returns-then-is_err-clause-own
-returns-then-is_err-clause-own g c = All-same (OwnTo c.args.recorder.layout) c.reserve.new.self.items c.loop-step.answers.items c.reserve.ensures.items c.loop-step.invariant.own
+returns-then-is_err-clause-own g c = All-same (OwnTo c.loop-step.recorder.layout) c.reserve.new.self.items c.loop-step.answers.items c.reserve.ensures.items c.loop-step.invariant.own
 
 pub returns-in-Err-clause-own : goal.returns-in-Err-clause-own
-returns-in-Err-clause-own g c = All-same (OwnTo c.args.recorder.layout) c.reserve.new.self.items c.loop-step.answers.items c.reserve.ensures.items c.loop-step.invariant.own
+returns-in-Err-clause-own g c =
+    let own : All (OwnTo c.loop-step.recorder.layout) c.reserve.new.self.items = All-same (OwnTo c.loop-step.recorder.layout) c.reserve.new.self.items c.loop-step.answers.items c.reserve.ensures.items c.loop-step.invariant.own in
+    subst (λ (l : SetupParts). All (OwnTo l) c.reserve.new.self.items) (sym c.make.ensures.opening.0) own
 
 pub returns-in-Err-clause-told : goal.returns-in-Err-clause-told
 returns-in-Err-clause-told g c = All-same NotMemory c.reserve.new.self.items c.loop-step.answers.items c.reserve.ensures.items c.loop-step.invariant.told

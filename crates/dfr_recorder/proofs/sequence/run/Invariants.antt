@@ -11,7 +11,7 @@ invariant-loop-step g l = record {
   left : l.rest.items ≡ drop (length l.answers.items) l.fn.steps.items;
   ran : IsRun l.fn.recorder (map step_of (take (length l.answers.items) l.fn.steps.items)) (map answer_of l.answers.items) l.recorder;
   told : All (λ answer. is_memory (answer_of answer) ≡ false) l.answers.items;
-  own : All (λ answer. IsOwnAnswer l.fn.recorder.layout (answer_of answer)) l.answers.items;
+  own : All (λ answer. IsOwnAnswer l.recorder.layout (answer_of answer)) l.answers.items;
   layout : l.recorder.layout ≡ l.fn.recorder.layout;
   limits : l.recorder.limits ≡ l.fn.recorder.limits;
 }
