@@ -5,7 +5,7 @@ ghost use Rattle.std.specs.List.{All};
 ghost use Rattle.dfr_recorder.specs.Steps.{step_of};
 ghost use Rattle.dfr_recorder.specs.Answers.{answer_of, is_memory};
 ghost use Rattle.dfr_recorder.specs.Kept.{IsStep};
-ghost use Rattle.dfr_recorder.specs.Run.{IsRun};
+ghost use Rattle.dfr_recorder.specs.Run.{IsRun, IsOwnAnswer};
 
 use crate::{Answer, Recorder, ScanRefusal, Step, TriggerFault};
 use std::alloc::{Allocator, Global};
@@ -28,6 +28,8 @@ fn make<A: Allocator + Copy>(
 ) -> Result<Answer<A>, Step<A>>
     ensures ok { IfOk result (λ answer. IsStep recorder.old (step_of step) (answer_of answer) recorder.new) }
     ensures told { IfOk result (λ answer. is_memory (answer_of answer) ≡ false) }
+    ensures own { IfOk result (λ answer. IsOwnAnswer recorder.old.layout (answer_of answer)) }
+    ensures opening { (recorder.new.layout ≡ recorder.old.layout) × (recorder.new.limits ≡ recorder.old.limits) }
     ensures err { IfErr result (λ back. (back ≡ step) × (recorder.new ≡ recorder.old)) }
 {
     match step {
@@ -54,7 +56,8 @@ fn make<A: Allocator + Copy>(
     }
 }
 
-/// Makes the steps in order, each after room was made for its answer. Where a growth is refused it stops before that step.
+/// Makes the steps in order, each after room was made for its answer. Where a growth is refused it stops before that step. The
+/// recorder keeps its layout and its limits, and each record that a step takes is the layout's own.
 pub fn run<A: Allocator + Copy>(
     alloc: A,
     recorder: Recorder<A>,
@@ -63,6 +66,8 @@ pub fn run<A: Allocator + Copy>(
     ensures list { take (length result.answers.items) steps.items ++ option_to_list result.stopped ++ result.rest.items ≡ steps.items }
     ensures run { IsRun recorder (map step_of (take (length result.answers.items) steps.items)) (map answer_of result.answers.items) result.recorder }
     ensures told { All (λ answer. is_memory (answer_of answer) ≡ false) result.answers.items }
+    ensures own { All (λ answer. IsOwnAnswer result.recorder.layout (answer_of answer)) result.answers.items }
+    ensures opening { (result.recorder.layout ≡ recorder.layout) × (result.recorder.limits ≡ recorder.limits) }
     ensures whole { result.stopped ≡ None → result.rest.items ≡ [] }
 {
     let mut recorder = recorder;

@@ -1,17 +1,21 @@
-use Rattle.std.proofs.Common.{rules, ℕ, ◌+◌, ◌≤◌, ◌≡◌, ◌++◌, [], ◌∷◌, List, suc, length, map, take, drop, sym, ap, subst, ◌∙◌, arith, length-append}
+use Rattle.std.proofs.Common.{All, rules, refl, ℕ, ◌+◌, ◌≤◌, ◌≡◌, ◌++◌, [], ◌∷◌, List, suc, length, map, take, drop, sym, ap, subst, ◌∙◌, arith, length-append}
 use Rattle.dfr_recorder.specs.Steps.{StepParts, step_of}
 use Rattle.dfr_recorder.specs.declared.step.Answer.{Answer}
 use Rattle.std.proofs.lemmas.List.Elements.{All-same, All-push, All-nil}
 use Rattle.dfr_recorder.specs.Answers.{AnswerParts, answer_of, is_memory}
 use Rattle.std.specs.Vec.{vec_len, vec_capacity}
 use Rattle.dfr_recorder.specs.Kept.{Kept}
-use Rattle.dfr_recorder.specs.Run.{IsRun}
+use Rattle.dfr_channels.specs.Parts.{SetupParts}
+use Rattle.dfr_recorder.specs.Run.{IsRun, IsOwnAnswer}
 use Rattle.dfr_recorder.proofs.Runs.{run_more, take_next, drop_next, room_next, map_push, take_then, nothing_in, ok_gives, run_none, take_rest}
 use Rattle.std.specs.Prelude.{is_err, option_to_list, Some, false}
 use Rattle.dfr_recorder.proofs.sequence.run.Goals as goal
 
 abbrev NotMemory : {A : Type 0} → Answer A → Type 0
 NotMemory answer = is_memory (answer_of answer) ≡ false
+
+abbrev OwnTo : {A : Type 0} → SetupParts → Answer A → Type 0
+OwnTo layout answer = IsOwnAnswer layout (answer_of answer)
 
 pub loop-step-preserved : goal.loop-step-preserved
 loop-step-preserved g c =
@@ -26,12 +30,17 @@ loop-step-preserved g c =
     let Q : List AnswerParts → Type 0 = λ b. IsRun c.args.recorder (map step_of (take n c.args.steps.items) ++ step_of c.in-Some.step ∷ []) b c.make.new.recorder in
     let more : IsRun c.args.recorder (map step_of (take n c.args.steps.items) ++ step_of c.in-Some.step ∷ []) (map answer_of c.loop-step.answers.items ++ answer_of c.in-Ok.answer ∷ []) c.make.new.recorder =
     run_more c.args.recorder c.loop-step.recorder c.make.new.recorder (map step_of (take n c.args.steps.items)) (map answer_of c.loop-step.answers.items) (step_of c.in-Some.step) (answer_of c.in-Ok.answer) c.loop-step.invariant.ran c.in-Ok.ensures.ok in
+    let own : All (OwnTo c.loop-step.recorder.layout) c.push_reserved.new.self.items =
+    All-same (OwnTo c.loop-step.recorder.layout) c.push_reserved.new.self.items (c.loop-step.answers.items ++ c.in-Ok.answer ∷ []) pushed (All-push (OwnTo c.loop-step.recorder.layout) c.loop-step.answers.items c.in-Ok.answer c.loop-step.invariant.own c.in-Ok.ensures.own) in
     let room = room_next n c.args.steps.items c.in-Some.step c.pop_front.new.self.items front in
     record {
       few = omega (arith, longer, room);
       left = sym (ap (λ m. drop m c.args.steps.items) longer ∙ drop_next n c.args.steps.items c.in-Some.step c.pop_front.new.self.items front);
       ran = subst P (sym made) (subst Q (sym told) more);
       told = All-same NotMemory c.push_reserved.new.self.items (c.loop-step.answers.items ++ c.in-Ok.answer ∷ []) pushed (All-push NotMemory c.loop-step.answers.items c.in-Ok.answer c.loop-step.invariant.told c.in-Ok.ensures.told);
+      own = subst (λ (l : SetupParts). All (OwnTo l) c.push_reserved.new.self.items) (sym c.make.ensures.opening.0) own;
+      layout = c.make.ensures.opening.0 ∙ c.loop-step.invariant.layout;
+      limits = c.make.ensures.opening.1 ∙ c.loop-step.invariant.limits;
     }
 
 pub returns-then-is_err-clause-run : goal.returns-then-is_err-clause-run
@@ -74,6 +83,9 @@ loop-step-init g c =
       left = sym (ap (λ l. drop (length l) c.args.steps.items) none);
       ran = subst P (sym none) (run_none c.args.recorder);
       told = All-same NotMemory c.new-answers.result.items [] none (All-nil NotMemory);
+      own = All-same (OwnTo c.args.recorder.layout) c.new-answers.result.items [] none (All-nil (OwnTo c.args.recorder.layout));
+      layout = refl;
+      limits = refl;
     }
 
 pub returns-then-is_err-clause-list : goal.returns-then-is_err-clause-list
@@ -84,6 +96,14 @@ returns-then-is_err-clause-list g c =
 
 pub returns-then-is_err-clause-told : goal.returns-then-is_err-clause-told
 returns-then-is_err-clause-told g c = All-same NotMemory c.reserve.new.self.items c.loop-step.answers.items c.reserve.ensures.items c.loop-step.invariant.told
+
+pub returns-then-is_err-clause-own : goal.returns-then-is_err-clause-own
+returns-then-is_err-clause-own g c = All-same (OwnTo c.loop-step.recorder.layout) c.reserve.new.self.items c.loop-step.answers.items c.reserve.ensures.items c.loop-step.invariant.own
+
+pub returns-in-Err-clause-own : goal.returns-in-Err-clause-own
+returns-in-Err-clause-own g c =
+    let own : All (OwnTo c.loop-step.recorder.layout) c.reserve.new.self.items = All-same (OwnTo c.loop-step.recorder.layout) c.reserve.new.self.items c.loop-step.answers.items c.reserve.ensures.items c.loop-step.invariant.own in
+    subst (λ (l : SetupParts). All (OwnTo l) c.reserve.new.self.items) (sym c.make.ensures.opening.0) own
 
 pub returns-in-Err-clause-told : goal.returns-in-Err-clause-told
 returns-in-Err-clause-told g c = All-same NotMemory c.reserve.new.self.items c.loop-step.answers.items c.reserve.ensures.items c.loop-step.invariant.told
