@@ -22,3 +22,5 @@ pub mod WrittenDates
 pub mod WrittenRows
 pub mod WrittenHead
 pub mod ReadBack
+pub mod PlainRows
+pub mod EndMark
