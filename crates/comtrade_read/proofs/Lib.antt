@@ -30,3 +30,5 @@ pub mod HeadTaken
 pub mod HeadClean
 pub mod WrittenHead
 pub mod ReadBack
+pub mod PlainRows
+pub mod EndMark

@@ -11,3 +11,4 @@ pub mod Spells
 pub mod Reads
 pub mod Pair
 pub mod ReadBack
+pub mod PlainRows

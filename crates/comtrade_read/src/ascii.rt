@@ -13,10 +13,11 @@ ghost use Rattle.comtrade_read.specs.Ascii as spec;
 use crate::cells::{field_count, first_field};
 use crate::fault::ReadFault;
 use crate::fields::{bit, natural, needed, within};
-use crate::instant::place_of;
 use crate::place::end_at;
+use crate::plain_rows::plain_row;
 use comtrade_write::Row;
 use dfr_channels::{Items, Reading, integer_of, lines_of, without_blank_end};
+use memchr::memchr;
 use std::alloc::Allocator;
 
 /// A stamp, or none where nothing stands.
@@ -132,6 +133,9 @@ fn row_of<A: Allocator + Copy>(
     requires m { m < 1000000 }
     ensures { Gives (λ x. x) (fields_fault (spec.row_rule k m) line (fields text.now)) (spec.row_value k m (fields text.now)) result }
 {
+    if let Some(row) = plain_row(alloc, text, k, m)? {
+        return Ok(row);
+    }
     if field_count(text) != 2 + k as usize + m as usize {
         return Err(ReadFault::Fields(line));
     }
@@ -170,7 +174,9 @@ fn rows_of<A: Allocator + Copy>(
     requires m { m < 1000000 }
     ensures { Gives (λ v. v.items) (first_in (spec.row_faults k m (texts lines.now)) count) (spec.row_items k m (texts lines.now) count) result }
 {
-    let mut list = Vec::new(alloc);
+    // the head may claim more rows than there are lines
+    let room = count.min(lines.len() as u64);
+    let mut list = Vec::with_capacity(alloc, room as usize)?;
     for i in 0..count {
         list.push(row_at(alloc, lines, i as usize, k, m)?)?;
     }
@@ -195,11 +201,10 @@ fn all_rows<A: Allocator + Copy>(
 }
 
 /// What stands before the first byte 1A.
-#[tactic(auto, using(dfr_channels::proofs::Cuts::cuts))]
 fn before_end_mark(dat: &[u8]) -> &[u8]
     ensures { result.now ≡ before_first spec.is_end_mark dat.now }
 {
-    match place_of(dat, 0x1A) {
+    match memchr(0x1A, dat) {
         Some(at) => &dat[..at],
         None => dat,
     }

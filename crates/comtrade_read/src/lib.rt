@@ -14,6 +14,7 @@ mod instant;
 mod laws;
 mod pair;
 mod place;
+mod plain_rows;
 mod settings;
 
 pub use data::read_dat;

@@ -1,163 +1,47 @@
--- Numbers in their plain spelling are what the full rule reads.
-use Rattle.std.proofs.Common.{append-nil, add-one, ◌≡◌, ℕ, suc, zero, ◌+◌, ◌-◌, ◌*◌, ◌^◌, ◌<◌, ◌≤◌, Bool, true, false, eqb, List, [], ◌∷◌, ◌++◌, length, map, take, drop, get_or, reverse, Option, Some, None, refl, ap, ◌∙◌, arith}
-use Rattle.std.specs.Prelude.{not, nat_lt, ◌&&◌, pos, negsuc, neg_ℤ}
-use Rattle.std.specs.List.{list_all, slice_split}
-use Rattle.std.specs.Char.{digit_value, is_ascii_digit}
-use Rattle.std.specs.Str.{all_ascii_digits}
-use Rattle.std.specs.Str.Parse.{digits_value, digits_value_after}
-use Rattle.std.proofs.lemmas.Bool.{lt-ltb, le-leb}
-use Rattle.std.proofs.lemmas.Bool.Decides.{nat_tests}
-use Rattle.std.proofs.lemmas.List.{reverse-reverse, take_all}
-use mathlib.Core.List.{reverse_aux}
-use Rattle.std.proofs.Math.Nat.{pow-suc, pow-le-pow_right}
-use Rattle.std.proofs.lemmas.Grind.{common_steps}
-use Rattle.dfr_channels.specs.Spelling.{is_numeral, trimmed, trim_start, whole_number}
+-- A number in its plain spelling is a reading, where it fits.
+use Rattle.std.proofs.Common.{◌≡◌, ℕ, ◌^◌, ◌≤◌, Bool, true, false, cond, eqb, ltb, List, [], ◌∷◌, length, Option, Some, None, refl, ap, ◌∙◌, arith}
+use Rattle.std.specs.Prelude.{◌&&◌, ℤ, pos, negsuc, ◌≤ℤ◌}
+use Rattle.std.specs.Str.Parse.{digits_value, signed_digits_value}
+use Rattle.std.proofs.lemmas.Bool.{eqb-true, le-leb}
+use Rattle.std.proofs.lemmas.Int.{ints}
+use Rattle.dfr_channels.specs.Spelling.{whole_number}
+use Rattle.dfr_channels.specs.PlainNumbers as numbers
 use Rattle.dfr_channels.specs.declared.scan.Reading.TheVariants.{Value}
-use Rattle.dfr_script.specs.Words.{is_blank}
 use Rattle.dfr_script.specs.Fields.{small, within}
-use Rattle.dfr_script.specs.ScanLines.{is_comma, fields, fields_behind, reading}
-use Rattle.dfr_script.specs.Plain.{tail, DigitsFirst, Begins}
+use Rattle.dfr_script.specs.ScanLines.{fields, fields_behind, reading}
+use Rattle.dfr_script.specs.Plain.{Begins}
 
--- neither a comma nor a blank
-abbrev is_solid : ℕ → Bool
-is_solid b = not (is_comma b) && not (is_blank b)
+none_is : {P : Type 0} (a b : Bool) (v : Option ℤ) (z : ℤ) → cond ((a && false) && b) v None ≡ Some z → P
+none_is true b v z h = absurd cc
+none_is false b v z h = absurd cc
 
-both : (a b : Bool) → (a && b) ≡ true → (a ≡ true) × (b ≡ true)
-both true b h = (refl, h)
-both false b h = absurd cc
+no_star : {P : Type 0} (x : ℕ) (xs : List ℕ) (z : ℤ) → x ≡ 42 → whole_number (x ∷ xs) ≡ Some z → P
+no_star x xs z is h =
+    let g : whole_number (42 ∷ xs) ≡ Some z = rw is at h in
+    none_is (ltb 0 (length (42 ∷ xs))) (ltb (digits_value 10 (42 ∷ xs)) (10 ^ 36)) (Some (signed_digits_value 10 (42 ∷ xs))) z g
 
-no : (a : Bool) → not a ≡ true → a ≡ false
-no true h = absurd cc
-no false h = refl
+reads : (f : List ℕ) (z : ℤ) → whole_number f ≡ Some z → within (negsuc 2147483647) (pos 2147483647) (Some z) ≡ Some z → reading f ≡ Some (Value z)
+unfolding reading small
+reads [] z h w = absurd cc
+reads (x ∷ xs) z h w = with_test (eqb x 42) refl
+  where
+    with_test : (b : Bool) → eqb x 42 ≡ b → reading (x ∷ xs) ≡ Some (Value z)
+    with_test true e = no_star x xs z (eqb-true x 42 e) h
+    with_test false e = rw (e, h, w) refl
 
-digit_solid : (d : ℕ) → is_ascii_digit d ≡ true → is_solid d ≡ true
-digit_solid d h = grind (arith, nat_tests)
+fits : (z : ℤ) → negsuc 2147483647 ≤ℤ z → z ≤ℤ pos 2147483647 → within (negsuc 2147483647) (pos 2147483647) (Some z) ≡ Some z
+fits (pos v) low high = let few : v ≤ 2147483647 = omega (arith, ints) in rw (le-leb v 2147483647 few) refl
+fits (negsuc v) low high = let few : v ≤ 2147483647 = omega (arith, ints) in rw (le-leb v 2147483647 few) refl
 
-digits_solid : (ds : List ℕ) → all_ascii_digits ds ≡ true → list_all is_solid ds ≡ true
-digits_solid [] h = refl
-digits_solid (d ∷ ds) h =
-    let p = both (is_ascii_digit d) (all_ascii_digits ds) h in
-    rw (digit_solid d p.0, digits_solid ds p.1) refl
-
--- ---- cutting
-
-split_end : (f : List ℕ) → list_all is_solid f ≡ true → slice_split is_comma f ≡ f ∷ []
-split_end [] h = refl
-split_end (x ∷ xs) h =
-    let p = both (is_solid x) (list_all is_solid xs) h in
-    let q = both (not (is_comma x)) (not (is_blank x)) p.0 in
-    rw (no (is_comma x) q.0, split_end xs p.1) refl
-
-split_comma : (f rest : List ℕ) → list_all is_solid f ≡ true → slice_split is_comma (f ++ 44 ∷ rest) ≡ f ∷ slice_split is_comma rest
-split_comma [] rest h = refl
-split_comma (x ∷ xs) rest h =
-    let p = both (is_solid x) (list_all is_solid xs) h in
-    let q = both (not (is_comma x)) (not (is_blank x)) p.0 in
-    rw (no (is_comma x) q.0, split_comma xs rest p.1) refl
-
-start_solid : (f : List ℕ) → list_all is_solid f ≡ true → trim_start f ≡ f
-start_solid [] h = refl
-start_solid (x ∷ xs) h =
-    let p = both (is_solid x) (list_all is_solid xs) h in
-    let q = both (not (is_comma x)) (not (is_blank x)) p.0 in
-    rw (no (is_blank x) q.1) refl
-
-onto_solid : (f acc : List ℕ) → list_all is_solid f ≡ true → list_all is_solid acc ≡ true → list_all is_solid (reverse_aux f acc) ≡ true
-onto_solid [] acc h k = k
-onto_solid (x ∷ xs) acc h k =
-    let p = both (is_solid x) (list_all is_solid xs) h in
-    onto_solid xs (x ∷ acc) p.1 (rw (p.0, k) refl)
-
-reverse_solid : (f : List ℕ) → list_all is_solid f ≡ true → list_all is_solid (reverse f) ≡ true
-reverse_solid f h = onto_solid f [] h refl
-
-trimmed_solid : (f : List ℕ) → list_all is_solid f ≡ true → trimmed f ≡ f
-trimmed_solid f h = rw (start_solid f h, start_solid (reverse f) (reverse_solid f h)) (reverse-reverse f)
-
-cut_solid : (f : List ℕ) (behind : Option (List ℕ)) → list_all is_solid f ≡ true → fields (f ++ tail behind) ≡ f ∷ fields_behind behind
+same_behind : (behind : Option (List ℕ)) → numbers.fields_behind behind ≡ fields_behind behind
 unfolding fields
-cut_solid f None h = let e : f ++ [] ≡ f = append-nil f in rw e (ap (map trimmed) (split_end f h) ∙ rw (trimmed_solid f h) refl)
-cut_solid f (Some rest) h = ap (map trimmed) (split_comma f rest h) ∙ rw (trimmed_solid f h) refl
+same_behind None = refl
+same_behind (Some text) = refl
 
--- ---- reading
-
-not_sign : (d : ℕ) → is_ascii_digit d ≡ true → (eqb d 45 ≡ false) × (eqb d 43 ≡ false) × (eqb d 42 ≡ false)
-not_sign d h = (grind (arith, nat_tests), grind (arith, nat_tests), grind (arith, nat_tests))
-
-numeral : (ds : List ℕ) → 0 < length ds → all_ascii_digits ds ≡ true → digits_value 10 ds < 10 ^ 9 → (is_numeral ds && nat_lt (digits_value 10 ds) (10 ^ 36)) ≡ true
-numeral ds some all few =
-    let v : digits_value 10 ds < 10 ^ 36 = omega (arith, few) in
-    rw (lt-ltb 0 (length ds) some, all, lt-ltb (digits_value 10 ds) (10 ^ 36) v) refl
-
-whole_digits : (ds : List ℕ) → 0 < length ds → all_ascii_digits ds ≡ true → digits_value 10 ds < 10 ^ 9 → whole_number ds ≡ Some (pos (digits_value 10 ds))
-whole_digits [] some all few = absurd (omega arith)
-whole_digits (d ∷ ds) some all few =
-    let s = not_sign d (both (is_ascii_digit d) (all_ascii_digits ds) all).0 in
-    rw (s.0, s.1, numeral (d ∷ ds) some all few) refl
-
-whole_minus : (ds : List ℕ) → 0 < length ds → all_ascii_digits ds ≡ true → digits_value 10 ds < 10 ^ 9 → whole_number (45 ∷ ds) ≡ Some (neg_ℤ (pos (digits_value 10 ds)))
-whole_minus ds some all few = rw (numeral ds some all few) refl
-
-fits : (v : ℕ) → v < 10 ^ 9 → within (negsuc 2147483647) (pos 2147483647) (Some (pos v)) ≡ Some (pos v)
-fits v few = let t : v ≤ 2147483647 = omega (arith, few) in rw (le-leb v 2147483647 t) refl
-
-fits_minus : (v : ℕ) → v < 10 ^ 9 → within (negsuc 2147483647) (pos 2147483647) (Some (neg_ℤ (pos v))) ≡ Some (neg_ℤ (pos v))
-fits_minus zero few = refl
-fits_minus (suc n) few = let t : n ≤ 2147483647 = omega (arith, few) in rw (le-leb n 2147483647 t) refl
-
-pub reads_digits : (ds : List ℕ) → 0 < length ds → all_ascii_digits ds ≡ true → digits_value 10 ds < 10 ^ 9 → reading ds ≡ Some (Value (pos (digits_value 10 ds)))
-unfolding reading small
-reads_digits [] some all few = absurd (omega arith)
-reads_digits (d ∷ ds) some all few =
-    let s = not_sign d (both (is_ascii_digit d) (all_ascii_digits ds) all).0 in
-    rw (s.2, whole_digits (d ∷ ds) some all few, fits (digits_value 10 (d ∷ ds)) few) refl
-
-pub reads_minus : (ds : List ℕ) → 0 < length ds → all_ascii_digits ds ≡ true → digits_value 10 ds < 10 ^ 9 → reading (45 ∷ ds) ≡ Some (Value (neg_ℤ (pos (digits_value 10 ds))))
-unfolding reading small
-reads_minus ds some all few = rw (whole_minus ds some all few, fits_minus (digits_value 10 ds) few) refl
-
--- ---- the two forms
-
-pub begins_digits : (text : List ℕ) (n : ℕ) (behind : Option (List ℕ)) → DigitsFirst text n behind → n < 10 ^ 9 → Begins text (pos n) behind
-begins_digits text n behind d few =
-    let small : digits_value 10 d.digits < 10 ^ 9 = rw d.value at few in
-    record {
-      field = d.digits;
-      cut = rw d.cut (cut_solid d.digits behind (digits_solid d.digits d.all));
-      says = rw d.value (reads_digits d.digits d.some d.all small);
-    }
-
-pub begins_minus : (text rest : List ℕ) (n : ℕ) (behind : Option (List ℕ)) → text ≡ 45 ∷ rest → DigitsFirst rest n behind → n < 10 ^ 9 → Begins text (neg_ℤ (pos n)) behind
-begins_minus text rest n behind is d few =
-    let small : digits_value 10 d.digits < 10 ^ 9 = rw d.value at few in
-    let solid : list_all is_solid (45 ∷ d.digits) ≡ true = digits_solid d.digits d.all in
-    record {
-      field = 45 ∷ d.digits;
-      cut = rw (is, d.cut) (cut_solid (45 ∷ d.digits) behind solid);
-      says = rw d.value (reads_minus d.digits d.some d.all small);
-    }
-
--- ---- a digit more
-
-pub digits_more : (ds : List ℕ) (d : ℕ) → all_ascii_digits ds ≡ true → is_ascii_digit d ≡ true → all_ascii_digits (ds ++ d ∷ []) ≡ true
-digits_more [] d h k = rw k refl
-digits_more (x ∷ xs) d h k =
-    let p = both (is_ascii_digit x) (all_ascii_digits xs) h in
-    rw (p.0, digits_more xs d p.1 k) refl
-
-pub value_more : (ds : List ℕ) (d n : ℕ) → digits_value_after 10 n (ds ++ d ∷ []) ≡ digits_value_after 10 n ds * 10 + digit_value d
-value_more [] d n = refl
-value_more (x ∷ xs) d n = value_more xs d (n * 10 + digit_value x)
-
-pub digit_is : (c : ℕ) → is_ascii_digit c ≡ true → (digit_value c ≡ c - 48) × (c - 48 < 10)
-digit_is c d = (grind (arith, common_steps), grind (arith, common_steps))
-
-pub room : (n i d : ℕ) → n < 10 ^ i → i < 9 → d < 10 → (n * 10 + d < 10 ^ 9) × (n * 10 + d < 10 ^ (i + 1))
-room n i d h few digit =
-    let more : n * 10 + d < 10 ^ (i + 1) = rw (add-one, pow-suc) (omega arith) in
-    let top : 10 ^ (i + 1) ≤ 10 ^ 9 = pow-le-pow_right {n = 10} (omega arith) {i = i + 1} {j = 9} (omega arith) in
-    (omega arith, more)
-
-pub one_and_rest : (text : List ℕ) → 1 ≤ length text → get_or text 0 0 ≡ 45 → text ≡ 45 ∷ take (length text - 1) (drop 1 text)
-one_and_rest [] h e = absurd (omega arith)
-one_and_rest (x ∷ xs) h e = let t : length xs ≤ suc (length xs) - 1 = omega arith in rw (e, take_all (suc (length xs) - 1) xs t) refl
+pub begins : (text : List ℕ) (z : ℤ) (behind : Option (List ℕ)) → numbers.Begins text z behind → negsuc 2147483647 ≤ℤ z → z ≤ℤ pos 2147483647 → Begins text z behind
+unfolding fields
+begins text z behind b low high = record {
+  field = b.field;
+  cut = b.cut ∙ ap (λ (fs : List (List ℕ)). b.field ∷ fs) (same_behind behind);
+  says = reads b.field z b.says (fits z low high);
+}

@@ -1,22 +1,7 @@
--- A text that begins with a number in its plain spelling.
-use Rattle.std.specs.Prelude.{◌≡◌, ℕ, ◌<◌, true, List, [], ◌∷◌, ◌++◌, length, Option, Some, None, ℤ}
-use Rattle.std.specs.Str.{all_ascii_digits}
-use Rattle.std.specs.Str.Parse.{digits_value}
+-- A text that begins with a reading in its plain spelling.
+use Rattle.std.specs.Prelude.{◌≡◌, List, ◌∷◌, Option, Some, ℕ, ℤ}
 use Rattle.dfr_channels.specs.declared.scan.Reading.TheVariants.{Value}
 use Rattle.dfr_script.specs.ScanLines.{fields, fields_behind, reading}
-
--- a comma and what stands behind it, or the end
-abbrev pub tail : Option (List ℕ) → List ℕ
-tail None = []
-tail (Some behind) = 44 ∷ behind
-
--- digits that make this number stand first
-pub record DigitsFirst (text : List ℕ) (number : ℕ) (behind : Option (List ℕ)) : Type 0 where
-  pub digits : List ℕ
-  pub some : 0 < length digits
-  pub all : all_ascii_digits digits ≡ true
-  pub value : number ≡ digits_value 10 digits
-  pub cut : text ≡ digits ++ tail behind
 
 -- a field that reads as this number stands first
 pub record Begins (text : List ℕ) (number : ℤ) (behind : Option (List ℕ)) : Type 0 where

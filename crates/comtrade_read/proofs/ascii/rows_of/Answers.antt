@@ -7,11 +7,11 @@ use Rattle.comtrade_read.proofs.FirstFault.{starts, goes_on, stops}
 use Rattle.comtrade_read.proofs.ascii.rows_of.Goals as goal
 
 pub loop-i-init : goal.loop-i-init
-loop-i-init g c = record { sound = starts (row_faults c.args.k c.args.m (texts c.args.lines.now)); same = c.new-list.ensures.items }
+loop-i-init g c = record { sound = starts (row_faults c.args.k c.args.m (texts c.args.lines.now)); same = c.in_ok-list.ensures.items }
 
 pub returns-in_err-row_at : goal.returns-in_err-row_at
 returns-in_err-row_at g c =
-    let p = err_from_is_err_and c.from_residual.result c.from_residual.ensures.1 in
+    let p = err_from_is_err_and c.from_residual-in_err-row_at.result c.from_residual-in_err-row_at.ensures.1 in
     rw (p.1, p.2) (λ n. stops (row_faults c.args.k c.args.m (texts c.args.lines.now)) c.in_err-row_at.field-0.0 c.loop-i.i c.args.count c.loop-i.invariant.sound (c.in_err-row_at.ensures n) c.loop-i-test.true)
 
 pub loop-i-preserved : goal.loop-i-preserved

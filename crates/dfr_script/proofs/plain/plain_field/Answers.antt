@@ -1,18 +1,18 @@
-use Rattle.std.proofs.Common.{◌≡◌, ℕ, List, get_or, arith, w32, to_z, of_z}
-use Rattle.std.specs.Prelude.{pos, neg_ℤ, ◌-ℤ◌}
+use Rattle.std.proofs.Common.{◌≡◌, ℤ, false, w32, w64, to_z, of_z, arith}
+use Rattle.std.specs.Prelude.{pos, negsuc, ◌≤ℤ◌}
+use Rattle.std.specs.Int.Signed.{lt_z}
 use Rattle.std.proofs.lemmas.Int.{ints}
-use Rattle.dfr_script.proofs.PlainNumbers.{begins_digits, begins_minus, one_and_rest}
+use Rattle.dfr_script.proofs.PlainNumbers.{begins}
 use Rattle.dfr_script.proofs.plain.plain_field.Goals as goal
 
-pub returns-in-Some-clause-first : goal.returns-in-Some-clause-first
-returns-in-Some-clause-first c =
-    let text : List ℕ = c.args.text.now in
-    let minus : get_or text 0 0 ≡ 45 = omega arith in
-    let is = one_and_rest text c.in-45.len_at_least minus in
-    let same : to_z w32 (of_z w32 (pos 0 -ℤ to_z w32 c.in-Some.number)) ≡ neg_ℤ (pos c.in-Some.number) = omega (arith, ints, c.in-Some.ensures.small) in
-    rw same (begins_minus text _ _ _ is c.in-Some.ensures.first c.in-Some.ensures.small)
+not_below : (a b : ℤ) → lt_z a b ≡ false → b ≤ℤ a
+not_below a b e = grind (arith, ints)
 
-pub returns-in-Some-plain_digits-clause-first : goal.returns-in-Some-plain_digits-clause-first
-returns-in-Some-plain_digits-clause-first c =
-    let same : to_z w32 c.in-Some-plain_digits.number ≡ pos c.in-Some-plain_digits.number = omega (arith, ints, c.in-Some-plain_digits.ensures.small) in
-    rw same (begins_digits _ _ _ c.in-Some-plain_digits.ensures.first c.in-Some-plain_digits.ensures.small)
+pub returns-clause-first : goal.returns-clause-first
+returns-clause-first c =
+    let z : ℤ = c.in_ok-number.number in
+    let wide : to_z w64 (of_z w64 z) ≡ z = omega (arith, ints, c.in_ok-number.ensures.above, c.in_ok-number.ensures.below) in
+    let low : negsuc 2147483647 ≤ℤ z = not_below z (negsuc 2147483647) (rw wide at c.if-number.false) in
+    let high : z ≤ℤ pos 2147483647 = not_below (pos 2147483647) z (rw wide at c.if-number-2.false) in
+    let narrow : to_z w32 (of_z w32 z) ≡ z = omega (arith, ints) in
+    rw (wide, narrow) (begins c.args.text.now z _ c.in_ok-number.ensures.first low high)

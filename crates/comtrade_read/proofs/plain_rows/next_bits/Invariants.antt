@@ -1,0 +1,14 @@
+use Rattle.std.proofs.Common.{◌≡◌, vec_len}
+use Rattle.std.specs.Prelude.{option_copied, vec_capacity}
+use Rattle.std.specs.Prelude.{false}
+use Rattle.dfr_channels.specs.PlainNumbers.{fields_behind}
+use Rattle.comtrade_read.specs.Fields.{bit}
+use Rattle.comtrade_read.specs.PlainRows.{AreNext}
+use Rattle.comtrade_read.proofs.plain_rows.next_bits.Given as goal
+
+abbrev pub invariant-loop-i : goal.invariant-loop-i
+invariant-loop-i g l = record {
+  count : vec_len l.list ≡ l._i;
+  room : vec_capacity l.list ≡ l.count;
+  read : AreNext bit false (fields_behind (option_copied l.text)) l._i l.list.items (fields_behind (option_copied l.left));
+}

@@ -1,0 +1,23 @@
+-- What a row in the writers' spelling says of its fields.
+use Rattle.std.specs.Prelude.{◌≡◌, ℕ, ◌≤◌, List, ◌∷◌, length, drop, Option, Some, None}
+use Rattle.comtrade_write.specs.Parts.{RowParts}
+use Rattle.comtrade_read.specs.Table.{first_in, fields_fault}
+use Rattle.comtrade_read.specs.Ascii.{cells, cell_faults, row_rule, row_value}
+
+-- the first field reads as x, and these stand behind it
+pub record IsNext {A : Type 0} (read : List ℕ → Option A) (fs : List (List ℕ)) (x : A) (behind : List (List ℕ)) : Type 0 where
+  pub first : List ℕ
+  pub cut : fs ≡ first ∷ behind
+  pub says : read first ≡ Some x
+
+-- the first fields, so many, read as the items, and these stand behind them
+pub record AreNext {A : Type 0} (read : List ℕ → Option A) (d : A) (fs : List (List ℕ)) (count : ℕ) (items : List A) (behind : List (List ℕ)) : Type 0 where
+  pub there : count ≤ length fs
+  pub sound : (line at : ℕ) → first_in (cell_faults read line at fs) count ≡ None
+  pub same : items ≡ cells read d fs count
+  pub rest : behind ≡ drop count fs
+
+-- the fields of a line have no fault as a row, and say this one
+pub record IsRow (k m : ℕ) (fs : List (List ℕ)) (row : RowParts) : Type 0 where
+  pub sound : (line : ℕ) → fields_fault (row_rule k m) line fs ≡ None
+  pub same : row ≡ row_value k m fs
