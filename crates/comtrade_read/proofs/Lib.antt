@@ -18,6 +18,7 @@ pub mod HeadSpelled
 pub mod NoReturn
 pub mod TextSpelled
 pub mod BinaryNumbers
+pub mod BinaryGroups
 pub mod RowBytes
 pub mod OneFile
 pub mod Numerals

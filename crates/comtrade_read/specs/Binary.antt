@@ -33,6 +33,10 @@ bit_of bytes j = bit_at (little_number 2 (drop (2 * (j / 16)) bytes)) (j % 16) =
 abbrev pub bits_at : ℕ → List ℕ → List Bool
 bits_at count bytes = map (bit_of bytes) (range_with_len 0 count)
 
+-- the lowest bits of a group
+abbrev pub group_bits : ℕ → ℕ → List Bool
+group_bits count group = map (λ i. bit_at group i == 1) (range_with_len 0 count)
+
 -- the row that begins these bytes
 unfoldable pub row_at : ℕ → ℕ → List ℕ → RowParts
 row_at k m bytes = record {

@@ -1,6 +1,7 @@
 //! The rows of a binary data file (C37.111-1999, clause 6).
 
-ghost use Rattle.std.specs.Prelude.{◌≡◌, ◌≢◌, ◌≤◌, ◌<◌, ◌*◌, ◌+◌, ◌/◌, ◌^◌, length, map, IfOk, IfErr};
+ghost use Rattle.std.specs.Prelude.{◌≡◌, ◌≢◌, ◌≤◌, ◌<◌, ◌*◌, ◌+◌, ◌/◌, ◌^◌, ◌++◌, length, map, min, IfOk, IfErr};
+ghost use Rattle.std.specs.Vec.{vec_len, vec_capacity};
 ghost use Rattle.comtrade_read.specs.declared.fault.ReadFault.TheVariants as faults;
 ghost use Rattle.comtrade_read.specs.Binary as spec;
 
@@ -47,20 +48,41 @@ fn values_of<A: Allocator>(
 {
     let mut values = Vec::with_capacity(alloc, count)?;
     for i in 0..count {
-        values.push(value_of(&bytes[2 * i..]))?;
+        values.push_reserved(value_of(&bytes[2 * i..]));
     }
     Ok(values)
 }
 
+/// Appends the lowest bits of a group, for which there is room.
+fn push_group<A: Allocator>(bits: &mut Vec<bool, A>, group: u16, count: usize)
+    requires few { count ≤ 16 }
+    requires room { vec_len bits.old + count ≤ vec_capacity bits.old }
+    ensures items { bits.new.items ≡ bits.old.items ++ spec.group_bits count group }
+    ensures len { vec_len bits.new ≡ vec_len bits.old + count }
+    ensures capacity { vec_capacity bits.new ≡ vec_capacity bits.old }
+{
+    for i in 0..count {
+        bits.push_reserved((group >> i) & 1 == 1);
+    }
+}
+
+/// How many bits of a group are of channels, where so many channels are left.
+fn group_len(left: usize) -> usize
+    ensures { result ≡ min left 16 }
+{
+    if left < 16 { left } else { 16 }
+}
+
 /// The first status bits, sixteen to a group, the lowest channel in the lowest bit.
 fn bits_of<A: Allocator>(alloc: A, bytes: &[u8], count: usize) -> Result<Vec<bool, A>, AllocError>
-    requires { 2 * ((count + 15) / 16) ≤ length bytes.now }
+    requires few { count < 1000000 }
+    requires whole { 2 * ((count + 15) / 16) ≤ length bytes.now }
     ensures { IfOk result (λ v. v.items ≡ spec.bits_at count bytes.now) }
 {
     let mut bits = Vec::with_capacity(alloc, count)?;
-    for j in 0..count {
-        let group = LittleEndian::read_u16(&bytes[2 * (j / 16)..]);
-        bits.push((group >> (j % 16)) & 1 == 1)?;
+    for i in 0..(count + 15) / 16 {
+        let group = LittleEndian::read_u16(&bytes[2 * i..]);
+        push_group(&mut bits, group, group_len(count - 16 * i));
     }
     Ok(bits)
 }

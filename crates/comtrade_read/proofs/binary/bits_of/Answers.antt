@@ -1,14 +1,23 @@
-use Rattle.std.proofs.Common.{◌≡◌, ◌-◌, ◌*◌, ◌/◌, ◌%◌, length, take, drop, refl, arith, length-drop}
+use Rattle.std.proofs.Common.{◌≡◌, ◌+◌, ◌-◌, ◌*◌, ◌++◌, length, take, drop, ap, ◌∙◌, arith, length-drop}
+use Rattle.std.specs.Prelude.{min}
 use Rattle.std.proofs.lemmas.List.{take_all}
-use Rattle.std.proofs.lemmas.List.FromFn.{map-range_with_len_more}
-use Rattle.std.proofs.lemmas.Nat.Bits.{shr_and_one}
-use Rattle.comtrade_read.specs.Binary.{bit_of}
+use Rattle.comtrade_read.specs.Binary.{bits_at, group_bits}
+use Rattle.comtrade_read.proofs.BinaryGroups.{group_behind}
 use Rattle.comtrade_read.proofs.binary.bits_of.Goals as goal
 
-pub loop-j-preserved : goal.loop-j-preserved
-loop-j-preserved g c =
+pub loop-i-preserved : goal.loop-i-preserved
+loop-i-preserved g c =
     let bytes = c.args.bytes.now in
-    let n = 2 * (c.loop-j.j / 16) in
-    let e = map-range_with_len_more (bit_of bytes) 0 c.loop-j.j c.loop-j.j (omega arith) in
+    let i = c.loop-i.i in
+    let n = 2 * i in
+    let d = c.group_len.result in
+    let here : min (16 * i) c.args.count ≡ 16 * i = omega (arith, c.loop-i-test.true) in
+    let next : 16 * i + d ≡ min (16 * (i + 1)) c.args.count = omega (arith, c.loop-i-test.true, c.group_len.ensures) in
     let t : take (length bytes - n) (drop n bytes) ≡ drop n bytes = take_all (length bytes - n) (drop n bytes) (omega (arith, length-drop n bytes)) in
-    rw (c.in_ok-push.ensures.items, e, c.loop-j.invariant, shr_and_one c.read_u16-group.result (c.loop-j.j % 16), c.read_u16-group.ensures, t) refl
+    let joined : c.loop-i.bits.items ++ group_bits d c.read_u16-group.result ≡ bits_at (16 * i + d) bytes =
+    rw (c.loop-i.invariant.items, here, c.read_u16-group.ensures, t) (group_behind bytes i d (omega (arith, c.group_len.ensures))) in
+    record {
+      items = c.push_group.ensures.items ∙ joined ∙ ap (λ k. bits_at k bytes) next;
+      len = omega (arith, c.push_group.ensures.len, c.loop-i.invariant.len, here, next);
+      room = omega (arith, c.push_group.ensures.capacity, c.loop-i.invariant.room);
+    }

@@ -1,4 +1,5 @@
 use Rattle.std.proofs.Common.{◌≡◌, ℕ, ◌-◌, ◌*◌, length, take, drop, refl, arith, length-drop}
+use Rattle.std.proofs.lemmas.Grind.{common_steps}
 use Rattle.std.proofs.lemmas.List.{take_all}
 use Rattle.std.proofs.lemmas.List.FromFn.{map-range_with_len_more}
 use Rattle.comtrade_read.specs.Binary.{value_at}
@@ -10,4 +11,8 @@ loop-i-preserved g c =
     let n = 2 * c.loop-i.i in
     let e = map-range_with_len_more (λ (i : ℕ). value_at (drop (2 * i) bytes)) 0 c.loop-i.i c.loop-i.i (omega arith) in
     let t : take (length bytes - n) (drop n bytes) ≡ drop n bytes = take_all (length bytes - n) (drop n bytes) (omega (arith, length-drop n bytes)) in
-    rw (c.in_ok-push.ensures.items, e, c.loop-i.invariant, c.value_of.ensures, t) refl
+    record {
+      items = rw (c.push_reserved.ensures.items, e, c.loop-i.invariant.items, c.value_of.ensures, t) refl;
+      len = grind (arith, common_steps);
+      room = grind (arith, common_steps);
+    }
