@@ -22,3 +22,4 @@ pub mod WrittenDates
 pub mod WrittenRows
 pub mod WrittenHead
 pub mod ReadBack
+pub mod ReadAgain
