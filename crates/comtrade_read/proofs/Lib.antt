@@ -33,3 +33,4 @@ pub mod WrittenHead
 pub mod ReadBack
 pub mod PlainRows
 pub mod EndMark
+pub mod ReadAgain

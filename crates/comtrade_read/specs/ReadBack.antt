@@ -1,12 +1,16 @@
 -- What is written is read.
-use Rattle.std.specs.Prelude.{◌≡◌, None}
-use Rattle.std.specs.List.{AllByRecursion}
+use Rattle.std.specs.Prelude.{◌≡◌, List, Option, Some, None}
+use Rattle.std.specs.List.{AllByRecursion, filter_map}
 use Rattle.dfr_channels.specs.Spelling.{IsNumber}
-use Rattle.dfr_channels.specs.Parts.{AnalogParts}
+use Rattle.dfr_channels.specs.Parts.{AnalogParts, SetupParts}
+use Rattle.dfr_recorder.specs.Answers.{AnswerParts}
+use Rattle.dfr_recorder.specs.Answers as answer
+use Rattle.comtrade_write.specs.declared.file.Kind.{Kind}
 use Rattle.comtrade_write.specs.Parts.{HeadParts, FileParts}
 use Rattle.comtrade_write.specs.Cfg.{cfg}
 use Rattle.comtrade_write.specs.Data.{dat, dat_refusal}
 use Rattle.comtrade_write.specs.Refusals.{cfg_refusal}
+use Rattle.comtrade_write.specs.OfRecord.{file}
 use Rattle.comtrade_read.specs.Reads.{Reads}
 
 -- each number of a channel is one that a Decimal holds
@@ -27,3 +31,15 @@ pub record HasNumbers (h : HeadParts) : Type 0 where
 -- a file that no writer refuses is read from its own texts
 abbrev pub ReadBackLaw : Type 0
 ReadBackLaw = (f : FileParts) → HasNumbers f.head → cfg_refusal f ≡ None → dat_refusal f.head.kind f ≡ None → Reads (cfg f.head) (dat f.head.kind f) f
+
+-- the file of the record that an answer took, where it took one
+abbrev pub file_taken : SetupParts → Kind → AnswerParts → Option FileParts
+file_taken layout kind (answer.Take (Some r)) = Some (file layout r kind)
+file_taken layout kind (answer.Take None) = None
+file_taken layout kind (answer.Scan result) = None
+file_taken layout kind (answer.Trigger result) = None
+file_taken layout kind (answer.SetRules done) = None
+
+-- the files of the records that answers took, in order
+abbrev pub files_taken : SetupParts → Kind → List AnswerParts → List FileParts
+files_taken layout kind answers = filter_map (file_taken layout kind) answers

@@ -12,9 +12,11 @@ mod fields;
 mod head;
 mod instant;
 mod laws;
+mod numbers;
 mod pair;
 mod place;
 mod plain_rows;
+mod record;
 mod settings;
 
 pub use data::read_dat;
@@ -22,6 +24,7 @@ pub use fault::ReadFault;
 pub use head::read_cfg;
 pub use laws::{one_file, read_back};
 pub use pair::{Part, read};
+pub use record::{read_of_file, read_of_record, read_of_run, run_and_read};
 
 #[cfg(test)]
 mod tests;

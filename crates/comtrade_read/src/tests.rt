@@ -3,6 +3,8 @@
 mod cfg;
 mod cuts;
 mod dat;
+mod read_back;
+mod same;
 
 use super::*;
 use comtrade_write::{File, Head};

@@ -1,0 +1,97 @@
+-- A file that is written is read again, or memory was wanted.
+use Rattle.std.proofs.Common.{◌≡◌, ◌+◌, ◌<◌, sym, ap, subst, refl, ◌∙◌, List, [], ◌∷◌, ◌++◌, length, map, take, get_or, ℕ, Option, Some, None}
+use Rattle.std.specs.Prelude.{option_to_list}
+use Rattle.std.specs.List.{filter_map}
+use Rattle.std.proofs.lemmas.List.{take_more, map-append}
+use Rattle.std.proofs.lemmas.List.Elements.{filter_map-append}
+use Rattle.dfr_channels.specs.Faults.{◌or◌}
+use Rattle.dfr_channels.specs.Parts.{SetupParts}
+use Rattle.dfr_recorder.specs.Parts.{RecordParts}
+use Rattle.comtrade_write.specs.declared.fault.WriteFault.{WriteFault}
+use Rattle.comtrade_write.specs.declared.fault.WriteFault.TheVariants as faults
+use Rattle.comtrade_write.specs.declared.file.Kind.{Kind}
+use Rattle.comtrade_write.specs.declared.file.Kind.TheVariants.{Ascii, Binary}
+use Rattle.comtrade_write.specs.Parts.{FileParts}
+use Rattle.comtrade_write.specs.Cfg.{cfg}
+use Rattle.comtrade_write.specs.Data.{dat, dat_refusal}
+use Rattle.comtrade_write.specs.Refusals.{Fails, cfg_refusal}
+use Rattle.comtrade_write.specs.OfRecord.{file, IsWritable}
+use Rattle.comtrade_read.specs.Reads.{Reads}
+use Rattle.comtrade_read.specs.ReadBack.{HasNumbers}
+use Rattle.comtrade_read.proofs.ReadBack.{read_back}
+use Rattle.comtrade_read.proofs.OneFile.{one_file}
+
+-- a refusal that comes first is the first of both
+pub fails_first : (e : WriteFault) (a b : Option WriteFault) → Fails e a → Fails e (a or b)
+fails_first faults.Memory a b h = tt
+fails_first faults.Shape a b h = rw h refl
+fails_first (faults.Text line field) a b h = rw h refl
+fails_first (faults.Value row channel) a b h = rw h refl
+fails_first (faults.Stamp row) a b h = rw h refl
+
+-- one that comes second is, where there is no first
+pub fails_second : (e : WriteFault) (a b : Option WriteFault) → a ≡ None → Fails e b → Fails e (a or b)
+fails_second e a b none h = subst (λ (o : Option WriteFault). Fails e (o or b)) (sym none) h
+
+-- where nothing is refused, memory was wanted
+pub fails_none : (e : WriteFault) (a : Option WriteFault) → a ≡ None → Fails e a → e ≡ faults.Memory
+fails_none faults.Memory a none h = refl
+fails_none faults.Shape a none h = cc
+fails_none (faults.Text line field) a none h = cc
+fails_none (faults.Value row channel) a none h = cc
+fails_none (faults.Stamp row) a none h = cc
+
+-- a file that isn't refused, and the texts that were written of it
+pub record IsWritten (f : FileParts) (c d : List ℕ) : Type 0 where
+  pub numbers : HasNumbers f.head
+  pub cfg_taken : cfg_refusal f ≡ None
+  pub dat_taken : dat_refusal f.head.kind f ≡ None
+  pub cfg_text : c ≡ cfg f.head
+  pub dat_text : d ≡ dat f.head.kind f
+
+pub written_reads : (f : FileParts) (c d : List ℕ) → IsWritten f c d → Reads c d f
+written_reads f c d w =
+    let law = read_back f w.numbers w.cfg_taken w.dat_taken in
+    subst (λ (x : List ℕ). Reads x d f) (sym w.cfg_text) (subst (λ (y : List ℕ). Reads (cfg f.head) y f) (sym w.dat_text) law)
+
+pub same_again : (f g : FileParts) (c d : List ℕ) → IsWritten f c d → Reads c d g → g ≡ f
+same_again f g c d w r = one_file c d g f r (written_reads f c d w)
+
+pub reads_again : (f g : FileParts) (c d : List ℕ) → IsWritten f c d → Reads c d g → Reads (cfg g.head) (dat g.head.kind g) g
+reads_again f g c d w r =
+    let law = read_back f w.numbers w.cfg_taken w.dat_taken in
+    subst (λ (x : FileParts). Reads (cfg x.head) (dat x.head.kind x) x) (sym (same_again f g c d w r)) law
+
+-- the data of a file of either kind aren't refused
+pub data_taken : (kind : Kind) (f : FileParts) → IsWritable f → dat_refusal kind f ≡ None
+data_taken Ascii f w = w.ascii
+data_taken Binary f w = w.binary
+
+pub nothing_refused : (f : FileParts) → IsWritable f → (cfg_refusal f or dat_refusal f.head.kind f) ≡ None
+nothing_refused f w = rw (w.cfg, data_taken f.head.kind f w) refl
+
+-- a record's file is of the kind that was asked for
+pub kind_of_file : (layout : SetupParts) (r : RecordParts) (kind : Kind) → (file layout r kind).head.kind ≡ kind
+unfolding file
+kind_of_file layout r kind = refl
+
+pub reads_as : (f : FileParts) (layout : SetupParts) (r : RecordParts) (kind : Kind) → f ≡ file layout r kind → Reads (cfg f.head) (dat f.head.kind f) f → Reads (cfg f.head) (dat kind f) f
+reads_as f layout r kind e h =
+    let k : f.head.kind ≡ kind = subst (λ (x : FileParts). x.head.kind ≡ kind) (sym e) (kind_of_file layout r kind) in
+    subst (λ (x : Kind). Reads (cfg f.head) (dat x f) f) k h
+
+-- ---- the files of a list of answers
+
+one_made : {Y Z : Type 0} (h : Y → Option Z) (y : Y) (made : Option Z) → made ≡ h y → option_to_list made ≡ filter_map h (y ∷ [])
+one_made h y None e = rw (sym e) refl
+one_made h y (Some z) e = rw (sym e) refl
+
+-- one more item, of which this is made
+pub made_more : {X Y Z : Type 0} (f : X → Y) (h : Y → Option Z) (xs : List X) (i : ℕ) (x : X) (made : Option Z) → i < length xs → x ≡ get_or xs i x → made ≡ h (f x)
+    → filter_map h (map f (take i xs)) ++ option_to_list made ≡ filter_map h (map f (take (i + 1) xs))
+made_more f h xs i x made lt is e =
+    let front = take i xs in
+    let next : take (i + 1) xs ≡ front ++ x ∷ [] = take_more xs i x lt ∙ ap (λ y. front ++ y ∷ []) (sym is) in
+    let mapped : map f (take (i + 1) xs) ≡ map f front ++ f x ∷ [] = ap (map f) next ∙ map-append f front (x ∷ []) in
+    let filtered : filter_map h (map f (take (i + 1) xs)) ≡ filter_map h (map f front) ++ filter_map h (f x ∷ []) = ap (filter_map h) mapped ∙ filter_map-append h (map f front) (f x ∷ []) in
+    ap (λ l. filter_map h (map f front) ++ l) (one_made h (f x) made e) ∙ sym filtered

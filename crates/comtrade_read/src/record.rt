@@ -1,0 +1,149 @@
+//! Files and records that are written and read back.
+
+ghost use Rattle.std.specs.Prelude.{◌≡◌, ◌++◌, IfOk, IfErr, IfSome, IsTrue, length, map, take, option_to_list};
+ghost use Rattle.std.specs.List.{All};
+ghost use Rattle.dfr_channels.specs.Faults.{◌or◌};
+ghost use Rattle.dfr_recorder.specs.Own.{is_own};
+ghost use Rattle.dfr_recorder.specs.Steps.{step_of};
+ghost use Rattle.dfr_recorder.specs.Answers.{answer_of};
+ghost use Rattle.dfr_recorder.specs.Run.{IsRun, IsOwnAnswer};
+ghost use Rattle.comtrade_write.specs.Cfg.{cfg};
+ghost use Rattle.comtrade_write.specs.Data.{dat, dat_refusal};
+ghost use Rattle.comtrade_write.specs.Refusals.{Fails, cfg_refusal};
+ghost use Rattle.comtrade_write.specs.OfRecord as spec;
+ghost use Rattle.comtrade_read.specs.Reads.{Reads};
+ghost use Rattle.comtrade_read.specs.ReadBack.{file_taken, files_taken};
+
+use crate::fault::ReadFault;
+use crate::numbers::numbers;
+use crate::pair::read;
+use comtrade_write::{File, FileFault, Kind, WriteFault, cfg_bytes, dat_bytes, file_of};
+use dfr_channels::{Layout, Memory};
+use dfr_recorder::{Answer, Ran, Record, Recorder, Step, run};
+use std::alloc::Allocator;
+use std::collections::VecDeque;
+
+/// Writes a file's two texts and reads them back, as a host does that checks what it stores. What is read is the file. A file
+/// that isn't written is refused as `cfg_bytes` refuses it, else as `dat_bytes` does; want of memory may come in place of both.
+pub fn read_of_file<A: Allocator + Copy>(alloc: A, file: &File<A>) -> Result<File<A>, WriteFault>
+    ensures same { IfOk result (λ f. f ≡ file.now) }
+    ensures reads { IfOk result (λ f. Reads (cfg f.head) (dat f.head.kind f) f) }
+    ensures fault { IfErr result (λ e. Fails e (cfg_refusal file.now or dat_refusal file.now.head.kind file.now)) }
+{
+    numbers(&file.head);
+    let cfg = match cfg_bytes(alloc, file) {
+        Ok(cfg) => cfg,
+        Err(fault) => return Err(fault),
+    };
+    let dat = match dat_bytes(alloc, file) {
+        Ok(dat) => dat,
+        Err(fault) => return Err(fault),
+    };
+    match read(alloc, cfg.as_slice(), dat.as_slice()) {
+        Ok(again) => Ok(again),
+        Err((_, fault)) => match fault {
+            ReadFault::Memory => Err(WriteFault::Memory),
+            _ => unreachable!(),
+        },
+    }
+}
+
+/// Writes the two texts of a record that is the layout's own, as every record is that a recorder of this layout gives, and
+/// reads them back. What is read is the record's file: it is never foreign, and neither the writers nor the reader refuse it
+/// but for want of memory.
+pub fn read_of_record<A: Allocator + Copy>(
+    alloc: A,
+    layout: &Layout<A>,
+    taken: &Record<A>,
+    kind: Kind,
+) -> Result<File<A>, Memory>
+    requires { IsTrue (is_own layout.now taken.now) }
+    ensures file { IfOk result (λ f. f ≡ spec.file layout.now taken.now kind) }
+    ensures reads { IfOk result (λ f. Reads (cfg f.head) (dat kind f) f) }
+{
+    let file = match file_of(alloc, layout, taken, kind) {
+        Ok(file) => file,
+        Err(FileFault::Memory) => return Err(Memory),
+        Err(FileFault::Foreign) => unreachable!(),
+    };
+    match read_of_file(alloc, &file) {
+        Ok(file) => Ok(file),
+        Err(fault) => match fault {
+            WriteFault::Memory => Err(Memory),
+            _ => unreachable!(),
+        },
+    }
+}
+
+/// The same of the record that an answer took, where it took one.
+fn read_of_answer<A: Allocator + Copy>(
+    alloc: A,
+    layout: &Layout<A>,
+    answer: &Answer<A>,
+    kind: Kind,
+) -> Result<Option<File<A>>, Memory>
+    requires { IsOwnAnswer layout.now (answer_of answer.now) }
+    ensures file { IfOk result (λ made. made ≡ file_taken layout.now kind (answer_of answer.now)) }
+    ensures reads { IfOk result (λ made. IfSome made (λ f. Reads (cfg f.head) (dat kind f) f)) }
+{
+    match answer {
+        Answer::Take(Some(taken)) => match read_of_record(alloc, layout, taken, kind) {
+            Ok(file) => Ok(Some(file)),
+            Err(Memory) => Err(Memory),
+        },
+        _ => Ok(None),
+    }
+}
+
+/// The same of each record that answers took, in their order.
+fn read_of_answers<A: Allocator + Copy>(
+    alloc: A,
+    layout: &Layout<A>,
+    answers: &[Answer<A>],
+    kind: Kind,
+) -> Result<Vec<File<A>, A>, Memory>
+    requires { All (λ answer. IsOwnAnswer layout.now (answer_of answer)) answers.now }
+    ensures files { IfOk result (λ files. files.items ≡ files_taken layout.now kind (map answer_of answers.now)) }
+    ensures reads { IfOk result (λ files. All (λ f. Reads (cfg f.head) (dat kind f) f) files.items) }
+{
+    let mut files = Vec::new(alloc);
+    for answer in answers {
+        match read_of_answer(alloc, layout, answer, kind)? {
+            Some(file) => files.push(file)?,
+            None => {}
+        }
+    }
+    Ok(files)
+}
+
+/// The files of the records that a run took, in their order, each read back from its own texts as `read_of_record` does it. What
+/// `run` leaves has what is required here.
+pub fn read_of_run<A: Allocator + Copy>(
+    alloc: A,
+    ran: &Ran<A>,
+    kind: Kind,
+) -> Result<Vec<File<A>, A>, Memory>
+    requires { All (λ answer. IsOwnAnswer ran.now.recorder.layout (answer_of answer)) ran.now.answers.items }
+    ensures files { IfOk result (λ files. files.items ≡ files_taken ran.now.recorder.layout kind (map answer_of ran.now.answers.items)) }
+    ensures reads { IfOk result (λ files. All (λ f. Reads (cfg f.head) (dat kind f) f) files.items) }
+{
+    read_of_answers(alloc, ran.recorder.layout(), ran.answers.as_slice(), kind)
+}
+
+/// Makes the steps as `run` does, and reads back the files of the records that they took: what a recorder, the writers and the
+/// reader promise together for a list of steps.
+pub fn run_and_read<A: Allocator + Copy>(
+    alloc: A,
+    recorder: Recorder<A>,
+    steps: VecDeque<Step<A>, A>,
+    kind: Kind,
+) -> (Ran<A>, Result<Vec<File<A>, A>, Memory>)
+    ensures list { take (length result.0.answers.items) steps.items ++ option_to_list result.0.stopped ++ result.0.rest.items ≡ steps.items }
+    ensures run { IsRun recorder (map step_of (take (length result.0.answers.items) steps.items)) (map answer_of result.0.answers.items) result.0.recorder }
+    ensures files { IfOk result.1 (λ files. files.items ≡ files_taken recorder.layout kind (map answer_of result.0.answers.items)) }
+    ensures reads { IfOk result.1 (λ files. All (λ f. Reads (cfg f.head) (dat kind f) f) files.items) }
+{
+    let ran = run(alloc, recorder, steps);
+    let files = read_of_run(alloc, &ran, kind);
+    (ran, files)
+}
