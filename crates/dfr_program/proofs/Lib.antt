@@ -1,3 +1,3 @@
 mod Growing
-mod Limits
 mod Stamps
+mod Writable

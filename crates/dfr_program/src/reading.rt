@@ -7,7 +7,7 @@ ghost use Rattle.dfr_program.specs.Pairs.{Says, IsFaulty};
 ghost use Rattle.dfr_program.specs.Writing.{Grows};
 
 use crate::fault::RunFault;
-use crate::replay::write_out;
+use crate::output::write_out;
 use crate::text::{put, put_signed, put_with};
 use comtrade_read::{Part, ReadFault, read};
 use comtrade_write::File;
