@@ -3,4 +3,5 @@ pub mod Faults
 pub mod FaultTexts
 pub mod Texts
 pub mod Writing
+pub mod ReadTexts
 pub mod Pairs

@@ -60,8 +60,10 @@ extent_text e =
 unfoldable pub length_text : List ℕ → ℕ → List ℕ
 length_text name n = name ++ decimal n ++ codes "\n"
 
+-- a record's extent, its configuration file, and how long its data file is
+unfoldable pub front_text : Extent → List ℕ → List ℕ → List ℕ
+front_text extent cfg dat = extent_text extent ++ length_text (codes "cfg ") (length cfg) ++ cfg ++ length_text (codes "dat ") (length dat)
+
 -- a record's extent and its two files
-unfoldable pub record_text : Extent → List ℕ → List ℕ → List ℕ
-record_text extent cfg dat =
-    extent_text extent ++ length_text (codes "cfg ") (length cfg) ++ cfg
-    ++ length_text (codes "dat ") (length dat) ++ dat ++ codes "\n"
+abbrev pub record_text : Extent → List ℕ → List ℕ → List ℕ
+record_text extent cfg dat = front_text extent cfg dat ++ dat ++ codes "\n"

@@ -2,8 +2,9 @@
 
 #![tactic(auto, using(crate::proofs::Growing::growing))]
 
-ghost use Rattle.std.specs.Prelude.{◌≡◌, ◌≢◌, Err, IfErr, length};
-ghost use Rattle.dfr_program.specs.Writing.{Grows};
+ghost use Rattle.std.specs.Prelude.{◌≡◌, ◌≢◌, ◌++◌, [], Err, OnOk, IfErr};
+ghost use Rattle.dfr_program.specs.Texts as spec;
+ghost use Rattle.dfr_program.specs.Writing.{Adds, Grows};
 
 use crate::answers::{
     put_extent, put_length, put_rules_refused, put_scan_refusal, put_scanned, put_trigger,
@@ -20,11 +21,14 @@ use std::alloc::{AllocError, Allocator};
 use std::io::Write;
 
 /// Gathers what stands before the bytes of the data file.
+#[tactic(auto, unfolding(crate::specs::Texts::front_text))]
 fn put_front<A: Allocator>(
     out: &mut Vec<u8, A>,
     extent: Extent,
     pair: &Pair<A>,
-) -> Result<(), AllocError> {
+) -> Result<(), AllocError>
+    ensures { OnOk result (out.new.items ≡ out.old.items ++ spec.front_text extent pair.now.cfg.items pair.now.dat.items) }
+{
     put_extent(out, extent)?;
     put_length(out, "cfg ", pair.cfg.len())?;
     out.extend_from_slice(&pair.cfg)?;
@@ -32,15 +36,17 @@ fn put_front<A: Allocator>(
 }
 
 /// Prints a taken record, and its two files.
+#[tactic(auto, using(crate::proofs::Growing::growing, crate::proofs::Adding::adds_between))]
 fn print_record<A: Allocator, W: Write>(
     extent: Extent,
     pair: &Pair<A>,
     w: &mut W,
     out: &mut Vec<u8, A>,
 ) -> Result<(), RunFault>
+    ensures adds { OnOk result (Adds (W.contents w.old) out.old.items (W.contents w.new) out.new.items (spec.record_text extent pair.now.cfg.items pair.now.dat.items)) }
     ensures grows { Grows (W.contents w.old) (W.contents w.new) }
     ensures fault { IfErr result (λ fault. fault ≢ RunFault.Input) }
-    ensures once { result ≡ Err RunFault.Output → length out.new.items ≡ 0 }
+    ensures once { result ≡ Err RunFault.Output → out.new.items ≡ [] }
 {
     put_front(out, extent, pair)?;
     put_bytes(w, out, &pair.dat)?;
@@ -58,7 +64,7 @@ fn answer_take<A: Allocator + Copy, W: Write>(
 ) -> Result<(), RunFault>
     ensures grows { Grows (W.contents w.old) (W.contents w.new) }
     ensures fault { IfErr result (λ fault. fault ≢ RunFault.Input) }
-    ensures once { result ≡ Err RunFault.Output → length out.new.items ≡ 0 }
+    ensures once { result ≡ Err RunFault.Output → out.new.items ≡ [] }
 {
     match recorder.take() {
         Some(record) => {
@@ -111,7 +117,7 @@ fn answer<A: Allocator + Copy, W: Write>(
 ) -> Result<(), RunFault>
     ensures grows { Grows (W.contents w.old) (W.contents w.new) }
     ensures fault { IfErr result (λ fault. fault ≢ RunFault.Input) }
-    ensures once { result ≡ Err RunFault.Output → length out.new.items ≡ 0 }
+    ensures once { result ≡ Err RunFault.Output → out.new.items ≡ [] }
 {
     match command {
         Command::Scan(scan) => {
@@ -141,7 +147,7 @@ fn answer_one<A: Allocator + Copy, W: Write>(
 ) -> Result<(), RunFault>
     ensures grows { Grows (W.contents w.old) (W.contents w.new) }
     ensures fault { IfErr result (λ fault. fault ≢ RunFault.Input) }
-    ensures once { result ≡ Err RunFault.Output → length out.new.items ≡ 0 }
+    ensures once { result ≡ Err RunFault.Output → out.new.items ≡ [] }
 {
     answer(alloc, recorder, command, kind, w, out)?;
     send_much(w, out)
@@ -158,7 +164,7 @@ pub(crate) fn answer_all<A: Allocator + Copy, W: Write>(
 ) -> Result<(), RunFault>
     ensures grows { Grows (W.contents w.old) (W.contents w.new) }
     ensures fault { IfErr result (λ fault. fault ≢ RunFault.Input) }
-    ensures once { result ≡ Err RunFault.Output → length out.new.items ≡ 0 }
+    ensures once { result ≡ Err RunFault.Output → out.new.items ≡ [] }
 {
     let mut recorder = recorder;
     for command in commands {

@@ -2,9 +2,9 @@
 
 #![tactic(auto, using(crate::proofs::Growing::growing))]
 
-ghost use Rattle.std.specs.Prelude.{◌≡◌, ◌≢◌, Err, OnOk, IfErr, length};
+ghost use Rattle.std.specs.Prelude.{◌≡◌, ◌≢◌, [], Err, OnOk, IfErr, length};
 ghost use Rattle.std.specs.Io.KnownBytes.{Appends};
-ghost use Rattle.dfr_program.specs.Writing.{Grows};
+ghost use Rattle.dfr_program.specs.Writing.{Adds, Grows};
 
 use crate::fault::RunFault;
 use comtrade_write::write_all_of;
@@ -32,7 +32,7 @@ pub(crate) fn send<A: Allocator, W: Write>(w: &mut W, out: &mut Vec<u8, A>) -> R
     ensures all { OnOk result (Appends (W.contents w.old) (W.contents w.new) out.old.items) }
     ensures grows { Grows (W.contents w.old) (W.contents w.new) }
     ensures fault { IfErr result (λ fault. fault ≡ RunFault.Output) }
-    ensures gone { length out.new.items ≡ 0 }
+    ensures gone { out.new.items ≡ [] }
     ensures none { length out.old.items ≡ 0 → w.new ≡ w.old }
 {
     let written = write_out(w, out);
@@ -45,9 +45,10 @@ pub(crate) fn send_much<A: Allocator, W: Write>(
     w: &mut W,
     out: &mut Vec<u8, A>,
 ) -> Result<(), RunFault>
+    ensures adds { OnOk result (Adds (W.contents w.old) out.old.items (W.contents w.new) out.new.items []) }
     ensures grows { Grows (W.contents w.old) (W.contents w.new) }
     ensures fault { IfErr result (λ fault. fault ≡ RunFault.Output) }
-    ensures once { result ≡ Err RunFault.Output → length out.new.items ≡ 0 }
+    ensures once { result ≡ Err RunFault.Output → out.new.items ≡ [] }
 {
     if out.len() < GATHERED {
         return Ok(());
@@ -61,9 +62,10 @@ pub(crate) fn put_bytes<A: Allocator, W: Write>(
     out: &mut Vec<u8, A>,
     bytes: &[u8],
 ) -> Result<(), RunFault>
+    ensures adds { OnOk result (Adds (W.contents w.old) out.old.items (W.contents w.new) out.new.items bytes.now) }
     ensures grows { Grows (W.contents w.old) (W.contents w.new) }
     ensures fault { IfErr result (λ fault. fault ≢ RunFault.Input) }
-    ensures once { result ≡ Err RunFault.Output → length out.new.items ≡ 0 }
+    ensures once { result ≡ Err RunFault.Output → out.new.items ≡ [] }
 {
     if bytes.len() < GATHERED {
         out.extend_from_slice(bytes)?;
