@@ -1,6 +1,9 @@
 //! The program: `dfr replay [--kind ascii|binary]`, `dfr read CFG DAT`.
 #![tactic(auto)]
 
+ghost use Rattle.std.specs.Prelude.{length};
+ghost use Rattle.dfr_program.specs.Words.{NamesFiles};
+
 use comtrade_write::Kind;
 use dfr_program::{Command, RunFault, command_of, read_all, read_over, replay_over};
 use std::alloc::Global;
@@ -42,16 +45,18 @@ fn read_pair<R: Files + Print + AllocGlobal>(
     }
 }
 
-fn run<R: Env + Files + Input + Print + AllocGlobal>(
+fn run<R: Files + Input + Print + AllocGlobal>(
     rt: &R,
     words: &[String],
     command: Command,
-) -> Result<bool, RunFault> {
+) -> Result<bool, RunFault>
+    requires { NamesFiles (length words.now) command }
+{
     match command {
         Command::Replay(kind) => replay_input(rt, kind),
         Command::Read(at) => match words.get(at..) {
             Some([cfg, dat]) => read_pair(rt, cfg.as_str(), dat.as_str()),
-            _ => Err(RunFault::Input),
+            _ => unreachable!(),
         },
     }
 }

@@ -1,3 +1,4 @@
+mod Adding
 mod Growing
-mod Limits
 mod Stamps
+mod Writable

@@ -1,5 +1,5 @@
 -- What the words after the program's name ask for.
-use Rattle.std.specs.Prelude.{ℕ, ◌&&◌, if◌then◌else◌, List, [], ◌∷◌, Option, Some, None, option_map, codes}
+use Rattle.std.specs.Prelude.{◌≡◌, ⊤, ℕ, ◌&&◌, if◌then◌else◌, List, [], ◌∷◌, Option, Some, None, option_map, codes}
 use Rattle.std.specs.Str.{bytes_eq}
 use Rattle.comtrade_write.specs.declared.file.Kind.{Kind}
 use Rattle.comtrade_write.specs.declared.file.Kind.TheVariants.{Ascii, Binary}
@@ -20,3 +20,8 @@ command (verb ∷ x ∷ y ∷ []) =
     else if bytes_eq verb (codes "read") then Some (Read 1)
     else None
 command (verb ∷ x ∷ y ∷ z ∷ more) = None
+
+-- of so many words the last two name files, where files are to be read
+abbrev pub NamesFiles : ℕ → Command → Type 0
+NamesFiles count (Read at) = (at ≡ 1) × (count ≡ 3)
+NamesFiles count (Replay kind) = ⊤

@@ -1,11 +1,17 @@
 //! What each command prints.
 
+ghost use Rattle.std.specs.Prelude.{◌≡◌, ◌≢◌, ◌++◌, OnOk, Err};
+ghost use Rattle.dfr_program.specs.FaultTexts as words;
+ghost use Rattle.dfr_program.specs.Texts as spec;
+
 use crate::text::{put, put_number, put_with};
 use dfr_channels::RuleFault;
 use dfr_recorder::{Cause, Extent, Hit, ScanRefusal, Scanned, TriggerFault};
 use std::alloc::{AllocError, Allocator};
 
-fn put_hit<A: Allocator>(out: &mut Vec<u8, A>, hit: Hit) -> Result<(), AllocError> {
+fn put_hit<A: Allocator>(out: &mut Vec<u8, A>, hit: Hit) -> Result<(), AllocError>
+    ensures { OnOk result (out.new.items ≡ out.old.items ++ spec.hit_text hit) }
+{
     match hit {
         Hit::Opened(record) => put_with(out, "opened ", record),
         Hit::Extended(record) => put_with(out, "extended ", record),
@@ -14,27 +20,52 @@ fn put_hit<A: Allocator>(out: &mut Vec<u8, A>, hit: Hit) -> Result<(), AllocErro
     }
 }
 
+/// The hit of a scan that fired.
+fn put_fired<A: Allocator>(out: &mut Vec<u8, A>, trigger: Option<Hit>) -> Result<(), AllocError>
+    ensures { OnOk result (out.new.items ≡ out.old.items ++ spec.fired_text trigger) }
+{
+    match trigger {
+        Some(hit) => {
+            put(out, " ")?;
+            put_hit(out, hit)
+        }
+        None => Ok(()),
+    }
+}
+
+/// The record that closed with a scan.
+fn put_closed<A: Allocator>(out: &mut Vec<u8, A>, closed: Option<u64>) -> Result<(), AllocError>
+    ensures { OnOk result (out.new.items ≡ out.old.items ++ spec.closed_text closed) }
+{
+    match closed {
+        Some(record) => put_with(out, " closed ", record),
+        None => Ok(()),
+    }
+}
+
 /// `scan K`, the hit where it fired, and ` closed R` where a record closed.
+#[tactic(auto, unfolding(crate::specs::Texts::scanned_text))]
 pub(crate) fn put_scanned<A: Allocator>(
     out: &mut Vec<u8, A>,
     scanned: Scanned,
-) -> Result<(), AllocError> {
+) -> Result<(), AllocError>
+    ensures { OnOk result (out.new.items ≡ out.old.items ++ spec.scanned_text scanned) }
+{
     put_with(out, "scan ", scanned.number)?;
-    if let Some(hit) = scanned.trigger {
-        put(out, " ")?;
-        put_hit(out, hit)?;
-    }
-    if let Some(record) = scanned.closed {
-        put_with(out, " closed ", record)?;
-    }
+    put_fired(out, scanned.trigger)?;
+    put_closed(out, scanned.closed)?;
     put(out, "\n")
 }
 
 /// Why a scan was refused, but for memory.
+#[tactic(auto, unfolding(crate::specs::Texts::scan_refusal_text))]
 pub(crate) fn put_scan_refusal<A: Allocator>(
     out: &mut Vec<u8, A>,
     refusal: ScanRefusal,
-) -> Result<(), AllocError> {
+) -> Result<(), AllocError>
+    ensures text { OnOk result (out.new.items ≡ out.old.items ++ spec.scan_refusal_text refusal) }
+    ensures named { OnOk result (refusal ≢ ScanRefusal.Memory) }
+{
     match refusal {
         ScanRefusal::Shape => put(out, "scan refused shape\n"),
         ScanRefusal::Range(i) => {
@@ -47,10 +78,14 @@ pub(crate) fn put_scan_refusal<A: Allocator>(
 }
 
 /// What a trigger did, or why it did nothing, but for memory.
+#[tactic(auto, unfolding(crate::specs::Texts::trigger_text))]
 pub(crate) fn put_trigger<A: Allocator>(
     out: &mut Vec<u8, A>,
     answer: Result<Hit, TriggerFault>,
-) -> Result<(), AllocError> {
+) -> Result<(), AllocError>
+    ensures text { OnOk result (out.new.items ≡ out.old.items ++ spec.trigger_text answer) }
+    ensures named { OnOk result (answer ≢ Err TriggerFault.Memory) }
+{
     match answer {
         Ok(hit) => {
             put(out, "trigger ")?;
@@ -63,32 +98,33 @@ pub(crate) fn put_trigger<A: Allocator>(
     }
 }
 
-pub(crate) fn rule_word(fault: RuleFault) -> &'static str {
+#[tactic(auto, unfolding(crate::specs::FaultTexts::rule_word))]
+pub(crate) fn rule_word(fault: RuleFault) -> &'static str
+    ensures { result.now ≡ words.rule_word fault }
+{
     match fault {
         RuleFault::TooMany => "too-many",
         RuleFault::NoChannel(_) => "no-channel",
     }
 }
 
+#[tactic(auto, unfolding(crate::specs::Texts::rules_refused_text))]
 pub(crate) fn put_rules_refused<A: Allocator>(
     out: &mut Vec<u8, A>,
     fault: RuleFault,
-) -> Result<(), AllocError> {
+) -> Result<(), AllocError>
+    ensures { OnOk result (out.new.items ≡ out.old.items ++ spec.rules_refused_text fault) }
+{
     put(out, "rules refused ")?;
     put(out, rule_word(fault))?;
     put(out, "\n")
 }
 
-/// `record N FIRST TRIGGER LAST`, and the cause.
-pub(crate) fn put_extent<A: Allocator>(
-    out: &mut Vec<u8, A>,
-    extent: Extent,
-) -> Result<(), AllocError> {
-    put_with(out, "record ", extent.number)?;
-    put_with(out, " ", extent.first)?;
-    put_with(out, " ", extent.trigger)?;
-    put_with(out, " ", extent.last)?;
-    match extent.cause {
+/// What opened a record, and a line end.
+fn put_cause<A: Allocator>(out: &mut Vec<u8, A>, cause: Cause) -> Result<(), AllocError>
+    ensures { OnOk result (out.new.items ≡ out.old.items ++ spec.cause_text cause) }
+{
+    match cause {
         Cause::Manual => put(out, " manual\n"),
         Cause::Rule(rule) => {
             put_with(out, " rule ", u64::from(rule))?;
@@ -97,12 +133,30 @@ pub(crate) fn put_extent<A: Allocator>(
     }
 }
 
+/// `record N FIRST TRIGGER LAST`, and the cause.
+#[tactic(auto, unfolding(crate::specs::Texts::extent_text))]
+pub(crate) fn put_extent<A: Allocator>(
+    out: &mut Vec<u8, A>,
+    extent: Extent,
+) -> Result<(), AllocError>
+    ensures { OnOk result (out.new.items ≡ out.old.items ++ spec.extent_text extent) }
+{
+    put_with(out, "record ", extent.number)?;
+    put_with(out, " ", extent.first)?;
+    put_with(out, " ", extent.trigger)?;
+    put_with(out, " ", extent.last)?;
+    put_cause(out, extent.cause)
+}
+
 /// The name of a part, its length in bytes, and a line end.
+#[tactic(auto, unfolding(crate::specs::Texts::length_text))]
 pub(crate) fn put_length<A: Allocator>(
     out: &mut Vec<u8, A>,
     name: &str,
     length: usize,
-) -> Result<(), AllocError> {
+) -> Result<(), AllocError>
+    ensures { OnOk result (out.new.items ≡ out.old.items ++ spec.length_text name.now length) }
+{
     put(out, name)?;
     put_number(out, length as u64)?;
     put(out, "\n")

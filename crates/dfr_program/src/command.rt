@@ -1,6 +1,6 @@
 //! The words after the program's name.
 
-ghost use Rattle.std.specs.Prelude.{◌≡◌, map};
+ghost use Rattle.std.specs.Prelude.{◌≡◌, IfSome, length, map};
 ghost use Rattle.std.specs.Str.{bytes_eq};
 ghost use Rattle.std.specs.String.{string_bytes};
 ghost use Rattle.dfr_program.specs.Words as spec;
@@ -38,7 +38,8 @@ fn kind_of(word: &String) -> Option<Kind>
 /// What the words ask for: `replay`, `replay --kind K`, `read CFG DAT`, or no word, which is `replay`. None for words of
 /// any other form. Takes no memory.
 pub fn command_of(words: &[String]) -> Option<Command>
-    ensures { result ≡ spec.command (map string_bytes words.now) }
+    ensures value { result ≡ spec.command (map string_bytes words.now) }
+    ensures files { IfSome result (spec.NamesFiles (length words.now)) }
 {
     match words {
         [] => Some(Command::Replay(Kind::Ascii)),

@@ -1,14 +1,20 @@
 //! The one line that a fault of a script or of its set-up prints.
 
+ghost use Rattle.std.specs.Prelude.{◌≡◌, ◌++◌, OnOk};
+ghost use Rattle.dfr_program.specs.FaultTexts as spec;
+
 use crate::answers::rule_word;
 use crate::prepared::Fault;
-use crate::text::{put, put_with};
+use crate::text::{put, put_both, put_with};
 use dfr_channels::SetupFault;
 use dfr_recorder::LimitFault;
 use dfr_script::Word;
 use std::alloc::{AllocError, Allocator};
 
-fn word_of(word: Word) -> &'static str {
+#[tactic(auto, unfolding(crate::specs::FaultTexts::word_of))]
+fn word_of(word: Word) -> &'static str
+    ensures { result.now ≡ spec.word_of word }
+{
     match word {
         Word::Word => "word",
         Word::Fields => "fields",
@@ -17,7 +23,10 @@ fn word_of(word: Word) -> &'static str {
     }
 }
 
-fn setup_word(fault: SetupFault) -> &'static str {
+#[tactic(auto, unfolding(crate::specs::FaultTexts::setup_word))]
+fn setup_word(fault: SetupFault) -> &'static str
+    ensures { result.now ≡ spec.setup_word fault }
+{
     match fault {
         SetupFault::Text(_) => "text",
         SetupFault::Channels => "channels",
@@ -27,7 +36,10 @@ fn setup_word(fault: SetupFault) -> &'static str {
     }
 }
 
-fn limit_word(fault: LimitFault) -> &'static str {
+#[tactic(auto, unfolding(crate::specs::FaultTexts::limit_word))]
+fn limit_word(fault: LimitFault) -> &'static str
+    ensures { result.now ≡ spec.limit_word fault }
+{
     match fault {
         LimitFault::Pre => "pre",
         LimitFault::Post => "post",
@@ -37,28 +49,25 @@ fn limit_word(fault: LimitFault) -> &'static str {
     }
 }
 
-pub(crate) fn put_fault<A: Allocator>(
-    out: &mut Vec<u8, A>,
-    fault: Fault,
-) -> Result<(), AllocError> {
+/// What stands before the line's end.
+fn put_words<A: Allocator>(out: &mut Vec<u8, A>, fault: Fault) -> Result<(), AllocError>
+    ensures { OnOk result (out.new.items ≡ out.old.items ++ spec.fault_words fault) }
+{
     match fault {
         Fault::Script(fault) => {
             put_with(out, "fault line ", fault.line)?;
-            put(out, " ")?;
-            put(out, word_of(fault.word))?;
+            put_both(out, " ", word_of(fault.word))
         }
-        Fault::Setup(fault) => {
-            put(out, "fault setup ")?;
-            put(out, setup_word(fault))?;
-        }
-        Fault::Limits(fault) => {
-            put(out, "fault limits ")?;
-            put(out, limit_word(fault))?;
-        }
-        Fault::Rules(fault) => {
-            put(out, "fault rules ")?;
-            put(out, rule_word(fault))?;
-        }
+        Fault::Setup(fault) => put_both(out, "fault setup ", setup_word(fault)),
+        Fault::Limits(fault) => put_both(out, "fault limits ", limit_word(fault)),
+        Fault::Rules(fault) => put_both(out, "fault rules ", rule_word(fault)),
     }
+}
+
+#[tactic(auto, unfolding(crate::specs::FaultTexts::fault_text))]
+pub(crate) fn put_fault<A: Allocator>(out: &mut Vec<u8, A>, fault: Fault) -> Result<(), AllocError>
+    ensures { OnOk result (out.new.items ≡ out.old.items ++ spec.fault_text fault) }
+{
+    put_words(out, fault)?;
     put(out, "\n")
 }

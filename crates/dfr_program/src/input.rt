@@ -1,34 +1,42 @@
 //! What comes in, up to a limit.
 
-ghost use Rattle.std.specs.Prelude.{◌≡◌, ◌≤◌, length, IfOk, IfSome};
+ghost use Rattle.std.specs.Prelude.{◌≡◌, ◌≢◌, ◌≤◌, length, IfOk, IfErr, IfSome};
 
 use crate::fault::RunFault;
 use std::alloc::Allocator;
-use std::io::{Error, ErrorKind, Read};
+use std::io::Read;
 
 /// The most bytes of a script, or of a file that is read.
-const LIMIT: u64 = 16_777_216;
+const LIMIT: usize = 16_777_216;
 
-fn input_fault(error: &Error) -> RunFault {
-    if error.kind() == ErrorKind::OutOfMemory {
-        RunFault::Memory
-    } else {
-        RunFault::Input
+/// All that the reader has, where it is at most so many bytes; more is `Input`.
+pub(crate) fn read_up_to<A: Allocator, R: Read>(
+    alloc: A,
+    r: &mut R,
+    limit: usize,
+) -> Result<Vec<u8, A>, RunFault>
+    ensures bytes { IfOk result (λ v. IfSome (R.remaining r.old) (λ bytes. v.items ≡ bytes)) }
+    ensures short { IfOk result (λ v. length v.items ≤ limit) }
+    ensures fault { IfErr result (λ fault. fault ≢ RunFault.Output) }
+{
+    let mut bytes = Vec::new(alloc);
+    let mut piece = [0u8; 16_384];
+    while bytes.len() <= limit {
+        match r.read(&mut piece) {
+            Ok(0) => return Ok(bytes),
+            Ok(count) => bytes.extend_from_slice(&piece[..count])?,
+            Err(_) => return Err(RunFault::Input),
+        }
     }
+    Err(RunFault::Input)
 }
 
-/// All that the reader has, where it is at most 16,777,216 bytes; more is `Input`.
+/// All that the reader has, where it is at most 16,777,216 bytes; more is `Input`, and so is a read that failed, for whatever
+/// cause: none is tried again. `Memory` is a growth that was refused here.
 pub fn read_all<A: Allocator, R: Read>(alloc: A, r: &mut R) -> Result<Vec<u8, A>, RunFault>
     ensures bytes { IfOk result (λ v. IfSome (R.remaining r.old) (λ bytes. v.items ≡ bytes)) }
     ensures short { IfOk result (λ v. length v.items ≤ 16777216) }
+    ensures fault { IfErr result (λ fault. fault ≢ RunFault.Output) }
 {
-    let mut bytes = Vec::new(alloc);
-    let mut limited = Read::take(&mut *r, LIMIT + 1);
-    if let Err(error) = limited.read_to_end(&mut bytes) {
-        return Err(input_fault(&error));
-    }
-    if bytes.len() as u64 > LIMIT {
-        return Err(RunFault::Input);
-    }
-    Ok(bytes)
+    read_up_to(alloc, r, LIMIT)
 }

@@ -3,9 +3,12 @@
 
 mod answers;
 mod command;
+mod commands;
 mod fault;
 mod faults;
 mod input;
+mod output;
+mod pair;
 mod prepared;
 mod reading;
 mod replay;

@@ -2,42 +2,81 @@
 
 #![tactic(auto, using(crate::proofs::Growing::growing))]
 
-ghost use Rattle.std.specs.Prelude.{◌≡◌, ◌≢◌, true, false, OnOk, IfOk, IfErr};
+ghost use Rattle.std.specs.Prelude.{◌≡◌, ◌≢◌, ◌++◌, codes, length, true, false, OnOk, IfOk, IfErr};
+ghost use Rattle.std.specs.Io.KnownBytes.{Appends};
 ghost use Rattle.dfr_program.specs.Pairs.{Says, IsFaulty};
+ghost use Rattle.dfr_program.specs.ReadTexts as spec;
 ghost use Rattle.dfr_program.specs.Writing.{Grows};
 
 use crate::fault::RunFault;
-use crate::replay::write_out;
+use crate::output::write_out;
 use crate::text::{put, put_signed, put_with};
 use comtrade_read::{Part, ReadFault, read};
-use comtrade_write::File;
+use comtrade_write::{File, Head, Row};
 use std::alloc::{AllocError, Allocator};
 use std::io::Write;
 
-fn put_line<A: Allocator>(out: &mut Vec<u8, A>, name: &str, text: &[u8]) -> Result<(), AllocError> {
+#[tactic(auto, unfolding(crate::specs::ReadTexts::line_text))]
+fn put_line<A: Allocator>(out: &mut Vec<u8, A>, name: &str, text: &[u8]) -> Result<(), AllocError>
+    ensures { OnOk result (out.new.items ≡ out.old.items ++ spec.line_text name.now text.now) }
+{
     put(out, name)?;
     out.extend_from_slice(text)?;
     put(out, "\n")
 }
 
-/// The names, the numbers of channels and rows, and the two instants in microseconds since 1970-01-01 00:00:00.
-fn put_file<A: Allocator>(out: &mut Vec<u8, A>, file: &File<A>) -> Result<(), AllocError> {
-    let head = &file.head;
+fn put_names<A: Allocator>(out: &mut Vec<u8, A>, head: &Head<A>) -> Result<(), AllocError>
+    ensures { OnOk result (out.new.items ≡ out.old.items ++ (spec.line_text (codes "station ") head.now.station ++ spec.line_text (codes "device ") head.now.device)) }
+{
     put_line(out, "station ", head.station.items())?;
-    put_line(out, "device ", head.device.items())?;
+    put_line(out, "device ", head.device.items())
+}
+
+/// The numbers of channels.
+#[tactic(auto, unfolding(crate::specs::ReadTexts::channels_text))]
+fn put_channels<A: Allocator>(out: &mut Vec<u8, A>, head: &Head<A>) -> Result<(), AllocError>
+    ensures { OnOk result (out.new.items ≡ out.old.items ++ spec.channels_text head.now) }
+{
     put_with(out, "analog ", head.analog.items().len() as u64)?;
-    put_with(out, " status ", head.status.items().len() as u64)?;
-    put_with(out, " rows ", file.rows.items().len() as u64)?;
-    put(out, "\nfirst ")?;
+    put_with(out, " status ", head.status.items().len() as u64)
+}
+
+/// The number of rows, and a line end.
+#[tactic(auto, unfolding(crate::specs::ReadTexts::rows_text))]
+fn put_rows<A: Allocator>(out: &mut Vec<u8, A>, rows: &[Row<A>]) -> Result<(), AllocError>
+    ensures { OnOk result (out.new.items ≡ out.old.items ++ spec.rows_text (length rows.now)) }
+{
+    put_with(out, " rows ", rows.len() as u64)?;
+    put(out, "\n")
+}
+
+/// The two instants, in microseconds since 1970-01-01 00:00:00.
+#[tactic(auto, unfolding(crate::specs::ReadTexts::instants_text))]
+fn put_instants<A: Allocator>(out: &mut Vec<u8, A>, head: &Head<A>) -> Result<(), AllocError>
+    ensures { OnOk result (out.new.items ≡ out.old.items ++ spec.instants_text head.now) }
+{
+    put(out, "first ")?;
     put_signed(out, head.first)?;
     put(out, " trigger ")?;
     put_signed(out, head.trigger)?;
     put(out, "\n")
 }
 
+/// The names, the numbers of channels and rows, and the two instants.
+#[tactic(auto, unfolding(crate::specs::ReadTexts::file_text))]
+fn put_file<A: Allocator>(out: &mut Vec<u8, A>, file: &File<A>) -> Result<(), AllocError>
+    ensures { OnOk result (out.new.items ≡ out.old.items ++ spec.file_text file.now) }
+{
+    put_names(out, &file.head)?;
+    put_channels(out, &file.head)?;
+    put_rows(out, file.rows.items())?;
+    put_instants(out, &file.head)
+}
+
 /// The word of a fault, and its line and field, but for memory.
 fn put_word<A: Allocator>(out: &mut Vec<u8, A>, fault: ReadFault) -> Result<(), AllocError>
-    ensures { OnOk result (fault ≢ ReadFault.Memory) }
+    ensures text { OnOk result (out.new.items ≡ out.old.items ++ spec.word_text fault) }
+    ensures named { OnOk result (fault ≢ ReadFault.Memory) }
 {
     match fault {
         ReadFault::Revision => put(out, "revision"),
@@ -56,23 +95,32 @@ fn put_word<A: Allocator>(out: &mut Vec<u8, A>, fault: ReadFault) -> Result<(), 
     }
 }
 
+fn put_part<A: Allocator>(out: &mut Vec<u8, A>, part: Part) -> Result<(), AllocError>
+    ensures { OnOk result (out.new.items ≡ out.old.items ++ spec.part_text part) }
+{
+    match part {
+        Part::Cfg => put(out, "cfg fault "),
+        Part::Dat => put(out, "dat fault "),
+    }
+}
+
+#[tactic(auto, unfolding(crate::specs::ReadTexts::read_fault_text))]
 fn put_read_fault<A: Allocator>(
     out: &mut Vec<u8, A>,
     part: Part,
     fault: ReadFault,
 ) -> Result<(), AllocError>
-    ensures { OnOk result (fault ≢ ReadFault.Memory) }
+    ensures text { OnOk result (out.new.items ≡ out.old.items ++ spec.read_fault_text part fault) }
+    ensures named { OnOk result (fault ≢ ReadFault.Memory) }
 {
-    match part {
-        Part::Cfg => put(out, "cfg fault ")?,
-        Part::Dat => put(out, "dat fault ")?,
-    }
+    put_part(out, part)?;
     put_word(out, fault)?;
     put(out, "\n")
 }
 
 /// Prints what is in a pair of files.
 fn print_file<A: Allocator, W: Write>(alloc: A, file: &File<A>, w: &mut W) -> Result<bool, RunFault>
+    ensures text { OnOk result (Appends (W.contents w.old) (W.contents w.new) (spec.file_text file.now)) }
     ensures grows { Grows (W.contents w.old) (W.contents w.new) }
     ensures whole { IfOk result (λ done. done ≡ true) }
     ensures fault { IfErr result (λ fault. fault ≢ RunFault.Input) }
@@ -90,6 +138,7 @@ fn print_read_fault<A: Allocator, W: Write>(
     fault: ReadFault,
     w: &mut W,
 ) -> Result<bool, RunFault>
+    ensures text { OnOk result (Appends (W.contents w.old) (W.contents w.new) (spec.read_fault_text part fault)) }
     ensures grows { Grows (W.contents w.old) (W.contents w.new) }
     ensures none { IfOk result (λ done. (done ≡ false) × (fault ≢ ReadFault.Memory)) }
     ensures fault { IfErr result (λ fault. fault ≢ RunFault.Input) }
@@ -101,7 +150,7 @@ fn print_read_fault<A: Allocator, W: Write>(
 }
 
 /// Reads a configuration file and its data file: true where they were read and what is in them was printed, false where the
-/// line of a fault was.
+/// line of a fault was. It is never `Input`.
 pub fn read_over<A: Allocator + Copy, W: Write>(
     alloc: A,
     cfg: &[u8],
@@ -109,8 +158,8 @@ pub fn read_over<A: Allocator + Copy, W: Write>(
     w: &mut W,
 ) -> Result<bool, RunFault>
     ensures grows { Grows (W.contents w.old) (W.contents w.new) }
-    ensures whole { IfOk result (λ done. done ≡ true → Says cfg.now dat.now) }
-    ensures none { IfOk result (λ done. done ≡ false → IsFaulty cfg.now dat.now) }
+    ensures whole { IfOk result (λ done. done ≡ true → Says cfg.now dat.now (W.contents w.old) (W.contents w.new)) }
+    ensures none { IfOk result (λ done. done ≡ false → IsFaulty cfg.now dat.now (W.contents w.old) (W.contents w.new)) }
     ensures fault { IfErr result (λ fault. fault ≢ RunFault.Input) }
 {
     match read(alloc, cfg, dat) {

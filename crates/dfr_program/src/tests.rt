@@ -1,13 +1,18 @@
 //! What no clause says: printed texts over memory, and readers and writers that fail.
 
 use super::*;
+use crate::input::read_up_to;
 use comtrade_write::Kind;
+use std::alloc::Global;
 use std::io;
 use std::io::{Error, ErrorKind, Read, Write};
 use std::test::Fail;
 
 const SCRIPT: &str =
     "station Bay 1\ndevice DFR\nanalog IA,A,,A,1,0,0,-32767,32767,1,1,P\nfreq 50\nrate 1000\nstart 0\nlimits 2,2,6,1\ngo\nscan 10/\nscan 11/\nscan 12/\nscan 13/\ntrigger\nscan 14/\nscan 15/\ntake\n";
+
+const SET_UP: &str =
+    "station Bay 1\ndevice DFR\nanalog IA,A,,A,1,0,0,-32767,32767,1,1,P\nfreq 50\nrate 1000\nstart 0\nlimits 2,2,6,1\ngo\n";
 
 const ANSWERS: &str =
     "scan 0\nscan 1\nscan 2\nscan 3\ntrigger opened 1\nscan 4\nscan 5 closed 1\nrecord 1 1 3 5 manual\n";
@@ -61,6 +66,72 @@ struct Broken;
 impl Read for Broken {
     fn read(&mut self, _buf: &mut [u8]) -> io::Result<usize> {
         Err(Error::from(ErrorKind::Other))
+    }
+}
+
+/// A writer that takes ten bytes at its first call, fails at its second, and takes all from then on.
+#[derive(Drop)]
+struct Relenting {
+    bytes: Vec<u8>,
+    calls: u64,
+}
+
+impl Write for Relenting {
+    fn write(&mut self, buf: &[u8]) -> io::Result<usize> {
+        self.calls = self.calls.saturating_add(1);
+        if self.calls == 2 {
+            return Err(Error::from(ErrorKind::Other));
+        }
+        let count = if self.calls == 1 && buf.len() > 10 {
+            10
+        } else {
+            buf.len()
+        };
+        match self.bytes.extend_from_slice(&buf[..count]) {
+            Ok(()) => Ok(count),
+            Err(_) => Err(Error::from(ErrorKind::OutOfMemory)),
+        }
+    }
+
+    fn flush(&mut self) -> io::Result<()> {
+        Ok(())
+    }
+}
+
+/// A reader that fails once, and is at its end then.
+#[derive(Drop)]
+struct Relapsing {
+    kind: Option<ErrorKind>,
+}
+
+impl Read for Relapsing {
+    fn read(&mut self, _buf: &mut [u8]) -> io::Result<usize> {
+        match self.kind.take() {
+            Some(kind) => Err(Error::from(kind)),
+            None => Ok(0),
+        }
+    }
+}
+
+/// Whether all of the text is read under this limit.
+fn is_read(alloc: Global, text: &str, limit: usize) -> bool {
+    match read_up_to(alloc, &mut text.as_bytes(), limit) {
+        Ok(bytes) => bytes.as_slice() == text.as_bytes(),
+        Err(_) => false,
+    }
+}
+
+/// What a replay answers where the first read fails so.
+fn ends_after(alloc: Global, kind: ErrorKind) -> Option<RunFault> {
+    let mut out = Vec::new(alloc);
+    match replay_over(
+        alloc,
+        &mut Relapsing { kind: Some(kind) },
+        &mut out,
+        Kind::Ascii,
+    ) {
+        Ok(_) => None,
+        Err(fault) => Some(fault),
     }
 }
 
@@ -119,6 +190,39 @@ fn a_failing_reader_is_input(rt: HostRuntime) -> Result<(), Fail> {
     let ended = replay_over(rt.alloc(), &mut Broken, &mut out, Kind::Ascii);
     assert_eq!(rt; ended, Err(RunFault::Input));
     assert!(rt; out.is_empty());
+    Ok(())
+}
+
+#[test]
+fn a_writer_that_failed_gets_no_more(rt: HostRuntime) -> Result<(), Fail> {
+    let mut script = Vec::new(rt.alloc());
+    script.extend_from_slice(SET_UP.as_bytes())?;
+    for _ in 0..10_000 {
+        script.extend_from_slice(b"scan 1/\n")?;
+    }
+    let mut writer = Relenting {
+        bytes: Vec::new(rt.alloc()),
+        calls: 0,
+    };
+    let ended = replay_over(rt.alloc(), &mut script.as_slice(), &mut writer, Kind::Ascii);
+    assert_eq!(rt; ended, Err(RunFault::Output));
+    assert_eq!(rt; writer.bytes.as_slice(), b"scan 0\nsca".as_slice());
+    Ok(())
+}
+
+#[test]
+fn a_read_is_not_tried_again(rt: HostRuntime) -> Result<(), Fail> {
+    let input = Some(RunFault::Input);
+    assert_eq!(rt; ends_after(rt.alloc(), ErrorKind::Interrupted), input);
+    assert_eq!(rt; ends_after(rt.alloc(), ErrorKind::OutOfMemory), input);
+    Ok(())
+}
+
+#[test]
+fn reads_up_to_the_limit(rt: HostRuntime) -> Result<(), Fail> {
+    assert!(rt; is_read(rt.alloc(), "", 0));
+    assert!(rt; is_read(rt.alloc(), "abcd", 4));
+    assert!(rt; !is_read(rt.alloc(), "abcde", 4));
     Ok(())
 }
 

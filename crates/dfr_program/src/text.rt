@@ -35,3 +35,15 @@ pub(crate) fn put_with<A: Allocator>(
     put(out, text)?;
     put_number(out, n)
 }
+
+/// The one text, and the other behind it.
+pub(crate) fn put_both<A: Allocator>(
+    out: &mut Vec<u8, A>,
+    front: &str,
+    back: &str,
+) -> Result<(), AllocError>
+    ensures { OnOk result (out.new.items ≡ out.old.items ++ (front.now ++ back.now)) }
+{
+    put(out, front)?;
+    put(out, back)
+}
