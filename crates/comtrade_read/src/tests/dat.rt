@@ -28,6 +28,9 @@ fn is_whole(rt: &HostRuntime, cfg: &[u8], dat: &[u8]) -> bool {
     let wanted = [11, 12, 13, 14, 15].map(|x| Some(Reading::Value(x)));
     values.as_slice() == wanted.as_slice()
 }
+/// A configuration file of one analogue channel, two status channels and one row.
+const CONTACTS: &[u8] =
+    b"Bay 1,DFR,1999\r\n3,1A,2D\r\n1,IA,A,,A,1,0,0,-32767,32767,1,1,P\r\n1,CB,,,0\r\n2,CC,,,0\r\n50\r\n1\r\n1000,1\r\n01/01/1970,00:00:00.001000\r\n01/01/1970,00:00:00.001000\r\nASCII\r\n1\r\n";
 
 /// The number of rows, and the stamp and the value of the third.
 fn third(
@@ -53,6 +56,57 @@ fn both_forms(rt: HostRuntime) -> Result<(), Fail> {
     let text = with_line(&rt, CFG, 9, b"BINARY")?;
     assert!(rt; is_whole(&rt, text.as_slice(), BINARY));
     Ok(())
+}
+
+/// Whether the data are the one row 7 at 1000 of the value -12 with the first contact closed and the second open.
+fn is_the_row(rt: &HostRuntime, dat: &[u8]) -> bool {
+    let Some(file) = read(rt.alloc(), CONTACTS, dat).ok() else {
+        return false;
+    };
+    let Some(row) = file.rows.items().first() else {
+        return false;
+    };
+    row.number == 7
+        && row.stamp == Some(1000)
+        && row.values.items() == [Reading::Value(-12)].as_slice()
+        && row.bits.items() == [true, false].as_slice()
+}
+
+#[test]
+fn rows_in_both_spellings(rt: HostRuntime) {
+    for dat in [
+        b"7,1000,-12,1,0".as_slice(),
+        b"007,1000,-12,1,0\r\n",
+        b"7,1000,-12,1, 0",
+        b"7,1000,-12,1,00",
+        b"7,1000,-12,01,0",
+        b"7,1000, -12,1,0",
+        b"7,1000,-000000000012,1,0",
+        b"7,+1000,-12,1,0",
+        b" 7,1000,-12,1,0",
+    ] {
+        assert!(rt; is_the_row(&rt, dat));
+    }
+}
+
+#[test]
+fn rows_that_begin_well(rt: HostRuntime) {
+    for (dat, fault) in [
+        (
+            b"10000000000,1000,-12,1,0".as_slice(),
+            ReadFault::Number(1, 1),
+        ),
+        (b"-7,1000,-12,1,0", ReadFault::Number(1, 1)),
+        (b"7,-1000,-12,1,0", ReadFault::Number(1, 2)),
+        (b"7,1000,-100000,1,0", ReadFault::Number(1, 3)),
+        (b"7,1000,-12,2,0", ReadFault::Number(1, 4)),
+        (b"7,1000,-12,1,", ReadFault::Number(1, 5)),
+        (b"7,1000,-12,1,0,", ReadFault::Fields(1)),
+        (b"7,1000,-12,1", ReadFault::Fields(1)),
+        (b"7,1000", ReadFault::Fields(1)),
+    ] {
+        assert_eq!(rt; dat_fault(&rt, CONTACTS, dat), Some((Part::Dat, fault)));
+    }
 }
 
 #[test]
