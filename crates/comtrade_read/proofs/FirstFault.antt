@@ -13,7 +13,7 @@ use Rattle.dfr_channels.proofs.Lawful.{or-none}
 
 -- whether test i passes the field at a place
 abbrev passes_at : List (List ℕ → Bool) → List (List ℕ) → ℕ → ℕ → Bool
-passes_at tests fs i at = (slice_index_or tests i always) (field fs at)
+passes_at tests fs i place = (slice_index_or tests i always) (field fs place)
 
 abbrev some : ReadFault → Option ReadFault
 some e = Some e

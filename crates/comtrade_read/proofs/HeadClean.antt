@@ -1,11 +1,10 @@
 -- Each field of a configuration file that is written stands clean in its line.
-use Rattle.std.proofs.Common.{◌≡◌, ℕ, suc, ◌+◌, ◌-◌, ◌<◌, ◌≤◌, ◌^◌, max, true, List, [], ◌∷◌, ◌++◌, length, map, Some, refl, arith}
+use Rattle.std.proofs.Common.{◌≡◌, ℕ, suc, ◌+◌, ◌<◌, ◌≤◌, ◌^◌, true, List, [], ◌∷◌, ◌++◌, length, map, Some, refl, arith}
 use Rattle.std.specs.Prelude.{ℤ, pos, negsuc, neg_ℤ, ◌≤ℤ◌, int_le, slice_get, unsigned_abs, codes}
 use Rattle.std.specs.List.{AllByRecursion}
 use Rattle.std.specs.Fmt.{decimal, signed_decimal}
 use Rattle.std.proofs.lemmas.Int.{ints}
 use Rattle.std.proofs.lemmas.Bool.{and_parts}
-use Rattle.dfr_channels.specs.Faults.{◌or◌}
 use Rattle.dfr_channels.specs.Spelling.{Number, IsNumber}
 use Rattle.dfr_channels.specs.Written.{decimal_text}
 use Rattle.dfr_channels.specs.Parts.{AnalogParts, StatusParts}
@@ -16,8 +15,6 @@ use Rattle.comtrade_write.specs.Numbered.{numbered}
 use Rattle.comtrade_write.specs.Dates.{day_number, time_of_day}
 use Rattle.comtrade_write.specs.Cfg.{side_text, kind_text}
 use Rattle.comtrade_write.specs.Shape as shape
-use Rattle.comtrade_read.specs.Fields.{small, scale}
-use Rattle.comtrade_read.specs.Head.{kind}
 use Rattle.comtrade_read.proofs.AllOf.{All-append}
 use Rattle.comtrade_read.proofs.WrittenFields.{IsClean, clean_printed, clean_plain, printed_decimal, printed_signed, printed_number, printed_count, printed_side, printed_bit, printed_kind, printed_revision}
 use Rattle.comtrade_read.proofs.WrittenLines.{IsCleanLine}

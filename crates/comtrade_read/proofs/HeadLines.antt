@@ -1,11 +1,10 @@
 -- The lines of a configuration file that is written.
-use Rattle.std.proofs.Common.{◌≡◌, ℕ, ◌+◌, ◌-◌, max, List, [], ◌∷◌, ◌++◌, length, map, refl, sym, ap, ◌∙◌, append_assoc}
+use Rattle.std.proofs.Common.{◌≡◌, ℕ, ◌+◌, List, [], ◌∷◌, ◌++◌, length, map, refl, sym, ap, ◌∙◌, append_assoc}
 use Rattle.std.specs.Prelude.{ℤ, codes}
 use Rattle.std.specs.List.{flat_map}
 use Rattle.std.specs.Fmt.{decimal, signed_decimal}
 use Rattle.std.proofs.lemmas.Grind.{flat_map-append}
 use Rattle.std.proofs.lemmas.List.{append-nil}
-use Rattle.dfr_channels.specs.Faults.{◌or◌}
 use Rattle.dfr_channels.specs.Written.{decimal_text}
 use Rattle.dfr_channels.specs.Parts.{AnalogParts, StatusParts}
 use Rattle.comtrade_write.specs.declared.file.Rate.{Rate}
@@ -14,30 +13,28 @@ use Rattle.comtrade_write.specs.Lines.{line, bit_text}
 use Rattle.comtrade_write.specs.Numbered.{each_from, numbered}
 use Rattle.comtrade_write.specs.Dates.{civil_of, day_number, time_of_day, date_text, time_text, instant_text}
 use Rattle.comtrade_write.specs.Cfg.{side_text, kind_text, station_line, counts_line, analog_line, status_line, rate_line, top_lines, channels_text, rate_lines, last_lines, cfg}
-use Rattle.comtrade_write.specs.Shape as shape
-use Rattle.comtrade_read.specs.Head.{kind}
 
-pub names_fields : List ℕ → List ℕ → List (List ℕ)
+unfoldable pub names_fields : List ℕ → List ℕ → List (List ℕ)
 names_fields station device = station ∷ device ∷ codes "1999" ∷ []
 
-pub counts_fields : ℕ → ℕ → List (List ℕ)
+unfoldable pub counts_fields : ℕ → ℕ → List (List ℕ)
 counts_fields k m = decimal (k + m) ∷ (decimal k ++ 65 ∷ []) ∷ (decimal m ++ 68 ∷ []) ∷ []
 
-pub analog_fields : ℕ → AnalogParts → List (List ℕ)
+unfoldable pub analog_fields : ℕ → AnalogParts → List (List ℕ)
 analog_fields n c =
     decimal n ∷ c.id ∷ c.phase ∷ c.component ∷ c.unit ∷ decimal_text c.a ∷ decimal_text c.b ∷ decimal_text c.skew
     ∷ signed_decimal c.min ∷ signed_decimal c.max ∷ decimal_text c.primary ∷ decimal_text c.secondary ∷ side_text c.side ∷ []
 
-pub status_fields : ℕ → StatusParts → List (List ℕ)
+unfoldable pub status_fields : ℕ → StatusParts → List (List ℕ)
 status_fields n c = decimal n ∷ c.id ∷ c.phase ∷ c.component ∷ bit_text c.normal ∷ []
 
-pub rate_fields : Rate → List (List ℕ)
+unfoldable pub rate_fields : Rate → List (List ℕ)
 rate_fields r = decimal_text r.samp ∷ decimal r.endsamp ∷ []
 
-pub instant_fields : ℤ → List (List ℕ)
+unfoldable pub instant_fields : ℤ → List (List ℕ)
 instant_fields t = date_text (civil_of (day_number t)) ∷ time_text (time_of_day t) ∷ []
 
-pub one : List ℕ → List (List ℕ)
+unfoldable pub one : List ℕ → List (List ℕ)
 one f = f ∷ []
 
 abbrev pub ends : HeadParts → List (List (List ℕ))
@@ -46,7 +43,7 @@ ends h = instant_fields h.first ∷ instant_fields h.trigger ∷ one (kind_text 
 abbrev pub tail : HeadParts → List (List (List ℕ))
 tail h = one (decimal_text h.line_freq) ∷ one (decimal h.nrates) ∷ (map rate_fields h.rates ++ ends h)
 
-pub head_lines : HeadParts → List (List (List ℕ))
+unfoldable pub head_lines : HeadParts → List (List (List ℕ))
 head_lines h =
     names_fields h.station h.device ∷ counts_fields (length h.analog) (length h.status)
     ∷ (numbered analog_fields 1 h.analog ++ (numbered status_fields 1 h.status ++ tail h))

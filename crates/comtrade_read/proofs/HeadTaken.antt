@@ -4,7 +4,6 @@ use Rattle.std.specs.Prelude.{ℤ, pos, neg_ℤ, int_le, ◌&&◌, slice_get}
 use Rattle.std.specs.List.{list_all, AllByRecursion}
 use Rattle.std.proofs.lemmas.Bool.{leb-true, ltb-true, eqb-true, and_parts}
 use Rattle.std.proofs.lemmas.Bool.Decides.{nat_tests}
-use Rattle.dfr_channels.specs.Faults.{◌or◌}
 use Rattle.dfr_channels.specs.Texts.{is_name, is_phase, is_unit}
 use Rattle.dfr_channels.specs.Parts.{AnalogParts, StatusParts}
 use Rattle.comtrade_write.specs.declared.file.Rate.{Rate}
@@ -12,7 +11,6 @@ use Rattle.comtrade_write.specs.Parts.{HeadParts}
 use Rattle.comtrade_write.specs.Numbered.{first_from}
 use Rattle.comtrade_write.specs.Shape as shape
 use Rattle.comtrade_write.specs.Refusals.{text_fault, names_refusal, analog_refusal, status_refusal, text_refusal}
-use Rattle.comtrade_read.specs.Fields.{scale}
 use Rattle.comtrade_read.specs.Spells.{sample_before}
 use Rattle.comtrade_read.specs.Data.{last_sample}
 use Rattle.comtrade_read.specs.ReadBack.{HasScale, HasNumbers}

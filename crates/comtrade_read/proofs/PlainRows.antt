@@ -1,5 +1,5 @@
 -- Rows in the writers' spelling are rows by the full rule.
-use Rattle.std.proofs.Common.{◌≡◌, ℕ, zero, suc, ◌+◌, ◌-◌, ◌<◌, ◌≤◌, List, [], ◌∷◌, ◌++◌, length, get_or, take, drop, Bool, true, false, cond, eqb, Option, Some, None, refl, sym, ap, ◌∙◌, arith, length-drop, map}
+use Rattle.std.proofs.Common.{◌≡◌, ℕ, suc, ◌+◌, ◌-◌, ◌<◌, ◌≤◌, List, [], ◌∷◌, ◌++◌, length, get_or, take, drop, Bool, true, false, cond, eqb, Option, Some, refl, sym, ap, ◌∙◌, arith, length-drop}
 use Rattle.std.specs.Prelude.{unwrap_or, ℤ, pos, negsuc, option_map}
 use Rattle.std.proofs.lemmas.List.{drop-drop, get_or-drop, take_all}
 use Rattle.std.proofs.lemmas.List.FromFn.{map-range_with_len_more}
@@ -9,10 +9,8 @@ use Rattle.dfr_channels.specs.Lines.{field, fields}
 use Rattle.dfr_channels.specs.PlainNumbers.{Begins, fields_behind}
 use Rattle.dfr_channels.specs.declared.scan.Reading.{Reading}
 use Rattle.dfr_channels.specs.declared.scan.Reading.TheVariants.{Missing}
-use Rattle.comtrade_write.specs.Parts.{RowParts}
 use Rattle.comtrade_read.specs.Fields.{natural, small, within, up_to, bit}
-use Rattle.comtrade_read.specs.Table.{fields_fault}
-use Rattle.comtrade_read.specs.Ascii.{stamp, value, reading, cells, cell_faults, row_rule, row_value}
+use Rattle.comtrade_read.specs.Ascii.{stamp, value, reading, cell_faults}
 use Rattle.comtrade_read.specs.PlainRows.{IsNext, AreNext, IsRow}
 use Rattle.comtrade_read.proofs.FirstFault.{starts, goes_on}
 use Rattle.comtrade_read.proofs.RowLine.{row_is}

@@ -8,10 +8,8 @@ use Rattle.dfr_channels.specs.Lines.{field}
 use Rattle.dfr_channels.specs.Parts.{AnalogParts, StatusParts}
 use Rattle.dfr_channels.specs.declared.channel.Side.TheVariants.{Primary}
 use Rattle.dfr_channels.specs.declared.scan.Reading.TheVariants as readings
-use Rattle.dfr_channels.specs.Faults.{◌or◌}
 use Rattle.comtrade_write.specs.declared.file.Rate.{Rate}
 use Rattle.comtrade_write.specs.Parts.{RowParts}
-use Rattle.comtrade_read.specs.declared.fault.ReadFault.{ReadFault}
 use Rattle.comtrade_read.specs.declared.fault.ReadFault.TheVariants as faults
 use Rattle.comtrade_read.specs.Fields.{whole, natural, up_to, small, scale, free_scale, zero_number, count, side, bit, free_bit}
 use Rattle.comtrade_read.specs.Instant.{date, time}

@@ -1,4 +1,3 @@
-use Rattle.dfr_channels.specs.Lines.{fields}
 use Rattle.comtrade_read.proofs.PlainRows.{row_of_fields}
 use Rattle.comtrade_read.proofs.plain_rows.plain_row.Goals as goal
 
