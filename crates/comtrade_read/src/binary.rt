@@ -75,12 +75,12 @@ fn group_len(left: usize) -> usize
 
 /// The first status bits, sixteen to a group, the lowest channel in the lowest bit.
 fn bits_of<A: Allocator>(alloc: A, bytes: &[u8], count: usize) -> Result<Vec<bool, A>, AllocError>
-    requires few { count < 1000000 }
-    requires whole { 2 * ((count + 15) / 16) ≤ length bytes.now }
+    requires { 2 * ((count + 15) / 16) ≤ length bytes.now }
     ensures { IfOk result (λ v. v.items ≡ spec.bits_at count bytes.now) }
 {
     let mut bits = Vec::with_capacity(alloc, count)?;
-    for i in 0..(count + 15) / 16 {
+    let groups = count.div_ceil(16);
+    for i in 0..groups {
         let group = LittleEndian::read_u16(&bytes[2 * i..]);
         push_group(&mut bits, group, group_len(count - 16 * i));
     }

@@ -11,8 +11,8 @@ loop-i-preserved g c =
     let i = c.loop-i.i in
     let n = 2 * i in
     let d = c.group_len.result in
-    let here : min (16 * i) c.args.count ≡ 16 * i = omega (arith, c.loop-i-test.true) in
-    let next : 16 * i + d ≡ min (16 * (i + 1)) c.args.count = omega (arith, c.loop-i-test.true, c.group_len.ensures) in
+    let here : min (16 * i) c.args.count ≡ 16 * i = omega (arith, c.div_ceil-groups.ensures, c.loop-i-test.true) in
+    let next : 16 * i + d ≡ min (16 * (i + 1)) c.args.count = omega (arith, c.div_ceil-groups.ensures, c.loop-i-test.true, c.group_len.ensures) in
     let t : take (length bytes - n) (drop n bytes) ≡ drop n bytes = take_all (length bytes - n) (drop n bytes) (omega (arith, length-drop n bytes)) in
     let joined : c.loop-i.bits.items ++ group_bits d c.read_u16-group.result ≡ bits_at (16 * i + d) bytes =
     rw (c.loop-i.invariant.items, here, c.read_u16-group.ensures, t) (group_behind bytes i d (omega (arith, c.group_len.ensures))) in
