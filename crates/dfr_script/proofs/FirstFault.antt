@@ -1,16 +1,14 @@
--- The first fault of lines, as a loop finds it, and the draft of lines.
-use Rattle.std.proofs.Common.{◌≡◌, ℕ, zero, suc, ◌+◌, ◌-◌, ◌<◌, List, [], ◌∷◌, ◌++◌, length, take, Option, Some, None, Bor, refl, sym, ap, ◌∙◌, arith, inl, inr}
-use Rattle.std.specs.Prelude.{fold, option_to_list, position, not, Bool}
+-- The first fault of lines, as a loop finds it, and the commands of lines.
+use Rattle.std.proofs.Common.{◌≡◌, ℕ, zero, suc, ◌+◌, ◌-◌, ◌<◌, List, [], ◌∷◌, ◌++◌, length, Option, Some, None, Bor, refl, sym, ap, ◌∙◌, arith, inl, inr}
+use Rattle.std.specs.Prelude.{option_to_list, position, not, Bool}
 use Rattle.std.specs.List.{filter_map, range_with_len, prefix_len}
 use Rattle.std.proofs.lemmas.Bool.{cases_lt}
-use Rattle.std.proofs.lemmas.List.{take_more, length-map, map-id}
-use Rattle.std.proofs.lemmas.List.Sums.{fold-append}
+use Rattle.std.proofs.lemmas.List.{length-map, map-id}
 use Rattle.dfr_channels.specs.Lines.{texts}
 use Rattle.dfr_script.specs.declared.fault.Word.TheVariants as word
 use Rattle.dfr_script.specs.declared.fault.ScriptFault.{ScriptFault}
 use Rattle.dfr_script.specs.declared.fault.ScriptRefusal.{ScriptRefusal}
 use Rattle.dfr_script.specs.declared.fault.ScriptRefusal.TheVariants.{Fault, Memory}
-use Rattle.dfr_script.specs.Drafts.{with_line, draft_of, empty}
 use Rattle.std.proofs.lemmas.List.FromFn.{map-range_with_len_more}
 use Rattle.std.proofs.lemmas.List.Elements.{filter_map-append}
 use Rattle.dfr_script.specs.Parts.{CommandParts}
@@ -36,14 +34,6 @@ stops f e i (suc n) none here lt = elim (cases_lt i n) [
 pub tells_first : (f : ℕ → Option ScriptFault) (r : ScriptRefusal) (i count : ℕ) → first_in f i ≡ None → Tells (f i) r → i < count → Tells (first_in f count) r
 tells_first f (Fault e) i count none here lt = stops f e i count none here lt
 tells_first f Memory i count none here lt = tt
-
-pub draft_none : (ls : List (List ℕ)) → draft_of (take 0 ls) ≡ empty
-unfolding draft_of
-draft_none ls = refl
-
-pub draft_more : (ls : List (List ℕ)) (i : ℕ) → i < length ls → draft_of (take (i + 1) ls) ≡ with_line (draft_of (take i ls)) (line ls i)
-unfolding draft_of
-draft_more ls i lt = ap (fold with_line empty) (take_more ls i [] lt) ∙ fold-append with_line empty (take i ls) (line ls i ∷ [])
 
 range_more : (a n : ℕ) → range_with_len a (n + 1) ≡ range_with_len a n ++ (a + n) ∷ []
 range_more a n = sym (map-id (range_with_len a (n + 1))) ∙ map-range_with_len_more (λ (x : ℕ). x) a n (a + n) refl ∙ ap (λ xs. xs ++ (a + n) ∷ []) (map-id (range_with_len a n))

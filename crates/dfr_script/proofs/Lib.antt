@@ -4,3 +4,4 @@ pub mod FirstByte
 pub mod FirstFault
 pub mod PlainBits
 pub mod PlainNumbers
+pub mod SetUpLines

@@ -1,7 +1,8 @@
--- What the lines of a set-up add to each other.
-use Rattle.std.specs.Prelude.{ℕ, ◌==◌, Bool, false, ◌&&◌, if◌then◌else◌, List, [], ◌∷◌, ◌++◌, Option, Some, None, is_some, unwrap_or, pos, fold}
+-- What the lines of a set-up say, and what is wrong with the first one that is at fault.
+use Rattle.std.specs.Prelude.{ℕ, ℤ, pos, ◌==◌, Bool, false, ◌&&◌, not, if◌then◌else◌, List, [], map, filter, find, Option, Some, None, is_some, unwrap_or, option_map, codes}
 use Rattle.std.specs.List.{list_any}
-use Rattle.dfr_channels.specs.Spelling.{decimal_number}
+use Rattle.std.specs.Str.{bytes_eq}
+use Rattle.dfr_channels.specs.Spelling.{decimal_number, Number}
 use Rattle.dfr_script.specs.declared.fault.Word.{Word}
 use Rattle.dfr_script.specs.declared.fault.Word.TheVariants as fault
 use Rattle.dfr_script.specs.declared.limit_line.LimitNumbers.{LimitNumbers}
@@ -14,6 +15,42 @@ use Rattle.dfr_script.specs.Limits.{limits_line_fault, limits_line_value, number
 use Rattle.dfr_script.specs.RuleLines.{rules_fault, rules_value}
 use Rattle.dfr_script.specs.Settings.{setting}
 use Rattle.dfr_script.specs.Parts.{DraftParts, ScriptParts}
+
+-- what the rest of a line says, where it can be read
+abbrev pub freq_value : List ℕ → Number
+freq_value rest = decimal_in (decimal_number rest)
+
+abbrev pub rate_value : List ℕ → ℕ
+rate_value rest = number_in (natural rest)
+
+abbrev pub start_value : List ℕ → ℤ
+start_value rest = unwrap_or (instant rest) (pos 0)
+
+-- whether the line has this word and isn't passed over
+unfoldable pub has_word : List ℕ → List ℕ → Bool
+has_word w line = not (is_silent line) && bytes_eq (word line) w
+
+-- what the first line with this word says, where there is one
+abbrev pub said : {X : Type 0} → (List ℕ → X) → List ℕ → List (List ℕ) → Option X
+said read w ls = option_map (λ line. read (rest line)) (find (has_word w) ls)
+
+-- what each line with this word says, in order
+abbrev pub all_said : {X : Type 0} → (List ℕ → X) → List ℕ → List (List ℕ) → List X
+all_said read w ls = map (λ line. read (rest line)) (filter (has_word w) ls)
+
+-- what the lines of a set-up say
+unfoldable pub draft_of : List (List ℕ) → DraftParts
+draft_of ls = record {
+  station = said (λ rest. rest) (codes "station") ls;
+  device = said (λ rest. rest) (codes "device") ls;
+  analog = all_said analog_line_value (codes "analog") ls;
+  status = all_said status_line_value (codes "status") ls;
+  line_freq = said freq_value (codes "freq") ls;
+  rate = said rate_value (codes "rate") ls;
+  start = said start_value (codes "start") ls;
+  limits = said limits_line_value (codes "limits") ls;
+  rules = said rules_value (codes "rules") ls;
+}
 
 abbrev pub empty : DraftParts
 empty = record {
@@ -61,37 +98,13 @@ rest_fault Rules rest = rules_fault rest
 unfoldable pub add_fault : DraftParts → Setting → List ℕ → Option Word
 add_fault d s rest = if has d s then Some fault.Word else rest_fault s rest
 
--- what the line adds
-unfoldable pub added : DraftParts → Setting → List ℕ → DraftParts
-added d Station rest = record d { station = Some rest }
-added d Device rest = record d { device = Some rest }
-added d Analog rest = record d { analog = d.analog ++ analog_line_value rest ∷ [] }
-added d Status rest = record d { status = d.status ++ status_line_value rest ∷ [] }
-added d Freq rest = record d { line_freq = Some (decimal_in (decimal_number rest)) }
-added d Rate rest = record d { rate = Some (number_in (natural rest)) }
-added d Start rest = record d { start = Some (unwrap_or (instant rest) (pos 0)) }
-added d Limits rest = record d { limits = Some (limits_line_value rest) }
-added d Rules rest = record d { rules = Some (rules_value rest) }
-
 abbrev pub word_fault : DraftParts → Option Setting → List ℕ → Option Word
 word_fault d None rest = Some fault.Word
 word_fault d (Some s) rest = add_fault d s rest
 
-abbrev pub word_added : DraftParts → Option Setting → List ℕ → DraftParts
-word_added d None rest = d
-word_added d (Some s) rest = added d s rest
-
 -- what is wrong with a line before `go`, behind the lines that came
 unfoldable pub line_fault : DraftParts → List ℕ → Option Word
 line_fault d line = if is_silent line then None else word_fault d (setting (word line)) (rest line)
-
--- the draft with the line
-unfoldable pub with_line : DraftParts → List ℕ → DraftParts
-with_line d line = if is_silent line then d else word_added d (setting (word line)) (rest line)
-
--- the lines, added one after the other
-unfoldable pub draft_of : List (List ℕ) → DraftParts
-draft_of ls = fold with_line empty ls
 
 -- each line that a set-up needs came
 unfoldable pub is_complete : DraftParts → Bool

@@ -10,5 +10,6 @@ pub mod PlainBits
 pub mod Settings
 pub mod Parts
 pub mod Drafts
+pub mod Steps
 pub mod Commands
 pub mod Scripts

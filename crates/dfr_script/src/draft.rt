@@ -70,7 +70,8 @@ fn single<T: Drop>(rest: &[u8], read: Option<T>) -> Result<T, LineRefusal>
 impl<A: Allocator + Copy> Draft<A> {
     ghost use Rattle.std.specs.Prelude.{◌≡◌, MatchResult, MatchOption, true, false, None};
     ghost use Rattle.dfr_script.specs.Faults.{Refuses};
-    ghost use Rattle.dfr_script.specs.Drafts.{empty, has, add_fault, added, rest_fault, is_complete, script_in};
+    ghost use Rattle.dfr_script.specs.Drafts.{empty, has, add_fault, rest_fault, is_complete, script_in};
+    ghost use Rattle.dfr_script.specs.Steps.{added};
 
     pub(crate) fn new(alloc: A) -> Draft<A>
         ensures { result ≡ empty }
@@ -106,7 +107,7 @@ impl<A: Allocator + Copy> Draft<A> {
     }
 
     /// Puts what the rest of a line says in its place; a fault leaves the draft as it was.
-    #[tactic(auto, unfolding(crate::specs::Drafts::rest_fault, crate::specs::Drafts::added))]
+    #[tactic(auto, unfolding(crate::specs::Drafts::rest_fault, crate::specs::Steps::added))]
     fn put(&mut self, alloc: A, setting: Setting, rest: &[u8]) -> Result<(), LineRefusal>
         ensures { MatchResult result
             (λ _. (rest_fault setting rest.now ≡ None) × (self.new ≡ added self.old setting rest.now))

@@ -8,6 +8,7 @@ ghost use Rattle.dfr_script.specs.Scripts.{Tells};
 ghost use Rattle.dfr_script.specs.Commands.{parts_of};
 ghost use Rattle.dfr_script.specs.Commands as commands;
 ghost use Rattle.dfr_script.specs.Drafts as drafts;
+ghost use Rattle.dfr_script.specs.Steps as steps;
 ghost use Rattle.dfr_script.specs.Scripts as spec;
 
 use crate::command::{Command, command_of};
@@ -60,14 +61,14 @@ fn at_place(place: usize, refusal: LineRefusal) -> ScriptRefusal
 }
 
 /// Adds a line before `go`; a fault leaves the draft as it was.
-#[tactic(auto, unfolding(crate::specs::Drafts::line_fault, crate::specs::Drafts::with_line))]
+#[tactic(auto, unfolding(crate::specs::Drafts::line_fault, crate::specs::Steps::with_line))]
 fn add_line<A: Allocator + Copy>(
     alloc: A,
     draft: &mut Draft<A>,
     text: &[u8],
 ) -> Result<(), LineRefusal>
     ensures { MatchResult result
-        (λ _. (drafts.line_fault draft.old text.now ≡ None) × (draft.new ≡ drafts.with_line draft.old text.now))
+        (λ _. (drafts.line_fault draft.old text.now ≡ None) × (draft.new ≡ steps.with_line draft.old text.now))
         (Refuses (drafts.line_fault draft.old text.now)) }
 {
     if is_silent(text) {

@@ -3,7 +3,8 @@ use Rattle.dfr_channels.specs.Lines.{texts}
 use Rattle.dfr_script.specs.Drafts as drafts
 use Rattle.dfr_script.specs.Scripts.{setting_fault, line, at_place}
 use Rattle.dfr_script.proofs.CutFields.{text_at, within}
-use Rattle.dfr_script.proofs.FirstFault.{starts, goes_on, tells_first, draft_none, draft_more}
+use Rattle.dfr_script.proofs.FirstFault.{starts, goes_on, tells_first}
+use Rattle.dfr_script.proofs.SetUpLines.{draft_none, draft_more}
 use Rattle.dfr_script.proofs.script.draft_of.Goals as goal
 
 pub loop-i-init : goal.loop-i-init
@@ -27,7 +28,7 @@ loop-i-preserved g c =
     let none : drafts.line_fault (drafts.draft_of (take i ls)) (line ls i) ≡ None = rw (t, ← c.loop-i.invariant.same) c.in-Ok.ensures.0 in
     record {
       sound = goes_on (setting_fault ls) i c.loop-i.invariant.sound (ap (at_place i) none);
-      same = c.in-Ok.ensures.1 ∙ rw (draft_more ls i (within c.args.lines.now i lt), t, ← c.loop-i.invariant.same) refl;
+      same = c.in-Ok.ensures.1 ∙ rw (draft_more ls i (within c.args.lines.now i lt) none, t, ← c.loop-i.invariant.same) refl;
     }
 
 pub returns : goal.returns
