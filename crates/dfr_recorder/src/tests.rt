@@ -200,24 +200,19 @@ fn limits_in_order(rt: HostRuntime) -> Result<(), Fail> {
     Ok(())
 }
 
-/// Four scans, a trigger and two scans, which close a record; then these steps.
-fn steps<const N: usize>(alloc: Global, last: [Step; N]) -> Result<VecDeque<Step>, Fail> {
+fn add(steps: &mut VecDeque<Step>, step: Step) -> Result<(), Fail> {
+    Ok(steps.push_back(step).ok().ok_or("memory")?)
+}
+
+/// Four scans, a trigger, and two scans, which close a record.
+fn first_steps(alloc: Global) -> Result<VecDeque<Step>, Fail> {
     let mut steps = VecDeque::new(alloc);
     for (x, _, _) in BEFORE {
-        steps
-            .push_back(Step::Scan(value(alloc, x)?))
-            .ok()
-            .ok_or("step")?;
+        add(&mut steps, Step::Scan(value(alloc, x)?))?;
     }
-    steps.push_back(Step::Trigger).ok().ok_or("step")?;
+    add(&mut steps, Step::Trigger)?;
     for (x, _, _) in AFTER {
-        steps
-            .push_back(Step::Scan(value(alloc, x)?))
-            .ok()
-            .ok_or("step")?;
-    }
-    for step in last {
-        steps.push_back(step).ok().ok_or("step")?;
+        add(&mut steps, Step::Scan(value(alloc, x)?))?;
     }
     Ok(steps)
 }
@@ -234,14 +229,21 @@ fn ends_so(answers: &[Answer]) -> bool {
     }
 }
 
+fn takes_first(answers: &[Answer]) -> bool {
+    match answers {
+        [.., Answer::Take(Some(record))] => is_record(record, FIRST, &[11, 12, 13, 14, 15]),
+        _ => false,
+    }
+}
+
 #[test]
 fn runs_a_take(rt: HostRuntime) -> Result<(), Fail> {
     let alloc = rt.alloc();
-    let ran = run(alloc, recorder(alloc, 1)?, steps(alloc, [Step::Take])?);
+    let mut steps = first_steps(alloc)?;
+    add(&mut steps, Step::Take)?;
+    let ran = run(alloc, recorder(alloc, 1)?, steps);
     assert!(rt; ran.stopped.is_none() && ran.rest.is_empty() && ran.answers.len() == 8);
-    assert!(rt;
-        matches!(ran.answers.as_slice(), [.., Answer::Take(Some(record))] if is_record(record, FIRST, &[11, 12, 13, 14, 15]))
-    );
+    assert!(rt; takes_first(&ran.answers));
     Ok(())
 }
 
@@ -249,7 +251,10 @@ fn runs_a_take(rt: HostRuntime) -> Result<(), Fail> {
 #[test]
 fn runs_on_a_full_shelf(rt: HostRuntime) -> Result<(), Fail> {
     let alloc = rt.alloc();
-    let steps = steps(alloc, [Step::Trigger, Step::Take, Step::Trigger])?;
+    let mut steps = first_steps(alloc)?;
+    add(&mut steps, Step::Trigger)?;
+    add(&mut steps, Step::Take)?;
+    add(&mut steps, Step::Trigger)?;
     let ran = run(alloc, recorder(alloc, 1)?, steps);
     assert!(rt; ran.stopped.is_none() && ran.rest.is_empty() && ran.answers.len() == 10);
     assert!(rt; ends_so(&ran.answers));
