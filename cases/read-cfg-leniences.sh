@@ -1,12 +1,5 @@
 # the first configuration with a line replaced, which is read all the same: line, text, what is printed, status
-folder=$(mktemp -d)
-trap 'rm -r "$folder"' EXIT
-tried() {
-    local first=files/first.cfg
-    { head -n "$(($1 - 1))" "$first"; printf '%b\r\n' "$2"; tail -n "+$(($1 + 1))" "$first"; } > "$folder/cfg"
-    got=$("$dfr" read "$folder/cfg" files/first.dat; echo "$?")
-    echo "$1 | $2 | ${got//$'\n'/ | }"
-}
+. files/changed-line.bash
 tried 1 ',DFR,1999'
 tried 1 ' a\tb\t, ,+01999 '
 tried 1 'a;b,"c",1999'
