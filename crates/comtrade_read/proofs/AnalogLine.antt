@@ -5,9 +5,11 @@ use Rattle.std.specs.Int.{w128}
 use Rattle.std.proofs.lemmas.Bool.Decides.{nat_tests}
 use Rattle.dfr_channels.specs.Parts.{AnalogParts}
 use Rattle.dfr_channels.specs.Lines.{field, line_fields}
-use Rattle.comtrade_read.specs.Fields.{whole, natural, small, scale, free_scale, side}
-use Rattle.comtrade_read.specs.Table.{fields_fault}
-use Rattle.comtrade_read.specs.Head.{analog_rule, analog_value, rate_before}
+use Rattle.dfr_channels.specs.Fields.{free_scale, side}
+use Rattle.comtrade_read.specs.Fields.{whole, natural, small, scale}
+use Rattle.comtrade_read.specs.LineSteps.{fields_fault}
+use Rattle.comtrade_read.specs.Head.{analog_rule, rate_before}
+use Rattle.comtrade_read.specs.HeadSteps.{analog_value}
 
 same : (n : ℕ) → eqb n n ≡ true
 same n = grind (arith, nat_tests)

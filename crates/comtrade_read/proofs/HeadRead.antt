@@ -6,12 +6,14 @@ use Rattle.std.proofs.lemmas.List.FromFn.{length-map-range_with_len}
 use Rattle.dfr_channels.specs.Spelling.{whole_number}
 use Rattle.comtrade_read.specs.declared.fault.ReadFault.{ReadFault}
 use Rattle.comtrade_read.specs.declared.fault.ReadFault.TheVariants as faults
-use Rattle.comtrade_read.specs.Fields.{up_to, natural}
+use Rattle.dfr_channels.specs.Fields.{up_to}
+use Rattle.comtrade_read.specs.Fields.{natural}
 use Rattle.comtrade_write.specs.Parts.{HeadParts}
 use Rattle.dfr_channels.specs.Lines.{field, line_fields}
-use Rattle.comtrade_read.specs.Table.{Gives, line_fault, first_in}
+use Rattle.comtrade_read.specs.LineSteps.{Gives, line_fault, first_in}
 use Rattle.comtrade_read.specs.Faulty.{AllObey, Faulty}
-use Rattle.comtrade_read.specs.Head.{TailParts, names_rule, counts_rule, analog_faults, status_faults, analog_items, status_items, analog_value, status_value, analog_count, status_count, rate_count, head_rules, head_fault, head_value, tail_fault, tail_value, chain, value_of}
+use Rattle.comtrade_read.specs.Head.{names_rule, counts_rule, analog_count, status_count, rate_count, head_rules}
+use Rattle.comtrade_read.specs.HeadSteps.{TailParts, analog_faults, status_faults, analog_items, status_items, analog_value, status_value, head_fault, head_value, tail_fault, tail_value, chain, value_of}
 use Rattle.comtrade_read.proofs.FirstFault.{file_first, file_sound}
 use Rattle.comtrade_read.proofs.Chain.{chain_is}
 

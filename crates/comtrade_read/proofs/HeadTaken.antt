@@ -13,14 +13,14 @@ use Rattle.comtrade_write.specs.Shape as shape
 use Rattle.comtrade_write.specs.Refusals.{text_fault, names_refusal, analog_refusal, status_refusal, text_refusal}
 use Rattle.comtrade_read.specs.Spells.{sample_before}
 use Rattle.comtrade_read.specs.Data.{last_sample}
-use Rattle.comtrade_read.specs.ReadBack.{HasScale, HasNumbers}
+use Rattle.comtrade_read.specs.ReadBack.{HasDecimals, HasNumbers}
 use Rattle.comtrade_read.proofs.WrittenDates.{Instant, instant_written}
 use Rattle.comtrade_read.proofs.WrittenRows.{int_le-is}
 use Rattle.dfr_channels.proofs.Lawful.{or-none, unless-none}
 
 -- a channel that the writer takes
 pub record AnalogTaken (c : AnalogParts) : Type 0 where
-  pub scale : HasScale c
+  pub scale : HasDecimals c
   pub id : is_name c.id ≡ true
   pub phase : is_phase c.phase ≡ true
   pub component : is_name c.component ≡ true
@@ -32,7 +32,7 @@ pub record StatusTaken (c : StatusParts) : Type 0 where
   pub phase : is_phase c.phase ≡ true
   pub component : is_name c.component ≡ true
 
-analog_taken : (n : ℕ) (cs : List AnalogParts) → AllByRecursion HasScale cs → list_all shape.has_bounds cs ≡ true → first_from analog_refusal n cs ≡ None → AllByRecursion AnalogTaken cs
+analog_taken : (n : ℕ) (cs : List AnalogParts) → AllByRecursion HasDecimals cs → list_all shape.has_bounds cs ≡ true → first_from analog_refusal n cs ≡ None → AllByRecursion AnalogTaken cs
 unfolding analog_refusal
 analog_taken n [] h b e = tt
 analog_taken n (c ∷ cs) h b e =

@@ -16,7 +16,8 @@ use Rattle.dfr_channels.specs.declared.scan.Reading.{Reading}
 use Rattle.dfr_channels.specs.declared.scan.Reading.TheVariants as readings
 use Rattle.comtrade_write.specs.declared.file.Kind.{Kind}
 use Rattle.comtrade_write.specs.declared.file.Kind.TheVariants.{Ascii, Binary}
-use Rattle.comtrade_read.specs.Fields.{zero_number, whole, natural, up_to, small, within, scale, free_scale, count, before_letter, side, is_letter, as_bit, bit, free_bit}
+use Rattle.dfr_channels.specs.Fields.{zero_number, up_to, within, free_scale, side, is_letter, as_bit, bit, free_bit}
+use Rattle.comtrade_read.specs.Fields.{whole, natural, small, scale, count, before_letter}
 use Rattle.comtrade_read.specs.Instant.{digits, is_colon, is_dot, micros, scaled, both, seconds, time_of, time}
 use Rattle.comtrade_read.specs.Head.{kind}
 use Rattle.comtrade_read.specs.Ascii.{stamp, value, reading}
@@ -109,7 +110,7 @@ unfolding bit
 bit_plain f b e = number_none f (whole_number f) refl (bit_some b (whole_number f) e)
 
 pub free_bit_plain : (f : List ℕ) (b : Bool) → free_bit f ≡ Some b → HasNone 13 f
-unfolding free_bit
+unfolding free_bit bit
 free_bit_plain f b e = with_test (eqb (length f) 0) refl e
   where
     with_test : (t : Bool) → eqb (length f) 0 ≡ t → cond t (Some false) (as_bit (whole_number f)) ≡ Some b → HasNone 13 f

@@ -14,9 +14,12 @@ use Rattle.dfr_channels.specs.declared.scan.Reading.TheVariants.{Missing}
 use Rattle.comtrade_write.specs.Parts.{RowParts}
 use Rattle.comtrade_read.specs.declared.fault.ReadFault.{ReadFault}
 use Rattle.comtrade_read.specs.declared.fault.ReadFault.TheVariants as faults
-use Rattle.comtrade_read.specs.Fields.{natural, bit}
-use Rattle.comtrade_read.specs.Table.{reads, first_in}
-use Rattle.comtrade_read.specs.Ascii.{stamp, value, value_items, bit_items, row_value, cells, cell_faults, field_fault, value_faults, bit_faults, row_chain}
+use Rattle.dfr_channels.specs.Fields.{bit}
+use Rattle.comtrade_read.specs.Fields.{natural}
+use Rattle.comtrade_read.specs.Table.{reads}
+use Rattle.comtrade_read.specs.LineSteps.{first_in}
+use Rattle.comtrade_read.specs.Ascii.{stamp, value}
+use Rattle.comtrade_read.specs.RowSteps.{value_items, bit_items, row_value, cells, cell_faults, field_fault, value_faults, bit_faults, row_chain}
 use Rattle.comtrade_read.proofs.RowLine.{same_first}
 
 abbrev is_comma : ℕ → Bool

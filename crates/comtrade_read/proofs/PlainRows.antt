@@ -9,8 +9,10 @@ use Rattle.dfr_channels.specs.Lines.{field, fields}
 use Rattle.dfr_channels.specs.PlainNumbers.{Begins, fields_behind}
 use Rattle.dfr_channels.specs.declared.scan.Reading.{Reading}
 use Rattle.dfr_channels.specs.declared.scan.Reading.TheVariants.{Missing}
-use Rattle.comtrade_read.specs.Fields.{natural, small, within, up_to, bit}
-use Rattle.comtrade_read.specs.Ascii.{stamp, value, reading, cell_faults}
+use Rattle.dfr_channels.specs.Fields.{within, up_to, bit}
+use Rattle.comtrade_read.specs.Fields.{natural, small}
+use Rattle.comtrade_read.specs.Ascii.{stamp, value, reading}
+use Rattle.comtrade_read.specs.RowSteps.{cell_faults}
 use Rattle.comtrade_read.specs.PlainRows.{IsNext, AreNext, IsRow}
 use Rattle.comtrade_read.proofs.FirstFault.{starts, goes_on}
 use Rattle.comtrade_read.proofs.RowLine.{row_is}

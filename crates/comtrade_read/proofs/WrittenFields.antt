@@ -23,7 +23,8 @@ use Rattle.comtrade_write.specs.declared.file.Kind.TheVariants.{Ascii, Binary}
 use Rattle.comtrade_write.specs.Lines.{bit_text}
 use Rattle.comtrade_write.specs.Cfg.{side_text, kind_text}
 use Rattle.comtrade_write.specs.Ascii.{reading_text, stamp_text}
-use Rattle.comtrade_read.specs.Fields.{whole, natural, small, scale, free_scale, count, side, bit, free_bit}
+use Rattle.dfr_channels.specs.Fields.{free_scale, side, bit, free_bit}
+use Rattle.comtrade_read.specs.Fields.{whole, natural, small, scale, count}
 use Rattle.comtrade_read.specs.Head.{kind}
 use Rattle.comtrade_read.specs.Ascii.{stamp, value, reading}
 use Rattle.comtrade_read.specs.Joined.{HasNone}
@@ -120,7 +121,7 @@ bit_written true = refl
 bit_written false = refl
 
 pub free_bit_written : (b : Bool) → free_bit (bit_text b) ≡ Some b
-unfolding free_bit
+unfolding free_bit bit
 free_bit_written true = refl
 free_bit_written false = refl
 

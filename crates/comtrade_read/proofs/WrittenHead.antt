@@ -15,7 +15,8 @@ use Rattle.comtrade_write.specs.Numbered.{numbered}
 use Rattle.comtrade_write.specs.Dates.{day_number, time_of_day}
 use Rattle.comtrade_write.specs.Cfg.{kind_text, cfg}
 use Rattle.comtrade_write.specs.Shape as shape
-use Rattle.comtrade_read.specs.Fields.{natural, small, scale, free_scale}
+use Rattle.dfr_channels.specs.Fields.{free_scale}
+use Rattle.comtrade_read.specs.Fields.{natural, small, scale}
 use Rattle.comtrade_read.specs.Head.{kind}
 use Rattle.comtrade_read.specs.Spells.{sample_before, SpellsNames, SpellsCounts, SpellsAnalog, SpellsStatus, SpellsRate, SpellsInstant, SpellsOne, SpellsHead}
 use Rattle.comtrade_read.specs.Data.{last_sample}

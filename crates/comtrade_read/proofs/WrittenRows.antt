@@ -19,7 +19,7 @@ use Rattle.comtrade_write.specs.Ascii.{reading_text, stamp_text, fields_line, ro
 use Rattle.comtrade_write.specs.Binary.{reading_number, stamp_number, bits_number, group_bytes, status_bytes, row_bytes, binary}
 use Rattle.comtrade_write.specs.Shape.{row_shaped}
 use Rattle.comtrade_write.specs.Refusals.{ascii_bounds, binary_bounds, takes_reading, takes_stamp, takes_times, values_from, rows_from, stamps_from}
-use Rattle.comtrade_read.specs.Fields.{bit}
+use Rattle.dfr_channels.specs.Fields.{bit}
 use Rattle.comtrade_read.specs.Ascii.{stamp, value, is_end_mark}
 use Rattle.comtrade_read.specs.Spells.{EachFrom, SpellsRow}
 use Rattle.comtrade_read.specs.Reads.{IsPresent, IsStamp, IsRowOf, ReadsBinary, ReadsAscii}

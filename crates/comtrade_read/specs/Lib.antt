@@ -4,11 +4,14 @@ pub mod Instant
 pub mod Head
 pub mod Faulty
 pub mod Ascii
-pub mod Binary
 pub mod Data
 pub mod Joined
 pub mod Spells
 pub mod Reads
 pub mod Pair
 pub mod ReadBack
+pub mod LineSteps
+pub mod HeadSteps
+pub mod BinarySteps
+pub mod RowSteps
 pub mod PlainRows

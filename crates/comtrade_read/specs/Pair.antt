@@ -5,14 +5,10 @@ use Rattle.comtrade_write.specs.Parts.{HeadParts, RowParts, FileParts}
 use Rattle.comtrade_read.specs.declared.fault.ReadFault.{ReadFault}
 use Rattle.comtrade_read.specs.declared.pair.Part.{Part}
 use Rattle.comtrade_read.specs.declared.pair.Part.TheVariants.{Cfg, Dat}
-use Rattle.comtrade_read.specs.Faulty.{AllObey, Faulty}
-use Rattle.comtrade_read.specs.Head.{head_rules, head_value}
+use Rattle.comtrade_read.specs.Faulty.{Faulty}
+use Rattle.comtrade_read.specs.Head.{head_rules}
 use Rattle.comtrade_read.specs.Data.{FaultyData}
 use Rattle.comtrade_read.specs.Reads.{ReadsHead, ReadsRows, Reads}
-
--- each line of the text is of its kind, and together they say this head
-abbrev pub SaysHead : List ℕ → HeadParts → Type 0
-SaysHead cfg h = AllObey (lines cfg) (head_rules (lines cfg)) × (h ≡ head_value (lines cfg))
 
 -- the first fault of a configuration file
 abbrev pub FaultyHead : List ℕ → ReadFault → Type 0

@@ -14,7 +14,7 @@ use Rattle.comtrade_write.specs.OfRecord.{file}
 use Rattle.comtrade_read.specs.Reads.{Reads}
 
 -- each number of a channel is one that a Decimal holds
-pub record HasScale (c : AnalogParts) : Type 0 where
+pub record HasDecimals (c : AnalogParts) : Type 0 where
   pub a : IsNumber c.a
   pub b : IsNumber c.b
   pub skew : IsNumber c.skew
@@ -23,7 +23,7 @@ pub record HasScale (c : AnalogParts) : Type 0 where
 
 -- the same of a head, as every value of the type Head has it
 pub record HasNumbers (h : HeadParts) : Type 0 where
-  pub analog : AllByRecursion HasScale h.analog
+  pub analog : AllByRecursion HasDecimals h.analog
   pub line_freq : IsNumber h.line_freq
   pub rates : AllByRecursion (λ r. IsNumber r.samp) h.rates
   pub timemult : IsNumber h.timemult

@@ -4,7 +4,8 @@ use Rattle.dfr_channels.specs.Lines.{field}
 use Rattle.dfr_channels.specs.Parts.{AnalogParts, StatusParts}
 use Rattle.comtrade_write.specs.declared.file.Rate.{Rate}
 use Rattle.comtrade_write.specs.Parts.{HeadParts, RowParts}
-use Rattle.comtrade_read.specs.Fields.{whole, natural, small, scale, free_scale, count, side, bit, free_bit}
+use Rattle.dfr_channels.specs.Fields.{free_scale, side, bit, free_bit}
+use Rattle.comtrade_read.specs.Fields.{whole, natural, small, scale, count}
 use Rattle.comtrade_read.specs.Instant.{date, time, instant_at}
 use Rattle.comtrade_read.specs.Head.{kind}
 use Rattle.comtrade_read.specs.Ascii.{stamp, value}

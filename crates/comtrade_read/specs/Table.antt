@@ -1,9 +1,7 @@
 -- Kinds of line: a test for each field, one for the whole, and the faults that they name.
-use Rattle.std.specs.Prelude.{◌≡◌, ◌≢◌, ℕ, ◌+◌, zero, suc, Bool, true, ◌==◌, nat_lt, if◌then◌else◌, List, [], ◌∷◌, length, Option, Some, None, is_some, Result, Ok, Err}
+use Rattle.std.specs.Prelude.{ℕ, Bool, true, List, Option, is_some}
 use Rattle.comtrade_read.specs.declared.fault.ReadFault.{ReadFault}
 use Rattle.comtrade_read.specs.declared.fault.ReadFault.TheVariants as faults
-use Rattle.dfr_channels.specs.Faults.{◌or◌}
-use Rattle.dfr_channels.specs.Lines.{field, line_fields}
 
 -- a kind of line; its faults are those of a line of this number
 pub record Rule : Type 0 where
@@ -27,44 +25,3 @@ always x = true
 
 abbrev pub reads : {A : Type 0} → (List ℕ → Option A) → List ℕ → Bool
 reads read f = is_some (read f)
-
--- the first fault of the fields from i on, and then of the whole
-abbrev pub tests_fault : Rule → ℕ → List (List ℕ → Bool) → ℕ → List (List ℕ) → Option ReadFault
-tests_fault r line [] i fs = if r.whole fs then None else Some (r.wrong line)
-tests_fault r line (t ∷ ts) i fs = if t (field fs i) then tests_fault r line ts (i + 1) fs else Some (r.bad line (i + 1))
-
--- the first fault of a line's fields
-abbrev pub fields_fault : Rule → ℕ → List (List ℕ) → Option ReadFault
-fields_fault r line fs = if length fs == length r.tests then tests_fault r line r.tests 0 fs else Some (r.few line (length fs))
-
--- the first fault of the line at place n, from 0
-unfoldable pub line_fault : List (List ℕ) → Rule → ℕ → Option ReadFault
-line_fault ls r n = if nat_lt n (length ls) then fields_fault r (n + 1) (line_fields ls n) else Some (faults.Missing (n + 1))
-
--- the first fault of the lines from place n on, one for each kind
-unfoldable pub lines_fault : List (List ℕ) → List Rule → ℕ → Option ReadFault
-lines_fault ls [] n = None
-lines_fault ls (r ∷ rs) n = line_fault ls r n or lines_fault ls rs (n + 1)
-
--- a line too many
-unfoldable pub extra_fault : List (List ℕ) → ℕ → Option ReadFault
-extra_fault ls n = if nat_lt n (length ls) then Some (faults.Extra (n + 1)) else None
-
--- the first fault of a file whose lines are of these kinds
-unfoldable pub file_fault : List (List ℕ) → List Rule → Option ReadFault
-file_fault ls rs = lines_fault ls rs 0 or extra_fault ls (length rs)
-
--- the first fault of f 0, f 1 and so on to f (n - 1)
-unfoldable pub first_in : (ℕ → Option ReadFault) → ℕ → Option ReadFault
-first_in f zero = None
-first_in f (suc n) = first_in f n or f n
-
--- what a function returned, seen by view: the value where there is no fault, else the fault or want of memory
-abbrev pub Gives : {X Y : Type 0} → (X → Y) → Option ReadFault → Y → Result X ReadFault → Type 0
-Gives view fault value (Ok x) = (fault ≡ None) × (view x ≡ value)
-Gives view fault value (Err e) = e ≢ faults.Memory → fault ≡ Some e
-
--- what reading a field gave
-abbrev pub GivesField : {A : Type 0} → Option A → ReadFault → Result A ReadFault → Type 0
-GivesField read fault (Ok x) = read ≡ Some x
-GivesField read fault (Err e) = (read ≡ None) × (e ≡ fault)

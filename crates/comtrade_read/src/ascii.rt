@@ -5,18 +5,19 @@ ghost use Rattle.std.specs.List.{before_first};
 ghost use Rattle.comtrade_read.specs.declared.fault.ReadFault.TheVariants as faults;
 ghost use Rattle.dfr_channels.specs.Lines.{texts, fields, line_fields};
 ghost use Rattle.dfr_channels.specs.declared.scan.Reading.TheVariants as readings;
-ghost use Rattle.comtrade_read.specs.Fields.{bit as read_bit};
-ghost use Rattle.comtrade_read.specs.Table.{Gives, first_in, fields_fault, line_fault, file_fault};
+ghost use Rattle.dfr_channels.specs.Fields.{bit as read_bit};
+ghost use Rattle.comtrade_read.specs.LineSteps.{Gives, first_in, fields_fault, line_fault, file_fault};
 ghost use Rattle.comtrade_read.specs.Faulty.{AllObey, Faulty};
 ghost use Rattle.comtrade_read.specs.Ascii as spec;
+ghost use Rattle.comtrade_read.specs.RowSteps as steps;
 
 use crate::cells::{field_count, first_field};
 use crate::fault::ReadFault;
-use crate::fields::{bit, natural, needed, within};
+use crate::fields::{natural, needed, within};
 use crate::place::end_at;
 use crate::plain_rows::plain_row;
 use comtrade_write::Row;
-use dfr_channels::{Items, Reading, integer_of, lines_of, without_blank_end};
+use dfr_channels::{Items, Reading, bit_of, integer_of, lines_of, without_blank_end};
 use memchr::memchr;
 use std::alloc::Allocator;
 
@@ -58,7 +59,7 @@ fn values_of<'a, A: Allocator + Copy>(
 ) -> Result<(Vec<Reading, A>, &'a [u8]), ReadFault>
     requires few { count < 1000000 }
     requires there { count ≤ length (fields text.now) }
-    ensures values { Gives (λ x. x.0.items) (first_in (spec.cell_faults spec.value line 2 (fields text.now)) count) (spec.cells spec.value readings.Missing (fields text.now) count) result }
+    ensures values { Gives (λ x. x.0.items) (first_in (steps.cell_faults spec.value line 2 (fields text.now)) count) (steps.cells spec.value readings.Missing (fields text.now) count) result }
     ensures rest { IfOk result (λ x. count < length (fields text.now) → fields x.1.now ≡ drop count (fields text.now)) }
 {
     let mut list = Vec::with_capacity(alloc, count as usize)?;
@@ -82,13 +83,13 @@ fn bits_of<A: Allocator + Copy>(
     requires k { k < 1000000 }
     requires few { count < 1000000 }
     requires there { count ≤ length (fields text.now) }
-    ensures { Gives (λ v. v.items) (first_in (spec.cell_faults read_bit line (2 + k) (fields text.now)) count) (spec.cells read_bit false (fields text.now) count) result }
+    ensures { Gives (λ v. v.items) (first_in (steps.cell_faults read_bit line (2 + k) (fields text.now)) count) (steps.cells read_bit false (fields text.now) count) result }
 {
     let mut list = Vec::with_capacity(alloc, count as usize)?;
     let mut left = text;
     for i in 0..count {
         let (field, rest) = first_field(left);
-        list.push(needed(bit(field), line, 2 + k + i)?)?;
+        list.push(needed(bit_of(field), line, 2 + k + i)?)?;
         left = rest;
     }
     Ok(list)
@@ -105,7 +106,7 @@ fn parts_of<A: Allocator + Copy>(
     requires k { k < 1000000 }
     requires m { m < 1000000 }
     requires many { length (fields text.now) ≡ 2 + k + m }
-    ensures { Gives (λ x. x) (spec.row_chain k m line (fields text.now)) (spec.row_value k m (fields text.now)) result }
+    ensures { Gives (λ x. x) (steps.row_chain k m line (fields text.now)) (steps.row_value k m (fields text.now)) result }
 {
     let (field, rest) = first_field(text);
     let number = needed(natural(field, 9_999_999_999), line, 0)?;
@@ -131,7 +132,7 @@ fn row_of<A: Allocator + Copy>(
 ) -> Result<Row<A>, ReadFault>
     requires k { k < 1000000 }
     requires m { m < 1000000 }
-    ensures { Gives (λ x. x) (fields_fault (spec.row_rule k m) line (fields text.now)) (spec.row_value k m (fields text.now)) result }
+    ensures { Gives (λ x. x) (fields_fault (spec.row_rule k m) line (fields text.now)) (steps.row_value k m (fields text.now)) result }
 {
     if let Some(row) = plain_row(alloc, text, k, m)? {
         return Ok(row);
@@ -143,7 +144,7 @@ fn row_of<A: Allocator + Copy>(
 }
 
 /// The row on the line at this place.
-#[tactic(auto, unfolding(crate::specs::Table::line_fault, dfr_channels::specs::Lines::line_fields))]
+#[tactic(auto, unfolding(crate::specs::LineSteps::line_fault, dfr_channels::specs::Lines::line_fields))]
 fn row_at<A: Allocator + Copy>(
     alloc: A,
     lines: &[&[u8]],
@@ -154,7 +155,7 @@ fn row_at<A: Allocator + Copy>(
     requires place { place + 1 < 2 ^ 64 }
     requires k { k < 1000000 }
     requires m { m < 1000000 }
-    ensures { Gives (λ x. x) (line_fault (texts lines.now) (spec.row_rule k m) place) (spec.row_value k m (line_fields (texts lines.now) place)) result }
+    ensures { Gives (λ x. x) (line_fault (texts lines.now) (spec.row_rule k m) place) (steps.row_value k m (line_fields (texts lines.now) place)) result }
 {
     match lines.get(place) {
         Some(text) => row_of(alloc, place as u64 + 1, k, m, text),
@@ -172,7 +173,7 @@ fn rows_of<A: Allocator + Copy>(
 ) -> Result<Vec<Row<A>, A>, ReadFault>
     requires k { k < 1000000 }
     requires m { m < 1000000 }
-    ensures { Gives (λ v. v.items) (first_in (spec.row_faults k m (texts lines.now)) count) (spec.row_items k m (texts lines.now) count) result }
+    ensures { Gives (λ v. v.items) (first_in (steps.row_faults k m (texts lines.now)) count) (steps.row_items k m (texts lines.now) count) result }
 {
     // the head may claim more rows than there are lines
     let room = count.min(lines.len() as u64);
@@ -193,7 +194,7 @@ fn all_rows<A: Allocator + Copy>(
 ) -> Result<Vec<Row<A>, A>, ReadFault>
     requires k { k < 1000000 }
     requires m { m < 1000000 }
-    ensures { Gives (λ v. v.items) (file_fault (texts lines.now) (spec.row_rules k m count)) (spec.row_items k m (texts lines.now) count) result }
+    ensures { Gives (λ v. v.items) (file_fault (texts lines.now) (spec.row_rules k m count)) (steps.row_items k m (texts lines.now) count) result }
 {
     let rows = rows_of(alloc, lines, k, m, count)?;
     end_at(lines, count as usize)?;
@@ -220,7 +221,7 @@ pub(crate) fn ascii_rows<A: Allocator + Copy>(
 ) -> Result<Vec<Row<A>, A>, ReadFault>
     requires k { k < 1000000 }
     requires m { m < 1000000 }
-    ensures rows { IfOk result (λ v. AllObey (spec.data_lines dat.now) (spec.row_rules k m count) × (v.items ≡ spec.row_items k m (spec.data_lines dat.now) count)) }
+    ensures rows { IfOk result (λ v. AllObey (spec.data_lines dat.now) (spec.row_rules k m count) × (v.items ≡ steps.row_items k m (spec.data_lines dat.now) count)) }
     ensures fault { IfErr result (λ e. e ≢ faults.Memory → Faulty (spec.data_lines dat.now) (spec.row_rules k m count) e) }
 {
     let lines = lines_of(alloc, before_end_mark(dat))?;

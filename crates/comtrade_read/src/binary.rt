@@ -3,7 +3,8 @@
 ghost use Rattle.std.specs.Prelude.{◌≡◌, ◌≢◌, ◌≤◌, ◌<◌, ◌*◌, ◌+◌, ◌/◌, ◌^◌, ◌++◌, length, map, min, IfOk, IfErr};
 ghost use Rattle.std.specs.Vec.{vec_len, vec_capacity};
 ghost use Rattle.comtrade_read.specs.declared.fault.ReadFault.TheVariants as faults;
-ghost use Rattle.comtrade_read.specs.Binary as spec;
+ghost use Rattle.comtrade_read.specs.BinarySteps as spec;
+ghost use Rattle.comtrade_read.specs.Data.{row_size};
 
 use crate::fault::ReadFault;
 use byteorder::{ByteOrder, LittleEndian};
@@ -88,7 +89,7 @@ fn bits_of<A: Allocator>(alloc: A, bytes: &[u8], count: usize) -> Result<Vec<boo
 }
 
 /// The row that begins the bytes.
-#[tactic(auto, unfolding(crate::specs::Binary::row_at))]
+#[tactic(auto, unfolding(crate::specs::BinarySteps::row_at))]
 fn row_of<A: Allocator + Copy>(
     alloc: A,
     bytes: &[u8],
@@ -97,7 +98,7 @@ fn row_of<A: Allocator + Copy>(
 ) -> Result<Row<A>, AllocError>
     requires k { k < 1000000 }
     requires m { m < 1000000 }
-    requires whole { spec.row_size k m ≤ length bytes.now }
+    requires whole { row_size k m ≤ length bytes.now }
     ensures { IfOk result (λ r. r ≡ spec.row_at k m bytes.now) }
 {
     let values = values_of(alloc, &bytes[8..], k)?;
@@ -114,7 +115,7 @@ fn row_of<A: Allocator + Copy>(
 fn row_size(k: usize, m: usize) -> usize
     requires k { k < 1000000 }
     requires m { m < 1000000 }
-    ensures { result ≡ spec.row_size k m }
+    ensures { result ≡ row_size k m }
 {
     8 + 2 * k + 2 * ((m + 15) / 16)
 }
@@ -129,7 +130,7 @@ fn rows_of<A: Allocator + Copy>(
 ) -> Result<Vec<Row<A>, A>, AllocError>
     requires k { k < 1000000 }
     requires m { m < 1000000 }
-    requires whole { length dat.now ≡ count * spec.row_size k m }
+    requires whole { length dat.now ≡ count * row_size k m }
     ensures { IfOk result (λ v. v.items ≡ spec.rows_at k m dat.now count) }
 {
     let size = row_size(k, m);
@@ -150,8 +151,8 @@ pub(crate) fn binary_rows<A: Allocator + Copy>(
 ) -> Result<Vec<Row<A>, A>, ReadFault>
     requires k { k < 1000000 }
     requires m { m < 1000000 }
-    ensures rows { IfOk result (λ v. (length dat.now ≡ count * spec.row_size k m) × (v.items ≡ spec.rows_at k m dat.now count)) }
-    ensures fault { IfErr result (λ e. e ≢ faults.Memory → (length dat.now ≢ count * spec.row_size k m) × (e ≡ faults.Length)) }
+    ensures rows { IfOk result (λ v. (length dat.now ≡ count * row_size k m) × (v.items ≡ spec.rows_at k m dat.now count)) }
+    ensures fault { IfErr result (λ e. e ≢ faults.Memory → (length dat.now ≢ count * row_size k m) × (e ≡ faults.Length)) }
 {
     let size = row_size(k, m);
     // The product may pass 64 bits.

@@ -4,9 +4,10 @@ ghost use Rattle.std.specs.Prelude.{◌≡◌, ◌<◌, ◌+◌, ◌^◌, length
 ghost use Rattle.std.specs.Option.{option_copied};
 ghost use Rattle.comtrade_read.specs.declared.fault.ReadFault.TheVariants as faults;
 ghost use Rattle.dfr_channels.specs.Lines.{texts, field};
+ghost use Rattle.dfr_channels.specs.Fields as shared;
 ghost use Rattle.comtrade_read.specs.Fields as spec;
 ghost use Rattle.comtrade_read.specs.Head as head;
-ghost use Rattle.comtrade_read.specs.Table.{Gives, GivesField};
+ghost use Rattle.comtrade_read.specs.LineSteps.{Gives, GivesField};
 
 use crate::fault::ReadFault;
 use comtrade_write::Kind;
@@ -26,7 +27,7 @@ pub(crate) fn needed<T>(read: Option<T>, line: u64, i: u32) -> Result<T, ReadFau
 
 /// The number, where it lies from 0 to high.
 pub(crate) fn up_to(high: u64, number: Option<i128>) -> Option<u64>
-    ensures value { result ≡ spec.up_to high number }
+    ensures value { result ≡ shared.up_to high number }
     ensures bound { IfSome result (λ n. n ≤ high) }
 {
     match number {
@@ -66,7 +67,7 @@ pub(crate) fn natural_of(line: u64, fields: &[&[u8]], i: u32, high: u64) -> Resu
 
 /// The number, where it lies from -99,999 to 99,999.
 pub(crate) fn within(number: Option<i128>) -> Option<i32>
-    ensures { result ≡ spec.within (negsuc 99998) (pos 99999) number }
+    ensures { result ≡ shared.within (negsuc 99998) (pos 99999) number }
 {
     match number {
         Some(number) if -99_999 <= number && number <= 99_999 => Some(number as i32),
@@ -95,24 +96,12 @@ pub(crate) fn scale_of(line: u64, fields: &[&[u8]], i: u32) -> Result<Decimal, R
 }
 
 /// A decimal, or 0 where nothing stands.
-#[tactic(auto, unfolding(crate::specs::Fields::free_scale))]
-fn free_scale(text: &[u8]) -> Option<Decimal>
-    ensures { result ≡ spec.free_scale text.now }
-{
-    if text.is_empty() {
-        Decimal::new(0, 0)
-    } else {
-        Decimal::read(text)
-    }
-}
-
-/// A decimal, or 0 where nothing stands.
 pub(crate) fn free_scale_of(line: u64, fields: &[&[u8]], i: u32) -> Result<Decimal, ReadFault>
     requires small { i + 1 < 2 ^ 32 }
     requires in_line { i < length fields.now }
-    ensures { GivesField (spec.free_scale (field (texts fields.now) i)) (faults.Number line (i + 1)) result }
+    ensures { GivesField (shared.free_scale (field (texts fields.now) i)) (faults.Number line (i + 1)) result }
 {
-    needed(free_scale(fields[i as usize]), line, i)
+    needed(dfr_channels::free_scale_of(fields[i as usize]), line, i)
 }
 
 /// What stands before the letter at the end of the text.
@@ -148,65 +137,22 @@ pub(crate) fn count_of(line: u64, fields: &[&[u8]], i: u32, letter: u8) -> Resul
     needed(count(fields[i as usize], letter), line, i)
 }
 
-/// The side that the text names.
-#[tactic(auto, unfolding(crate::specs::Fields::side))]
-fn side(text: &[u8]) -> Option<Side>
-    ensures { result ≡ spec.side text.now }
-{
-    match text {
-        [b'P' | b'p'] => Some(Side::Primary),
-        [b'S' | b's'] => Some(Side::Secondary),
-        _ => None,
-    }
-}
-
 /// The side of the values.
 pub(crate) fn side_of(line: u64, fields: &[&[u8]], i: u32) -> Result<Side, ReadFault>
     requires small { i + 1 < 2 ^ 32 }
     requires in_line { i < length fields.now }
-    ensures { GivesField (spec.side (field (texts fields.now) i)) (faults.Number line (i + 1)) result }
+    ensures { GivesField (shared.side (field (texts fields.now) i)) (faults.Number line (i + 1)) result }
 {
-    needed(side(fields[i as usize]), line, i)
-}
-
-/// The bit that the number is.
-fn as_bit(number: Option<i128>) -> Option<bool>
-    ensures { result ≡ spec.as_bit number }
-{
-    match number {
-        Some(0) => Some(false),
-        Some(1) => Some(true),
-        _ => None,
-    }
-}
-
-/// 0 or 1, or 0 where nothing stands.
-#[tactic(auto, unfolding(crate::specs::Fields::free_bit))]
-fn free_bit(text: &[u8]) -> Option<bool>
-    ensures { result ≡ spec.free_bit text.now }
-{
-    if text.is_empty() {
-        Some(false)
-    } else {
-        as_bit(integer_of(text))
-    }
+    needed(dfr_channels::side_of(fields[i as usize]), line, i)
 }
 
 /// 0 or 1, or 0 where nothing stands.
 pub(crate) fn free_bit_of(line: u64, fields: &[&[u8]], i: u32) -> Result<bool, ReadFault>
     requires small { i + 1 < 2 ^ 32 }
     requires in_line { i < length fields.now }
-    ensures { GivesField (spec.free_bit (field (texts fields.now) i)) (faults.Number line (i + 1)) result }
+    ensures { GivesField (shared.free_bit (field (texts fields.now) i)) (faults.Number line (i + 1)) result }
 {
-    needed(free_bit(fields[i as usize]), line, i)
-}
-
-/// The bit that the text spells.
-#[tactic(auto, unfolding(crate::specs::Fields::bit))]
-pub(crate) fn bit(text: &[u8]) -> Option<bool>
-    ensures { result ≡ spec.bit text.now }
-{
-    as_bit(integer_of(text))
+    needed(dfr_channels::free_bit_of(fields[i as usize]), line, i)
 }
 
 /// The kind of data that the text names.

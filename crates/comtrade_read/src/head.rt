@@ -3,10 +3,11 @@
 ghost use Rattle.std.specs.Prelude.{◌≡◌, ◌≢◌, ◌+◌, ◌<◌, length, IfOk, IfErr};
 ghost use Rattle.comtrade_read.specs.declared.fault.ReadFault.TheVariants as faults;
 ghost use Rattle.dfr_channels.specs.Lines.{texts, lines, line_fields};
-ghost use Rattle.comtrade_read.specs.Table.{Gives};
+ghost use Rattle.comtrade_read.specs.LineSteps.{Gives};
 ghost use Rattle.comtrade_read.specs.Pair.{FaultyHead, IsNoHead};
 ghost use Rattle.comtrade_read.specs.Reads.{ReadsHead};
 ghost use Rattle.comtrade_read.specs.Head as spec;
+ghost use Rattle.comtrade_read.specs.HeadSteps as steps;
 
 use crate::channels::{analogs_of, statuses_of};
 use crate::fault::ReadFault;
@@ -18,8 +19,8 @@ use std::alloc::Allocator;
 /// The head that the lines say.
 fn head_of<A: Allocator + Copy>(alloc: A, lines: &[&[u8]]) -> Result<Head<A>, ReadFault>
     ensures { Gives (λ x. x)
-        (spec.chain (texts lines.now) (spec.analog_count (line_fields (texts lines.now) 1)) (spec.status_count (line_fields (texts lines.now) 1)))
-        (spec.value_of (texts lines.now) (spec.analog_count (line_fields (texts lines.now) 1)) (spec.status_count (line_fields (texts lines.now) 1))) result }
+        (steps.chain (texts lines.now) (spec.analog_count (line_fields (texts lines.now) 1)) (spec.status_count (line_fields (texts lines.now) 1)))
+        (steps.value_of (texts lines.now) (spec.analog_count (line_fields (texts lines.now) 1)) (spec.status_count (line_fields (texts lines.now) 1))) result }
 {
     let names = names_at(alloc, lines)?;
     let (analog_count, status_count) = counts_at(alloc, lines)?;

@@ -2,7 +2,7 @@
 
 ghost use Rattle.std.specs.List.{All};
 ghost use Rattle.dfr_channels.specs.Spelling.{IsNumber};
-ghost use Rattle.comtrade_read.specs.ReadBack.{HasScale, HasNumbers};
+ghost use Rattle.comtrade_read.specs.ReadBack.{HasDecimals, HasNumbers};
 
 use comtrade_write::{Head, Rate};
 use dfr_channels::{AnalogChannel, Decimal};
@@ -16,7 +16,7 @@ fn number(decimal: Decimal)
 }
 
 fn scale<A: Allocator>(channel: &AnalogChannel<A>)
-    ensures { HasScale channel.now }
+    ensures { HasDecimals channel.now }
 {
     number(channel.a);
     number(channel.b);
@@ -26,7 +26,7 @@ fn scale<A: Allocator>(channel: &AnalogChannel<A>)
 }
 
 fn scales<A: Allocator>(channels: &[AnalogChannel<A>])
-    ensures { All HasScale channels.now }
+    ensures { All HasDecimals channels.now }
 {
     for channel in channels {
         scale(channel);

@@ -4,7 +4,8 @@ ghost use Rattle.std.specs.Prelude.{◌≡◌, ◌<◌, [], IfOk, IfSome, option
 ghost use Rattle.dfr_channels.specs.declared.scan.Reading.TheVariants as readings;
 ghost use Rattle.dfr_channels.specs.Lines.{fields};
 ghost use Rattle.dfr_channels.specs.PlainNumbers.{fields_behind};
-ghost use Rattle.comtrade_read.specs.Fields.{natural, within, up_to, bit as read_bit};
+ghost use Rattle.dfr_channels.specs.Fields.{within, up_to, bit as read_bit};
+ghost use Rattle.comtrade_read.specs.Fields.{natural};
 ghost use Rattle.comtrade_read.specs.Ascii as spec;
 ghost use Rattle.comtrade_read.specs.PlainRows.{IsNext, AreNext, IsRow};
 

@@ -2,10 +2,12 @@
 
 ghost use Rattle.std.specs.Prelude.{◌≡◌, ◌+◌, ◌<◌, ◌≤◌, ◌^◌, length, IfOk, List, ℕ, max};
 ghost use Rattle.dfr_channels.specs.Lines.{texts, line_fields, field};
-ghost use Rattle.comtrade_read.specs.Table.{Gives, line_fault, fields_fault, first_in};
-ghost use Rattle.comtrade_read.specs.Head.{TailParts};
+ghost use Rattle.comtrade_read.specs.LineSteps.{Gives, line_fault, fields_fault, first_in};
+ghost use Rattle.comtrade_read.specs.HeadSteps.{TailParts};
 ghost use Rattle.comtrade_read.specs.Head as spec;
-ghost use Rattle.comtrade_read.specs.Fields.{whole, scale, free_scale};
+ghost use Rattle.comtrade_read.specs.HeadSteps as steps;
+ghost use Rattle.dfr_channels.specs.Fields.{free_scale};
+ghost use Rattle.comtrade_read.specs.Fields.{whole, scale};
 
 use crate::fault::ReadFault;
 use crate::fields::{count_of, free_scale_of, kind_of, natural_of, scale_of, text_of};
@@ -68,7 +70,7 @@ fn counts_of(fields: &[&[u8]]) -> Result<(u64, u64), ReadFault>
 
 /// A rate whose last sample isn't below the one before.
 fn rate_of(line: u64, fields: &[&[u8]], before: u64) -> Result<Rate, ReadFault>
-    ensures { Gives (λ x. x) (fields_fault (spec.rate_rule before) line (texts fields.now)) (spec.rate_value (texts fields.now)) result }
+    ensures { Gives (λ x. x) (fields_fault (spec.rate_rule before) line (texts fields.now)) (steps.rate_value (texts fields.now)) result }
 {
     if fields.len() != 2 {
         return Err(ReadFault::Fields(line));
@@ -83,7 +85,7 @@ fn rate_of(line: u64, fields: &[&[u8]], before: u64) -> Result<Rate, ReadFault>
 
 /// An instant.
 fn instant_of(line: u64, fields: &[&[u8]]) -> Result<i64, ReadFault>
-    ensures { Gives (λ x. x) (fields_fault spec.instant_rule line (texts fields.now)) (spec.instant_value (texts fields.now)) result }
+    ensures { Gives (λ x. x) (fields_fault spec.instant_rule line (texts fields.now)) (steps.instant_value (texts fields.now)) result }
 {
     if fields.len() != 2 {
         return Err(ReadFault::Fields(line));
@@ -95,7 +97,7 @@ fn instant_of(line: u64, fields: &[&[u8]]) -> Result<i64, ReadFault>
 
 /// The kind of the data file.
 fn kind_line(line: u64, fields: &[&[u8]]) -> Result<Kind, ReadFault>
-    ensures { Gives (λ x. x) (fields_fault spec.kind_rule line (texts fields.now)) (spec.kind_value (texts fields.now)) result }
+    ensures { Gives (λ x. x) (fields_fault spec.kind_rule line (texts fields.now)) (steps.kind_value (texts fields.now)) result }
 {
     if fields.len() != 1 {
         return Err(ReadFault::Fields(line));
@@ -105,7 +107,7 @@ fn kind_line(line: u64, fields: &[&[u8]]) -> Result<Kind, ReadFault>
 
 /// The time multiplier.
 fn timemult_of(line: u64, fields: &[&[u8]]) -> Result<Decimal, ReadFault>
-    ensures { Gives (λ x. x) (fields_fault spec.timemult_rule line (texts fields.now)) (spec.decimal_in (scale (field (texts fields.now) 0))) result }
+    ensures { Gives (λ x. x) (fields_fault spec.timemult_rule line (texts fields.now)) (steps.decimal_in (scale (field (texts fields.now) 0))) result }
 {
     if fields.len() != 1 {
         return Err(ReadFault::Fields(line));
@@ -115,7 +117,7 @@ fn timemult_of(line: u64, fields: &[&[u8]]) -> Result<Decimal, ReadFault>
 
 /// The line frequency.
 fn frequency_of(line: u64, fields: &[&[u8]]) -> Result<Decimal, ReadFault>
-    ensures { Gives (λ x. x) (fields_fault spec.frequency_rule line (texts fields.now)) (spec.decimal_in (free_scale (field (texts fields.now) 0))) result }
+    ensures { Gives (λ x. x) (fields_fault spec.frequency_rule line (texts fields.now)) (steps.decimal_in (free_scale (field (texts fields.now) 0))) result }
 {
     if fields.len() != 1 {
         return Err(ReadFault::Fields(line));
@@ -135,7 +137,7 @@ fn nrates_of(line: u64, fields: &[&[u8]]) -> Result<u64, ReadFault>
 }
 
 /// The rate on the line at this place.
-#[tactic(auto, unfolding(crate::specs::Table::line_fault))]
+#[tactic(auto, unfolding(crate::specs::LineSteps::line_fault))]
 fn rate_at<A: Allocator + Copy>(
     alloc: A,
     lines: &[&[u8]],
@@ -143,7 +145,7 @@ fn rate_at<A: Allocator + Copy>(
     before: u64,
 ) -> Result<Rate, ReadFault>
     requires { place < 2 ^ 63 }
-    ensures { Gives (λ x. x) (line_fault (texts lines.now) (spec.rate_rule before) place) (spec.rate_value (line_fields (texts lines.now) place)) result }
+    ensures { Gives (λ x. x) (line_fault (texts lines.now) (spec.rate_rule before) place) (steps.rate_value (line_fields (texts lines.now) place)) result }
 {
     let fields = fields_at(alloc, lines, place)?;
     rate_of(place as u64 + 1, &fields, before)
@@ -158,7 +160,7 @@ pub(crate) fn rates_of<A: Allocator + Copy>(
 ) -> Result<Vec<Rate, A>, ReadFault>
     requires start { start < 2 ^ 32 }
     requires count { count < 2 ^ 32 }
-    ensures { Gives (λ v. v.items) (first_in (spec.rate_faults (texts lines.now) start) count) (spec.rate_items (texts lines.now) start count) result }
+    ensures { Gives (λ v. v.items) (first_in (steps.rate_faults (texts lines.now) start) count) (steps.rate_items (texts lines.now) start count) result }
 {
     let mut list = Vec::new(alloc);
     let mut before = 0;
@@ -171,7 +173,7 @@ pub(crate) fn rates_of<A: Allocator + Copy>(
 }
 
 /// Station and device, on the line at this place.
-#[tactic(auto, unfolding(crate::specs::Table::line_fault))]
+#[tactic(auto, unfolding(crate::specs::LineSteps::line_fault))]
 pub(crate) fn names_at<A: Allocator + Copy>(
     alloc: A,
     lines: &[&[u8]],
@@ -183,7 +185,7 @@ pub(crate) fn names_at<A: Allocator + Copy>(
 }
 
 /// The numbers of analogue and status channels.
-#[tactic(auto, unfolding(crate::specs::Table::line_fault))]
+#[tactic(auto, unfolding(crate::specs::LineSteps::line_fault))]
 pub(crate) fn counts_at<A: Allocator + Copy>(
     alloc: A,
     lines: &[&[u8]],
@@ -196,21 +198,21 @@ pub(crate) fn counts_at<A: Allocator + Copy>(
 }
 
 /// The line frequency, on the line at this place.
-#[tactic(auto, unfolding(crate::specs::Table::line_fault))]
+#[tactic(auto, unfolding(crate::specs::LineSteps::line_fault))]
 fn frequency_at<A: Allocator + Copy>(
     alloc: A,
     lines: &[&[u8]],
     place: usize,
 ) -> Result<Decimal, ReadFault>
     requires { place < 2 ^ 63 }
-    ensures { Gives (λ x. x) (line_fault (texts lines.now) spec.frequency_rule place) (spec.decimal_in (free_scale (field (line_fields (texts lines.now) place) 0))) result }
+    ensures { Gives (λ x. x) (line_fault (texts lines.now) spec.frequency_rule place) (steps.decimal_in (free_scale (field (line_fields (texts lines.now) place) 0))) result }
 {
     let fields = fields_at(alloc, lines, place)?;
     frequency_of(place as u64 + 1, &fields)
 }
 
 /// The number of rates, on the line at this place.
-#[tactic(auto, unfolding(crate::specs::Table::line_fault))]
+#[tactic(auto, unfolding(crate::specs::LineSteps::line_fault))]
 fn nrates_at<A: Allocator + Copy>(alloc: A, lines: &[&[u8]], place: usize) -> Result<u64, ReadFault>
     requires { place < 2 ^ 63 }
     ensures value { Gives (λ x. x) (line_fault (texts lines.now) spec.nrates_rule place) (spec.nrates_value (line_fields (texts lines.now) place)) result }
@@ -221,38 +223,38 @@ fn nrates_at<A: Allocator + Copy>(alloc: A, lines: &[&[u8]], place: usize) -> Re
 }
 
 /// An instant, on the line at this place.
-#[tactic(auto, unfolding(crate::specs::Table::line_fault))]
+#[tactic(auto, unfolding(crate::specs::LineSteps::line_fault))]
 fn instant_at_place<A: Allocator + Copy>(
     alloc: A,
     lines: &[&[u8]],
     place: usize,
 ) -> Result<i64, ReadFault>
     requires { place < 2 ^ 63 }
-    ensures { Gives (λ x. x) (line_fault (texts lines.now) spec.instant_rule place) (spec.instant_value (line_fields (texts lines.now) place)) result }
+    ensures { Gives (λ x. x) (line_fault (texts lines.now) spec.instant_rule place) (steps.instant_value (line_fields (texts lines.now) place)) result }
 {
     let fields = fields_at(alloc, lines, place)?;
     instant_of(place as u64 + 1, &fields)
 }
 
 /// The kind of the data file, on the line at this place.
-#[tactic(auto, unfolding(crate::specs::Table::line_fault))]
+#[tactic(auto, unfolding(crate::specs::LineSteps::line_fault))]
 fn kind_at<A: Allocator + Copy>(alloc: A, lines: &[&[u8]], place: usize) -> Result<Kind, ReadFault>
     requires { place < 2 ^ 63 }
-    ensures { Gives (λ x. x) (line_fault (texts lines.now) spec.kind_rule place) (spec.kind_value (line_fields (texts lines.now) place)) result }
+    ensures { Gives (λ x. x) (line_fault (texts lines.now) spec.kind_rule place) (steps.kind_value (line_fields (texts lines.now) place)) result }
 {
     let fields = fields_at(alloc, lines, place)?;
     kind_line(place as u64 + 1, &fields)
 }
 
 /// The time multiplier, on the line at this place.
-#[tactic(auto, unfolding(crate::specs::Table::line_fault))]
+#[tactic(auto, unfolding(crate::specs::LineSteps::line_fault))]
 fn timemult_at<A: Allocator + Copy>(
     alloc: A,
     lines: &[&[u8]],
     place: usize,
 ) -> Result<Decimal, ReadFault>
     requires { place < 2 ^ 63 }
-    ensures { Gives (λ x. x) (line_fault (texts lines.now) spec.timemult_rule place) (spec.decimal_in (scale (field (line_fields (texts lines.now) place) 0))) result }
+    ensures { Gives (λ x. x) (line_fault (texts lines.now) spec.timemult_rule place) (steps.decimal_in (scale (field (line_fields (texts lines.now) place) 0))) result }
 {
     let fields = fields_at(alloc, lines, place)?;
     timemult_of(place as u64 + 1, &fields)
@@ -279,7 +281,7 @@ pub(crate) fn tail_of<A: Allocator + Copy>(
     requires { at < 2 ^ 31 }
     ensures small { IfOk result (λ x. x.nrates ≤ 999) }
     ensures value { Gives {Y = TailParts} (λ x. record { line_freq = x.line_freq; nrates = x.nrates; rates = x.rates.items; first = x.first; trigger = x.trigger; kind = x.kind; timemult = x.timemult })
-        (spec.tail_fault (texts lines.now) at (spec.rate_count (texts lines.now) at)) (spec.tail_value (texts lines.now) at (spec.rate_count (texts lines.now) at)) result }
+        (steps.tail_fault (texts lines.now) at (spec.rate_count (texts lines.now) at)) (steps.tail_value (texts lines.now) at (spec.rate_count (texts lines.now) at)) result }
 {
     let line_freq = frequency_at(alloc, lines, at)?;
     let nrates = nrates_at(alloc, lines, at + 1)?;

@@ -1,19 +1,20 @@
 -- Numbers in their plain spelling are what the full rule reads.
-use Rattle.std.proofs.Common.{append-nil, ◌≡◌, ℕ, ◌+◌, ◌*◌, ◌^◌, ◌<◌, ◌≤◌, Bool, true, false, cond, eqb, List, [], ◌∷◌, ◌++◌, length, map, reverse, Option, Some, None, refl, ap, ◌∙◌, arith}
+use Rattle.std.proofs.Common.{append-nil, ◌≡◌, ℕ, ◌+◌, ◌*◌, ◌^◌, ◌<◌, ◌≤◌, zero, suc, Bool, true, false, cond, eqb, ltb, leb, List, [], ◌∷◌, ◌++◌, length, map, reverse, take, drop, get_or, Option, Some, None, refl, sym, ap, ◌∙◌, arith}
 use Rattle.std.specs.Prelude.{not, nat_lt, ◌&&◌, pos, neg_ℤ}
 use Rattle.std.specs.List.{list_all, slice_split}
 use Rattle.std.specs.Char.{digit_value, is_ascii_digit}
 use Rattle.std.specs.Str.{all_ascii_digits}
 use Rattle.std.specs.Str.Parse.{digits_value, digits_value_after}
-use Rattle.std.proofs.lemmas.Bool.{lt-ltb}
+use Rattle.std.proofs.lemmas.Bool.{lt-ltb, le-leb, lt-leb, ltb-false, ne_eqb}
 use Rattle.std.proofs.lemmas.Bool.Decides.{nat_tests}
-use Rattle.std.proofs.lemmas.List.{reverse-reverse}
+use Rattle.std.proofs.lemmas.List.{reverse-reverse, take-append-drop, length-take-le, length-append}
+use Rattle.std.proofs.Math.Bool.{and-false}
 use mathlib.Core.List.{reverse_aux}
 use Rattle.std.proofs.Math.Nat.{pow-le-pow_right}
 use Rattle.dfr_channels.proofs.Short.{one_more}
 use Rattle.dfr_channels.specs.Spelling.{is_blank, is_numeral, trimmed, trim_start, whole_number}
 use Rattle.dfr_channels.specs.Lines.{fields}
-use Rattle.dfr_channels.specs.PlainNumbers.{tail, fields_behind, DigitsFirst, Begins}
+use Rattle.dfr_channels.specs.PlainNumbers.{tail, fields_behind, before_comma, is_short, begins_short, DigitsFirst, Begins}
 
 abbrev is_comma : ℕ → Bool
 is_comma b = eqb b 44
@@ -133,3 +134,81 @@ room n i d h few digit =
     let more : n * 10 + d < 10 ^ (i + 1) = one_more n i d h digit in
     let top : 10 ^ (i + 1) ≤ 10 ^ 10 = pow-le-pow_right {n = 10} (omega arith) {i = i + 1} {j = 10} (omega arith) in
     (omega arith, more)
+
+-- ---- where a text begins with a number in its plain spelling
+
+before_digits : (ds rest : List ℕ) → all_ascii_digits ds ≡ true → before_comma (ds ++ rest) ≡ ds ++ before_comma rest
+before_digits [] rest h = refl
+before_digits (d ∷ ds) rest h =
+    let p = both (is_ascii_digit d) (all_ascii_digits ds) h in
+    let s = both (not (is_comma d)) (not (is_blank d)) (digit_solid d p.0) in
+    rw (no (is_comma d) s.0, before_digits ds rest p.1) refl
+
+before : (text : List ℕ) (n : ℕ) → all_ascii_digits (take n text) ≡ true → before_comma text ≡ take n text ++ before_comma (drop n text)
+before text n h = ap before_comma (sym (take-append-drop n text)) ∙ before_digits (take n text) (drop n text) h
+
+pub short_digits : (text : List ℕ) (n : ℕ) → n ≤ length text → 0 < n → n ≤ 10 → all_ascii_digits (take n text) ≡ true → before_comma (drop n text) ≡ [] → begins_short text ≡ true
+unfolding begins_short
+short_digits text n within some few all ends =
+    let len : length (take n text) ≡ n = length-take-le n text within in
+    let e : before_comma text ≡ take n text = before text n all ∙ rw ends (append-nil (take n text)) in
+    rw (e, len, all, lt-ltb 0 n some, le-leb n 10 few) refl
+
+not_digits : (ds : List ℕ) (y : ℕ) (ys : List ℕ) → is_ascii_digit y ≡ false → all_ascii_digits (ds ++ y ∷ ys) ≡ false
+not_digits [] y ys h = rw h refl
+not_digits (d ∷ ds) y ys h = rw (not_digits ds y ys h, and-false (is_ascii_digit d)) refl
+
+drop_past : (text : List ℕ) (n : ℕ) → length text ≤ n → drop n text ≡ []
+drop_past [] zero h = refl
+drop_past [] (suc n) h = refl
+drop_past (b ∷ bs) zero h = absurd (omega arith)
+drop_past (b ∷ bs) (suc n) h = drop_past bs n (omega arith)
+
+drop_next : (text : List ℕ) (n : ℕ) → n < length text → drop n text ≡ get_or text n 0 ∷ drop (suc n) text
+drop_next [] n h = absurd (omega arith)
+drop_next (b ∷ bs) zero h = refl
+drop_next (b ∷ bs) (suc n) h = drop_next bs n (omega arith)
+
+-- the text ends behind its digits
+pub short_end : (text : List ℕ) (n : ℕ) → n ≤ length text → length text ≤ n → (n ≡ 0 → ⊥) → n ≤ 10 → all_ascii_digits (take n text) ≡ true → begins_short text ≡ true
+short_end text n within past some few all = short_digits text n within (omega arith) few all (rw (drop_past text n past) refl)
+
+-- a comma stands behind them
+pub short_comma : (text : List ℕ) (n : ℕ) → n < length text → (n ≡ 0 → ⊥) → n ≤ 10 → all_ascii_digits (take n text) ≡ true → get_or text n 0 ≡ 44 → begins_short text ≡ true
+short_comma text n inside some few all comma = short_digits text n (omega arith) (omega arith) few all (rw (drop_next text n inside, comma) refl)
+
+no_second : (a c : Bool) → (a && false && c) ≡ false
+no_second true c = refl
+no_second false c = refl
+
+no_third : (a b : Bool) → (a && b && false) ≡ false
+no_third true b = and-false b
+no_third false b = refl
+
+none_short : (t : Bool) (b : ℕ) (rest : List ℕ) → is_ascii_digit b ≡ false → is_short (cond t [] (b ∷ rest)) ≡ false
+none_short true b rest h = refl
+none_short false b rest h = rw h (no_third (ltb 0 (suc (length rest))) (leb (suc (length rest)) 10))
+
+-- no digit stands first
+pub no_digit : (text : List ℕ) → is_ascii_digit (get_or text 0 0) ≡ false → begins_short text ≡ false
+unfolding begins_short
+no_digit [] h = refl
+no_digit (b ∷ bs) h = none_short (is_comma b) b (before_comma bs) h
+
+ends_short : (t : Bool) (ds : List ℕ) (y : ℕ) (ys : List ℕ) → ltb (length ds) 10 ≡ t → (t && is_ascii_digit y) ≡ false → is_short (ds ++ y ∷ ys) ≡ false
+ends_short true ds y ys e h = rw (not_digits ds y ys h) (no_third (ltb 0 (length (ds ++ y ∷ ys))) (leb (length (ds ++ y ∷ ys)) 10))
+ends_short false ds y ys e h =
+    let many : 10 ≤ length ds = ltb-false (length ds) 10 e in
+    let long : leb (length (ds ++ y ∷ ys)) 10 ≡ false = rw (length-append ds (y ∷ ys)) (lt-leb (length ds + suc (length ys)) 10 (omega arith)) in
+    rw long (no_second (ltb 0 (length (ds ++ y ∷ ys))) (all_ascii_digits (ds ++ y ∷ ys)))
+
+-- something else stands behind ten digits, or no digit behind fewer
+pub short_stops : (text : List ℕ) (n : ℕ) → n < length text → all_ascii_digits (take n text) ≡ true → (ltb n 10 && is_ascii_digit (get_or text n 0)) ≡ false → (get_or text n 0 ≡ 44 → ⊥) → begins_short text ≡ false
+unfolding begins_short
+short_stops text n inside all stops no_comma =
+    let y : ℕ = get_or text n 0 in
+    let ys : List ℕ = before_comma (drop (suc n) text) in
+    let len : length (take n text) ≡ n = length-take-le n text (omega arith) in
+    let behind : before_comma (drop n text) ≡ y ∷ ys = rw (drop_next text n inside, ne_eqb y 44 no_comma) refl in
+    let e : before_comma text ≡ take n text ++ y ∷ ys = before text n all ∙ rw behind refl in
+    rw e (ends_short (ltb n 10) (take n text) y ys (rw len refl) stops)

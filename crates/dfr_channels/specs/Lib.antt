@@ -3,6 +3,7 @@ pub mod Spelling
 pub mod Written
 pub mod Lines
 pub mod PlainNumbers
+pub mod Fields
 pub mod Texts
 pub mod Parts
 pub mod Setups

@@ -1,5 +1,5 @@
 -- A text that begins with a number in its plain spelling.
-use Rattle.std.specs.Prelude.{◌≡◌, ℕ, ◌<◌, true, List, [], ◌∷◌, ◌++◌, length, Option, Some, None, ℤ}
+use Rattle.std.specs.Prelude.{◌≡◌, ℕ, ◌<◌, nat_lt, nat_le, ◌==◌, Bool, true, ◌&&◌, if◌then◌else◌, List, [], ◌∷◌, ◌++◌, length, Option, Some, None, ℤ}
 use Rattle.std.specs.Str.{all_ascii_digits}
 use Rattle.std.specs.Str.Parse.{digits_value}
 use Rattle.dfr_channels.specs.Spelling.{whole_number}
@@ -14,6 +14,28 @@ tail (Some behind) = 44 ∷ behind
 abbrev pub fields_behind : Option (List ℕ) → List (List ℕ)
 fields_behind None = []
 fields_behind (Some text) = fields text
+
+-- what stands before the first comma, or all
+abbrev pub before_comma : List ℕ → List ℕ
+before_comma [] = []
+before_comma (b ∷ bs) = if b == 44 then [] else (b ∷ before_comma bs)
+
+-- what stands behind a minus, or all
+abbrev pub behind_minus : List ℕ → List ℕ
+behind_minus [] = []
+behind_minus (b ∷ bs) = if b == 45 then bs else (b ∷ bs)
+
+-- one to ten digits
+abbrev pub is_short : List ℕ → Bool
+is_short ds = nat_lt 0 (length ds) && nat_le (length ds) 10 && all_ascii_digits ds
+
+-- one to ten digits stand before the first comma
+unfoldable pub begins_short : List ℕ → Bool
+begins_short text = is_short (before_comma text)
+
+-- the same behind a minus or nothing: the text begins with a number in its plain spelling
+abbrev pub begins_plain : List ℕ → Bool
+begins_plain text = begins_short (behind_minus text)
 
 -- digits that make this number stand first
 pub record DigitsFirst (text : List ℕ) (number : ℕ) (behind : Option (List ℕ)) : Type 0 where

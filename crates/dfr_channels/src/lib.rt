@@ -3,6 +3,7 @@
 
 mod channel;
 mod decimal;
+mod fields;
 mod items;
 mod layout;
 mod lines;
@@ -18,6 +19,7 @@ mod text;
 
 pub use channel::{AnalogChannel, Side, StatusChannel};
 pub use decimal::{Decimal, numeral_of};
+pub use fields::{bit_of, free_bit_of, free_scale_of, side_of};
 pub use items::{Items, TryClone, copies_of};
 pub use layout::{Layout, ScanFault};
 pub use lines::{fields_of, lines_of, without_blank_end};

@@ -1,13 +1,15 @@
 //! Numbers in their plain spelling, read in one pass.
 
-ghost use Rattle.std.specs.Prelude.{◌≡◌, ◌-◌, ◌≤◌, ◌<◌, ◌<ℤ◌, ◌^◌, ◌∷◌, IfSome, option_copied, true, length, take, if◌then◌else◌, pos, negsuc, neg_ℤ};
+ghost use Rattle.std.specs.Prelude.{◌≡◌, ◌-◌, ◌≤◌, ◌<◌, ◌<ℤ◌, ◌^◌, ◌∷◌, IfSome, option_copied, true, length, take, if◌then◌else◌, pos, negsuc, neg_ℤ, nat_lt, ◌&&◌, get_or, false, is_some};
+ghost use Rattle.std.specs.Char.{is_ascii_digit};
 ghost use Rattle.std.specs.Str.{all_ascii_digits};
 ghost use Rattle.std.specs.Str.Parse.{digits_value};
-ghost use Rattle.dfr_channels.specs.PlainNumbers.{DigitsFirst, Begins};
+ghost use Rattle.dfr_channels.specs.PlainNumbers.{DigitsFirst, Begins, behind_minus, begins_short, begins_plain};
 
 /// Whether a minus stands first, and what follows it.
 fn without_minus(text: &[u8]) -> (bool, &[u8])
     ensures cut { text.now ≡ (if result.0 then 45 ∷ result.1.now else result.1.now) }
+    ensures behind { result.1.now ≡ behind_minus text.now }
 {
     match text {
         [b'-', rest @ ..] => (true, rest),
@@ -18,9 +20,11 @@ fn without_minus(text: &[u8]) -> (bool, &[u8])
 /// The digits at the front of a text, ten at most: how many, and the number that they make.
 fn digits_at(text: &[u8]) -> (usize, u64)
     ensures within { result.0 ≤ length text.now }
+    ensures few { result.0 ≤ 10 }
     ensures digits { all_ascii_digits (take result.0 text.now) ≡ true }
     ensures value { result.1 ≡ digits_value 10 (take result.0 text.now) }
     ensures small { result.1 < 10 ^ 10 }
+    ensures all { (nat_lt result.0 10 && is_ascii_digit (get_or text.now result.0 0)) ≡ false }
 {
     let mut count = 0;
     let mut number: u64 = 0;
@@ -37,6 +41,7 @@ fn digits_at(text: &[u8]) -> (usize, u64)
 
 /// The number of the one to ten digits that a text begins with, and what stands behind its comma if it has one.
 fn plain_digits(text: &[u8]) -> Option<(u64, Option<&[u8]>)>
+    ensures plain { is_some result ≡ begins_short text.now }
     ensures first { IfSome result (λ r. DigitsFirst text.now r.0 (option_copied r.1)) }
     ensures small { IfSome result (λ r. r.0 < 10 ^ 10) }
     ensures shorter { IfSome result (λ r. IfSome r.1 (λ behind. length behind.now < length text.now)) }
@@ -45,11 +50,13 @@ fn plain_digits(text: &[u8]) -> Option<(u64, Option<&[u8]>)>
     if count == 0 {
         return None;
     }
-    match &text[count..] {
-        [] => Some((number, None)),
-        [b',', behind @ ..] => Some((number, Some(behind))),
-        _ => None,
+    let Some(next) = text.get(count) else {
+        return Some((number, None));
+    };
+    if *next != b',' {
+        return None;
     }
+    Some((number, Some(&text[count + 1..])))
 }
 
 /// The number with this sign.
@@ -64,8 +71,9 @@ fn signed(minus: bool, number: u64) -> i64
 }
 
 /// The number that a text begins with, and what stands behind its comma if it has one, where the field is a minus or nothing
-/// and one to ten digits. None says no more than that the field is spelled otherwise.
+/// and one to ten digits; None exactly where it is spelled otherwise.
 pub fn plain_number(text: &[u8]) -> Option<(i64, Option<&[u8]>)>
+    ensures plain { is_some result ≡ begins_plain text.now }
     ensures first { IfSome result (λ r. Begins text.now r.0 (option_copied r.1)) }
     ensures above { IfSome result (λ r. negsuc (10 ^ 10 - 1) <ℤ r.0) }
     ensures below { IfSome result (λ r. r.0 <ℤ pos (10 ^ 10)) }

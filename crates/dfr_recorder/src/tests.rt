@@ -82,6 +82,14 @@ fn recorder(alloc: Global, shelf: u32) -> Result<Recorder, Fail> {
     Ok(recorder.ok_or("memory")?)
 }
 
+/// The same with a rule that fires from 100 on.
+fn recorder_at_100(alloc: Global, shelf: u32) -> Result<Recorder, Fail> {
+    let mut recorder = recorder(alloc, shelf)?;
+    let rules = over_100(alloc, recorder.layout())?;
+    recorder.set_rules(rules).ok().ok_or("rules that fit")?;
+    Ok(recorder)
+}
+
 /// A scan of this value, what its trigger does, and the record that it closes.
 type Told = (i32, Option<Hit>, Option<u64>);
 
@@ -173,9 +181,7 @@ const HIGH: [Told; 8] = [
 #[test]
 fn grows_to_the_greatest_length(rt: HostRuntime) -> Result<(), Fail> {
     let alloc = rt.alloc();
-    let mut recorder = recorder(alloc, 2)?;
-    let rules = over_100(alloc, recorder.layout())?;
-    assert!(rt; recorder.set_rules(rules).is_ok());
+    let mut recorder = recorder_at_100(alloc, 2)?;
     assert!(rt; are_told(alloc, &mut recorder, &HIGH)?);
     Ok(())
 }

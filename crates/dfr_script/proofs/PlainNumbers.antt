@@ -7,7 +7,8 @@ use Rattle.std.proofs.lemmas.Int.{ints}
 use Rattle.dfr_channels.specs.Spelling.{whole_number}
 use Rattle.dfr_channels.specs.PlainNumbers as numbers
 use Rattle.dfr_channels.specs.declared.scan.Reading.TheVariants.{Value}
-use Rattle.dfr_script.specs.Fields.{small, within}
+use Rattle.dfr_channels.specs.Fields.{within}
+use Rattle.dfr_script.specs.Fields.{small}
 use Rattle.dfr_script.specs.ScanLines.{fields, fields_behind, reading}
 use Rattle.dfr_script.specs.Plain.{Begins}
 

@@ -6,7 +6,8 @@ use Rattle.dfr_channels.specs.Parts.{AnalogParts, StatusParts}
 use Rattle.dfr_channels.specs.declared.channel.Side.TheVariants.{Primary}
 use Rattle.dfr_script.specs.declared.fault.Word.{Word}
 use Rattle.dfr_script.specs.Faults.{fields_fault}
-use Rattle.dfr_script.specs.Fields.{zero_number, small, free_scale, free_bit, side}
+use Rattle.dfr_channels.specs.Fields.{zero_number, free_scale, free_bit, side}
+use Rattle.dfr_script.specs.Fields.{small}
 
 -- the fields of an analogue channel that can't be any text
 abbrev pub reads_analog : List (List ℕ) → Bool

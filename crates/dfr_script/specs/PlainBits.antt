@@ -1,7 +1,7 @@
 -- Bits in their plain spelling.
 use Rattle.std.specs.Prelude.{◌≡◌, ℕ, ◌+◌, ◌*◌, ◌<◌, ◌⊎◌, Bool, true, List, slice_index}
 use Rattle.std.specs.List.{filter_map}
-use Rattle.dfr_script.specs.Fields.{bit}
+use Rattle.dfr_channels.specs.Fields.{bit}
 use Rattle.dfr_script.specs.ScanLines.{fields, reads_all}
 
 -- so many digits 0 or 1, with a comma between each two

@@ -9,7 +9,8 @@ use Rattle.dfr_channels.specs.declared.scan.Reading.{Reading}
 use Rattle.dfr_channels.specs.declared.scan.Reading.TheVariants.{Value, Missing}
 use Rattle.dfr_script.specs.declared.fault.Word.{Word}
 use Rattle.dfr_script.specs.declared.fault.Word.TheVariants as fault
-use Rattle.dfr_script.specs.Fields.{small, bit}
+use Rattle.dfr_channels.specs.Fields.{bit}
+use Rattle.dfr_script.specs.Fields.{small}
 
 abbrev pub is_stroke : ℕ → Bool
 is_stroke b = b == 47

@@ -3,11 +3,12 @@
 ghost use Rattle.std.specs.Prelude.{◌≡◌, IfOk, IfErr, length, ◌<◌};
 ghost use Rattle.dfr_channels.specs.Lines.{texts, field};
 ghost use Rattle.dfr_channels.specs.Spelling.{decimal_number};
+ghost use Rattle.dfr_channels.specs.Fields as shared;
 ghost use Rattle.dfr_script.specs.Fields as spec;
 ghost use Rattle.dfr_script.specs.Faults.{Field, OnlyMemory};
 
 use crate::fault::{LineRefusal, Word};
-use dfr_channels::{Decimal, Items, Side, integer_of};
+use dfr_channels::{Decimal, Items, Side, free_bit_of, free_scale_of, integer_of, side_of};
 use std::alloc::Allocator;
 
 /// The value, or the fault of what can't be read.
@@ -53,61 +54,6 @@ pub(crate) fn instant_of(text: &[u8]) -> Option<i64>
     }
 }
 
-/// A decimal, or 0 where nothing stands.
-#[tactic(auto, unfolding(crate::specs::Fields::free_scale))]
-pub(crate) fn free_scale_of(text: &[u8]) -> Option<Decimal>
-    ensures { result ≡ spec.free_scale text.now }
-{
-    if text.is_empty() {
-        Decimal::new(0, 0)
-    } else {
-        Decimal::read(text)
-    }
-}
-
-/// The bit that the number is.
-fn as_bit(number: Option<i128>) -> Option<bool>
-    ensures { result ≡ spec.as_bit number }
-{
-    match number {
-        Some(0) => Some(false),
-        Some(1) => Some(true),
-        _ => None,
-    }
-}
-
-/// 0 or 1.
-#[tactic(auto, unfolding(crate::specs::Fields::bit))]
-pub(crate) fn bit_of(text: &[u8]) -> Option<bool>
-    ensures { result ≡ spec.bit text.now }
-{
-    as_bit(integer_of(text))
-}
-
-/// 0 or 1, or 0 where nothing stands.
-#[tactic(auto, unfolding(crate::specs::Fields::free_bit))]
-pub(crate) fn free_bit_of(text: &[u8]) -> Option<bool>
-    ensures { result ≡ spec.free_bit text.now }
-{
-    if text.is_empty() {
-        Some(false)
-    } else {
-        bit_of(text)
-    }
-}
-
-/// The side that the text names.
-#[tactic(auto, unfolding(crate::specs::Fields::side))]
-pub(crate) fn side_of(text: &[u8]) -> Option<Side>
-    ensures { result ≡ spec.side text.now }
-{
-    match text {
-        [b'P' | b'p'] => Some(Side::Primary),
-        [b'S' | b's'] => Some(Side::Secondary),
-        _ => None,
-    }
-}
-
 /// A field that is a decimal.
 pub(crate) fn scale_at(fields: &[&[u8]], i: usize) -> Result<Decimal, LineRefusal>
     requires { i < length fields.now }
@@ -119,7 +65,7 @@ pub(crate) fn scale_at(fields: &[&[u8]], i: usize) -> Result<Decimal, LineRefusa
 /// A field that is a decimal or empty.
 pub(crate) fn free_scale_at(fields: &[&[u8]], i: usize) -> Result<Decimal, LineRefusal>
     requires { i < length fields.now }
-    ensures { Field (spec.free_scale (field (texts fields.now) i)) result }
+    ensures { Field (shared.free_scale (field (texts fields.now) i)) result }
 {
     needed(free_scale_of(fields[i]))
 }
@@ -143,7 +89,7 @@ pub(crate) fn natural_at(fields: &[&[u8]], i: usize) -> Result<u32, LineRefusal>
 /// A field that is 0, 1 or empty.
 pub(crate) fn free_bit_at(fields: &[&[u8]], i: usize) -> Result<bool, LineRefusal>
     requires { i < length fields.now }
-    ensures { Field (spec.free_bit (field (texts fields.now) i)) result }
+    ensures { Field (shared.free_bit (field (texts fields.now) i)) result }
 {
     needed(free_bit_of(fields[i]))
 }
@@ -151,7 +97,7 @@ pub(crate) fn free_bit_at(fields: &[&[u8]], i: usize) -> Result<bool, LineRefusa
 /// A field that names a side.
 pub(crate) fn side_at(fields: &[&[u8]], i: usize) -> Result<Side, LineRefusal>
     requires { i < length fields.now }
-    ensures { Field (spec.side (field (texts fields.now) i)) result }
+    ensures { Field (shared.side (field (texts fields.now) i)) result }
 {
     needed(side_of(fields[i]))
 }

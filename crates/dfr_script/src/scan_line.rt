@@ -2,16 +2,16 @@
 
 ghost use Rattle.std.specs.Prelude.{◌≡◌, ◌<◌, ◌∷◌, ◌++◌, ◌&&◌, IfSome, is_some, length, position, option_copied, option_to_list};
 ghost use Rattle.std.specs.List.{filter_map};
-ghost use Rattle.dfr_script.specs.Fields.{bit};
+ghost use Rattle.dfr_channels.specs.Fields.{bit};
 ghost use Rattle.dfr_script.specs.Faults.{Gives};
 ghost use Rattle.dfr_script.specs.ScanLines as spec;
 
 use crate::fault::{LineRefusal, Word};
-use crate::fields::{bit_of, needed, small_of};
+use crate::fields::{needed, small_of};
 use crate::line::is_word;
 use crate::plain::plain_field;
 use crate::plain_bits::plain_bits;
-use dfr_channels::{Reading, Scan, trim};
+use dfr_channels::{Reading, Scan, bit_of, trim};
 use memchr::memchr;
 use std::alloc::Allocator;
 

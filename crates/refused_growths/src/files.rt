@@ -1,9 +1,9 @@
-//! The File of a record, its two texts, and the reader.
+//! The File of a record and its two texts.
 
-use crate::common::{Heap, layout, rules, scan};
-use comtrade_read::{ReadFault, read, read_cfg, read_dat};
+use crate::common::{Heap, layout, rules, scan, setup};
+use comtrade_read::Part;
 use comtrade_write::{File, FileFault, Kind, WriteFault, cfg_bytes, dat_bytes, file_of};
-use dfr_channels::Layout;
+use dfr_channels::{Items, Layout};
 use dfr_recorder::{Limits, Record, Recorder};
 use fuel::Refusing;
 use std::alloc::Allocator;
@@ -26,9 +26,45 @@ fn taken<A: Allocator + Copy>(alloc: A) -> Result<(Layout<A>, Record<A>), Fail> 
     Ok((kept, recorder.take().ok_or("a record")?))
 }
 
-fn file<A: Allocator + Copy>(alloc: A, kind: Kind) -> Result<File<A>, Fail> {
+pub fn file<A: Allocator + Copy>(alloc: A, kind: Kind) -> Result<File<A>, Fail> {
     let (layout, record) = taken(alloc)?;
     Ok(file_of(alloc, &layout, &record, kind).ok().ok_or("memory")?)
+}
+
+/// The texts of a file.
+#[derive(Drop)]
+pub struct Texts<'a> {
+    pub cfg: Vec<u8, Heap<'a>>,
+    pub dat: Vec<u8, Heap<'a>>,
+}
+
+fn written<'a>(
+    heap: Heap<'a>,
+    file: &File<Heap<'a>>,
+    part: Part,
+) -> Result<Vec<u8, Heap<'a>>, WriteFault> {
+    match part {
+        Part::Cfg => cfg_bytes(heap, file),
+        Part::Dat => dat_bytes(heap, file),
+    }
+}
+
+pub fn write_both<'a>(heap: Heap<'a>, file: &File<Heap<'a>>) -> Option<Texts<'a>> {
+    Some(Texts {
+        cfg: written(heap, file, Part::Cfg).ok()?,
+        dat: written(heap, file, Part::Dat).ok()?,
+    })
+}
+
+/// The file writes these texts.
+pub fn is_file_of<'a>(heap: Heap<'a>, file: &File<Heap<'a>>, wanted: &Texts<'a>) -> bool {
+    match write_both(heap, file) {
+        Some(again) => {
+            again.cfg.as_slice() == wanted.cfg.as_slice()
+                && again.dat.as_slice() == wanted.dat.as_slice()
+        }
+        None => false,
+    }
 }
 
 #[test]
@@ -58,132 +94,73 @@ fn files_refused(rt: HostRuntime) -> Result<(), Fail> {
     Ok(())
 }
 
+/// A record of another layout is foreign, or memory was refused.
+#[test]
+fn foreign_refused(rt: HostRuntime) -> Result<(), Fail> {
+    let heap = Refusing::new(rt.alloc());
+    let (_own, record): (Layout<Heap>, Record<Heap>) = taken(&heap)?;
+    let mut other = setup(&heap)?;
+    other.status = Items::of(Vec::new(&heap));
+    let other = Layout::new(other).ok().ok_or("lawful")?;
+    for n in 1..100u64 {
+        heap.refuse(n);
+        let fault = file_of(&heap, &other, &record, Kind::Ascii).err();
+        let met = heap.has_refused();
+        heap.ample();
+        assert!(rt; fault == Some(FileFault::Foreign) || met && fault == Some(FileFault::Memory));
+        if !met {
+            break;
+        }
+    }
+    Ok(())
+}
+
+/// How many growths of a writer were refused and then answered so, before it met no refusal; None where it answered otherwise,
+/// or where the same call over ample memory then gives other bytes.
+fn writer_refusals<'a>(
+    heap: Heap<'a>,
+    file: &File<Heap<'a>>,
+    part: Part,
+    wanted: &[u8],
+) -> Option<u64> {
+    for n in 1..1000u64 {
+        heap.refuse(n);
+        let result = written(heap, file, part);
+        let met = heap.has_refused();
+        heap.ample();
+        match result {
+            Ok(bytes) => {
+                if bytes.as_slice() != wanted {
+                    return None;
+                }
+            }
+            Err(fault) => {
+                if !met || fault != WriteFault::Memory {
+                    return None;
+                }
+            }
+        }
+        if !met {
+            return Some(n - 1);
+        }
+        if written(heap, file, part).ok()?.as_slice() != wanted {
+            return None;
+        }
+    }
+    None
+}
+
 /// Each growth of the three writers; `dat_bytes` stands for both data writers.
 #[test]
 fn writers_refused(rt: HostRuntime) -> Result<(), Fail> {
     let heap = Refusing::new(rt.alloc());
     for kind in [Kind::Ascii, Kind::Binary] {
         let file: File<Heap> = file(&heap, kind)?;
-        let cfg = cfg_bytes(&heap, &file).ok().ok_or("memory")?;
-        let dat = dat_bytes(&heap, &file).ok().ok_or("memory")?;
-        for n in 1..1000u64 {
-            heap.refuse(n);
-            let result = cfg_bytes(&heap, &file);
-            let met = heap.has_refused();
-            heap.ample();
-            match result {
-                Ok(bytes) => assert_eq!(rt; bytes.as_slice(), cfg.as_slice()),
-                Err(fault) => assert_eq!(rt; fault, WriteFault::Memory),
-            }
-            if !met {
-                break;
-            }
-        }
-        for n in 1..1000u64 {
-            heap.refuse(n);
-            let result = dat_bytes(&heap, &file);
-            let met = heap.has_refused();
-            heap.ample();
-            match result {
-                Ok(bytes) => assert_eq!(rt; bytes.as_slice(), dat.as_slice()),
-                Err(fault) => assert_eq!(rt; fault, WriteFault::Memory),
-            }
-            if !met {
-                break;
-            }
-        }
+        let texts = write_both(&heap, &file).ok_or("memory")?;
+        let of_cfg = writer_refusals(&heap, &file, Part::Cfg, &texts.cfg);
+        assert!(rt; of_cfg.is_some_and(|n| n > 0));
+        let of_dat = writer_refusals(&heap, &file, Part::Dat, &texts.dat);
+        assert!(rt; of_dat.is_some_and(|n| n > 0));
     }
-    Ok(())
-}
-
-#[test]
-fn heads_refused(rt: HostRuntime) -> Result<(), Fail> {
-    let heap = Refusing::new(rt.alloc());
-    let file: File<Heap> = file(&heap, Kind::Ascii)?;
-    let cfg = cfg_bytes(&heap, &file).ok().ok_or("memory")?;
-    let mut refusals = 0u64;
-    for n in 1..1000u64 {
-        heap.refuse(n);
-        let result = read_cfg(&heap, &cfg);
-        let met = heap.has_refused();
-        heap.ample();
-        match result {
-            Ok(head) => assert_eq!(rt; head.station.items(), b"Bay 1".as_slice()),
-            Err(fault) => {
-                assert!(rt; met);
-                assert_eq!(rt; fault, ReadFault::Memory);
-                refusals = n;
-            }
-        }
-        if !met {
-            break;
-        }
-    }
-    assert!(rt; refusals > 0);
-    Ok(())
-}
-
-/// The head comes back with a refusal, and reads the same data then.
-#[test]
-fn data_refused(rt: HostRuntime) -> Result<(), Fail> {
-    let heap = Refusing::new(rt.alloc());
-    for kind in [Kind::Ascii, Kind::Binary] {
-        let file: File<Heap> = file(&heap, kind)?;
-        let cfg = cfg_bytes(&heap, &file).ok().ok_or("memory")?;
-        let dat = dat_bytes(&heap, &file).ok().ok_or("memory")?;
-        let mut head = read_cfg(&heap, &cfg).ok().ok_or("its own text")?;
-        for n in 1..1000u64 {
-            if head.analog.items().len() + head.status.items().len() > 999_999 {
-                return Err("two channels")?;
-            }
-            heap.refuse(n);
-            let result = read_dat(&heap, head, &dat);
-            let met = heap.has_refused();
-            heap.ample();
-            match result {
-                Ok(read) => {
-                    assert_eq!(rt; read.rows.items().len(), 5);
-                    head = read.head;
-                }
-                Err((fault, back)) => {
-                    assert!(rt; met);
-                    assert_eq!(rt; fault, ReadFault::Memory);
-                    assert_eq!(rt; back.station.items(), b"Bay 1".as_slice());
-                    head = back;
-                }
-            }
-            if !met {
-                break;
-            }
-        }
-    }
-    Ok(())
-}
-
-#[test]
-fn pairs_refused(rt: HostRuntime) -> Result<(), Fail> {
-    let heap = Refusing::new(rt.alloc());
-    let file: File<Heap> = file(&heap, Kind::Ascii)?;
-    let cfg = cfg_bytes(&heap, &file).ok().ok_or("memory")?;
-    let dat = dat_bytes(&heap, &file).ok().ok_or("memory")?;
-    let mut refusals = 0u64;
-    for n in 1..1000u64 {
-        heap.refuse(n);
-        let result = read(&heap, &cfg, &dat);
-        let met = heap.has_refused();
-        heap.ample();
-        match result {
-            Ok(read) => assert_eq!(rt; read.rows.items().len(), 5),
-            Err((_, fault)) => {
-                assert!(rt; met);
-                assert_eq!(rt; fault, ReadFault::Memory);
-                refusals = n;
-            }
-        }
-        if !met {
-            break;
-        }
-    }
-    assert!(rt; refusals > 0);
     Ok(())
 }

@@ -11,4 +11,8 @@ mod files;
 #[cfg(test)]
 mod program;
 #[cfg(test)]
+mod reading;
+#[cfg(test)]
+mod reading_back;
+#[cfg(test)]
 mod recorder;

@@ -21,7 +21,7 @@ fn made<A: Allocator + Copy>(alloc: A, layout: Layout<A>, rules: Rules<A>) -> Op
     Some(Recorder::new(alloc, layout, limits, rules))
 }
 
-fn recorder<A: Allocator + Copy>(alloc: A) -> Result<Recorder<A>, Fail> {
+pub fn recorder<A: Allocator + Copy>(alloc: A) -> Result<Recorder<A>, Fail> {
     let layout = layout(alloc)?;
     let rules = rules(alloc, &layout)?;
     let made = made(alloc, layout, rules).ok_or("lawful limits")?;
@@ -161,7 +161,8 @@ fn triggers_refused(rt: HostRuntime) -> Result<(), Fail> {
     Ok(())
 }
 
-fn steps<A: Allocator + Copy>(alloc: A) -> Result<VecDeque<Step<A>, A>, Fail> {
+/// Four scans, a trigger, two scans that fill the record, and a take.
+pub fn steps<A: Allocator + Copy>(alloc: A) -> Result<VecDeque<Step<A>, A>, Fail> {
     let mut all = VecDeque::new(alloc);
     for x in [10, 11, 12, 13] {
         all.push_back(Step::Scan(scan(alloc, x, false)?))

@@ -97,34 +97,60 @@ pub fn file(alloc: Global, stamp: u64, value: i32) -> Result<File, Fail> {
     })
 }
 
+/// Whether the configuration file has these bytes.
+pub fn is_cfg(alloc: Global, file: &File, wanted: &[u8]) -> bool {
+    match cfg_bytes(alloc, file) {
+        Ok(bytes) => bytes.as_slice() == wanted,
+        Err(_) => false,
+    }
+}
+
+/// Whether the data file in ASCII form has these bytes.
+pub fn is_ascii(alloc: Global, file: &File, wanted: &[u8]) -> bool {
+    match ascii_bytes(alloc, file) {
+        Ok(bytes) => bytes.as_slice() == wanted,
+        Err(_) => false,
+    }
+}
+
+/// Whether the data file in BINARY form has these bytes.
+pub fn is_binary(alloc: Global, file: &File, wanted: &[u8]) -> bool {
+    match binary_bytes(alloc, file) {
+        Ok(bytes) => bytes.as_slice() == wanted,
+        Err(_) => false,
+    }
+}
+
+/// How many bytes the configuration file has, and the data file in the form of its kind.
+fn lengths(alloc: Global, file: &File) -> Option<(usize, usize)> {
+    let cfg = cfg_bytes(alloc, file).ok()?;
+    let dat = dat_bytes(alloc, file).ok()?;
+    Some((cfg.len(), dat.len()))
+}
+
 #[test]
 fn cfg_of_one_channel(rt: HostRuntime) -> Result<(), Fail> {
     let alloc = rt.alloc();
-    let cfg = cfg_bytes(alloc, &file(alloc, 1000, 12)?)?;
-    assert_eq!(rt; cfg.len(), 142);
     let wanted =
         b"Bay 1,DFR,1999\r\n1,1A,0D\r\n1,IA,A,,A,1,0,0,-32767,32767,1,1,P\r\n50\r\n1\r\n1000,5\r\n01/01/1970,00:00:00.001000\r\n01/01/1970,00:00:00.003000\r\nASCII\r\n1\r\n";
-    assert!(rt; cfg.as_slice() == wanted.as_slice());
+    assert!(rt; is_cfg(alloc, &file(alloc, 1000, 12)?, wanted));
     Ok(())
 }
 
 #[test]
 fn ascii_of_one_channel(rt: HostRuntime) -> Result<(), Fail> {
     let alloc = rt.alloc();
-    let ascii = ascii_bytes(alloc, &file(alloc, 1000, 12)?)?;
-    assert_eq!(rt; ascii.len(), 53);
     let wanted = b"1,0,11\r\n2,1000,12\r\n3,2000,13\r\n4,3000,14\r\n5,4000,15\r\n\x1A";
-    assert!(rt; ascii.as_slice() == wanted.as_slice());
+    assert!(rt; is_ascii(alloc, &file(alloc, 1000, 12)?, wanted));
     Ok(())
 }
 
 #[test]
 fn binary_of_one_channel(rt: HostRuntime) -> Result<(), Fail> {
     let alloc = rt.alloc();
-    let binary = binary_bytes(alloc, &file(alloc, 1000, 12)?)?;
     let wanted =
         b"\x01\0\0\0\0\0\0\0\x0B\0\x02\0\0\0\xE8\x03\0\0\x0C\0\x03\0\0\0\xD0\x07\0\0\x0D\0\x04\0\0\0\xB8\x0B\0\0\x0E\0\x05\0\0\0\xA0\x0F\0\0\x0F\0";
-    assert!(rt; binary.as_slice() == wanted.as_slice());
+    assert!(rt; is_binary(alloc, &file(alloc, 1000, 12)?, wanted));
     Ok(())
 }
 
@@ -132,10 +158,9 @@ fn binary_of_one_channel(rt: HostRuntime) -> Result<(), Fail> {
 fn data_of_the_kind(rt: HostRuntime) -> Result<(), Fail> {
     let alloc = rt.alloc();
     let mut file = file(alloc, 1000, 12)?;
-    assert_eq!(rt; dat_bytes(alloc, &file)?.len(), 53);
+    assert!(rt; lengths(alloc, &file) == Some((142, 53)));
     file.head.kind = Kind::Binary;
-    assert_eq!(rt; dat_bytes(alloc, &file)?.len(), 50);
-    assert_eq!(rt; cfg_bytes(alloc, &file)?.len(), 143);
+    assert!(rt; lengths(alloc, &file) == Some((143, 50)));
     Ok(())
 }
 
@@ -167,9 +192,8 @@ fn further_file(alloc: Global) -> Result<File, Fail> {
 #[test]
 fn further_lines(rt: HostRuntime) -> Result<(), Fail> {
     let alloc = rt.alloc();
-    let cfg = cfg_bytes(alloc, &further_file(alloc)?)?;
     let wanted =
         b"Bay 1,DFR,1999\r\n2,1A,1D\r\n1,IA,A,,A,0.0015,-0.5,0.0,-32767,32767,1.50,1,S\r\n1,TRIP,,,1\r\n50\r\n1\r\n1000,0\r\n29/02/2000,00:00:00.000000\r\n31/12/9999,23:59:58.999999\r\nASCII\r\n1\r\n";
-    assert!(rt; cfg.as_slice() == wanted.as_slice());
+    assert!(rt; is_cfg(alloc, &further_file(alloc)?, wanted));
     Ok(())
 }

@@ -1,7 +1,7 @@
 //! The File of a record that a recorder took.
 
-use crate::tests::files::{analog, number, text};
-use crate::{File, FileFault, Kind, ascii_bytes, file_of, file_of_taken};
+use crate::tests::files::{analog, is_ascii, number, text};
+use crate::{File, FileFault, Kind, file_of, file_of_taken};
 use dfr_channels::{Items, Layout, Reading, Rules, Scan, Setup};
 use dfr_recorder::{Limits, Record, Recorder};
 use std::alloc::Global;
@@ -74,7 +74,7 @@ fn made(rt: &impl Abort, alloc: Global, analogs: u32) -> Result<Result<File, Fil
 fn file_of_a_record(rt: HostRuntime) -> Result<(), Fail> {
     let file = made(&rt, rt.alloc(), 1)??;
     let wanted = b"1,0,1\r\n2,208,2\r\n3,416,3\r\n4,625,4\r\n\x1A";
-    assert!(rt; ascii_bytes(rt.alloc(), &file)?.as_slice() == wanted.as_slice());
+    assert!(rt; is_ascii(rt.alloc(), &file, wanted));
     Ok(())
 }
 

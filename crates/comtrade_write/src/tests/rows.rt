@@ -1,7 +1,7 @@
 //! Rows of many channels, in both forms.
 
-use crate::tests::files::head;
-use crate::{File, Row, ascii_bytes, binary_bytes};
+use crate::tests::files::{head, is_ascii, is_binary};
+use crate::{File, Row};
 use dfr_channels::{Items, Reading};
 use std::alloc::Global;
 use std::test::Fail;
@@ -47,12 +47,12 @@ fn six_and_six(rt: HostRuntime) -> Result<(), Fail> {
         &[false, false, false, false, true, true],
     )?;
     let wanted = b"5,667,-760,1274,72,61,-140,-502,0,0,0,0,1,1\r\n\x1A";
-    assert_eq!(rt; ascii_bytes(alloc, &file)?.as_slice(), wanted.as_slice());
+    assert!(rt; is_ascii(alloc, &file, wanted));
     let wanted = [
         0x05, 0, 0, 0, 0x9B, 0x02, 0, 0, 0x08, 0xFD, 0xFA, 0x04, 0x48, 0, 0x3D, 0, 0x74, 0xFF,
         0x0A, 0xFE, 0x30, 0,
     ];
-    assert_eq!(rt; binary_bytes(alloc, &file)?.as_slice(), wanted.as_slice());
+    assert!(rt; is_binary(alloc, &file, &wanted));
     Ok(())
 }
 
@@ -63,8 +63,8 @@ fn missing_and_seventeen_bits(rt: HostRuntime) -> Result<(), Fail> {
     bits[16] = true;
     let file = file(alloc, 1, 0, &[Reading::Missing], &bits)?;
     let wanted = b"1,0,99999,0,0,0,0,0,0,0,0,0,0,0,0,0,0,0,0,1\r\n\x1A";
-    assert_eq!(rt; ascii_bytes(alloc, &file)?.as_slice(), wanted.as_slice());
+    assert!(rt; is_ascii(alloc, &file, wanted));
     let wanted = [1, 0, 0, 0, 0, 0, 0, 0, 0, 0x80, 0, 0, 1, 0];
-    assert_eq!(rt; binary_bytes(alloc, &file)?.as_slice(), wanted.as_slice());
+    assert!(rt; is_binary(alloc, &file, &wanted));
     Ok(())
 }

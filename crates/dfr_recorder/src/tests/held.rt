@@ -64,17 +64,22 @@ fn ring_record_and_shelf(rt: HostRuntime) -> Result<(), Fail> {
     Ok(())
 }
 
+/// Whether the scans are answered so, and then so many are held.
+fn are_held(
+    alloc: Global,
+    recorder: &mut Recorder,
+    scans: &[Told],
+    held: u64,
+) -> Result<bool, Fail> {
+    Ok(are_told(alloc, recorder, scans)? && recorder.held() == held)
+}
+
 /// A record of six scans waits while the next is open.
 #[test]
 fn two_records(rt: HostRuntime) -> Result<(), Fail> {
     let alloc = rt.alloc();
-    let mut recorder = recorder(alloc, 2)?;
-    let rules = over_100(alloc, recorder.layout())?;
-    assert!(rt; recorder.set_rules(rules).is_ok());
-    assert!(rt; are_told(alloc, &mut recorder, &HIGH[..6])?);
-    assert!(rt; are_told(alloc, &mut recorder, &HIGH[6..7])?);
-    assert_eq!(rt; recorder.held(), 9);
-    assert!(rt; are_told(alloc, &mut recorder, &HIGH[7..])?);
-    assert_eq!(rt; recorder.held(), 12);
+    let mut recorder = recorder_at_100(alloc, 2)?;
+    assert!(rt; are_held(alloc, &mut recorder, &HIGH[..7], 9)?);
+    assert!(rt; are_held(alloc, &mut recorder, &HIGH[7..], 12)?);
     Ok(())
 }

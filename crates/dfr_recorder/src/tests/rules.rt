@@ -57,9 +57,7 @@ fn refuses_edges(alloc: Global, recorder: &mut Recorder, layout: &Layout) -> Res
 #[test]
 fn rules_of_another_layout(rt: HostRuntime) -> Result<(), Fail> {
     let alloc = rt.alloc();
-    let mut recorder = recorder(alloc, 1)?;
-    let levels = over_100(alloc, recorder.layout())?;
-    assert!(rt; recorder.set_rules(levels).is_ok());
+    let mut recorder = recorder_at_100(alloc, 1)?;
     let layout = with_status(alloc)?;
     assert!(rt; refuses_edges(alloc, &mut recorder, &layout)?);
     Ok(())

@@ -4,8 +4,8 @@ use Rattle.std.proofs.lemmas.Result.{err_from_is_err_and}
 use Rattle.std.proofs.lemmas.List.FromFn.{map-range_with_len_more}
 use Rattle.dfr_channels.specs.Lines.{fields, field}
 use Rattle.std.specs.Prelude.{false}
-use Rattle.comtrade_read.specs.Fields.{bit}
-use Rattle.comtrade_read.specs.Ascii.{cell_faults}
+use Rattle.dfr_channels.specs.Fields.{bit}
+use Rattle.comtrade_read.specs.RowSteps.{cell_faults}
 use Rattle.comtrade_read.proofs.FirstFault.{starts, goes_on, stops}
 use Rattle.comtrade_read.proofs.OneByOne.{at_left, next_left}
 use Rattle.comtrade_read.proofs.ascii.bits_of.Goals as goal
@@ -17,13 +17,13 @@ pub returns-in_err-needed : goal.returns-in_err-needed
 returns-in_err-needed g c =
     let fs = fields c.args.text.now in
     let p = err_from_is_err_and c.from_residual-in_err-needed.result c.from_residual-in_err-needed.ensures.1 in
-    let read : bit (field fs c.loop-i.i) ≡ None = sym (ap bit (c.first_field.ensures.first ∙ at_left fs (fields c.loop-i.left.now) c.loop-i.i (omega (arith, c.requires.there)) c.loop-i.invariant.rest)) ∙ sym c.bit.ensures ∙ c.in_err-needed.ensures.0 in
+    let read : bit (field fs c.loop-i.i) ≡ None = sym (ap bit (c.first_field.ensures.first ∙ at_left fs (fields c.loop-i.left.now) c.loop-i.i (omega (arith, c.requires.there)) c.loop-i.invariant.rest)) ∙ sym c.bit_of.ensures ∙ c.in_err-needed.ensures.0 in
     rw (p.1, p.2) (λ n. stops (cell_faults bit c.args.line (2 + c.args.k) fs) c.in_err-needed.field-0.0 c.loop-i.i c.args.count c.loop-i.invariant.sound (rw (read, c.in_err-needed.ensures.1) refl) c.loop-i-test.true)
 
 pub loop-i-preserved : goal.loop-i-preserved
 loop-i-preserved g c =
     let fs = fields c.args.text.now in
-    let read : bit (field fs c.loop-i.i) ≡ Some c.in_ok-needed.field-0 = sym (ap bit (c.first_field.ensures.first ∙ at_left fs (fields c.loop-i.left.now) c.loop-i.i (omega (arith, c.requires.there)) c.loop-i.invariant.rest)) ∙ sym c.bit.ensures ∙ c.in_ok-needed.ensures in
+    let read : bit (field fs c.loop-i.i) ≡ Some c.in_ok-needed.field-0 = sym (ap bit (c.first_field.ensures.first ∙ at_left fs (fields c.loop-i.left.now) c.loop-i.i (omega (arith, c.requires.there)) c.loop-i.invariant.rest)) ∙ sym c.bit_of.ensures ∙ c.in_ok-needed.ensures in
     let more = map-range_with_len_more (λ (j : ℕ). unwrap_or (bit (field fs j)) false) 0 c.loop-i.i c.loop-i.i (omega arith) in
     record {
       sound = goes_on (cell_faults bit c.args.line (2 + c.args.k) fs) c.loop-i.i c.loop-i.invariant.sound (rw read refl);

@@ -1,9 +1,9 @@
 use Rattle.std.proofs.Common.{◌≡◌, ◌<◌, ◌+◌}
 use Rattle.std.specs.Prelude.{None, drop, length, false}
-use Rattle.comtrade_read.specs.Fields.{bit}
-use Rattle.comtrade_read.specs.Ascii.{cells, cell_faults}
+use Rattle.dfr_channels.specs.Fields.{bit}
+use Rattle.comtrade_read.specs.RowSteps.{cells, cell_faults}
 use Rattle.dfr_channels.specs.Lines.{fields}
-use Rattle.comtrade_read.specs.Table.{first_in}
+use Rattle.comtrade_read.specs.LineSteps.{first_in}
 use Rattle.comtrade_read.proofs.ascii.bits_of.Given as goal
 
 abbrev pub invariant-loop-i : goal.invariant-loop-i

@@ -2,12 +2,12 @@ use Rattle.std.proofs.Common.{All, List, subst}
 use Rattle.std.proofs.lemmas.List.{take_all}
 use Rattle.std.proofs.lemmas.List.Elements.{All-more}
 use Rattle.dfr_channels.specs.Parts.{AnalogParts}
-use Rattle.comtrade_read.specs.ReadBack.{HasScale}
+use Rattle.comtrade_read.specs.ReadBack.{HasDecimals}
 use Rattle.comtrade_read.proofs.numbers.scales.Goals as goal
 
 pub loop-channel-preserved : goal.loop-channel-preserved
 loop-channel-preserved g c =
-    All-more HasScale c.args.channels.now c.loop-channel.channel-index c.channel-item.result c.loop-channel-test.true c.loop-channel.invariant (subst HasScale c.channel-item.is c.scale.ensures)
+    All-more HasDecimals c.args.channels.now c.loop-channel.channel-index c.channel-item.result c.loop-channel-test.true c.loop-channel.invariant (subst HasDecimals c.channel-item.is c.scale.ensures)
 
 pub returns : goal.returns
-returns g c = subst (λ (l : List AnalogParts). All HasScale l) (take_all c.loop-channel.channel-index c.args.channels.now c.loop-channel-test.false) c.loop-channel.invariant
+returns g c = subst (λ (l : List AnalogParts). All HasDecimals l) (take_all c.loop-channel.channel-index c.args.channels.now c.loop-channel-test.false) c.loop-channel.invariant

@@ -2,7 +2,7 @@ use Rattle.std.proofs.Common.{arith, ◌∙◌}
 use Rattle.std.specs.Prelude.{option_copied}
 use Rattle.dfr_channels.specs.PlainNumbers.{fields_behind}
 use Rattle.std.specs.Prelude.{false}
-use Rattle.comtrade_read.specs.Fields.{bit}
+use Rattle.dfr_channels.specs.Fields.{bit}
 use Rattle.comtrade_read.proofs.PlainRows.{none_yet, one_more}
 use Rattle.comtrade_read.proofs.plain_rows.next_bits.Goals as goal
 

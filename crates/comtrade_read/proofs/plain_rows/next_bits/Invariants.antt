@@ -2,7 +2,7 @@ use Rattle.std.proofs.Common.{◌≡◌, vec_len}
 use Rattle.std.specs.Prelude.{option_copied, vec_capacity}
 use Rattle.std.specs.Prelude.{false}
 use Rattle.dfr_channels.specs.PlainNumbers.{fields_behind}
-use Rattle.comtrade_read.specs.Fields.{bit}
+use Rattle.dfr_channels.specs.Fields.{bit}
 use Rattle.comtrade_read.specs.PlainRows.{AreNext}
 use Rattle.comtrade_read.proofs.plain_rows.next_bits.Given as goal
 

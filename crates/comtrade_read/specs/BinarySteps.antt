@@ -1,4 +1,4 @@
--- The rows of a binary data file.
+-- What the reader's functions answer of binary data, in words that no public contract needs.
 use Rattle.std.specs.Prelude.{ℕ, ◌+◌, ◌*◌, ◌/◌, ◌%◌, ◌==◌, ℤ, negsuc, if◌then◌else◌, List, map, drop, Option, Some, None, Bool}
 use Rattle.std.specs.Int.{cast_signed, w16, bit_at}
 use Rattle.std.specs.Ordering.{int_eq}
@@ -7,10 +7,7 @@ use Rattle.byteorder.specs.Endian.{little_number}
 use Rattle.dfr_channels.specs.declared.scan.Reading.{Reading}
 use Rattle.dfr_channels.specs.declared.scan.Reading.TheVariants.{Value, Missing}
 use Rattle.comtrade_write.specs.Parts.{RowParts}
-
--- the bytes of a row: number and stamp, two for each value, two for each sixteen bits begun
-abbrev pub row_size : ℕ → ℕ → ℕ
-row_size k m = 8 + 2 * k + 2 * ((m + 15) / 16)
+use Rattle.comtrade_read.specs.Data.{row_size}
 
 abbrev pub reading : ℤ → Reading
 reading z = if int_eq z (negsuc 32767) then Missing else Value z

@@ -1,0 +1,63 @@
+//! The kinds of field that scripts and files share, read from their trimmed text.
+
+ghost use Rattle.std.specs.Prelude.{◌≡◌};
+ghost use Rattle.dfr_channels.specs.Fields as spec;
+
+use crate::channel::Side;
+use crate::decimal::Decimal;
+use crate::number::integer_of;
+
+/// A decimal, or 0 where nothing stands.
+#[tactic(auto, unfolding(crate::specs::Fields::free_scale))]
+pub fn free_scale_of(text: &[u8]) -> Option<Decimal>
+    ensures { result ≡ spec.free_scale text.now }
+{
+    if text.is_empty() {
+        Decimal::new(0, 0)
+    } else {
+        Decimal::read(text)
+    }
+}
+
+/// The bit that the number is.
+fn as_bit(number: Option<i128>) -> Option<bool>
+    ensures { result ≡ spec.as_bit number }
+{
+    match number {
+        Some(0) => Some(false),
+        Some(1) => Some(true),
+        _ => None,
+    }
+}
+
+/// 0 or 1.
+#[tactic(auto, unfolding(crate::specs::Fields::bit))]
+pub fn bit_of(text: &[u8]) -> Option<bool>
+    ensures { result ≡ spec.bit text.now }
+{
+    as_bit(integer_of(text))
+}
+
+/// 0 or 1, or 0 where nothing stands.
+#[tactic(auto, unfolding(crate::specs::Fields::free_bit))]
+pub fn free_bit_of(text: &[u8]) -> Option<bool>
+    ensures { result ≡ spec.free_bit text.now }
+{
+    if text.is_empty() {
+        Some(false)
+    } else {
+        bit_of(text)
+    }
+}
+
+/// The side that the text names: P or S, large or small.
+#[tactic(auto, unfolding(crate::specs::Fields::side))]
+pub fn side_of(text: &[u8]) -> Option<Side>
+    ensures { result ≡ spec.side text.now }
+{
+    match text {
+        [b'P' | b'p'] => Some(Side::Primary),
+        [b'S' | b's'] => Some(Side::Secondary),
+        _ => None,
+    }
+}
