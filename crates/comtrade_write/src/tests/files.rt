@@ -197,3 +197,27 @@ fn further_lines(rt: HostRuntime) -> Result<(), Fail> {
     assert!(rt; is_cfg(alloc, &further_file(alloc)?, wanted));
     Ok(())
 }
+
+/// No rate, a first row in the year 1 and a trigger a microsecond before 1970 began.
+fn unrated_file(alloc: Global) -> Result<File, Fail> {
+    let mut rates = Vec::new(alloc);
+    rates.push(Rate {
+        samp: number(0)?,
+        endsamp: 5,
+    })?;
+    let mut file = file(alloc, 1000, 12)?;
+    file.head.nrates = 0;
+    file.head.rates = Items::of(rates);
+    file.head.first = -62135596800000000;
+    file.head.trigger = -1;
+    Ok(file)
+}
+
+#[test]
+fn no_rate_and_early_instants(rt: HostRuntime) -> Result<(), Fail> {
+    let alloc = rt.alloc();
+    let wanted =
+        b"Bay 1,DFR,1999\r\n1,1A,0D\r\n1,IA,A,,A,1,0,0,-32767,32767,1,1,P\r\n50\r\n0\r\n0,5\r\n01/01/0001,00:00:00.000000\r\n31/12/1969,23:59:59.999999\r\nASCII\r\n1\r\n";
+    assert!(rt; is_cfg(alloc, &unrated_file(alloc)?, wanted));
+    Ok(())
+}

@@ -9,14 +9,14 @@ use std::test::Fail;
 fn file(
     alloc: Global,
     number: u64,
-    stamp: u64,
+    stamp: Option<u64>,
     values: &[Reading],
     bits: &[bool],
 ) -> Result<File, Fail> {
     let mut rows = Vec::new(alloc);
     rows.push(Row {
         number,
-        stamp: Some(stamp),
+        stamp,
         values: Items::of(Vec::from_slice(alloc, values)?),
         bits: Items::of(Vec::from_slice(alloc, bits)?),
     })?;
@@ -42,7 +42,7 @@ fn six_and_six(rt: HostRuntime) -> Result<(), Fail> {
     let file = file(
         alloc,
         5,
-        667,
+        Some(667),
         &values,
         &[false, false, false, false, true, true],
     )?;
@@ -61,10 +61,20 @@ fn missing_and_seventeen_bits(rt: HostRuntime) -> Result<(), Fail> {
     let alloc = rt.alloc();
     let mut bits = [false; 17];
     bits[16] = true;
-    let file = file(alloc, 1, 0, &[Reading::Missing], &bits)?;
+    let file = file(alloc, 1, Some(0), &[Reading::Missing], &bits)?;
     let wanted = b"1,0,99999,0,0,0,0,0,0,0,0,0,0,0,0,0,0,0,0,1\r\n\x1A";
     assert!(rt; is_ascii(alloc, &file, wanted));
     let wanted = [1, 0, 0, 0, 0, 0, 0, 0, 0, 0x80, 0, 0, 1, 0];
+    assert!(rt; is_binary(alloc, &file, &wanted));
+    Ok(())
+}
+
+#[test]
+fn no_stamp(rt: HostRuntime) -> Result<(), Fail> {
+    let alloc = rt.alloc();
+    let file = file(alloc, 1, None, &[Reading::Value(12)], &[])?;
+    assert!(rt; is_ascii(alloc, &file, b"1,,12\r\n\x1A"));
+    let wanted = [1, 0, 0, 0, 0xFF, 0xFF, 0xFF, 0xFF, 0x0C, 0];
     assert!(rt; is_binary(alloc, &file, &wanted));
     Ok(())
 }
