@@ -155,6 +155,23 @@ fn refused(rt: HostRuntime) -> Result<(), Fail> {
     Ok(())
 }
 
+/// Whether these bytes are read as the station's name.
+fn is_station(rt: &HostRuntime, name: &[u8], line: &[u8]) -> bool {
+    let Some(text) = with_line(rt, CFG, 1, line).ok() else {
+        return false;
+    };
+    let Some(head) = read_cfg(rt.alloc(), text.as_slice()).ok() else {
+        return false;
+    };
+    head.station.items() == name
+}
+
+/// A name needs no letters of ASCII.
+#[test]
+fn byte_of_no_ascii(rt: HostRuntime) {
+    assert!(rt; is_station(&rt, b"Bay \xE9", b"Bay \xE9,DFR,1999"));
+}
+
 /// Channels of each kind count from 1.
 #[test]
 fn status_counts(rt: HostRuntime) -> Result<(), Fail> {

@@ -1,6 +1,7 @@
 //! Files cut after each number of bytes.
 
 use super::*;
+use crate::tests::same::{is_same, is_same_head};
 use dfr_channels::Reading;
 
 /// The fault of the configuration file when so many of its bytes are left.
@@ -47,6 +48,28 @@ fn cut_cfg(rt: HostRuntime) {
             assert_eq!(rt; cfg_fault(&rt, &CFG[..left]), fault_of_cfg(left));
         }
     }
+}
+
+/// Whether so many bytes of the configuration file read to the head that all of them read to.
+fn is_whole_head(rt: &HostRuntime, left: usize) -> bool {
+    if CFG.len() < left {
+        return false;
+    }
+    let Some(whole) = read_cfg(rt.alloc(), CFG).ok() else {
+        return false;
+    };
+    let Some(cut) = read_cfg(rt.alloc(), &CFG[..left]).ok() else {
+        return false;
+    };
+    is_same_head(&whole, &cut)
+}
+
+/// The last line's end may be missing, in part or whole.
+#[test]
+fn cut_end_of_cfg(rt: HostRuntime) {
+    assert!(rt; is_whole_head(&rt, 140));
+    assert!(rt; is_whole_head(&rt, 141));
+    assert!(rt; is_whole_head(&rt, 142));
 }
 
 /// The fault of ASCII data when so many of their bytes are left.
@@ -101,6 +124,29 @@ fn last_row_cut(rt: HostRuntime) {
             );
         }
     }
+}
+
+/// Whether so many bytes of the ASCII data read to the file that all of them read to.
+fn is_whole_file(rt: &HostRuntime, left: usize) -> bool {
+    if DAT.len() < left {
+        return false;
+    }
+    let Some(whole) = read(rt.alloc(), CFG, DAT).ok() else {
+        return false;
+    };
+    let Some(cut) = read(rt.alloc(), CFG, &DAT[..left]).ok() else {
+        return false;
+    };
+    is_same(&whole, &cut)
+}
+
+/// The end mark may be missing, and the last row's end with it.
+#[test]
+fn cut_end_of_dat(rt: HostRuntime) {
+    assert!(rt; is_whole_file(&rt, 50));
+    assert!(rt; is_whole_file(&rt, 51));
+    assert!(rt; is_whole_file(&rt, 52));
+    assert!(rt; is_whole_file(&rt, 53));
 }
 
 #[test]

@@ -1,7 +1,8 @@
 //! Data files.
 
 use super::*;
-use dfr_channels::Reading;
+use crate::tests::same::is_same_head;
+use dfr_channels::{Items, Reading};
 
 /// The values of the five rows, where row i has the number i and the stamp (i - 1) * 1000.
 fn values_of(rt: &HostRuntime, cfg: &[u8], dat: &[u8]) -> Option<Vec<Option<Reading>>> {
@@ -72,6 +73,31 @@ fn is_the_row(rt: &HostRuntime, dat: &[u8]) -> bool {
         && row.bits.items() == [true, false].as_slice()
 }
 
+/// Whether the binary data are the one row 7 with neither a stamp nor a value, the first contact closed and the second open.
+fn is_the_bare_row(rt: &HostRuntime, dat: &[u8]) -> bool {
+    let Some(text) = with_line(rt, CONTACTS, 11, b"BINARY").ok() else {
+        return false;
+    };
+    let Some(file) = read(rt.alloc(), text.as_slice(), dat).ok() else {
+        return false;
+    };
+    let Some(row) = file.rows.items().first() else {
+        return false;
+    };
+    file.rows.items().len() == 1
+        && row.number == 7
+        && row.stamp == None
+        && row.values.items() == [Reading::Missing].as_slice()
+        && row.bits.items() == [true, false].as_slice()
+}
+
+/// The group's bits that are of no channel are set, and are passed over.
+#[test]
+fn bare_row(rt: HostRuntime) {
+    let dat = b"\x07\0\0\0\xFF\xFF\xFF\xFF\0\x80\xFD\xFF";
+    assert!(rt; is_the_bare_row(&rt, dat));
+}
+
 #[test]
 fn rows_in_both_spellings(rt: HostRuntime) {
     for dat in [
@@ -122,6 +148,50 @@ fn empty_fields(rt: HostRuntime) -> Result<(), Fail> {
         Some((5, None, Some(Reading::Value(12))))
     );
     Ok(())
+}
+
+/// 99999 stands for no value also with its sign.
+#[test]
+fn missing_with_sign(rt: HostRuntime) -> Result<(), Fail> {
+    let text = with_line(&rt, DAT, 3, b"3,2000,+99999")?;
+    assert_eq!(rt;
+        third(&rt, CFG, text.as_slice()),
+        Some((5, Some(2000), Some(Reading::Missing)))
+    );
+    Ok(())
+}
+
+/// What the data read to under a head without rates.
+fn read_without_rates(rt: &HostRuntime, dat: &[u8]) -> Option<Result<File, (ReadFault, Head)>> {
+    let mut head = read_cfg(rt.alloc(), CFG).ok()?;
+    head.rates = Items::of(Vec::new(rt.alloc()));
+    Some(read_dat(rt.alloc(), head, dat))
+}
+
+fn rows_without_rates(rt: &HostRuntime, dat: &[u8]) -> Option<usize> {
+    let file = read_without_rates(rt, dat)?.ok()?;
+    Some(file.rows.items().len())
+}
+
+/// The fault, where the head comes back as it was.
+fn fault_without_rates(rt: &HostRuntime, dat: &[u8]) -> Option<ReadFault> {
+    let (fault, back) = read_without_rates(rt, dat)?.err()?;
+    let mut head = read_cfg(rt.alloc(), CFG).ok()?;
+    head.rates = Items::of(Vec::new(rt.alloc()));
+    if is_same_head(&head, &back) {
+        Some(fault)
+    } else {
+        None
+    }
+}
+
+#[test]
+fn no_rates(rt: HostRuntime) {
+    assert_eq!(rt; rows_without_rates(&rt, b""), Some(0));
+    assert_eq!(rt;
+        fault_without_rates(&rt, b"1,0,11"),
+        Some(ReadFault::Extra(1))
+    );
 }
 
 #[test]

@@ -1,4 +1,4 @@
-//! Whether two files say the same.
+//! Whether two files, or two heads, say the same.
 
 use comtrade_write::{File, Head, Rate, Row};
 use dfr_channels::{AnalogChannel, StatusChannel};
@@ -64,10 +64,10 @@ fn are_rows(xs: &[Row], ys: &[Row]) -> bool {
     xs.len() == ys.len() && xs.iter().zip(ys).all(|(x, y)| is_row(x, y))
 }
 
+pub fn is_same_head(x: &Head, y: &Head) -> bool {
+    has_names(x, y) && has_channels(x, y) && has_times(x, y) && has_form(x, y)
+}
+
 pub fn is_same(x: &File, y: &File) -> bool {
-    has_names(&x.head, &y.head)
-        && has_channels(&x.head, &y.head)
-        && has_times(&x.head, &y.head)
-        && has_form(&x.head, &y.head)
-        && are_rows(x.rows.items(), y.rows.items())
+    is_same_head(&x.head, &y.head) && are_rows(x.rows.items(), y.rows.items())
 }
