@@ -15,6 +15,7 @@ tried() {
 tried cfg 4 '1,C,,,0'
 tried cfg 4 '01, a b ,x,y, '
 tried cfg 4 '1,C,,'
+tried cfg 4 '1,C,0'
 tried cfg 4 '1,C,,,0,'
 tried cfg 4 'x,C,,,0'
 tried cfg 4 '1,C,,,2'

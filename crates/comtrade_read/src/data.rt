@@ -44,7 +44,8 @@ fn rows_of<A: Allocator + Copy>(
 }
 
 /// The file of this head and of the rows that the data say, in the head's kind (C37.111-1999, clause 6). As many rows are
-/// wanted as the last rate's last sample says, or none where the head has no rate. A fault hands the head back.
+/// wanted as the last rate's last sample says, or none where the head has no rate. The head has at most 999,999 channels, as
+/// any that `read_cfg` gives. A fault hands the head back.
 pub fn read_dat<A: Allocator + Copy>(
     alloc: A,
     head: Head<A>,

@@ -21,7 +21,7 @@ pub enum Part {
 }
 
 /// The file that a configuration file and its data file say, or the part that isn't read and its first fault. The data are
-/// looked at where the configuration file reads.
+/// looked at only where the configuration file reads.
 pub fn read<A: Allocator + Copy>(
     alloc: A,
     cfg: &[u8],

@@ -1,4 +1,4 @@
-//! Rows in the writers' spelling, read in one pass.
+//! Rows with a stamp, in the writers' spelling, read in one pass.
 
 ghost use Rattle.std.specs.Prelude.{◌≡◌, ◌<◌, [], IfOk, IfSome, option_copied, option_map, Some, false, pos, negsuc, if◌then◌else◌};
 ghost use Rattle.dfr_channels.specs.declared.scan.Reading.TheVariants as readings;

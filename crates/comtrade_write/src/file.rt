@@ -19,7 +19,8 @@ pub struct Rate {
 }
 
 /// What a configuration file says (clause 5). `first` and `trigger` are microseconds since 1970-01-01 00:00:00; `timemult`
-/// multiplies the stamps of the data file (5.3.9).
+/// multiplies the stamps of the data file (5.3.9); `line_freq` is in Hz. `nrates` is the number of rates as the file says it:
+/// where it is 0, `rates` has one all the same (5.3.6).
 #[derive(Drop, Debug)]
 pub struct Head<A: Allocator = Global> {
     pub station: Items<u8, A>,

@@ -9,9 +9,9 @@ use dfr_channels::{Layout, Memory};
 use dfr_recorder::Recorder;
 use std::alloc::Allocator;
 
-/// The File of the oldest record on a recorder's shelf, over a layout that equals the recorder's. Such a record is never
-/// `Foreign`, and its File meets no refusal of a writer but want of memory. Where memory is refused here the record is gone:
-/// who wants to try again takes it and calls `file_of`.
+/// The File of the oldest record on a recorder's shelf, over a layout that equals the recorder's; None where no record waits.
+/// Such a record is never `Foreign`, and its File meets no refusal of a writer but want of memory. Where memory is refused here
+/// the record is lost: a caller that wants to be able to try again calls `take` and `file_of` instead.
 pub fn file_of_taken<A: Allocator + Copy>(
     alloc: A,
     recorder: &mut Recorder<A>,

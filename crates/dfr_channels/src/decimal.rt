@@ -26,7 +26,7 @@ impl Model for Decimal {
 }
 
 impl Decimal {
-    /// Its contract also tells what any decimal has.
+    /// The units of the number units / 10^places. The contract also tells what any decimal has.
     pub fn units(&self) -> i128
         ensures value { result ≡ self.now.units }
         ensures lawful { IsNumber self.now }
@@ -34,6 +34,7 @@ impl Decimal {
         self.units
     }
 
+    /// The places of the number units / 10^places.
     pub fn places(&self) -> u8
         ensures { result ≡ self.now.places }
     {
@@ -90,7 +91,7 @@ fn number_at(whole: &[u8], fraction: &[u8]) -> Option<u128>
     capped_number(number, fraction)
 }
 
-/// The number that the digits make, but at most the limit; None where there are none or one is no digit.
+/// The number that the digits make, but at most 10^36; None where there are none or one is no digit.
 pub fn numeral_of(digits: &[u8]) -> Option<u128>
     ensures { result ≡ capped_size digits.now }
 {
@@ -155,7 +156,7 @@ fn with_zeros(number: u128, zeros: u128) -> Option<u128>
 }
 
 impl Decimal {
-    /// The decimal that the text spells.
+    /// The decimal that the text spells; None where it spells none, or one that can't be held. Blanks aren't trimmed.
     pub fn read(text: &[u8]) -> Option<Decimal>
         ensures { result ≡ decimal_number text.now }
     {
@@ -167,7 +168,8 @@ impl Decimal {
         number_of(minus, number, fraction.len(), exponent)
     }
 
-    /// The number units / 10^places, where the units lie strictly between -10^36 and 10^36 and the places are at most 80.
+    /// The number units / 10^places, where the units lie strictly between -10^36 and 10^36 and the places are at most 80;
+    /// None otherwise.
     pub fn new(units: i128, places: u8) -> Option<Decimal>
         ensures { SomeIff result (IsNumber (record { units = units; places = places })) (record { units = units; places = places }) }
     {

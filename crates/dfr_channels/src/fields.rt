@@ -7,7 +7,7 @@ use crate::channel::Side;
 use crate::decimal::Decimal;
 use crate::number::integer_of;
 
-/// A decimal, or 0 where nothing stands.
+/// The decimal that the text spells, 0 where it is empty; None otherwise.
 #[tactic(auto, unfolding(crate::specs::Fields::free_scale))]
 pub fn free_scale_of(text: &[u8]) -> Option<Decimal>
     ensures { result ≡ spec.free_scale text.now }
@@ -30,7 +30,7 @@ fn as_bit(number: Option<i128>) -> Option<bool>
     }
 }
 
-/// 0 or 1.
+/// The bit that the text spells, as the whole number 0 or 1; None otherwise.
 #[tactic(auto, unfolding(crate::specs::Fields::bit))]
 pub fn bit_of(text: &[u8]) -> Option<bool>
     ensures { result ≡ spec.bit text.now }
@@ -38,7 +38,7 @@ pub fn bit_of(text: &[u8]) -> Option<bool>
     as_bit(integer_of(text))
 }
 
-/// 0 or 1, or 0 where nothing stands.
+/// The bit that the text spells, 0 where it is empty; None otherwise.
 #[tactic(auto, unfolding(crate::specs::Fields::free_bit))]
 pub fn free_bit_of(text: &[u8]) -> Option<bool>
     ensures { result ≡ spec.free_bit text.now }
@@ -50,7 +50,7 @@ pub fn free_bit_of(text: &[u8]) -> Option<bool>
     }
 }
 
-/// The side that the text names: P or S, large or small.
+/// The side that the text names: P or S, large or small; None otherwise.
 #[tactic(auto, unfolding(crate::specs::Fields::side))]
 pub fn side_of(text: &[u8]) -> Option<Side>
     ensures { result ≡ spec.side text.now }

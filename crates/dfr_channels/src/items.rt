@@ -33,13 +33,14 @@ impl<T: PartialEq, A: Allocator> PartialEq for Items<T, A> {
 }
 
 impl<T, A: Allocator> Items<T, A> {
-    /// Takes no memory.
+    /// The list of these items. Takes no memory.
     pub fn of(list: Vec<T, A>) -> Items<T, A>
         ensures { result ≡ list.items }
     {
         Items { list }
     }
 
+    /// The items, in order.
     pub fn items(&self) -> &[T]
         ensures { result.now ≡ self.now }
     {
@@ -53,7 +54,7 @@ impl<T, A: Allocator> Items<T, A> {
 }
 
 impl<T: Copy, A: Allocator + Copy> Items<T, A> {
-    /// A copy of its own, on the same allocator.
+    /// A copy of its own, on the same allocator. `Memory` is a growth that was refused.
     pub fn try_clone(&self) -> Result<Items<T, A>, Memory>
         ensures { IfOk result (λ copy. copy ≡ self.now) }
     {
@@ -64,11 +65,12 @@ impl<T: Copy, A: Allocator + Copy> Items<T, A> {
 
 /// What can be copied where there is memory for it.
 pub trait TryClone: Drop {
+    /// A copy of its own, on the same allocator. `Memory` is a growth that was refused.
     fn try_clone(&self) -> Result<Self, Memory>
         ensures { IfOk result (λ copy. copy ≡ self.now) };
 }
 
-/// A copy of each item, in order.
+/// A copy of each item, in order, in a list on `alloc`. `Memory` is a growth that was refused.
 pub fn copies_of<T: TryClone, A: Allocator + Copy>(
     alloc: A,
     list: &[T],

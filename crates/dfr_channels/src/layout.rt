@@ -108,7 +108,7 @@ impl<A: Allocator> Layout<A> {
     ghost use Rattle.dfr_channels.specs.Setups.{setup_fault, IsLawful, end_of_time};
     ghost use Rattle.dfr_channels.specs.Scans.{instant_of, scan_fault, Fits};
 
-    /// Takes no memory; a set-up with a fault is handed back.
+    /// The layout of a lawful set-up; one with a fault is handed back with its first fault. Takes no memory.
     pub fn new(setup: Setup<A>) -> Result<Layout<A>, (SetupFault, Setup<A>)>
         ensures made { IfOk result (λ layout. (setup_fault setup ≡ None) × (layout ≡ setup)) }
         ensures fault { IfErr result (λ refused. setup_fault setup ≡ Some refused.0) }
@@ -120,24 +120,28 @@ impl<A: Allocator> Layout<A> {
         }
     }
 
+    /// The station's name.
     pub fn station(&self) -> &[u8]
         ensures { result.now ≡ self.now.station }
     {
         self.setup.station.items()
     }
 
+    /// The recording device's name.
     pub fn device(&self) -> &[u8]
         ensures { result.now ≡ self.now.device }
     {
         self.setup.device.items()
     }
 
+    /// The analogue channels, at most 256.
     pub fn analog(&self) -> &[AnalogChannel<A>]
         ensures { result.now ≡ self.now.analog }
     {
         self.setup.analog.items()
     }
 
+    /// The status channels, at most 256.
     pub fn status(&self) -> &[StatusChannel<A>]
         ensures { result.now ≡ self.now.status }
     {

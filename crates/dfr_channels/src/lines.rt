@@ -7,7 +7,7 @@ use crate::trim;
 use memchr::memchr_iter;
 use std::alloc::{AllocError, Allocator};
 
-/// The line without a carriage return at its end.
+/// The line without one carriage return at its end.
 fn without_carriage_return(line: &[u8]) -> &[u8]
     ensures { result.now ≡ without_cr line.now }
 {
@@ -26,7 +26,8 @@ fn line_between(text: &[u8], start: usize, end: usize) -> &[u8]
     without_carriage_return(&text[start..end])
 }
 
-/// What stands between the line feeds of a text, each without a carriage return at its end.
+/// What stands between the line feeds of a text, each without one carriage return at its end. `AllocError` is a growth that was
+/// refused.
 pub fn lines_of<'a, A: Allocator>(alloc: A, text: &'a [u8]) -> Result<Vec<&'a [u8], A>, AllocError>
     ensures { IfOk result (λ v. texts v.items ≡ cut_lines text.now) }
 {
@@ -55,7 +56,7 @@ pub fn without_blank_end<'s, 'a>(lines: &'s [&'a [u8]]) -> &'s [&'a [u8]]
     left
 }
 
-/// The fields of a line, without the blanks around them.
+/// The fields of a line, without the blanks around them. `AllocError` is a growth that was refused.
 pub fn fields_of<'a, A: Allocator>(alloc: A, line: &'a [u8]) -> Result<Vec<&'a [u8], A>, AllocError>
     ensures { IfOk result (λ v. texts v.items ≡ fields line.now) }
 {

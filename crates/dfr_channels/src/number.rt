@@ -49,7 +49,7 @@ pub(crate) fn without_sign(text: &[u8]) -> (bool, &[u8])
     }
 }
 
-/// The whole number that the text spells, if it lies strictly between -10^36 and 10^36.
+/// The whole number that the text spells, if it lies strictly between -10^36 and 10^36; None otherwise. Blanks aren't trimmed.
 pub fn integer_of(text: &[u8]) -> Option<i128>
     ensures { result ≡ whole_number text.now }
 {

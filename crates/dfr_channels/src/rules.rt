@@ -58,7 +58,7 @@ impl<A: Allocator> Rules<A> {
     ghost use Rattle.std.specs.Prelude.{◌≡◌, ◌≤◌, true, Some, None, IfOk, IfErr, length, option_copied};
     ghost use Rattle.dfr_channels.specs.Firing.{lowest_holding, rules_fit, rules_fault};
 
-    /// Takes no memory; a list with a fault is handed back. An empty one is lawful.
+    /// The rules of a list, which may be empty; one with a fault is handed back with its first fault. Takes no memory.
     #[tactic(auto, unfolding(crate::specs::Firing::rules_fault))]
     pub fn new(
         layout: &Layout<A>,
@@ -80,6 +80,7 @@ impl<A: Allocator> Rules<A> {
         }
     }
 
+    /// The rules, at most 32.
     pub fn list(&self) -> &[Rule]
         ensures value { result.now ≡ self.now }
         ensures few { length self.now ≤ 32 }

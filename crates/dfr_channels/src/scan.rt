@@ -29,6 +29,7 @@ impl<A: Allocator> Model for Scan<A> {
 }
 
 impl<A: Allocator> Scan<A> {
+    /// The scan of these readings and bits. Takes no memory.
     pub fn new(analog: Vec<Reading, A>, status: Vec<bool, A>) -> Scan<A>
         ensures { result ≡ record { analog = analog.items; status = status.items } }
     {
@@ -38,12 +39,14 @@ impl<A: Allocator> Scan<A> {
         }
     }
 
+    /// The readings of the analogue channels.
     pub fn analog(&self) -> &[Reading]
         ensures { result.now ≡ self.now.analog }
     {
         self.analog.items()
     }
 
+    /// The bits of the status channels.
     pub fn status(&self) -> &[bool]
         ensures { result.now ≡ self.now.status }
     {
@@ -52,7 +55,7 @@ impl<A: Allocator> Scan<A> {
 }
 
 impl<A: Allocator + Copy> Scan<A> {
-    /// A copy of its own, on the same allocator.
+    /// A copy of its own, on the same allocator. `Memory` is a growth that was refused.
     pub fn try_clone(&self) -> Result<Scan<A>, Memory>
         ensures { IfOk result (λ copy. copy ≡ self.now) }
     {

@@ -75,8 +75,8 @@ fn replay_text<A: Allocator + Copy, W: Write>(
 
 /// Replays the script that the reader has: true where the whole of it ran, false where the line of a fault was printed. The
 /// whole script is read, and its set-up made, before any command is. `Input` is a read that failed, or more than 16,777,216
-/// bytes, and nothing was written; `Output` a write that failed, after which nothing more is written. What was written before
-/// a fault stays written.
+/// bytes, and nothing was written; `Output` a write that failed, after which nothing more is written; `Memory` a growth that was
+/// refused. What was written before a fault stays written.
 pub fn replay_over<A: Allocator + Copy, R: Read, W: Write>(
     alloc: A,
     r: &mut R,

@@ -20,6 +20,9 @@ const ANSWERS: &str =
 const CFG: &str =
     "Bay 1,DFR,1999\r\n1,1A,0D\r\n1,IA,A,,A,1,0,0,-32767,32767,1,1,P\r\n50\r\n1\r\n1000,5\r\n01/01/1970,00:00:00.001000\r\n01/01/1970,00:00:00.003000\r\nASCII\r\n1\r\n";
 
+const READING: &str =
+    "station Bay 1\ndevice DFR\nanalog 1 status 0 rows 5\nfirst 1000 trigger 3000\n";
+
 const DAT: &str = "1,0,11\r\n2,1000,12\r\n3,2000,13\r\n4,3000,14\r\n5,4000,15\r\n\x1a";
 
 /// A writer that takes one byte a call, and none after so many.
@@ -159,8 +162,7 @@ fn reads_the_first_pair(rt: HostRuntime) -> Result<(), Fail> {
     let mut out = Vec::new(rt.alloc());
     let whole = read_over(rt.alloc(), CFG.as_bytes(), DAT.as_bytes(), &mut out)?;
     assert!(rt; whole);
-    let want = b"station Bay 1\ndevice DFR\nanalog 1 status 0 rows 5\nfirst 1000 trigger 3000\n";
-    assert_eq!(rt; out.as_slice(), want.as_slice());
+    assert_eq!(rt; out.as_slice(), READING.as_bytes());
     Ok(())
 }
 
@@ -182,6 +184,28 @@ fn a_failing_writer_has_a_prefix(rt: HostRuntime) -> Result<(), Fail> {
         assert_eq!(rt; bytes.get(..limit), want.as_bytes().get(..limit));
     }
     Ok(())
+}
+
+/// Whether a reading into a writer that takes so many bytes is a fault of the output, with just these bytes written.
+fn is_cut(alloc: Global, limit: usize) -> bool {
+    let mut bytes = [0u8; 100];
+    let mut narrow = Narrow {
+        bytes: &mut bytes,
+        len: 0,
+        limit,
+    };
+    let ended = read_over(alloc, CFG.as_bytes(), DAT.as_bytes(), &mut narrow);
+    let len = narrow.len;
+    drop(narrow);
+    let written = bytes.get(..limit) == READING.as_bytes().get(..limit);
+    ended == Err(RunFault::Output) && len == limit && written
+}
+
+#[test]
+fn a_failing_writer_has_a_prefix_of_a_reading(rt: HostRuntime) {
+    for limit in 0..READING.len() {
+        assert!(rt; is_cut(rt.alloc(), limit), "at {limit}");
+    }
 }
 
 #[test]

@@ -1,4 +1,4 @@
--- The step of ring, open record and shelf: what a recorder without a past does, and answers.
+-- The step of ring, open record and shelf, by what is kept alone: what it does, and answers.
 use Rattle.std.specs.Prelude.{ℕ, zero, suc, ◌+◌, ◌-◌, min, Bool, cond, eqb, ltb, List, [], ◌∷◌, ◌++◌, length, drop, slice_get, Option, Some, None, Ok, Err, Result}
 use Rattle.dfr_channels.specs.Parts.{ScanParts}
 use Rattle.dfr_channels.specs.Firing.{lowest_holding, rules_fit}

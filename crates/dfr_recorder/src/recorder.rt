@@ -105,8 +105,8 @@ impl<A: Allocator> Recorder<A> {
         self.ring.len() as u64 + scans_so_far(&self.recording) + scans_in(&self.shelf)
     }
 
-    /// Takes the oldest closed record off the shelf. Its scans pass the layout's check, the last has an instant and its row's
-    /// time stamp can be written. Takes no memory.
+    /// Takes the oldest closed record off the shelf; None where none waits. Its scans pass the layout's check, the last has an
+    /// instant and its row's time stamp can be written. Takes no memory.
     pub fn take(&mut self) -> Option<Record<A>>
         ensures step { IsStep self.old step.Take (answer.Take result) self.new }
         ensures opening { (self.new.layout ≡ self.old.layout) × (self.new.limits ≡ self.old.limits) }

@@ -206,6 +206,19 @@ fn limits_in_order(rt: HostRuntime) -> Result<(), Fail> {
     Ok(())
 }
 
+/// Whether limits that were made at a thousand scans a second fit a layout of this rate.
+fn fit_at(alloc: Global, rate: u32) -> Result<bool, Fail> {
+    let limits = Limits::new(&layout(alloc, 1000)?, 0, 1, 4296, 1).ok();
+    Ok(limits.ok_or("limits")?.fits(&layout(alloc, rate)?))
+}
+
+#[test]
+fn limits_of_another_layout(rt: HostRuntime) -> Result<(), Fail> {
+    assert!(rt; fit_at(rt.alloc(), 1000)?);
+    assert!(rt; !fit_at(rt.alloc(), 1)?);
+    Ok(())
+}
+
 fn add(steps: &mut VecDeque<Step>, step: Step) -> Result<(), Fail> {
     Ok(steps.push_back(step).ok().ok_or("memory")?)
 }

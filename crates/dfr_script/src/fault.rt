@@ -8,7 +8,7 @@ use std::alloc::{AllocError, AllocFailed};
 /// What is wrong with a line, in the order of the tests.
 #[derive(Clone, Copy, Debug, PartialEq, Eq)]
 pub enum Word {
-    /// An unknown or misplaced word, a second line where one is lawful, or a rest where there is none.
+    /// An unknown or misplaced word, a second line where one is lawful, or a rest where none may stand.
     Word,
     /// A wrong number of fields, of words of a rule, or of strokes of a scan.
     Fields,
@@ -28,7 +28,9 @@ pub struct ScriptFault {
 /// Why a script could not be read.
 #[derive(Clone, Copy, Debug, PartialEq, Eq)]
 pub enum ScriptRefusal {
+    /// The script's first fault.
     Fault(ScriptFault),
+    /// A growth was refused.
     Memory,
 }
 

@@ -87,7 +87,7 @@ fn readings_of<A: Allocator>(
     if trim(part).is_empty() {
         return Ok(Vec::new(alloc));
     }
-    // a text has no more fields than this, however many channels there are
+    // no more readings than this can be read of a text, however many channels there are
     let mut list = Vec::with_capacity(alloc, room.min(part.len() / 2 + 1))?;
     let mut left = Some(part);
     while let Some(text) = left {

@@ -167,6 +167,8 @@ fn many_contacts(rt: HostRuntime) -> Result<(), Fail> {
         fault_of_contacts(rt.alloc(), 257, b"")?,
         Some(SetupFault::Channels)
     );
+    let past = fault_of_contacts(rt.alloc(), 257, b"ABC")?;
+    assert_eq!(rt; past, Some(SetupFault::Channels));
     Ok(())
 }
 

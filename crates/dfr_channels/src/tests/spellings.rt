@@ -3,6 +3,7 @@
 use crate::{
     Decimal, Items, fields_of, integer_of, lines_of, plain_number, trim, without_blank_end,
 };
+use std::alloc::{AllocError, Global};
 use std::test::Fail;
 
 fn reads(text: &[u8], units: i128, places: u8) -> bool {
@@ -25,6 +26,30 @@ fn decimals(rt: HostRuntime) {
     assert!(rt; reads(b"0E99999999999999999999", 0, 0));
     assert!(rt; reads(b"0.1E36", 10i128.pow(35), 0));
     assert!(rt; reads(b"+0", 0, 0));
+}
+
+/// A 1 behind a point and 81 zeros, and this exponent.
+fn with_exponent(alloc: Global, exponent: u8) -> Result<Vec<u8>, AllocError> {
+    let mut text = Vec::from_slice(alloc, b"0.")?;
+    for _ in 0..81 {
+        text.push(b'0')?;
+    }
+    text.extend_from_slice(b"1E")?;
+    text.push(exponent)?;
+    Ok(text)
+}
+
+fn is_refused(text: &[u8]) -> bool {
+    Decimal::read(text).is_none()
+}
+
+#[test]
+fn many_places(rt: HostRuntime) -> Result<(), Fail> {
+    let text = with_exponent(rt.alloc(), b'2')?;
+    assert!(rt; reads(&text, 1, 80));
+    let text = with_exponent(rt.alloc(), b'1')?;
+    assert!(rt; is_refused(&text));
+    Ok(())
 }
 
 #[test]
@@ -77,6 +102,7 @@ fn whole_numbers(rt: HostRuntime) -> Result<(), Fail> {
     assert_eq!(rt; integer_of(b""), None);
     assert_eq!(rt; integer_of(b"1a"), None);
     assert_eq!(rt; integer_of(b"1000000000000000000000000000000000000"), None);
+    assert_eq!(rt; integer_of(b"-1000000000000000000000000000000000000"), None);
     assert_eq!(rt;
         integer_of(b"999999999999999999999999999999999999"),
         Some(10i128.pow(36) - 1)
