@@ -13,11 +13,11 @@ pub fn text<A: Allocator + Copy>(alloc: A, bytes: &[u8]) -> Result<Items<u8, A>,
     Ok(Items::of(Vec::from_slice(alloc, bytes)?))
 }
 
-fn number(units: i128) -> Result<Decimal, Fail> {
+pub fn number(units: i128) -> Result<Decimal, Fail> {
     Ok(Decimal::new(units, 0).ok_or("a number")?)
 }
 
-fn analog<A: Allocator + Copy>(alloc: A) -> Result<AnalogChannel<A>, Fail> {
+pub fn analog<A: Allocator + Copy>(alloc: A) -> Result<AnalogChannel<A>, Fail> {
     Ok(AnalogChannel {
         id: text(alloc, b"IA")?,
         phase: text(alloc, b"A")?,
@@ -34,7 +34,7 @@ fn analog<A: Allocator + Copy>(alloc: A) -> Result<AnalogChannel<A>, Fail> {
     })
 }
 
-fn status<A: Allocator + Copy>(alloc: A) -> Result<StatusChannel<A>, Fail> {
+pub fn status<A: Allocator + Copy>(alloc: A) -> Result<StatusChannel<A>, Fail> {
     Ok(StatusChannel {
         id: text(alloc, b"TRIP")?,
         phase: text(alloc, b"A")?,
