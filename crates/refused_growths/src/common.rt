@@ -87,3 +87,32 @@ pub fn rules<A: Allocator + Copy>(alloc: A, layout: &Layout<A>) -> Result<Rules<
     })?;
     Ok(Rules::new(layout, list).ok().ok_or("rules that fit")?)
 }
+
+/// The text with this line, counted from 1, in place of its own.
+pub fn with_line<A: Allocator + Copy>(
+    alloc: A,
+    text: &[u8],
+    n: usize,
+    line: &[u8],
+) -> Result<Vec<u8, A>, AllocError> {
+    let mut out = Vec::new(alloc);
+    let mut at = 1usize;
+    let mut done = false;
+    for byte in text {
+        if at == n {
+            if !done {
+                out.extend_from_slice(line)?;
+                done = true;
+            }
+        } else {
+            out.push(*byte)?;
+        }
+        if *byte == b'\n' {
+            if at == n {
+                out.extend_from_slice(b"\r\n")?;
+            }
+            at = at.saturating_add(1);
+        }
+    }
+    Ok(out)
+}
