@@ -13,11 +13,11 @@ pub fn text<A: Allocator + Copy>(alloc: A, bytes: &[u8]) -> Result<Items<u8, A>,
     Ok(Items::of(Vec::from_slice(alloc, bytes)?))
 }
 
-fn number(units: i128) -> Result<Decimal, Fail> {
+pub fn number(units: i128) -> Result<Decimal, Fail> {
     Ok(Decimal::new(units, 0).ok_or("a number")?)
 }
 
-fn analog<A: Allocator + Copy>(alloc: A) -> Result<AnalogChannel<A>, Fail> {
+pub fn analog<A: Allocator + Copy>(alloc: A) -> Result<AnalogChannel<A>, Fail> {
     Ok(AnalogChannel {
         id: text(alloc, b"IA")?,
         phase: text(alloc, b"A")?,
@@ -34,7 +34,7 @@ fn analog<A: Allocator + Copy>(alloc: A) -> Result<AnalogChannel<A>, Fail> {
     })
 }
 
-fn status<A: Allocator + Copy>(alloc: A) -> Result<StatusChannel<A>, Fail> {
+pub fn status<A: Allocator + Copy>(alloc: A) -> Result<StatusChannel<A>, Fail> {
     Ok(StatusChannel {
         id: text(alloc, b"TRIP")?,
         phase: text(alloc, b"A")?,
@@ -86,4 +86,33 @@ pub fn rules<A: Allocator + Copy>(alloc: A, layout: &Layout<A>) -> Result<Rules<
         rise: true,
     })?;
     Ok(Rules::new(layout, list).ok().ok_or("rules that fit")?)
+}
+
+/// The text with this line, counted from 1, in place of its own.
+pub fn with_line<A: Allocator + Copy>(
+    alloc: A,
+    text: &[u8],
+    n: usize,
+    line: &[u8],
+) -> Result<Vec<u8, A>, AllocError> {
+    let mut out = Vec::new(alloc);
+    let mut at = 1usize;
+    let mut done = false;
+    for byte in text {
+        if at == n {
+            if !done {
+                out.extend_from_slice(line)?;
+                done = true;
+            }
+        } else {
+            out.push(*byte)?;
+        }
+        if *byte == b'\n' {
+            if at == n {
+                out.extend_from_slice(b"\r\n")?;
+            }
+            at = at.saturating_add(1);
+        }
+    }
+    Ok(out)
 }

@@ -38,7 +38,7 @@ pub struct Texts<'a> {
     pub dat: Vec<u8, Heap<'a>>,
 }
 
-fn written<'a>(
+pub fn written<'a>(
     heap: Heap<'a>,
     file: &File<Heap<'a>>,
     part: Part,
@@ -117,7 +117,7 @@ fn foreign_refused(rt: HostRuntime) -> Result<(), Fail> {
 
 /// How many growths of a writer were refused and then answered so, before it met no refusal; None where it answered otherwise,
 /// or where the same call over ample memory then gives other bytes.
-fn writer_refusals<'a>(
+pub fn writer_refusals<'a>(
     heap: Heap<'a>,
     file: &File<Heap<'a>>,
     part: Part,

@@ -16,3 +16,5 @@ mod reading;
 mod reading_back;
 #[cfg(test)]
 mod recorder;
+#[cfg(test)]
+mod writers;

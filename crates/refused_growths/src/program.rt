@@ -23,6 +23,26 @@ pub const CFG: &[u8] =
 
 const COUNTS: &[u8] = b"Bay 1,DFR,1999\n2,1A,0D\n";
 
+const ONE_ROW: &[u8] = b"1,0,5\r\n";
+
+const ONE_ROW_TEXT: &[u8] =
+    b"station Bay 1\ndevice DFR\nanalog 1 status 0 rows 1\nfirst 0 trigger 0\n";
+
+/// The two files of a script's record, of one channel and five rows.
+pub const FIRST_CFG: &[u8] =
+    b"Bay 1,DFR,1999\r\n1,1A,0D\r\n1,IA,A,,A,1,0,0,-32767,32767,1,1,P\r\n50\r\n1\r\n1000,5\r\n01/01/1970,00:00:00.001000\r\n01/01/1970,00:00:00.003000\r\nASCII\r\n1\r\n";
+
+pub const FIRST_DAT: &[u8] = b"1,0,11\r\n2,1000,12\r\n3,2000,13\r\n4,3000,14\r\n5,4000,15\r\n\x1A";
+
+const FIRST_TEXT: &[u8] =
+    b"station Bay 1\ndevice DFR\nanalog 1 status 0 rows 5\nfirst 1000 trigger 3000\n";
+
+/// The same configuration file, whose counts of channels don't add up.
+const FIRST_COUNTS: &[u8] =
+    b"Bay 1,DFR,1999\r\n2,1A,0D\r\n1,IA,A,,A,1,0,0,-32767,32767,1,1,P\r\n50\r\n1\r\n1000,5\r\n01/01/1970,00:00:00.001000\r\n01/01/1970,00:00:00.003000\r\nASCII\r\n1\r\n";
+
+const COUNTS_TEXT: &[u8] = b"cfg fault counts 2\n";
+
 /// How many growths of a replay were refused, before it met no refusal; None where it answered otherwise than by want of memory
 /// or as with ample memory, or wrote what ample memory doesn't write.
 fn replay_refusals<'a>(heap: Heap<'a>, alloc: Global, script: &[u8], kind: Kind) -> Option<u64> {
@@ -71,22 +91,27 @@ fn replays_refused(rt: HostRuntime) -> Result<(), Fail> {
     Ok(())
 }
 
-/// As `replay_refusals`, of a reading.
-fn reading_refusals<'a>(heap: Heap<'a>, alloc: Global, cfg: &[u8], dat: &[u8]) -> Option<u64> {
-    let mut full: Vec<u8> = Vec::new(alloc);
-    let wanted = read_over(heap, cfg, dat, &mut full).ok()?;
+/// As `replay_refusals`, of a reading that answers and prints this with ample memory.
+fn reading_refusals<'a>(
+    heap: Heap<'a>,
+    alloc: Global,
+    cfg: &[u8],
+    dat: &[u8],
+    wanted: (bool, &[u8]),
+) -> Option<u64> {
+    let (whole, text) = wanted;
     for n in 1..5000u64 {
         let mut out: Vec<u8> = Vec::new(alloc);
         heap.refuse(n);
         let result = read_over(heap, cfg, dat, &mut out);
         let met = heap.has_refused();
         heap.ample();
-        if !full.starts_with(&out) {
+        if !text.starts_with(&out) {
             return None;
         }
         match result {
-            Ok(whole) => {
-                if whole != wanted || out.len() != full.len() {
+            Ok(done) => {
+                if done != whole || out.len() != text.len() {
                     return None;
                 }
             }
@@ -107,8 +132,13 @@ fn reading_refusals<'a>(heap: Heap<'a>, alloc: Global, cfg: &[u8], dat: &[u8]) -
 fn readings_refused(rt: HostRuntime) -> Result<(), Fail> {
     let heap = Refusing::new(rt.alloc());
     let alloc = rt.alloc();
-    for cfg in [CFG, COUNTS] {
-        let refusals = reading_refusals(&heap, alloc, cfg, b"1,0,5\r\n");
+    for (cfg, dat, wanted) in [
+        (CFG, ONE_ROW, (true, ONE_ROW_TEXT)),
+        (COUNTS, ONE_ROW, (false, COUNTS_TEXT)),
+        (FIRST_CFG, FIRST_DAT, (true, FIRST_TEXT)),
+        (FIRST_COUNTS, FIRST_DAT, (false, COUNTS_TEXT)),
+    ] {
+        let refusals = reading_refusals(&heap, alloc, cfg, dat, wanted);
         assert!(rt; refusals.is_some_and(|n| n > 0));
     }
     Ok(())
