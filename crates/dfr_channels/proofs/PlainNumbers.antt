@@ -1,13 +1,13 @@
 -- Numbers in their plain spelling are what the full rule reads.
 use Rattle.std.proofs.Common.{append-nil, ◌≡◌, ℕ, ◌+◌, ◌*◌, ◌^◌, ◌<◌, ◌≤◌, zero, suc, Bool, true, false, cond, eqb, ltb, leb, List, [], ◌∷◌, ◌++◌, length, map, reverse, take, drop, get_or, Option, Some, None, refl, sym, ap, ◌∙◌, arith}
-use Rattle.std.specs.Prelude.{not, nat_lt, ◌&&◌, pos, neg_ℤ}
-use Rattle.std.specs.List.{list_all, slice_split}
+use Rattle.std.specs.Prelude.{not, nat_lt, ◌&&◌, ◌==◌, pos, neg_ℤ}
+use Rattle.std.specs.List.{list_all, slice_split, position_or_len}
 use Rattle.std.specs.Char.{digit_value, is_ascii_digit}
 use Rattle.std.specs.Str.{all_ascii_digits}
 use Rattle.std.specs.Str.Parse.{digits_value, digits_value_after}
 use Rattle.std.proofs.lemmas.Bool.{lt-ltb, le-leb, lt-leb, ltb-false, ne_eqb}
 use Rattle.std.proofs.lemmas.Bool.Decides.{nat_tests}
-use Rattle.std.proofs.lemmas.List.{reverse-reverse, take-append-drop, length-take-le, length-append}
+use Rattle.std.proofs.lemmas.List.{reverse-reverse, take-append-drop, length-take-le, length-append, drop_all, drop_more}
 use Rattle.std.proofs.Math.Bool.{and-false}
 use mathlib.Core.List.{reverse_aux}
 use Rattle.std.proofs.Math.Nat.{pow-le-pow_right}
@@ -137,12 +137,25 @@ room n i d h few digit =
 
 -- ---- where a text begins with a number in its plain spelling
 
+ends_here : (b : ℕ) (bs : List ℕ) → is_comma b ≡ true → before_comma (b ∷ bs) ≡ []
+ends_here b bs h = rw h refl
+
+goes_on : (b : ℕ) (bs : List ℕ) → is_comma b ≡ false → before_comma (b ∷ bs) ≡ b ∷ before_comma bs
+goes_on b bs h =
+    let k : ℕ = position_or_len (λ x. x == 44) bs in
+    let on : 1 + k ≡ suc k = omega arith in
+    rw h (ap (λ n. take n (b ∷ bs)) on)
+
+at_front : (t : Bool) (b : ℕ) (bs : List ℕ) → is_comma b ≡ t → before_comma (b ∷ bs) ≡ cond t [] (b ∷ before_comma bs)
+at_front true b bs h = ends_here b bs h
+at_front false b bs h = goes_on b bs h
+
 before_digits : (ds rest : List ℕ) → all_ascii_digits ds ≡ true → before_comma (ds ++ rest) ≡ ds ++ before_comma rest
 before_digits [] rest h = refl
 before_digits (d ∷ ds) rest h =
     let p = both (is_ascii_digit d) (all_ascii_digits ds) h in
     let s = both (not (is_comma d)) (not (is_blank d)) (digit_solid d p.0) in
-    rw (no (is_comma d) s.0, before_digits ds rest p.1) refl
+    goes_on d (ds ++ rest) (no (is_comma d) s.0) ∙ ap (λ l. d ∷ l) (before_digits ds rest p.1)
 
 before : (text : List ℕ) (n : ℕ) → all_ascii_digits (take n text) ≡ true → before_comma text ≡ take n text ++ before_comma (drop n text)
 before text n h = ap before_comma (sym (take-append-drop n text)) ∙ before_digits (take n text) (drop n text) h
@@ -158,24 +171,13 @@ not_digits : (ds : List ℕ) (y : ℕ) (ys : List ℕ) → is_ascii_digit y ≡ 
 not_digits [] y ys h = rw h refl
 not_digits (d ∷ ds) y ys h = rw (not_digits ds y ys h, and-false (is_ascii_digit d)) refl
 
-drop_past : (text : List ℕ) (n : ℕ) → length text ≤ n → drop n text ≡ []
-drop_past [] zero h = refl
-drop_past [] (suc n) h = refl
-drop_past (b ∷ bs) zero h = absurd (omega arith)
-drop_past (b ∷ bs) (suc n) h = drop_past bs n (omega arith)
-
-drop_next : (text : List ℕ) (n : ℕ) → n < length text → drop n text ≡ get_or text n 0 ∷ drop (suc n) text
-drop_next [] n h = absurd (omega arith)
-drop_next (b ∷ bs) zero h = refl
-drop_next (b ∷ bs) (suc n) h = drop_next bs n (omega arith)
-
 -- the text ends behind its digits
 pub short_end : (text : List ℕ) (n : ℕ) → n ≤ length text → length text ≤ n → (n ≡ 0 → ⊥) → n ≤ 10 → all_ascii_digits (take n text) ≡ true → begins_short text ≡ true
-short_end text n within past some few all = short_digits text n within (omega arith) few all (rw (drop_past text n past) refl)
+short_end text n within past some few all = short_digits text n within (omega arith) few all (rw (drop_all n text past) refl)
 
 -- a comma stands behind them
 pub short_comma : (text : List ℕ) (n : ℕ) → n < length text → (n ≡ 0 → ⊥) → n ≤ 10 → all_ascii_digits (take n text) ≡ true → get_or text n 0 ≡ 44 → begins_short text ≡ true
-short_comma text n inside some few all comma = short_digits text n (omega arith) (omega arith) few all (rw (drop_next text n inside, comma) refl)
+short_comma text n inside some few all comma = short_digits text n (omega arith) (omega arith) few all (rw (drop_more text n 0 inside, comma) refl)
 
 no_second : (a c : Bool) → (a && false && c) ≡ false
 no_second true c = refl
@@ -193,7 +195,7 @@ none_short false b rest h = rw h (no_third (ltb 0 (suc (length rest))) (leb (suc
 pub no_digit : (text : List ℕ) → is_ascii_digit (get_or text 0 0) ≡ false → begins_short text ≡ false
 unfolding begins_short
 no_digit [] h = refl
-no_digit (b ∷ bs) h = none_short (is_comma b) b (before_comma bs) h
+no_digit (b ∷ bs) h = ap is_short (at_front (is_comma b) b bs refl) ∙ none_short (is_comma b) b (before_comma bs) h
 
 ends_short : (t : Bool) (ds : List ℕ) (y : ℕ) (ys : List ℕ) → ltb (length ds) 10 ≡ t → (t && is_ascii_digit y) ≡ false → is_short (ds ++ y ∷ ys) ≡ false
 ends_short true ds y ys e h = rw (not_digits ds y ys h) (no_third (ltb 0 (length (ds ++ y ∷ ys))) (leb (length (ds ++ y ∷ ys)) 10))
@@ -207,8 +209,8 @@ pub short_stops : (text : List ℕ) (n : ℕ) → n < length text → all_ascii_
 unfolding begins_short
 short_stops text n inside all stops no_comma =
     let y : ℕ = get_or text n 0 in
-    let ys : List ℕ = before_comma (drop (suc n) text) in
+    let ys : List ℕ = before_comma (drop (n + 1) text) in
     let len : length (take n text) ≡ n = length-take-le n text (omega arith) in
-    let behind : before_comma (drop n text) ≡ y ∷ ys = rw (drop_next text n inside, ne_eqb y 44 no_comma) refl in
+    let behind : before_comma (drop n text) ≡ y ∷ ys = ap before_comma (drop_more text n 0 inside) ∙ goes_on y (drop (n + 1) text) (ne_eqb y 44 no_comma) in
     let e : before_comma text ≡ take n text ++ y ∷ ys = before text n all ∙ rw behind refl in
     rw e (ends_short (ltb n 10) (take n text) y ys (rw len refl) stops)

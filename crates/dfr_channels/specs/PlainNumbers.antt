@@ -1,5 +1,6 @@
 -- A text that begins with a number in its plain spelling.
 use Rattle.std.specs.Prelude.{◌≡◌, ℕ, ◌<◌, nat_lt, nat_le, ◌==◌, Bool, true, ◌&&◌, if◌then◌else◌, List, [], ◌∷◌, ◌++◌, length, Option, Some, None, ℤ}
+use Rattle.std.specs.List.{before_first}
 use Rattle.std.specs.Str.{all_ascii_digits}
 use Rattle.std.specs.Str.Parse.{digits_value}
 use Rattle.dfr_channels.specs.Spelling.{whole_number}
@@ -17,8 +18,7 @@ fields_behind (Some text) = fields text
 
 -- what stands before the first comma, or all
 abbrev pub before_comma : List ℕ → List ℕ
-before_comma [] = []
-before_comma (b ∷ bs) = if b == 44 then [] else (b ∷ before_comma bs)
+before_comma text = before_first (λ b. b == 44) text
 
 -- what stands behind a minus, or all
 abbrev pub behind_minus : List ℕ → List ℕ
