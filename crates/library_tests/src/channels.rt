@@ -1,0 +1,1 @@
+//! Set-ups, scans, rules and spellings.

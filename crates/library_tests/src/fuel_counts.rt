@@ -1,0 +1,1 @@
+//! The allocator of the tests.

@@ -1,0 +1,1 @@
+//! The program over readers and writers in memory.

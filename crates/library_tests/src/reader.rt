@@ -1,0 +1,1 @@
+//! Configuration and data files read.
