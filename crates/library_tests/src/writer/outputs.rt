@@ -1,9 +1,8 @@
 //! Writers that fail.
 
-use crate::write_all_of;
+use comtrade_write::write_all_of;
 use std::alloc::Global;
 use std::io::{self, Error, ErrorKind, Write};
-use std::test::Fail;
 
 /// Takes so many bytes, at most so many of them a call, and then fails or answers 0.
 #[derive(Drop)]
@@ -41,31 +40,44 @@ impl Write for Narrow {
 
 const TEN: [u8; 10] = *b"0123456789";
 
-#[test]
-fn four_bytes_taken(rt: HostRuntime) -> Result<(), Fail> {
-    let mut failing = taking(rt.alloc(), 4, 16, false);
-    let (written, error) = write_all_of(&mut failing, &TEN).err().ok_or("all")?;
-    assert_eq!(rt; written, 4);
-    assert!(rt; error.kind() == ErrorKind::Other);
-    let mut full = taking(rt.alloc(), 4, 16, true);
-    let (written, error) = write_all_of(&mut full, &TEN).err().ok_or("all")?;
-    assert_eq!(rt; written, 4);
-    assert!(rt; error.kind() == ErrorKind::WriteZero);
-    Ok(())
+/// How many of the ten bytes were written and why no more; None where all were.
+fn refusal<W: Write>(w: &mut W) -> Option<(usize, ErrorKind)> {
+    match write_all_of(w, &TEN) {
+        Ok(()) => None,
+        Err((written, error)) => Some((written, error.kind())),
+    }
+}
+
+/// Whether a writer that takes four bytes is answered so.
+fn is_refused(alloc: Global, zero: bool, kind: ErrorKind) -> bool {
+    let mut w = taking(alloc, 4, 16, zero);
+    refusal(&mut w) == Some((4, kind))
 }
 
 #[test]
-fn one_byte_a_call(rt: HostRuntime) -> Result<(), Fail> {
+fn four_bytes_taken(rt: HostRuntime) {
+    assert!(rt; is_refused(rt.alloc(), false, ErrorKind::Other));
+    assert!(rt; is_refused(rt.alloc(), true, ErrorKind::WriteZero));
+}
+
+/// What a writer has taken that takes so many bytes, one a call, and how many it was answered to have written.
+fn taken_one_by_one(alloc: Global, limit: usize) -> (Vec<u8>, Option<usize>) {
+    let mut w = taking(alloc, limit, 1, false);
+    let written = match refusal(&mut w) {
+        Some((written, _)) => Some(written),
+        None => None,
+    };
+    (w.taken, written)
+}
+
+#[test]
+fn one_byte_a_call(rt: HostRuntime) {
     for limit in 0..10usize {
-        let mut w = taking(rt.alloc(), limit, 1, false);
-        let (written, _) = write_all_of(&mut w, &TEN).err().ok_or("all")?;
-        assert_eq!(rt; written, limit);
-        assert_eq!(rt; w.taken.as_slice(), &TEN[..limit]);
+        let (taken, written) = taken_one_by_one(rt.alloc(), limit);
+        assert!(rt; written == Some(limit) && taken.as_slice() == &TEN[..limit]);
     }
-    let mut w = taking(rt.alloc(), 10, 1, false);
-    assert!(rt; write_all_of(&mut w, &TEN).is_ok());
-    assert_eq!(rt; w.taken.as_slice(), TEN.as_slice());
-    Ok(())
+    let (taken, written) = taken_one_by_one(rt.alloc(), 10);
+    assert!(rt; written == None && taken.as_slice() == TEN.as_slice());
 }
 
 /// Answers `Interrupted` once, and would take all from then on.
@@ -89,13 +101,10 @@ impl Write for InterruptedOnce {
 }
 
 #[test]
-fn nothing_tried_again(rt: HostRuntime) -> Result<(), Fail> {
+fn nothing_tried_again(rt: HostRuntime) {
     let mut w = InterruptedOnce { calls: 0 };
-    let (written, error) = write_all_of(&mut w, &TEN).err().ok_or("all")?;
-    assert_eq!(rt; written, 3);
-    assert!(rt; error.kind() == ErrorKind::Interrupted);
+    assert!(rt; refusal(&mut w) == Some((3, ErrorKind::Interrupted)));
     assert_eq!(rt; w.calls, 2);
-    Ok(())
 }
 
 #[test]
