@@ -8,7 +8,7 @@ tried() {
         seq "$2" | sed 's/$/,,,,/'
         sed -n '4,10s/,5\r$/,1\r/;4,10p' files/first.cfg
     } > "$folder/cfg"
-    { printf '1,0'; yes ',1' | head -n "$(($1 + $2))" | tr -d '\n'; } > "$folder/dat"
+    awk -v n="$(($1 + $2))" 'BEGIN { printf "1,0"; while (n-- > 0) printf ",1" }' > "$folder/dat"
     got=$("$dfr" read "$folder/cfg" "$folder/dat"; echo "$?")
     echo "$1 | $2 | ${got//$'\n'/ | }"
 }

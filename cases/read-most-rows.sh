@@ -6,8 +6,8 @@ tried() {
     got=$("$dfr" read "$folder/cfg" "$folder/$1"; echo "$?")
     echo "$1 | $2 | ${got//$'\n'/ | }"
 }
-yes '9,,5' | head -n 1000000 > "$folder/ascii"
-yes 123456789 | head -n 1000000 > "$folder/binary"
+awk 'BEGIN { for (i = 0; i < 1000000; i++) print "9,,5" }' > "$folder/ascii"
+awk 'BEGIN { for (i = 0; i < 1000000; i++) print 123456789 }' > "$folder/binary"
 for kind in ascii binary; do
     tried "$kind" 1000000
     tried "$kind" 1000001
