@@ -1,108 +1,102 @@
 //! Records that a recorder took, read back from their own texts.
 
-use crate::tests::same::is_same;
-use crate::{read, read_of_file, read_of_record, read_of_run};
-use comtrade_write::{Kind, WriteFault, cfg_bytes, dat_bytes, file_of};
-use dfr_channels::{
-    AnalogChannel, Decimal, Items, Layout, Reading, Rule, Rules, Scan, Setup, Side, StatusChannel,
-};
+use super::same::is_same;
+use super::{CFG, DAT};
+use comtrade_read::{read, read_cfg, read_of_file, read_of_record, read_of_run, run_and_read};
+use comtrade_write::{File, Head, Kind, WriteFault, cfg_bytes, dat_bytes, file_of};
+use dfr_channels::{Items, Layout, Memory, Reading, Rule, Rules, Scan, Setup};
 use dfr_recorder::{Answer, Limits, Ran, Record, Recorder, Step, run};
 use std::alloc::Global;
 use std::collections::VecDeque;
-use std::test::*;
 
-/// Channels of each kind, scans a second, the instant of scan 0, limits, and whether a reading of 100 triggers.
+/// Configuration files with the channels of a bay: one analogue channel, six of each kind, and one beside seventeen contacts.
+const ONE: &[u8] =
+    b"Bay 1,DFR,1999\n1,1A,0D\n1,IA,A,,A,1.5E-3,-.5,0.0,-32767,32767,1,1,P\n50\n1\n1,1\n01/01/1970,0:0:0\n01/01/1970,0:0:0\nASCII\n1";
+
+const SIX: &[u8] =
+    b"Bay 1,DFR,1999\n12,6A,6D\n1,IA,A,,A,1,0,0,-32767,32767,1,1,P\n2,IB,B,,A,1,0,0,-32767,32767,1,1,P\n3,IC,C,,A,1,0,0,-32767,32767,1,1,P\n4,UA,A,,V,1,0,0,-32767,32767,1,1,S\n5,UB,B,,V,1,0,0,-32767,32767,1,1,S\n6,UC,C,,V,1,0,0,-32767,32767,1,1,S\n1,TRIP,,CB 1,1\n2,TRIP,,CB 1,1\n3,TRIP,,CB 1,1\n4,TRIP,,CB 1,1\n5,TRIP,,CB 1,1\n6,TRIP,,CB 1,1\n50\n1\n1,1\n01/01/1970,0:0:0\n01/01/1970,0:0:0\nASCII\n1";
+
+const CONTACTS: &[u8] =
+    b"Bay 1,DFR,1999\n18,1A,17D\n1,IA,A,,A,1,0,0,-32767,32767,1,1,P\n1,TRIP,,CB 1,1\n2,TRIP,,CB 1,1\n3,TRIP,,CB 1,1\n4,TRIP,,CB 1,1\n5,TRIP,,CB 1,1\n6,TRIP,,CB 1,1\n7,TRIP,,CB 1,1\n8,TRIP,,CB 1,1\n9,TRIP,,CB 1,1\n10,TRIP,,CB 1,1\n11,TRIP,,CB 1,1\n12,TRIP,,CB 1,1\n13,TRIP,,CB 1,1\n14,TRIP,,CB 1,1\n15,TRIP,,CB 1,1\n16,TRIP,,CB 1,1\n17,TRIP,,CB 1,1\n50\n1\n1,1\n01/01/1970,0:0:0\n01/01/1970,0:0:0\nASCII\n1";
+
+/// Its channels, scans a second, the instant of scan 0, limits, and whether a reading of 100 triggers.
 #[derive(Clone, Copy)]
-struct Bay {
-    analogs: u32,
-    statuses: u32,
+struct Bay<'a> {
+    channels: &'a [u8],
     rate: u32,
     start: i64,
     limits: (u32, u32, u32, u32),
     at_100: bool,
 }
 
-/// One channel at 1,000 scans a second from 1970 on, two scans before a trigger and two behind it, of six at most.
+/// 1,000 scans a second from 1970 on, two scans before a trigger and two after it, of six at most.
 const BAY: Bay = Bay {
-    analogs: 1,
-    statuses: 0,
+    channels: ONE,
     rate: 1000,
     start: 0,
     limits: (2, 2, 6, 1),
     at_100: false,
 };
 
-fn text(alloc: Global, bytes: &[u8]) -> Option<Items<u8>> {
-    Some(Items::of(Vec::from_slice(alloc, bytes).ok()?))
-}
-
-fn analog(alloc: Global) -> Option<AnalogChannel> {
-    let one = Decimal::new(1, 0)?;
-    Some(AnalogChannel {
-        id: text(alloc, b"IA")?,
-        phase: text(alloc, b"A")?,
-        component: text(alloc, b"")?,
-        unit: text(alloc, b"A")?,
-        a: Decimal::read(b"1.5E-3")?,
-        b: Decimal::read(b"-.5")?,
-        skew: Decimal::read(b"0.0")?,
-        min: -32_767,
-        max: 32_767,
-        primary: one,
-        secondary: one,
-        side: Side::Primary,
+fn layout_of(head: Head, rate: u32, start: i64) -> Option<Layout> {
+    let Head {
+        station,
+        device,
+        analog,
+        status,
+        line_freq,
+        ..
+    } = head;
+    Layout::new(Setup {
+        station,
+        device,
+        analog,
+        status,
+        line_freq,
+        rate,
+        start,
     })
-}
-
-fn status(alloc: Global) -> Option<StatusChannel> {
-    Some(StatusChannel {
-        id: text(alloc, b"TRIP")?,
-        phase: text(alloc, b"")?,
-        component: text(alloc, b"CB 1")?,
-        normal: true,
-    })
-}
-
-fn analogs(alloc: Global, count: u32) -> Option<Items<AnalogChannel>> {
-    let mut channels = Vec::new(alloc);
-    for _ in 0..count {
-        channels.push(analog(alloc)?).ok()?;
-    }
-    Some(Items::of(channels))
-}
-
-fn statuses(alloc: Global, count: u32) -> Option<Items<StatusChannel>> {
-    let mut channels = Vec::new(alloc);
-    for _ in 0..count {
-        channels.push(status(alloc)?).ok()?;
-    }
-    Some(Items::of(channels))
+    .ok()
 }
 
 fn layout(alloc: Global, bay: Bay) -> Option<Layout> {
-    let setup = Setup {
-        station: text(alloc, b"Bay 1")?,
-        device: text(alloc, b"DFR")?,
-        analog: analogs(alloc, bay.analogs)?,
-        status: statuses(alloc, bay.statuses)?,
-        line_freq: Decimal::new(50, 0)?,
-        rate: bay.rate,
-        start: bay.start,
+    match read_cfg(alloc, bay.channels) {
+        Ok(head) => layout_of(head, bay.rate, bay.start),
+        Err(_) => None,
+    }
+}
+
+fn level(alloc: Global, layout: &Layout) -> Option<Rules> {
+    let level = Rule::Level {
+        channel: 0,
+        over: true,
+        threshold: 100,
     };
-    Layout::new(setup).ok()
+    match Vec::from_slice(alloc, &[level]) {
+        Ok(list) => Rules::new(layout, list).ok(),
+        Err(_) => None,
+    }
 }
 
 fn rules(alloc: Global, layout: &Layout, at_100: bool) -> Option<Rules> {
-    let mut list = Vec::new(alloc);
     if at_100 {
-        list.push(Rule::Level {
-            channel: 0,
-            over: true,
-            threshold: 100,
-        })
-        .ok()?;
+        return level(alloc, layout);
     }
-    Rules::new(layout, list).ok()
+    Rules::new(layout, Vec::new(alloc)).ok()
+}
+
+fn begin(alloc: Global, layout: Layout, limits: Limits, rules: Rules) -> Option<Recorder> {
+    if limits.fits(&layout) && rules.fits(&layout) {
+        return Recorder::new(alloc, layout, limits, rules).ok();
+    }
+    None
+}
+
+fn begin_under(alloc: Global, layout: Layout, limits: Limits, at_100: bool) -> Option<Recorder> {
+    match rules(alloc, &layout, at_100) {
+        Some(rules) => begin(alloc, layout, limits, rules),
+        None => None,
+    }
 }
 
 fn limits(layout: &Layout, (pre, post, longest, shelf): (u32, u32, u32, u32)) -> Option<Limits> {
@@ -111,29 +105,22 @@ fn limits(layout: &Layout, (pre, post, longest, shelf): (u32, u32, u32, u32)) ->
 
 fn recorder(alloc: Global, bay: Bay) -> Option<Recorder> {
     let layout = layout(alloc, bay)?;
-    let limits = limits(&layout, bay.limits)?;
-    let rules = rules(alloc, &layout, bay.at_100)?;
-    if !limits.fits(&layout) || !rules.fits(&layout) {
-        return None;
+    match limits(&layout, bay.limits) {
+        Some(limits) => begin_under(alloc, layout, limits, bay.at_100),
+        None => None,
     }
-    Recorder::new(alloc, layout, limits, rules).ok()
 }
 
 fn scan(alloc: Global, readings: &[Reading], bits: &[bool]) -> Option<Step> {
     let readings = Vec::from_slice(alloc, readings).ok()?;
-    let bits = Vec::from_slice(alloc, bits).ok()?;
-    Some(Step::Scan(Scan::new(readings, bits)))
+    match Vec::from_slice(alloc, bits) {
+        Ok(bits) => Some(Step::Scan(Scan::new(readings, bits))),
+        Err(_) => None,
+    }
 }
 
 fn six(alloc: Global) -> Option<Step> {
-    let readings = [
-        Reading::Value(-760),
-        Reading::Value(1274),
-        Reading::Value(72),
-        Reading::Value(61),
-        Reading::Value(-140),
-        Reading::Value(-502),
-    ];
+    let readings = [-760, 1274, 72, 61, -140, -502].map(|x| Reading::Value(x));
     scan(alloc, &readings, &[false, false, false, false, true, true])
 }
 
@@ -147,8 +134,8 @@ fn value(alloc: Global, x: i32) -> Option<Step> {
     scan(alloc, &[Reading::Value(x)], &[])
 }
 
-/// The step that a byte stands for: a scan of one channel with the value 0, 100 or 10 and the digit, the scan of six channels, the lone
-/// bit, a trigger, or a take.
+/// The step that a byte stands for: a scan of one channel with the value 0, 100 or 10 and the digit, the scan of six channels, the
+/// lone bit, a trigger, or a take.
 fn step(alloc: Global, byte: u8) -> Option<Step> {
     match byte {
         b'z' => value(alloc, 0),
@@ -162,21 +149,57 @@ fn step(alloc: Global, byte: u8) -> Option<Step> {
     }
 }
 
-fn steps(alloc: Global, script: &[u8]) -> Option<VecDeque<Step>> {
-    let mut steps = VecDeque::new(alloc);
-    for byte in script {
-        steps.push_back(step(alloc, *byte)?).ok()?;
+fn push(alloc: Global, steps: &mut VecDeque<Step>, byte: u8) -> bool {
+    match step(alloc, byte) {
+        Some(step) => steps.push_back(step).is_ok(),
+        None => false,
     }
-    Some(steps)
 }
 
-/// Whether the record's file is read from its own texts.
-fn is_read_back(alloc: Global, layout: &Layout, taken: &Record, kind: Kind) -> Option<bool> {
-    let file = file_of(alloc, layout, taken, kind).ok()?;
-    let cfg = cfg_bytes(alloc, &file).ok()?;
-    let dat = dat_bytes(alloc, &file).ok()?;
-    let again = read(alloc, cfg.as_slice(), dat.as_slice()).ok()?;
-    Some(is_same(&file, &again))
+fn push_all(alloc: Global, steps: &mut VecDeque<Step>, script: &[u8]) -> bool {
+    for byte in script {
+        if !push(alloc, steps, *byte) {
+            return false;
+        }
+    }
+    true
+}
+
+fn steps(alloc: Global, script: &[u8]) -> Option<VecDeque<Step>> {
+    let mut steps = VecDeque::new(alloc);
+    if push_all(alloc, &mut steps, script) {
+        return Some(steps);
+    }
+    None
+}
+
+fn is_read(alloc: Global, cfg: &[u8], dat: &[u8], file: &File) -> bool {
+    match read(alloc, cfg, dat) {
+        Ok(again) => is_same(&again, file),
+        Err(_) => false,
+    }
+}
+
+fn is_read_beside(alloc: Global, cfg: &[u8], file: &File) -> bool {
+    match dat_bytes(alloc, file) {
+        Ok(dat) => is_read(alloc, cfg, &dat, file),
+        Err(_) => false,
+    }
+}
+
+/// Whether the file is read from its own texts.
+fn is_read_back(alloc: Global, file: &File) -> bool {
+    match cfg_bytes(alloc, file) {
+        Ok(cfg) => is_read_beside(alloc, &cfg, file),
+        Err(_) => false,
+    }
+}
+
+fn is_taken_back(alloc: Global, layout: &Layout, taken: &Record, kind: Kind) -> bool {
+    match file_of(alloc, layout, taken, kind) {
+        Ok(file) => is_read_back(alloc, &file),
+        Err(_) => false,
+    }
 }
 
 /// How many records the answers took, where each of them is read back.
@@ -184,7 +207,7 @@ fn records_of(alloc: Global, ran: &Ran, kind: Kind) -> Option<usize> {
     let mut records = 0usize;
     for answer in ran.answers.as_slice() {
         if let Answer::Take(Some(taken)) = answer {
-            if !is_read_back(alloc, ran.recorder.layout(), taken, kind)? {
+            if !is_taken_back(alloc, ran.recorder.layout(), taken, kind) {
                 return None;
             }
             records = records.saturating_add(1);
@@ -193,22 +216,27 @@ fn records_of(alloc: Global, ran: &Ran, kind: Kind) -> Option<usize> {
     Some(records)
 }
 
-/// What a run of the script's steps left, where memory was not wanted.
-fn ran(alloc: Global, bay: Bay, script: &[u8]) -> Option<Ran> {
-    let ran = run(alloc, recorder(alloc, bay)?, steps(alloc, script)?);
-    if ran.stopped.is_some() {
-        return None;
-    }
-    Some(ran)
+/// Whether the run took so many records, each of which is read back in both kinds.
+fn has_records(alloc: Global, ran: &Ran, records: usize) -> bool {
+    ran.stopped.is_none()
+        && records_of(alloc, ran, Kind::Ascii) == Some(records)
+        && records_of(alloc, ran, Kind::Binary) == Some(records)
 }
 
-/// Whether the script takes so many records, each of which is read back in both kinds.
+/// What a run of the script's steps left.
+fn ran(alloc: Global, bay: Bay, script: &[u8]) -> Option<Ran> {
+    let recorder = recorder(alloc, bay)?;
+    match steps(alloc, script) {
+        Some(steps) => Some(run(alloc, recorder, steps)),
+        None => None,
+    }
+}
+
 fn are_read_back(alloc: Global, bay: Bay, script: &[u8], records: usize) -> bool {
-    let Some(ran) = ran(alloc, bay, script) else {
-        return false;
-    };
-    records_of(alloc, &ran, Kind::Ascii) == Some(records)
-        && records_of(alloc, &ran, Kind::Binary) == Some(records)
+    match ran(alloc, bay, script) {
+        Some(ran) => has_records(alloc, &ran, records),
+        None => false,
+    }
 }
 
 const TWO: Bay = Bay {
@@ -248,16 +276,18 @@ fn triggers_by_rule(rt: HostRuntime) {
     assert!(rt; are_read_back(alloc, eight, b"zzzhzhzz^", 1));
 }
 
-/// Stamps that no whole number of microseconds parts, a leap day, and the end of the year 9999, past which a scan is refused.
+/// 4,800 scans a second, whose stamps are no whole numbers of microseconds apart.
+const FAST: Bay = Bay {
+    rate: 4800,
+    limits: (0, 3, 4, 1),
+    ..BAY
+};
+
+/// Such stamps, a leap day, and the end of the year 9999, after which a scan is refused.
 #[test]
 fn clocks(rt: HostRuntime) {
     let alloc = rt.alloc();
-    let fast = Bay {
-        rate: 4800,
-        limits: (0, 3, 4, 1),
-        ..BAY
-    };
-    assert!(rt; are_read_back(alloc, fast, b"1!234^", 1));
+    assert!(rt; are_read_back(alloc, FAST, b"1!234^", 1));
     let leap = Bay {
         start: 951782400000000,
         ..SHORT
@@ -275,66 +305,116 @@ fn clocks(rt: HostRuntime) {
 fn many_channels(rt: HostRuntime) {
     let alloc = rt.alloc();
     let wide = Bay {
-        analogs: 6,
-        statuses: 6,
+        channels: SIX,
         ..SHORT
     };
     assert!(rt; are_read_back(alloc, wide, b"s!s^", 1));
     let contacts = Bay {
-        statuses: 17,
+        channels: CONTACTS,
         ..SHORT
     };
     assert!(rt; are_read_back(alloc, contacts, b"l!l^", 1));
 }
 
-/// The stamps of the rows that a record's files read to.
-fn stamps(alloc: Global, bay: Bay, script: &[u8], kind: Kind) -> Option<[Option<u64>; 4]> {
-    let ran = run(alloc, recorder(alloc, bay)?, steps(alloc, script)?);
-    let files = read_of_run(alloc, &ran, kind).ok()?;
-    match files.first()?.rows.items() {
-        [a, b, c, d] => Some([a.stamp, b.stamp, c.stamp, d.stamp]),
-        _ => None,
+/// Whether there is one file, with rows of these stamps.
+fn has_stamps(files: &[File]) -> bool {
+    let [file] = files else {
+        return false;
+    };
+    match file.rows.items() {
+        [a, b, c, d] => {
+            a.stamp == Some(0)
+                && b.stamp == Some(208)
+                && c.stamp == Some(416)
+                && d.stamp == Some(625)
+        }
+        _ => false,
+    }
+}
+
+fn are_stamped(files: Result<Vec<File>, Memory>) -> bool {
+    match files {
+        Ok(files) => has_stamps(&files),
+        Err(Memory) => false,
+    }
+}
+
+fn files_are_stamped(alloc: Global, recorder: Recorder, steps: VecDeque<Step>) -> bool {
+    let ran = run(alloc, recorder, steps);
+    are_stamped(read_of_run(alloc, &ran, Kind::Ascii))
+        && are_stamped(read_of_run(alloc, &ran, Kind::Binary))
+}
+
+fn run_is_stamped(alloc: Global, recorder: Recorder) -> bool {
+    match steps(alloc, b"1!234^") {
+        Some(steps) => files_are_stamped(alloc, recorder, steps),
+        None => false,
     }
 }
 
 #[test]
 fn files_of_a_run(rt: HostRuntime) {
-    let fast = Bay {
-        rate: 4800,
-        limits: (0, 3, 4, 1),
-        ..BAY
+    let stamped = match recorder(rt.alloc(), FAST) {
+        Some(recorder) => run_is_stamped(rt.alloc(), recorder),
+        None => false,
     };
-    let wanted = Some([Some(0), Some(208), Some(416), Some(625)]);
-    assert!(rt; stamps(rt.alloc(), fast, b"1!234^", Kind::Ascii) == wanted);
-    assert!(rt; stamps(rt.alloc(), fast, b"1!234^", Kind::Binary) == wanted);
+    assert!(rt; stamped);
+}
+
+fn run_and_read_is_stamped(alloc: Global, recorder: Recorder) -> bool {
+    match steps(alloc, b"1!234^") {
+        Some(steps) => are_stamped(run_and_read(alloc, recorder, steps, Kind::Binary).1),
+        None => false,
+    }
+}
+
+#[test]
+fn run_with_its_files(rt: HostRuntime) {
+    let stamped = match recorder(rt.alloc(), FAST) {
+        Some(recorder) => run_and_read_is_stamped(rt.alloc(), recorder),
+        None => false,
+    };
+    assert!(rt; stamped);
 }
 
 /// The instants of the first row and of the trigger of the next record's file.
 fn next_instants(alloc: Global, recorder: &mut Recorder) -> Option<(i64, i64)> {
     let taken = recorder.take()?;
-    let file = read_of_record(alloc, recorder.layout(), &taken, Kind::Ascii).ok()?;
-    Some((file.head.first, file.head.trigger))
+    match read_of_record(alloc, recorder.layout(), &taken, Kind::Ascii) {
+        Ok(file) => Some((file.head.first, file.head.trigger)),
+        Err(Memory) => None,
+    }
 }
 
 #[test]
-fn file_of_a_record(rt: HostRuntime) -> Result<(), Fail> {
-    let alloc = rt.alloc();
-    let mut ran = ran(alloc, BAY, b"0123!45").ok_or("a run")?;
-    assert!(rt; next_instants(alloc, &mut ran.recorder) == Some((1000, 3000)));
-    Ok(())
+fn file_of_a_record(rt: HostRuntime) {
+    let instants = match ran(rt.alloc(), BAY, b"0123!45") {
+        Some(mut ran) => next_instants(rt.alloc(), &mut ran.recorder),
+        None => None,
+    };
+    assert_eq!(rt; instants, Some((1000, 3000)));
 }
 
-/// Why a record's file isn't read once its station has this name.
+/// Why the file isn't read back once its station has this name.
+fn fault_with(alloc: Global, file: &mut File, station: &[u8]) -> Option<WriteFault> {
+    match Vec::from_slice(alloc, station) {
+        Ok(text) => {
+            file.head.station = Items::of(text);
+            read_of_file(alloc, file).err()
+        }
+        Err(_) => Some(WriteFault::Memory),
+    }
+}
+
 fn fault_at(alloc: Global, station: &[u8]) -> Option<WriteFault> {
-    let mut recorder = ran(alloc, BAY, b"0123!45")?.recorder;
-    let taken = recorder.take()?;
-    let mut file = file_of(alloc, recorder.layout(), &taken, Kind::Ascii).ok()?;
-    file.head.station = text(alloc, station)?;
-    read_of_file(alloc, &file).err()
+    match read(alloc, CFG, DAT) {
+        Ok(mut file) => fault_with(alloc, &mut file, station),
+        Err(_) => Some(WriteFault::Shape),
+    }
 }
 
 #[test]
 fn file_not_written(rt: HostRuntime) {
-    assert!(rt; fault_at(rt.alloc(), b"Bay 2") == None);
-    assert!(rt; fault_at(rt.alloc(), b"a,b") == Some(WriteFault::Text(1, 1)));
+    assert_eq!(rt; fault_at(rt.alloc(), b"Bay 2"), None);
+    assert_eq!(rt; fault_at(rt.alloc(), b"a,b"), Some(WriteFault::Text(1, 1)));
 }
