@@ -7,5 +7,5 @@ replayed() {
     cat > "$folder/script"
     awk -v kind="${1^^}" -f files/expected.awk "$folder/script" > "$folder/expected"
     "$dfr" replay --kind "$1" < "$folder/script" > "$folder/printed"
-    echo "$1 $? $(wc -l < "$folder/printed") $(cmp "$folder/printed" "$folder/expected" 2>&1 && echo same)"
+    echo "$1 $? $(wc -l < "$folder/printed") $(cd "$folder" && cmp printed expected 2>&1 && echo same)"
 }
