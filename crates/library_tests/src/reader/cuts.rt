@@ -1,8 +1,11 @@
 //! Files cut after each number of bytes.
 
-use super::*;
-use crate::tests::same::{is_same, is_same_head};
+use super::same::{is_same, is_same_head};
+use super::{BINARY, CFG, DAT, cfg_fault, dat_fault, pair_fault, with_line};
+use comtrade_read::{Part, ReadFault, read, read_cfg};
+use comtrade_write::{File, Head};
 use dfr_channels::Reading;
+use std::alloc::Global;
 
 /// The fault of the configuration file when so many of its bytes are left.
 fn fault_of_cfg(left: usize) -> Option<ReadFault> {
@@ -44,32 +47,33 @@ fn fault_behind_rates(left: usize) -> Option<ReadFault> {
 fn cut_cfg(rt: HostRuntime) {
     assert_eq!(rt; CFG.len(), 142);
     for left in 0..143usize {
-        if left <= CFG.len() {
-            assert_eq!(rt; cfg_fault(&rt, &CFG[..left]), fault_of_cfg(left));
-        }
+        let fault = cfg_fault(rt.alloc(), CFG.get(..left).unwrap_or(b"x"));
+        assert_eq!(rt; fault, fault_of_cfg(left), "{left} bytes");
     }
 }
 
-/// Whether so many bytes of the configuration file read to the head that all of them read to.
-fn is_whole_head(rt: &HostRuntime, left: usize) -> bool {
-    if CFG.len() < left {
-        return false;
+fn is_head_of(alloc: Global, text: &[u8], head: &Head) -> bool {
+    match read_cfg(alloc, text) {
+        Ok(cut) => is_same_head(&cut, head),
+        Err(_) => false,
     }
-    let Some(whole) = read_cfg(rt.alloc(), CFG).ok() else {
-        return false;
-    };
-    let Some(cut) = read_cfg(rt.alloc(), &CFG[..left]).ok() else {
-        return false;
-    };
-    is_same_head(&whole, &cut)
+}
+
+/// Whether 140, 141 and 142 bytes of the configuration file read to this head.
+fn are_heads_of(alloc: Global, head: &Head) -> bool {
+    is_head_of(alloc, &CFG[..140], head)
+        && is_head_of(alloc, &CFG[..141], head)
+        && is_head_of(alloc, CFG, head)
 }
 
 /// The last line's end may be missing, in part or whole.
 #[test]
 fn cut_end_of_cfg(rt: HostRuntime) {
-    assert!(rt; is_whole_head(&rt, 140));
-    assert!(rt; is_whole_head(&rt, 141));
-    assert!(rt; is_whole_head(&rt, 142));
+    let same = match read_cfg(rt.alloc(), CFG) {
+        Ok(head) => are_heads_of(rt.alloc(), &head),
+        Err(_) => false,
+    };
+    assert!(rt; same);
 }
 
 /// The fault of ASCII data when so many of their bytes are left.
@@ -94,22 +98,27 @@ fn fault_of_dat(left: usize) -> Option<(Part, ReadFault)> {
 fn cut_dat(rt: HostRuntime) {
     assert_eq!(rt; DAT.len(), 53);
     for left in 0..54usize {
-        if left <= DAT.len() {
-            assert_eq!(rt; dat_fault(&rt, CFG, &DAT[..left]), fault_of_dat(left));
-        }
+        let fault = dat_fault(rt.alloc(), DAT.get(..left).unwrap_or(b"x"));
+        assert_eq!(rt; fault, fault_of_dat(left), "{left} bytes");
     }
 }
 
 /// Number, stamp and value of the fifth row.
-fn fifth(rt: &HostRuntime, dat: &[u8]) -> Option<(u64, Option<u64>, Option<Reading>)> {
-    let file = read(rt.alloc(), CFG, dat).ok()?;
+fn fifth_of(file: &File) -> Option<(u64, Option<u64>, Option<Reading>)> {
     let row = file.rows.items().get(4)?;
     Some((row.number, row.stamp, row.values.items().first().copied()))
 }
 
+fn fifth(alloc: Global, dat: &[u8]) -> Option<(u64, Option<u64>, Option<Reading>)> {
+    match read(alloc, CFG, dat) {
+        Ok(file) => fifth_of(&file),
+        Err(_) => None,
+    }
+}
+
 #[test]
 fn last_row_cut(rt: HostRuntime) {
-    for (left, value) in [
+    for &(left, value) in &[
         (48usize, Reading::Missing),
         (49, Reading::Value(1)),
         (50, Reading::Value(15)),
@@ -117,55 +126,55 @@ fn last_row_cut(rt: HostRuntime) {
         (52, Reading::Value(15)),
         (53, Reading::Value(15)),
     ] {
-        if left <= DAT.len() {
-            assert_eq!(rt;
-                fifth(&rt, &DAT[..left]),
-                Some((5, Some(4000), Some(value)))
-            );
-        }
+        let row = fifth(rt.alloc(), DAT.get(..left).unwrap_or(b""));
+        assert_eq!(rt; row, Some((5, Some(4000), Some(value))), "{left} bytes");
     }
 }
 
-/// Whether so many bytes of the ASCII data read to the file that all of them read to.
-fn is_whole_file(rt: &HostRuntime, left: usize) -> bool {
-    if DAT.len() < left {
-        return false;
+fn is_file_of(alloc: Global, dat: &[u8], file: &File) -> bool {
+    match read(alloc, CFG, dat) {
+        Ok(cut) => is_same(&cut, file),
+        Err(_) => false,
     }
-    let Some(whole) = read(rt.alloc(), CFG, DAT).ok() else {
-        return false;
-    };
-    let Some(cut) = read(rt.alloc(), CFG, &DAT[..left]).ok() else {
-        return false;
-    };
-    is_same(&whole, &cut)
+}
+
+/// Whether 50 to 53 bytes of the ASCII data read to this file.
+fn are_files_of(alloc: Global, file: &File) -> bool {
+    is_file_of(alloc, &DAT[..50], file)
+        && is_file_of(alloc, &DAT[..51], file)
+        && is_file_of(alloc, &DAT[..52], file)
+        && is_file_of(alloc, DAT, file)
 }
 
 /// The end mark may be missing, and the last row's end with it.
 #[test]
 fn cut_end_of_dat(rt: HostRuntime) {
-    assert!(rt; is_whole_file(&rt, 50));
-    assert!(rt; is_whole_file(&rt, 51));
-    assert!(rt; is_whole_file(&rt, 52));
-    assert!(rt; is_whole_file(&rt, 53));
+    let same = match read(rt.alloc(), CFG, DAT) {
+        Ok(file) => are_files_of(rt.alloc(), &file),
+        Err(_) => false,
+    };
+    assert!(rt; same);
+}
+
+/// Whether 0 to 49 bytes of the BINARY data, and one more than all, are no length, and all of them are.
+fn is_cut(alloc: Global, cfg: &[u8]) -> bool {
+    let length = Some((Part::Dat, ReadFault::Length));
+    let mut longer = [0u8; 51];
+    longer[..50].copy_from_slice(BINARY);
+    for left in 0..52usize {
+        let fault = pair_fault(alloc, cfg, longer.get(..left).unwrap_or(b""));
+        if (left == 50 && fault != None) || (left != 50 && fault != length) {
+            return false;
+        }
+    }
+    true
 }
 
 #[test]
-fn cut_binary(rt: HostRuntime) -> Result<(), Fail> {
-    let cfg = with_line(&rt, CFG, 9, b"BINARY")?;
-    let mut dat = Vec::from_slice(rt.alloc(), BINARY)?;
-    assert_eq!(rt; dat_fault(&rt, &cfg, &dat), None);
-    dat.push(0)?;
-    assert_eq!(rt;
-        dat_fault(&rt, &cfg, &dat),
-        Some((Part::Dat, ReadFault::Length))
-    );
-    for left in 0..50usize {
-        if left <= BINARY.len() {
-            assert_eq!(rt;
-                dat_fault(&rt, &cfg, &BINARY[..left]),
-                Some((Part::Dat, ReadFault::Length))
-            );
-        }
-    }
-    Ok(())
+fn cut_binary(rt: HostRuntime) {
+    let cut = match with_line(rt.alloc(), CFG, 9, b"BINARY") {
+        Ok(cfg) => is_cut(rt.alloc(), &cfg),
+        Err(_) => false,
+    };
+    assert!(rt; cut);
 }
