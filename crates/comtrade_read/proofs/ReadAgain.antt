@@ -7,6 +7,12 @@ use Rattle.std.proofs.lemmas.List.Elements.{filter_map-append}
 use Rattle.dfr_channels.specs.Faults.{◌or◌}
 use Rattle.dfr_channels.specs.Parts.{SetupParts}
 use Rattle.dfr_recorder.specs.Parts.{RecordParts}
+use Rattle.dfr_recorder.specs.declared.step.Step.{Step}
+use Rattle.dfr_recorder.specs.declared.step.Answer.{Answer}
+use Rattle.dfr_recorder.specs.Steps.{step_of}
+use Rattle.dfr_recorder.specs.Answers.{answer_of}
+use Rattle.dfr_recorder.specs.Kept.{Kept}
+use Rattle.dfr_recorder.specs.Run.{IsRun}
 use Rattle.comtrade_write.specs.declared.fault.WriteFault.{WriteFault}
 use Rattle.comtrade_write.specs.declared.fault.WriteFault.TheVariants as faults
 use Rattle.comtrade_write.specs.declared.file.Kind.{Kind}
@@ -73,6 +79,11 @@ pub reads_as : (f : FileParts) (layout : SetupParts) (r : RecordParts) (kind : K
 reads_as f layout r kind e h =
     let k : f.head.kind ≡ kind = subst (λ (x : FileParts). x.head.kind ≡ kind) (sym e) (kind_of_file layout r kind) in
     subst (λ (x : Kind). Reads (cfg f.head) (dat x f) f) k h
+
+-- ---- a list of steps
+
+pub no_step : {A : Type 0} (k : Kept) (answers : List (Answer A)) (steps : List (Step A)) → answers ≡ [] → IsRun k (map step_of (take (length answers) steps)) (map answer_of answers) k
+no_step k answers steps e = rw e (λ o h same. (refl, same))
 
 -- ---- the files of a list of answers
 
