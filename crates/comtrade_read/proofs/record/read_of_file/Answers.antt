@@ -30,3 +30,6 @@ unreachable-requires g c =
       dat_text = c.as_slice-2.ensures.value ∙ c.in-Ok-dat_bytes.ensures.1;
     } in
     c.in-Err-read.ensures.unread c.in_default.not-Memory f (written_reads f cfg dat written)
+
+pub returns-in-Memory-clause-fault : goal.returns-in-Memory-clause-fault
+returns-in-Memory-clause-fault g c = tt
