@@ -141,8 +141,10 @@ pub fn run_and_read<A: Allocator + Copy>(
     ensures list { take (length result.0.answers.items) steps.items ++ option_to_list result.0.stopped ++ result.0.rest.items ≡ steps.items }
     ensures run { IsRun recorder (map step_of (take (length result.0.answers.items) steps.items)) (map answer_of result.0.answers.items) result.0.recorder }
     ensures told { All (λ answer. is_memory (answer_of answer) ≡ false) result.0.answers.items }
-    ensures own { All (λ answer. IsOwnAnswer result.0.recorder.layout (answer_of answer)) result.0.answers.items }
-    ensures opening { (result.0.recorder.layout ≡ recorder.layout) × (result.0.recorder.limits ≡ recorder.limits) }
+    ensures own { All (λ answer. IsOwnAnswer result.0.recorder.layout (answer_of answer))
+        result.0.answers.items }
+    ensures opening { (result.0.recorder.layout ≡ recorder.layout)
+        × (result.0.recorder.limits ≡ recorder.limits) }
     ensures whole { result.0.stopped ≡ None → result.0.rest.items ≡ [] }
     ensures files { IfOk result.1 (λ files. files.items ≡ files_taken recorder.layout kind (map answer_of result.0.answers.items)) }
     ensures reads { IfOk result.1 (λ files. All (λ f. Reads (cfg f.head) (dat kind f) f) files.items) }

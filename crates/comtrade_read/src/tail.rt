@@ -32,8 +32,10 @@ fn end_of<A: Allocator + Copy>(
 ) -> Result<End, ReadFault>
     requires at { at < 2 ^ 31 }
     requires count { count < 2 ^ 31 }
-    ensures { Gives {Y = EndParts} (λ x. record { first = x.first; trigger = x.trigger; kind = x.kind; timemult = x.timemult })
-        (steps.end_fault (texts lines.now) at count) (steps.end_value (texts lines.now) at count) result }
+    ensures { Gives {Y = EndParts}
+        (λ x. record { first = x.first; trigger = x.trigger; kind = x.kind; timemult = x.timemult })
+        (steps.end_fault (texts lines.now) at count)
+        (steps.end_value (texts lines.now) at count) result }
 {
     let first = instant_at_place(alloc, lines, at + 2 + count)?;
     let trigger = instant_at_place(alloc, lines, at + 3 + count)?;

@@ -12,3 +12,6 @@ returns-clause-files g c = IfOk-weaker c.read_of_run-files.result _ _ (λ files 
 
 pub returns-clause-reads : goal.returns-clause-reads
 returns-clause-reads g c = c.read_of_run-files.ensures.reads
+
+pub returns-clause-whole : goal.returns-clause-whole
+returns-clause-whole g c = search rules
