@@ -12,13 +12,28 @@ use Rattle.comtrade_write.specs.Parts.{HeadParts}
 use Rattle.dfr_channels.specs.Lines.{field, line_fields}
 use Rattle.comtrade_read.specs.LineSteps.{Gives, line_fault, first_in}
 use Rattle.comtrade_read.specs.Faulty.{AllObey, Faulty}
-use Rattle.comtrade_read.specs.Head.{names_rule, counts_rule, analog_count, status_count, rate_count, head_rules}
-use Rattle.comtrade_read.specs.HeadSteps.{TailParts, analog_faults, status_faults, analog_items, status_items, analog_value, status_value, head_fault, head_value, tail_fault, tail_value, chain, value_of}
+use Rattle.comtrade_read.specs.Head.{names_rule, counts_rule, frequency_rule, nrates_rule, analog_count, status_count, rate_count, head_rules}
+use Rattle.comtrade_read.specs.HeadSteps.{TailParts, analog_faults, status_faults, rate_faults, end_fault, analog_items, status_items, analog_value, status_value, head_fault, head_value, tail_fault, tail_value, chain, value_of}
 use Rattle.comtrade_read.proofs.FirstFault.{file_first, file_sound}
 use Rattle.comtrade_read.proofs.Chain.{chain_is}
 
 abbrev pub counted : List (List ℕ) → ℕ × ℕ
 counted ls = (analog_count (line_fields ls 1), status_count (line_fields ls 1))
+
+-- the lines of line frequency and number of rates were read
+pub record Begun (ls : List (List ℕ)) (at r : ℕ) : Type 0 where
+  pub frequency : line_fault ls frequency_rule at ≡ None
+  pub nrates : line_fault ls nrates_rule (at + 1) ≡ None
+  pub count : r ≡ rate_count ls at
+
+pub rates_fail : (ls : List (List ℕ)) (at r : ℕ) (e : ReadFault) → Begun ls at r → first_in (rate_faults ls (at + 2)) r ≡ Some e → tail_fault ls at (rate_count ls at) ≡ Some e
+rates_fail ls at r e b h = rw (b.frequency, b.nrates, ← b.count, h) refl
+
+pub end_fails : (ls : List (List ℕ)) (at r : ℕ) (e : ReadFault) → Begun ls at r → first_in (rate_faults ls (at + 2)) r ≡ None → end_fault ls at r ≡ Some e → tail_fault ls at (rate_count ls at) ≡ Some e
+end_fails ls at r e b s h = rw (b.frequency, b.nrates, ← b.count, s) h
+
+pub tail_read : (ls : List (List ℕ)) (at r : ℕ) → Begun ls at r → first_in (rate_faults ls (at + 2)) r ≡ None → end_fault ls at r ≡ None → tail_fault ls at (rate_count ls at) ≡ None
+tail_read ls at r b s h = rw (b.frequency, b.nrates, ← b.count, s) h
 
 -- the lines up to the channels were read
 pub record Front (ls : List (List ℕ)) (k m : ℕ) : Type 0 where

@@ -7,6 +7,12 @@ use Rattle.std.proofs.lemmas.List.Elements.{filter_map-append}
 use Rattle.dfr_channels.specs.Faults.{◌or◌}
 use Rattle.dfr_channels.specs.Parts.{SetupParts}
 use Rattle.dfr_recorder.specs.Parts.{RecordParts}
+use Rattle.dfr_recorder.specs.declared.step.Step.{Step}
+use Rattle.dfr_recorder.specs.declared.step.Answer.{Answer}
+use Rattle.dfr_recorder.specs.Steps.{step_of}
+use Rattle.dfr_recorder.specs.Answers.{answer_of}
+use Rattle.dfr_recorder.specs.Kept.{Kept}
+use Rattle.dfr_recorder.specs.Run.{IsRun}
 use Rattle.comtrade_write.specs.declared.fault.WriteFault.{WriteFault}
 use Rattle.comtrade_write.specs.declared.fault.WriteFault.TheVariants as faults
 use Rattle.comtrade_write.specs.declared.file.Kind.{Kind}
@@ -17,8 +23,6 @@ use Rattle.comtrade_write.specs.Data.{dat, dat_refusal}
 use Rattle.comtrade_write.specs.Refusals.{Fails, cfg_refusal}
 use Rattle.comtrade_write.specs.OfRecord.{file, IsWritable}
 use Rattle.comtrade_read.specs.Reads.{Reads}
-use Rattle.comtrade_read.specs.ReadBack.{HasNumbers}
-use Rattle.comtrade_read.proofs.ReadBack.{read_back}
 use Rattle.comtrade_read.proofs.OneFile.{one_file}
 
 -- a refusal that comes first is the first of both
@@ -41,26 +45,22 @@ fails_none (faults.Text line field) a none h = cc
 fails_none (faults.Value row channel) a none h = cc
 fails_none (faults.Stamp row) a none h = cc
 
--- a file that isn't refused, and the texts that were written of it
+-- a file that its own texts read to, and these texts
 pub record IsWritten (f : FileParts) (c d : List ℕ) : Type 0 where
-  pub numbers : HasNumbers f.head
-  pub cfg_taken : cfg_refusal f ≡ None
-  pub dat_taken : dat_refusal f.head.kind f ≡ None
+  pub reads : Reads (cfg f.head) (dat f.head.kind f) f
   pub cfg_text : c ≡ cfg f.head
   pub dat_text : d ≡ dat f.head.kind f
 
 pub written_reads : (f : FileParts) (c d : List ℕ) → IsWritten f c d → Reads c d f
 written_reads f c d w =
-    let law = read_back f w.numbers w.cfg_taken w.dat_taken in
-    subst (λ (x : List ℕ). Reads x d f) (sym w.cfg_text) (subst (λ (y : List ℕ). Reads (cfg f.head) y f) (sym w.dat_text) law)
+    subst (λ (x : List ℕ). Reads x d f) (sym w.cfg_text) (subst (λ (y : List ℕ). Reads (cfg f.head) y f) (sym w.dat_text) w.reads)
 
 pub same_again : (f g : FileParts) (c d : List ℕ) → IsWritten f c d → Reads c d g → g ≡ f
 same_again f g c d w r = one_file c d g f r (written_reads f c d w)
 
 pub reads_again : (f g : FileParts) (c d : List ℕ) → IsWritten f c d → Reads c d g → Reads (cfg g.head) (dat g.head.kind g) g
 reads_again f g c d w r =
-    let law = read_back f w.numbers w.cfg_taken w.dat_taken in
-    subst (λ (x : FileParts). Reads (cfg x.head) (dat x.head.kind x) x) (sym (same_again f g c d w r)) law
+    subst (λ (x : FileParts). Reads (cfg x.head) (dat x.head.kind x) x) (sym (same_again f g c d w r)) w.reads
 
 -- the data of a file of either kind aren't refused
 pub data_taken : (kind : Kind) (f : FileParts) → IsWritable f → dat_refusal kind f ≡ None
@@ -79,6 +79,11 @@ pub reads_as : (f : FileParts) (layout : SetupParts) (r : RecordParts) (kind : K
 reads_as f layout r kind e h =
     let k : f.head.kind ≡ kind = subst (λ (x : FileParts). x.head.kind ≡ kind) (sym e) (kind_of_file layout r kind) in
     subst (λ (x : Kind). Reads (cfg f.head) (dat x f) f) k h
+
+-- ---- a list of steps
+
+pub no_step : {A : Type 0} (k : Kept) (answers : List (Answer A)) (steps : List (Step A)) → answers ≡ [] → IsRun k (map step_of (take (length answers) steps)) (map answer_of answers) k
+no_step k answers steps e = rw e (λ o h same. (refl, same))
 
 -- ---- the files of a list of answers
 

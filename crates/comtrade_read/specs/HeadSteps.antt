@@ -18,6 +18,13 @@ use Rattle.comtrade_read.specs.Faulty.{AllObey}
 use Rattle.comtrade_read.specs.LineSteps.{line_fault, extra_fault, file_fault, first_in}
 use Rattle.comtrade_read.specs.Head.{names_rule, counts_rule, analog_rule, status_rule, frequency_rule, nrates_rule, rate_rule, instant_rule, kind_rule, timemult_rule, kind, analog_count, status_count, nrates_value, rate_before, rate_count, head_rules}
 
+-- the part of a head behind its rates
+pub record EndParts : Type 0 where
+  pub first : ℤ
+  pub trigger : ℤ
+  pub kind : Kind
+  pub timemult : Number
+
 -- the part of a head behind its channels
 pub record TailParts : Type 0 where
   pub line_freq : Number
@@ -84,12 +91,24 @@ rate_faults ls start i = line_fault ls (rate_rule (rate_before ls start i)) (sta
 abbrev pub rate_items : List (List ℕ) → ℕ → ℕ → List Rate
 rate_items ls start count = map (λ i. rate_value (line_fields ls (start + i))) (range_with_len 0 count)
 
+-- the first fault of the lines behind the rates, of which there are r
+abbrev pub end_fault : List (List ℕ) → ℕ → ℕ → Option ReadFault
+end_fault ls at r =
+    line_fault ls instant_rule (at + 2 + r) or (line_fault ls instant_rule (at + 3 + r) or (line_fault ls kind_rule (at + 4 + r)
+    or (line_fault ls timemult_rule (at + 5 + r) or extra_fault ls (at + 6 + r))))
+
+abbrev pub end_value : List (List ℕ) → ℕ → ℕ → EndParts
+end_value ls at r = record {
+  first = instant_value (line_fields ls (at + 2 + r));
+  trigger = instant_value (line_fields ls (at + 3 + r));
+  kind = kind_value (line_fields ls (at + 4 + r));
+  timemult = decimal_in (scale (field (line_fields ls (at + 5 + r)) 0));
+}
+
 -- the first fault of the lines behind the channels
 abbrev pub tail_fault : List (List ℕ) → ℕ → ℕ → Option ReadFault
 tail_fault ls at r =
-    line_fault ls frequency_rule at or (line_fault ls nrates_rule (at + 1) or (first_in (rate_faults ls (at + 2)) r
-    or (line_fault ls instant_rule (at + 2 + r) or (line_fault ls instant_rule (at + 3 + r) or (line_fault ls kind_rule (at + 4 + r)
-    or (line_fault ls timemult_rule (at + 5 + r) or extra_fault ls (at + 6 + r)))))))
+    line_fault ls frequency_rule at or (line_fault ls nrates_rule (at + 1) or (first_in (rate_faults ls (at + 2)) r or end_fault ls at r))
 
 abbrev pub tail_value : List (List ℕ) → ℕ → ℕ → TailParts
 tail_value ls at r = record {

@@ -11,7 +11,8 @@ ghost use Rattle.comtrade_read.specs.HeadSteps as steps;
 
 use crate::channels::{analogs_of, statuses_of};
 use crate::fault::ReadFault;
-use crate::settings::{counts_at, names_at, tail_of};
+use crate::settings::{counts_at, names_at};
+use crate::tail::tail_of;
 use comtrade_write::Head;
 use dfr_channels::{Items, lines_of, without_blank_end};
 use std::alloc::Allocator;

@@ -114,8 +114,21 @@ fn seconds(text: &[u8]) -> Option<(u32, u32)>
     }
 }
 
+/// The microseconds since the day began, where there is such a time of day.
+#[tactic(auto, unfolding(crate::specs::Instant::time_at))]
+fn time_at(hours: u32, minutes: u32, seconds: u32, micros: u32) -> Option<u64>
+    requires { micros < 1000000 }
+    ensures value { result ≡ spec.time_at hours minutes seconds micros }
+    ensures bound { IfSome result (λ n. n < 86400000000) }
+{
+    if 23 < hours || 59 < minutes || 59 < seconds {
+        return None;
+    }
+    Some(((hours as u64 * 60 + minutes as u64) * 60 + seconds as u64) * 1_000_000 + micros as u64)
+}
+
 /// The microseconds since the day began that a time of day says.
-#[tactic(auto, unfolding(crate::specs::Instant::time, crate::specs::Instant::time_at))]
+#[tactic(auto, unfolding(crate::specs::Instant::time))]
 fn time(text: &[u8]) -> Option<u64>
     ensures value { result ≡ spec.time text.now }
     ensures bound { IfSome result (λ n. n < 86400000000) }
@@ -125,10 +138,7 @@ fn time(text: &[u8]) -> Option<u64>
     let hours = digits(1, 2, hours)?;
     let minutes = digits(1, 2, minutes)?;
     let (seconds, micros) = seconds(rest)?;
-    if 23 < hours || 59 < minutes || 59 < seconds {
-        return None;
-    }
-    Some(((hours as u64 * 60 + minutes as u64) * 60 + seconds as u64) * 1_000_000 + micros as u64)
+    time_at(hours, minutes, seconds, micros)
 }
 
 /// The day number of a date field.

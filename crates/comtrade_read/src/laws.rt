@@ -1,7 +1,16 @@
 //! Laws of the grammar.
 
+ghost use Rattle.std.specs.Prelude.{◌≡◌, None};
+ghost use Rattle.comtrade_write.specs.Cfg.{cfg};
+ghost use Rattle.comtrade_write.specs.Data.{dat, dat_refusal};
+ghost use Rattle.comtrade_write.specs.Refusals.{cfg_refusal};
 ghost use Rattle.comtrade_read.specs.Pair.{OneHeadLaw, OneRowsLaw, OneFileLaw};
 ghost use Rattle.comtrade_read.specs.ReadBack.{ReadBackLaw};
+ghost use Rattle.comtrade_read.specs.Reads.{Reads};
+
+use crate::numbers::numbers;
+use comtrade_write::File;
+use std::alloc::Allocator;
 
 /// No configuration file reads to two heads, no data to two lists of rows under one head, and no pair of texts to two files.
 pub fn one_file()
@@ -14,3 +23,12 @@ pub fn one_file()
 pub fn read_back()
     ensures { ReadBackLaw }
 {}
+
+/// The law of reading back for a given file: its type keeps what the law wants of its numbers. Where the writers don't refuse
+/// the file, it is read from its own texts.
+pub fn file_reads_back<A: Allocator>(file: &File<A>)
+    ensures { cfg_refusal file.now ≡ None → dat_refusal file.now.head.kind file.now ≡ None
+        → Reads (cfg file.now.head) (dat file.now.head.kind file.now) file.now }
+{
+    numbers(&file.head);
+}

@@ -18,10 +18,11 @@ mod place;
 mod plain_rows;
 mod record;
 mod settings;
+mod tail;
 
 pub use data::read_dat;
 pub use fault::ReadFault;
 pub use head::read_cfg;
-pub use laws::{one_file, read_back};
+pub use laws::{file_reads_back, one_file, read_back};
 pub use pair::{Part, read};
 pub use record::{read_of_file, read_of_record, read_of_run, run_and_read};

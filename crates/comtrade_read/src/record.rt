@@ -1,11 +1,11 @@
 //! Files and records that are written and read back.
 
-ghost use Rattle.std.specs.Prelude.{◌≡◌, ◌++◌, IfOk, IfErr, IfSome, IsTrue, length, map, take, option_to_list};
+ghost use Rattle.std.specs.Prelude.{◌≡◌, ◌++◌, IfOk, IfErr, IfSome, IsTrue, length, map, take, option_to_list, false, None, []};
 ghost use Rattle.std.specs.List.{All};
 ghost use Rattle.dfr_channels.specs.Faults.{◌or◌};
 ghost use Rattle.dfr_recorder.specs.Own.{is_own};
 ghost use Rattle.dfr_recorder.specs.Steps.{step_of};
-ghost use Rattle.dfr_recorder.specs.Answers.{answer_of};
+ghost use Rattle.dfr_recorder.specs.Answers.{answer_of, is_memory};
 ghost use Rattle.dfr_recorder.specs.Run.{IsRun, IsOwnAnswer};
 ghost use Rattle.comtrade_write.specs.Cfg.{cfg};
 ghost use Rattle.comtrade_write.specs.Data.{dat, dat_refusal};
@@ -15,7 +15,7 @@ ghost use Rattle.comtrade_read.specs.Reads.{Reads};
 ghost use Rattle.comtrade_read.specs.ReadBack.{file_taken, files_taken};
 
 use crate::fault::ReadFault;
-use crate::numbers::numbers;
+use crate::laws::file_reads_back;
 use crate::pair::read;
 use comtrade_write::{File, FileFault, Kind, WriteFault, cfg_bytes, dat_bytes, file_of};
 use dfr_channels::{Layout, Memory};
@@ -30,7 +30,7 @@ pub fn read_of_file<A: Allocator + Copy>(alloc: A, file: &File<A>) -> Result<Fil
     ensures reads { IfOk result (λ f. Reads (cfg f.head) (dat f.head.kind f) f) }
     ensures fault { IfErr result (λ e. Fails e (cfg_refusal file.now or dat_refusal file.now.head.kind file.now)) }
 {
-    numbers(&file.head);
+    file_reads_back(file);
     let cfg = match cfg_bytes(alloc, file) {
         Ok(cfg) => cfg,
         Err(fault) => return Err(fault),
@@ -140,6 +140,12 @@ pub fn run_and_read<A: Allocator + Copy>(
 ) -> (Ran<A>, Result<Vec<File<A>, A>, Memory>)
     ensures list { take (length result.0.answers.items) steps.items ++ option_to_list result.0.stopped ++ result.0.rest.items ≡ steps.items }
     ensures run { IsRun recorder (map step_of (take (length result.0.answers.items) steps.items)) (map answer_of result.0.answers.items) result.0.recorder }
+    ensures told { All (λ answer. is_memory (answer_of answer) ≡ false) result.0.answers.items }
+    ensures own { All (λ answer. IsOwnAnswer result.0.recorder.layout (answer_of answer))
+        result.0.answers.items }
+    ensures opening { (result.0.recorder.layout ≡ recorder.layout)
+        × (result.0.recorder.limits ≡ recorder.limits) }
+    ensures whole { result.0.stopped ≡ None → result.0.rest.items ≡ [] }
     ensures files { IfOk result.1 (λ files. files.items ≡ files_taken recorder.layout kind (map answer_of result.0.answers.items)) }
     ensures reads { IfOk result.1 (λ files. All (λ f. Reads (cfg f.head) (dat kind f) f) files.items) }
 {

@@ -1,9 +1,8 @@
-//! The lines that are no channel's.
+//! The lines that are no channel's, one by one.
 
-ghost use Rattle.std.specs.Prelude.{◌≡◌, ◌+◌, ◌<◌, ◌≤◌, ◌^◌, length, IfOk, List, ℕ, max};
+ghost use Rattle.std.specs.Prelude.{◌≡◌, ◌+◌, ◌<◌, ◌≤◌, ◌^◌, length, IfOk, List, ℕ};
 ghost use Rattle.dfr_channels.specs.Lines.{texts, line_fields, field};
 ghost use Rattle.comtrade_read.specs.LineSteps.{Gives, line_fault, fields_fault, first_in};
-ghost use Rattle.comtrade_read.specs.HeadSteps.{TailParts};
 ghost use Rattle.comtrade_read.specs.Head as spec;
 ghost use Rattle.comtrade_read.specs.HeadSteps as steps;
 ghost use Rattle.dfr_channels.specs.Fields.{free_scale};
@@ -12,7 +11,7 @@ ghost use Rattle.comtrade_read.specs.Fields.{whole, scale};
 use crate::fault::ReadFault;
 use crate::fields::{count_of, free_scale_of, kind_of, natural_of, scale_of, text_of};
 use crate::instant::{date_of, instant_at, time_of};
-use crate::place::{end_at, fields_at};
+use crate::place::fields_at;
 use comtrade_write::{Kind, Rate};
 use dfr_channels::{Decimal, Items, integer_of};
 use std::alloc::Allocator;
@@ -199,7 +198,7 @@ pub(crate) fn counts_at<A: Allocator + Copy>(
 
 /// The line frequency, on the line at this place.
 #[tactic(auto, unfolding(crate::specs::LineSteps::line_fault))]
-fn frequency_at<A: Allocator + Copy>(
+pub(crate) fn frequency_at<A: Allocator + Copy>(
     alloc: A,
     lines: &[&[u8]],
     place: usize,
@@ -213,7 +212,11 @@ fn frequency_at<A: Allocator + Copy>(
 
 /// The number of rates, on the line at this place.
 #[tactic(auto, unfolding(crate::specs::LineSteps::line_fault))]
-fn nrates_at<A: Allocator + Copy>(alloc: A, lines: &[&[u8]], place: usize) -> Result<u64, ReadFault>
+pub(crate) fn nrates_at<A: Allocator + Copy>(
+    alloc: A,
+    lines: &[&[u8]],
+    place: usize,
+) -> Result<u64, ReadFault>
     requires { place < 2 ^ 63 }
     ensures value { Gives (λ x. x) (line_fault (texts lines.now) spec.nrates_rule place) (spec.nrates_value (line_fields (texts lines.now) place)) result }
     ensures bound { IfOk result (λ n. n ≤ 999) }
@@ -224,7 +227,7 @@ fn nrates_at<A: Allocator + Copy>(alloc: A, lines: &[&[u8]], place: usize) -> Re
 
 /// An instant, on the line at this place.
 #[tactic(auto, unfolding(crate::specs::LineSteps::line_fault))]
-fn instant_at_place<A: Allocator + Copy>(
+pub(crate) fn instant_at_place<A: Allocator + Copy>(
     alloc: A,
     lines: &[&[u8]],
     place: usize,
@@ -238,7 +241,11 @@ fn instant_at_place<A: Allocator + Copy>(
 
 /// The kind of the data file, on the line at this place.
 #[tactic(auto, unfolding(crate::specs::LineSteps::line_fault))]
-fn kind_at<A: Allocator + Copy>(alloc: A, lines: &[&[u8]], place: usize) -> Result<Kind, ReadFault>
+pub(crate) fn kind_at<A: Allocator + Copy>(
+    alloc: A,
+    lines: &[&[u8]],
+    place: usize,
+) -> Result<Kind, ReadFault>
     requires { place < 2 ^ 63 }
     ensures { Gives (λ x. x) (line_fault (texts lines.now) spec.kind_rule place) (steps.kind_value (line_fields (texts lines.now) place)) result }
 {
@@ -248,7 +255,7 @@ fn kind_at<A: Allocator + Copy>(alloc: A, lines: &[&[u8]], place: usize) -> Resu
 
 /// The time multiplier, on the line at this place.
 #[tactic(auto, unfolding(crate::specs::LineSteps::line_fault))]
-fn timemult_at<A: Allocator + Copy>(
+pub(crate) fn timemult_at<A: Allocator + Copy>(
     alloc: A,
     lines: &[&[u8]],
     place: usize,
@@ -258,47 +265,4 @@ fn timemult_at<A: Allocator + Copy>(
 {
     let fields = fields_at(alloc, lines, place)?;
     timemult_of(place as u64 + 1, &fields)
-}
-
-/// The part of a head behind its channels.
-#[derive(Drop)]
-pub(crate) struct Tail<A: Allocator> {
-    pub(crate) line_freq: Decimal,
-    pub(crate) nrates: u64,
-    pub(crate) rates: Vec<Rate, A>,
-    pub(crate) first: i64,
-    pub(crate) trigger: i64,
-    pub(crate) kind: Kind,
-    pub(crate) timemult: Decimal,
-}
-
-/// The lines behind the channels, from this place on.
-pub(crate) fn tail_of<A: Allocator + Copy>(
-    alloc: A,
-    lines: &[&[u8]],
-    at: usize,
-) -> Result<Tail<A>, ReadFault>
-    requires { at < 2 ^ 31 }
-    ensures small { IfOk result (λ x. x.nrates ≤ 999) }
-    ensures value { Gives {Y = TailParts} (λ x. record { line_freq = x.line_freq; nrates = x.nrates; rates = x.rates.items; first = x.first; trigger = x.trigger; kind = x.kind; timemult = x.timemult })
-        (steps.tail_fault (texts lines.now) at (spec.rate_count (texts lines.now) at)) (steps.tail_value (texts lines.now) at (spec.rate_count (texts lines.now) at)) result }
-{
-    let line_freq = frequency_at(alloc, lines, at)?;
-    let nrates = nrates_at(alloc, lines, at + 1)?;
-    let count = (nrates as usize).max(1);
-    let rates = rates_of(alloc, lines, at + 2, count)?;
-    let first = instant_at_place(alloc, lines, at + 2 + count)?;
-    let trigger = instant_at_place(alloc, lines, at + 3 + count)?;
-    let kind = kind_at(alloc, lines, at + 4 + count)?;
-    let timemult = timemult_at(alloc, lines, at + 5 + count)?;
-    end_at(lines, at + 6 + count)?;
-    Ok(Tail {
-        line_freq,
-        nrates,
-        rates,
-        first,
-        trigger,
-        kind,
-        timemult,
-    })
 }

@@ -1,6 +1,5 @@
 use Rattle.std.proofs.Common.{◌∙◌, List, ℕ}
 use Rattle.comtrade_write.specs.Parts.{FileParts}
-use Rattle.comtrade_read.specs.ReadBack.{HasNumbers}
 use Rattle.comtrade_read.proofs.ReadAgain.{IsWritten, written_reads, same_again, reads_again}
 use Rattle.comtrade_read.proofs.record.read_of_file.Goals as goal
 
@@ -9,11 +8,8 @@ returns-in-Ok-read g c =
     let f : FileParts = c.args.file.now in
     let cfg : List ℕ = c.as_slice.result.now in
     let dat : List ℕ = c.as_slice-2.result.now in
-    let numbers : HasNumbers f.head = rw (← c.file.view_is) c.numbers.ensures in
     let written : IsWritten f cfg dat = record {
-      numbers = numbers;
-      cfg_taken = c.in-Ok.ensures.0;
-      dat_taken = c.in-Ok-dat_bytes.ensures.0;
+      reads = c.file_reads_back.ensures c.in-Ok.ensures.0 c.in-Ok-dat_bytes.ensures.0;
       cfg_text = c.as_slice.ensures.value ∙ c.in-Ok.ensures.1;
       dat_text = c.as_slice-2.ensures.value ∙ c.in-Ok-dat_bytes.ensures.1;
     } in
@@ -28,12 +24,12 @@ unreachable-requires g c =
     let f : FileParts = c.args.file.now in
     let cfg : List ℕ = c.as_slice.result.now in
     let dat : List ℕ = c.as_slice-2.result.now in
-    let numbers : HasNumbers f.head = rw (← c.file.view_is) c.numbers.ensures in
     let written : IsWritten f cfg dat = record {
-      numbers = numbers;
-      cfg_taken = c.in-Ok.ensures.0;
-      dat_taken = c.in-Ok-dat_bytes.ensures.0;
+      reads = c.file_reads_back.ensures c.in-Ok.ensures.0 c.in-Ok-dat_bytes.ensures.0;
       cfg_text = c.as_slice.ensures.value ∙ c.in-Ok.ensures.1;
       dat_text = c.as_slice-2.ensures.value ∙ c.in-Ok-dat_bytes.ensures.1;
     } in
     c.in-Err-read.ensures.unread c.in_default.not-Memory f (written_reads f cfg dat written)
+
+pub returns-in-Memory-clause-fault : goal.returns-in-Memory-clause-fault
+returns-in-Memory-clause-fault g c = tt

@@ -1,9 +1,17 @@
-use Rattle.std.proofs.Common.{◌≡◌, IfOk, map, subst}
-use Rattle.dfr_channels.specs.Parts.{SetupParts}
-use Rattle.dfr_recorder.specs.Answers.{answer_of}
-use Rattle.comtrade_read.specs.ReadBack.{files_taken}
+use Rattle.std.proofs.Common.{rules}
+use Rattle.std.proofs.lemmas.Result.{IfOk-weaker}
+use Rattle.comtrade_read.proofs.ReadAgain.{no_step}
 use Rattle.comtrade_read.proofs.record.run_and_read.Goals as goal
 
+-- (`no_step` is there for a body that makes none: that is refused for the clause `whole` alone)
+pub returns-clause-run : goal.returns-clause-run
+returns-clause-run g c = search (rules, no_step)
+
 pub returns-clause-files : goal.returns-clause-files
-returns-clause-files g c =
-    subst (λ (l : SetupParts). IfOk c.read_of_run-files.result (λ files. files.items ≡ files_taken l c.args.kind (map answer_of c.run-ran.result.answers.items))) c.run-ran.ensures.opening.0 c.read_of_run-files.ensures.files
+returns-clause-files g c = IfOk-weaker c.read_of_run-files.result _ _ (λ files h. cc) c.read_of_run-files.ensures.files
+
+pub returns-clause-reads : goal.returns-clause-reads
+returns-clause-reads g c = c.read_of_run-files.ensures.reads
+
+pub returns-clause-whole : goal.returns-clause-whole
+returns-clause-whole g c = search rules
