@@ -25,6 +25,3 @@ pub use head::read_cfg;
 pub use laws::{one_file, read_back};
 pub use pair::{Part, read};
 pub use record::{read_of_file, read_of_record, read_of_run, run_and_read};
-
-#[cfg(test)]
-mod tests;

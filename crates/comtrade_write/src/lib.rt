@@ -17,7 +17,6 @@ mod parts;
 mod rows_ascii;
 mod rows_binary;
 mod shape;
-mod taken;
 mod texts;
 mod value_text;
 
@@ -26,7 +25,3 @@ pub use fault::WriteFault;
 pub use file::{File, Head, Kind, Rate, Row};
 pub use of_record::{FileFault, file_of};
 pub use output::write_all_of;
-pub use taken::file_of_taken;
-
-#[cfg(test)]
-mod tests;

@@ -19,6 +19,3 @@ pub use fault::RunFault;
 pub use input::read_all;
 pub use reading::read_over;
 pub use replay::replay_over;
-
-#[cfg(test)]
-mod tests;

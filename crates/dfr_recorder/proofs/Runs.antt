@@ -1,6 +1,6 @@
 -- A run goes on by one step.
 use Rattle.std.proofs.Common.{ℕ, zero, suc, ◌≡◌, ◌<◌, refl, sym, ap, ◌∙◌, List, [], ◌∷◌, ◌++◌, length, map, take, drop, arith}
-use Rattle.std.specs.Prelude.{option_to_list, Some, None, Result, Ok, Err, is_err, OnOk, false}
+use Rattle.std.specs.Prelude.{option_to_list, Some, None, Result, Ok, Err, is_err, OnOk, OnErr, true, false}
 use Rattle.dfr_recorder.specs.Steps.{StepParts}
 use Rattle.dfr_recorder.specs.Answers.{AnswerParts}
 use Rattle.dfr_recorder.specs.History.{Opening}
@@ -51,6 +51,10 @@ take_then (suc n) (x ∷ xs) y ys e = ap (λ l. x ∷ l) (take_then n xs y ys e)
 pub ok_gives : {X Y P : Type 0} (r : Result X Y) → is_err r ≡ false → OnOk r P → P
 ok_gives (Ok x) e h = h
 ok_gives (Err y) e h = absurd (cc)
+
+pub err_gives : {X Y P : Type 0} (r : Result X Y) → is_err r ≡ true → OnErr r P → P
+err_gives (Ok x) e h = absurd (cc)
+err_gives (Err y) e h = h
 
 pub nothing_in : {X : Type 0} (xs : List X) → length xs ≡ 0 → xs ≡ []
 nothing_in [] e = refl

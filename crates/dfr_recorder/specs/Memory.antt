@@ -22,3 +22,10 @@ GrowsRecord old scan = (o : Opening) (h : List StepParts) → kept o h ≡ old �
 -- for every history of which `old` is kept, a trigger opens a record
 abbrev pub OpensRecord : Kept → Type 0
 OpensRecord old = (o : Opening) (h : List StepParts) → kept o h ≡ old → IsTrue (opens o h step.Trigger)
+
+-- where a step may want memory: a scan that grows a record and a trigger that opens one; a take and rules never do
+abbrev pub WantsMemory : Kept → StepParts → Type 0
+WantsMemory old (step.Scan scan) = GrowsRecord old scan
+WantsMemory old step.Trigger = OpensRecord old
+WantsMemory old step.Take = ⊥
+WantsMemory old (step.SetRules rules) = ⊥

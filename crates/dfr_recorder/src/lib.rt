@@ -16,6 +16,3 @@ pub use record::{Cause, Extent, Record};
 pub use recorder::Recorder;
 pub use sequence::{Ran, run};
 pub use step::{Answer, Hit, ScanRefusal, Scanned, Step, TriggerFault};
-
-#[cfg(test)]
-mod tests;

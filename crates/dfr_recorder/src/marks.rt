@@ -4,7 +4,7 @@ ghost use Rattle.std.specs.Prelude.{◌≡◌, ◌+◌, ◌<◌, ◌^◌, Some, 
 ghost use Rattle.dfr_recorder.specs.Marks.{marked_recording, marked_opened, marked_hit, recording_if, opened_if, hit_if, closing};
 ghost use Rattle.dfr_recorder.specs.History.{refused_when_full};
 
-use crate::{Cause, Extent, Hit, Limits, TriggerFault};
+use crate::{Cause, Extent, Hit, Limits, Scanned, TriggerFault};
 
 /// What a trigger did, how many records were opened by then, and the open one.
 #[derive(Clone, Copy, Debug)]
@@ -142,7 +142,7 @@ pub(crate) fn mark_if(
 }
 
 /// The record whose last scan is at place `n`.
-pub(crate) fn closing(n: u64, recording: Option<Extent>) -> Option<Extent>
+fn closing(n: u64, recording: Option<Extent>) -> Option<Extent>
     ensures { result ≡ closing n recording }
 {
     match recording {
@@ -152,11 +152,24 @@ pub(crate) fn closing(n: u64, recording: Option<Extent>) -> Option<Extent>
 }
 
 /// The number of the record that closes, which is the newest.
-pub(crate) fn closed_number(closed: Option<Extent>, opened: u64) -> Option<u64>
+fn closed_number(closed: Option<Extent>, opened: u64) -> Option<u64>
     ensures { result ≡ option_map (λ _. opened) closed }
 {
     match closed {
         Some(_) => Some(opened),
         None => None,
+    }
+}
+
+/// The answer to an accepted scan at place `n`.
+pub(crate) fn scanned(n: u64, marked: MarkedIf) -> Scanned
+    ensures number { result.number ≡ n }
+    ensures trigger { result.trigger ≡ marked.hit }
+    ensures closed { result.closed ≡ option_map (λ _. marked.opened) (closing n marked.recording) }
+{
+    Scanned {
+        number: n,
+        trigger: marked.hit,
+        closed: closed_number(closing(n, marked.recording), marked.opened),
     }
 }

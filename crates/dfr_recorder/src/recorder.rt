@@ -1,9 +1,9 @@
 //! The recorder.
 
-use crate::marks::{closed_number, closing, mark, mark_if, refused_when_full};
+use crate::marks::{mark, mark_if, refused_when_full, scanned};
 use crate::recording::Recording;
 use crate::refusals::refusal;
-use crate::ring::{extent_of, grow, place, scans_in, scans_so_far, shelve};
+use crate::ring::{extent_of, fires, grow, is_full, keep, place, scans_in, scans_so_far, shelve};
 use crate::{Cause, Hit, Limits, Record, ScanRefusal, Scanned, TriggerFault};
 use circular_buffer::HeapCircularBuffer;
 use dfr_channels::{Layout, Memory, Rules, Scan};
@@ -97,7 +97,8 @@ impl<A: Allocator> Recorder<A> {
         self.recording.is_some()
     }
 
-    /// How many scans ring, open record and shelf hold.
+    /// How many scans ring, open record and shelf hold. That nothing else is held no contract can say: a test counts the memory in
+    /// use over many scans and records.
     pub fn held(&self) -> u64
         ensures value { result ≡ held self.now }
         ensures bound { result ≤ self.now.limits.pre + 1 + self.now.limits.longest * self.now.limits.shelf }
@@ -187,29 +188,18 @@ impl<A: Allocator + Copy> Recorder<A> {
             Some(refused) => return Err((refused, scan)),
             None => {}
         }
-        let fired = self.rules.fires(self.ring.back(), &scan);
-        let full = self.shelf.len() == self.limits.shelf() as usize;
-        let marked = mark_if(
-            self.limits,
-            n,
-            fired,
-            self.opened,
-            full,
-            extent_of(&self.recording),
-        );
+        let fired = fires(&self.rules, &self.ring, &scan);
+        let full = is_full(&self.shelf, self.limits);
+        let open = extent_of(&self.recording);
+        let marked = mark_if(self.limits, n, fired, self.opened, full, open);
         if grow(&mut self.recording, marked.recording, n, &self.ring, &scan).is_err() {
             return Err((ScanRefusal::Memory, scan));
         }
         shelve(&mut self.recording, n, &mut self.shelf);
-        let _ = self.ring.push_back(scan);
+        keep(&mut self.ring, scan);
         self.count = n + 1;
         self.opened = marked.opened;
-        let closed = closing(n, marked.recording);
-        Ok(Scanned {
-            number: n,
-            trigger: marked.hit,
-            closed: closed_number(closed, marked.opened),
-        })
+        Ok(scanned(n, marked))
     }
 
     /// A trigger by hand, at the last scan. A refused one changes nothing. Memory is wanted only to open a record.
@@ -224,15 +214,9 @@ impl<A: Allocator + Copy> Recorder<A> {
         if n == 0 {
             return Err(TriggerFault::NoScan);
         }
-        let full = self.shelf.len() == self.limits.shelf() as usize;
-        let marked = mark(
-            self.limits,
-            n - 1,
-            Cause::Manual,
-            self.opened,
-            full,
-            extent_of(&self.recording),
-        );
+        let full = is_full(&self.shelf, self.limits);
+        let open = extent_of(&self.recording);
+        let marked = mark(self.limits, n - 1, Cause::Manual, self.opened, full, open);
         if place(&mut self.recording, marked.recording, n, &self.ring).is_err() {
             return Err(TriggerFault::Memory);
         }

@@ -1,15 +1,16 @@
 //! What is done to ring, open record and shelf.
 
-ghost use Rattle.std.specs.Prelude.{◌≡◌, ◌≤◌, ◌<◌, ◌-◌, ◌^◌, ◌++◌, Some, None, length, slice_get, IfOk, IfSome, IfNone, IsOk, OnOk, OnErr, IsSome, option_to_list};
+ghost use Rattle.std.specs.Prelude.{◌≡◌, ◌≤◌, ◌<◌, ◌-◌, ◌^◌, ◌++◌, ◌==◌, [], ◌∷◌, Some, None, length, slice_get, IfOk, IfSome, IfNone, IsOk, OnOk, OnErr, IsSome, option_to_list};
 ghost use Rattle.std.specs.VecDeque.{deque_len, deque_capacity};
 ghost use Rattle.dfr_recorder.specs.Parts.{IsWhole};
-ghost use Rattle.dfr_recorder.specs.Kept.{scans_in};
+ghost use Rattle.dfr_channels.specs.Firing.{lowest_holding};
+ghost use Rattle.dfr_recorder.specs.Kept.{latest, scans_in};
 ghost use Rattle.dfr_recorder.specs.Ring.{extent_of, begun, placed_if, longer_if, unless_last, if_last, ends_at};
 
 use crate::recording::Recording;
-use crate::{Extent, Record};
+use crate::{Extent, Limits, Record};
 use circular_buffer::HeapCircularBuffer;
-use dfr_channels::{Memory, Scan};
+use dfr_channels::{Memory, Rules, Scan};
 use std::alloc::Allocator;
 use std::collections::VecDeque;
 
@@ -20,6 +21,32 @@ pub(crate) fn extent_of<A: Allocator>(recording: &Option<Recording<A>>) -> Optio
         Some(recording) => Some(recording.extent()),
         None => None,
     }
+}
+
+/// Whether as many records wait as may.
+pub(crate) fn is_full<A: Allocator>(shelf: &VecDeque<Record<A>, A>, limits: Limits) -> bool
+    ensures { result ≡ (length shelf.now.items == limits.shelf) }
+{
+    shelf.len() == limits.shelf() as usize
+}
+
+/// The lowest rule that a scan fires after the ring's newest.
+pub(crate) fn fires<A: Allocator>(
+    rules: &Rules<A>,
+    ring: &HeapCircularBuffer<Scan<A>, A>,
+    scan: &Scan<A>,
+) -> Option<u32>
+    ensures { result ≡ lowest_holding (slice_get ring.now.items (length ring.now.items - 1)) scan.now rules.now }
+{
+    rules.fires(ring.back(), scan)
+}
+
+/// Takes a scan into the ring, which drops its oldest where it is full.
+pub(crate) fn keep<A: Allocator>(ring: &mut HeapCircularBuffer<Scan<A>, A>, scan: Scan<A>)
+    ensures items { ring.new.items ≡ latest ring.old.capacity (ring.old.items ++ scan ∷ []) }
+    ensures places { ring.new.capacity ≡ ring.old.capacity }
+{
+    let _ = ring.push_back(scan);
 }
 
 /// The ring's scan at this place, from its oldest.

@@ -1,10 +1,11 @@
 //! A list of steps, made in order.
 
-ghost use Rattle.std.specs.Prelude.{◌≡◌, ◌++◌, [], None, false, IfOk, IfErr, length, map, take, option_to_list};
+ghost use Rattle.std.specs.Prelude.{◌≡◌, ◌≢◌, ◌≤◌, ◌++◌, [], None, false, IfOk, IfErr, IfSome, length, map, take, option_to_list, vec_capacity};
 ghost use Rattle.std.specs.List.{All};
 ghost use Rattle.dfr_recorder.specs.Steps.{step_of};
 ghost use Rattle.dfr_recorder.specs.Answers.{answer_of, is_memory};
 ghost use Rattle.dfr_recorder.specs.Kept.{IsStep};
+ghost use Rattle.dfr_recorder.specs.Memory.{WantsMemory};
 ghost use Rattle.dfr_recorder.specs.Run.{IsRun, IsOwnAnswer};
 
 use crate::{Answer, Recorder, ScanRefusal, Step, TriggerFault};
@@ -31,6 +32,7 @@ fn make<A: Allocator + Copy>(
     ensures own { IfOk result (λ answer. IsOwnAnswer recorder.old.layout (answer_of answer)) }
     ensures opening { (recorder.new.layout ≡ recorder.old.layout) × (recorder.new.limits ≡ recorder.old.limits) }
     ensures err { IfErr result (λ back. (back ≡ step) × (recorder.new ≡ recorder.old)) }
+    ensures wanted { IfErr result (λ back. WantsMemory recorder.old (step_of back)) }
 {
     match step {
         Step::Scan(scan) => match recorder.scan(scan) {
@@ -56,7 +58,8 @@ fn make<A: Allocator + Copy>(
     }
 }
 
-/// Makes the steps in order, each after room was made for its answer. Where a growth is refused it stops before that step. The
+/// Makes the steps in order, after room was made for all their answers. Where a growth is refused it stops before that step: where
+/// it is the answers' room, before the first; later only at a step that wants memory, which a take and rules never do. The
 /// recorder keeps its layout and its limits, and each record that a step takes is the layout's own.
 pub fn run<A: Allocator + Copy>(
     alloc: A,
@@ -69,19 +72,22 @@ pub fn run<A: Allocator + Copy>(
     ensures own { All (λ answer. IsOwnAnswer result.recorder.layout (answer_of answer)) result.answers.items }
     ensures opening { (result.recorder.layout ≡ recorder.layout) × (result.recorder.limits ≡ recorder.limits) }
     ensures whole { result.stopped ≡ None → result.rest.items ≡ [] }
+    ensures wanted { result.answers.items ≢ [] → IfSome result.stopped (λ step. WantsMemory result.recorder (step_of step)) }
+    ensures room { length steps.items ≤ vec_capacity result.answers → IfSome result.stopped (λ step. WantsMemory result.recorder (step_of step)) }
 {
     let mut recorder = recorder;
     let mut rest = steps;
     let mut answers = Vec::new(alloc);
+    if answers.reserve(rest.len()).is_err() {
+        let stopped = rest.pop_front();
+        return Ran {
+            recorder,
+            answers,
+            stopped,
+            rest,
+        };
+    }
     while let Some(step) = rest.pop_front() {
-        if answers.reserve(1).is_err() {
-            return Ran {
-                recorder,
-                answers,
-                stopped: Some(step),
-                rest,
-            };
-        }
         match make(&mut recorder, step) {
             Ok(answer) => answers.push_reserved(answer),
             Err(step) => {

@@ -1,0 +1,92 @@
+//! How many scans a recorder holds after each call.
+
+use super::fixture::{recorder, recorder_at_100, value};
+use super::records::{HIGH, are_scanned};
+use dfr_recorder::Recorder;
+use std::alloc::{Allocator, Global};
+
+/// A call that adds to what is held, or takes away.
+#[derive(Clone, Copy)]
+enum Call {
+    Scan(i32),
+    Trigger,
+    Take,
+}
+
+pub fn scans<A: Allocator + Copy>(alloc: A, recorder: &mut Recorder<A>, x: i32) -> bool {
+    match value(alloc, x) {
+        Some(scan) => recorder.scan(scan).is_ok(),
+        None => false,
+    }
+}
+
+/// Whether the call is answered as one that does something.
+fn does(alloc: Global, recorder: &mut Recorder, call: Call) -> bool {
+    match call {
+        Call::Scan(x) => scans(alloc, recorder, x),
+        Call::Trigger => recorder.trigger().is_ok(),
+        Call::Take => recorder.take().is_some(),
+    }
+}
+
+/// Whether so many scans are held after each call.
+fn holds(alloc: Global, recorder: &mut Recorder, calls: &[(Call, u64)]) -> bool {
+    for (call, held) in calls {
+        if !does(alloc, recorder, *call) || recorder.held() != *held {
+            return false;
+        }
+    }
+    true
+}
+
+/// The ring is full when the trigger comes.
+const FULL: [(Call, u64); 8] = [
+    (Call::Scan(10), 1),
+    (Call::Scan(11), 2),
+    (Call::Scan(12), 3),
+    (Call::Scan(13), 3),
+    (Call::Trigger, 6),
+    (Call::Scan(14), 7),
+    (Call::Scan(15), 8),
+    (Call::Take, 3),
+];
+
+/// The trigger comes at the first scan.
+const EARLY: [(Call, u64); 5] = [
+    (Call::Scan(10), 1),
+    (Call::Trigger, 2),
+    (Call::Scan(11), 4),
+    (Call::Scan(12), 6),
+    (Call::Take, 3),
+];
+
+fn new_holds(alloc: Global, calls: &[(Call, u64)]) -> bool {
+    match recorder(alloc, 1) {
+        Some(mut recorder) => holds(alloc, &mut recorder, calls),
+        None => false,
+    }
+}
+
+#[test]
+fn ring_record_and_shelf(rt: HostRuntime) {
+    let alloc = rt.alloc();
+    assert!(rt; new_holds(alloc, &FULL) && new_holds(alloc, &EARLY));
+}
+
+/// A record of six scans waits while the next is open.
+fn holds_two(alloc: Global) -> bool {
+    match recorder_at_100(alloc, 2) {
+        Some(mut recorder) => {
+            are_scanned(alloc, &mut recorder, &HIGH[..7])
+                && recorder.held() == 9
+                && are_scanned(alloc, &mut recorder, &HIGH[7..])
+                && recorder.held() == 12
+        }
+        None => false,
+    }
+}
+
+#[test]
+fn two_records(rt: HostRuntime) {
+    assert!(rt; holds_two(rt.alloc()));
+}

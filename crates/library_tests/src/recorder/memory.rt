@@ -1,0 +1,58 @@
+//! That a recorder holds nothing besides what contracts see: its memory grows neither with its scans nor with the records that were
+//! taken.
+
+use super::fixture::recorder;
+use super::held::scans;
+use dfr_recorder::Recorder;
+use linked_list_allocator::LocalHeap;
+use std::test::Fail;
+
+type Local<'a> = Recorder<&'a LocalHeap>;
+
+fn takes_scans<'a>(heap: &'a LocalHeap, recorder: &mut Local<'a>, n: u32) -> bool {
+    for _ in 0..n {
+        if !scans(heap, recorder, 0) {
+            return false;
+        }
+    }
+    true
+}
+
+/// A record that is opened, closed, taken and dropped.
+fn makes_a_record<'a>(heap: &'a LocalHeap, recorder: &mut Local<'a>) -> bool {
+    recorder.trigger().is_ok() && takes_scans(heap, recorder, 2) && recorder.take().is_some()
+}
+
+fn makes_records<'a>(heap: &'a LocalHeap, recorder: &mut Local<'a>, n: u32) -> bool {
+    for _ in 0..n {
+        if !makes_a_record(heap, recorder) {
+            return false;
+        }
+    }
+    true
+}
+
+/// Whether as much of the heap is used after many scans, and after many records, as before them.
+fn stays<'a>(heap: &'a LocalHeap, recorder: &mut Local<'a>) -> bool {
+    let before = heap.used();
+    takes_scans(heap, recorder, 1200)
+        && heap.used() == before
+        && makes_records(heap, recorder, 50)
+        && heap.used() == before
+}
+
+/// The ring is full after three scans.
+fn stays_when_full(heap: &LocalHeap) -> bool {
+    match recorder(heap, 1) {
+        Some(mut recorder) => takes_scans(heap, &mut recorder, 3) && stays(heap, &mut recorder),
+        None => false,
+    }
+}
+
+#[test]
+fn memory_stays(rt: HostRuntime) -> Result<(), Fail> {
+    let heap = LocalHeap::new(rt.alloc(), 1 << 16)?;
+    assert!(rt; stays_when_full(&heap));
+    assert_eq!(rt; heap.used(), 0);
+    Ok(())
+}

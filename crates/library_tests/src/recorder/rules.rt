@@ -1,0 +1,78 @@
+//! Rules that don't fit.
+
+use super::fixture::{blank, layout_with, one, recorder_at_100};
+use dfr_channels::{Layout, Rule, Rules, StatusChannel};
+use dfr_recorder::Recorder;
+use std::alloc::Global;
+
+fn trip(alloc: Global) -> StatusChannel {
+    StatusChannel {
+        id: blank(alloc),
+        phase: blank(alloc),
+        component: blank(alloc),
+        normal: false,
+    }
+}
+
+/// A layout of one channel of each kind.
+fn with_status(alloc: Global) -> Option<Layout> {
+    layout_with(alloc, 1000, one(alloc, trip(alloc))?)
+}
+
+const RISE: Rule = Rule::Edge {
+    channel: 0,
+    rise: true,
+};
+
+fn edges(alloc: Global) -> Option<Rules> {
+    let layout = with_status(alloc)?;
+    Rules::new(&layout, one(alloc, RISE)?).ok()
+}
+
+fn is_edge(rules: &Rules) -> bool {
+    matches!(
+        rules.list(),
+        [Rule::Edge {
+            channel: 0,
+            rise: true
+        }]
+    )
+}
+
+fn is_level(rules: &Rules) -> bool {
+    matches!(
+        rules.list(),
+        [Rule::Level {
+            channel: 0,
+            over: true,
+            threshold: 100
+        }]
+    )
+}
+
+/// Whether a recorder of one analogue channel hands these rules back and keeps its own.
+fn hands_back(recorder: &mut Recorder, edges: Rules) -> bool {
+    match recorder.set_rules(edges) {
+        Ok(()) => false,
+        Err(back) => is_edge(&back) && is_level(recorder.rules()),
+    }
+}
+
+fn refuses_edges(alloc: Global, recorder: &mut Recorder) -> bool {
+    match edges(alloc) {
+        Some(edges) => hands_back(recorder, edges),
+        None => false,
+    }
+}
+
+fn refuses(alloc: Global) -> bool {
+    match recorder_at_100(alloc, 1) {
+        Some(mut recorder) => refuses_edges(alloc, &mut recorder),
+        None => false,
+    }
+}
+
+#[test]
+fn rules_of_another_layout(rt: HostRuntime) {
+    assert!(rt; refuses(rt.alloc()));
+}

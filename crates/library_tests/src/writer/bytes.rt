@@ -1,0 +1,164 @@
+//! The bytes of small files.
+
+use crate::writer::fixture::{analog, file, give_rates, head, no_items, number, one};
+use comtrade_write::{File, Head, Kind, Rate, ascii_bytes, binary_bytes, cfg_bytes, dat_bytes};
+use dfr_channels::{AnalogChannel, Decimal, Side};
+use std::alloc::Global;
+
+/// Whether the configuration file has these bytes.
+fn is_cfg(alloc: Global, file: Option<File>, wanted: &[u8]) -> bool {
+    match file {
+        Some(file) => match cfg_bytes(alloc, &file) {
+            Ok(bytes) => bytes.as_slice() == wanted,
+            Err(_) => false,
+        },
+        None => false,
+    }
+}
+
+/// Whether the data file in ASCII form has these bytes.
+pub fn is_ascii(alloc: Global, file: &File, wanted: &[u8]) -> bool {
+    match ascii_bytes(alloc, file) {
+        Ok(bytes) => bytes.as_slice() == wanted,
+        Err(_) => false,
+    }
+}
+
+/// Whether the data file in BINARY form has these bytes.
+pub fn is_binary(alloc: Global, file: &File, wanted: &[u8]) -> bool {
+    match binary_bytes(alloc, file) {
+        Ok(bytes) => bytes.as_slice() == wanted,
+        Err(_) => false,
+    }
+}
+
+/// Whether the data file has these bytes in ASCII and in BINARY form.
+pub fn are_data(alloc: Global, file: Option<File>, ascii: &[u8], binary: &[u8]) -> bool {
+    match file {
+        Some(file) => is_ascii(alloc, &file, ascii) && is_binary(alloc, &file, binary),
+        None => false,
+    }
+}
+
+fn cfg_length(alloc: Global, file: &File) -> Option<usize> {
+    Some(cfg_bytes(alloc, file).ok()?.len())
+}
+
+fn dat_length(alloc: Global, file: &File) -> Option<usize> {
+    Some(dat_bytes(alloc, file).ok()?.len())
+}
+
+/// How many bytes the configuration file has, and the data file in the form of this kind.
+fn lengths(alloc: Global, file: Option<File>, kind: Kind) -> Option<(usize, usize)> {
+    let mut file = file?;
+    file.head.kind = kind;
+    match (cfg_length(alloc, &file), dat_length(alloc, &file)) {
+        (Some(cfg), Some(dat)) => Some((cfg, dat)),
+        _ => None,
+    }
+}
+
+#[test]
+fn cfg_of_one_channel(rt: HostRuntime) {
+    let alloc = rt.alloc();
+    let wanted =
+        b"Bay 1,DFR,1999\r\n1,1A,0D\r\n1,IA,A,,A,1,0,0,-32767,32767,1,1,P\r\n50\r\n1\r\n1000,5\r\n01/01/1970,00:00:00.001000\r\n01/01/1970,00:00:00.003000\r\nASCII\r\n1\r\n";
+    assert!(rt; is_cfg(alloc, file(alloc, 1000, 12), wanted));
+}
+
+#[test]
+fn data_of_one_channel(rt: HostRuntime) {
+    let alloc = rt.alloc();
+    let ascii = b"1,0,11\r\n2,1000,12\r\n3,2000,13\r\n4,3000,14\r\n5,4000,15\r\n\x1A";
+    let binary =
+        b"\x01\0\0\0\0\0\0\0\x0B\0\x02\0\0\0\xE8\x03\0\0\x0C\0\x03\0\0\0\xD0\x07\0\0\x0D\0\x04\0\0\0\xB8\x0B\0\0\x0E\0\x05\0\0\0\xA0\x0F\0\0\x0F\0";
+    assert!(rt; are_data(alloc, file(alloc, 1000, 12), ascii, binary));
+}
+
+#[test]
+fn data_of_the_kind(rt: HostRuntime) {
+    let alloc = rt.alloc();
+    assert!(rt; lengths(alloc, file(alloc, 1000, 12), Kind::Ascii) == Some((142, 53)));
+    assert!(rt; lengths(alloc, file(alloc, 1000, 12), Kind::Binary) == Some((143, 50)));
+}
+
+/// The scale of a channel: a, b, its skew and the primary of its transformer.
+type Scale = [Decimal; 4];
+
+fn scale() -> Option<Scale> {
+    Some([
+        Decimal::read(b"1.5E-3")?,
+        Decimal::read(b"-.5")?,
+        Decimal::read(b"0.0")?,
+        Decimal::read(b"1.50")?,
+    ])
+}
+
+/// A channel of the secondary side with this scale.
+fn scaled(alloc: Global, [a, b, skew, primary]: Scale) -> Option<AnalogChannel> {
+    let mut channel = analog(alloc)?;
+    channel.a = a;
+    channel.b = b;
+    channel.skew = skew;
+    channel.primary = primary;
+    channel.side = Side::Secondary;
+    Some(channel)
+}
+
+fn give_scaled(head: &mut Head, alloc: Global) -> bool {
+    if let Some(scale) = scale() {
+        if let Some(channel) = scaled(alloc, scale) {
+            if let Some(channels) = one(alloc, channel) {
+                head.analog = channels;
+                return true;
+            }
+        }
+    }
+    false
+}
+
+/// A scaled channel and a contact, from a leap day on and triggered in the last second that can be written, and no row.
+fn further_file(alloc: Global) -> Option<File> {
+    let mut head = head(alloc, 0, 1, 0)?;
+    head.first = 951782400000000;
+    head.trigger = 253402300798999999;
+    if give_scaled(&mut head, alloc) {
+        return Some(File {
+            head,
+            rows: no_items(alloc),
+        });
+    }
+    None
+}
+
+#[test]
+fn further_lines(rt: HostRuntime) {
+    let alloc = rt.alloc();
+    let wanted =
+        b"Bay 1,DFR,1999\r\n2,1A,1D\r\n1,IA,A,,A,0.0015,-0.5,0.0,-32767,32767,1.50,1,S\r\n1,TRIP,,,1\r\n50\r\n1\r\n1000,0\r\n29/02/2000,00:00:00.000000\r\n31/12/9999,23:59:58.999999\r\nASCII\r\n1\r\n";
+    assert!(rt; is_cfg(alloc, further_file(alloc), wanted));
+}
+
+/// No rate, a first row in the year 1 and a trigger a microsecond before 1970 began.
+fn unrated_file(alloc: Global) -> Option<File> {
+    let mut file = file(alloc, 1000, 12)?;
+    file.head.nrates = 0;
+    file.head.first = -62135596800000000;
+    file.head.trigger = -1;
+    let rate = Rate {
+        samp: number(0),
+        endsamp: 5,
+    };
+    if give_rates(&mut file.head, alloc, &[rate]) {
+        return Some(file);
+    }
+    None
+}
+
+#[test]
+fn no_rate_and_early_instants(rt: HostRuntime) {
+    let alloc = rt.alloc();
+    let wanted =
+        b"Bay 1,DFR,1999\r\n1,1A,0D\r\n1,IA,A,,A,1,0,0,-32767,32767,1,1,P\r\n50\r\n0\r\n0,5\r\n01/01/0001,00:00:00.000000\r\n31/12/1969,23:59:59.999999\r\nASCII\r\n1\r\n";
+    assert!(rt; is_cfg(alloc, unrated_file(alloc), wanted));
+}

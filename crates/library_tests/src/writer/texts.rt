@@ -1,0 +1,88 @@
+//! Texts that the writer of the configuration file refuses.
+
+use crate::writer::fixture::{analog, file, give_text, head, no_items, one, status};
+use crate::writer::values::are_faults;
+use comtrade_write::{File, WriteFault};
+use dfr_channels::{AnalogChannel, Items, StatusChannel};
+use std::alloc::Global;
+
+fn with_station(alloc: Global, station: &[u8]) -> Option<File> {
+    let mut file = file(alloc, 1000, 12)?;
+    if give_text(&mut file.head.station, alloc, station) {
+        return Some(file);
+    }
+    None
+}
+
+fn with_device(alloc: Global, device: &[u8]) -> Option<File> {
+    let mut file = file(alloc, 1000, 12)?;
+    if give_text(&mut file.head.device, alloc, device) {
+        return Some(file);
+    }
+    None
+}
+
+/// Five rows of this one channel.
+pub fn file_of_channel(alloc: Global, channel: AnalogChannel) -> Option<File> {
+    match (file(alloc, 1000, 12), one(alloc, channel)) {
+        (Some(mut file), Some(channels)) => {
+            file.head.analog = channels;
+            Some(file)
+        }
+        _ => None,
+    }
+}
+
+fn analog_with(alloc: Global, phase: &[u8], unit: &[u8]) -> Option<AnalogChannel> {
+    let mut channel = analog(alloc)?;
+    if give_text(&mut channel.phase, alloc, phase) && give_text(&mut channel.unit, alloc, unit) {
+        return Some(channel);
+    }
+    None
+}
+
+/// Five rows of a channel with this phase and this unit.
+fn with_analog(alloc: Global, phase: &[u8], unit: &[u8]) -> Option<File> {
+    file_of_channel(alloc, analog_with(alloc, phase, unit)?)
+}
+
+fn status_with(alloc: Global, phase: &[u8]) -> Option<StatusChannel> {
+    let mut channel = status(alloc)?;
+    if give_text(&mut channel.phase, alloc, phase) {
+        return Some(channel);
+    }
+    None
+}
+
+fn one_status(alloc: Global, phase: &[u8]) -> Option<Items<StatusChannel>> {
+    one(alloc, status_with(alloc, phase)?)
+}
+
+/// One analogue channel, a status channel of this phase, and no row.
+fn with_status(alloc: Global, phase: &[u8]) -> Option<File> {
+    match (head(alloc, 1, 0, 0), one_status(alloc, phase)) {
+        (Some(mut head), Some(channels)) => {
+            head.status = channels;
+            Some(File {
+                head,
+                rows: no_items(alloc),
+            })
+        }
+        _ => None,
+    }
+}
+
+fn is_refused(alloc: Global, file: Option<File>, line: u64, field: u32) -> bool {
+    let text = Some(WriteFault::Text(line, field));
+    are_faults(alloc, file, [text, None, None])
+}
+
+#[test]
+fn texts(rt: HostRuntime) {
+    let alloc = rt.alloc();
+    assert!(rt; is_refused(alloc, with_station(alloc, b"a,b"), 1, 1));
+    assert!(rt; is_refused(alloc, with_device(alloc, b"a,b"), 1, 2));
+    assert!(rt; is_refused(alloc, with_analog(alloc, b"ABC", b"A"), 3, 3));
+    assert!(rt; is_refused(alloc, with_analog(alloc, b"A", b""), 3, 5));
+    assert!(rt; is_refused(alloc, with_status(alloc, b"ABC"), 4, 3));
+}
