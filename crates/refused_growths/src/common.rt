@@ -1,118 +1,109 @@
 //! What the tests are made of.
 
-use dfr_channels::{
-    AnalogChannel, Decimal, Items, Layout, Reading, Rule, Rules, Scan, Setup, Side, StatusChannel,
-};
+use dfr_channels::{Layout, Reading, Rule, Rules, Scan, Setup};
+use dfr_script::{Command, Script, script_of};
 use fuel::Refusing;
-use std::alloc::{AllocError, Allocator, Global};
-use std::test::Fail;
+use std::alloc::{Allocator, Global};
 
 pub type Heap<'a> = &'a Refusing<Global>;
 
-pub fn text<A: Allocator + Copy>(alloc: A, bytes: &[u8]) -> Result<Items<u8, A>, AllocError> {
-    Ok(Items::of(Vec::from_slice(alloc, bytes)?))
+/// One analogue and one status channel, 1,000 scans a second from 1970 on, and rules; then four scans, a trigger, two scans that
+/// fill its record, and a take.
+pub const SCRIPT: &[u8] =
+    b"station Bay 1\ndevice DFR\nanalog IA,A,line 1,A,1,0,0,-32767,32767,1,1,P\nstatus TRIP,A,line 1,0\nfreq 50\nrate 1000\nstart 0\nlimits 2,2,6,1\nrules level 0 over 100;edge 0 rise\ngo\nscan 10/0\nscan 11/0\nscan 12/0\nscan 13/0\ntrigger\nscan 14/0\nscan 15/0\ntake\n";
+
+fn script<A: Allocator + Copy>(alloc: A) -> Option<Script<A>> {
+    script_of(alloc, SCRIPT).ok()
 }
 
-pub fn number(units: i128) -> Result<Decimal, Fail> {
-    Ok(Decimal::new(units, 0).ok_or("a number")?)
+pub fn setup<A: Allocator + Copy>(alloc: A) -> Option<Setup<A>> {
+    match script(alloc) {
+        Some(script) => Some(script.setup),
+        None => None,
+    }
 }
 
-pub fn analog<A: Allocator + Copy>(alloc: A) -> Result<AnalogChannel<A>, Fail> {
-    Ok(AnalogChannel {
-        id: text(alloc, b"IA")?,
-        phase: text(alloc, b"A")?,
-        component: text(alloc, b"line 1")?,
-        unit: text(alloc, b"A")?,
-        a: number(1)?,
-        b: number(0)?,
-        skew: number(0)?,
-        min: -32767,
-        max: 32767,
-        primary: number(1)?,
-        secondary: number(1)?,
-        side: Side::Primary,
-    })
+fn rule_list<A: Allocator + Copy>(alloc: A) -> Option<Vec<Rule, A>> {
+    match script(alloc) {
+        Some(script) => Some(script.rules),
+        None => None,
+    }
 }
 
-pub fn status<A: Allocator + Copy>(alloc: A) -> Result<StatusChannel<A>, Fail> {
-    Ok(StatusChannel {
-        id: text(alloc, b"TRIP")?,
-        phase: text(alloc, b"A")?,
-        component: text(alloc, b"line 1")?,
-        normal: false,
-    })
+pub fn commands<A: Allocator + Copy>(alloc: A) -> Option<Vec<Command<A>, A>> {
+    match script(alloc) {
+        Some(script) => Some(script.commands),
+        None => None,
+    }
 }
 
-/// One analogue and one status channel, 1,000 scans a second from 1970 on.
-pub fn setup<A: Allocator + Copy>(alloc: A) -> Result<Setup<A>, Fail> {
-    let mut channels = Vec::new(alloc);
-    channels.push(analog(alloc)?)?;
-    let mut contacts = Vec::new(alloc);
-    contacts.push(status(alloc)?)?;
-    Ok(Setup {
-        station: text(alloc, b"Bay 1")?,
-        device: text(alloc, b"DFR")?,
-        analog: Items::of(channels),
-        status: Items::of(contacts),
-        line_freq: number(50)?,
-        rate: 1000,
-        start: 0,
-    })
+pub fn layout<A: Allocator + Copy>(alloc: A) -> Option<Layout<A>> {
+    match setup(alloc) {
+        Some(setup) => Layout::new(setup).ok(),
+        None => None,
+    }
 }
 
-pub fn layout<A: Allocator + Copy>(alloc: A) -> Result<Layout<A>, Fail> {
-    Ok(Layout::new(setup(alloc)?).ok().ok_or("lawful")?)
+pub fn is_the_layout<A: Allocator>(layout: &Layout<A>) -> bool {
+    layout.station() == b"Bay 1".as_slice()
+        && layout.device() == b"DFR".as_slice()
+        && layout.analog().len() == 1
+        && layout.status().len() == 1
+        && layout.rate() == 1000
 }
 
-/// A scan of that layout.
-pub fn scan<A: Allocator + Copy>(alloc: A, x: i32, bit: bool) -> Result<Scan<A>, AllocError> {
-    let mut analog = Vec::new(alloc);
-    analog.push(Reading::Value(x))?;
-    let mut status = Vec::new(alloc);
-    status.push(bit)?;
-    Ok(Scan::new(analog, status))
+pub fn rules<A: Allocator + Copy>(alloc: A, layout: &Layout<A>) -> Option<Rules<A>> {
+    match rule_list(alloc) {
+        Some(list) => Rules::new(layout, list).ok(),
+        None => None,
+    }
 }
 
-/// At least 100, or a rising bit.
-pub fn rules<A: Allocator + Copy>(alloc: A, layout: &Layout<A>) -> Result<Rules<A>, Fail> {
-    let mut list = Vec::new(alloc);
-    list.push(Rule::Level {
+pub fn are_the_rules<A: Allocator>(rules: &Rules<A>) -> bool {
+    let level = Rule::Level {
         channel: 0,
         over: true,
         threshold: 100,
-    })?;
-    list.push(Rule::Edge {
+    };
+    let edge = Rule::Edge {
         channel: 0,
         rise: true,
-    })?;
-    Ok(Rules::new(layout, list).ok().ok_or("rules that fit")?)
+    };
+    rules.list() == [level, edge].as_slice()
+}
+
+fn readings<A: Allocator + Copy>(alloc: A, x: i32) -> Option<Vec<Reading, A>> {
+    Vec::from_slice(alloc, &[Reading::Value(x)]).ok()
+}
+
+fn bits<A: Allocator + Copy>(alloc: A, bit: bool) -> Option<Vec<bool, A>> {
+    Vec::from_slice(alloc, &[bit]).ok()
+}
+
+/// A scan of that layout.
+pub fn scan<A: Allocator + Copy>(alloc: A, x: i32, bit: bool) -> Option<Scan<A>> {
+    match (readings(alloc, x), bits(alloc, bit)) {
+        (Some(analog), Some(status)) => Some(Scan::new(analog, status)),
+        _ => None,
+    }
+}
+
+/// Adds the line where it stands here.
+fn put_line<A: Allocator>(out: &mut Vec<u8, A>, here: bool, line: &[u8]) -> bool {
+    !here || out.extend_from_slice(line).is_ok() && out.extend_from_slice(b"\r\n").is_ok()
 }
 
 /// The text with this line, counted from 1, in place of its own.
-pub fn with_line<A: Allocator + Copy>(
-    alloc: A,
-    text: &[u8],
-    n: usize,
-    line: &[u8],
-) -> Result<Vec<u8, A>, AllocError> {
+pub fn with_line<A: Allocator>(alloc: A, text: &[u8], n: usize, line: &[u8]) -> Option<Vec<u8, A>> {
     let mut out = Vec::new(alloc);
     let mut at = 1usize;
-    let mut done = false;
+    let mut all = put_line(&mut out, at == n, line);
     for byte in text {
-        if at == n {
-            if !done {
-                out.extend_from_slice(line)?;
-                done = true;
-            }
-        } else {
-            out.push(*byte)?;
-        }
+        all = all && (at == n || out.push(*byte).is_ok());
         if *byte == b'\n' {
-            if at == n {
-                out.extend_from_slice(b"\r\n")?;
-            }
             at = at.saturating_add(1);
+            all = all && put_line(&mut out, at == n, line);
         }
     }
-    Ok(out)
+    if all { Some(out) } else { None }
 }

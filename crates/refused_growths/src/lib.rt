@@ -1,5 +1,5 @@
-//! Tests that refuse each growth of a call in turn: the call then answers want of memory and has changed nothing, unless another
-//! growth made up for it or its input has a fault; and the same call with ample memory is answered as if nothing had been refused.
+//! Tests that refuse each allocation of a call in turn: the call then answers `Memory` and has changed nothing, unless another
+//! allocation made up for it or its input has a fault; and the same call with enough memory is answered as if nothing had been refused.
 #![tactic(auto)]
 
 #[cfg(test)]
@@ -16,5 +16,13 @@ mod reading;
 mod reading_back;
 #[cfg(test)]
 mod recorder;
+#[cfg(test)]
+mod refusing;
+#[cfg(test)]
+mod runs;
+#[cfg(test)]
+mod script;
+#[cfg(test)]
+mod texts;
 #[cfg(test)]
 mod writers;

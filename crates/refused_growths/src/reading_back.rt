@@ -1,155 +1,140 @@
 //! What is written and read back: a file, a record, and the records of a run.
 
+ghost use Rattle.std.specs.Prelude.{IsTrue};
+ghost use Rattle.std.specs.List.{All};
+ghost use Rattle.dfr_recorder.specs.Answers.{answer_of};
+ghost use Rattle.dfr_recorder.specs.Own.{is_own};
+ghost use Rattle.dfr_recorder.specs.Run.{IsOwnAnswer};
+
 use crate::common::Heap;
-use crate::files::{Texts, file, is_file_of, write_both};
-use crate::recorder::{recorder, steps};
+use crate::files::{file, is_file_of};
+use crate::refusing::{Outcome, is_answered, memory_if, refusals, refusals_anew, right_if};
+use crate::runs::{Start, closed, make_start, ran};
+use crate::texts::pair_in;
 use comtrade_read::{read_of_file, read_of_record, read_of_run, run_and_read};
 use comtrade_write::{File, Kind, WriteFault};
 use dfr_channels::Memory;
-use dfr_recorder::{Recorder, run};
+use dfr_recorder::{Ran, Record, Recorder};
 use fuel::Refusing;
-use std::test::Fail;
+use std::alloc::Allocator;
 
-/// How many growths of reading a file back were refused and then answered so, before it met no refusal; None where it answered
-/// otherwise.
-fn file_refusals<'a>(heap: Heap<'a>, file: &File<Heap<'a>>, texts: &Texts<'a>) -> Option<u64> {
-    for n in 1..1000u64 {
-        heap.refuse(n);
-        let result = read_of_file(heap, file);
-        let met = heap.has_refused();
-        heap.ample();
-        match result {
-            Ok(again) => {
-                if !is_file_of(heap, &again, texts) {
-                    return None;
-                }
-            }
-            Err(fault) => {
-                if !met || fault != WriteFault::Memory {
-                    return None;
-                }
-            }
-        }
-        if !met {
-            return Some(n - 1);
-        }
+fn read_file(file: &File<Heap>, kind: Kind) -> Outcome {
+    let heap = *file.rows.allocator();
+    let again = read_of_file(heap, file);
+    heap.refuse_no_more();
+    match again {
+        Ok(again) => right_if(is_file_of(heap, &again, pair_in(kind))),
+        Err(fault) => memory_if(fault == WriteFault::Memory),
     }
-    None
+}
+
+fn file_refuses(heap: Heap, kind: Kind) -> bool {
+    match file(heap, kind) {
+        Some(file) => is_answered(refusals(heap, true, || read_file(&file, kind))),
+        None => false,
+    }
 }
 
 #[test]
-fn files_read_back(rt: HostRuntime) -> Result<(), Fail> {
+fn files_read_back(rt: HostRuntime) {
     let heap = Refusing::new(rt.alloc());
-    for kind in [Kind::Ascii, Kind::Binary] {
-        let file: File<Heap> = file(&heap, kind)?;
-        let texts = write_both(&heap, &file).ok_or("memory")?;
-        assert!(rt; file_refusals(&heap, &file, &texts).is_some_and(|n| n > 0));
-    }
-    Ok(())
+    assert!(rt; file_refuses(&heap, Kind::Ascii) && file_refuses(&heap, Kind::Binary));
 }
 
-/// As `file_refusals`, of the one record that a recorder gives.
-fn record_refusals<'a>(heap: Heap<'a>, recorder: Recorder<Heap<'a>>) -> Option<u64> {
+/// A record, and the recorder that gave it.
+#[derive(Drop)]
+struct Taken<A: Allocator> {
+    recorder: Recorder<A>,
+    scans: Record<A>,
+}
+
+fn read_record<A: Allocator + Copy>(alloc: A, of: &Taken<A>) -> Outcome
+    requires { IsTrue (is_own of.now.recorder.layout of.now.scans) }
+{
+    match read_of_record(alloc, of.recorder.layout(), &of.scans, Kind::Binary) {
+        Ok(file) => right_if(file.rows.items().len() == 5),
+        Err(Memory) => Outcome::Memory,
+    }
+}
+
+fn taken_refuses<'a>(heap: Heap<'a>, recorder: Recorder<Heap<'a>>) -> bool {
     let mut recorder = recorder;
-    let record = recorder.take()?;
-    for n in 1..1000u64 {
-        heap.refuse(n);
-        let result = read_of_record(heap, recorder.layout(), &record, Kind::Binary);
-        let met = heap.has_refused();
-        heap.ample();
-        match result {
-            Ok(file) => {
-                if file.rows.items().len() != record.scans().len() {
-                    return None;
-                }
-            }
-            Err(Memory) => {
-                if !met {
-                    return None;
-                }
-            }
+    match recorder.take() {
+        Some(record) => {
+            let of = Taken {
+                recorder,
+                scans: record,
+            };
+            is_answered(refusals(heap, true, || read_record(heap, &of)))
         }
-        if !met {
-            return Some(n - 1);
-        }
+        None => false,
     }
-    None
+}
+
+fn record_refuses(heap: Heap) -> bool {
+    match closed(heap) {
+        Some(recorder) => taken_refuses(heap, recorder),
+        None => false,
+    }
 }
 
 #[test]
-fn records_read_back(rt: HostRuntime) -> Result<(), Fail> {
+fn records_read_back(rt: HostRuntime) {
     let heap = Refusing::new(rt.alloc());
-    let mut steps = steps(&heap)?;
-    let _take = steps.pop_back();
-    let ran = run(&heap, recorder(&heap)?, steps);
-    assert!(rt; record_refusals(&heap, ran.recorder).is_some_and(|n| n > 0));
-    Ok(())
+    assert!(rt; record_refuses(&heap));
 }
 
-fn is_one_record<'a>(files: &[File<Heap<'a>>]) -> bool {
+fn is_one_record<A: Allocator>(files: &[File<A>]) -> bool {
     match files {
         [file] => file.rows.items().len() == 5,
         _ => false,
     }
 }
 
-/// A run whose files are wanted again after each refusal.
-#[test]
-fn runs_read_back(rt: HostRuntime) -> Result<(), Fail> {
-    let heap = Refusing::new(rt.alloc());
-    let ran = run(&heap, recorder(&heap)?, steps(&heap)?);
-    let mut refusals = 0u64;
-    for n in 1..1000u64 {
-        heap.refuse(n);
-        let result = read_of_run(&heap, &ran, Kind::Ascii);
-        let met = heap.has_refused();
-        heap.ample();
-        match result {
-            Ok(files) => assert!(rt; is_one_record(&files)),
-            Err(Memory) => {
-                assert!(rt; met);
-                refusals = n;
-            }
-        }
-        if !met {
-            break;
-        }
+fn read_run<A: Allocator + Copy>(alloc: A, ran: &Ran<A>) -> Outcome
+    requires { All (λ answer. IsOwnAnswer ran.now.recorder.layout (answer_of answer)) ran.now.answers.items }
+{
+    match read_of_run(alloc, ran, Kind::Ascii) {
+        Ok(files) => right_if(is_one_record(&files)),
+        Err(Memory) => Outcome::Memory,
     }
-    assert!(rt; refusals > 0);
-    Ok(())
 }
 
-/// A run and its files in one call. Where a growth of the run is refused, the files are those of the steps made.
-#[test]
-fn runs_made_and_read_back(rt: HostRuntime) -> Result<(), Fail> {
-    let heap = Refusing::new(rt.alloc());
-    let mut refusals = 0u64;
-    for n in 1..1000u64 {
-        let recorder: Recorder<Heap> = recorder(&heap)?;
-        let steps = steps(&heap)?;
-        heap.refuse(n);
-        let (ran, result) = run_and_read(&heap, recorder, steps, Kind::Binary);
-        let met = heap.has_refused();
-        heap.ample();
-        match result {
-            Ok(files) => {
-                let whole = ran.stopped.is_none();
-                assert!(rt; whole || met);
-                assert!(rt;
-                    if whole {
-                        is_one_record(&files)
-                    } else {
-                        files.is_empty()
-                    }
-                );
-            }
-            Err(Memory) => assert!(rt; met),
-        }
-        if !met {
-            break;
-        }
-        refusals = n;
+fn run_refuses(heap: Heap) -> bool {
+    match ran(heap) {
+        Some(ran) => is_answered(refusals(heap, true, || read_run(heap, &ran))),
+        None => false,
     }
-    assert!(rt; refusals > 0);
-    Ok(())
+}
+
+/// A run whose files are wanted again after each refusal.
+#[test]
+fn runs_read_back(rt: HostRuntime) {
+    let heap = Refusing::new(rt.alloc());
+    assert!(rt; run_refuses(&heap));
+}
+
+/// Where the run was stopped, none of its steps took a record.
+fn outcome_of<A: Allocator>(ran: &Ran<A>, files: &[File<A>]) -> Outcome {
+    if ran.stopped.is_none() {
+        right_if(is_one_record(files))
+    } else {
+        memory_if(files.is_empty())
+    }
+}
+
+fn make_and_read<A: Allocator + Copy>(alloc: A, of: Start<A>) -> Outcome {
+    let (ran, read) = run_and_read(alloc, of.recorder, of.steps, Kind::Binary);
+    match read {
+        Ok(files) => outcome_of(&ran, &files),
+        Err(Memory) => memory_if(ran.stopped.is_none()),
+    }
+}
+
+/// A run and its files in one call. Where an allocation of the run is refused, the files are those of the steps made.
+#[test]
+fn runs_made_and_read_back(rt: HostRuntime) {
+    let heap = Refusing::new(rt.alloc());
+    let seen = refusals_anew(&heap, || make_start(&heap), |of| make_and_read(&heap, of));
+    assert!(rt; is_answered(seen));
 }

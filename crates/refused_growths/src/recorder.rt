@@ -1,221 +1,253 @@
 //! The recorder: what a refusal leaves, and that the call made again goes on as if nothing had happened.
 
-use crate::common::{Heap, layout, rules, scan};
-use dfr_channels::{Layout, Memory, Rules};
-use dfr_recorder::{
-    Answer, Hit, Limits, Ran, Recorder, ScanRefusal, Scanned, Step, TriggerFault, run,
-};
+use crate::common::{Heap, are_the_rules, is_the_layout, layout, rules, scan};
+use crate::refusing::{Outcome, is_each_answered, memory_if, refusals, refusals_anew, right_if};
+use dfr_channels::{Layout, Memory, Rules, Scan};
+use dfr_recorder::{Hit, Limits, Record, Recorder, ScanRefusal, Scanned, TriggerFault};
 use fuel::Refusing;
 use std::alloc::Allocator;
-use std::collections::VecDeque;
-use std::test::Fail;
+
+/// What a recorder is made of.
+#[derive(Drop)]
+struct Parts<A: Allocator> {
+    alloc: A,
+    layout: Layout<A>,
+    rules: Rules<A>,
+}
+
+fn parts_of<A: Allocator + Copy>(alloc: A, layout: Layout<A>) -> Option<Parts<A>> {
+    match rules(alloc, &layout) {
+        Some(rules) => Some(Parts {
+            alloc,
+            layout,
+            rules,
+        }),
+        None => None,
+    }
+}
+
+fn make_parts<A: Allocator + Copy>(alloc: A) -> Option<Parts<A>> {
+    match layout(alloc) {
+        Some(layout) => parts_of(alloc, layout),
+        None => None,
+    }
+}
+
+/// Two scans before and two after a trigger, six at most, one record on the shelf.
+fn limits<A: Allocator>(layout: &Layout<A>) -> Option<Limits> {
+    Limits::new(layout, 2, 2, 6, 1).ok()
+}
 
 type Made<A> = Result<Recorder<A>, (Memory, Layout<A>, Rules<A>)>;
 
-/// Two scans before and two after a trigger, six at most, one record on the shelf.
 fn made<A: Allocator + Copy>(alloc: A, layout: Layout<A>, rules: Rules<A>) -> Option<Made<A>> {
-    let limits = Limits::new(&layout, 2, 2, 6, 1).ok()?;
-    if !limits.fits(&layout) || !rules.fits(&layout) {
-        return None;
+    if let Some(limits) = limits(&layout)
+        && limits.fits(&layout)
+        && rules.fits(&layout)
+    {
+        Some(Recorder::new(alloc, layout, limits, rules))
+    } else {
+        None
     }
-    Some(Recorder::new(alloc, layout, limits, rules))
 }
 
-pub fn recorder<A: Allocator + Copy>(alloc: A) -> Result<Recorder<A>, Fail> {
-    let layout = layout(alloc)?;
-    let rules = rules(alloc, &layout)?;
-    let made = made(alloc, layout, rules).ok_or("lawful limits")?;
-    Ok(made.ok().ok_or("ample memory")?)
+pub fn recorder<A: Allocator + Copy>(alloc: A) -> Option<Recorder<A>> {
+    match make_parts(alloc) {
+        Some(of) => match made(alloc, of.layout, of.rules) {
+            Some(Ok(recorder)) => Some(recorder),
+            _ => None,
+        },
+        None => None,
+    }
+}
+
+fn is_made<A: Allocator>(made: Option<Made<A>>) -> bool {
+    match made {
+        Some(Ok(recorder)) => recorder.scans() == 0,
+        _ => false,
+    }
+}
+
+/// Makes a recorder. Where there is no memory for it its parts come back, and serve a second time.
+fn make<A: Allocator + Copy>(of: Parts<A>) -> Outcome {
+    let Parts {
+        alloc,
+        layout,
+        rules,
+    } = of;
+    match made(alloc, layout, rules) {
+        Some(Err((Memory, layout, rules))) => memory_if(
+            is_the_layout(&layout) && are_the_rules(&rules) && is_made(made(alloc, layout, rules)),
+        ),
+        made => right_if(is_made(made)),
+    }
 }
 
 #[test]
-fn new_refused(rt: HostRuntime) -> Result<(), Fail> {
+fn new_refused(rt: HostRuntime) {
     let heap = Refusing::new(rt.alloc());
-    let mut layout: Layout<Heap> = layout(&heap)?;
-    let mut rules: Rules<Heap> = rules(&heap, &layout)?;
-    let mut refusals = 0u64;
-    for n in 1..100u64 {
-        heap.refuse(n);
-        let result = made(&heap, layout, rules).ok_or("lawful limits")?;
-        let met = heap.has_refused();
-        heap.ample();
-        match result {
-            Ok(made) => {
-                assert!(rt; !met);
-                assert_eq!(rt; made.scans(), 0);
-                break;
-            }
-            Err((fault, layout_back, rules_back)) => {
-                assert!(rt; met);
-                assert_eq!(rt; fault, Memory);
-                assert_eq!(rt; layout_back.station(), b"Bay 1".as_slice());
-                assert_eq!(rt; rules_back.list().len(), 2);
-                layout = layout_back;
-                rules = rules_back;
-                refusals = n;
-            }
-        }
-    }
-    assert!(rt; refusals > 0);
-    Ok(())
+    let seen = refusals_anew(&heap, || make_parts(&heap), |of| make(of));
+    assert!(rt; is_each_answered(seen));
 }
 
-/// What each of eight scans is answered, whatever growth was refused before.
-const ANSWERS: [(i32, bool, Option<u64>); 8] = [
-    (10, false, None),
-    (11, false, None),
-    (12, false, None),
-    (100, true, None),
-    (13, false, None),
-    (14, false, Some(1)),
-    (15, false, None),
-    (16, false, None),
+/// What a scan is answered, whatever allocation was refused before, and whether it allocates.
+#[derive(Clone, Copy)]
+struct Wanted {
+    x: i32,
+    fired: bool,
+    closed: Option<u64>,
+    allocates: bool,
+}
+
+fn is_answer(scanned: Scanned, wanted: Wanted) -> bool {
+    scanned.trigger.is_some() == wanted.fired && scanned.closed == wanted.closed
+}
+
+/// Makes the step of a scan, which comes back where there is no memory for it.
+fn step<A: Allocator + Copy>(
+    recorder: &mut Recorder<A>,
+    next: &mut Option<Scan<A>>,
+    wanted: Wanted,
+) -> Outcome {
+    let held = recorder.held();
+    match next.take() {
+        Some(scan) => match recorder.scan(scan) {
+            Ok(scanned) => right_if(is_answer(scanned, wanted)),
+            Err((fault, back)) => {
+                *next = Some(back);
+                memory_if(fault == ScanRefusal::Memory && recorder.held() == held)
+            }
+        },
+        None => Outcome::Wrong,
+    }
+}
+
+fn scan_goes_on<'a>(heap: Heap<'a>, recorder: &mut Recorder<Heap<'a>>, wanted: Wanted) -> bool {
+    let mut next = scan(heap, wanted.x, false);
+    match refusals(heap, false, || step(recorder, &mut next, wanted)) {
+        Some(seen) => seen.answered == wanted.allocates && !seen.made_up,
+        None => false,
+    }
+}
+
+/// Scans 1 to 5.
+pub fn is_the_record<A: Allocator>(record: &Record<A>) -> bool {
+    record.scans().len() == 5 && record.extent().first == 1
+}
+
+fn gives_the_record<A: Allocator>(recorder: &mut Recorder<A>) -> bool {
+    match recorder.take() {
+        Some(record) => is_the_record(&record),
+        None => false,
+    }
+}
+
+const SCANS: [(i32, bool, Option<u64>, bool); 8] = [
+    (10, false, None, false),
+    (11, false, None, false),
+    (12, false, None, false),
+    (100, true, None, true),
+    (13, false, None, true),
+    (14, false, Some(1), true),
+    (15, false, None, false),
+    (16, false, None, false),
 ];
 
-fn is_answer(scanned: Scanned, fired: bool, closed: Option<u64>) -> bool {
-    scanned.trigger.is_some() == fired && scanned.closed == closed
-}
-
-#[test]
-fn scans_refused(rt: HostRuntime) -> Result<(), Fail> {
-    let heap = Refusing::new(rt.alloc());
-    let mut recorder: Recorder<Heap> = recorder(&heap)?;
-    let mut refusals = 0u64;
-    for (x, fired, closed) in ANSWERS {
-        let mut next = scan(&heap, x, false)?;
-        for n in 1..100u64 {
-            let held = recorder.held();
-            heap.refuse(n);
-            let result = recorder.scan(next);
-            let met = heap.has_refused();
-            heap.ample();
-            match result {
-                Ok(scanned) => {
-                    assert!(rt; !met, "scan {x} over refusal {n}");
-                    assert!(rt; is_answer(scanned, fired, closed));
-                    break;
-                }
-                Err((fault, back)) => {
-                    assert!(rt; met);
-                    assert_eq!(rt; fault, ScanRefusal::Memory);
-                    assert_eq!(rt; recorder.held(), held);
-                    refusals = n;
-                    next = back;
-                }
-            }
-        }
+fn scans_go_on<'a>(heap: Heap<'a>, recorder: &mut Recorder<Heap<'a>>) -> bool {
+    let mut all = true;
+    for (x, fired, closed, allocates) in SCANS {
+        let wanted = Wanted {
+            x,
+            fired,
+            closed,
+            allocates,
+        };
+        all = scan_goes_on(heap, recorder, wanted) && all;
     }
-    assert!(rt; refusals > 0);
-    let record = recorder.take().ok_or("a record")?;
-    assert_eq!(rt; record.scans().len(), 5);
-    assert_eq!(rt; record.extent().first, 1);
-    Ok(())
+    all && gives_the_record(recorder)
 }
 
-/// Scans that meet no open record and open none, and what takes no memory, while every growth is refused.
+fn recorder_goes_on(heap: Heap) -> bool {
+    match recorder(heap) {
+        Some(mut recorder) => scans_go_on(heap, &mut recorder),
+        None => false,
+    }
+}
+
+/// This test and `runs_refused` refuse a recorder that keeps every scan in a hidden list, which no contract sees: where the list
+/// can't grow and the scan is answered all the same, another allocation than the recorder's was refused.
 #[test]
-fn idle_scans_take_none(rt: HostRuntime) -> Result<(), Fail> {
+fn scans_refused(rt: HostRuntime) {
     let heap = Refusing::new(rt.alloc());
-    let mut recorder: Recorder<Heap> = recorder(&heap)?;
-    let first = scan(&heap, 1, false)?;
-    let second = scan(&heap, 2, false)?;
+    assert!(rt; recorder_goes_on(&heap));
+}
+
+fn is_scanned<A: Allocator + Copy>(recorder: &mut Recorder<A>, scan: Option<Scan<A>>) -> bool {
+    match scan {
+        Some(scan) => recorder.scan(scan).is_ok(),
+        None => false,
+    }
+}
+
+/// What doesn't allocate is answered while every allocation is refused.
+fn is_idle<'a>(
+    heap: Heap<'a>,
+    recorder: &mut Recorder<Heap<'a>>,
+    first: Option<Scan<Heap<'a>>>,
+    second: Option<Scan<Heap<'a>>>,
+) -> bool {
     heap.refuse_all();
-    assert!(rt; recorder.scan(first).is_ok());
-    assert!(rt; recorder.scan(second).is_ok());
-    assert!(rt; recorder.take().is_none());
-    assert_eq!(rt; recorder.trigger().err(), Some(TriggerFault::Memory));
-    assert!(rt; !recorder.is_recording());
+    is_scanned(recorder, first)
+        && is_scanned(recorder, second)
+        && recorder.take().is_none()
+        && recorder.trigger().err() == Some(TriggerFault::Memory)
+        && !recorder.is_recording()
+}
+
+fn idles<'a>(heap: Heap<'a>, recorder: &mut Recorder<Heap<'a>>) -> bool {
+    let idle = is_idle(heap, recorder, scan(heap, 1, false), scan(heap, 2, false));
     heap.ample();
-    assert_eq!(rt; recorder.trigger().ok(), Some(Hit::Opened(1)));
-    Ok(())
+    idle && recorder.trigger().ok() == Some(Hit::Opened(1))
+}
+
+fn recorder_idles(heap: Heap) -> bool {
+    match recorder(heap) {
+        Some(mut recorder) => idles(heap, &mut recorder),
+        None => false,
+    }
+}
+
+/// Scans that meet no open record and open none, and what takes no memory, while every allocation is refused.
+#[test]
+fn idle_scans_take_none(rt: HostRuntime) {
+    let heap = Refusing::new(rt.alloc());
+    assert!(rt; recorder_idles(&heap));
+}
+
+fn trigger<A: Allocator + Copy>(recorder: &mut Recorder<A>) -> Outcome {
+    match recorder.trigger() {
+        Ok(hit) => right_if(hit == Hit::Opened(1)),
+        Err(fault) => memory_if(fault == TriggerFault::Memory && !recorder.is_recording()),
+    }
+}
+
+/// Opens a record of two scans before the last.
+fn triggers<'a>(heap: Heap<'a>, recorder: &mut Recorder<Heap<'a>>) -> bool {
+    is_scanned(recorder, scan(heap, 10, false))
+        && is_scanned(recorder, scan(heap, 11, false))
+        && is_scanned(recorder, scan(heap, 12, false))
+        && is_each_answered(refusals(heap, false, || trigger(recorder)))
+}
+
+fn recorder_triggers(heap: Heap) -> bool {
+    match recorder(heap) {
+        Some(mut recorder) => triggers(heap, &mut recorder),
+        None => false,
+    }
 }
 
 #[test]
-fn triggers_refused(rt: HostRuntime) -> Result<(), Fail> {
+fn triggers_refused(rt: HostRuntime) {
     let heap = Refusing::new(rt.alloc());
-    let mut recorder: Recorder<Heap> = recorder(&heap)?;
-    for x in [10, 11, 12] {
-        assert!(rt; recorder.scan(scan(&heap, x, false)?).is_ok());
-    }
-    let mut refusals = 0u64;
-    for n in 1..100u64 {
-        heap.refuse(n);
-        let result = recorder.trigger();
-        let met = heap.has_refused();
-        heap.ample();
-        match result {
-            Ok(hit) => {
-                assert!(rt; !met);
-                assert_eq!(rt; hit, Hit::Opened(1));
-                break;
-            }
-            Err(fault) => {
-                assert!(rt; met);
-                assert_eq!(rt; fault, TriggerFault::Memory);
-                assert!(rt; !recorder.is_recording());
-                refusals = n;
-            }
-        }
-    }
-    assert!(rt; refusals > 0);
-    Ok(())
-}
-
-/// Four scans, a trigger, two scans that fill the record, and a take.
-pub fn steps<A: Allocator + Copy>(alloc: A) -> Result<VecDeque<Step<A>, A>, Fail> {
-    let mut all = VecDeque::new(alloc);
-    for x in [10, 11, 12, 13] {
-        all.push_back(Step::Scan(scan(alloc, x, false)?))
-            .ok()
-            .ok_or("a step")?;
-    }
-    all.push_back(Step::Trigger).ok().ok_or("a step")?;
-    for x in [14, 15] {
-        all.push_back(Step::Scan(scan(alloc, x, false)?))
-            .ok()
-            .ok_or("a step")?;
-    }
-    all.push_back(Step::Take).ok().ok_or("a step")?;
-    Ok(all)
-}
-
-/// A run that is refused a growth stops at a step, and goes on from it to the same answers.
-#[test]
-fn runs_refused(rt: HostRuntime) -> Result<(), Fail> {
-    let heap = Refusing::new(rt.alloc());
-    let mut stops = 0u64;
-    for n in 1..100u64 {
-        let recorder: Recorder<Heap> = recorder(&heap)?;
-        let steps = steps(&heap)?;
-        heap.refuse(n);
-        let Ran {
-            recorder,
-            answers,
-            stopped,
-            mut rest,
-        } = run(&heap, recorder, steps);
-        let met = heap.has_refused();
-        heap.ample();
-        let before = answers.len();
-        match stopped {
-            Some(step) => {
-                assert!(rt; met);
-                rest.push_front(step).ok().ok_or("a step")?;
-                stops = n;
-            }
-            None => assert!(rt; !met),
-        }
-        let on = run(&heap, recorder, rest);
-        assert!(rt; on.stopped.is_none());
-        assert_eq!(rt; before + on.answers.len(), 8);
-        if !met {
-            break;
-        }
-        match on.answers.last() {
-            Some(Answer::Take(Some(record))) => assert_eq!(rt; record.scans().len(), 5),
-            _ => assert!(rt; false),
-        }
-    }
-    assert!(rt; stops > 0);
-    Ok(())
+    assert!(rt; recorder_triggers(&heap));
 }

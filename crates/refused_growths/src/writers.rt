@@ -1,178 +1,212 @@
-//! The writers on a file of many channels, and on files that they refuse.
+//! The writers: on a record's file, on a file of many channels, and on files that they refuse.
 
-use crate::common::{Heap, analog, number, status, text};
-use crate::files::{file, write_both, writer_refusals, written};
-use comtrade_read::Part;
-use comtrade_write::{File, Kind, Rate, Row, WriteFault};
-use dfr_channels::{Items, Reading};
+use crate::common::Heap;
+use crate::files::file;
+use crate::refusing::{Outcome, is_answered, memory_if, refusals, right_if};
+use crate::texts::{Pair, pair_in};
+use comtrade_read::read;
+use comtrade_write::{File, Kind, WriteFault, ascii_bytes, binary_bytes, cfg_bytes, dat_bytes};
+use dfr_channels::Items;
 use fuel::Refusing;
-use std::alloc::{AllocError, Allocator};
-use std::test::Fail;
+use std::alloc::Allocator;
 
-fn row<A: Allocator + Copy>(
-    alloc: A,
-    number: u64,
-    stamp: u64,
-    values: &[Reading],
-    bits: &[bool],
-) -> Result<Row<A>, AllocError> {
-    Ok(Row {
-        number,
-        stamp: Some(stamp),
-        values: Items::of(Vec::from_slice(alloc, values)?),
-        bits: Items::of(Vec::from_slice(alloc, bits)?),
-    })
+#[derive(Clone, Copy)]
+enum Writer {
+    Cfg,
+    Ascii,
+    Binary,
+    Dat,
 }
 
-/// The file of a record with these rows in place of its own, of which its head counts so many.
-fn of_rows<A: Allocator + Copy>(
-    alloc: A,
-    kind: Kind,
-    count: u64,
-    rows: Vec<Row<A>, A>,
-) -> Result<File<A>, Fail> {
-    let mut rates = Vec::new(alloc);
-    rates.push(Rate {
-        samp: number(1000)?,
-        endsamp: count,
-    })?;
-    let mut made = file(alloc, kind)?;
-    made.head.rates = Items::of(rates);
-    made.rows = Items::of(rows);
-    Ok(made)
-}
-
-/// One row of six analogue and six status channels.
-fn six_and_six<A: Allocator + Copy>(alloc: A, kind: Kind) -> Result<File<A>, Fail> {
-    let mut channels = Vec::new(alloc);
-    let mut contacts = Vec::new(alloc);
-    for _ in 0..6u32 {
-        channels.push(analog(alloc)?)?;
-        contacts.push(status(alloc)?)?;
+fn written<A: Allocator + Copy>(file: &File<A>, writer: Writer) -> Result<Vec<u8, A>, WriteFault> {
+    let alloc = *file.rows.allocator();
+    match writer {
+        Writer::Cfg => cfg_bytes(alloc, file),
+        Writer::Ascii => ascii_bytes(alloc, file),
+        Writer::Binary => binary_bytes(alloc, file),
+        Writer::Dat => dat_bytes(alloc, file),
     }
-    let values = [
-        Reading::Value(-760),
-        Reading::Value(1274),
-        Reading::Value(72),
-        Reading::Value(61),
-        Reading::Value(-140),
-        Reading::Value(-502),
-    ];
-    let bits = [false, false, false, false, true, true];
-    let mut rows = Vec::new(alloc);
-    rows.push(row(alloc, 5, 667, &values, &bits)?)?;
-    let mut made = of_rows(alloc, kind, 1, rows)?;
-    made.head.analog = Items::of(channels);
-    made.head.status = Items::of(contacts);
-    Ok(made)
 }
 
-/// That row as it is written in either form.
+fn write<A: Allocator + Copy>(file: &File<A>, writer: Writer, wanted: &[u8]) -> Outcome {
+    match written(file, writer) {
+        Ok(bytes) => right_if(bytes.as_slice() == wanted),
+        Err(fault) => memory_if(fault == WriteFault::Memory),
+    }
+}
+
+/// The file is written so.
+fn refuses<'a>(heap: Heap<'a>, file: &File<Heap<'a>>, writer: Writer, wanted: &[u8]) -> bool {
+    is_answered(refusals(heap, true, || write(file, writer, wanted)))
+}
+
+/// Both data writers write these, whatever the head's kind is.
+fn both_refuse<'a>(heap: Heap<'a>, file: &File<Heap<'a>>, ascii: &[u8], binary: &[u8]) -> bool {
+    refuses(heap, file, Writer::Ascii, ascii) && refuses(heap, file, Writer::Binary, binary)
+}
+
+fn pair_refuses<'a>(heap: Heap<'a>, file: &File<Heap<'a>>, texts: Pair) -> bool {
+    refuses(heap, file, Writer::Cfg, texts.cfg) && refuses(heap, file, Writer::Dat, texts.dat)
+}
+
+fn kind_refuses(heap: Heap, kind: Kind) -> bool {
+    match file(heap, kind) {
+        Some(file) => {
+            pair_refuses(heap, &file, pair_in(kind))
+                && both_refuse(
+                    heap,
+                    &file,
+                    pair_in(Kind::Ascii).dat,
+                    pair_in(Kind::Binary).dat,
+                )
+        }
+        None => false,
+    }
+}
+
+#[test]
+fn writers_refused(rt: HostRuntime) {
+    let heap = Refusing::new(rt.alloc());
+    assert!(rt; kind_refuses(&heap, Kind::Ascii) && kind_refuses(&heap, Kind::Binary));
+}
+
+/// One row of six analogue and six status channels, in either form.
+const SIX_AND_SIX: &[u8] =
+    b"Bay 1,DFR,1999\r\n12,6A,6D\r\n1,IA,A,line 1,A,1,0,0,-32767,32767,1,1,P\r\n2,IB,B,line 1,A,1,0,0,-32767,32767,1,1,P\r\n3,IC,C,line 1,A,1,0,0,-32767,32767,1,1,P\r\n4,UA,A,line 1,V,1,0,0,-32767,32767,1,1,S\r\n5,UB,B,line 1,V,1,0,0,-32767,32767,1,1,S\r\n6,UC,C,line 1,V,1,0,0,-32767,32767,1,1,S\r\n1,TRIP,A,line 1,0\r\n2,TRIP,B,line 1,0\r\n3,TRIP,C,line 1,0\r\n4,CLOSED,A,line 1,1\r\n5,CLOSED,B,line 1,1\r\n6,CLOSED,C,line 1,1\r\n50\r\n1\r\n1000,1\r\n01/01/1970,00:00:00.001000\r\n01/01/1970,00:00:00.001000\r\nASCII\r\n1\r\n";
+
 const ASCII: &[u8] = b"5,667,-760,1274,72,61,-140,-502,0,0,0,0,1,1\r\n\x1A";
 
 const BINARY: &[u8] = b"\x05\0\0\0\x9B\x02\0\0\x08\xFD\xFA\x04\x48\0\x3D\0\x74\xFF\x0A\xFE\x30\0";
 
-#[test]
-fn six_and_six_refused(rt: HostRuntime) -> Result<(), Fail> {
-    let heap = Refusing::new(rt.alloc());
-    for (kind, dat) in [(Kind::Ascii, ASCII), (Kind::Binary, BINARY)] {
-        let wide: File<Heap> = six_and_six(&heap, kind)?;
-        let texts = write_both(&heap, &wide).ok_or("memory")?;
-        let of_cfg = writer_refusals(&heap, &wide, Part::Cfg, &texts.cfg);
-        assert!(rt; of_cfg.is_some_and(|n| n > 0));
-        let of_dat = writer_refusals(&heap, &wide, Part::Dat, dat);
-        assert!(rt; of_dat.is_some_and(|n| n > 0));
+fn six_and_six_refuse(heap: Heap) -> bool {
+    match read(heap, SIX_AND_SIX, ASCII) {
+        Ok(file) => {
+            refuses(heap, &file, Writer::Cfg, SIX_AND_SIX)
+                && both_refuse(heap, &file, ASCII, BINARY)
+        }
+        Err(_) => false,
     }
-    Ok(())
 }
 
-/// As `writer_refusals`, of a file with this fault: each refusal is answered so, or by the fault that is there, and the same
-/// call over ample memory by the fault.
-fn fault_refusals<'a>(
+#[test]
+fn six_and_six_refused(rt: HostRuntime) {
+    let heap = Refusing::new(rt.alloc());
+    assert!(rt; six_and_six_refuse(&heap));
+}
+
+/// Writes a file that has this fault.
+fn refuse<A: Allocator + Copy>(file: &File<A>, writer: Writer, wanted: WriteFault) -> Outcome {
+    match written(file, writer) {
+        Ok(_) => Outcome::Wrong,
+        Err(WriteFault::Memory) => Outcome::Memory,
+        Err(fault) => right_if(fault == wanted),
+    }
+}
+
+/// Data with a value and with a stamp in their second rows that the BINARY form can't say.
+const WIDE: &[u8] =
+    b"1,0,11,0\r\n2,1000,32768,0\r\n3,2000,13,0\r\n4,3000,14,0\r\n5,4000,15,0\r\n\x1A";
+
+const LATE: &[u8] =
+    b"1,0,11,0\r\n2,4294967295,12,0\r\n3,2000,13,0\r\n4,3000,14,0\r\n5,4000,15,0\r\n\x1A";
+
+fn row_refuses(heap: Heap, dat: &[u8], fault: WriteFault) -> bool {
+    match read(heap, pair_in(Kind::Ascii).cfg, dat) {
+        Ok(file) => is_answered(refusals(heap, true, || { refuse(&file, Writer::Binary, fault) })),
+        Err(_) => false,
+    }
+}
+
+#[test]
+fn faulty_rows_refused(rt: HostRuntime) {
+    let heap = Refusing::new(rt.alloc());
+    assert!(rt; row_refuses(&heap, WIDE, WriteFault::Value(2, 1)));
+    assert!(rt; row_refuses(&heap, LATE, WriteFault::Stamp(2)));
+}
+
+/// The same pair with four rows in place of five.
+const FOUR_ROWS: Pair = Pair {
+    cfg: b"Bay 1,DFR,1999\r\n2,1A,1D\r\n1,IA,A,line 1,A,1,0,0,-32767,32767,1,1,P\r\n1,TRIP,A,line 1,0\r\n50\r\n1\r\n1000,4\r\n01/01/1970,00:00:00.001000\r\n01/01/1970,00:00:00.003000\r\nASCII\r\n1\r\n",
+    dat: b"1,0,11,0\r\n2,1000,12,0\r\n3,2000,13,0\r\n4,3000,14,0\r\n\x1A",
+};
+
+/// The head of five rows over four.
+fn over_four<A: Allocator>(five: File<A>, four: Option<File<A>>) -> Option<File<A>> {
+    match four {
+        Some(four) => Some(File {
+            head: five.head,
+            rows: four.rows,
+        }),
+        None => None,
+    }
+}
+
+fn short<A: Allocator + Copy>(alloc: A) -> Option<File<A>> {
+    match file(alloc, Kind::Ascii) {
+        Some(five) => over_four(five, read(alloc, FOUR_ROWS.cfg, FOUR_ROWS.dat).ok()),
+        None => None,
+    }
+}
+
+fn may_refuse<'a>(
     heap: Heap<'a>,
     file: &File<Heap<'a>>,
-    part: Part,
-    wanted: WriteFault,
-) -> Option<u64> {
-    let mut refusals = 0u64;
-    for n in 1..1000u64 {
-        heap.refuse(n);
-        let result = written(heap, file, part);
-        let met = heap.has_refused();
-        heap.ample();
-        let fault = result.err()?;
-        if met && fault == WriteFault::Memory {
-            refusals = n;
-        } else if fault != wanted {
-            return None;
-        }
-        if !met {
-            return Some(refusals);
-        }
-        if written(heap, file, part).err() != Some(wanted) {
-            return None;
-        }
+    writer: Writer,
+    fault: WriteFault,
+) -> bool {
+    refusals(heap, true, || refuse(file, writer, fault)).is_some()
+}
+
+fn each_may_refuse<'a>(heap: Heap<'a>, short: &File<Heap<'a>>) -> bool {
+    may_refuse(heap, short, Writer::Cfg, WriteFault::Shape)
+        && may_refuse(heap, short, Writer::Ascii, WriteFault::Shape)
+        && may_refuse(heap, short, Writer::Binary, WriteFault::Shape)
+}
+
+fn short_refuses(heap: Heap) -> bool {
+    match short(heap) {
+        Some(short) => each_may_refuse(heap, &short),
+        None => false,
     }
-    None
 }
 
-/// Two rows of a value and a bit, the second of them with this stamp and this value.
-fn two_rows<A: Allocator + Copy>(alloc: A, stamp: u64, value: i32) -> Result<File<A>, Fail> {
-    let mut rows = Vec::new(alloc);
-    rows.push(row(alloc, 1, 0, &[Reading::Value(11)], &[true])?)?;
-    rows.push(row(alloc, 2, stamp, &[Reading::Value(value)], &[false])?)?;
-    of_rows(alloc, Kind::Binary, 2, rows)
-}
-
-/// The same without its second row.
-fn one_of_two<A: Allocator + Copy>(alloc: A, kind: Kind) -> Result<File<A>, Fail> {
-    let mut rows = Vec::new(alloc);
-    rows.push(row(alloc, 1, 0, &[Reading::Value(11)], &[true])?)?;
-    of_rows(alloc, kind, 2, rows)
-}
-
-/// A value and a stamp that the BINARY form can't say, behind a row that it can.
+/// A row too few, for each of the three writers. They may find that before they allocate.
 #[test]
-fn faulty_rows_refused(rt: HostRuntime) -> Result<(), Fail> {
+fn short_files_refused(rt: HostRuntime) {
     let heap = Refusing::new(rt.alloc());
-    for (stamp, value, fault) in [
-        (1000u64, 32768i32, WriteFault::Value(2, 1)),
-        (4294967295, 12, WriteFault::Stamp(2)),
-    ] {
-        let faulty: File<Heap> = two_rows(&heap, stamp, value)?;
-        let refusals = fault_refusals(&heap, &faulty, Part::Dat, fault);
-        assert!(rt; refusals.is_some_and(|n| n > 0));
-    }
-    Ok(())
+    assert!(rt; short_refuses(&heap));
 }
 
-/// A row too few, for each of the three writers. They may find that before they ask for memory.
-#[test]
-fn short_files_refused(rt: HostRuntime) -> Result<(), Fail> {
-    let heap = Refusing::new(rt.alloc());
-    for (kind, part) in [
-        (Kind::Ascii, Part::Cfg),
-        (Kind::Ascii, Part::Dat),
-        (Kind::Binary, Part::Dat),
-    ] {
-        let short: File<Heap> = one_of_two(&heap, kind)?;
-        assert!(rt; fault_refusals(&heap, &short, part, WriteFault::Shape).is_some());
-    }
-    Ok(())
+/// The file of a station whose name has a comma in it.
+fn renamed<A: Allocator>(file: File<A>, station: Items<u8, A>) -> File<A> {
+    let mut other = file;
+    other.head.station = station;
+    other
 }
 
-/// Two rows of a station whose name has a comma in it.
-fn named<A: Allocator + Copy>(alloc: A) -> Result<File<A>, Fail> {
-    let mut made = two_rows(alloc, 1000, 12)?;
-    made.head.station = text(alloc, b"a,b")?;
-    Ok(made)
+fn named<A: Allocator + Copy>(file: File<A>) -> Option<File<A>> {
+    match Vec::from_slice(*file.rows.allocator(), b"a,b") {
+        Ok(station) => Some(renamed(file, Items::of(station))),
+        Err(_) => None,
+    }
+}
+
+fn comma<A: Allocator + Copy>(alloc: A) -> Option<File<A>> {
+    match file(alloc, Kind::Ascii) {
+        Some(file) => named(file),
+        None => None,
+    }
+}
+
+fn name_refuses(heap: Heap) -> bool {
+    match comma(heap) {
+        Some(file) => may_refuse(heap, &file, Writer::Cfg, WriteFault::Text(1, 1)),
+        None => false,
+    }
 }
 
 #[test]
-fn comma_in_a_name_refused(rt: HostRuntime) -> Result<(), Fail> {
+fn comma_in_a_name_refused(rt: HostRuntime) {
     let heap = Refusing::new(rt.alloc());
-    let file: File<Heap> = named(&heap)?;
-    let fault = WriteFault::Text(1, 1);
-    assert!(rt; fault_refusals(&heap, &file, Part::Cfg, fault).is_some());
-    Ok(())
+    assert!(rt; name_refuses(&heap));
 }
