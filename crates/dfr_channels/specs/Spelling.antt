@@ -1,6 +1,7 @@
 -- How a field spells a text, a whole number and a decimal.
 use Rattle.std.specs.Prelude.{ℕ, ◌+◌, ◌-◌, ◌*◌, ◌^◌, Bool, true, false, ◌||◌, ◌&&◌, ◌==◌, nat_lt, nat_le, if◌then◌else◌, List, [], ◌∷◌, ◌++◌, length, reverse, position, Option, Some, None, is_some, ℤ, pos, negsuc, neg_ℤ, ◌<ℤ◌, ◌≤◌, min}
 use Rattle.std.specs.List.{before_first, after_first}
+use Rattle.std.specs.Ordering.{eq_of_both, int_eq, on}
 use Rattle.std.specs.Str.{all_ascii_digits}
 use Rattle.std.specs.Str.Parse.{digits_value, starts_with_minus, without_leading_sign, signed_digits_value}
 
@@ -30,6 +31,10 @@ whole_number bs =
 pub record Number : Type 0 where
   pub units : ℤ
   pub places : ℕ
+
+-- the same units and the same places
+abbrev pub is_same : Number → Number → Bool
+is_same = eq_of_both (on (λ n. n.units) int_eq) (on (λ n. n.places) ◌==◌)
 
 abbrev pub is_point : ℕ → Bool
 is_point b = b == 46

@@ -7,7 +7,7 @@ use crate::number::{LIMIT, capped_number, without_sign};
 use std::marker::Model;
 
 /// The number units / 10^places.
-#[derive(Clone, Copy, Debug, PartialEq, Eq)]
+#[derive(Clone, Copy, Debug, Eq)]
 pub struct Decimal {
     units: i128,
     places: u8,
@@ -23,6 +23,26 @@ impl Model for Decimal {
     ghost invariant = { λ d. IsNumber (record { units = d.units; places = d.places }) };
 
     ghost inverse = { λ n. record { units = n.units; places = n.places } };
+}
+
+impl PartialEq for Decimal {
+    ghost use Rattle.std.specs.Prelude.{◌≡◌};
+    ghost use Rattle.std.specs.Bool.{Decides};
+    ghost use Rattle.std.specs.Cmp.Rules.{comparing};
+    ghost use Rattle.std.proofs.Common.{rules};
+    ghost use Rattle.dfr_channels.specs.Spelling.{is_same};
+
+    ghost eq = { is_same };
+
+    ghost laws = { Prim.search (comparing, rules) };
+
+    /// Whether units and places are the same: 1.5 isn't 1.50.
+    fn eq(&self, other: &Decimal) -> bool
+        ensures value { result ≡ is_same self.now other.now }
+        ensures parts { Decides result ((self.now.units ≡ other.now.units) × (self.now.places ≡ other.now.places)) }
+    {
+        other.units == self.units && other.places == self.places
+    }
 }
 
 impl Decimal {

@@ -1,5 +1,8 @@
 //! When one rule holds.
 
+ghost use Rattle.std.specs.Prelude.{◌≡◌, option_copied};
+ghost use Rattle.dfr_channels.specs.Firing as spec;
+
 use crate::{Layout, Reading, Scan};
 use std::alloc::Allocator;
 
@@ -18,6 +21,37 @@ pub enum Rule {
     },
 }
 
+/// Whether there is a reading, and it is at least (`over`) or at most (else) the threshold.
+fn is_beyond(over: bool, threshold: i32, reading: Option<Reading>) -> bool
+    ensures { result ≡ spec.is_beyond over threshold reading }
+{
+    match reading {
+        Some(Reading::Value(x)) => { if over { threshold <= x } else { x <= threshold } }
+        Some(Reading::Missing) => false,
+        None => false,
+    }
+}
+
+/// Whether there are both bits, and they rise to 1 (`rise`) or fall to 0 (else).
+fn has_changed(rise: bool, before: Option<bool>, now: Option<bool>) -> bool
+    ensures { result ≡ spec.has_changed rise before now }
+{
+    let (Some(was), Some(is)) = (before, now) else {
+        return false;
+    };
+    if rise { !was && is } else { was && !is }
+}
+
+/// A channel's bit in the scan before, where there is one.
+fn bit_before<A: Allocator>(before: Option<&Scan<A>>, channel: usize) -> Option<bool>
+    ensures { result ≡ spec.bit_before (option_copied before.entry) channel }
+{
+    match before {
+        Some(scan) => scan.status().get(channel).copied(),
+        None => None,
+    }
+}
+
 impl Rule {
     ghost use Rattle.std.specs.Prelude.{◌≡◌, option_copied};
     ghost use Rattle.dfr_channels.specs.Firing.{holds, names_channel, names_one_of};
@@ -32,29 +66,16 @@ impl Rule {
                 channel,
                 over,
                 threshold,
-            } => match now.analog().get(*channel as usize) {
-                Some(Reading::Value(x)) => {
-                    if *over {
-                        threshold <= x
-                    } else {
-                        x <= threshold
-                    }
-                }
-                Some(Reading::Missing) => false,
-                None => false,
-            },
-            Rule::Edge { channel, rise } => {
-                let Some(before) = before else {
-                    return false;
-                };
-                let Some(was) = before.status().get(*channel as usize) else {
-                    return false;
-                };
-                let Some(is) = now.status().get(*channel as usize) else {
-                    return false;
-                };
-                if *rise { !*was && *is } else { *was && !*is }
-            }
+            } => is_beyond(
+                *over,
+                *threshold,
+                now.analog().get(*channel as usize).copied(),
+            ),
+            Rule::Edge { channel, rise } => has_changed(
+                *rise,
+                bit_before(before, *channel as usize),
+                now.status().get(*channel as usize).copied(),
+            ),
         }
     }
 
