@@ -1,26 +1,24 @@
 -- Writing some bytes after others.
-use Rattle.std.proofs.Common.{ℕ, List, [], ◌++◌, Option, Some, None, sym, ap, ◌∙◌, append_assoc}
+use Rattle.std.proofs.Common.{◌≡◌, refl, ℕ, List, [], ◌++◌, Option, Some, None, Result, Ok, Err, sym, ap, ◌∙◌, subst, append_assoc, take, drop}
+use Rattle.std.specs.Prelude.{OnOk, IfErr}
+use Rattle.std.proofs.KnownBytes.{Appends-nil, Appends-trans}
 use Rattle.std.specs.Io.KnownBytes.{Appends}
-use Rattle.std.proofs.lemmas.List.{append-nil}
-use Rattle.dfr_program.specs.Writing.{Grows}
-
-appends_none : (a : Option (List ℕ)) → Appends a a []
-appends_none None = tt
-appends_none (Some xs) = sym (append-nil xs)
-
-appends_both : (a b c : Option (List ℕ)) (x y : List ℕ) → Appends a b x → Appends b c y → Appends a c (x ++ y)
-appends_both None b c x y h k = tt
-appends_both (Some xs) None c x y h k = absurd h
-appends_both (Some xs) (Some ys) None x y h k = absurd k
-appends_both (Some xs) (Some ys) (Some zs) x y h k = k ∙ ap (λ v. v ++ y) h ∙ append_assoc xs x y
+use Rattle.std.proofs.lemmas.List.{append-nil, take-append-drop}
+use Rattle.dfr_program.specs.declared.fault.RunFault.{RunFault}
+use Rattle.dfr_program.specs.declared.fault.RunFault.TheVariants.{Memory, Output, Input}
+use Rattle.dfr_program.specs.Writing.{Grows, Wrote, Cut, Printed}
 
 pub grows_none : (a : Option (List ℕ)) → Grows a a
-grows_none a = record { text = []; appends = appends_none a }
+grows_none a = record { text = []; appends = Appends-nil a }
 
 pub grows_by : (a b : Option (List ℕ)) (x : List ℕ) → Appends a b x → Grows a b
 grows_by a b x h = record { text = x; appends = h }
 
 pub grows_on : (a b c : Option (List ℕ)) → Grows a b → Grows b c → Grows a c
-grows_on a b c g h = record { text = g.text ++ h.text; appends = appends_both a b c g.text h.text g.appends h.appends }
+grows_on a b c g h = record { text = g.text ++ h.text; appends = Appends-trans a b c g.text h.text g.appends h.appends }
 
-pub ruleset growing = (grows_none, grows_by, grows_on)
+-- some first bytes of a text
+pub cut_some : (a b : Option (List ℕ)) (n : ℕ) (t : List ℕ) → Appends a b (take n t) → Cut a b t
+cut_some a b n t h = record { rest = drop n t; wrote = record { front = take n t; appends = h; whole = take-append-drop n t } }
+
+pub ruleset growing = (grows_none, grows_by, grows_on, cut_some)

@@ -1,4 +1,6 @@
-mod Adding
+mod Answering
 mod Growing
+mod Printing
+mod Replaying
 mod Stamps
 mod Writable

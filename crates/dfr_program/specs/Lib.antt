@@ -5,3 +5,6 @@ pub mod Texts
 pub mod Writing
 pub mod ReadTexts
 pub mod Pairs
+pub mod Transcript
+pub mod Answering
+pub mod Replays

@@ -11,6 +11,7 @@ mod output;
 mod pair;
 mod prepared;
 mod reading;
+mod records;
 mod replay;
 mod text;
 

@@ -1,22 +1,23 @@
-//! Text that is gathered, and goes to a writer where it has become much.
+//! Text that is buffered, and written where it exceeds 64 KiB.
 
 #![tactic(auto, using(crate::proofs::Growing::growing))]
 
 ghost use Rattle.std.specs.Prelude.{◌≡◌, ◌≢◌, [], Err, OnOk, IfErr, length};
 ghost use Rattle.std.specs.Io.KnownBytes.{Appends};
-ghost use Rattle.dfr_program.specs.Writing.{Adds, Grows};
+ghost use Rattle.dfr_program.specs.Writing.{Cut, Grows, Printed};
 
 use crate::fault::RunFault;
 use comtrade_write::write_all_of;
 use std::alloc::Allocator;
 use std::io::Write;
 
-/// How much text is gathered before it is written.
-const GATHERED: usize = 65_536;
+/// How much text is buffered before it is written.
+const BUFFERED: usize = 65_536;
 
 /// Writes the bytes.
 pub(crate) fn write_out<W: Write>(w: &mut W, bytes: &[u8]) -> Result<(), RunFault>
     ensures all { OnOk result (Appends (W.contents w.old) (W.contents w.new) bytes.now) }
+    ensures part { IfErr result (λ _. Cut (W.contents w.old) (W.contents w.new) bytes.now) }
     ensures grows { Grows (W.contents w.old) (W.contents w.new) }
     ensures fault { IfErr result (λ fault. fault ≡ RunFault.Output) }
     ensures none { length bytes.now ≡ 0 → w.new ≡ w.old }
@@ -27,9 +28,10 @@ pub(crate) fn write_out<W: Write>(w: &mut W, bytes: &[u8]) -> Result<(), RunFaul
     }
 }
 
-/// Writes what was gathered, which is gone then. It is also where the writer failed: what such a write left is never sent again.
+/// Writes what was buffered, which is gone then. It is also where the writer failed: what such a write left is never sent again.
 pub(crate) fn send<A: Allocator, W: Write>(w: &mut W, out: &mut Vec<u8, A>) -> Result<(), RunFault>
     ensures all { OnOk result (Appends (W.contents w.old) (W.contents w.new) out.old.items) }
+    ensures part { IfErr result (λ _. Cut (W.contents w.old) (W.contents w.new) out.old.items) }
     ensures grows { Grows (W.contents w.old) (W.contents w.new) }
     ensures fault { IfErr result (λ fault. fault ≡ RunFault.Output) }
     ensures gone { out.new.items ≡ [] }
@@ -40,37 +42,21 @@ pub(crate) fn send<A: Allocator, W: Write>(w: &mut W, out: &mut Vec<u8, A>) -> R
     written
 }
 
-/// Writes what was gathered, where it has become much.
-pub(crate) fn send_much<A: Allocator, W: Write>(
+/// Whether so many bytes are written at once.
+pub(crate) fn is_much(count: usize) -> bool {
+    count >= BUFFERED
+}
+
+/// Writes what was buffered, where it exceeds 64 KiB.
+pub(crate) fn flush_if_full<A: Allocator, W: Write>(
     w: &mut W,
     out: &mut Vec<u8, A>,
 ) -> Result<(), RunFault>
-    ensures adds { OnOk result (Adds (W.contents w.old) out.old.items (W.contents w.new) out.new.items []) }
-    ensures grows { Grows (W.contents w.old) (W.contents w.new) }
+    ensures printed { Printed result (W.contents w.old) out.old.items (W.contents w.new) out.new.items [] }
     ensures fault { IfErr result (λ fault. fault ≡ RunFault.Output) }
-    ensures once { result ≡ Err RunFault.Output → out.new.items ≡ [] }
 {
-    if out.len() < GATHERED {
+    if !is_much(out.len()) {
         return Ok(());
     }
     send(w, out)
-}
-
-/// Puts the bytes behind what was gathered; many are written there, and not copied.
-pub(crate) fn put_bytes<A: Allocator, W: Write>(
-    w: &mut W,
-    out: &mut Vec<u8, A>,
-    bytes: &[u8],
-) -> Result<(), RunFault>
-    ensures adds { OnOk result (Adds (W.contents w.old) out.old.items (W.contents w.new) out.new.items bytes.now) }
-    ensures grows { Grows (W.contents w.old) (W.contents w.new) }
-    ensures fault { IfErr result (λ fault. fault ≢ RunFault.Input) }
-    ensures once { result ≡ Err RunFault.Output → out.new.items ≡ [] }
-{
-    if bytes.len() < GATHERED {
-        out.extend_from_slice(bytes)?;
-        return Ok(());
-    }
-    send(w, out)?;
-    write_out(w, bytes)
 }

@@ -2,11 +2,17 @@
 
 #![tactic(auto, using(crate::proofs::Growing::growing))]
 
-ghost use Rattle.std.specs.Prelude.{◌≡◌, ◌≢◌, true, false, not, is_some, Err, Some, IfOk, IfErr, IfSome, OnOk};
+ghost use Rattle.std.specs.Prelude.{◌≡◌, ◌≢◌, ◌≤◌, ◌⊎◌, true, false, not, is_some, [], length, map, Err, Some, IfOk, IfErr, IfSome, OnOk};
 ghost use Rattle.std.specs.Io.KnownBytes.{Appends};
+ghost use Rattle.dfr_channels.specs.Lines.{lines};
+ghost use Rattle.dfr_recorder.specs.History.{Opening};
+ghost use Rattle.dfr_recorder.specs.Kept.{kept};
+ghost use Rattle.dfr_script.specs.Commands.{parts_of};
+ghost use Rattle.dfr_script.specs.Scripts.{script_value};
 ghost use Rattle.dfr_program.specs.Faults.{script_fault};
 ghost use Rattle.dfr_program.specs.FaultTexts.{PrintsFault, fault_text};
-ghost use Rattle.dfr_program.specs.Writing.{Grows};
+ghost use Rattle.dfr_program.specs.Replays.{Written, PrintsAnswers, PrintsFirst, CutAt};
+ghost use Rattle.dfr_program.specs.Writing.{Cut, Grows};
 
 use crate::commands::answer_all;
 use crate::fault::RunFault;
@@ -18,7 +24,7 @@ use comtrade_write::Kind;
 use std::alloc::Allocator;
 use std::io::{Read, Write};
 
-/// Answers the commands, and writes all that was answered, also where memory was wanted in between. After a write that failed
+/// Answers the commands, and writes all that was answered, also where memory was refused in between. After a write that failed
 /// nothing is left, so nothing more is written.
 fn run_commands<A: Allocator + Copy, W: Write>(
     alloc: A,
@@ -26,9 +32,8 @@ fn run_commands<A: Allocator + Copy, W: Write>(
     kind: Kind,
     w: &mut W,
 ) -> Result<bool, RunFault>
-    ensures grows { Grows (W.contents w.old) (W.contents w.new) }
+    ensures printed { (o : Opening) → kept o [] ≡ prepared.recorder → Written result kind o (map parts_of prepared.commands.items) (W.contents w.old) (W.contents w.new) }
     ensures whole { IfOk result (λ done. done ≡ true) }
-    ensures fault { IfErr result (λ fault. fault ≢ RunFault.Input) }
 {
     let Prepared { recorder, commands } = prepared;
     let mut out = Vec::new(alloc);
@@ -43,6 +48,8 @@ fn print_fault<A: Allocator, W: Write>(alloc: A, fault: Fault, w: &mut W) -> Res
     ensures text { OnOk result (Appends (W.contents w.old) (W.contents w.new) (fault_text fault)) }
     ensures grows { Grows (W.contents w.old) (W.contents w.new) }
     ensures none { IfOk result (λ done. done ≡ false) }
+    ensures memory { result ≡ Err RunFault.Memory → W.contents w.new ≡ W.contents w.old }
+    ensures output { result ≡ Err RunFault.Output → Cut (W.contents w.old) (W.contents w.new) (fault_text fault) }
     ensures fault { IfErr result (λ fault. fault ≢ RunFault.Input) }
 {
     let mut out = Vec::new(alloc);
@@ -61,6 +68,9 @@ fn replay_text<A: Allocator + Copy, W: Write>(
     ensures grows { Grows (W.contents w.old) (W.contents w.new) }
     ensures whole { IfOk result (λ done. is_some (script_fault text.items) ≡ not done) }
     ensures printed { IfOk result (λ done. done ≡ false → PrintsFault (script_fault text.items) (W.contents w.old) (W.contents w.new)) }
+    ensures answers { IfOk result (λ done. done ≡ true → PrintsAnswers kind (script_value (lines text.items)) (W.contents w.old) (W.contents w.new)) }
+    ensures memory { result ≡ Err RunFault.Memory → Appends (W.contents w.old) (W.contents w.new) [] ⊎ PrintsFirst kind (script_value (lines text.items)) (W.contents w.old) (W.contents w.new) }
+    ensures output { result ≡ Err RunFault.Output → CutAt kind (script_fault text.items) (script_value (lines text.items)) (W.contents w.old) (W.contents w.new) }
     ensures fault { IfErr result (λ fault. fault ≢ RunFault.Input) }
 {
     match prepared_of(alloc, &text) {
@@ -86,6 +96,10 @@ pub fn replay_over<A: Allocator + Copy, R: Read, W: Write>(
     ensures grows { Grows (W.contents w.old) (W.contents w.new) }
     ensures whole { IfOk result (λ done. IfSome (R.remaining r.old) (λ text. is_some (script_fault text) ≡ not done)) }
     ensures printed { IfOk result (λ done. done ≡ false → IfSome (R.remaining r.old) (λ text. PrintsFault (script_fault text) (W.contents w.old) (W.contents w.new))) }
+    ensures answers { IfOk result (λ done. done ≡ true → IfSome (R.remaining r.old) (λ text. PrintsAnswers kind (script_value (lines text)) (W.contents w.old) (W.contents w.new))) }
+    ensures memory { result ≡ Err RunFault.Memory → IfSome (R.remaining r.old) (λ text. Appends (W.contents w.old) (W.contents w.new) [] ⊎ PrintsFirst kind (script_value (lines text)) (W.contents w.old) (W.contents w.new)) }
+    ensures output { result ≡ Err RunFault.Output → IfSome (R.remaining r.old) (λ text. CutAt kind (script_fault text) (script_value (lines text)) (W.contents w.old) (W.contents w.new)) }
+    ensures short { IfOk result (λ _. IfSome (R.remaining r.old) (λ text. length text ≤ 16777216)) }
     ensures input { result ≡ Err RunFault.Input → w.new ≡ w.old }
 {
     let text = read_all(alloc, r)?;

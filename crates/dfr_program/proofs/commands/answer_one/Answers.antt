@@ -1,5 +1,5 @@
-use Rattle.dfr_program.proofs.Growing.{grows_on}
+use Rattle.dfr_program.proofs.Answering.{prints_sent}
 use Rattle.dfr_program.proofs.commands.answer_one.Goals as goal
 
-pub returns-clause-grows : goal.returns-clause-grows
-returns-clause-grows g c = grows_on _ _ _ c.answer.ensures.grows c.send_much.ensures.grows
+pub returns : goal.returns
+returns g c = prints_sent (tt {0}) c.flush_if_full.result _ _ _ _ _ _ _ _ _ _ c.in_ok-answer.ensures c.flush_if_full.ensures.printed c.flush_if_full.ensures.fault
