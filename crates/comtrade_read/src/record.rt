@@ -1,11 +1,12 @@
 //! Files and records that are written and read back.
 
-ghost use Rattle.std.specs.Prelude.{◌≡◌, ◌++◌, IfOk, IfErr, IfSome, IsTrue, length, map, take, option_to_list, false, None, []};
+ghost use Rattle.std.specs.Prelude.{◌≡◌, ◌≢◌, ◌≤◌, ◌++◌, vec_capacity, IfOk, IfErr, IfSome, IsTrue, length, map, take, option_to_list, false, None, []};
 ghost use Rattle.std.specs.List.{All};
 ghost use Rattle.dfr_channels.specs.Faults.{◌or◌};
 ghost use Rattle.dfr_recorder.specs.Own.{is_own};
 ghost use Rattle.dfr_recorder.specs.Steps.{step_of};
 ghost use Rattle.dfr_recorder.specs.Answers.{answer_of, is_memory};
+ghost use Rattle.dfr_recorder.specs.Memory.{WantsMemory};
 ghost use Rattle.dfr_recorder.specs.Run.{IsRun, IsOwnAnswer};
 ghost use Rattle.comtrade_write.specs.Cfg.{cfg};
 ghost use Rattle.comtrade_write.specs.Data.{dat, dat_refusal};
@@ -146,6 +147,10 @@ pub fn run_and_read<A: Allocator + Copy>(
     ensures opening { (result.0.recorder.layout ≡ recorder.layout)
         × (result.0.recorder.limits ≡ recorder.limits) }
     ensures whole { result.0.stopped ≡ None → result.0.rest.items ≡ [] }
+    ensures wanted { result.0.answers.items ≢ []
+        → IfSome result.0.stopped (λ step. WantsMemory result.0.recorder (step_of step)) }
+    ensures room { length steps.items ≤ vec_capacity result.0.answers
+        → IfSome result.0.stopped (λ step. WantsMemory result.0.recorder (step_of step)) }
     ensures files { IfOk result.1 (λ files. files.items ≡ files_taken recorder.layout kind (map answer_of result.0.answers.items)) }
     ensures reads { IfOk result.1 (λ files. All (λ f. Reads (cfg f.head) (dat kind f) f) files.items) }
 {
