@@ -39,7 +39,7 @@ impl PartialEq for Decimal {
     /// Whether units and places are the same: 1.5 isn't 1.50.
     fn eq(&self, other: &Decimal) -> bool
         ensures value { result ≡ is_same self.now other.now }
-        ensures parts { Decides result ((self.now.units ≡ other.now.units) × (self.now.places ≡ other.now.places)) }
+        ensures same { Decides result (self.now ≡ other.now) }
     {
         other.units == self.units && other.places == self.places
     }
