@@ -32,6 +32,3 @@ pub use rules::{RuleFault, Rules};
 pub use scan::{Reading, Scan};
 pub use setup::{Place, Setup, SetupFault};
 pub use text::trim;
-
-#[cfg(test)]
-mod tests;

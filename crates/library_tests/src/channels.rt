@@ -1,1 +1,6 @@
 //! Set-ups, scans, rules and spellings.
+
+mod copies;
+mod rules;
+mod setups;
+mod spellings;

@@ -1,6 +1,6 @@
 //! Set-ups and their refusals, copies, and which scans fit.
 
-use crate::{
+use dfr_channels::{
     AnalogChannel, Decimal, Items, Layout, Place, Reading, Scan, ScanFault, Setup, SetupFault,
     Side, StatusChannel,
 };
@@ -11,33 +11,51 @@ fn text(alloc: Global, bytes: &[u8]) -> Result<Items<u8>, AllocError> {
     Ok(Items::of(Vec::from_slice(alloc, bytes)?))
 }
 
+fn two_texts(
+    alloc: Global,
+    first: &[u8],
+    second: &[u8],
+) -> Result<(Items<u8>, Items<u8>), AllocError> {
+    let first = text(alloc, first)?;
+    Ok((first, text(alloc, second)?))
+}
+
 fn number(units: i128) -> Result<Decimal, Fail> {
     Ok(Decimal::new(units, 0).ok_or("a number")?)
 }
 
+/// Five numbers, no two of them equal.
+fn numbers() -> Result<[Decimal; 5], Fail> {
+    Ok([number(1)?, number(2)?, number(3)?, number(4)?, number(5)?])
+}
+
 fn analog(alloc: Global, unit: &[u8], min: i32, max: i32) -> Result<AnalogChannel, Fail> {
+    let [a, b, skew, primary, secondary] = numbers()?;
+    let (id, phase) = two_texts(alloc, b"IA", b"A")?;
+    let (component, unit) = two_texts(alloc, b"Line 1", unit)?;
     Ok(AnalogChannel {
-        id: text(alloc, b"IA")?,
-        phase: text(alloc, b"A")?,
-        component: text(alloc, b"")?,
-        unit: text(alloc, unit)?,
-        a: number(1)?,
-        b: number(0)?,
-        skew: number(0)?,
+        id,
+        phase,
+        component,
+        unit,
+        a,
+        b,
+        skew,
         min,
         max,
-        primary: number(1)?,
-        secondary: number(1)?,
-        side: Side::Primary,
+        primary,
+        secondary,
+        side: Side::Secondary,
     })
 }
 
 fn status(alloc: Global, phase: &[u8]) -> Result<StatusChannel, Fail> {
+    let (id, phase) = two_texts(alloc, b"TRIP", phase)?;
     Ok(StatusChannel {
-        id: text(alloc, b"TRIP")?,
-        phase: text(alloc, phase)?,
-        component: text(alloc, b"")?,
-        normal: false,
+        id,
+        phase,
+        component: text(alloc, b"Bay 1")?,
+        normal: true,
     })
 }
 
@@ -63,21 +81,39 @@ fn contacts(alloc: Global, count: u32, last: &[u8]) -> Result<Items<StatusChanne
     Ok(Items::of(all))
 }
 
-/// One analogue channel of 16 bits, 1,000 scans a second from 1970 on.
-fn setup(alloc: Global, bits: u32) -> Result<Setup, Fail> {
-    Ok(Setup {
-        station: text(alloc, b"Bay 1")?,
-        device: text(alloc, b"DFR")?,
-        analog: one_analog(alloc, b"A", -32767, 32767)?,
-        status: contacts(alloc, bits, b"")?,
-        line_freq: number(50)?,
+/// 1,000 scans a second of these channels, from 1970 on.
+fn setup_of(
+    names: (Items<u8>, Items<u8>),
+    analog: Items<AnalogChannel>,
+    status: Items<StatusChannel>,
+    line_freq: Decimal,
+) -> Setup {
+    Setup {
+        station: names.0,
+        device: names.1,
+        analog,
+        status,
+        line_freq,
         rate: 1000,
         start: 0,
-    })
+    }
+}
+
+/// One analogue channel of 16 bits and so many status channels.
+fn setup(alloc: Global, bits: u32) -> Result<Setup, Fail> {
+    let line_freq = number(50)?;
+    let names = two_texts(alloc, b"Bay 1", b"DFR")?;
+    let analog = one_analog(alloc, b"A", -32767, 32767)?;
+    let status = contacts(alloc, bits, b"")?;
+    Ok(setup_of(names, analog, status, line_freq))
+}
+
+fn layout_of(setup: Setup) -> Result<Layout, Fail> {
+    Ok(Layout::new(setup).ok().ok_or("lawful")?)
 }
 
 pub fn layout(alloc: Global, bits: u32) -> Result<Layout, Fail> {
-    Ok(Layout::new(setup(alloc, bits)?).ok().ok_or("lawful")?)
+    layout_of(setup(alloc, bits)?)
 }
 
 fn fault(setup: Setup) -> Option<SetupFault> {
@@ -87,16 +123,21 @@ fn fault(setup: Setup) -> Option<SetupFault> {
     }
 }
 
+/// The first fault under these names, at no scans a second.
+fn fault_under(names: (Items<u8>, Items<u8>), mut setup: Setup) -> Option<SetupFault> {
+    setup.station = names.0;
+    setup.device = names.1;
+    setup.rate = 0;
+    fault(setup)
+}
+
 fn fault_of_names(
     alloc: Global,
     station: &[u8],
     device: &[u8],
 ) -> Result<Option<SetupFault>, Fail> {
-    let mut named = setup(alloc, 0)?;
-    named.station = text(alloc, station)?;
-    named.device = text(alloc, device)?;
-    named.rate = 0;
-    Ok(fault(named))
+    let names = two_texts(alloc, station, device)?;
+    Ok(fault_under(names, setup(alloc, 0)?))
 }
 
 #[test]
@@ -108,11 +149,15 @@ fn refused_names(rt: HostRuntime) -> Result<(), Fail> {
     Ok(())
 }
 
-fn fault_of_clock(alloc: Global, rate: u32, start: i64) -> Result<Option<SetupFault>, Fail> {
+fn clocked(alloc: Global, rate: u32, start: i64) -> Result<Setup, Fail> {
     let mut clocked = setup(alloc, 0)?;
     clocked.rate = rate;
     clocked.start = start;
-    Ok(fault(clocked))
+    Ok(clocked)
+}
+
+fn fault_of_clock(alloc: Global, rate: u32, start: i64) -> Result<Option<SetupFault>, Fail> {
+    Ok(fault(clocked(alloc, rate, start)?))
 }
 
 #[test]
@@ -122,15 +167,19 @@ fn refused_clocks(rt: HostRuntime) -> Result<(), Fail> {
     Ok(())
 }
 
+fn fault_with_analog(mut setup: Setup, analog: Items<AnalogChannel>) -> Option<SetupFault> {
+    setup.analog = analog;
+    fault(setup)
+}
+
 fn fault_of_analog(
     alloc: Global,
     unit: &[u8],
     min: i32,
     max: i32,
 ) -> Result<Option<SetupFault>, Fail> {
-    let mut channels = setup(alloc, 0)?;
-    channels.analog = one_analog(alloc, unit, min, max)?;
-    Ok(fault(channels))
+    let setup = setup(alloc, 0)?;
+    Ok(fault_with_analog(setup, one_analog(alloc, unit, min, max)?))
 }
 
 #[test]
@@ -142,11 +191,16 @@ fn refused_analog_channels(rt: HostRuntime) -> Result<(), Fail> {
     Ok(())
 }
 
+/// The first fault of a set-up with these channels alone.
+fn fault_with_status(mut setup: Setup, status: Items<StatusChannel>) -> Option<SetupFault> {
+    setup.analog = Items::of(Vec::new(*setup.station.allocator()));
+    setup.status = status;
+    fault(setup)
+}
+
 fn fault_of_contacts(alloc: Global, count: u32, last: &[u8]) -> Result<Option<SetupFault>, Fail> {
-    let mut channels = setup(alloc, 0)?;
-    channels.analog = Items::of(Vec::new(alloc));
-    channels.status = contacts(alloc, count, last)?;
-    Ok(fault(channels))
+    let setup = setup(alloc, 0)?;
+    Ok(fault_with_status(setup, contacts(alloc, count, last)?))
 }
 
 #[test]
@@ -172,51 +226,6 @@ fn many_contacts(rt: HostRuntime) -> Result<(), Fail> {
     Ok(())
 }
 
-fn is_same(one: &Layout, other: &Layout) -> bool {
-    one.station() == other.station()
-        && one.device() == other.device()
-        && one.analog().len() == other.analog().len()
-        && one.status().len() == other.status().len()
-}
-
-fn is_same_clock(one: &Layout, other: &Layout) -> bool {
-    one.rate() == other.rate()
-        && one.start() == other.start()
-        && one.line_freq() == other.line_freq()
-}
-
-fn copy_of(layout: &Layout) -> Result<Layout, Fail> {
-    Ok(layout.try_clone().ok().ok_or("memory")?)
-}
-
-#[test]
-fn copied_layout(rt: HostRuntime) -> Result<(), Fail> {
-    let made = layout(rt.alloc(), 1)?;
-    let copy = copy_of(&made)?;
-    assert!(rt; is_same(&made, &copy));
-    assert!(rt; is_same_clock(&made, &copy));
-    Ok(())
-}
-
-pub fn scan(alloc: Global, readings: &[Reading], bits: &[bool]) -> Result<Scan, AllocError> {
-    Ok(Scan::new(
-        Vec::from_slice(alloc, readings)?,
-        Vec::from_slice(alloc, bits)?,
-    ))
-}
-
-fn is_scan(scan: &Scan, readings: &[Reading], bits: &[bool]) -> bool {
-    scan.analog() == readings && scan.status() == bits
-}
-
-#[test]
-fn copied_scan(rt: HostRuntime) -> Result<(), Fail> {
-    let made = scan(rt.alloc(), &[Reading::Missing], &[true])?;
-    let copy = made.try_clone().ok().ok_or("memory")?;
-    assert!(rt; is_scan(&copy, &[Reading::Missing], &[true]));
-    Ok(())
-}
-
 fn scan_fault(
     alloc: Global,
     readings: &[Reading],
@@ -224,6 +233,11 @@ fn scan_fault(
 ) -> Result<Option<ScanFault>, Fail> {
     let scan = scan(alloc, readings, bits)?;
     Ok(layout(alloc, 0)?.check(&scan).err())
+}
+
+pub fn scan(alloc: Global, readings: &[Reading], bits: &[bool]) -> Result<Scan, AllocError> {
+    let readings = Vec::from_slice(alloc, readings)?;
+    Ok(Scan::new(readings, Vec::from_slice(alloc, bits)?))
 }
 
 #[test]
@@ -243,27 +257,26 @@ fn scans_in_and_out_of_range(rt: HostRuntime) -> Result<(), Fail> {
     Ok(())
 }
 
-fn clock(alloc: Global, rate: u32, start: i64) -> Result<Layout, Fail> {
-    let mut clocked = setup(alloc, 0)?;
-    clocked.rate = rate;
-    clocked.start = start;
-    Ok(Layout::new(clocked).ok().ok_or("lawful")?)
+fn instant(alloc: Global, rate: u32, start: i64, k: u64) -> Result<Option<i64>, Fail> {
+    Ok(layout_of(clocked(alloc, rate, start)?)?.instant(k))
 }
 
 #[test]
 fn instants(rt: HostRuntime) -> Result<(), Fail> {
-    let fast = clock(rt.alloc(), 4800, 0)?;
     for (k, at) in [(0, 0), (1, 208), (2, 416), (3, 625)] {
-        assert_eq!(rt; fast.instant(k), Some(at));
+        assert_eq!(rt; instant(rt.alloc(), 4800, 0, k)?, Some(at));
     }
-    assert_eq!(rt; fast.instant(u64::MAX), None);
+    assert_eq!(rt; instant(rt.alloc(), 4800, 0, u64::MAX)?, None);
     Ok(())
 }
 
 #[test]
 fn last_instant(rt: HostRuntime) -> Result<(), Fail> {
-    let late = clock(rt.alloc(), 1, 253_402_300_798_999_999)?;
-    assert_eq!(rt; late.instant(1), Some(253_402_300_799_999_999));
-    assert_eq!(rt; late.instant(2), None);
+    let late = 253_402_300_798_999_999;
+    assert_eq!(rt;
+        instant(rt.alloc(), 1, late, 1)?,
+        Some(253_402_300_799_999_999)
+    );
+    assert_eq!(rt; instant(rt.alloc(), 1, late, 2)?, None);
     Ok(())
 }

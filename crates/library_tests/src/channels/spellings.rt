@@ -1,7 +1,8 @@
 //! How texts and numbers are spelled.
 
-use crate::{
-    Decimal, Items, fields_of, integer_of, lines_of, plain_number, trim, without_blank_end,
+use dfr_channels::{
+    Decimal, Side, bit_of, fields_of, free_bit_of, free_scale_of, integer_of, is_plain, lines_of,
+    numeral_of, plain_number, side_of, trim, without_blank_end,
 };
 use std::alloc::{AllocError, Global};
 use std::test::Fail;
@@ -39,16 +40,18 @@ fn with_exponent(alloc: Global, exponent: u8) -> Result<Vec<u8>, AllocError> {
     Ok(text)
 }
 
-fn is_refused(text: &[u8]) -> bool {
-    Decimal::read(text).is_none()
+fn spell(text: Vec<u8>, units: i128, places: u8) -> bool {
+    reads(&text, units, places)
+}
+
+fn is_refused(text: Vec<u8>) -> bool {
+    Decimal::read(&text).is_none()
 }
 
 #[test]
 fn many_places(rt: HostRuntime) -> Result<(), Fail> {
-    let text = with_exponent(rt.alloc(), b'2')?;
-    assert!(rt; reads(&text, 1, 80));
-    let text = with_exponent(rt.alloc(), b'1')?;
-    assert!(rt; is_refused(&text));
+    assert!(rt; spell(with_exponent(rt.alloc(), b'2')?, 1, 80));
+    assert!(rt; is_refused(with_exponent(rt.alloc(), b'1')?));
     Ok(())
 }
 
@@ -85,7 +88,7 @@ fn decimals_by_parts(rt: HostRuntime) {
 }
 
 #[test]
-fn whole_numbers(rt: HostRuntime) -> Result<(), Fail> {
+fn whole_numbers(rt: HostRuntime) {
     assert_eq!(rt; integer_of(b"-0"), Some(0));
     assert_eq!(rt; integer_of(b"+12"), Some(12));
     assert_eq!(rt; integer_of(b"-007"), Some(-7));
@@ -97,20 +100,40 @@ fn whole_numbers(rt: HostRuntime) -> Result<(), Fail> {
         integer_of(b"-99999999999999999999"),
         Some(-99_999_999_999_999_999_999)
     );
-    assert_eq!(rt; integer_of(b"-"), None);
-    assert_eq!(rt; integer_of(b" 1"), None);
-    assert_eq!(rt; integer_of(b""), None);
-    assert_eq!(rt; integer_of(b"1a"), None);
-    assert_eq!(rt; integer_of(b"1000000000000000000000000000000000000"), None);
-    assert_eq!(rt; integer_of(b"-1000000000000000000000000000000000000"), None);
     assert_eq!(rt;
         integer_of(b"999999999999999999999999999999999999"),
         Some(10i128.pow(36) - 1)
     );
-    let mut zeros: Vec<u8> = vec![in rt.alloc(); b'0'; 4096]?;
-    zeros.push(b'1')?;
-    assert_eq!(rt; integer_of(&zeros), Some(1));
-    assert!(rt; reads(&zeros, 1, 0));
+}
+
+#[test]
+fn refused_whole_numbers(rt: HostRuntime) {
+    for text in [
+        b"-".as_slice(),
+        b" 1",
+        b"",
+        b"1a",
+        b"1000000000000000000000000000000000000",
+        b"-1000000000000000000000000000000000000",
+    ] {
+        assert_eq!(rt; integer_of(text), None);
+    }
+}
+
+/// A 1 behind so many zeros.
+fn behind_zeros(alloc: Global) -> Result<Vec<u8>, AllocError> {
+    let mut text: Vec<u8> = vec![in alloc; b'0'; 4096]?;
+    text.push(b'1')?;
+    Ok(text)
+}
+
+fn is_one(text: Vec<u8>) -> bool {
+    integer_of(&text) == Some(1) && reads(&text, 1, 0)
+}
+
+#[test]
+fn many_zeros(rt: HostRuntime) -> Result<(), Fail> {
+    assert!(rt; is_one(behind_zeros(rt.alloc())?));
     Ok(())
 }
 
@@ -157,25 +180,42 @@ fn blanks(rt: HostRuntime) {
     assert_eq!(rt; trim(b" \t "), b"".as_slice());
 }
 
+/// Whether these are four lines, and two of them are left without the blank ones at the end.
+fn are_cut(lines: Vec<&[u8]>) -> bool {
+    lines.len() == 4
+        && match without_blank_end(&lines) {
+            [first, second] => { *first == b"a".as_slice() && *second == b" b , c,".as_slice() }
+            _ => false,
+        }
+}
+
+fn are_fields(fields: Vec<&[u8]>) -> bool {
+    match fields.as_slice() {
+        [first, second, third] => {
+            *first == b"b".as_slice() && *second == b"c".as_slice() && third.is_empty()
+        }
+        _ => false,
+    }
+}
+
 #[test]
 fn cut_texts(rt: HostRuntime) -> Result<(), Fail> {
-    let lines = lines_of(rt.alloc(), b"a\r\n b , c,\n\n \r")?;
-    assert_eq!(rt; lines.len(), 4);
-    let kept = without_blank_end(&lines);
-    assert_eq!(rt; kept.len(), 2);
-    assert_eq!(rt; kept[0], b"a".as_slice());
-    let fields = fields_of(rt.alloc(), kept[1])?;
-    assert_eq!(rt; fields.len(), 3);
-    assert_eq!(rt; fields[0], b"b".as_slice());
-    assert_eq!(rt; fields[2], b"".as_slice());
+    assert!(rt; are_cut(lines_of(rt.alloc(), b"a\r\n b , c,\n\n \r")?));
+    assert!(rt; are_fields(fields_of(rt.alloc(), b" b , c,")?));
     Ok(())
 }
 
 #[test]
-fn lists(rt: HostRuntime) -> Result<(), Fail> {
-    let list = Items::of(Vec::from_slice(rt.alloc(), &[1u8, 2])?);
-    let copy = list.try_clone().ok().ok_or("memory")?;
-    assert!(rt; list == copy);
-    assert!(rt; list != Items::of(Vec::from_slice(rt.alloc(), &[1u8])?));
-    Ok(())
+fn fields(rt: HostRuntime) {
+    assert_eq!(rt; bit_of(b"+1"), Some(true));
+    assert_eq!(rt; bit_of(b"2"), None);
+    assert_eq!(rt; free_bit_of(b""), Some(false));
+    assert_eq!(rt; side_of(b"p"), Some(Side::Primary));
+    assert_eq!(rt; side_of(b"S"), Some(Side::Secondary));
+    assert_eq!(rt; side_of(b""), None);
+    assert!(rt; free_scale_of(b"") == Decimal::new(0, 0));
+    assert_eq!(rt; numeral_of(b"007"), Some(7));
+    assert_eq!(rt; numeral_of(b""), None);
+    assert!(rt; is_plain(1, 32, b"k A"));
+    assert!(rt; !is_plain(1, 32, b"A "));
 }

@@ -1,8 +1,8 @@
 //! Rules, their refusals, and which of them fires.
 
 use super::setups::{layout, scan};
-use crate::{Layout, Reading, Rule, RuleFault, Rules};
-use std::alloc::Global;
+use dfr_channels::{Layout, Reading, Rule, RuleFault, Rules, Scan};
+use std::alloc::{AllocError, Global};
 use std::test::Fail;
 
 const OVER: Rule = Rule::Level {
@@ -27,18 +27,29 @@ const FALL: Rule = Rule::Edge {
     rise: false,
 };
 
-fn rules(alloc: Global, layout: &Layout, list: &[Rule]) -> Result<Rules, Fail> {
-    let list = Vec::from_slice(alloc, list)?;
-    Ok(Rules::new(layout, list).ok().ok_or("lawful")?)
+/// The rules of a list over a layout, where they have no fault.
+fn rules_over(layout: Layout, list: Vec<Rule>) -> Option<Rules> {
+    Rules::new(&layout, list).ok()
 }
 
-/// The fault of a list over a layout of so many contacts, and how many rules come back.
-fn fault(alloc: Global, bits: u32, list: &[Rule]) -> Result<Option<(RuleFault, usize)>, Fail> {
-    let layout = layout(alloc, bits)?;
-    match Rules::new(&layout, Vec::from_slice(alloc, list)?) {
-        Ok(_) => Ok(None),
-        Err((fault, back)) => Ok(Some((fault, back.len()))),
+/// The rules of a list over a layout of one contact.
+fn rules(alloc: Global, list: &[Rule]) -> Result<Rules, Fail> {
+    let list = Vec::from_slice(alloc, list)?;
+    Ok(rules_over(layout(alloc, 1)?, list).ok_or("lawful")?)
+}
+
+/// The fault of a list over a layout, and how many rules come back.
+fn fault_over(layout: Layout, list: Vec<Rule>) -> Option<(RuleFault, usize)> {
+    match Rules::new(&layout, list) {
+        Ok(_) => None,
+        Err((fault, back)) => Some((fault, back.len())),
     }
+}
+
+/// The same over a layout of so many contacts.
+fn fault(alloc: Global, bits: u32, list: &[Rule]) -> Result<Option<(RuleFault, usize)>, Fail> {
+    let list = Vec::from_slice(alloc, list)?;
+    Ok(fault_over(layout(alloc, bits)?, list))
 }
 
 #[test]
@@ -59,12 +70,18 @@ fn refused_rules(rt: HostRuntime) -> Result<(), Fail> {
     Ok(())
 }
 
+/// Whether rules and their copy fit a layout, and the copy is this list.
+fn fit_over(rules: Rules, layout: Layout, list: &[Rule]) -> bool {
+    match rules.try_clone() {
+        Ok(copy) => rules.fits(&layout) && copy.fits(&layout) && copy.list() == list,
+        Err(_) => false,
+    }
+}
+
 /// Whether rules of a layout with one contact fit a layout of so many.
 fn fit(alloc: Global, list: &[Rule], bits: u32) -> Result<bool, Fail> {
-    let rules = rules(alloc, &layout(alloc, 1)?, list)?;
-    let copy = rules.try_clone().ok().ok_or("memory")?;
-    let other = layout(alloc, bits)?;
-    Ok(rules.fits(&other) && copy.fits(&other) && copy.list() == list)
+    let rules = rules(alloc, list)?;
+    Ok(fit_over(rules, layout(alloc, bits)?, list))
 }
 
 #[test]
@@ -72,6 +89,18 @@ fn rules_that_fit(rt: HostRuntime) -> Result<(), Fail> {
     assert!(rt; fit(rt.alloc(), &[RISE], 1)?);
     assert!(rt; !fit(rt.alloc(), &[RISE], 0)?);
     Ok(())
+}
+
+fn fires_over(rules: Rules, before: Option<Scan>, now: Scan) -> Option<u32> {
+    rules.fires(before.as_ref(), &now)
+}
+
+/// A scan of this bit, where there is one.
+fn scan_before(alloc: Global, bit: Option<bool>) -> Result<Option<Scan>, AllocError> {
+    match bit {
+        None => Ok(None),
+        Some(bit) => Ok(Some(scan(alloc, &[Reading::Missing], &[bit])?)),
+    }
 }
 
 /// What fires at a reading and a bit, after the bit of the scan before where there is one.
@@ -82,15 +111,9 @@ fn fires(
     reading: Reading,
     bit: bool,
 ) -> Result<Option<u32>, Fail> {
-    let rules = rules(alloc, &layout(alloc, 1)?, list)?;
+    let before = scan_before(alloc, before)?;
     let now = scan(alloc, &[reading], &[bit])?;
-    match before {
-        None => Ok(rules.fires(None, &now)),
-        Some(was) => {
-            let before = scan(alloc, &[Reading::Missing], &[was])?;
-            Ok(rules.fires(Some(&before), &now))
-        }
-    }
+    Ok(fires_over(rules(alloc, list)?, before, now))
 }
 
 #[test]
