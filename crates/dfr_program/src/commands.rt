@@ -29,7 +29,9 @@ fn answer_rules<A: Allocator + Copy>(
     list: Vec<Rule, A>,
     line: &mut Vec<u8, A>,
 ) -> Result<(), AllocError>
-    ensures { OnOk result (PutsStep recorder.old (rules_step list.items (rules_fault recorder.old.layout list.items)) recorder.new line.old.items line.new.items) }
+    ensures { OnOk result
+        (PutsStep recorder.old (rules_step list.items (rules_fault recorder.old.layout list.items))
+        recorder.new line.old.items line.new.items) }
 {
     match Rules::new(recorder.layout(), list) {
         Ok(rules) => match recorder.set_rules(rules) {
@@ -46,7 +48,8 @@ fn answer_scan<A: Allocator + Copy>(
     scan: Scan<A>,
     line: &mut Vec<u8, A>,
 ) -> Result<(), AllocError>
-    ensures { OnOk result (PutsStep recorder.old (Ok (step.Scan scan)) recorder.new line.old.items line.new.items) }
+    ensures { OnOk result
+        (PutsStep recorder.old (Ok (step.Scan scan)) recorder.new line.old.items line.new.items) }
 {
     match recorder.scan(scan) {
         Ok(scanned) => put_scanned(line, scanned),
@@ -59,7 +62,8 @@ fn answer_trigger<A: Allocator + Copy>(
     recorder: &mut Recorder<A>,
     line: &mut Vec<u8, A>,
 ) -> Result<(), AllocError>
-    ensures { OnOk result (PutsStep recorder.old (Ok step.Trigger) recorder.new line.old.items line.new.items) }
+    ensures { OnOk result
+        (PutsStep recorder.old (Ok step.Trigger) recorder.new line.old.items line.new.items) }
 {
     put_trigger(line, recorder.trigger())
 }
@@ -75,7 +79,8 @@ fn answer<A: Allocator + Copy, W: Write>(
     line: &mut Vec<u8, A>,
 ) -> Result<(), RunFault>
     requires { line.old.items ≡ [] }
-    ensures { PrintsStep result kind recorder.old (step_of recorder.old.layout (parts_of command)) recorder.new (W.contents w.old) out.old.items (W.contents w.new) out.new.items }
+    ensures { PrintsStep result kind recorder.old (step_of recorder.old.layout (parts_of command))
+        recorder.new (W.contents w.old) out.old.items (W.contents w.new) out.new.items }
 {
     match command {
         Command::Scan(scan) => {
@@ -107,7 +112,8 @@ fn answer_one<A: Allocator + Copy, W: Write>(
     out: &mut Vec<u8, A>,
     line: &mut Vec<u8, A>,
 ) -> Result<(), RunFault>
-    ensures { PrintsStep result kind recorder.old (step_of recorder.old.layout (parts_of command)) recorder.new (W.contents w.old) out.old.items (W.contents w.new) out.new.items }
+    ensures { PrintsStep result kind recorder.old (step_of recorder.old.layout (parts_of command))
+        recorder.new (W.contents w.old) out.old.items (W.contents w.new) out.new.items }
 {
     line.clear();
     answer(alloc, recorder, command, kind, w, out, line)?;
@@ -124,7 +130,9 @@ pub(crate) fn answer_all<A: Allocator + Copy, W: Write>(
     w: &mut W,
     out: &mut Vec<u8, A>,
 ) -> Result<(), RunFault>
-    ensures { (o : Opening) (h : List StepParts) → kept o h ≡ recorder → AllPrinted result kind o h (map parts_of commands.items) (W.contents w.old) out.old.items (W.contents w.new) out.new.items }
+    ensures { (o : Opening) (h : List StepParts) → kept o h ≡ recorder →
+        AllPrinted result kind o h (map parts_of commands.items)
+        (W.contents w.old) out.old.items (W.contents w.new) out.new.items }
 {
     let mut recorder = recorder;
     let mut line = Vec::new(alloc);

@@ -52,7 +52,8 @@ fn write_record<A: Allocator, W: Write>(
     line: &[u8],
     dat: &[u8],
 ) -> Result<(), RunFault>
-    ensures { Printed result (W.contents w.old) out.old.items (W.contents w.new) out.new.items (line.now ++ dat.now ++ codes "\n") }
+    ensures { Printed result (W.contents w.old) out.old.items
+        (W.contents w.new) out.new.items (line.now ++ dat.now ++ codes "\n") }
 {
     out.extend_from_slice(line)?;
     send(w, out)?;
@@ -69,7 +70,8 @@ fn print_record<A: Allocator, W: Write>(
     line: &mut Vec<u8, A>,
 ) -> Result<(), RunFault>
     requires { line.old.items ≡ [] }
-    ensures { Printed result (W.contents w.old) out.old.items (W.contents w.new) out.new.items (spec.record_text extent pair.now.cfg.items pair.now.dat.items) }
+    ensures { Printed result (W.contents w.old) out.old.items (W.contents w.new) out.new.items
+        (spec.record_text extent pair.now.cfg.items pair.now.dat.items) }
 {
     put_front(line, extent, pair)?;
     if is_much(pair.dat.len()) {
@@ -89,7 +91,8 @@ pub(crate) fn answer_take<A: Allocator + Copy, W: Write>(
     line: &mut Vec<u8, A>,
 ) -> Result<(), RunFault>
     requires { line.old.items ≡ [] }
-    ensures { PrintsStep result kind recorder.old (Ok step.Take) recorder.new (W.contents w.old) out.old.items (W.contents w.new) out.new.items }
+    ensures { PrintsStep result kind recorder.old (Ok step.Take) recorder.new
+        (W.contents w.old) out.old.items (W.contents w.new) out.new.items }
 {
     match recorder.take() {
         Some(record) => {

@@ -89,8 +89,8 @@ fn is_cut_after(alloc: Global, limit: usize) -> bool {
 
 #[test]
 fn a_failing_writer_has_a_prefix(rt: HostRuntime) {
-    assert_eq!(rt; PRINTED.len(), 322);
-    for limit in 0..323usize {
+    assert_eq!(rt; PRINTED.len(), 301);
+    for limit in 0..302usize {
         assert!(rt; is_cut_after(rt.alloc(), limit), "after {limit} bytes");
     }
 }
@@ -120,8 +120,8 @@ fn is_reading_cut_after(alloc: Global, limit: usize) -> bool {
 
 #[test]
 fn a_failing_writer_has_a_prefix_of_a_reading(rt: HostRuntime) {
-    assert_eq!(rt; READING.len(), 77);
-    for limit in 0..78usize {
+    assert_eq!(rt; READING.len(), 74);
+    for limit in 0..75usize {
         assert!(rt;
             is_reading_cut_after(rt.alloc(), limit),
             "after {limit} bytes"
