@@ -1,5 +1,6 @@
 //! Configuration and data files read.
 
+mod bay;
 mod cfg;
 mod cuts;
 mod dat;

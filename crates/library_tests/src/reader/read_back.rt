@@ -1,177 +1,14 @@
 //! Records that a recorder took, read back from their own texts.
 
+use super::bay::{BAY, Bay, CONTACTS, FAST, SHORT, SIX, TWO, recorder, steps};
 use super::same::is_same;
 use super::{CFG, DAT};
-use comtrade_read::{read, read_cfg, read_of_file, read_of_record, read_of_run, run_and_read};
-use comtrade_write::{File, Head, Kind, WriteFault, cfg_bytes, dat_bytes, file_of};
-use dfr_channels::{Items, Layout, Memory, Reading, Rule, Rules, Scan, Setup};
-use dfr_recorder::{Answer, Limits, Ran, Record, Recorder, Step, run};
+use comtrade_read::{read, read_of_file, read_of_record, read_of_run, run_and_read};
+use comtrade_write::{File, Kind, WriteFault, cfg_bytes, dat_bytes, file_of};
+use dfr_channels::{Items, Layout, Memory};
+use dfr_recorder::{Answer, Ran, Record, Recorder, Step, run};
 use std::alloc::Global;
 use std::collections::VecDeque;
-
-/// Configuration files with the channels of a bay: one analogue channel, six of each kind, and one beside seventeen contacts.
-const ONE: &[u8] =
-    b"Bay 1,DFR,1999\n1,1A,0D\n1,IA,A,,A,1.5E-3,-.5,0.0,-32767,32767,1,1,P\n50\n1\n1,1\n01/01/1970,0:0:0\n01/01/1970,0:0:0\nASCII\n1";
-
-const SIX: &[u8] =
-    b"Bay 1,DFR,1999\n12,6A,6D\n1,IA,A,,A,1,0,0,-32767,32767,1,1,P\n2,IB,B,,A,1,0,0,-32767,32767,1,1,P\n3,IC,C,,A,1,0,0,-32767,32767,1,1,P\n4,UA,A,,V,1,0,0,-32767,32767,1,1,S\n5,UB,B,,V,1,0,0,-32767,32767,1,1,S\n6,UC,C,,V,1,0,0,-32767,32767,1,1,S\n1,TRIP,,CB 1,1\n2,TRIP,,CB 1,1\n3,TRIP,,CB 1,1\n4,TRIP,,CB 1,1\n5,TRIP,,CB 1,1\n6,TRIP,,CB 1,1\n50\n1\n1,1\n01/01/1970,0:0:0\n01/01/1970,0:0:0\nASCII\n1";
-
-const CONTACTS: &[u8] =
-    b"Bay 1,DFR,1999\n18,1A,17D\n1,IA,A,,A,1,0,0,-32767,32767,1,1,P\n1,TRIP,,CB 1,1\n2,TRIP,,CB 1,1\n3,TRIP,,CB 1,1\n4,TRIP,,CB 1,1\n5,TRIP,,CB 1,1\n6,TRIP,,CB 1,1\n7,TRIP,,CB 1,1\n8,TRIP,,CB 1,1\n9,TRIP,,CB 1,1\n10,TRIP,,CB 1,1\n11,TRIP,,CB 1,1\n12,TRIP,,CB 1,1\n13,TRIP,,CB 1,1\n14,TRIP,,CB 1,1\n15,TRIP,,CB 1,1\n16,TRIP,,CB 1,1\n17,TRIP,,CB 1,1\n50\n1\n1,1\n01/01/1970,0:0:0\n01/01/1970,0:0:0\nASCII\n1";
-
-/// Its channels, scans a second, the instant of scan 0, limits, and whether a reading of 100 triggers.
-#[derive(Clone, Copy)]
-struct Bay<'a> {
-    channels: &'a [u8],
-    rate: u32,
-    start: i64,
-    limits: (u32, u32, u32, u32),
-    at_100: bool,
-}
-
-/// 1,000 scans a second from 1970 on, two scans before a trigger and two after it, of six at most.
-const BAY: Bay = Bay {
-    channels: ONE,
-    rate: 1000,
-    start: 0,
-    limits: (2, 2, 6, 1),
-    at_100: false,
-};
-
-fn layout_of(head: Head, rate: u32, start: i64) -> Option<Layout> {
-    let Head {
-        station,
-        device,
-        analog,
-        status,
-        line_freq,
-        ..
-    } = head;
-    Layout::new(Setup {
-        station,
-        device,
-        analog,
-        status,
-        line_freq,
-        rate,
-        start,
-    })
-    .ok()
-}
-
-fn layout(alloc: Global, bay: Bay) -> Option<Layout> {
-    match read_cfg(alloc, bay.channels) {
-        Ok(head) => layout_of(head, bay.rate, bay.start),
-        Err(_) => None,
-    }
-}
-
-fn level(alloc: Global, layout: &Layout) -> Option<Rules> {
-    let level = Rule::Level {
-        channel: 0,
-        over: true,
-        threshold: 100,
-    };
-    match Vec::from_slice(alloc, &[level]) {
-        Ok(list) => Rules::new(layout, list).ok(),
-        Err(_) => None,
-    }
-}
-
-fn rules(alloc: Global, layout: &Layout, at_100: bool) -> Option<Rules> {
-    if at_100 {
-        return level(alloc, layout);
-    }
-    Rules::new(layout, Vec::new(alloc)).ok()
-}
-
-fn begin(alloc: Global, layout: Layout, limits: Limits, rules: Rules) -> Option<Recorder> {
-    if limits.fits(&layout) && rules.fits(&layout) {
-        return Recorder::new(alloc, layout, limits, rules).ok();
-    }
-    None
-}
-
-fn begin_under(alloc: Global, layout: Layout, limits: Limits, at_100: bool) -> Option<Recorder> {
-    match rules(alloc, &layout, at_100) {
-        Some(rules) => begin(alloc, layout, limits, rules),
-        None => None,
-    }
-}
-
-fn limits(layout: &Layout, (pre, post, longest, shelf): (u32, u32, u32, u32)) -> Option<Limits> {
-    Limits::new(layout, pre, post, longest, shelf).ok()
-}
-
-fn recorder(alloc: Global, bay: Bay) -> Option<Recorder> {
-    let layout = layout(alloc, bay)?;
-    match limits(&layout, bay.limits) {
-        Some(limits) => begin_under(alloc, layout, limits, bay.at_100),
-        None => None,
-    }
-}
-
-fn scan(alloc: Global, readings: &[Reading], bits: &[bool]) -> Option<Step> {
-    let readings = Vec::from_slice(alloc, readings).ok()?;
-    match Vec::from_slice(alloc, bits) {
-        Ok(bits) => Some(Step::Scan(Scan::new(readings, bits))),
-        Err(_) => None,
-    }
-}
-
-fn six(alloc: Global) -> Option<Step> {
-    let readings = [-760, 1274, 72, 61, -140, -502].map(|x| Reading::Value(x));
-    scan(alloc, &readings, &[false, false, false, false, true, true])
-}
-
-fn lone(alloc: Global) -> Option<Step> {
-    let mut bits = [false; 17];
-    bits[16] = true;
-    scan(alloc, &[Reading::Missing], &bits)
-}
-
-fn value(alloc: Global, x: i32) -> Option<Step> {
-    scan(alloc, &[Reading::Value(x)], &[])
-}
-
-/// The step that a byte stands for: a scan of one channel with the value 0, 100 or 10 and the digit, the scan of six channels, the
-/// lone bit, a trigger, or a take.
-fn step(alloc: Global, byte: u8) -> Option<Step> {
-    match byte {
-        b'z' => value(alloc, 0),
-        b'h' => value(alloc, 100),
-        b'0'..=b'9' => value(alloc, 10 + (byte - b'0') as i32),
-        b's' => six(alloc),
-        b'l' => lone(alloc),
-        b'!' => Some(Step::Trigger),
-        b'^' => Some(Step::Take),
-        _ => None,
-    }
-}
-
-fn push(alloc: Global, steps: &mut VecDeque<Step>, byte: u8) -> bool {
-    match step(alloc, byte) {
-        Some(step) => steps.push_back(step).is_ok(),
-        None => false,
-    }
-}
-
-fn push_all(alloc: Global, steps: &mut VecDeque<Step>, script: &[u8]) -> bool {
-    for byte in script {
-        if !push(alloc, steps, *byte) {
-            return false;
-        }
-    }
-    true
-}
-
-fn steps(alloc: Global, script: &[u8]) -> Option<VecDeque<Step>> {
-    let mut steps = VecDeque::new(alloc);
-    if push_all(alloc, &mut steps, script) {
-        return Some(steps);
-    }
-    None
-}
 
 fn is_read(alloc: Global, cfg: &[u8], dat: &[u8], file: &File) -> bool {
     match read(alloc, cfg, dat) {
@@ -239,17 +76,6 @@ fn are_read_back(alloc: Global, bay: Bay, script: &[u8], records: usize) -> bool
     }
 }
 
-const TWO: Bay = Bay {
-    limits: (2, 2, 6, 2),
-    ..BAY
-};
-
-/// Two rows, from the trigger on.
-const SHORT: Bay = Bay {
-    limits: (0, 1, 2, 1),
-    ..BAY
-};
-
 #[test]
 fn triggers_by_hand(rt: HostRuntime) {
     let alloc = rt.alloc();
@@ -275,13 +101,6 @@ fn triggers_by_rule(rt: HostRuntime) {
     };
     assert!(rt; are_read_back(alloc, eight, b"zzzhzhzz^", 1));
 }
-
-/// 4,800 scans a second, whose stamps are no whole numbers of microseconds apart.
-const FAST: Bay = Bay {
-    rate: 4800,
-    limits: (0, 3, 4, 1),
-    ..BAY
-};
 
 /// Such stamps, a leap day, and the end of the year 9999, after which a scan is refused.
 #[test]

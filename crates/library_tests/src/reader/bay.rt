@@ -1,0 +1,190 @@
+//! Recorders of a bay, and the steps that they make.
+
+use comtrade_read::read_cfg;
+use comtrade_write::Head;
+use dfr_channels::{Layout, Reading, Rule, Rules, Scan, Setup};
+use dfr_recorder::{Limits, Recorder, Step};
+use std::alloc::Global;
+use std::collections::VecDeque;
+
+/// Configuration files with the channels of a bay: one analogue channel, six of each kind, and one beside seventeen contacts.
+const ONE: &[u8] =
+    b"Bay 1,DFR,1999\n1,1A,0D\n1,IA,A,,A,1.5E-3,-.5,0.0,-32767,32767,1,1,P\n50\n1\n1,1\n01/01/1970,0:0:0\n01/01/1970,0:0:0\nASCII\n1";
+
+pub const SIX: &[u8] =
+    b"Bay 1,DFR,1999\n12,6A,6D\n1,IA,A,,A,1,0,0,-32767,32767,1,1,P\n2,IB,B,,A,1,0,0,-32767,32767,1,1,P\n3,IC,C,,A,1,0,0,-32767,32767,1,1,P\n4,UA,A,,V,1,0,0,-32767,32767,1,1,S\n5,UB,B,,V,1,0,0,-32767,32767,1,1,S\n6,UC,C,,V,1,0,0,-32767,32767,1,1,S\n1,TRIP,,CB 1,1\n2,TRIP,,CB 1,1\n3,TRIP,,CB 1,1\n4,TRIP,,CB 1,1\n5,TRIP,,CB 1,1\n6,TRIP,,CB 1,1\n50\n1\n1,1\n01/01/1970,0:0:0\n01/01/1970,0:0:0\nASCII\n1";
+
+pub const CONTACTS: &[u8] =
+    b"Bay 1,DFR,1999\n18,1A,17D\n1,IA,A,,A,1,0,0,-32767,32767,1,1,P\n1,TRIP,,CB 1,1\n2,TRIP,,CB 1,1\n3,TRIP,,CB 1,1\n4,TRIP,,CB 1,1\n5,TRIP,,CB 1,1\n6,TRIP,,CB 1,1\n7,TRIP,,CB 1,1\n8,TRIP,,CB 1,1\n9,TRIP,,CB 1,1\n10,TRIP,,CB 1,1\n11,TRIP,,CB 1,1\n12,TRIP,,CB 1,1\n13,TRIP,,CB 1,1\n14,TRIP,,CB 1,1\n15,TRIP,,CB 1,1\n16,TRIP,,CB 1,1\n17,TRIP,,CB 1,1\n50\n1\n1,1\n01/01/1970,0:0:0\n01/01/1970,0:0:0\nASCII\n1";
+
+/// Its channels, scans a second, the instant of scan 0, limits, and whether a reading of 100 triggers.
+#[derive(Clone, Copy)]
+pub struct Bay<'a> {
+    pub channels: &'a [u8],
+    pub rate: u32,
+    pub start: i64,
+    pub limits: (u32, u32, u32, u32),
+    pub at_100: bool,
+}
+
+/// 1,000 scans a second from 1970 on, two scans before a trigger and two after it, of six at most.
+pub const BAY: Bay = Bay {
+    channels: ONE,
+    rate: 1000,
+    start: 0,
+    limits: (2, 2, 6, 1),
+    at_100: false,
+};
+
+pub const TWO: Bay = Bay {
+    limits: (2, 2, 6, 2),
+    ..BAY
+};
+
+/// Two rows, from the trigger on.
+pub const SHORT: Bay = Bay {
+    limits: (0, 1, 2, 1),
+    ..BAY
+};
+
+/// 4,800 scans a second, whose stamps are no whole numbers of microseconds apart.
+pub const FAST: Bay = Bay {
+    rate: 4800,
+    limits: (0, 3, 4, 1),
+    ..BAY
+};
+
+fn layout_of(head: Head, rate: u32, start: i64) -> Option<Layout> {
+    let Head {
+        station,
+        device,
+        analog,
+        status,
+        line_freq,
+        ..
+    } = head;
+    Layout::new(Setup {
+        station,
+        device,
+        analog,
+        status,
+        line_freq,
+        rate,
+        start,
+    })
+    .ok()
+}
+
+fn layout(alloc: Global, bay: Bay) -> Option<Layout> {
+    match read_cfg(alloc, bay.channels) {
+        Ok(head) => layout_of(head, bay.rate, bay.start),
+        Err(_) => None,
+    }
+}
+
+fn level(alloc: Global, layout: &Layout) -> Option<Rules> {
+    let level = Rule::Level {
+        channel: 0,
+        over: true,
+        threshold: 100,
+    };
+    match Vec::from_slice(alloc, &[level]) {
+        Ok(list) => Rules::new(layout, list).ok(),
+        Err(_) => None,
+    }
+}
+
+fn rules(alloc: Global, layout: &Layout, at_100: bool) -> Option<Rules> {
+    if at_100 {
+        return level(alloc, layout);
+    }
+    Rules::new(layout, Vec::new(alloc)).ok()
+}
+
+fn begin(alloc: Global, layout: Layout, limits: Limits, rules: Rules) -> Option<Recorder> {
+    if limits.fits(&layout) && rules.fits(&layout) {
+        return Recorder::new(alloc, layout, limits, rules).ok();
+    }
+    None
+}
+
+fn begin_under(alloc: Global, layout: Layout, limits: Limits, at_100: bool) -> Option<Recorder> {
+    match rules(alloc, &layout, at_100) {
+        Some(rules) => begin(alloc, layout, limits, rules),
+        None => None,
+    }
+}
+
+fn limits(layout: &Layout, (pre, post, longest, shelf): (u32, u32, u32, u32)) -> Option<Limits> {
+    Limits::new(layout, pre, post, longest, shelf).ok()
+}
+
+pub fn recorder(alloc: Global, bay: Bay) -> Option<Recorder> {
+    let layout = layout(alloc, bay)?;
+    match limits(&layout, bay.limits) {
+        Some(limits) => begin_under(alloc, layout, limits, bay.at_100),
+        None => None,
+    }
+}
+
+fn scan(alloc: Global, readings: &[Reading], bits: &[bool]) -> Option<Step> {
+    let readings = Vec::from_slice(alloc, readings).ok()?;
+    match Vec::from_slice(alloc, bits) {
+        Ok(bits) => Some(Step::Scan(Scan::new(readings, bits))),
+        Err(_) => None,
+    }
+}
+
+fn six(alloc: Global) -> Option<Step> {
+    let readings = [-760, 1274, 72, 61, -140, -502].map(|x| Reading::Value(x));
+    scan(alloc, &readings, &[false, false, false, false, true, true])
+}
+
+fn lone(alloc: Global) -> Option<Step> {
+    let mut bits = [false; 17];
+    bits[16] = true;
+    scan(alloc, &[Reading::Missing], &bits)
+}
+
+fn value(alloc: Global, x: i32) -> Option<Step> {
+    scan(alloc, &[Reading::Value(x)], &[])
+}
+
+/// The step that a byte stands for: a scan of one channel with the value 0, 100 or 10 and the digit, the scan of six channels, the
+/// lone bit, a trigger, or a take.
+fn step(alloc: Global, byte: u8) -> Option<Step> {
+    match byte {
+        b'z' => value(alloc, 0),
+        b'h' => value(alloc, 100),
+        b'0'..=b'9' => value(alloc, 10 + (byte - b'0') as i32),
+        b's' => six(alloc),
+        b'l' => lone(alloc),
+        b'!' => Some(Step::Trigger),
+        b'^' => Some(Step::Take),
+        _ => None,
+    }
+}
+
+fn push(alloc: Global, steps: &mut VecDeque<Step>, byte: u8) -> bool {
+    match step(alloc, byte) {
+        Some(step) => steps.push_back(step).is_ok(),
+        None => false,
+    }
+}
+
+fn push_all(alloc: Global, steps: &mut VecDeque<Step>, script: &[u8]) -> bool {
+    for byte in script {
+        if !push(alloc, steps, *byte) {
+            return false;
+        }
+    }
+    true
+}
+
+pub fn steps(alloc: Global, script: &[u8]) -> Option<VecDeque<Step>> {
+    let mut steps = VecDeque::new(alloc);
+    if push_all(alloc, &mut steps, script) {
+        return Some(steps);
+    }
+    None
+}
