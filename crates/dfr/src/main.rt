@@ -1,7 +1,7 @@
 //! The program: `dfr replay [--kind ascii|binary]`, `dfr read CFG DAT`.
 #![tactic(auto)]
 
-ghost use Rattle.std.specs.Prelude.{length};
+ghost use Rattle.std.specs.Prelude.{◌≤◌, IfOk, length};
 ghost use Rattle.dfr_program.specs.Words.{NamesFiles};
 
 use comtrade_write::Kind;
@@ -22,8 +22,10 @@ fn replay_input<R: Input + Print + AllocGlobal>(rt: &R, kind: Kind) -> Result<bo
     }
 }
 
-/// The bytes of a file.
-fn read_file<R: Files>(rt: &R, alloc: Global, path: &str) -> Result<Vec<u8>, RunFault> {
+/// The bytes of a file, at most 16,777,216.
+fn read_file<R: Files>(rt: &R, alloc: Global, path: &str) -> Result<Vec<u8>, RunFault>
+    ensures { IfOk result (λ bytes. length bytes.items ≤ 16777216) }
+{
     match File::open(rt, path) {
         Ok(mut file) => read_all(alloc, &mut file),
         Err(_) => Err(RunFault::Input),
