@@ -44,14 +44,37 @@ fn feed(recorder: &mut Recorder, scans: Vec<Scan>) -> Result<()> {
     Ok(())
 }
 
-/// A recorder with a full ring.
-fn prepared(alloc: Global, state: State) -> Result<Recorder> {
-    let mut recorder = recorder(alloc, RING - 1, 900_000, state.rules)?;
-    feed(&mut recorder, Numbers::new(2).scans(alloc, RING)?)?;
-    if state.open {
+/// Fills the ring, and opens a record where the state has one open.
+fn prepare(alloc: Global, recorder: &mut Recorder, open: bool) -> Result<()> {
+    feed(recorder, Numbers::new(2).scans(alloc, RING)?)?;
+    if open {
         recorder.trigger().ok().context("a record opens")?;
     }
-    Ok(recorder)
+    Ok(())
+}
+
+fn scan_all<R: Clock + AllocGlobal>(
+    rt: &R,
+    recorder: &mut Recorder,
+    scans: u32,
+    least: &mut Least,
+) -> Result<()> {
+    let scans = Numbers::new(1).scans(rt.alloc(), scans)?;
+    let start = now(rt)?;
+    feed(recorder, scans)?;
+    least.add(start.elapsed(rt)?);
+    Ok(())
+}
+
+fn measure_once<R: Clock + AllocGlobal>(
+    rt: &R,
+    scans: u32,
+    state: State,
+    least: &mut Least,
+) -> Result<()> {
+    let mut recorder = recorder(rt.alloc(), RING - 1, 900_000, state.rules)?;
+    prepare(rt.alloc(), &mut recorder, state.open)?;
+    scan_all(rt, &mut recorder, scans, least)
 }
 
 fn measure_state<R: Clock + Print + AllocGlobal>(
@@ -61,11 +84,7 @@ fn measure_state<R: Clock + Print + AllocGlobal>(
 ) -> Result<()> {
     let mut least = Least::none();
     for _ in 0..amount.runs {
-        let mut recorder = prepared(rt.alloc(), state)?;
-        let scans = Numbers::new(1).scans(rt.alloc(), amount.scans)?;
-        let start = now(rt)?;
-        feed(&mut recorder, scans)?;
-        least.add(start.elapsed(rt)?);
+        measure_once(rt, amount.scans, state, &mut least)?;
     }
     least.print(rt, amount, state.name, amount.scans as u64)?;
     Ok(())

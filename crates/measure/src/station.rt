@@ -43,20 +43,28 @@ fn status(alloc: Global, i: u32) -> Result<StatusChannel> {
     })
 }
 
-pub fn layout(alloc: Global) -> Result<Layout> {
+fn analogs(alloc: Global) -> Result<Vec<AnalogChannel>> {
     let mut channels = Vec::new(alloc);
     for i in 0..32u32 {
         channels.push(analog(alloc, i)?)?;
     }
-    let mut contacts = Vec::new(alloc);
+    Ok(channels)
+}
+
+fn contacts(alloc: Global) -> Result<Vec<StatusChannel>> {
+    let mut channels = Vec::new(alloc);
     for i in 0..64u32 {
-        contacts.push(status(alloc, i)?)?;
+        channels.push(status(alloc, i)?)?;
     }
+    Ok(channels)
+}
+
+pub fn layout(alloc: Global) -> Result<Layout> {
     let setup = Setup {
         station: text(alloc, "Bay 1")?,
         device: text(alloc, "DFR")?,
-        analog: Items::of(channels),
-        status: Items::of(contacts),
+        analog: Items::of(analogs(alloc)?),
+        status: Items::of(contacts(alloc)?),
         line_freq: whole(50)?,
         rate: 4_800,
         start: 951_782_400_000_000,
