@@ -1,6 +1,7 @@
 -- The recorder that a script makes, in a live run.
-use Rattle.std.proofs.Common.{◌≡◌, Bool, true, false, List, ℕ, Option, None, Result, Ok, Err, sym, ap, ◌∙◌, subst}
+use Rattle.std.proofs.Common.{◌≡◌, Bool, true, false, List, ℕ, Option, None, Result, Ok, Err, sym, subst}
 use Rattle.std.specs.Prelude.{IfOk}
+use Rattle.std.specs.Io.KnownBytes.{Appends}
 use Rattle.dfr_recorder.specs.Kept.{Kept}
 use Rattle.dfr_script.specs.Parts.{ScriptParts}
 use Rattle.dfr_live.specs.Seen.{opening_of}
@@ -9,7 +10,7 @@ use Rattle.dfr_live.specs.declared.report.LiveReport.{LiveReport}
 use Rattle.dfr_recorder.specs.History.{Opening}
 use Rattle.dfr_program.specs.declared.prepared.Fault.{Fault}
 use Rattle.dfr_program.specs.Faults.{IsMadeOf}
-use Rattle.dfr_program.specs.Live.{TellsFault, TellsOver, TellsLive}
+use Rattle.dfr_program.specs.Live.{TellsFault, TellsOver, TellsLive, PrintsLive}
 use Rattle.dfr_program.specs.Reports.{report_text}
 
 pub tells_run : (A : Type 0) (f : Option Fault) (s : ScriptParts) (k : Kept) (done : Bool) (text : List ℕ) → f ≡ None → IsMadeOf s k → TellsOver A (opening_of k) done text → TellsLive A f s done text
@@ -30,3 +31,6 @@ tells_report A came r done text q p o reports =
 
 pub tells_fault : (A : Type 0) (o : Opening) (done : Bool) (text : List ℕ) → (done ≡ false) × TellsFault text → TellsOver A o done text
 tells_fault A o done text p = subst (λ (v : Bool). TellsOver A o v text) (sym p.0) p.1
+
+pub prints_live : (A : Type 0) (f : Option Fault) (s : ScriptParts) (done : Bool) (text bytes : List ℕ) (a b : Option (List ℕ)) → TellsLive A f s done text → bytes ≡ text → Appends a b bytes → PrintsLive A f s done a b
+prints_live A f s done text bytes a b tells q h = record { text = text; tells = tells; written = subst (λ v. Appends a b v) q h }

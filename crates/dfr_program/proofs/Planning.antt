@@ -1,12 +1,11 @@
 -- Commands that a live run is given, one after the other.
-use Rattle.std.proofs.Common.{◌≡◌, ◌<◌, refl, ℕ, zero, suc, ◌+◌, List, [], ◌∷◌, ◌++◌, length, map, take, drop, get_or, Option, Some, None, Result, Ok, Err, sym, ap, ◌∙◌, subst, append_assoc, arith}
+use Rattle.std.proofs.Common.{◌≡◌, refl, ℕ, suc, ◌+◌, List, [], ◌∷◌, ◌++◌, length, Option, Some, None, Result, Ok, Err, sym, ap, ◌∙◌, subst, append_assoc, arith}
 use Rattle.std.specs.Prelude.{option_map, MatchResult}
 use Rattle.std.proofs.lemmas.List.{append-nil}
 use Rattle.dfr_channels.specs.Faults.{◌or◌}
 use Rattle.dfr_channels.specs.Parts.{ScanParts, SetupParts}
 use Rattle.dfr_script.specs.Parts.{CommandParts}
 use Rattle.dfr_live.specs.Parts.{CallParts}
-use Rattle.dfr_program.specs.declared.prepared.Fault.{Fault}
 use Rattle.dfr_program.specs.declared.prepared.Fault.TheVariants as faults
 use Rattle.dfr_program.specs.declared.prepared.Refusal.{Refusal}
 use Rattle.dfr_program.specs.declared.prepared.Refusal.TheVariants as refusals

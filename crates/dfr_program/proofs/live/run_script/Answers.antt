@@ -1,4 +1,3 @@
-use Rattle.std.proofs.Common.{rules}
 use Rattle.dfr_program.proofs.Living.{if_ok_map, tells_run}
 use Rattle.dfr_program.proofs.live.run_script.Goals as goal
 
