@@ -3,4 +3,3 @@ mod Growing
 mod Printing
 mod Replaying
 mod Stamps
-mod Writable

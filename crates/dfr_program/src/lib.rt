@@ -8,7 +8,6 @@ mod fault;
 mod faults;
 mod input;
 mod output;
-mod pair;
 mod prepared;
 mod reading;
 mod records;
