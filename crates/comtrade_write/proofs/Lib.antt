@@ -9,4 +9,4 @@ pub mod Appending
 pub mod Own
 pub mod Groups
 pub mod Places
-mod Writable
+pub mod Writable
