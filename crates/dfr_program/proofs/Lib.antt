@@ -5,4 +5,3 @@ mod Planning
 mod Printing
 mod Replaying
 mod Stamps
-mod Writable

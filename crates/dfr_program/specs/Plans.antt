@@ -10,8 +10,8 @@ use Rattle.dfr_script.specs.Parts as command
 use Rattle.dfr_script.specs.Scripts.{script_value}
 use Rattle.dfr_live.specs.Parts.{CallParts}
 use Rattle.dfr_live.specs.Parts as call
-use Rattle.dfr_live.specs.declared.traits.Order.{Order}
-use Rattle.dfr_live.specs.declared.traits.Order.TheVariants as order
+use Rattle.dfr_live.specs.declared.station.Order.{Order}
+use Rattle.dfr_live.specs.declared.station.Order.TheVariants as order
 use Rattle.dfr_program.specs.declared.prepared.Fault.{Fault}
 use Rattle.dfr_program.specs.declared.prepared.Fault.TheVariants as faults
 use Rattle.dfr_program.specs.Faults.{script_fault}

@@ -9,7 +9,6 @@ mod faults;
 mod input;
 mod live;
 mod output;
-mod pair;
 mod plan;
 mod prepared;
 mod reading;

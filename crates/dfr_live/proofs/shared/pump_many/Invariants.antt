@@ -1,0 +1,5 @@
+use Rattle.std.proofs.Common.{◌≡◌, ◌+◌}
+use Rattle.dfr_live.proofs.shared.pump_many.Given as goal
+
+abbrev pub invariant-loop-scans : goal.invariant-loop-scans
+invariant-loop-scans g l = l.count ≡ l.initial.count + l.scans
