@@ -8,3 +8,4 @@ pub mod Pairs
 pub mod Transcript
 pub mod Answering
 pub mod Replays
+pub mod Recording
