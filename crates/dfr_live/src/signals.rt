@@ -34,7 +34,8 @@ impl Signals {
         self.failed.store(true, Ordering::SeqCst);
     }
 
-    /// One turn in which the thread didn't get on; `idle` counts them since it last did. False where another thread has a fault.
+    /// One turn in which the thread didn't get on; `idle` counts them since it last did. False
+    /// where another thread has a fault.
     pub(crate) fn turn(&self, idle: &mut u64) -> Result<bool, LiveFault> {
         *idle = idle.saturating_add(1);
         if self.failed.load(Ordering::SeqCst) {

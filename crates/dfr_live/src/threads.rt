@@ -17,7 +17,8 @@ use std::sync::{Mutex, Wait};
 use std::thread;
 use std::thread::{Scope, Threads};
 
-/// What one thread works on, and what came of it. It stands behind a lock that this one thread holds throughout.
+/// What one thread works on, and what came of it. It stands behind a lock that this one thread
+/// holds throughout.
 #[derive(Drop)]
 pub(crate) struct Task<'x, F, S> {
     pub(crate) device: &'x mut F,
@@ -45,8 +46,9 @@ pub(crate) fn locked_task<D, S>(device: &mut D, seat: S) -> Mutex<Task<'_, D, S>
     })
 }
 
-/// Takes the tasks apart once all threads have ended: the shared recorder, the source and the tokens of the trigger thread and the
-/// export thread; else the first fault, where a thread that couldn't be started counts as a failed allocation.
+/// Takes the tasks apart once all threads have ended: the shared recorder, the source and the
+/// tokens of the trigger thread and the export thread; else the first fault, where a thread that
+/// couldn't be started counts as a failed allocation.
 pub(crate) fn take_apart<N: Session<A>, A: Allocator, F, O, K>(
     tasks: Tasks<'_, '_, '_, N, F, O, K, A>,
     started: bool,

@@ -11,3 +11,4 @@ pub mod Replays
 pub mod Plans
 pub mod Reports
 pub mod Live
+pub mod Recording
