@@ -34,3 +34,4 @@ pub mod ReadBack
 pub mod PlainRows
 pub mod EndMark
 pub mod ReadAgain
+pub mod Records

@@ -3,8 +3,13 @@ use Rattle.std.specs.Prelude.{◌≡◌, List, Option, Some, None}
 use Rattle.std.specs.List.{AllByRecursion, filter_map}
 use Rattle.dfr_channels.specs.Spelling.{IsNumber}
 use Rattle.dfr_channels.specs.Parts.{AnalogParts, SetupParts}
+use Rattle.dfr_recorder.specs.Parts.{RecordParts}
+use Rattle.dfr_recorder.specs.Steps.{StepParts}
+use Rattle.dfr_recorder.specs.Steps as step
 use Rattle.dfr_recorder.specs.Answers.{AnswerParts}
 use Rattle.dfr_recorder.specs.Answers as answer
+use Rattle.dfr_recorder.specs.History.{Opening}
+use Rattle.dfr_recorder.specs.Kept.{reply}
 use Rattle.comtrade_write.specs.declared.file.Kind.{Kind}
 use Rattle.comtrade_write.specs.Parts.{HeadParts, FileParts}
 use Rattle.comtrade_write.specs.Cfg.{cfg}
@@ -43,3 +48,8 @@ file_taken layout kind (answer.SetRules done) = None
 -- the files of the records that answers took, in order
 abbrev pub files_taken : SetupParts → Kind → List AnswerParts → List FileParts
 files_taken layout kind answers = filter_map (file_taken layout kind) answers
+
+-- every record that a recorder of this opening gives, after whatever history, is read from its own two files, of either kind
+abbrev pub RecordsReadBack : Opening → Type 0
+RecordsReadBack o = (h : List StepParts) (r : RecordParts) (kind : Kind) → reply o h step.Take ≡ answer.Take (Some r)
+    → (let f = file o.layout r kind in Reads (cfg f.head) (dat f.head.kind f) f)

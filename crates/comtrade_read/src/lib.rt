@@ -23,6 +23,6 @@ mod tail;
 pub use data::read_dat;
 pub use fault::ReadFault;
 pub use head::read_cfg;
-pub use laws::{file_reads_back, one_file, read_back};
+pub use laws::{file_reads_back, one_file, read_back, records_read_back};
 pub use pair::{Part, read};
 pub use record::{read_of_file, read_of_record, read_of_run, run_and_read};

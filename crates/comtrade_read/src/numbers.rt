@@ -5,7 +5,7 @@ ghost use Rattle.dfr_channels.specs.Spelling.{IsNumber};
 ghost use Rattle.comtrade_read.specs.ReadBack.{HasDecimals, HasNumbers};
 
 use comtrade_write::{Head, Rate};
-use dfr_channels::{AnalogChannel, Decimal};
+use dfr_channels::{AnalogChannel, Decimal, Layout};
 use std::alloc::Allocator;
 
 /// Each function here only tells, by its contract, what the type of its argument keeps.
@@ -49,4 +49,13 @@ pub fn numbers<A: Allocator>(head: &Head<A>)
     samps(head.rates.items());
     number(head.line_freq);
     number(head.timemult);
+}
+
+/// Every number of a layout's channels is one that a decimal holds, and so is its line frequency.
+pub fn layout_numbers<A: Allocator>(layout: &Layout<A>)
+    ensures analog { All HasDecimals layout.now.analog }
+    ensures line_freq { IsNumber layout.now.line_freq }
+{
+    scales(layout.analog());
+    number(layout.line_freq());
 }

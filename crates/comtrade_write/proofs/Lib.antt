@@ -9,3 +9,4 @@ pub mod Appending
 pub mod Own
 pub mod Groups
 pub mod Places
+pub mod Writable

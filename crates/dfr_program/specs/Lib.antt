@@ -8,3 +8,7 @@ pub mod Pairs
 pub mod Transcript
 pub mod Answering
 pub mod Replays
+pub mod Plans
+pub mod Reports
+pub mod Live
+pub mod Recording

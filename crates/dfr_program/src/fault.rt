@@ -3,6 +3,7 @@
 ghost use Rattle.std.specs.Prelude.{◌≡◌};
 ghost use Rattle.dfr_program.specs.declared.fault.RunFault.TheVariants.{Memory};
 
+use dfr_channels::Memory;
 use std::alloc::AllocError;
 use thiserror::Error;
 
@@ -24,6 +25,14 @@ impl From<AllocError> for RunFault {
     ghost from_gives = { λ _ e. e ≡ Memory };
 
     fn from(_error: AllocError) -> RunFault {
+        RunFault::Memory
+    }
+}
+
+impl From<Memory> for RunFault {
+    ghost from_gives = { λ _ e. e ≡ Memory };
+
+    fn from(_error: Memory) -> RunFault {
         RunFault::Memory
     }
 }

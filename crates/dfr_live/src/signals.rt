@@ -1,0 +1,54 @@
+//! What the three threads tell each other.
+
+use crate::report::LiveFault;
+use std::sync::atomic::{AtomicBool, Ordering};
+use std::{hint, thread};
+
+/// How many turns a thread looks again at once before it leaves the processor to others.
+const SPINS: u64 = 64;
+
+/// What the three threads tell each other.
+#[derive(Drop)]
+pub(crate) struct Signals {
+    /// The acquisition thread has ended.
+    pub(crate) acquired: AtomicBool,
+    /// The trigger thread has ended.
+    pub(crate) triggered: AtomicBool,
+    /// A thread has a fault.
+    failed: AtomicBool,
+    turns: u64,
+}
+
+impl Signals {
+    pub(crate) fn new(turns: u64) -> Signals {
+        Signals {
+            acquired: AtomicBool::new(false),
+            triggered: AtomicBool::new(false),
+            failed: AtomicBool::new(false),
+            turns,
+        }
+    }
+
+    /// Tells the other threads that this one has a fault.
+    pub(crate) fn fail(&self) {
+        self.failed.store(true, Ordering::SeqCst);
+    }
+
+    /// One turn in which the thread didn't get on; `idle` counts them since it last did. False
+    /// where another thread has a fault.
+    pub(crate) fn turn(&self, idle: &mut u64) -> Result<bool, LiveFault> {
+        *idle = idle.saturating_add(1);
+        if self.failed.load(Ordering::SeqCst) {
+            return Ok(false);
+        }
+        if *idle >= self.turns {
+            return Err(LiveFault::Turns);
+        }
+        if *idle < SPINS {
+            hint::spin_loop();
+        } else {
+            thread::yield_now();
+        }
+        Ok(true)
+    }
+}

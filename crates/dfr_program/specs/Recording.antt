@@ -1,0 +1,15 @@
+-- What a recording in threads comes to.
+use Rattle.std.specs.Prelude.{List}
+use Rattle.dfr_live.specs.Weave.{steps_of}
+use Rattle.dfr_live.specs.Seen.{Locked, Offering, Caller}
+use Rattle.dfr_live.specs.OneList.{OneList}
+use Rattle.dfr_live.specs.declared.ended.Ended.{Ended}
+use Rattle.comtrade_read.specs.ReadBack.{RecordsReadBack}
+
+-- all calls are one list of steps, with the one-thread recorder's answers; each record that is
+-- taken, in it as in every list of steps over the opening, is read from its own two files
+pub record IsOneThread {A : Type 0} (x : Locked) (source : Offering) (tokens : List Caller)
+    (e : Ended A) : Type 0 where
+  pub steps : OneList x.opening x.stepped source.offered (steps_of e.left.items) e.log.items
+      tokens e.recorder
+  pub files : RecordsReadBack x.opening
