@@ -3,7 +3,9 @@ use Rattle.std.specs.Prelude.{◌≡◌, ℕ, List, [], Option, Some, option_map
 use Rattle.dfr_channels.specs.Faults.{◌or◌}
 use Rattle.dfr_channels.specs.Firing.{rules_fault}
 use Rattle.dfr_channels.specs.Lines.{lines}
+use Rattle.dfr_channels.specs.Parts.{SetupParts}
 use Rattle.dfr_channels.specs.Setups.{setup_fault}
+use Rattle.dfr_channels.specs.declared.rule.Rule.{Rule}
 use Rattle.dfr_recorder.specs.Limits.{limit_fault}
 use Rattle.dfr_recorder.specs.History.{opening}
 use Rattle.dfr_recorder.specs.Kept.{Kept, kept}
@@ -19,6 +21,11 @@ use Rattle.dfr_program.specs.declared.prepared.Refusal.TheVariants as refusal
 
 abbrev pub number_fault : ℕ → LimitNumbers → Option LimitFault
 number_fault rate n = limit_fault rate n.pre n.post n.longest n.shelf
+
+-- limits, and then rules, over a layout
+abbrev pub limits_or_rules_fault : SetupParts → LimitNumbers → List Rule → Option Fault
+limits_or_rules_fault layout numbers list =
+    option_map faults.Limits (number_fault layout.rate numbers) or option_map faults.Rules (rules_fault layout list)
 
 -- of a set-up that a script says: set-up, limits, rules
 abbrev pub set_up_fault : ScriptParts → Option Fault
@@ -42,6 +49,13 @@ pub record HasNumbers (numbers : LimitNumbers) (limits : Limits) : Type 0 where
   pub post : limits.post ≡ numbers.post
   pub longest : limits.longest ≡ numbers.longest
   pub shelf : limits.shelf ≡ numbers.shelf
+
+-- a new recorder over this layout, with limits of these numbers and these rules
+pub record IsRecorderOf (over : SetupParts) (numbers : LimitNumbers) (list : List Rule) (k : Kept) : Type 0 where
+  pub layout : k.layout ≡ over
+  pub limits : HasNumbers numbers k.limits
+  pub rules : k.rules ≡ list
+  pub fresh : k ≡ kept (opening k.layout k.limits k.rules) []
 
 -- a recorder without a past, over the set-up, the limits and the rules that a script says
 pub record IsMadeOf (s : ScriptParts) (k : Kept) : Type 0 where

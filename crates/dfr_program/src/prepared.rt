@@ -1,13 +1,16 @@
 //! A recorder that is made of a script, and its commands.
 
-ghost use Rattle.std.specs.Prelude.{◌≡◌, IfOk, IfErr, IsTrue, MatchResult, Some, None, map};
+ghost use Rattle.std.specs.Prelude.{◌≡◌, IfOk, IfErr, IsTrue, MatchResult, Some, None, map, option_map};
+ghost use Rattle.dfr_channels.specs.Firing.{rules_fault, rules_fit};
 ghost use Rattle.dfr_channels.specs.Lines.{lines};
+ghost use Rattle.dfr_channels.specs.Setups.{setup_fault};
 ghost use Rattle.dfr_recorder.specs.Limits.{has_stamps, limit_fault};
 ghost use Rattle.dfr_script.specs.Commands.{parts_of};
 ghost use Rattle.dfr_script.specs.Scripts.{script_value};
+ghost use Rattle.dfr_program.specs.declared.prepared.Fault.TheVariants as fault;
 ghost use Rattle.dfr_program.specs.Faults as spec;
 
-use dfr_channels::{Layout, RuleFault, Rules, SetupFault};
+use dfr_channels::{Layout, Rule, RuleFault, Rules, Setup, SetupFault};
 use dfr_recorder::{LimitFault, Limits, Recorder};
 use dfr_script::{Command, LimitNumbers, Script, ScriptFault, ScriptRefusal, script_of};
 use std::alloc::Allocator;
@@ -53,6 +56,73 @@ fn limits_of<A: Allocator>(layout: &Layout<A>, numbers: LimitNumbers) -> Result<
     )
 }
 
+/// The layout of a set-up.
+fn layout_of<A: Allocator>(setup: Setup<A>) -> Result<Layout<A>, Refusal>
+    ensures { MatchResult result
+        (λ layout. (setup_fault setup ≡ None) × (layout ≡ setup))
+        (spec.Refuses (option_map fault.Setup (setup_fault setup))) }
+{
+    match Layout::new(setup) {
+        Ok(layout) => Ok(layout),
+        Err((fault, _)) => Err(Refusal::Fault(Fault::Setup(fault))),
+    }
+}
+
+/// The rules of a list, which fit the layout.
+fn rules_of<A: Allocator>(layout: &Layout<A>, list: Vec<Rule, A>) -> Result<Rules<A>, Refusal>
+    ensures fits { IfOk result (λ rules. IsTrue (rules_fit layout.now rules)) }
+    ensures rules { MatchResult result
+        (λ rules. (rules_fault layout.now list.items ≡ None) × (rules ≡ list.items))
+        (spec.Refuses (option_map fault.Rules (rules_fault layout.now list.items))) }
+{
+    match Rules::new(layout, list) {
+        Ok(rules) => Ok(rules),
+        Err((fault, _)) => Err(Refusal::Fault(Fault::Rules(fault))),
+    }
+}
+
+/// The recorder of a layout, the numbers of its limits and its first rules.
+fn recorder_of<A: Allocator + Copy>(
+    alloc: A,
+    layout: Layout<A>,
+    numbers: LimitNumbers,
+    list: Vec<Rule, A>,
+) -> Result<Recorder<A>, Refusal>
+    ensures { MatchResult result
+        (λ recorder. (spec.limits_or_rules_fault layout numbers list.items ≡ None)
+        × spec.IsRecorderOf layout numbers list.items recorder)
+        (spec.Refuses (spec.limits_or_rules_fault layout numbers list.items)) }
+{
+    let limits = match limits_of(&layout, numbers) {
+        Ok(limits) => limits,
+        Err(fault) => return Err(Refusal::Fault(Fault::Limits(fault))),
+    };
+    let rules = rules_of(&layout, list)?;
+    match Recorder::new(alloc, layout, limits, rules) {
+        Ok(recorder) => Ok(recorder),
+        Err(_) => Err(Refusal::Memory),
+    }
+}
+
+/// Makes the set-up that a script says.
+fn prepared_in<A: Allocator + Copy>(alloc: A, script: Script<A>) -> Result<Prepared<A>, Refusal>
+    ensures { MatchResult result
+        (λ prepared. (spec.set_up_fault script ≡ None)
+        × spec.IsMadeOf script prepared.recorder
+        × (map parts_of prepared.commands.items ≡ script.commands))
+        (spec.Refuses (spec.set_up_fault script)) }
+{
+    let Script {
+        setup,
+        limits,
+        rules,
+        commands,
+    } = script;
+    let layout = layout_of(setup)?;
+    let recorder = recorder_of(alloc, layout, limits, rules)?;
+    Ok(Prepared { recorder, commands })
+}
+
 /// Reads the script, and makes its set-up.
 #[tactic(auto, unfolding(crate::specs::Faults::script_fault))]
 pub(crate) fn prepared_of<A: Allocator + Copy>(
@@ -65,31 +135,9 @@ pub(crate) fn prepared_of<A: Allocator + Copy>(
         × (map parts_of prepared.commands.items ≡ (script_value (lines text.now)).commands))
         (spec.Refuses (spec.script_fault text.now)) }
 {
-    let script = match script_of(alloc, text) {
-        Ok(script) => script,
-        Err(ScriptRefusal::Fault(fault)) => return Err(Refusal::Fault(Fault::Script(fault))),
-        Err(ScriptRefusal::Memory) => return Err(Refusal::Memory),
-    };
-    let Script {
-        setup,
-        limits,
-        rules,
-        commands,
-    } = script;
-    let layout = match Layout::new(setup) {
-        Ok(layout) => layout,
-        Err((fault, _)) => return Err(Refusal::Fault(Fault::Setup(fault))),
-    };
-    let limits = match limits_of(&layout, limits) {
-        Ok(limits) => limits,
-        Err(fault) => return Err(Refusal::Fault(Fault::Limits(fault))),
-    };
-    let rules = match Rules::new(&layout, rules) {
-        Ok(rules) => rules,
-        Err((fault, _)) => return Err(Refusal::Fault(Fault::Rules(fault))),
-    };
-    match Recorder::new(alloc, layout, limits, rules) {
-        Ok(recorder) => Ok(Prepared { recorder, commands }),
-        Err(_) => Err(Refusal::Memory),
+    match script_of(alloc, text) {
+        Ok(script) => prepared_in(alloc, script),
+        Err(ScriptRefusal::Fault(fault)) => Err(Refusal::Fault(Fault::Script(fault))),
+        Err(ScriptRefusal::Memory) => Err(Refusal::Memory),
     }
 }

@@ -1,0 +1,5 @@
+use Rattle.std.proofs.Common.{rules, tests}
+use Rattle.dfr_channels.proofs.layout.Layout.status.Goals as goal
+
+pub returns : goal.returns
+returns g c = search (tests, rules)

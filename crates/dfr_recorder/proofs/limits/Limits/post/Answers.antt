@@ -1,0 +1,5 @@
+use Rattle.std.proofs.Common.{rules, tests}
+use Rattle.dfr_recorder.proofs.limits.Limits.post.Goals as goal
+
+pub returns : goal.returns
+returns c = search (tests, rules)
