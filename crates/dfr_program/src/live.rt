@@ -2,20 +2,23 @@
 
 #![tactic(auto, using(crate::proofs::Growing::growing))]
 
-ghost use Rattle.std.specs.Prelude.{◌≡◌, ◌≢◌, false, is_some, true, Err, IfOk, IfErr};
+ghost use Rattle.std.specs.Prelude.{List, ◌≡◌, ◌≢◌, false, is_some, true, Err, IfOk, IfErr};
 ghost use Rattle.dfr_channels.specs.Lines.{lines};
 ghost use Rattle.dfr_recorder.specs.History.{Opening};
 ghost use Rattle.dfr_script.specs.Scripts.{script_value};
-ghost use Rattle.dfr_live.specs.Seen.{opening_of};
+ghost use Rattle.dfr_live.specs.Seen.{Locked, Offering, Caller, opening_of};
+ghost use Rattle.dfr_live.specs.Ends.{Ends};
 ghost use Rattle.dfr_live.specs.Report.{Reports};
 ghost use Rattle.dfr_program.specs.FaultTexts.{fault_text};
 ghost use Rattle.dfr_program.specs.Live.{TellsFault, TellsOver, TellsLive, PrintsLive, CutsLive};
 ghost use Rattle.dfr_program.specs.Plans.{live_fault};
+ghost use Rattle.dfr_program.specs.Recording.{IsOneThread};
 ghost use Rattle.dfr_program.specs.Reports.{report_text};
 ghost use Rattle.dfr_program.specs.Writing.{Grows};
 
 use crate::fault::RunFault;
 use crate::faults::put_fault;
+use crate::law::as_one_thread;
 use crate::output::write_out;
 use crate::plan::{Placed, Plan, Scans, plan_of};
 use crate::prepared::{Fault, Refusal};
@@ -52,9 +55,12 @@ fn told_fault<A: Allocator>(alloc: A, fault: Fault) -> Result<Told<A>, RunFault>
 
 /// What a run did.
 fn told_report<A: Allocator>(alloc: A, report: &LiveReport<A>) -> Result<Told<A>, RunFault>
+    ensures law { (x : Locked) (source : Offering) (tokens : List Caller)
+        → Ends x source tokens report.now.ended → IsOneThread x source tokens report.now.ended }
     ensures text { IfOk result (λ told. (told.done ≡ true) × (told.text.items ≡ report_text report.now)) }
     ensures fault { IfErr result (λ fault. fault ≡ RunFault.Memory) }
 {
+    as_one_thread(&report.ended);
     let mut text = Vec::new(alloc);
     put_report(&mut text, report)?;
     Ok(Told { done: true, text })
@@ -141,7 +147,8 @@ fn run_script<A: Allocator + Copy + Send + Sync, K: Sink + Send, R: Threads + Wa
 
 /// Records a script in three threads: the first is fed its scans, in order, the second makes its triggers and sets its rules,
 /// each at the number of scan lines before it, and the third hands the files of each record to the sink. `take` lines are
-/// skipped. True where the run was done and its report was printed, false where the line of a fault was: with a fault of the
+/// skipped. True where the run was done and its report was printed: then the calls of all threads are one list of steps, with the
+/// answers of a recorder in one thread, and each record reads back from its files (`as_one_thread`). False where the line of a fault was: with a fault of the
 /// script nothing is run, and the sink stays as it was. Everything is printed at the end. `Memory` is an allocation that failed,
 /// or a thread that can't be started, and nothing was written; `Output` a write that failed; it is never `Input`.
 pub fn live_of<
