@@ -4,8 +4,9 @@ use crate::report::LiveFault;
 use std::sync::atomic::{AtomicBool, Ordering};
 use std::{hint, thread};
 
-/// How many turns a thread looks again at once before it leaves the processor to others.
-const SPINS: u64 = 64;
+/// For how many turns a thread spins before the next one, each time a little longer; after them it
+/// leaves the processor to others.
+const SPINNING_TURNS: u64 = 32;
 
 /// What the three threads tell each other.
 #[derive(Drop)]
@@ -44,10 +45,12 @@ impl Signals {
         if *idle >= self.turns {
             return Err(LiveFault::Turns);
         }
-        if *idle < SPINS {
-            hint::spin_loop();
-        } else {
+        if *idle > SPINNING_TURNS {
             thread::yield_now();
+            return Ok(true);
+        }
+        for _ in 0..*idle {
+            hint::spin_loop();
         }
         Ok(true)
     }

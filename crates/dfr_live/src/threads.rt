@@ -38,6 +38,7 @@ pub(crate) struct Tasks<'x, 'y, 'z, N: Session<A>, F, O, K, A: Allocator = Globa
     pub(crate) exports: Mutex<Task<'z, K, Token<A>>>,
 }
 
+/// A task before its thread is started.
 pub(crate) fn locked_task<D, S>(device: &mut D, seat: S) -> Mutex<Task<'_, D, S>> {
     Mutex::new(Task {
         device,
@@ -75,7 +76,7 @@ fn start_acquisition<
     K: Sink + Send,
     R: Threads + Wait + Sync,
 >(scope: &Scope<'s, E>, rt: &'s R, tasks: &'s Tasks<'_, '_, '_, N, F, O, K, A>) -> bool {
-    scope.spawn(move || acquisition(rt, tasks)).is_ok()
+    scope.spawn(move || run_acquisition(rt, tasks)).is_ok()
 }
 
 /// Starts the trigger thread. False where it can't be started.
@@ -89,7 +90,7 @@ fn start_trigger<
     K: Sink + Send,
     R: Threads + Wait + Sync,
 >(scope: &Scope<'s, E>, rt: &'s R, tasks: &'s Tasks<'_, '_, '_, N, F, O, K, A>) -> bool {
-    scope.spawn(move || trigger(rt, tasks)).is_ok()
+    scope.spawn(move || run_trigger(rt, tasks)).is_ok()
 }
 
 /// Starts the export thread. False where it can't be started.
@@ -103,7 +104,7 @@ fn start_exports<
     K: Sink + Send,
     R: Threads + Wait + Sync,
 >(scope: &Scope<'s, E>, rt: &'s R, tasks: &'s Tasks<'_, '_, '_, N, F, O, K, A>) -> bool {
-    scope.spawn(move || exports(rt, tasks)).is_ok()
+    scope.spawn(move || run_exports(rt, tasks)).is_ok()
 }
 
 /// Starts the threads and waits for them. False where one of them can't be started.
@@ -126,36 +127,36 @@ pub(crate) fn in_three_threads<
     })
 }
 
-/// Tells the other threads of a fault.
-fn told(signals: &Signals, outcome: Result<(), LiveFault>) -> Result<(), LiveFault> {
+/// Hands the outcome on, and tells the other threads where it is a fault.
+fn announce(signals: &Signals, outcome: Result<(), LiveFault>) -> Result<(), LiveFault> {
     if outcome.is_err() {
         signals.fail();
     }
     outcome
 }
 
-fn acquisition<N: Session<A>, A: Allocator, F: Feed<A>, O, K>(
+fn run_acquisition<N: Session<A>, A: Allocator, F: Feed<A>, O, K>(
     rt: &impl Wait,
     tasks: &Tasks<'_, '_, '_, N, F, O, K, A>,
 ) {
     let signals = &tasks.signals;
     let mut held = tasks.acquisition.lock(rt);
     let task = &mut *held;
-    task.outcome = told(
+    task.outcome = announce(
         signals,
         acquire(rt, signals, &mut *task.device, &mut task.seat),
     );
     signals.acquired.store(true, Ordering::SeqCst);
 }
 
-fn trigger<N: Session<A>, A: Allocator + Copy, F, O: Orders<A>, K>(
+fn run_trigger<N: Session<A>, A: Allocator + Copy, F, O: Orders<A>, K>(
     rt: &impl Wait,
     tasks: &Tasks<'_, '_, '_, N, F, O, K, A>,
 ) {
     let signals = &tasks.signals;
     let mut held = tasks.trigger.lock(rt);
     let task = &mut *held;
-    task.outcome = told(
+    task.outcome = announce(
         signals,
         carry_out(
             rt,
@@ -168,14 +169,14 @@ fn trigger<N: Session<A>, A: Allocator + Copy, F, O: Orders<A>, K>(
     signals.triggered.store(true, Ordering::SeqCst);
 }
 
-fn exports<N: Session<A>, A: Allocator + Copy, F, O, K: Sink>(
+fn run_exports<N: Session<A>, A: Allocator + Copy, F, O, K: Sink>(
     rt: &impl Wait,
     tasks: &Tasks<'_, '_, '_, N, F, O, K, A>,
 ) {
     let signals = &tasks.signals;
     let mut held = tasks.exports.lock(rt);
     let task = &mut *held;
-    task.outcome = told(
+    task.outcome = announce(
         signals,
         export(
             rt,
