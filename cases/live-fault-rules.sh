@@ -1,4 +1,4 @@
-# rules behind `go` that don't fit are a fault before anything runs: the first such line is named
+# rules after `go` that don't fit are a fault before anything runs: the first such line is named
 . files/live.bash
 rules() { { cat first.in; printf '%s\n' "$@"; } | "$dfr" live /dev/stdin "$folder"; echo "status $?"; names; }
 rules 'rules level 0 over 5' 'rules edge 0 rise' 'rules level 1 over 5'

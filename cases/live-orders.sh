@@ -1,4 +1,4 @@
-# orders are made at the number of `scan` lines before them, refused scans among these; a trigger behind the last one too
+# orders are made at the number of `scan` lines before them, refused scans among these; a trigger after the last one too
 . files/live.bash
 {
     head -n 6 first.in

@@ -14,7 +14,8 @@ use std::rt::Files;
 /// The code of a file that can't be made or can't be written whole.
 const UNWRITTEN: u32 = 1;
 
-/// `recN.cfg` and `recN.dat` of record N are written into it; older files of these names are replaced.
+/// `recN.cfg` and `recN.dat` of record N are written into it; older files of these names are
+/// replaced.
 #[derive(Drop)]
 pub struct Folder<'a, R> {
     pub rt: &'a R,
@@ -28,7 +29,8 @@ fn path_of<A: Allocator>(
     number: u64,
     ending: &str,
 ) -> Result<String<A>, AllocError>
-    ensures { IfOk result (λ path. string_bytes path ≡ folder.now ++ codes "/rec" ++ decimal number ++ ending.now) }
+    ensures { IfOk result (λ path. string_bytes path
+        ≡ folder.now ++ codes "/rec" ++ decimal number ++ ending.now) }
 {
     let mut path = String::from_str(alloc, folder)?;
     path.push_str("/rec")?;

@@ -1,4 +1,5 @@
-//! The program: `dfr replay [--kind ascii|binary]`, `dfr live [--kind ascii|binary] SCRIPT DIR`, `dfr read CFG DAT`.
+//! The program: `dfr replay [--kind K]`, `dfr live [--kind K] SCRIPT DIR`, `dfr read CFG DAT`, with the
+//! kind `ascii` or `binary`.
 #![tactic(auto)]
 
 mod folder;

@@ -27,7 +27,7 @@ none_second : {X : Type 0} (a b : Option X) → (a or b) ≡ None → b ≡ None
 none_second None b e = e
 none_second (Some x) b e = absurd cc
 
--- commands behind others whose rules fit
+-- commands after others whose rules fit
 refused_both : (layout : SetupParts) (xs ys : List CommandParts) → refused_in layout xs ≡ None → refused_in layout (xs ++ ys) ≡ refused_in layout ys
 unfolding refused_in
 refused_both layout [] ys e = refl

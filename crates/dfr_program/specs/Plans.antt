@@ -31,7 +31,7 @@ refused_in layout (c ∷ cs) = refused_line layout c or refused_in layout cs
 abbrev pub command_fault : ScriptParts → Option Fault
 command_fault s = option_map faults.RulesAt (refused_in s.setup s.commands)
 
--- the first fault of a script for a live run: what a replay refuses, and after it rules behind `go` that don't fit
+-- the first fault of a script for a live run: what a replay refuses, then rules after `go` that don't fit
 unfoldable pub live_fault : List ℕ → Option Fault
 live_fault text = script_fault text or command_fault (script_value (lines text))
 

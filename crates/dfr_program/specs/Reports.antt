@@ -37,7 +37,7 @@ sums_text scans refused records left =
 unfoldable pub report_text : {A : Type 0} → LiveReport A → List ℕ
 report_text r = flat_map entry_text r.ended.log.items ++ sums_text r.stepped r.refused r.records (length r.ended.left.items)
 
--- the word of a run's fault; want of memory has none
+-- the word of a run's fault; out of memory has none
 abbrev pub run_word : LiveFault → Option (List ℕ)
 run_word (run.Feed code) = Some (codes "feed")
 run_word (run.Sink code) = Some (codes "sink")

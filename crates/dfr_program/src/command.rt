@@ -37,8 +37,9 @@ fn kind_of(word: &String) -> Option<Kind>
     }
 }
 
-/// What the words ask for: `replay`, `replay --kind K`, `live SCRIPT DIR`, `live --kind K SCRIPT DIR`, `read CFG DAT`, or no
-/// word, which is `replay`. None for words of any other form: `live` with two further words names no kind. Doesn't allocate.
+/// What the words ask for: `replay`, `replay --kind K`, `live SCRIPT DIR`, `live --kind K SCRIPT DIR`,
+/// `read CFG DAT`, or no word, which is `replay`. None for words of any other form: `live` with two
+/// further words names no kind. Doesn't allocate.
 pub fn command_of(words: &[String]) -> Option<Command>
     ensures value { result ≡ spec.command (map string_bytes words.now) }
     ensures files { IfSome result (spec.NamesFiles (length words.now)) }

@@ -2,20 +2,23 @@
 
 #![tactic(auto, using(crate::proofs::Growing::growing))]
 
-ghost use Rattle.std.specs.Prelude.{◌≡◌, ◌≢◌, false, is_some, true, Err, IfOk, IfErr};
+ghost use Rattle.std.specs.Prelude.{List, ◌≡◌, ◌≢◌, false, is_some, true, Err, IfOk, IfErr};
 ghost use Rattle.dfr_channels.specs.Lines.{lines};
 ghost use Rattle.dfr_recorder.specs.History.{Opening};
 ghost use Rattle.dfr_script.specs.Scripts.{script_value};
-ghost use Rattle.dfr_live.specs.Seen.{opening_of};
+ghost use Rattle.dfr_live.specs.Seen.{Locked, Offering, Caller, opening_of};
+ghost use Rattle.dfr_live.specs.Ends.{Ends};
 ghost use Rattle.dfr_live.specs.Report.{Reports};
 ghost use Rattle.dfr_program.specs.FaultTexts.{fault_text};
 ghost use Rattle.dfr_program.specs.Live.{TellsFault, TellsOver, TellsLive, PrintsLive, CutsLive};
 ghost use Rattle.dfr_program.specs.Plans.{live_fault};
+ghost use Rattle.dfr_program.specs.Recording.{IsOneThread};
 ghost use Rattle.dfr_program.specs.Reports.{report_text};
 ghost use Rattle.dfr_program.specs.Writing.{Grows};
 
 use crate::fault::RunFault;
 use crate::faults::put_fault;
+use crate::law::as_one_thread;
 use crate::output::write_out;
 use crate::plan::{Placed, Plan, Scans, plan_of};
 use crate::prepared::{Fault, Refusal};
@@ -52,9 +55,12 @@ fn told_fault<A: Allocator>(alloc: A, fault: Fault) -> Result<Told<A>, RunFault>
 
 /// What a run did.
 fn told_report<A: Allocator>(alloc: A, report: &LiveReport<A>) -> Result<Told<A>, RunFault>
+    ensures law { (x : Locked) (source : Offering) (tokens : List Caller)
+        → Ends x source tokens report.now.ended → IsOneThread x source tokens report.now.ended }
     ensures text { IfOk result (λ told. (told.done ≡ true) × (told.text.items ≡ report_text report.now)) }
     ensures fault { IfErr result (λ fault. fault ≡ RunFault.Memory) }
 {
+    as_one_thread(&report.ended);
     let mut text = Vec::new(alloc);
     put_report(&mut text, report)?;
     Ok(Told { done: true, text })
@@ -128,7 +134,8 @@ fn run_script<A: Allocator + Copy + Send + Sync, K: Sink + Send, R: Threads + Wa
     kind: Kind,
     sink: &mut K,
 ) -> Result<Told<A>, RunFault>
-    ensures text { IfOk result (λ told. TellsLive A (live_fault script.now) (script_value (lines script.now)) told.done told.text.items) }
+    ensures text { IfOk result (λ told. TellsLive A (live_fault script.now)
+        (script_value (lines script.now)) told.done told.text.items) }
     ensures fault { IfErr result (λ fault. fault ≡ RunFault.Memory) }
     ensures unused { is_some (live_fault script.now) ≡ true → sink.new ≡ sink.old }
 {
@@ -139,11 +146,15 @@ fn run_script<A: Allocator + Copy + Send + Sync, K: Sink + Send, R: Threads + Wa
     }
 }
 
-/// Records a script in three threads: the first is fed its scans, in order, the second makes its triggers and sets its rules,
-/// each at the number of scan lines before it, and the third hands the files of each record to the sink. `take` lines are
-/// skipped. True where the run was done and its report was printed, false where the line of a fault was: with a fault of the
-/// script nothing is run, and the sink stays as it was. Everything is printed at the end. `Memory` is an allocation that failed,
-/// or a thread that can't be started, and nothing was written; `Output` a write that failed; it is never `Input`.
+/// Records a script in three threads: the first is fed its scans, in order, the second makes its
+/// triggers and sets its rules, each at the number of scan lines before it, and the third hands the
+/// files of each record to the sink. `take` lines are skipped. Everything is printed at the end.
+///
+/// True where the run was done and its report was printed: then the calls of all threads are one
+/// list of steps, with the answers of a recorder in one thread, and each record reads back from its
+/// files (`as_one_thread`). False where the line of a fault was: with a fault of the script nothing
+/// is run, and the sink stays as it was. `Memory` is an allocation that failed, or a thread that
+/// can't be started, and nothing was written; `Output` a write that failed; it is never `Input`.
 pub fn live_of<
     A: Allocator + Copy + Send + Sync,
     K: Sink + Send,
@@ -151,10 +162,10 @@ pub fn live_of<
     R: Threads + Wait + Sync,
 >(rt: &R, alloc: A, script: &[u8], kind: Kind, sink: &mut K, w: &mut W) -> Result<bool, RunFault>
     ensures grows { Grows (W.contents w.old) (W.contents w.new) }
-    ensures printed { IfOk result (λ done. PrintsLive A (live_fault script.now) (script_value (lines script.now))
-        done (W.contents w.old) (W.contents w.new)) }
-    ensures output { result ≡ Err RunFault.Output → CutsLive A (live_fault script.now) (script_value (lines script.now))
-        (W.contents w.old) (W.contents w.new) }
+    ensures printed { IfOk result (λ done. PrintsLive A (live_fault script.now)
+        (script_value (lines script.now)) done (W.contents w.old) (W.contents w.new)) }
+    ensures output { result ≡ Err RunFault.Output → CutsLive A (live_fault script.now)
+        (script_value (lines script.now)) (W.contents w.old) (W.contents w.new) }
     ensures memory { result ≡ Err RunFault.Memory → w.new ≡ w.old }
     ensures unused { is_some (live_fault script.now) ≡ true → sink.new ≡ sink.old }
     ensures fault { IfErr result (λ fault. fault ≢ RunFault.Input) }

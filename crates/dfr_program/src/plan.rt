@@ -93,7 +93,7 @@ fn rules_at<A: Allocator>(
     }
 }
 
-/// Puts the scan or the order of a command behind those before.
+/// Appends the scan or the order of a command.
 fn plan_one<A: Allocator + Copy>(
     layout: &Layout<A>,
     command: Command<A>,
@@ -120,7 +120,7 @@ fn plan_one<A: Allocator + Copy>(
     Ok(())
 }
 
-/// Puts the scans and the orders of the commands into the two lists.
+/// Appends the scans and the orders of the commands.
 fn plan_all<A: Allocator + Copy>(
     layout: &Layout<A>,
     commands: Vec<Command<A>, A>,
@@ -132,7 +132,8 @@ fn plan_all<A: Allocator + Copy>(
     ensures { MatchResult result
         (λ _. spec.IsPlanned layout.now (map parts_of commands.items) scans.new.items
         (map spec.placed orders.new.items))
-        (Refuses (option_map faults.RulesAt (spec.refused_in layout.now (map parts_of commands.items)))) }
+        (Refuses (option_map faults.RulesAt
+        (spec.refused_in layout.now (map parts_of commands.items)))) }
 {
     for command in commands {
         plan_one(layout, command, scans, orders)?;
@@ -147,7 +148,8 @@ pub(crate) fn plan_of<A: Allocator + Copy>(alloc: A, text: &[u8]) -> Result<Plan
         (λ plan. (spec.live_fault text.now ≡ None)
         × IsMadeOf (script_value (lines text.now)) plan.recorder
         × (plan.scans.items ≡ spec.scans_in (script_value (lines text.now)).commands)
-        × (map spec.placed plan.orders.items ≡ spec.orders_in 0 (script_value (lines text.now)).commands))
+        × (map spec.placed plan.orders.items
+        ≡ spec.orders_in 0 (script_value (lines text.now)).commands))
         (Refuses (spec.live_fault text.now)) }
 {
     let Prepared { recorder, commands } = prepared_of(alloc, text)?;

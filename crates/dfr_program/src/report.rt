@@ -68,7 +68,8 @@ fn put_sums<A: Allocator>(
     records: u64,
     left: u64,
 ) -> Result<(), AllocError>
-    ensures { OnOk result (out.new.items ≡ out.old.items ++ spec.sums_text scans refused records left) }
+    ensures { OnOk result (out.new.items
+        ≡ out.old.items ++ spec.sums_text scans refused records left) }
 {
     put_with(out, "scans ", scans)?;
     put_with(out, " refused ", refused)?;

@@ -1,6 +1,6 @@
-//! Measures the lane and the recording in three threads with 32 analogue and 64 status channels. `measure_live RUNS` makes each
-//! measure RUNS times and prints the least and the median time of each; without a number it makes each once, over little, and
-//! prints nothing.
+//! Measures the lane and the recording in three threads with 32 analogue and 64 status channels.
+//! `measure_live RUNS` makes each measure RUNS times and prints the least and the median time of
+//! each; without a number it makes each once, over little, and prints nothing.
 #![tactic(auto)]
 
 mod lane;

@@ -1,4 +1,5 @@
-//! The station that is measured: 32 analogue and 64 status channels at 4,800 scans a second, records of 2,001 scans.
+//! The station that is measured: 32 analogue and 64 status channels at 4,800 scans a second,
+//! records of 2,001 scans.
 
 use anyhow::{Context, Result};
 use dfr_channels::{Layout, Rules, Scan};

@@ -71,7 +71,8 @@ impl Sink for Bytes {
     }
 }
 
-/// What is run: the places of the lane, the kind of files, a trigger after each so many scans, and how many scans.
+/// What is run: the places of the lane, the kind of files, a trigger after each so many scans, and
+/// how many scans.
 #[derive(Clone, Copy)]
 struct Run {
     places: usize,
