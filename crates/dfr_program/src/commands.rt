@@ -22,8 +22,8 @@ use dfr_script::Command;
 use std::alloc::{AllocError, Allocator};
 use std::io::Write;
 
-/// Sets the rules of a line, and puts whether they were. Rules that don't fit the recorder's layout are refused before the
-/// recorder is asked.
+/// Sets the rules of a line, and puts whether they were. Rules that don't fit the recorder's layout
+/// are refused before the recorder is asked.
 fn answer_rules<A: Allocator + Copy>(
     recorder: &mut Recorder<A>,
     list: Vec<Rule, A>,
@@ -68,7 +68,8 @@ fn answer_trigger<A: Allocator + Copy>(
     put_trigger(line, recorder.trigger())
 }
 
-/// Makes the step of a command, and prints its answer: all of it or, where memory was refused, nothing. `line` is empty.
+/// Makes the step of a command, and prints its answer: all of it or, where memory was refused,
+/// nothing. `line` is empty.
 fn answer<A: Allocator + Copy, W: Write>(
     alloc: A,
     recorder: &mut Recorder<A>,
@@ -120,8 +121,8 @@ fn answer_one<A: Allocator + Copy, W: Write>(
     flush_if_full(w, out)
 }
 
-/// Answers the commands in order. Where memory was refused the answers before are printed; where the writer failed nothing is
-/// left to be written.
+/// Answers the commands in order. Where memory was refused the answers before are printed; where
+/// the writer failed nothing is left to be written.
 pub(crate) fn answer_all<A: Allocator + Copy, W: Write>(
     alloc: A,
     recorder: Recorder<A>,

@@ -1,4 +1,5 @@
-//! The program: a script replayed or recorded live, and a pair of files read, over readers and writers that are handed in.
+//! The program: a script replayed or recorded live, and a pair of files read, over readers and
+//! writers that are handed in.
 #![tactic(auto)]
 
 mod answers;

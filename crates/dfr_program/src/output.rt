@@ -28,7 +28,8 @@ pub(crate) fn write_out<W: Write>(w: &mut W, bytes: &[u8]) -> Result<(), RunFaul
     }
 }
 
-/// Writes what was buffered, which is gone then. It is also where the writer failed: what such a write left is never sent again.
+/// Writes what was buffered, which is gone then. It is also where the writer failed: what such a
+/// write left is never sent again.
 pub(crate) fn send<A: Allocator, W: Write>(w: &mut W, out: &mut Vec<u8, A>) -> Result<(), RunFault>
     ensures all { OnOk result (Appends (W.contents w.old) (W.contents w.new) out.old.items) }
     ensures part { IfErr result (λ _. Cut (W.contents w.old) (W.contents w.new) out.old.items) }
@@ -52,7 +53,8 @@ pub(crate) fn flush_if_full<A: Allocator, W: Write>(
     w: &mut W,
     out: &mut Vec<u8, A>,
 ) -> Result<(), RunFault>
-    ensures printed { Printed result (W.contents w.old) out.old.items (W.contents w.new) out.new.items [] }
+    ensures printed { Printed result (W.contents w.old) out.old.items
+        (W.contents w.new) out.new.items [] }
     ensures fault { IfErr result (λ fault. fault ≡ RunFault.Output) }
 {
     if !is_much(out.len()) {

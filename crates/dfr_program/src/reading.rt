@@ -26,7 +26,9 @@ fn put_line<A: Allocator>(out: &mut Vec<u8, A>, name: &str, text: &[u8]) -> Resu
 }
 
 fn put_names<A: Allocator>(out: &mut Vec<u8, A>, head: &Head<A>) -> Result<(), AllocError>
-    ensures { OnOk result (out.new.items ≡ out.old.items ++ (spec.line_text (codes "station ") head.now.station ++ spec.line_text (codes "device ") head.now.device)) }
+    ensures { OnOk result (out.new.items ≡ out.old.items
+        ++ (spec.line_text (codes "station ") head.now.station
+        ++ spec.line_text (codes "device ") head.now.device)) }
 {
     put_line(out, "station ", head.station.items())?;
     put_line(out, "device ", head.device.items())
@@ -120,7 +122,8 @@ fn put_read_fault<A: Allocator>(
 
 /// Prints what is in a pair of files.
 fn print_file<A: Allocator, W: Write>(alloc: A, file: &File<A>, w: &mut W) -> Result<bool, RunFault>
-    ensures text { OnOk result (Appends (W.contents w.old) (W.contents w.new) (spec.file_text file.now)) }
+    ensures text { OnOk result
+        (Appends (W.contents w.old) (W.contents w.new) (spec.file_text file.now)) }
     ensures grows { Grows (W.contents w.old) (W.contents w.new) }
     ensures whole { IfOk result (λ done. done ≡ true) }
     ensures fault { IfErr result (λ fault. fault ≢ RunFault.Input) }
@@ -138,7 +141,8 @@ fn print_read_fault<A: Allocator, W: Write>(
     fault: ReadFault,
     w: &mut W,
 ) -> Result<bool, RunFault>
-    ensures text { OnOk result (Appends (W.contents w.old) (W.contents w.new) (spec.read_fault_text part fault)) }
+    ensures text { OnOk result
+        (Appends (W.contents w.old) (W.contents w.new) (spec.read_fault_text part fault)) }
     ensures grows { Grows (W.contents w.old) (W.contents w.new) }
     ensures none { IfOk result (λ done. (done ≡ false) × (fault ≢ ReadFault.Memory)) }
     ensures fault { IfErr result (λ fault. fault ≢ RunFault.Input) }
@@ -149,8 +153,9 @@ fn print_read_fault<A: Allocator, W: Write>(
     Ok(false)
 }
 
-/// Reads a configuration file and its data file: true where they were read and what is in them was printed, false where the
-/// line of a fault was. `Output` is a write that failed, `Memory` a growth that was refused; it is never `Input`.
+/// Reads a configuration file and its data file: true where they were read and what is in them was
+/// printed, false where the line of a fault was. `Output` is a write that failed, `Memory` a growth
+/// that was refused; it is never `Input`.
 pub fn read_over<A: Allocator + Copy, W: Write>(
     alloc: A,
     cfg: &[u8],
@@ -158,8 +163,10 @@ pub fn read_over<A: Allocator + Copy, W: Write>(
     w: &mut W,
 ) -> Result<bool, RunFault>
     ensures grows { Grows (W.contents w.old) (W.contents w.new) }
-    ensures whole { IfOk result (λ done. done ≡ true → Says cfg.now dat.now (W.contents w.old) (W.contents w.new)) }
-    ensures none { IfOk result (λ done. done ≡ false → IsFaulty cfg.now dat.now (W.contents w.old) (W.contents w.new)) }
+    ensures whole { IfOk result (λ done. done ≡ true →
+        Says cfg.now dat.now (W.contents w.old) (W.contents w.new)) }
+    ensures none { IfOk result (λ done. done ≡ false →
+        IsFaulty cfg.now dat.now (W.contents w.old) (W.contents w.new)) }
     ensures fault { IfErr result (λ fault. fault ≢ RunFault.Input) }
 {
     match read(alloc, cfg, dat) {

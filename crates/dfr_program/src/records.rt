@@ -22,7 +22,8 @@ fn put_front<A: Allocator>(
     extent: Extent,
     pair: &Pair<A>,
 ) -> Result<(), AllocError>
-    ensures { OnOk result (line.new.items ≡ line.old.items ++ spec.front_text extent pair.now.cfg.items pair.now.dat.items) }
+    ensures { OnOk result (line.new.items ≡ line.old.items
+        ++ spec.front_text extent pair.now.cfg.items pair.now.dat.items) }
 {
     put_extent(line, extent)?;
     put_length(line, "cfg ", pair.cfg.len())?;
@@ -36,7 +37,8 @@ fn buffer_record<A: Allocator>(
     line: &mut Vec<u8, A>,
     dat: &[u8],
 ) -> Result<(), AllocError>
-    ensures text { OnOk result (out.new.items ≡ out.old.items ++ (line.old.items ++ dat.now ++ codes "\n")) }
+    ensures text { OnOk result (out.new.items ≡ out.old.items
+        ++ (line.old.items ++ dat.now ++ codes "\n")) }
     ensures same { OnErr result (out.new.items ≡ out.old.items) }
 {
     line.extend_from_slice(dat)?;
@@ -44,7 +46,8 @@ fn buffer_record<A: Allocator>(
     out.extend_from_slice(line)
 }
 
-/// Writes what was buffered, the front, the bytes of the data file, which aren't copied, and a line end.
+/// Writes what was buffered, the front, the bytes of the data file, which aren't copied, and a line
+/// end.
 fn write_record<A: Allocator, W: Write>(
     w: &mut W,
     out: &mut Vec<u8, A>,

@@ -24,8 +24,8 @@ use comtrade_write::Kind;
 use std::alloc::Allocator;
 use std::io::{Read, Write};
 
-/// Answers the commands, and writes all that was answered, also where memory was refused in between. After a write that failed
-/// nothing is left, so nothing more is written.
+/// Answers the commands, and writes all that was answered, also where memory was refused in
+/// between. After a write that failed nothing is left, so nothing more is written.
 fn run_commands<A: Allocator + Copy, W: Write>(
     alloc: A,
     prepared: Prepared<A>,
@@ -33,7 +33,8 @@ fn run_commands<A: Allocator + Copy, W: Write>(
     w: &mut W,
 ) -> Result<bool, RunFault>
     ensures printed { (o : Opening) → kept o [] ≡ prepared.recorder →
-        Written result kind o (map parts_of prepared.commands.items) (W.contents w.old) (W.contents w.new) }
+        Written result kind o (map parts_of prepared.commands.items)
+        (W.contents w.old) (W.contents w.new) }
     ensures whole { IfOk result (λ done. done ≡ true) }
 {
     let Prepared { recorder, commands } = prepared;
@@ -50,7 +51,8 @@ fn print_fault<A: Allocator, W: Write>(alloc: A, fault: Fault, w: &mut W) -> Res
     ensures grows { Grows (W.contents w.old) (W.contents w.new) }
     ensures none { IfOk result (λ done. done ≡ false) }
     ensures memory { result ≡ Err RunFault.Memory → W.contents w.new ≡ W.contents w.old }
-    ensures output { result ≡ Err RunFault.Output → Cut (W.contents w.old) (W.contents w.new) (fault_text fault) }
+    ensures output { result ≡ Err RunFault.Output →
+        Cut (W.contents w.old) (W.contents w.new) (fault_text fault) }
     ensures fault { IfErr result (λ fault. fault ≢ RunFault.Input) }
 {
     let mut out = Vec::new(alloc);
@@ -68,13 +70,16 @@ fn replay_text<A: Allocator + Copy, W: Write>(
 ) -> Result<bool, RunFault>
     ensures grows { Grows (W.contents w.old) (W.contents w.new) }
     ensures whole { IfOk result (λ done. is_some (script_fault text.items) ≡ not done) }
-    ensures printed { IfOk result (λ done. done ≡ false → PrintsFault (script_fault text.items) (W.contents w.old) (W.contents w.new)) }
+    ensures printed { IfOk result (λ done. done ≡ false →
+        PrintsFault (script_fault text.items) (W.contents w.old) (W.contents w.new)) }
     ensures answers { IfOk result (λ done. done ≡ true →
-        PrintsAnswers kind (script_value (lines text.items)) (W.contents w.old) (W.contents w.new)) }
+        PrintsAnswers kind (script_value (lines text.items))
+        (W.contents w.old) (W.contents w.new)) }
     ensures memory { result ≡ Err RunFault.Memory → Appends (W.contents w.old) (W.contents w.new) []
         ⊎ PrintsFirst kind (script_value (lines text.items)) (W.contents w.old) (W.contents w.new) }
     ensures output { result ≡ Err RunFault.Output →
-        CutAt kind (script_fault text.items) (script_value (lines text.items)) (W.contents w.old) (W.contents w.new) }
+        CutAt kind (script_fault text.items) (script_value (lines text.items))
+        (W.contents w.old) (W.contents w.new) }
     ensures fault { IfErr result (λ fault. fault ≢ RunFault.Input) }
 {
     match prepared_of(alloc, &text) {
@@ -87,10 +92,11 @@ fn replay_text<A: Allocator + Copy, W: Write>(
     }
 }
 
-/// Replays the script that the reader has: true where the whole of it ran, false where the line of a fault was printed. The
-/// whole script is read, and its set-up made, before any command is. `Input` is a read that failed, or more than 16,777,216
-/// bytes, and nothing was written; `Output` a write that failed, and a front of what would be printed was written; `Memory` an
-/// allocation that failed, and the answers to the first commands were written, or nothing.
+/// Replays the script that the reader has: true where the whole of it ran, false where the line of
+/// a fault was printed. The whole script is read, and its set-up made, before any command is.
+/// `Input` is a read that failed, or more than 16,777,216 bytes, and nothing was written; `Output`
+/// a write that failed, and a front of what would be printed was written; `Memory` an allocation
+/// that failed, and the answers to the first commands were written, or nothing.
 pub fn replay_over<A: Allocator + Copy, R: Read, W: Write>(
     alloc: A,
     r: &mut R,
@@ -98,15 +104,18 @@ pub fn replay_over<A: Allocator + Copy, R: Read, W: Write>(
     kind: Kind,
 ) -> Result<bool, RunFault>
     ensures grows { Grows (W.contents w.old) (W.contents w.new) }
-    ensures whole { IfOk result (λ done. IfSome (R.remaining r.old) (λ text. is_some (script_fault text) ≡ not done)) }
-    ensures printed { IfOk result (λ done. done ≡ false → IfSome (R.remaining r.old) (λ text. PrintsFault (script_fault text) (W.contents w.old) (W.contents w.new))) }
+    ensures whole { IfOk result (λ done. IfSome (R.remaining r.old) (λ text.
+        is_some (script_fault text) ≡ not done)) }
+    ensures printed { IfOk result (λ done. done ≡ false → IfSome (R.remaining r.old) (λ text.
+        PrintsFault (script_fault text) (W.contents w.old) (W.contents w.new))) }
     ensures answers { IfOk result (λ done. done ≡ true → IfSome (R.remaining r.old) (λ text.
         PrintsAnswers kind (script_value (lines text)) (W.contents w.old) (W.contents w.new))) }
     ensures memory { result ≡ Err RunFault.Memory → IfSome (R.remaining r.old) (λ text.
         Appends (W.contents w.old) (W.contents w.new) []
         ⊎ PrintsFirst kind (script_value (lines text)) (W.contents w.old) (W.contents w.new)) }
     ensures output { result ≡ Err RunFault.Output → IfSome (R.remaining r.old) (λ text.
-        CutAt kind (script_fault text) (script_value (lines text)) (W.contents w.old) (W.contents w.new)) }
+        CutAt kind (script_fault text) (script_value (lines text))
+        (W.contents w.old) (W.contents w.new)) }
     ensures short { IfOk result (λ _. IfSome (R.remaining r.old) (λ text. length text ≤ 16777216)) }
     ensures input { result ≡ Err RunFault.Input → w.new ≡ w.old }
 {

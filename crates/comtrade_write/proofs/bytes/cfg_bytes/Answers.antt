@@ -1,4 +1,4 @@
-use Rattle.std.proofs.Common.{◌≡◌, Option, Some, refl, sym, ◌∙◌}
+use Rattle.std.proofs.Common.{◌≡◌, Option, Some, sym, ◌∙◌}
 use Rattle.comtrade_write.specs.declared.fault.WriteFault.{WriteFault}
 use Rattle.comtrade_write.specs.declared.fault.WriteFault.TheVariants as fault
 use Rattle.comtrade_write.specs.Refusals.{Fails}

@@ -15,10 +15,13 @@ use Rattle.dfr_recorder.proofs.Sound.{closes, closes_whole, closes_room, sound_b
 use Rattle.dfr_recorder.proofs.Own.{own_scan}
 use Rattle.dfr_recorder.proofs.recorder.Recorder.scan.Goals as goal
 
+along : {A B : Type 0} (f : A → B) (r : B) (x y : A) → r ≡ f x → x ≡ y → r ≡ f y
+along f r x y p q = p ∙ ap f q
+
 pub returns-then-is_err-clause-memory : goal.returns-then-is_err-clause-memory
 returns-then-is_err-clause-memory g c _ =
     let no : refusal c.self.inside.layout c.self.inside.count c.args.scan ≡ None = sym c.in-None.ensures.value in
-    let recording : c.mark_if-marked.result.recording ≡ recording_if c.self.inside.limits c.self.inside.count c.fires-fired.result c.self.inside.opened c.is_full-full.result (extent_of c.self.inside.recording) = c.mark_if-marked.ensures.recording ∙ ap (λ e. recording_if c.self.inside.limits c.self.inside.count c.fires-fired.result c.self.inside.opened c.is_full-full.result e) c.extent_of-open.ensures in
+    let recording : c.mark_if-marked.result.recording ≡ recording_if c.self.inside.limits c.self.inside.count c.fires-fired.result c.self.inside.opened c.is_full-full.result (extent_of c.self.inside.recording) = along (λ e. recording_if c.self.inside.limits c.self.inside.count c.fires-fired.result c.self.inside.opened c.is_full-full.result e) _ _ _ c.mark_if-marked.ensures.recording c.extent_of-open.ensures in
     let some : is_some c.mark_if-marked.result.recording ≡ true = search rules in
     let at_place : refusal c.args.self.now.layout c.args.self.now.scans c.args.scan ≡ None = sym (ap (λ (k : Kept). refusal k.layout k.scans c.args.scan) c.self.view_is) ∙ no in
     grows_law _ _ at_place (placed_some _ _ _ _ _ _ _ _ _ _ _ _ _ c.self.view_is c.fires-fired.ensures c.is_full-full.ensures recording some)
@@ -32,7 +35,7 @@ invariant_of-self g c =
 
 pub shelve-requires-clause-room : goal.shelve-requires-clause-room
 shelve-requires-clause-room g c =
-    let recording : c.mark_if-marked.result.recording ≡ recording_if c.self.inside.limits c.self.inside.count c.fires-fired.result c.self.inside.opened c.is_full-full.result (extent_of c.self.inside.recording) = c.mark_if-marked.ensures.recording ∙ ap (λ e. recording_if c.self.inside.limits c.self.inside.count c.fires-fired.result c.self.inside.opened c.is_full-full.result e) c.extent_of-open.ensures in
+    let recording : c.mark_if-marked.result.recording ≡ recording_if c.self.inside.limits c.self.inside.count c.fires-fired.result c.self.inside.opened c.is_full-full.result (extent_of c.self.inside.recording) = along (λ e. recording_if c.self.inside.limits c.self.inside.count c.fires-fired.result c.self.inside.opened c.is_full-full.result e) _ _ _ c.mark_if-marked.ensures.recording c.extent_of-open.ensures in
     let grown : c.grow.new.recording ≡ longer_if c.args.scan (placed_if c.mark_if-marked.result.recording c.self.inside.count c.self.inside.ring.items c.self.inside.recording) = ok_gives c.grow.result (sym c.is_err.ensures.value ∙ c.if-is_err.false) c.grow.ensures.ok in
     let waiting : length c.self.inside.shelf.items ≡ deque_len c.self.inside.shelf = search rules in
     let P : ℕ → Type 0 = λ n. IfSome c.grow.new.recording (λ r. n < deque_capacity c.self.inside.shelf) in
@@ -40,16 +43,16 @@ shelve-requires-clause-room g c =
 
 pub shelve-requires-clause-whole : goal.shelve-requires-clause-whole
 shelve-requires-clause-whole g c =
-    let recording : c.mark_if-marked.result.recording ≡ recording_if c.self.inside.limits c.self.inside.count c.fires-fired.result c.self.inside.opened c.is_full-full.result (extent_of c.self.inside.recording) = c.mark_if-marked.ensures.recording ∙ ap (λ e. recording_if c.self.inside.limits c.self.inside.count c.fires-fired.result c.self.inside.opened c.is_full-full.result e) c.extent_of-open.ensures in
+    let recording : c.mark_if-marked.result.recording ≡ recording_if c.self.inside.limits c.self.inside.count c.fires-fired.result c.self.inside.opened c.is_full-full.result (extent_of c.self.inside.recording) = along (λ e. recording_if c.self.inside.limits c.self.inside.count c.fires-fired.result c.self.inside.opened c.is_full-full.result e) _ _ _ c.mark_if-marked.ensures.recording c.extent_of-open.ensures in
     let grown : c.grow.new.recording ≡ longer_if c.args.scan (placed_if c.mark_if-marked.result.recording c.self.inside.count c.self.inside.ring.items c.self.inside.recording) = ok_gives c.grow.result (sym c.is_err.ensures.value ∙ c.if-is_err.false) c.grow.ensures.ok in
     closes_whole _ (length c.self.inside.shelf.items) c.self.inside.limits _ (closes c.self.inside.layout c.self.inside.limits c.self.inside.rules _ _ _ _ _ _ _ _ _ _ c.self.invariant.sound c.is_full-full.ensures recording grown)
 
 pub invariant_of-self-2 : goal.invariant_of-self-2
 invariant_of-self-2 g c =
-    let opened : c.mark_if-marked.result.opened ≡ opened_if c.fires-fired.result c.self.inside.opened c.is_full-full.result (extent_of c.self.inside.recording) = c.mark_if-marked.ensures.opened ∙ ap (λ e. opened_if c.fires-fired.result c.self.inside.opened c.is_full-full.result e) c.extent_of-open.ensures in
-    let recording : c.mark_if-marked.result.recording ≡ recording_if c.self.inside.limits c.self.inside.count c.fires-fired.result c.self.inside.opened c.is_full-full.result (extent_of c.self.inside.recording) = c.mark_if-marked.ensures.recording ∙ ap (λ e. recording_if c.self.inside.limits c.self.inside.count c.fires-fired.result c.self.inside.opened c.is_full-full.result e) c.extent_of-open.ensures in
+    let opened : c.mark_if-marked.result.opened ≡ opened_if c.fires-fired.result c.self.inside.opened c.is_full-full.result (extent_of c.self.inside.recording) = along (λ e. opened_if c.fires-fired.result c.self.inside.opened c.is_full-full.result e) _ _ _ c.mark_if-marked.ensures.opened c.extent_of-open.ensures in
+    let recording : c.mark_if-marked.result.recording ≡ recording_if c.self.inside.limits c.self.inside.count c.fires-fired.result c.self.inside.opened c.is_full-full.result (extent_of c.self.inside.recording) = along (λ e. recording_if c.self.inside.limits c.self.inside.count c.fires-fired.result c.self.inside.opened c.is_full-full.result e) _ _ _ c.mark_if-marked.ensures.recording c.extent_of-open.ensures in
     let grown : c.grow.new.recording ≡ longer_if c.args.scan (placed_if c.mark_if-marked.result.recording c.self.inside.count c.self.inside.ring.items c.self.inside.recording) = ok_gives c.grow.result (sym c.is_err.ensures.value ∙ c.if-is_err.false) c.grow.ensures.ok in
-    let ring : c.keep.new.ring.items ≡ latest (c.self.inside.limits.pre + 1) (c.self.inside.ring.items ++ c.args.scan ∷ []) = c.keep.ensures.items ∙ ap (λ (m : ℕ). latest m (c.self.inside.ring.items ++ c.args.scan ∷ [])) c.self.invariant.ring in
+    let ring : c.keep.new.ring.items ≡ latest (c.self.inside.limits.pre + 1) (c.self.inside.ring.items ++ c.args.scan ∷ []) = along (λ (m : ℕ). latest m (c.self.inside.ring.items ++ c.args.scan ∷ [])) _ _ _ c.keep.ensures.items c.self.invariant.ring in
     let no : refusal c.self.inside.layout c.self.inside.count c.args.scan ≡ None = sym c.in-None.ensures.value in
     record {
       sound = sound_body _ _ _ _ _ _ _ _ _ _ _ _ _ _ _ _ _ c.self.invariant.sound c.is_full-full.ensures opened recording grown c.shelve.ensures.going_on c.shelve.ensures.shelf ring;
@@ -63,11 +66,11 @@ invariant_of-self-2 g c =
 pub returns-clause-ok : goal.returns-clause-ok
 returns-clause-ok g c =
     let no : refusal c.self.inside.layout c.self.inside.count c.args.scan ≡ None = sym c.in-None.ensures.value in
-    let hit : c.mark_if-marked.result.hit ≡ hit_if c.self.inside.limits c.self.inside.count c.fires-fired.result c.self.inside.opened c.is_full-full.result (extent_of c.self.inside.recording) = c.mark_if-marked.ensures.hit ∙ ap (λ e. hit_if c.self.inside.limits c.self.inside.count c.fires-fired.result c.self.inside.opened c.is_full-full.result e) c.extent_of-open.ensures in
-    let opened : c.mark_if-marked.result.opened ≡ opened_if c.fires-fired.result c.self.inside.opened c.is_full-full.result (extent_of c.self.inside.recording) = c.mark_if-marked.ensures.opened ∙ ap (λ e. opened_if c.fires-fired.result c.self.inside.opened c.is_full-full.result e) c.extent_of-open.ensures in
-    let recording : c.mark_if-marked.result.recording ≡ recording_if c.self.inside.limits c.self.inside.count c.fires-fired.result c.self.inside.opened c.is_full-full.result (extent_of c.self.inside.recording) = c.mark_if-marked.ensures.recording ∙ ap (λ e. recording_if c.self.inside.limits c.self.inside.count c.fires-fired.result c.self.inside.opened c.is_full-full.result e) c.extent_of-open.ensures in
+    let hit : c.mark_if-marked.result.hit ≡ hit_if c.self.inside.limits c.self.inside.count c.fires-fired.result c.self.inside.opened c.is_full-full.result (extent_of c.self.inside.recording) = along (λ e. hit_if c.self.inside.limits c.self.inside.count c.fires-fired.result c.self.inside.opened c.is_full-full.result e) _ _ _ c.mark_if-marked.ensures.hit c.extent_of-open.ensures in
+    let opened : c.mark_if-marked.result.opened ≡ opened_if c.fires-fired.result c.self.inside.opened c.is_full-full.result (extent_of c.self.inside.recording) = along (λ e. opened_if c.fires-fired.result c.self.inside.opened c.is_full-full.result e) _ _ _ c.mark_if-marked.ensures.opened c.extent_of-open.ensures in
+    let recording : c.mark_if-marked.result.recording ≡ recording_if c.self.inside.limits c.self.inside.count c.fires-fired.result c.self.inside.opened c.is_full-full.result (extent_of c.self.inside.recording) = along (λ e. recording_if c.self.inside.limits c.self.inside.count c.fires-fired.result c.self.inside.opened c.is_full-full.result e) _ _ _ c.mark_if-marked.ensures.recording c.extent_of-open.ensures in
     let grown : c.grow.new.recording ≡ longer_if c.args.scan (placed_if c.mark_if-marked.result.recording c.self.inside.count c.self.inside.ring.items c.self.inside.recording) = ok_gives c.grow.result (sym c.is_err.ensures.value ∙ c.if-is_err.false) c.grow.ensures.ok in
-    let ring : c.keep.new.ring.items ≡ latest (c.self.inside.limits.pre + 1) (c.self.inside.ring.items ++ c.args.scan ∷ []) = c.keep.ensures.items ∙ ap (λ (m : ℕ). latest m (c.self.inside.ring.items ++ c.args.scan ∷ [])) c.self.invariant.ring in
+    let ring : c.keep.new.ring.items ≡ latest (c.self.inside.limits.pre + 1) (c.self.inside.ring.items ++ c.args.scan ∷ []) = along (λ (m : ℕ). latest m (c.self.inside.ring.items ++ c.args.scan ∷ [])) _ _ _ c.keep.ensures.items c.self.invariant.ring in
     let next = next_body _ _ _ _ _ _ _ _ _ _ _ _ _ _ _ _ _ _ c.fires-fired.ensures c.is_full-full.ensures opened recording grown c.shelve.ensures.going_on c.shelve.ensures.shelf ring refl in
     let after : Kept = kept_by c.self.inside.layout c.self.inside.limits c.self.inside.rules (c.self.inside.count + 1) c.keep.new.ring.items c.mark_if-marked.result.opened c.shelve.new.recording c.shelve.new.shelf.items in
     let P : ℕ → Type 0 = λ m. IsStep c.args.self.now (step.Scan c.args.scan) (answer.Scan (Ok (record { number = m; trigger = c.scanned.result.trigger; closed = c.scanned.result.closed }))) after in
