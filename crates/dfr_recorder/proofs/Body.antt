@@ -11,15 +11,13 @@ use Rattle.dfr_recorder.specs.declared.step.Hit.{Hit}
 use Rattle.dfr_recorder.specs.declared.step.Scanned.{Scanned}
 use Rattle.dfr_recorder.specs.declared.step.TriggerFault.{TriggerFault}
 use Rattle.dfr_recorder.specs.Parts.{RecordParts}
-use Rattle.dfr_recorder.specs.Steps.{StepParts}
 use Rattle.dfr_recorder.specs.Steps as step
-use Rattle.dfr_recorder.specs.Answers.{AnswerParts}
 use Rattle.dfr_recorder.specs.Answers as answers
 use Rattle.dfr_recorder.specs.Marks.{mark, mark_if, scanned}
 use Rattle.dfr_recorder.specs.History.{newest, refusal, refused_when_full}
 use Rattle.dfr_recorder.specs.Kept.{Kept, latest}
 use Rattle.dfr_recorder.specs.Recording.{longer_if, unless_last, if_last}
-use Rattle.dfr_recorder.proofs.Next.{next_scan, next_trigger, told_of_scan, told_of_trigger, met, marked, added, accepted, after_mark, fired, fired_mark}
+use Rattle.dfr_recorder.proofs.Next.{next_scan, next_trigger, told_of_scan, told_of_trigger, met, marked, accepted, after_mark, fired, fired_mark}
 use Rattle.dfr_recorder.proofs.Told.{IsMade}
 
 -- the front of a queue, and what is behind it
@@ -59,6 +57,11 @@ pub fired_is : (k : Kept) (x : ScanParts) (f : Option ℕ) (before : Met) (m : M
 fired_is k x f before m f_is met_is mark_is =
     ap (λ b. fired_mark k (lowest_holding b x k.rules)) (newest-get k.ring) ∙ sym (mark_is ∙ ap (λ q. mark_if k.limits k.scans q before) f_is ∙ ap (mark_if k.limits k.scans (lowest_holding (slice_get k.ring (length k.ring - 1)) x k.rules)) met_is)
 
+accepted_body : (k : Kept) (x : ScanParts) (m : MarkedIf) (longer recording : Option RecordParts) (shelf : List RecordParts) (ring : List ScanParts)
+    → longer ≡ longer_if x (after_mark k m.extent) → recording ≡ unless_last k.scans longer → shelf ≡ k.shelf ++ if_last k.scans longer → ring ≡ latest (k.limits.pre + 1) (k.ring ++ x ∷ [])
+    → accepted k x m ≡ record k { scans = k.scans + 1; ring = ring; opened = m.opened; recording = recording; shelf = shelf }
+accepted_body k x m longer recording shelf ring longer_is recording_is shelf_is ring_is = rw (recording_is, shelf_is, ring_is, longer_is) refl
+
 pub scan_body : (k old : Kept) (x : ScanParts) (f : Option ℕ) (before : Met) (m : MarkedIf) (longer recording : Option RecordParts) (shelf : List RecordParts) (ring : List ScanParts) (s : Scanned)
     → k ≡ old → refusal k.layout k.scans x ≡ None
     → f ≡ lowest_holding (slice_get k.ring (length k.ring - 1)) x k.rules → before ≡ met k → m ≡ mark_if k.limits k.scans f before
@@ -66,10 +69,9 @@ pub scan_body : (k old : Kept) (x : ScanParts) (f : Option ℕ) (before : Met) (
     → ring ≡ latest (k.limits.pre + 1) (k.ring ++ x ∷ []) → s ≡ scanned k.scans m
     → IsMade old (step.Scan x) (answers.Scan (Ok s)) (record k { scans = k.scans + 1; ring = ring; opened = m.opened; recording = recording; shelf = shelf })
 scan_body k old x f before m longer recording shelf ring s v ok f_is met_is mark_is longer_is recording_is shelf_is ring_is s_is =
-    let is : fired_mark k (fired k x) ≡ m = fired_is k x f before m f_is met_is mark_is in
+    let is = fired_is k x f before m f_is met_is mark_is in
     let new : Kept = record k { scans = k.scans + 1; ring = ring; opened = m.opened; recording = recording; shelf = shelf } in
-    let made : added k x m.opened longer ≡ new = rw (recording_is, shelf_is, ring_is) refl in
     subst (λ (q : Kept). IsMade q (step.Scan x) (answers.Scan (Ok s)) new) v (record {
       told = ap (λ r. answers.Scan (told_of_scan k x r)) ok ∙ ap (λ q. answers.Scan (Ok (scanned k.scans q))) is ∙ ap (λ q. answers.Scan (Ok q)) (sym s_is);
-      next = ap (next_scan k x) ok ∙ ap (accepted k x) is ∙ ap (added k x m.opened) (sym longer_is) ∙ made;
+      next = ap (next_scan k x) ok ∙ ap (accepted k x) is ∙ accepted_body k x m longer recording shelf ring longer_is recording_is shelf_is ring_is;
     })

@@ -1,5 +1,5 @@
 -- The core law: one step of ring, open record and shelf takes what is kept of a history to what is kept after the step.
-use Rattle.std.proofs.Common.{ℕ, zero, suc, ◌≡◌, ◌+◌, ◌-◌, ◌<◌, ◌≤◌, inl, inr, refl, sym, ap, ◌∙◌, Bool, true, false, cond, ltb, leb, eqb, min, List, [], ◌∷◌, ◌++◌, length, take, drop, Option, Some, None, arith, length-append, length-drop}
+use Rattle.std.proofs.Common.{ℕ, zero, suc, ◌≡◌, ◌+◌, ◌-◌, ◌<◌, ◌≤◌, inl, inr, refl, sym, ap, ◌∙◌, Bool, true, false, cond, ltb, leb, eqb, min, List, [], ◌∷◌, ◌++◌, length, drop, Option, Some, None, arith, length-append, length-drop}
 use Rattle.std.specs.Prelude.{slice_range, option_map, option_to_list, IfSome}
 use Rattle.std.proofs.lemmas.List.{drop-drop, drop-append-le, drop_all, append-nil}
 use Rattle.std.proofs.lemmas.Bool.{cases_lt, lt-ltb, le-ltb, le-leb, lt-leb, eq-eqb, ne_eqb}
@@ -14,10 +14,10 @@ use Rattle.dfr_recorder.specs.declared.step.ScanRefusal.{ScanRefusal}
 use Rattle.dfr_recorder.specs.Steps.{StepParts}
 use Rattle.dfr_recorder.specs.Steps as step
 use Rattle.dfr_recorder.specs.Parts.{RecordParts}
-use Rattle.dfr_recorder.specs.Marks.{mark, mark_by, mark_if}
+use Rattle.dfr_recorder.specs.Marks.{mark, mark_if}
 use Rattle.dfr_recorder.specs.History as history
 use Rattle.dfr_recorder.specs.History.{Opening, Past, past, after, after_scan, after_trigger, fires, refusal, count, open_at, open_one, ended_at, ended, closed, records, record_of}
-use Rattle.dfr_recorder.specs.Kept.{Kept, kept, kept_of, kept_by, latest}
+use Rattle.dfr_recorder.specs.Kept.{kept, kept_of, latest}
 use Rattle.dfr_recorder.specs.Recording.{extent_of, placed_if, longer, longer_if, unless_last, if_last}
 use Rattle.dfr_recorder.proofs.Next.{next, next_scan, next_trigger, met, marked, accepted, fired, fired_mark}
 use Rattle.dfr_recorder.proofs.Slices.{latest-from, latest-push, range-push, range-so_far, newest-latest}

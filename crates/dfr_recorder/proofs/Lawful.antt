@@ -6,7 +6,7 @@ use Rattle.std.proofs.lemmas.List.Elements.{All-head, All-nil}
 use Rattle.dfr_channels.specs.Parts.{SetupParts, ScanParts}
 use Rattle.dfr_channels.specs.declared.rule.Rule.{Rule}
 use Rattle.dfr_recorder.specs.declared.limits.Limits.{Limits}
-use Rattle.dfr_recorder.specs.Parts.{RecordParts, IsWhole}
+use Rattle.dfr_recorder.specs.Parts.{RecordParts}
 use Rattle.dfr_recorder.specs.Limits.{has_stamps}
 use Rattle.dfr_recorder.specs.Own.{is_own}
 use Rattle.dfr_recorder.specs.Steps.{StepParts}

@@ -1,8 +1,9 @@
 -- Where memory is wanted, a record is open or opens.
-use Rattle.std.proofs.Common.{ℕ, suc, ◌≡◌, ◌+◌, sym, ap, subst, ◌∙◌, refl, Bool, true, false, eqb, ltb, List, ◌∷◌, length, Option, Some, None, arith}
-use Rattle.std.specs.Prelude.{◌||◌, IsTrue, is_some}
+use Rattle.std.proofs.Common.{ℕ, suc, ◌≡◌, ◌+◌, sym, ap, subst, ◌∙◌, refl, Bool, true, false, eqb, ltb, ◌∷◌, length, Option, Some, None, arith}
+use Rattle.std.specs.Prelude.{◌-◌, ◌||◌, IsTrue, is_some, slice_get}
 use Rattle.std.proofs.lemmas.Bool.{lt-ltb, and_from}
 use Rattle.dfr_channels.specs.Parts.{ScanParts}
+use Rattle.dfr_channels.specs.Firing.{lowest_holding}
 use Rattle.dfr_recorder.specs.declared.limits.Limits.{Limits}
 use Rattle.dfr_recorder.specs.declared.record.Cause.{Cause}
 use Rattle.dfr_recorder.specs.declared.record.Cause.TheVariants as cause
@@ -11,7 +12,6 @@ use Rattle.dfr_recorder.specs.declared.marks.Met.{Met}
 use Rattle.dfr_recorder.specs.declared.marks.Marked.{Marked}
 use Rattle.dfr_recorder.specs.declared.marks.MarkedIf.{MarkedIf}
 use Rattle.dfr_recorder.specs.Parts.{RecordParts}
-use Rattle.dfr_recorder.specs.Steps.{StepParts}
 use Rattle.dfr_recorder.specs.Steps as step
 use Rattle.dfr_recorder.specs.Marks.{mark, mark_if}
 use Rattle.dfr_recorder.specs.History.{past, count, is_open, refusal}
@@ -20,6 +20,7 @@ use Rattle.dfr_recorder.specs.Memory.{accepts, opens, GrowsRecord, OpensRecord}
 use Rattle.dfr_recorder.specs.Recording.{extent_of}
 use Rattle.dfr_recorder.proofs.Next.{next, next_scan, next_trigger, met, accepted, marked, fired, fired_mark}
 use Rattle.dfr_recorder.proofs.Law.{core-law}
+use Rattle.dfr_recorder.proofs.Body.{fired_is}
 use Rattle.dfr_recorder.proofs.Readers.{open_law}
 
 -- a trigger after which a record is open found one or opened one
@@ -30,23 +31,25 @@ mark-by limits k opened by full (Some e) some = refl
 mark-by limits k opened by true None some = absurd (cc)
 mark-by limits k opened by false None some = lt-ltb opened (opened + 1) (omega arith)
 
-found-by : (n opened opened2 : ℕ) (recording : Option RecordParts) → (is_some (extent_of recording) || ltb opened opened2) ≡ true → (is_some recording || ltb opened opened2) ≡ true
-found-by n opened opened2 None e = e
-found-by n opened opened2 (Some r) e = refl
+found-by : (opened opened2 : ℕ) (recording : Option RecordParts) → (is_some (extent_of recording) || ltb opened opened2) ≡ true → (is_some recording || ltb opened opened2) ≡ true
+found-by opened opened2 None e = e
+found-by opened opened2 (Some r) e = refl
 
 fired-by : (k : Kept) (f : Option ℕ) → is_some (fired_mark k f).extent ≡ true → (is_some (extent_of k.recording) || ltb k.opened (fired_mark k f).opened) ≡ true
 fired-by k None some = rw some refl
 fired-by k (Some rule) some = mark-by k.limits k.scans k.opened (cause.Rule rule) (eqb (length k.shelf) k.limits.shelf) (extent_of k.recording) some
 
-pub grows_law : (k old : Kept) (x : ScanParts) (m : MarkedIf) → k ≡ old → refusal k.layout k.scans x ≡ None → fired_mark k (fired k x) ≡ m → is_some m.extent ≡ true → GrowsRecord old x
-grows_law k old x m v ok is some o h e =
+pub grows_law : (k old : Kept) (x : ScanParts) (f : Option ℕ) (before : Met) (m : MarkedIf) → k ≡ old → refusal k.layout k.scans x ≡ None
+    → f ≡ lowest_holding (slice_get k.ring (length k.ring - 1)) x k.rules → before ≡ met k → m ≡ mark_if k.limits k.scans f before → is_some m.extent ≡ true → GrowsRecord old x
+grows_law k old x f before m v ok f_is met_is mark_is some o h e =
+    let is = fired_is k x f before m f_is met_is mark_is in
     let same : kept o h ≡ k = e ∙ sym v in
     let after : kept o (step.Scan x ∷ h) ≡ accepted k x m = core-law o h (step.Scan x) ∙ ap (λ k. next k (step.Scan x)) same ∙ ap (next_scan k x) ok ∙ ap (accepted k x) is in
     let was : count (past o h) ≡ k.scans = ap (λ (k : Kept). k.scans) same in
     let now : count (past o (step.Scan x ∷ h)) ≡ k.scans + 1 = ap (λ (k : Kept). k.scans) after in
     let taken_in : IsTrue (accepts o h (step.Scan x)) = lt-ltb (count (past o h)) (count (past o (step.Scan x ∷ h))) (omega (arith, was, now)) in
     let found : (is_some k.recording || ltb k.opened m.opened) ≡ true =
-    found-by k.scans k.opened m.opened k.recording (subst (λ (q : MarkedIf). (is_some (extent_of k.recording) || ltb k.opened q.opened) ≡ true) is (fired-by k (fired k x) (ap (λ (q : MarkedIf). is_some q.extent) is ∙ some))) in
+    found-by k.opened m.opened k.recording (subst (λ (q : MarkedIf). (is_some (extent_of k.recording) || ltb k.opened q.opened) ≡ true) is (fired-by k (fired k x) (ap (λ (q : MarkedIf). is_some q.extent) is ∙ some))) in
     let meets : (is_open (past o h) || opens o h (step.Scan x)) ≡ true =
     ap (λ b. b || opens o h (step.Scan x)) (sym (open_law o h) ∙ ap (λ (k : Kept). is_some k.recording) same)
     ∙ ap (λ (n : ℕ). is_some k.recording || ltb n (length (past o (step.Scan x ∷ h)).extents)) (ap (λ (k : Kept). k.opened) same)

@@ -22,7 +22,7 @@ use Rattle.dfr_recorder.specs.History.{refusal}
 use Rattle.dfr_recorder.specs.Kept.{Kept, latest}
 use Rattle.dfr_recorder.specs.Recording.{extent_of, placed_if, longer, longer_if, unless_last, if_last}
 use Rattle.dfr_recorder.specs.Sound.{IsSound, IsGrowing, IsOpenSound, IsClosed, Passes}
-use Rattle.dfr_recorder.proofs.Next.{next, next_scan, next_trigger, met, marked, accepted, after_mark, fired, fired_mark}
+use Rattle.dfr_recorder.proofs.Next.{next, next_scan, next_trigger, met, accepted, after_mark, fired, fired_mark}
 use Rattle.dfr_recorder.proofs.Own.{accepted_law, own_record}
 
 length-latest : {X : Type 0} (m : ℕ) (xs : List X) → length (latest m xs) ≡ min (length xs) m
@@ -187,10 +187,10 @@ closes-by : (layout : SetupParts) (limits : Limits) (n opened w capacity : ℕ) 
 closes-by layout limits n opened w capacity x None le h = (tt, tt)
 closes-by layout limits n opened w capacity x (Some r) le h = ((λ at. whole-of layout limits n opened w x r h at), omega (arith, h.room))
 
-pub closes : (k : Kept) (x : ScanParts) (f : Option ℕ) (before : Met) (m : MarkedIf) (grown : Option RecordParts) (capacity : ℕ)
-    → before ≡ met k → m ≡ mark_if k.limits k.scans f before → grown ≡ longer_if x (after_mark k m.extent) → k.limits.shelf ≤ capacity → IsSound k
+pub closes : (k old : Kept) (x : ScanParts) (f : Option ℕ) (before : Met) (m : MarkedIf) (grown : Option RecordParts) (capacity : ℕ)
+    → k ≡ old → before ≡ met k → m ≡ mark_if k.limits k.scans f before → grown ≡ longer_if x (after_mark k m.extent) → k.limits.shelf ≤ capacity → IsSound k
     → IfSome grown (λ r. r.extent.last ≡ k.scans → IsWhole r) × IfSome grown (λ r. length k.shelf < capacity)
-closes k x f before m grown capacity met_is mark_is grown_is le h =
+closes k old x f before m grown capacity v met_is mark_is grown_is le h =
     let is : grown ≡ longer_if x (after_mark k (fired_mark k f).extent) = grown_is ∙ ap (λ (q : MarkedIf). longer_if x (after_mark k q.extent)) (mark_is ∙ ap (mark_if k.limits k.scans f) met_is) in
     subst (λ (q : Option RecordParts). IfSome q (λ r. r.extent.last ≡ k.scans → IsWhole r) × IfSome q (λ r. length k.shelf < capacity)) (sym is)
     (closes-by k.layout k.limits k.scans (fired_mark k f).opened (length k.shelf) capacity x (after_mark k (fired_mark k f).extent) le (sound_fired k f h))

@@ -1,12 +1,12 @@
-use Rattle.std.proofs.Common.{refl, ℕ, ◌+◌, ◌<◌, ◌≡◌, [], ◌∷◌, ◌++◌, true, length, arith, ap, subst, sym, ◌∙◌, Option, rules, None, deque_len, deque_capacity}
+use Rattle.std.proofs.Common.{ℕ, ◌+◌, ◌<◌, ◌≡◌, [], ◌∷◌, ◌++◌, true, length, arith, ap, subst, sym, ◌∙◌, Option, rules, None, deque_len, deque_capacity}
 use Rattle.std.specs.Prelude.{IfSome, is_some}
 use Rattle.dfr_recorder.specs.History.{refusal}
-use Rattle.dfr_recorder.specs.Parts.{RecordParts, IsWhole}
+use Rattle.dfr_recorder.specs.Parts.{RecordParts}
 use Rattle.dfr_recorder.specs.Kept.{kept_by, latest}
 use Rattle.dfr_recorder.specs.Sound.{IsSoundBody}
 use Rattle.dfr_recorder.proofs.Memory.{grows_law}
 use Rattle.dfr_recorder.proofs.Runs.{ok_gives, err_gives}
-use Rattle.dfr_recorder.proofs.Body.{scan_body, fired_is}
+use Rattle.dfr_recorder.proofs.Body.{scan_body}
 use Rattle.dfr_recorder.proofs.Told.{is_step}
 use Rattle.dfr_recorder.proofs.Lawful.{sound_made}
 use Rattle.dfr_recorder.proofs.Sound.{closes}
@@ -16,7 +16,7 @@ pub returns-then-is_err-clause-memory : goal.returns-then-is_err-clause-memory
 returns-then-is_err-clause-memory g c _ =
     let no : refusal c.self.inside.layout c.self.inside.count c.args.scan ≡ None = sym c.in-None.ensures.value in
     let some : is_some c.mark_if-marked.result.extent ≡ true = search rules in
-    grows_law _ _ _ _ c.self.view_is no (fired_is (kept_by c.self.inside.layout c.self.inside.limits c.self.inside.rules c.self.inside.count c.self.inside.ring.items c.self.inside.opened c.self.inside.recording c.self.inside.shelf.items) _ _ _ _ c.fires-fired.ensures c.met_by-met.ensures c.mark_if-marked.ensures) some
+    grows_law _ _ _ _ _ _ c.self.view_is no c.fires-fired.ensures c.met_by-met.ensures c.mark_if-marked.ensures some
 
 pub invariant_of-self : goal.invariant_of-self
 invariant_of-self g c =
@@ -30,12 +30,12 @@ shelve-requires-clause-room g c =
     let grown = ok_gives c.grow.result (sym c.is_err.ensures.value ∙ c.if-is_err.false) c.grow.ensures.ok in
     let waiting : length c.self.inside.shelf.items ≡ deque_len c.self.inside.shelf = search rules in
     let P : ℕ → Type 0 = λ n. IfSome c.grow.new.recording (λ r. n < deque_capacity c.self.inside.shelf) in
-    subst P waiting (closes (kept_by c.self.inside.layout c.self.inside.limits c.self.inside.rules c.self.inside.count c.self.inside.ring.items c.self.inside.opened c.self.inside.recording c.self.inside.shelf.items) _ _ _ _ _ _ c.met_by-met.ensures c.mark_if-marked.ensures grown c.self.invariant.shelf c.self.invariant.sound).1
+    subst P waiting (closes _ _ _ _ _ _ _ _ c.self.view_is c.met_by-met.ensures c.mark_if-marked.ensures grown c.self.invariant.shelf c.self.invariant.sound).1
 
 pub shelve-requires-clause-whole : goal.shelve-requires-clause-whole
 shelve-requires-clause-whole g c =
     let grown = ok_gives c.grow.result (sym c.is_err.ensures.value ∙ c.if-is_err.false) c.grow.ensures.ok in
-    (closes (kept_by c.self.inside.layout c.self.inside.limits c.self.inside.rules c.self.inside.count c.self.inside.ring.items c.self.inside.opened c.self.inside.recording c.self.inside.shelf.items) _ _ _ _ _ _ c.met_by-met.ensures c.mark_if-marked.ensures grown c.self.invariant.shelf c.self.invariant.sound).0
+    (closes _ _ _ _ _ _ _ _ c.self.view_is c.met_by-met.ensures c.mark_if-marked.ensures grown c.self.invariant.shelf c.self.invariant.sound).0
 
 pub invariant_of-self-2 : goal.invariant_of-self-2
 invariant_of-self-2 g c =
