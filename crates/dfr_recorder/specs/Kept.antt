@@ -36,7 +36,7 @@ kept_of layout limits p = record {
   shelf = drop p.taken (records p.scans (ended p));
 }
 
--- the same by its parts
+-- what is kept, by its parts
 abbrev pub kept_by : SetupParts → Limits → List Rule → ℕ → List ScanParts → ℕ → Option RecordParts → List RecordParts → Kept
 kept_by layout limits rules n ring opened recording shelf =
     record { layout = layout; limits = limits; scans = n; ring = ring; rules = rules; opened = opened; recording = recording; shelf = shelf }

@@ -26,10 +26,12 @@ begun limits k cause opened = record {
   extent = Some (record { number = opened + 1; first = k - limits.pre; trigger = k; last = k + limits.post; cause = cause });
 }
 
--- a trigger at place k, where this record is open
+-- a trigger at place k, where this record is open or none is
 abbrev pub mark_by : Limits → ℕ → Cause → Met → Option Extent → Marked
 mark_by limits k cause met (Some e) = extended limits k met.opened e
-mark_by limits k cause met None = if met.full then record { hit = ShelfFull; opened = met.opened; extent = None } else begun limits k cause met.opened
+mark_by limits k cause met None =
+    if met.full then record { hit = ShelfFull; opened = met.opened; extent = None }
+    else begun limits k cause met.opened
 
 abbrev pub mark : Limits → ℕ → Cause → Met → Marked
 mark limits k cause met = mark_by limits k cause met met.extent

@@ -13,8 +13,8 @@ use Rattle.dfr_recorder.specs.Kept.{Kept}
 abbrev pub Passes : SetupParts → ScanParts → Type 0
 Passes layout scan = IsTrue (passes layout scan)
 
--- after n scans and a trigger before place m an open record has the scans from its first on, its last is to come, it is not too
--- long, and the shelf, where so many wait, has room for it
+-- after n scans, and triggers before place m, an open record has the scans from its first on, its last is to come, it is not too
+-- long, no more records were opened than that, and the shelf, where so many wait, has room for it
 pub record IsGrowing (layout : SetupParts) (limits : Limits) (n m count waiting : ℕ) (r : RecordParts) : Type 0 where
   pub begun : r.extent.first ≤ r.extent.trigger
   pub triggered : r.extent.trigger < m

@@ -39,9 +39,10 @@ shelve-requires-clause-whole g c =
 
 pub invariant_of-self-2 : goal.invariant_of-self-2
 invariant_of-self-2 g c =
+    let no : refusal c.self.inside.layout c.self.inside.count c.args.scan ≡ None = sym c.in-None.ensures.value in
     let grown = ok_gives c.grow.result (sym c.is_err.ensures.value ∙ c.if-is_err.false) c.grow.ensures.ok in
     let ring : c.keep.new.ring.items ≡ latest (c.self.inside.limits.pre + 1) (c.self.inside.ring.items ++ c.args.scan ∷ []) = c.keep.ensures.items ∙ ap (λ (m : ℕ). latest m (c.self.inside.ring.items ++ c.args.scan ∷ [])) c.self.invariant.ring in
-    let made = scan_body _ _ _ _ _ _ _ _ _ _ _ c.self.view_is (sym c.in-None.ensures.value) c.fires-fired.ensures c.met_by-met.ensures c.mark_if-marked.ensures grown c.shelve.ensures.going_on c.shelve.ensures.shelf ring c.scanned.ensures in
+    let made = scan_body _ _ _ _ _ _ _ _ _ _ _ c.self.view_is no c.fires-fired.ensures c.met_by-met.ensures c.mark_if-marked.ensures grown c.shelve.ensures.going_on c.shelve.ensures.shelf ring c.scanned.ensures in
     record {
       sound = sound_made _ _ _ _ _ c.self.view_is made c.self.invariant.sound;
       fit = c.self.invariant.fit;
@@ -52,6 +53,7 @@ invariant_of-self-2 g c =
 
 pub returns-clause-ok : goal.returns-clause-ok
 returns-clause-ok g c =
+    let no : refusal c.self.inside.layout c.self.inside.count c.args.scan ≡ None = sym c.in-None.ensures.value in
     let grown = ok_gives c.grow.result (sym c.is_err.ensures.value ∙ c.if-is_err.false) c.grow.ensures.ok in
     let ring : c.keep.new.ring.items ≡ latest (c.self.inside.limits.pre + 1) (c.self.inside.ring.items ++ c.args.scan ∷ []) = c.keep.ensures.items ∙ ap (λ (m : ℕ). latest m (c.self.inside.ring.items ++ c.args.scan ∷ [])) c.self.invariant.ring in
-    is_step _ _ _ _ (scan_body _ _ _ _ _ _ _ _ _ _ _ c.self.view_is (sym c.in-None.ensures.value) c.fires-fired.ensures c.met_by-met.ensures c.mark_if-marked.ensures grown c.shelve.ensures.going_on c.shelve.ensures.shelf ring c.scanned.ensures)
+    is_step _ _ _ _ (scan_body _ _ _ _ _ _ _ _ _ _ _ c.self.view_is no c.fires-fired.ensures c.met_by-met.ensures c.mark_if-marked.ensures grown c.shelve.ensures.going_on c.shelve.ensures.shelf ring c.scanned.ensures)
