@@ -4,10 +4,11 @@ use Rattle.std.specs.Prelude.{option_to_list}
 use Rattle.std.proofs.lemmas.List.Elements.{All-head, All-tail}
 use Rattle.std.proofs.Math.Nat.{mul-le-mul_left}
 use Rattle.std.proofs.lemmas.Nat.{mul-le}
+use Rattle.dfr_channels.specs.Parts.{SetupParts}
 use Rattle.dfr_recorder.specs.declared.limits.Limits.{Limits}
 use Rattle.dfr_recorder.specs.Parts.{RecordParts}
 use Rattle.dfr_recorder.specs.Kept.{Kept, scans_in, held}
-use Rattle.dfr_recorder.specs.Sound.{IsSound, IsShort, IsOpenSound, IsRoomy}
+use Rattle.dfr_recorder.specs.Sound.{IsSound, IsClosed, IsOpenSound}
 
 -- the shelf, record by record
 scans-suc : (i : ℕ) (rs : List RecordParts) (r : RecordParts) → i < length rs → r ≡ slice_index_or rs i r → scans_in (take (suc i) rs) ≡ scans_in (take i rs) + length r.scans
@@ -23,25 +24,20 @@ scans_part zero rs = omega arith
 scans_part (suc i) [] = omega arith
 scans_part (suc i) (r ∷ rs) = omega (arith, scans_part i rs)
 
-scans-short : (longest : ℕ) (rs : List RecordParts) → All (IsShort longest) rs → scans_in rs ≤ longest * length rs
-scans-short longest [] h = omega arith
-scans-short longest (r ∷ rs) h = omega (arith, All-head (IsShort longest) r rs h, scans-short longest rs (All-tail (IsShort longest) r rs h))
+scans-short : (layout : SetupParts) (limits : Limits) (rs : List RecordParts) → All (IsClosed layout limits) rs → scans_in rs ≤ limits.longest * length rs
+scans-short layout limits [] h = omega arith
+scans-short layout limits (r ∷ rs) h = omega (arith, (All-head (IsClosed layout limits) r rs h).short, scans-short layout limits rs (All-tail (IsClosed layout limits) r rs h))
 
 -- the open record and the shelf
-records-bound : (limits : Limits) (n opened : ℕ) (recording : Option RecordParts) (shelf : List RecordParts)
-    → IsOpenSound limits n opened recording → IsRoomy limits (length shelf) recording → All (IsShort limits.longest) shelf
-    → scans_in (option_to_list recording) + scans_in shelf ≤ limits.longest * limits.shelf
-records-bound limits n opened None shelf h room short = omega (arith, scans-short limits.longest shelf short, mul-le-mul_left limits.longest room)
-records-bound limits n opened (Some r) shelf h room short =
-    let m = h.0 in
-    let all : limits.longest * (length shelf + 1) ≤ limits.longest * limits.shelf = mul-le-mul_left limits.longest (omega arith) in
-    omega (arith, scans-short limits.longest shelf short, all, m.short, m.scans, m.to_come)
+records-bound : (layout : SetupParts) (limits : Limits) (n opened : ℕ) (recording : Option RecordParts) (shelf : List RecordParts)
+    → IsOpenSound layout limits n n opened (length shelf) recording → All (IsClosed layout limits) shelf → scans_in (option_to_list recording) + scans_in shelf ≤ limits.longest * limits.shelf
+records-bound layout limits n opened None shelf h closed = omega (arith, scans-short layout limits shelf closed, mul-le-mul_left limits.longest h.1)
+records-bound layout limits n opened (Some r) shelf h closed =
+    let all : limits.longest * (length shelf + 1) ≤ limits.longest * limits.shelf = mul-le-mul_left limits.longest (omega (arith, h.room)) in
+    omega (arith, scans-short layout limits shelf closed, all, h.short, h.scans, h.to_come)
 
 pub held_bound : (k : Kept) → IsSound k → held k ≤ k.limits.pre + 1 + k.limits.longest * k.limits.shelf
-held_bound k h = omega (arith, h.ring, records-bound k.limits k.scans k.opened k.recording k.shelf h.recording h.room h.short)
-
-pub shelf_bound : (k : Kept) → IsSound k → scans_in k.shelf ≤ k.limits.longest * k.limits.shelf
-shelf_bound k h = omega (arith, records-bound k.limits k.scans k.opened k.recording k.shelf h.recording h.room h.short)
+held_bound k h = omega (arith, h.ring, records-bound k.layout k.limits k.scans k.opened k.recording k.shelf h.recording h.shelf)
 
 -- the same by numbers
 limits-low : (limits : Limits) → limits.pre + 1 + limits.longest * limits.shelf ≤ 65000000
@@ -51,6 +47,3 @@ limits-low limits =
 
 pub held_low : (k : Kept) → IsSound k → held k ≤ 65000000
 held_low k h = omega (arith, held_bound k h, limits-low k.limits)
-
-pub shelf_low : (k : Kept) → IsSound k → scans_in k.shelf ≤ 65000000
-shelf_low k h = omega (arith, shelf_bound k h, limits-low k.limits)

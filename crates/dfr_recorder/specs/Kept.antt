@@ -1,12 +1,12 @@
 -- What a recorder keeps of its past.
-use Rattle.std.specs.Prelude.{ℕ, ◌≡◌, ◌+◌, ◌-◌, if◌then◌else◌, List, [], ◌∷◌, length, take, drop, Option, None, option_to_list}
+use Rattle.std.specs.Prelude.{ℕ, ◌≡◌, ◌+◌, ◌-◌, List, [], ◌∷◌, length, drop, Option, option_map, option_to_list}
 use Rattle.dfr_channels.specs.Parts.{SetupParts, ScanParts}
 use Rattle.dfr_channels.specs.declared.rule.Rule.{Rule}
 use Rattle.dfr_recorder.specs.declared.limits.Limits.{Limits}
 use Rattle.dfr_recorder.specs.Parts.{RecordParts}
 use Rattle.dfr_recorder.specs.Steps.{StepParts}
 use Rattle.dfr_recorder.specs.Answers.{AnswerParts}
-use Rattle.dfr_recorder.specs.History.{Opening, Past, past, count, newest, is_open, closed, records, answer}
+use Rattle.dfr_recorder.specs.History.{Opening, Past, past, count, open_one, ended, record_of, records, answer}
 
 -- layout and limits, how many scans were accepted, the last ones, the rules, how many records were opened, the open one with its scans so far,
 -- and those that wait, the oldest first
@@ -31,10 +31,15 @@ kept_of layout limits p = record {
   scans = count p;
   ring = latest (limits.pre + 1) p.scans;
   rules = p.rules;
-  opened = length p.intervals;
-  recording = if is_open p then newest (records p.scans p.intervals) else None;
-  shelf = drop p.taken (take (closed p) (records p.scans p.intervals));
+  opened = length p.extents;
+  recording = option_map (record_of p.scans) (open_one p);
+  shelf = drop p.taken (records p.scans (ended p));
 }
+
+-- what is kept, by its parts
+abbrev pub kept_by : SetupParts → Limits → List Rule → ℕ → List ScanParts → ℕ → Option RecordParts → List RecordParts → Kept
+kept_by layout limits rules n ring opened recording shelf =
+    record { layout = layout; limits = limits; scans = n; ring = ring; rules = rules; opened = opened; recording = recording; shelf = shelf }
 
 -- what is kept after a history
 abbrev pub kept : Opening → List StepParts → Kept

@@ -3,10 +3,10 @@ pub mod Limits
 pub mod Own
 pub mod Steps
 pub mod Answers
+pub mod Marks
 pub mod History
 pub mod Kept
 pub mod Memory
 pub mod Run
-pub mod Marks
-pub mod Ring
+pub mod Recording
 pub mod Sound

@@ -12,7 +12,7 @@ accepts o h s = nat_lt (count (past o h)) (count (past o (s ∷ h)))
 
 -- after a history, the step opens a record
 abbrev pub opens : Opening → List StepParts → StepParts → Bool
-opens o h s = nat_lt (length (past o h).intervals) (length (past o (s ∷ h)).intervals)
+opens o h s = nat_lt (length (past o h).extents) (length (past o (s ∷ h)).extents)
 
 -- for every history of which `old` is kept, the scan is accepted, and a record is open or it opens one
 abbrev pub GrowsRecord : Kept → ScanParts → Type 0

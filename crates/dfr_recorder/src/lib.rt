@@ -3,12 +3,14 @@
 
 mod limits;
 mod marks;
+mod open_record;
 mod record;
 mod recorder;
 mod recording;
 mod refusals;
 mod ring;
 mod sequence;
+mod shelf;
 mod step;
 
 pub use limits::{LimitFault, Limits};

@@ -1,26 +1,40 @@
-//! What a trigger does to the open record, by numbers alone.
+//! What a trigger does to the newest record, by numbers alone.
 
-ghost use Rattle.std.specs.Prelude.{◌≡◌, ◌+◌, ◌<◌, ◌^◌, Some, None, false, IfSome, option_map};
-ghost use Rattle.dfr_recorder.specs.Marks.{marked_recording, marked_opened, marked_hit, recording_if, opened_if, hit_if, closing};
+ghost use Rattle.std.specs.Prelude.{◌≡◌, ◌+◌, ◌<◌, ◌^◌, IfSome};
+ghost use Rattle.dfr_recorder.specs.Marks.{extended, begun, mark, mark_if, closed_by, scanned};
 ghost use Rattle.dfr_recorder.specs.History.{refused_when_full};
 
 use crate::{Cause, Extent, Hit, Limits, Scanned, TriggerFault};
 
-/// What a trigger did, how many records were opened by then, and the open one.
+/// What a trigger meets: how many records were opened, whether the shelf is full, and the open record's extent.
+#[derive(Clone, Copy, Debug)]
+pub(crate) struct Met {
+    pub(crate) opened: u64,
+    pub(crate) full: bool,
+    pub(crate) extent: Option<Extent>,
+}
+
+/// What a trigger did, how many records were opened by then, and the extent of the open one.
 #[derive(Clone, Copy, Debug)]
 pub(crate) struct Marked {
     pub(crate) hit: Hit,
     pub(crate) opened: u64,
-    pub(crate) recording: Option<Extent>,
+    pub(crate) extent: Option<Extent>,
+}
+
+/// What a scan did that may have fired no rule; else as `Marked`.
+#[derive(Clone, Copy, Debug)]
+pub(crate) struct MarkedIf {
+    pub(crate) hit: Option<Hit>,
+    pub(crate) opened: u64,
+    pub(crate) extent: Option<Extent>,
 }
 
 /// A trigger at place `k` moves the open record's last scan on, as far as the greatest length lets it.
 fn extend(limits: Limits, k: u64, opened: u64, extent: Extent) -> Marked
     requires early { k < 2 ^ 62 }
     requires begun { extent.first < 2 ^ 62 }
-    ensures hit { result.hit ≡ marked_hit limits k opened false (Some extent) }
-    ensures opened { result.opened ≡ opened }
-    ensures recording { result.recording ≡ marked_recording limits k extent.cause opened false (Some extent) }
+    ensures { result ≡ extended limits k opened extent }
 {
     let asked = k + limits.post() as u64;
     let limit = extent.first + limits.longest() as u64 - 1;
@@ -33,7 +47,7 @@ fn extend(limits: Limits, k: u64, opened: u64, extent: Extent) -> Marked
     Marked {
         hit,
         opened,
-        recording: Some(Extent { last, ..extent }),
+        extent: Some(Extent { last, ..extent }),
     }
 }
 
@@ -41,15 +55,13 @@ fn extend(limits: Limits, k: u64, opened: u64, extent: Extent) -> Marked
 fn begin(limits: Limits, k: u64, cause: Cause, opened: u64) -> Marked
     requires early { k < 2 ^ 62 }
     requires few { opened < 2 ^ 62 }
-    ensures hit { result.hit ≡ marked_hit limits k opened false None }
-    ensures opened { result.opened ≡ opened + 1 }
-    ensures recording { result.recording ≡ marked_recording limits k cause opened false None }
+    ensures { result ≡ begun limits k cause opened }
 {
     let number = opened + 1;
     Marked {
         hit: Hit::Opened(number),
         opened: number,
-        recording: Some(Extent {
+        extent: Some(Extent {
             number,
             first: k.saturating_sub(limits.pre() as u64),
             trigger: k,
@@ -59,33 +71,24 @@ fn begin(limits: Limits, k: u64, cause: Cause, opened: u64) -> Marked
     }
 }
 
-/// A trigger at place `k`, where `opened` records were opened, the shelf is or isn't full, and this record is open.
-pub(crate) fn mark(
-    limits: Limits,
-    k: u64,
-    cause: Cause,
-    opened: u64,
-    full: bool,
-    recording: Option<Extent>,
-) -> Marked
+/// A trigger at place `k`.
+pub(crate) fn mark(limits: Limits, k: u64, cause: Cause, met: Met) -> Marked
     requires early { k < 2 ^ 62 }
-    requires few { opened < 2 ^ 62 }
-    requires begun { IfSome recording (λ e. e.first < 2 ^ 62) }
-    ensures hit { result.hit ≡ marked_hit limits k opened full recording }
-    ensures opened { result.opened ≡ marked_opened opened full recording }
-    ensures recording { result.recording ≡ marked_recording limits k cause opened full recording }
+    requires few { met.opened < 2 ^ 62 }
+    requires begun { IfSome met.extent (λ e. e.first < 2 ^ 62) }
+    ensures { result ≡ mark limits k cause met }
 {
-    match recording {
-        Some(extent) => extend(limits, k, opened, extent),
+    match met.extent {
+        Some(extent) => extend(limits, k, met.opened, extent),
         None => {
-            if full {
+            if met.full {
                 return Marked {
                     hit: Hit::ShelfFull,
-                    opened,
-                    recording: None,
+                    opened: met.opened,
+                    extent: None,
                 };
             }
-            begin(limits, k, cause, opened)
+            begin(limits, k, cause, met.opened)
         }
     }
 }
@@ -100,76 +103,47 @@ pub(crate) fn refused_when_full(hit: Hit) -> Result<Hit, TriggerFault>
     }
 }
 
-/// What a scan did that may have fired no rule; else as `Marked`.
-#[derive(Clone, Copy, Debug)]
-pub(crate) struct MarkedIf {
-    pub(crate) hit: Option<Hit>,
-    pub(crate) opened: u64,
-    pub(crate) recording: Option<Extent>,
-}
-
 /// A scan at place `n` that may have fired a rule.
-pub(crate) fn mark_if(
-    limits: Limits,
-    n: u64,
-    fired: Option<u32>,
-    opened: u64,
-    full: bool,
-    recording: Option<Extent>,
-) -> MarkedIf
+pub(crate) fn mark_if(limits: Limits, n: u64, fired: Option<u32>, met: Met) -> MarkedIf
     requires early { n < 2 ^ 62 }
-    requires few { opened < 2 ^ 62 }
-    requires begun { IfSome recording (λ e. e.first < 2 ^ 62) }
-    ensures hit { result.hit ≡ hit_if limits n fired opened full recording }
-    ensures opened { result.opened ≡ opened_if fired opened full recording }
-    ensures recording { result.recording ≡ recording_if limits n fired opened full recording }
+    requires few { met.opened < 2 ^ 62 }
+    requires begun { IfSome met.extent (λ e. e.first < 2 ^ 62) }
+    ensures { result ≡ mark_if limits n fired met }
 {
     match fired {
         Some(rule) => {
-            let marked = mark(limits, n, Cause::Rule(rule), opened, full, recording);
+            let marked = mark(limits, n, Cause::Rule(rule), met);
             MarkedIf {
                 hit: Some(marked.hit),
                 opened: marked.opened,
-                recording: marked.recording,
+                extent: marked.extent,
             }
         }
         None => MarkedIf {
             hit: None,
-            opened,
-            recording,
+            opened: met.opened,
+            extent: met.extent,
         },
     }
 }
 
-/// The record whose last scan is at place `n`.
-fn closing(n: u64, recording: Option<Extent>) -> Option<Extent>
-    ensures { result ≡ closing n recording }
+/// The number of the newest record, where place `n` is its last.
+fn closed_by(n: u64, opened: u64, extent: Option<Extent>) -> Option<u64>
+    ensures { result ≡ closed_by n opened extent }
 {
-    match recording {
-        Some(extent) => { if extent.last == n { Some(extent) } else { None } }
-        None => None,
-    }
-}
-
-/// The number of the record that closes, which is the newest.
-fn closed_number(closed: Option<Extent>, opened: u64) -> Option<u64>
-    ensures { result ≡ option_map (λ _. opened) closed }
-{
-    match closed {
-        Some(_) => Some(opened),
+    match extent {
+        Some(extent) => { if extent.last == n { Some(opened) } else { None } }
         None => None,
     }
 }
 
 /// The answer to an accepted scan at place `n`.
 pub(crate) fn scanned(n: u64, marked: MarkedIf) -> Scanned
-    ensures number { result.number ≡ n }
-    ensures trigger { result.trigger ≡ marked.hit }
-    ensures closed { result.closed ≡ option_map (λ _. marked.opened) (closing n marked.recording) }
+    ensures { result ≡ scanned n marked }
 {
     Scanned {
         number: n,
         trigger: marked.hit,
-        closed: closed_number(closing(n, marked.recording), marked.opened),
+        closed: closed_by(n, marked.opened, marked.extent),
     }
 }

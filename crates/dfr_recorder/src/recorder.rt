@@ -1,9 +1,11 @@
 //! The recorder.
 
 use crate::marks::{mark, mark_if, refused_when_full, scanned};
+use crate::open_record::{grow, met_by, place, scans_so_far, shelve};
 use crate::recording::Recording;
 use crate::refusals::refusal;
-use crate::ring::{extent_of, fires, grow, is_full, keep, place, scans_in, scans_so_far, shelve};
+use crate::ring::{fires, keep};
+use crate::shelf::scans_in;
 use crate::{Cause, Hit, Limits, Record, ScanRefusal, Scanned, TriggerFault};
 use circular_buffer::HeapCircularBuffer;
 use dfr_channels::{Layout, Memory, Rules, Scan};
@@ -28,8 +30,7 @@ pub struct Recorder<A: Allocator = Global> {
 
 impl<A: Allocator> Model for Recorder<A> {
     ghost use Rattle.std.specs.VecDeque.{deque_capacity};
-    ghost use Rattle.dfr_recorder.specs.Kept.{Kept};
-    ghost use Rattle.dfr_recorder.specs.Ring.{kept_by};
+    ghost use Rattle.dfr_recorder.specs.Kept.{Kept, kept_by};
     ghost use Rattle.dfr_recorder.specs.Sound.{IsSoundBody};
 
     ghost Value = { Kept };
@@ -189,10 +190,9 @@ impl<A: Allocator + Copy> Recorder<A> {
             None => {}
         }
         let fired = fires(&self.rules, &self.ring, &scan);
-        let full = is_full(&self.shelf, self.limits);
-        let open = extent_of(&self.recording);
-        let marked = mark_if(self.limits, n, fired, self.opened, full, open);
-        if grow(&mut self.recording, marked.recording, n, &self.ring, &scan).is_err() {
+        let met = met_by(self.limits, self.opened, &self.recording, &self.shelf);
+        let marked = mark_if(self.limits, n, fired, met);
+        if grow(&mut self.recording, marked.extent, n, &self.ring, &scan).is_err() {
             return Err((ScanRefusal::Memory, scan));
         }
         shelve(&mut self.recording, n, &mut self.shelf);
@@ -214,10 +214,9 @@ impl<A: Allocator + Copy> Recorder<A> {
         if n == 0 {
             return Err(TriggerFault::NoScan);
         }
-        let full = is_full(&self.shelf, self.limits);
-        let open = extent_of(&self.recording);
-        let marked = mark(self.limits, n - 1, Cause::Manual, self.opened, full, open);
-        if place(&mut self.recording, marked.recording, n, &self.ring).is_err() {
+        let met = met_by(self.limits, self.opened, &self.recording, &self.shelf);
+        let marked = mark(self.limits, n - 1, Cause::Manual, met);
+        if place(&mut self.recording, marked.extent, n, &self.ring).is_err() {
             return Err(TriggerFault::Memory);
         }
         self.opened = marked.opened;

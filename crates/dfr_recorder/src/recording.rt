@@ -1,4 +1,4 @@
-//! The open record.
+//! A record whose last scan is to come.
 
 use crate::{Extent, Record};
 use dfr_channels::{Memory, Scan};

@@ -1,6 +1,6 @@
 use Rattle.std.proofs.Common.{◌≡◌, take}
 use Rattle.dfr_recorder.specs.Kept.{scans_in}
-use Rattle.dfr_recorder.proofs.ring.scans_in.Given as goal
+use Rattle.dfr_recorder.proofs.shelf.scans_in.Given as goal
 
 -- the records so far
 abbrev pub invariant-loop-i : goal.invariant-loop-i

@@ -1,7 +1,7 @@
 use Rattle.std.proofs.Common.{rules, ◌≡◌, ◌∙◌, ◌++◌, ◌∷◌, [], Some}
 use Rattle.std.specs.Prelude.{slice_get}
 use Rattle.dfr_recorder.proofs.Copying.{copied_more}
-use Rattle.dfr_recorder.proofs.ring.begin.Goals as goal
+use Rattle.dfr_recorder.proofs.ring.copies.Goals as goal
 
 pub loop-i-preserved : goal.loop-i-preserved
 loop-i-preserved g c =

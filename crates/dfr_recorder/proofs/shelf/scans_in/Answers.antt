@@ -1,6 +1,6 @@
 use Rattle.std.proofs.Common.{rules, ◌≡◌, ◌+◌, ◌<◌, length, arith, ap, slice_index_or}
 use Rattle.dfr_recorder.proofs.Held.{scans_more, scans_part}
-use Rattle.dfr_recorder.proofs.ring.scans_in.Goals as goal
+use Rattle.dfr_recorder.proofs.shelf.scans_in.Goals as goal
 
 pub overflow_add-all : goal.overflow_add-all
 overflow_add-all g c =

@@ -1,0 +1,45 @@
+-- What is done to the open record.
+use Rattle.std.specs.Prelude.{ℕ, ◌-◌, Bool, false, if◌then◌else◌, ◌==◌, List, [], ◌∷◌, ◌++◌, length, Option, Some, None, option_map}
+use Rattle.dfr_channels.specs.Parts.{ScanParts}
+use Rattle.dfr_recorder.specs.declared.limits.Limits.{Limits}
+use Rattle.dfr_recorder.specs.declared.record.Extent.{Extent}
+use Rattle.dfr_recorder.specs.declared.marks.Met.{Met}
+use Rattle.dfr_recorder.specs.Parts.{RecordParts}
+use Rattle.dfr_recorder.specs.Kept.{latest}
+
+abbrev pub extent_of : Option RecordParts → Option Extent
+extent_of recording = option_map (λ (r : RecordParts). r.extent) recording
+
+-- what a trigger meets
+abbrev pub met_by : Limits → ℕ → Option RecordParts → List RecordParts → Met
+met_by limits opened recording shelf = record { opened = opened; full = length shelf == limits.shelf; extent = extent_of recording }
+
+-- the open record, which now has this extent, or a new one with the scans of the ring that lie in it, where place n is the next
+abbrev pub placed : Extent → ℕ → List ScanParts → Option RecordParts → RecordParts
+placed e n ring None = record { extent = e; scans = latest (n - e.first) ring }
+placed e n ring (Some r) = record { extent = e; scans = r.scans }
+
+abbrev pub placed_if : Option Extent → ℕ → List ScanParts → Option RecordParts → Option RecordParts
+placed_if extent n ring recording = option_map (λ e. placed e n ring recording) extent
+
+-- one more scan
+abbrev pub longer : ScanParts → RecordParts → RecordParts
+longer scan r = record r { scans = r.scans ++ scan ∷ [] }
+
+abbrev pub longer_if : ScanParts → Option RecordParts → Option RecordParts
+longer_if scan recording = option_map (longer scan) recording
+
+-- place n is the open record's last
+abbrev pub ends_at : ℕ → Option RecordParts → Bool
+ends_at n None = false
+ends_at n (Some r) = r.extent.last == n
+
+-- the open record, but where place n is its last
+abbrev pub unless_last : ℕ → Option RecordParts → Option RecordParts
+unless_last n None = None
+unless_last n (Some r) = if r.extent.last == n then None else Some r
+
+-- the open record where place n is its last
+abbrev pub if_last : ℕ → Option RecordParts → List RecordParts
+if_last n None = []
+if_last n (Some r) = if r.extent.last == n then (r ∷ []) else []
