@@ -1,5 +1,5 @@
 use Rattle.std.proofs.Common.{rules, tests}
 use Rattle.dfr_recorder.proofs.marks.begin.Goals as goal
 
-pub returns-clause-recording : goal.returns-clause-recording
-returns-clause-recording c = search (tests, rules)
+pub returns : goal.returns
+returns c = search (tests, rules)

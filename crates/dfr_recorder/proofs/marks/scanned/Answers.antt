@@ -1,5 +1,5 @@
 use Rattle.std.proofs.Common.{rules, tests}
 use Rattle.dfr_recorder.proofs.marks.scanned.Goals as goal
 
-pub returns-clause-number : goal.returns-clause-number
-returns-clause-number c = search (tests, rules)
+pub returns : goal.returns
+returns c = search (tests, rules)
