@@ -1,16 +1,22 @@
-//! The program: `dfr replay [--kind ascii|binary]`, `dfr read CFG DAT`.
+//! The program: `dfr replay [--kind ascii|binary]`, `dfr live [--kind ascii|binary] SCRIPT DIR`, `dfr read CFG DAT`.
 #![tactic(auto)]
+
+mod folder;
 
 ghost use Rattle.std.specs.Prelude.{◌≤◌, IfOk, length};
 ghost use Rattle.dfr_program.specs.Words.{NamesFiles};
 
+use crate::folder::Folder;
 use comtrade_write::Kind;
-use dfr_program::{Command, RunFault, command_of, read_all, read_over, replay_over};
+use dfr_live::Sink;
+use dfr_program::{Command, RunFault, command_of, live_of, read_all, read_over, replay_over};
 use std::alloc::Global;
 use std::fs::File;
 use std::io::Write;
 use std::process::ExitCode;
 use std::rt::{Env, Files};
+use std::sync::Wait;
+use std::thread::Threads;
 use std::{env, io};
 
 fn replay_input<R: Input + Print + AllocGlobal>(rt: &R, kind: Kind) -> Result<bool, RunFault> {
@@ -47,15 +53,36 @@ fn read_pair<R: Files + Print + AllocGlobal>(
     }
 }
 
-fn run<R: Files + Input + Print + AllocGlobal>(
+/// Records the script of a file, and hands the files of its records to the sink.
+fn record_live<R: Files + Print + AllocGlobal + Threads + Wait + Sync, K: Sink + Send>(
+    rt: &R,
+    kind: Kind,
+    script: &str,
+    sink: &mut K,
+) -> Result<bool, RunFault> {
+    let script = read_file(rt, rt.alloc(), script)?;
+    let mut out = io::writer(rt);
+    let whole = live_of(rt, rt.alloc(), &script, kind, sink, &mut out)?;
+    match out.flush() {
+        Ok(()) => Ok(whole),
+        Err(_) => Err(RunFault::Output),
+    }
+}
+
+fn run<R: Files + Input + Print + AllocGlobal + Threads + Wait + Sync, K: Sink + Send>(
     rt: &R,
     words: &[String],
     command: Command,
+    sink: &mut K,
 ) -> Result<bool, RunFault>
     requires { NamesFiles (length words.now) command }
 {
     match command {
         Command::Replay(kind) => replay_input(rt, kind),
+        Command::Live(kind, at) => match words.get(at..) {
+            Some([script, _]) => record_live(rt, kind, script.as_str(), sink),
+            _ => unreachable!(),
+        },
         Command::Read(at) => match words.get(at..) {
             Some([cfg, dat]) => read_pair(rt, cfg.as_str(), dat.as_str()),
             _ => unreachable!(),
@@ -83,6 +110,14 @@ fn words_of<R: Env + AllocGlobal>(rt: &R) -> Result<Option<Vec<String>>, RunFaul
     Ok(Some(rest))
 }
 
+/// The last word, which is the folder of a live run.
+fn last_of(words: &[String]) -> &str {
+    match words.last() {
+        Some(word) => word.as_str(),
+        None => "",
+    }
+}
+
 fn main(rt: HostRuntime) -> ExitCode {
     let words = match words_of(&rt) {
         Ok(Some(words)) => words,
@@ -99,7 +134,11 @@ fn main(rt: HostRuntime) -> ExitCode {
         let _ = eprintln!(rt; "dfr: usage");
         return ExitCode::from(2);
     };
-    match run(&rt, &words, command) {
+    let mut folder = Folder {
+        rt: &rt,
+        path: last_of(&words),
+    };
+    match run(&rt, &words, command, &mut folder) {
         Ok(true) => ExitCode::SUCCESS,
         Ok(false) => ExitCode::from(1),
         Err(fault) => {

@@ -26,10 +26,10 @@ use Rattle.comtrade_write.specs.Data.{dat}
 use Rattle.comtrade_write.specs.OfRecord.{file}
 use Rattle.dfr_program.specs.declared.fault.RunFault.{RunFault}
 use Rattle.dfr_program.specs.declared.fault.RunFault.TheVariants.{Memory, Output, Input}
-use Rattle.dfr_program.specs.Texts.{scanned_text, scan_refusal_text, trigger_text, rules_refused_text, record_text}
+use Rattle.dfr_program.specs.Texts.{scanned_text, scan_refusal_text, trigger_text, record_text}
 use Rattle.dfr_program.specs.Transcript.{answer_text, taken_text, rules_step, step_of, followed, step_text, transcript, history_after}
 use Rattle.dfr_program.specs.Writing.{Wrote, Cut, Printed}
-use Rattle.dfr_program.specs.Answering.{PutsStep, PrintsStep, PrintsSome, AllPrinted}
+use Rattle.dfr_program.specs.Answering.{PutsStep, PrintsStep, AllPrinted}
 use Rattle.dfr_program.proofs.Printing.{wrote_then, cut_then, cut_more, printed_buffered, printed_then}
 
 pub on_ok_map : {U E P Q : Type 0} (r : Result U E) → OnOk r P → (P → Q) → OnOk r Q

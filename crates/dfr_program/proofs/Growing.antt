@@ -1,12 +1,9 @@
 -- Writing some bytes after others.
-use Rattle.std.proofs.Common.{◌≡◌, refl, ℕ, List, [], ◌++◌, Option, Some, None, Result, Ok, Err, sym, ap, ◌∙◌, subst, append_assoc, take, drop}
-use Rattle.std.specs.Prelude.{OnOk, IfErr}
+use Rattle.std.proofs.Common.{ℕ, List, [], ◌++◌, Option, take, drop}
 use Rattle.std.proofs.KnownBytes.{Appends-nil, Appends-trans}
 use Rattle.std.specs.Io.KnownBytes.{Appends}
-use Rattle.std.proofs.lemmas.List.{append-nil, take-append-drop}
-use Rattle.dfr_program.specs.declared.fault.RunFault.{RunFault}
-use Rattle.dfr_program.specs.declared.fault.RunFault.TheVariants.{Memory, Output, Input}
-use Rattle.dfr_program.specs.Writing.{Grows, Wrote, Cut, Printed}
+use Rattle.std.proofs.lemmas.List.{take-append-drop}
+use Rattle.dfr_program.specs.Writing.{Grows, Cut}
 
 pub grows_none : (a : Option (List ℕ)) → Grows a a
 grows_none a = record { text = []; appends = Appends-nil a }

@@ -1,5 +1,7 @@
 mod Answering
 mod Growing
+mod Living
+mod Planning
 mod Printing
 mod Replaying
 mod Stamps

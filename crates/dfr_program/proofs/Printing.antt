@@ -1,12 +1,12 @@
 -- Printing one text after another: the front of them is written, and the rest buffered.
-use Rattle.std.proofs.Common.{◌≡◌, refl, ℕ, List, [], ◌++◌, Option, Some, None, Result, Ok, Err, sym, ap, ◌∙◌, subst, append_assoc}
+use Rattle.std.proofs.Common.{◌≡◌, refl, ℕ, List, [], ◌++◌, Option, Result, Ok, Err, sym, ap, ◌∙◌, subst, append_assoc}
 use Rattle.std.specs.Prelude.{OnOk, IfErr}
 use Rattle.std.proofs.KnownBytes.{Appends-nil, Appends-trans}
 use Rattle.std.specs.Io.KnownBytes.{Appends}
 use Rattle.std.proofs.lemmas.List.{append-nil}
 use Rattle.dfr_program.specs.declared.fault.RunFault.{RunFault}
 use Rattle.dfr_program.specs.declared.fault.RunFault.TheVariants.{Memory, Output, Input}
-use Rattle.dfr_program.specs.Writing.{Grows, Wrote, Cut, Printed}
+use Rattle.dfr_program.specs.Writing.{Wrote, Cut, Printed}
 
 pub wrote_none : (a : Option (List ℕ)) (x : List ℕ) → Wrote a a x x
 wrote_none a x = record { front = []; appends = Appends-nil a; whole = refl }

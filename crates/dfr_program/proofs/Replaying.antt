@@ -1,10 +1,9 @@
 -- Commands that a script's recorder answers, and what was written of the answers.
-use Rattle.std.proofs.Common.{◌≡◌, ◌≢◌, ◌⊎◌, inl, inr, true, false, Bool, refl, ℕ, List, [], ◌∷◌, ◌++◌, length, Option, Some, None, Result, Ok, Err, sym, ap, ◌∙◌, subst}
+use Rattle.std.proofs.Common.{◌≡◌, ◌≢◌, ◌⊎◌, inl, inr, true, false, Bool, ℕ, List, [], ◌++◌, length, Option, Some, None, Result, Ok, Err, sym, ap, subst}
 use Rattle.std.proofs.KnownBytes.{Appends-nil}
-use Rattle.std.specs.Prelude.{OnOk, IfOk, IfErr, IfSome}
+use Rattle.std.specs.Prelude.{IfOk, IfErr, IfSome}
 use Rattle.std.specs.Io.KnownBytes.{Appends}
 use Rattle.std.proofs.lemmas.List.{append-nil}
-use Rattle.dfr_recorder.specs.Steps.{StepParts}
 use Rattle.dfr_recorder.specs.History.{Opening, opening}
 use Rattle.dfr_recorder.specs.Kept.{Kept, kept}
 use Rattle.dfr_script.specs.Parts.{CommandParts, ScriptParts}
@@ -15,10 +14,10 @@ use Rattle.dfr_program.specs.declared.prepared.Fault.{Fault}
 use Rattle.dfr_program.specs.Faults.{IsMadeOf}
 use Rattle.dfr_program.specs.FaultTexts.{fault_text}
 use Rattle.dfr_program.specs.Transcript.{transcript}
-use Rattle.dfr_program.specs.Writing.{Grows, Wrote, Cut, Printed}
+use Rattle.dfr_program.specs.Writing.{Grows, Wrote, Cut}
 use Rattle.dfr_program.specs.Answering.{AllPrinted}
-use Rattle.dfr_program.specs.Replays.{WritesFirst, Written, IsOpenedBy, PrintsAnswers, PrintsFirst, PrintsFront, CutAt}
-use Rattle.dfr_program.proofs.Printing.{appends_all, wrote_then, wrote_all, cut_then, cut_more}
+use Rattle.dfr_program.specs.Replays.{Written, IsOpenedBy, PrintsAnswers, PrintsFirst, CutAt}
+use Rattle.dfr_program.proofs.Printing.{appends_all, wrote_then, wrote_all, cut_then}
 use Rattle.dfr_program.proofs.Answering.{transcript-more}
 
 -- all that was printed and buffered is written now

@@ -1,6 +1,5 @@
 -- What comes of a step and of commands, whatever the history was: the text that is printed, and what the recorder keeps.
-use Rattle.std.specs.Prelude.{◌≡◌, ℕ, List, [], ◌++◌, Option, Result, Ok, Err, Bool, true, OnOk}
-use Rattle.std.specs.Io.KnownBytes.{Appends}
+use Rattle.std.specs.Prelude.{◌≡◌, ℕ, List, [], ◌++◌, Option, Result, Ok, Err, OnOk}
 use Rattle.dfr_channels.specs.declared.rules.RuleFault.{RuleFault}
 use Rattle.dfr_recorder.specs.Steps.{StepParts}
 use Rattle.dfr_recorder.specs.History.{Opening}
@@ -9,7 +8,7 @@ use Rattle.dfr_script.specs.Parts.{CommandParts}
 use Rattle.comtrade_write.specs.declared.file.Kind.{Kind}
 use Rattle.dfr_program.specs.declared.fault.RunFault.{RunFault}
 use Rattle.dfr_program.specs.declared.fault.RunFault.TheVariants as fault
-use Rattle.dfr_program.specs.Transcript.{followed, step_text, transcript, history_after}
+use Rattle.dfr_program.specs.Transcript.{followed, step_text, transcript}
 use Rattle.dfr_program.specs.Writing.{Wrote, Cut, Printed}
 
 -- after every history of which `old` is kept: the text of the step is put behind `before`, and `new` is kept then

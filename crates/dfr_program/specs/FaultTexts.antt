@@ -42,6 +42,7 @@ fault_words (faults.Script f) = codes "fault line " ++ decimal f.line ++ codes "
 fault_words (faults.Setup f) = codes "fault setup " ++ setup_word f
 fault_words (faults.Limits f) = codes "fault limits " ++ limit_word f
 fault_words (faults.Rules f) = codes "fault rules " ++ rule_word f
+fault_words (faults.RulesAt line) = codes "fault line " ++ decimal line ++ codes " rules"
 
 unfoldable pub fault_text : Fault → List ℕ
 fault_text fault = fault_words fault ++ codes "\n"

@@ -8,3 +8,6 @@ pub mod Pairs
 pub mod Transcript
 pub mod Answering
 pub mod Replays
+pub mod Plans
+pub mod Reports
+pub mod Live

@@ -1,5 +1,5 @@
 -- What a replay prints: to each command of a script, in order, the answer that the recorder gives.
-use Rattle.std.specs.Prelude.{◌≡◌, List, ℕ, [], ◌∷◌, ◌++◌, Option, Some, None, Result, Ok, Err, codes}
+use Rattle.std.specs.Prelude.{List, ℕ, [], ◌∷◌, ◌++◌, Option, Some, None, Result, Ok, Err, codes}
 use Rattle.dfr_channels.specs.Firing.{rules_fault}
 use Rattle.dfr_channels.specs.Parts.{SetupParts}
 use Rattle.dfr_channels.specs.declared.rule.Rule.{Rule}

@@ -12,6 +12,8 @@ use comtrade_write::Kind;
 pub enum Command {
     /// A script on standard input.
     Replay(Kind),
+    /// A script file, and the folder that the files of its records go into.
+    Live(Kind, usize),
     /// A configuration file and its data file.
     Read(usize),
 }
@@ -35,8 +37,8 @@ fn kind_of(word: &String) -> Option<Kind>
     }
 }
 
-/// What the words ask for: `replay`, `replay --kind K`, `read CFG DAT`, or no word, which is `replay`. None for words of
-/// any other form. Takes no memory.
+/// What the words ask for: `replay`, `replay --kind K`, `live SCRIPT DIR`, `live --kind K SCRIPT DIR`, `read CFG DAT`, or no
+/// word, which is `replay`. None for words of any other form: `live` with two further words names no kind. Doesn't allocate.
 pub fn command_of(words: &[String]) -> Option<Command>
     ensures value { result ≡ spec.command (map string_bytes words.now) }
     ensures files { IfSome result (spec.NamesFiles (length words.now)) }
@@ -47,6 +49,13 @@ pub fn command_of(words: &[String]) -> Option<Command>
         [verb, flag, name] if is_word(verb, "replay") && is_word(flag, "--kind") => {
             match kind_of(name) {
                 Some(kind) => Some(Command::Replay(kind)),
+                None => None,
+            }
+        }
+        [verb, _, _] if is_word(verb, "live") => Some(Command::Live(Kind::Ascii, 1)),
+        [verb, flag, name, _, _] if is_word(verb, "live") && is_word(flag, "--kind") => {
+            match kind_of(name) {
+                Some(kind) => Some(Command::Live(kind, 3)),
                 None => None,
             }
         }

@@ -61,6 +61,10 @@ fn put_words<A: Allocator>(out: &mut Vec<u8, A>, fault: Fault) -> Result<(), All
         Fault::Setup(fault) => put_both(out, "fault setup ", setup_word(fault)),
         Fault::Limits(fault) => put_both(out, "fault limits ", limit_word(fault)),
         Fault::Rules(fault) => put_both(out, "fault rules ", rule_word(fault)),
+        Fault::RulesAt(line) => {
+            put_with(out, "fault line ", line)?;
+            put(out, " rules")
+        }
     }
 }
 

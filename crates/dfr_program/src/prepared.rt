@@ -19,6 +19,8 @@ pub(crate) enum Fault {
     Setup(SetupFault),
     Limits(LimitFault),
     Rules(RuleFault),
+    /// The rules of this line, after `go`, don't fit the layout. Of a live run alone.
+    RulesAt(u64),
 }
 
 /// Why nothing could be made.

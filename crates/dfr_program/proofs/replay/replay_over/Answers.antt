@@ -1,4 +1,4 @@
-use Rattle.std.proofs.Common.{◌≡◌, ◌≤◌, ◌⊎◌, List, ℕ, [], true, length}
+use Rattle.std.proofs.Common.{◌≤◌, ◌⊎◌, [], true, length}
 use Rattle.std.specs.Io.KnownBytes.{Appends}
 use Rattle.dfr_channels.specs.Lines.{lines}
 use Rattle.dfr_script.specs.Scripts.{script_value}

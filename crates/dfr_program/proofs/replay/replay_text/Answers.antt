@@ -1,8 +1,8 @@
-use Rattle.std.proofs.Common.{◌≡◌, List, ℕ, Some, ◌∙◌, ap, sym, rules}
+use Rattle.std.proofs.Common.{rules}
 use Rattle.dfr_channels.specs.Lines.{lines}
 use Rattle.dfr_script.specs.Scripts.{script_value}
 use Rattle.dfr_program.specs.Faults.{script_fault}
-use Rattle.dfr_program.proofs.Replaying.{Replayed, replayed, replayed_grows, replayed_fault, replayed_answers, replayed_memory, replayed_output, faulted_output, never_done, nothing_written}
+use Rattle.dfr_program.proofs.Replaying.{replayed, replayed_grows, replayed_fault, replayed_answers, replayed_memory, replayed_output, faulted_output, never_done, nothing_written}
 use Rattle.dfr_program.proofs.replay.replay_text.Goals as goal
 
 pub returns-in-Ok-clause-grows : goal.returns-in-Ok-clause-grows

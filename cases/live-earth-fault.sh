@@ -1,0 +1,2 @@
+# the example: the fault recorded in three threads, its files those of the replay
+../examples/live/run

@@ -1,0 +1,3 @@
+# a script that isn't there
+. files/live.bash
+"$dfr" live "$folder/none" "$folder"

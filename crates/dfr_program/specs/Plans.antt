@@ -1,0 +1,73 @@
+-- What a live run is given of a script: the scans that are fed, and the orders with their places.
+use Rattle.std.specs.Prelude.{◌≡◌, ℕ, ◌+◌, List, [], ◌∷◌, ◌++◌, length, Option, None, option_map}
+use Rattle.std.specs.List.{flat_map}
+use Rattle.dfr_channels.specs.Faults.{◌or◌}
+use Rattle.dfr_channels.specs.Firing.{rules_fault}
+use Rattle.dfr_channels.specs.Lines.{lines}
+use Rattle.dfr_channels.specs.Parts.{ScanParts, SetupParts}
+use Rattle.dfr_script.specs.Parts.{CommandParts, ScriptParts}
+use Rattle.dfr_script.specs.Parts as command
+use Rattle.dfr_script.specs.Scripts.{script_value}
+use Rattle.dfr_live.specs.Parts.{CallParts}
+use Rattle.dfr_live.specs.Parts as call
+use Rattle.dfr_live.specs.declared.station.Order.{Order}
+use Rattle.dfr_live.specs.declared.station.Order.TheVariants as order
+use Rattle.dfr_program.specs.declared.prepared.Fault.{Fault}
+use Rattle.dfr_program.specs.declared.prepared.Fault.TheVariants as faults
+use Rattle.dfr_program.specs.Faults.{script_fault}
+
+-- the line of a command's rules, where they don't fit the layout
+abbrev pub refused_line : SetupParts → CommandParts → Option ℕ
+refused_line layout (command.Scan scan) = None
+refused_line layout command.Trigger = None
+refused_line layout command.Take = None
+refused_line layout (command.Rules line list) = option_map (λ fault. line) (rules_fault layout list)
+
+-- the first such line
+unfoldable pub refused_in : SetupParts → List CommandParts → Option ℕ
+refused_in layout [] = None
+refused_in layout (c ∷ cs) = refused_line layout c or refused_in layout cs
+
+abbrev pub command_fault : ScriptParts → Option Fault
+command_fault s = option_map faults.RulesAt (refused_in s.setup s.commands)
+
+-- the first fault of a script for a live run: what a replay refuses, and after it rules behind `go` that don't fit
+unfoldable pub live_fault : List ℕ → Option Fault
+live_fault text = script_fault text or command_fault (script_value (lines text))
+
+-- the scan that a command feeds
+abbrev pub scan_in : CommandParts → List ScanParts
+scan_in (command.Scan scan) = scan ∷ []
+scan_in command.Trigger = []
+scan_in command.Take = []
+scan_in (command.Rules line list) = []
+
+-- the order of a command that stands after so many scans; a take is none
+abbrev pub order_in : ℕ → CommandParts → List (ℕ × CallParts)
+order_in place (command.Scan scan) = []
+order_in place command.Trigger = (place, call.Trigger) ∷ []
+order_in place command.Take = []
+order_in place (command.Rules line list) = (place, call.SetRules list) ∷ []
+
+unfoldable pub scans_in : List CommandParts → List ScanParts
+scans_in cs = flat_map scan_in cs
+
+-- the orders of commands of which the first stands after so many scans
+unfoldable pub orders_in : ℕ → List CommandParts → List (ℕ × CallParts)
+orders_in place [] = []
+orders_in place (c ∷ cs) = order_in place c ++ orders_in (place + length (scan_in c)) cs
+
+-- an order with its place, whatever its allocator is
+abbrev pub call_of : {A : Type 0} → Order A → CallParts
+call_of order.Trigger = call.Trigger
+call_of (order.SetRules rules) = call.SetRules rules
+
+abbrev pub placed : {A : Type 0} → ℕ × Order A → ℕ × CallParts
+placed p = (p.0, call_of p.1)
+
+-- commands whose rules all fit: each of their scans is fed, in order, and each trigger and each list of rules is ordered at the
+-- number of scans before it
+pub record IsPlanned (layout : SetupParts) (cs : List CommandParts) (scans : List ScanParts) (orders : List (ℕ × CallParts)) : Type 0 where
+  pub fit : refused_in layout cs ≡ None
+  pub fed : scans ≡ scans_in cs
+  pub ordered : orders ≡ orders_in 0 cs

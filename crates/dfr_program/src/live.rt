@@ -1,0 +1,165 @@
+//! Records a script in three threads.
+
+#![tactic(auto, using(crate::proofs::Growing::growing))]
+
+ghost use Rattle.std.specs.Prelude.{◌≡◌, ◌≢◌, false, is_some, true, Err, IfOk, IfErr};
+ghost use Rattle.dfr_channels.specs.Lines.{lines};
+ghost use Rattle.dfr_recorder.specs.History.{Opening};
+ghost use Rattle.dfr_script.specs.Scripts.{script_value};
+ghost use Rattle.dfr_live.specs.Seen.{opening_of};
+ghost use Rattle.dfr_live.specs.Report.{Reports};
+ghost use Rattle.dfr_program.specs.FaultTexts.{fault_text};
+ghost use Rattle.dfr_program.specs.Live.{TellsFault, TellsOver, TellsLive, PrintsLive, CutsLive};
+ghost use Rattle.dfr_program.specs.Plans.{live_fault};
+ghost use Rattle.dfr_program.specs.Reports.{report_text};
+ghost use Rattle.dfr_program.specs.Writing.{Grows};
+
+use crate::fault::RunFault;
+use crate::faults::put_fault;
+use crate::output::write_out;
+use crate::plan::{Placed, Plan, Scans, plan_of};
+use crate::prepared::{Fault, Refusal};
+use crate::report::{put_report, put_run_fault, run_word};
+use comtrade_write::Kind;
+use dfr_live::{LiveFault, LiveReport, Sink, run_live};
+use std::alloc::Allocator;
+use std::io::Write;
+use std::sync::Wait;
+use std::thread::Threads;
+
+/// How many scans the lane holds.
+const LANE: usize = 1_024;
+
+/// For how many turns a thread may wait.
+const TURNS: u64 = 1_000_000_000;
+
+/// What is printed in the end, and whether the run was done.
+#[derive(Drop)]
+struct Told<A: Allocator> {
+    done: bool,
+    text: Vec<u8, A>,
+}
+
+/// The line of a script's fault.
+fn told_fault<A: Allocator>(alloc: A, fault: Fault) -> Result<Told<A>, RunFault>
+    ensures text { IfOk result (λ told. (told.done ≡ false) × (told.text.items ≡ fault_text fault)) }
+    ensures fault { IfErr result (λ fault. fault ≡ RunFault.Memory) }
+{
+    let mut text = Vec::new(alloc);
+    put_fault(&mut text, fault)?;
+    Ok(Told { done: false, text })
+}
+
+/// What a run did.
+fn told_report<A: Allocator>(alloc: A, report: &LiveReport<A>) -> Result<Told<A>, RunFault>
+    ensures text { IfOk result (λ told. (told.done ≡ true) × (told.text.items ≡ report_text report.now)) }
+    ensures fault { IfErr result (λ fault. fault ≡ RunFault.Memory) }
+{
+    let mut text = Vec::new(alloc);
+    put_report(&mut text, report)?;
+    Ok(Told { done: true, text })
+}
+
+/// The line of a run's fault.
+fn told_run_fault<A: Allocator>(alloc: A, fault: LiveFault) -> Result<Told<A>, RunFault>
+    ensures text { IfOk result (λ told. (told.done ≡ false) × TellsFault told.text.items) }
+    ensures fault { IfErr result (λ fault. fault ≡ RunFault.Memory) }
+{
+    let Some(word) = run_word(fault) else {
+        return Err(RunFault::Memory);
+    };
+    let mut text = Vec::new(alloc);
+    put_run_fault(&mut text, word)?;
+    Ok(Told { done: false, text })
+}
+
+/// What a run did, or the line of its fault.
+fn told_run<A: Allocator + Copy>(
+    alloc: A,
+    came: Result<LiveReport<A>, LiveFault>,
+) -> Result<Told<A>, RunFault>
+    ensures text { IfOk result (λ told. (o : Opening) → IfOk came (λ r. Reports o r) →
+        TellsOver A o told.done told.text.items) }
+    ensures fault { IfErr result (λ fault. fault ≡ RunFault.Memory) }
+{
+    match came {
+        Ok(report) => told_report(alloc, &report),
+        Err(fault) => told_run_fault(alloc, fault),
+    }
+}
+
+/// Runs what was planned.
+fn run_plan<A: Allocator + Copy + Send + Sync, K: Sink + Send, R: Threads + Wait + Sync>(
+    rt: &R,
+    alloc: A,
+    plan: Plan<A>,
+    kind: Kind,
+    sink: &mut K,
+) -> Result<Told<A>, RunFault>
+    ensures text { IfOk result (λ told. TellsOver A (opening_of plan.recorder) told.done told.text.items) }
+    ensures fault { IfErr result (λ fault. fault ≡ RunFault.Memory) }
+{
+    let Plan {
+        recorder,
+        scans,
+        orders,
+    } = plan;
+    let mut feed = Scans::of(scans);
+    let mut orders = Placed::of(orders);
+    let came = run_live(
+        rt,
+        alloc,
+        recorder,
+        LANE,
+        kind,
+        TURNS,
+        &mut feed,
+        &mut orders,
+        sink,
+    );
+    told_run(alloc, came)
+}
+
+/// Runs the script, if nothing is wrong with it.
+fn run_script<A: Allocator + Copy + Send + Sync, K: Sink + Send, R: Threads + Wait + Sync>(
+    rt: &R,
+    alloc: A,
+    script: &[u8],
+    kind: Kind,
+    sink: &mut K,
+) -> Result<Told<A>, RunFault>
+    ensures text { IfOk result (λ told. TellsLive A (live_fault script.now) (script_value (lines script.now)) told.done told.text.items) }
+    ensures fault { IfErr result (λ fault. fault ≡ RunFault.Memory) }
+    ensures unused { is_some (live_fault script.now) ≡ true → sink.new ≡ sink.old }
+{
+    match plan_of(alloc, script) {
+        Ok(plan) => run_plan(rt, alloc, plan, kind, sink),
+        Err(Refusal::Fault(fault)) => told_fault(alloc, fault),
+        Err(Refusal::Memory) => Err(RunFault::Memory),
+    }
+}
+
+/// Records a script in three threads: the first is fed its scans, in order, the second makes its triggers and sets its rules,
+/// each at the number of scan lines before it, and the third hands the files of each record to the sink. `take` lines are
+/// skipped. True where the run was done and its report was printed, false where the line of a fault was: with a fault of the
+/// script nothing is run, and the sink stays as it was. Everything is printed at the end. `Memory` is an allocation that failed,
+/// or a thread that can't be started, and nothing was written; `Output` a write that failed; it is never `Input`.
+pub fn live_of<
+    A: Allocator + Copy + Send + Sync,
+    K: Sink + Send,
+    W: Write,
+    R: Threads + Wait + Sync,
+>(rt: &R, alloc: A, script: &[u8], kind: Kind, sink: &mut K, w: &mut W) -> Result<bool, RunFault>
+    ensures grows { Grows (W.contents w.old) (W.contents w.new) }
+    ensures printed { IfOk result (λ done. PrintsLive A (live_fault script.now) (script_value (lines script.now))
+        done (W.contents w.old) (W.contents w.new)) }
+    ensures output { result ≡ Err RunFault.Output → CutsLive A (live_fault script.now) (script_value (lines script.now))
+        (W.contents w.old) (W.contents w.new) }
+    ensures memory { result ≡ Err RunFault.Memory → w.new ≡ w.old }
+    ensures unused { is_some (live_fault script.now) ≡ true → sink.new ≡ sink.old }
+    ensures fault { IfErr result (λ fault. fault ≢ RunFault.Input) }
+{
+    let told = run_script(rt, alloc, script, kind, sink)?;
+    write_out(w, &told.text)?;
+    Ok(told.done)
+}

@@ -1,0 +1,162 @@
+//! What a live run is given of a script.
+
+ghost use Rattle.std.specs.Prelude.{◌≡◌, ◌++◌, [], None, Some, option_map, map, length, MatchResult};
+ghost use Rattle.dfr_channels.specs.Firing.{rules_fault};
+ghost use Rattle.dfr_channels.specs.Lines.{lines};
+ghost use Rattle.dfr_script.specs.Commands.{parts_of};
+ghost use Rattle.dfr_script.specs.Scripts.{script_value};
+ghost use Rattle.dfr_program.specs.Faults.{IsMadeOf, Refuses};
+ghost use Rattle.dfr_program.specs.Plans as spec;
+ghost use Rattle.dfr_program.specs.declared.prepared.Fault.TheVariants as faults;
+
+use crate::prepared::{Fault, Prepared, Refusal, prepared_of};
+use dfr_channels::{Layout, Rule, Rules, Scan};
+use dfr_live::{Fed, Feed, Order, Orders};
+use dfr_recorder::Recorder;
+use dfr_script::Command;
+use std::alloc::{AllocFailed, Allocator};
+use std::vec::IntoIter;
+
+/// A recorder, the scans that it is fed, and the orders with their places.
+#[derive(Drop)]
+pub(crate) struct Plan<A: Allocator> {
+    pub(crate) recorder: Recorder<A>,
+    pub(crate) scans: Vec<Scan<A>, A>,
+    pub(crate) orders: Vec<(u64, Order<A>), A>,
+}
+
+impl<T: Drop> From<AllocFailed<T>> for Refusal {
+    ghost use Rattle.dfr_program.specs.declared.prepared.Refusal.{Refusal};
+
+    ghost from_gives = { λ _ e. e ≡ Refusal.Memory };
+
+    fn from(_error: AllocFailed<T>) -> Refusal {
+        Refusal::Memory
+    }
+}
+
+/// The scans of a script, one after the other, and then the end.
+#[derive(Drop)]
+pub(crate) struct Scans<A: Allocator> {
+    rest: IntoIter<Scan<A>, A>,
+}
+
+impl<A: Allocator> Scans<A> {
+    pub(crate) fn of(list: Vec<Scan<A>, A>) -> Scans<A> {
+        Scans {
+            rest: list.into_iter(),
+        }
+    }
+}
+
+impl<A: Allocator> Feed<A> for Scans<A> {
+    fn next(&mut self) -> Result<Fed<A>, u32> {
+        match self.rest.next() {
+            Some(scan) => Ok(Fed::Scan(scan)),
+            None => Ok(Fed::Done),
+        }
+    }
+}
+
+/// The orders of a script, one after the other.
+#[derive(Drop)]
+pub(crate) struct Placed<A: Allocator> {
+    rest: IntoIter<(u64, Order<A>), A>,
+}
+
+impl<A: Allocator> Placed<A> {
+    pub(crate) fn of(list: Vec<(u64, Order<A>), A>) -> Placed<A> {
+        Placed {
+            rest: list.into_iter(),
+        }
+    }
+}
+
+impl<A: Allocator> Orders<A> for Placed<A> {
+    fn next(&mut self) -> Option<(u64, Order<A>)> {
+        self.rest.next()
+    }
+}
+
+fn rules_at<A: Allocator>(
+    layout: &Layout<A>,
+    line: u64,
+    list: Vec<Rule, A>,
+) -> Result<Rules<A>, Refusal>
+    ensures { MatchResult result
+        (λ rules. (rules_fault layout.now list.items ≡ None) × (rules ≡ list.items))
+        (Refuses (option_map (λ _. faults.RulesAt line) (rules_fault layout.now list.items))) }
+{
+    match Rules::new(layout, list) {
+        Ok(rules) => Ok(rules),
+        Err(_) => Err(Refusal::Fault(Fault::RulesAt(line))),
+    }
+}
+
+/// Puts the scan or the order of a command behind those before.
+fn plan_one<A: Allocator + Copy>(
+    layout: &Layout<A>,
+    command: Command<A>,
+    scans: &mut Vec<Scan<A>, A>,
+    orders: &mut Vec<(u64, Order<A>), A>,
+) -> Result<(), Refusal>
+    ensures { MatchResult result
+        (λ _. (spec.refused_line layout.now (parts_of command) ≡ None)
+        × (scans.new.items ≡ scans.old.items ++ spec.scan_in (parts_of command))
+        × (map spec.placed orders.new.items ≡ map spec.placed orders.old.items
+        ++ spec.order_in (length scans.old.items) (parts_of command)))
+        (Refuses (option_map faults.RulesAt (spec.refused_line layout.now (parts_of command)))) }
+{
+    let place = scans.len() as u64;
+    match command {
+        Command::Scan(scan) => scans.push(scan)?,
+        Command::Trigger => orders.push((place, Order::Trigger))?,
+        Command::Take => {}
+        Command::Rules { line, list } => {
+            let rules = rules_at(layout, line, list)?;
+            orders.push((place, Order::SetRules(rules)))?;
+        }
+    }
+    Ok(())
+}
+
+/// Puts the scans and the orders of the commands into the two lists.
+fn plan_all<A: Allocator + Copy>(
+    layout: &Layout<A>,
+    commands: Vec<Command<A>, A>,
+    scans: &mut Vec<Scan<A>, A>,
+    orders: &mut Vec<(u64, Order<A>), A>,
+) -> Result<(), Refusal>
+    requires scans { scans.old.items ≡ [] }
+    requires orders { orders.old.items ≡ [] }
+    ensures { MatchResult result
+        (λ _. spec.IsPlanned layout.now (map parts_of commands.items) scans.new.items
+        (map spec.placed orders.new.items))
+        (Refuses (option_map faults.RulesAt (spec.refused_in layout.now (map parts_of commands.items)))) }
+{
+    for command in commands {
+        plan_one(layout, command, scans, orders)?;
+    }
+    Ok(())
+}
+
+/// Reads the script, makes its set-up, and plans its commands.
+#[tactic(auto, unfolding(crate::specs::Plans::live_fault))]
+pub(crate) fn plan_of<A: Allocator + Copy>(alloc: A, text: &[u8]) -> Result<Plan<A>, Refusal>
+    ensures { MatchResult result
+        (λ plan. (spec.live_fault text.now ≡ None)
+        × IsMadeOf (script_value (lines text.now)) plan.recorder
+        × (plan.scans.items ≡ spec.scans_in (script_value (lines text.now)).commands)
+        × (map spec.placed plan.orders.items ≡ spec.orders_in 0 (script_value (lines text.now)).commands))
+        (Refuses (spec.live_fault text.now)) }
+{
+    let Prepared { recorder, commands } = prepared_of(alloc, text)?;
+    let mut scans = Vec::new(alloc);
+    let mut orders = Vec::new(alloc);
+    plan_all(recorder.layout(), commands, &mut scans, &mut orders)?;
+    Ok(Plan {
+        recorder,
+        scans,
+        orders,
+    })
+}
