@@ -1,13 +1,17 @@
 //! The File of a record, and what files write.
 
 use crate::common::{Heap, layout, setup};
-use crate::refusing::{Must, Outcome, Trial, memory_if, refuses, right_if};
-use crate::runs::ran;
-use crate::texts::{Pair, pair_in};
+use crate::refusing::{
+    Consuming, Must, Outcome, Trial, memory_if, refuses, refuses_anew, right_if,
+};
+use crate::runs::{closed, ran};
+use crate::texts::{Pair as Texts, pair_in};
 use comtrade_read::read;
-use comtrade_write::{File, FileFault, Kind, WriteFault, cfg_bytes, dat_bytes, file_of};
-use dfr_channels::{Items, Layout, Setup};
-use dfr_recorder::{Answer, Record};
+use comtrade_write::{
+    File, FileFault, Kind, Pair, WriteFault, cfg_bytes, dat_bytes, file_of, pair_of,
+};
+use dfr_channels::{Items, Layout, Memory, Setup};
+use dfr_recorder::{Answer, Record, Recorder};
 use fuel::Refusing;
 use std::alloc::Allocator;
 
@@ -46,7 +50,7 @@ pub fn has_cfg<A: Allocator + Copy>(alloc: A, file: &File<A>, wanted: &[u8]) -> 
 }
 
 /// The file writes these texts.
-pub fn is_file_of<A: Allocator + Copy>(alloc: A, file: &File<A>, wanted: Pair) -> bool {
+pub fn is_file_of<A: Allocator + Copy>(alloc: A, file: &File<A>, wanted: Texts) -> bool {
     has_cfg(alloc, file, wanted.cfg) && is_text(dat_bytes(alloc, file), wanted.dat)
 }
 
@@ -103,6 +107,44 @@ fn files_refused(rt: HostRuntime) {
     let heap = Refusing::new(rt.alloc());
     for kind in [Kind::Ascii, Kind::Binary] {
         assert!(rt; refuses(&heap, own_file(&heap, kind), Must::AnswerEach));
+    }
+}
+
+/// The bytes of both files of the record that a recorder gives.
+#[derive(Drop)]
+struct Bytes<A: Allocator> {
+    alloc: A,
+    kind: Kind,
+}
+
+fn is_pair_of<A: Allocator>(pair: &Pair<A>, texts: Texts) -> bool {
+    pair.cfg.as_slice() == texts.cfg && pair.dat.as_slice() == texts.dat
+}
+
+impl<A: Allocator + Copy> Consuming for Bytes<A> {
+    type Made = Recorder<A>;
+
+    fn make(&self) -> Option<Recorder<A>> {
+        closed(self.alloc)
+    }
+
+    fn call(&self, recorder: Recorder<A>) -> Outcome {
+        let mut recorder = recorder;
+        match recorder.take() {
+            Some(record) => match pair_of(self.alloc, recorder.layout(), &record, self.kind) {
+                Ok(pair) => right_if(is_pair_of(&pair, pair_in(self.kind))),
+                Err(Memory) => Outcome::Memory,
+            },
+            None => Outcome::Wrong,
+        }
+    }
+}
+
+#[test]
+fn pairs_of_bytes_refused(rt: HostRuntime) {
+    let heap = Refusing::new(rt.alloc());
+    for kind in [Kind::Ascii, Kind::Binary] {
+        assert!(rt; refuses_anew(&heap, Bytes { alloc: &heap, kind }, Must::Answer));
     }
 }
 

@@ -8,7 +8,8 @@ use dfr_program::{RunFault, read_all, read_over, replay_over};
 use fuel::Refusing;
 use std::alloc::{Allocator, Global};
 
-const MANUAL: &[u8] =
+/// One record of one channel, by a trigger after four scans.
+pub const MANUAL: &[u8] =
     b"station Bay 1\ndevice DFR\nanalog IA,A,,A,1,0,0,-32767,32767,1,1,P\nfreq 50\nrate 1000\nstart 0\nlimits 2,2,6,1\ngo\nscan 10/\nscan 11/\nscan 12/\nscan 13/\ntrigger\nscan 14/\nscan 15/\ntake\n";
 
 /// What it answers before it takes the record.

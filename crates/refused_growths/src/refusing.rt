@@ -30,7 +30,7 @@ pub struct Seen {
     pub made_up: bool,
 }
 
-const NOTHING: Seen = Seen {
+pub const NOTHING: Seen = Seen {
     answered: false,
     made_up: false,
 };
@@ -49,6 +49,14 @@ fn seen_in(before: Seen, outcome: Outcome, refused: bool) -> Option<Seen> {
         }),
         Outcome::Wrong => None,
     }
+}
+
+/// Notes how a call went, and grants all allocations again. Whether one of the call's was refused; None where it went wrong.
+pub fn noted(heap: Heap, seen: &mut Seen, outcome: Outcome) -> Option<bool> {
+    let refused = heap.has_refused();
+    heap.ample();
+    *seen = seen_in(*seen, outcome, refused)?;
+    Some(refused)
 }
 
 /// A call that can be made over and over.
