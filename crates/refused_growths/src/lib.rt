@@ -11,6 +11,8 @@ mod files;
 #[cfg(test)]
 mod live_calls;
 #[cfg(test)]
+mod live_ends;
+#[cfg(test)]
 mod live_runs;
 #[cfg(test)]
 mod program;

@@ -2,16 +2,14 @@
 
 ghost use Rattle.std.specs.Prelude.{◌≡◌};
 
-use crate::common::{Heap, are_the_rules, is_the_layout, layout, rules, scan};
+use crate::common::{Heap, are_the_rules, is_the_layout, scan};
+use crate::live_ends::{ends, sets_rules};
 use crate::recorder::{is_the_record, recorder};
 use crate::refusing::{
     Consuming, Must, Outcome, Trial, memory_if, refusals, refuses_anew, right_if,
 };
-use dfr_channels::{Memory, Rules, Scan};
-use dfr_live::{
-    End, EndFault, Ended, Inner, OpenFault, Opened, RulesRefusal, Session, Shared, Source, Token,
-    end, open,
-};
+use dfr_channels::{Memory, Scan};
+use dfr_live::{End, OpenFault, Opened, Session, Shared, Source, Token, open};
 use dfr_recorder::{Hit, Recorder, TriggerFault};
 use fuel::Refusing;
 use std::alloc::Allocator;
@@ -242,97 +240,6 @@ fn is_idle<N: Session<A>, R: Wait, A: Allocator + Copy>(
     let pumped = shared.pump(rt, token, 8);
     heap.ample();
     pumped.scans == 8 && pumped.stopped == End::Most
-}
-
-/// Rules that are set. Where one of their copies is refused they come back, and no call was made.
-#[derive(Drop)]
-struct Setting<'r, N: Session<A>, R, A: Allocator> {
-    rt: &'r R,
-    shared: &'r Shared<N, A>,
-    token: &'r mut Token<A>,
-    next: Option<Rules<A>>,
-}
-
-impl<N: Session<A>, R: Wait, A: Allocator + Copy> Trial for Setting<'_, N, R, A> {
-    fn call(&mut self) -> Outcome {
-        let before = self.token.made().len();
-        let Some(rules) = self.next.take() else {
-            return Outcome::Wrong;
-        };
-        match self.shared.set_rules(self.rt, self.token, rules) {
-            Ok(()) => right_if(self.token.made().len() == before.saturating_add(1)),
-            Err((fault, back)) => {
-                self.next = Some(back);
-                memory_if(fault == RulesRefusal::Memory && self.token.made().len() == before)
-            }
-        }
-    }
-}
-
-fn lawful<A: Allocator + Copy>(alloc: A) -> Option<Rules<A>> {
-    match layout(alloc) {
-        Some(layout) => rules(alloc, &layout),
-        None => None,
-    }
-}
-
-fn sets_rules<N: Session<A>, R: Wait, A: Allocator + Copy>(
-    rt: &R,
-    heap: Heap,
-    alloc: A,
-    shared: &Shared<N, A>,
-    token: &mut Token<A>,
-) -> bool {
-    let mut setting = Setting {
-        rt,
-        shared,
-        token,
-        next: lawful(alloc),
-    };
-    match refusals(heap, false, &mut setting) {
-        Some(seen) => seen.answered && !seen.made_up,
-        None => false,
-    }
-}
-
-/// What an end is made of.
-type Parts<N, A> = (Inner<N, A>, Source<N, A>, Vec<Token<A>, A>);
-
-/// An end. Where there is no memory for it all three come back.
-#[derive(Drop)]
-struct Ending<N: Session<A>, A: Allocator> {
-    alloc: A,
-    parts: Option<Parts<N, A>>,
-}
-
-fn is_ended<A: Allocator>(ended: &Ended<A>) -> bool {
-    ended.log.len() == 5 && ended.left.is_empty() && ended.recorder.scans() == 14
-}
-
-impl<N: Session<A>, A: Allocator + Copy> Trial for Ending<N, A> {
-    fn call(&mut self) -> Outcome {
-        let Some((inner, source, tokens)) = self.parts.take() else {
-            return Outcome::Wrong;
-        };
-        match end(self.alloc, inner, source, tokens) {
-            Ok(ended) => right_if(is_ended(&ended)),
-            Err((fault, inner, source, tokens)) => {
-                self.parts = Some((inner, source, tokens));
-                memory_if(fault == EndFault::Memory)
-            }
-        }
-    }
-}
-
-fn ends<N: Session<A>, A: Allocator + Copy>(heap: Heap, alloc: A, parts: Parts<N, A>) -> bool {
-    let mut ending = Ending {
-        alloc,
-        parts: Some(parts),
-    };
-    match refusals(heap, false, &mut ending) {
-        Some(seen) => seen.answered && !seen.made_up,
-        None => false,
-    }
 }
 
 fn calls<N: Session<A>, R: Wait, A: Allocator + Copy>(
