@@ -1,11 +1,11 @@
 //! Configuration and data files read.
 
-mod bay;
+pub mod bay;
 mod cfg;
 mod cuts;
 mod dat;
 mod read_back;
-mod same;
+pub mod same;
 
 use comtrade_read::{Part, ReadFault, read, read_cfg};
 use std::alloc::{AllocError, Global};

@@ -1,7 +1,7 @@
 //! Files of records and their bytes.
 
 mod bytes;
-mod fixture;
+pub mod fixture;
 mod outputs;
 mod records;
 mod rows;

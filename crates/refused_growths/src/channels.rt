@@ -1,7 +1,7 @@
 //! Copies of set-ups, channels, scans, rules and lists, and texts that are cut.
 
 use crate::common::{Heap, are_the_rules, is_the_layout, layout, rules, scan, setup};
-use crate::refusing::{Outcome, is_each_answered, is_met, memory_if, refusals, right_if};
+use crate::refusing::{Must, Outcome, Trial, memory_if, refuses, right_if};
 use dfr_channels::{
     AnalogChannel, Items, Layout, Memory, Reading, Rule, Rules, Scan, Setup, StatusChannel,
     copies_of, fields_of, lines_of,
@@ -9,24 +9,19 @@ use dfr_channels::{
 use fuel::Refusing;
 use std::alloc::Allocator;
 
-fn copy_layout<A: Allocator + Copy>(layout: &Layout<A>) -> Outcome {
-    match layout.try_clone() {
-        Ok(copy) => right_if(is_the_layout(&copy)),
-        Err(Memory) => memory_if(is_the_layout(layout)),
-    }
-}
-
-fn layout_refuses(heap: Heap) -> bool {
-    match layout(heap) {
-        Some(layout) => is_each_answered(refusals(heap, true, || copy_layout(&layout))),
-        None => false,
+impl<A: Allocator + Copy> Trial for Layout<A> {
+    fn call(&mut self) -> Outcome {
+        match self.try_clone() {
+            Ok(copy) => right_if(is_the_layout(&copy)),
+            Err(Memory) => memory_if(is_the_layout(self)),
+        }
     }
 }
 
 #[test]
 fn layouts(rt: HostRuntime) {
     let heap = Refusing::new(rt.alloc());
-    assert!(rt; layout_refuses(&heap));
+    assert!(rt; refuses(&heap, layout(&heap), Must::AnswerEach));
 }
 
 fn is_the_analog<A: Allocator>(channels: &[AnalogChannel<A>]) -> bool {
@@ -94,17 +89,37 @@ fn copy_name<A: Allocator + Copy>(setup: &Setup<A>) -> Outcome {
     }
 }
 
-fn copies_refuse<'a>(heap: Heap<'a>, setup: &Setup<Heap<'a>>) -> bool {
-    is_each_answered(refusals(heap, true, || copy_setup(setup)))
-        && is_each_answered(refusals(heap, true, || copy_analog(setup)))
-        && is_each_answered(refusals(heap, true, || copy_status(setup)))
-        && is_each_answered(refusals(heap, true, || copy_name(setup)))
+/// What of a set-up is copied.
+#[derive(Clone, Copy)]
+enum Part {
+    Setup,
+    Analog,
+    Status,
+    Name,
 }
 
-fn setup_refuses(heap: Heap) -> bool {
-    match setup(heap) {
-        Some(setup) => copies_refuse(heap, &setup),
-        None => false,
+/// A set-up of which one part after the other is copied.
+#[derive(Drop)]
+struct Copied<A: Allocator> {
+    setup: Setup<A>,
+    part: Part,
+}
+
+impl<A: Allocator + Copy> Trial for Copied<A> {
+    fn call(&mut self) -> Outcome {
+        match self.part {
+            Part::Setup => copy_setup(&self.setup),
+            Part::Analog => copy_analog(&self.setup),
+            Part::Status => copy_status(&self.setup),
+            Part::Name => copy_name(&self.setup),
+        }
+    }
+}
+
+fn copy_of<A: Allocator + Copy>(alloc: A, part: Part) -> Option<Copied<A>> {
+    match setup(alloc) {
+        Some(setup) => Some(Copied { setup, part }),
+        None => None,
     }
 }
 
@@ -112,60 +127,69 @@ fn setup_refuses(heap: Heap) -> bool {
 #[test]
 fn setups(rt: HostRuntime) {
     let heap = Refusing::new(rt.alloc());
-    assert!(rt; setup_refuses(&heap));
+    for part in [Part::Setup, Part::Analog, Part::Status, Part::Name] {
+        assert!(rt; refuses(&heap, copy_of(&heap, part), Must::AnswerEach));
+    }
 }
 
 fn is_the_scan<A: Allocator>(scan: &Scan<A>) -> bool {
     scan.analog() == [Reading::Value(7)].as_slice() && scan.status() == [true].as_slice()
 }
 
-fn copy_scan<A: Allocator + Copy>(scan: &Scan<A>) -> Outcome {
-    match scan.try_clone() {
-        Ok(copy) => right_if(is_the_scan(&copy)),
-        Err(Memory) => memory_if(is_the_scan(scan)),
-    }
-}
-
-fn scan_refuses(heap: Heap) -> bool {
-    match scan(heap, 7, true) {
-        Some(scan) => is_each_answered(refusals(heap, true, || copy_scan(&scan))),
-        None => false,
+impl<A: Allocator + Copy> Trial for Scan<A> {
+    fn call(&mut self) -> Outcome {
+        match self.try_clone() {
+            Ok(copy) => right_if(is_the_scan(&copy)),
+            Err(Memory) => memory_if(is_the_scan(self)),
+        }
     }
 }
 
 #[test]
 fn scans(rt: HostRuntime) {
     let heap = Refusing::new(rt.alloc());
-    assert!(rt; scan_refuses(&heap));
+    assert!(rt; refuses(&heap, scan(&heap, 7, true), Must::AnswerEach));
 }
 
-fn copy_rules<A: Allocator + Copy>(rules: &Rules<A>) -> Outcome {
-    match rules.try_clone() {
-        Ok(copy) => right_if(are_the_rules(&copy)),
-        Err(Memory) => memory_if(are_the_rules(rules)),
+impl<A: Allocator + Copy> Trial for Rules<A> {
+    fn call(&mut self) -> Outcome {
+        match self.try_clone() {
+            Ok(copy) => right_if(are_the_rules(&copy)),
+            Err(Memory) => memory_if(are_the_rules(self)),
+        }
     }
 }
 
-/// What doesn't allocate is answered while every allocation is refused.
-fn takes_none<'a>(heap: Heap<'a>, layout: &Layout<Heap<'a>>, rules: &Rules<Heap<'a>>) -> bool {
-    heap.refuse_all();
-    let empty: Vec<Rule, Heap> = Vec::new(heap);
-    rules.fits(layout) && Rules::new(layout, empty).is_ok()
+fn lawful<A: Allocator + Copy>(alloc: A) -> Option<Rules<A>> {
+    match layout(alloc) {
+        Some(layout) => rules(alloc, &layout),
+        None => None,
+    }
 }
 
-fn list_refuses<'a>(heap: Heap<'a>, layout: &Layout<Heap<'a>>) -> bool {
-    match rules(heap, layout) {
-        Some(rules) => {
-            is_each_answered(refusals(heap, true, || copy_rules(&rules)))
-                && takes_none(heap, layout, &rules)
-        }
+fn fits<A: Allocator>(layout: &Layout<A>, rules: Option<Rules<A>>) -> bool {
+    match rules {
+        Some(rules) => rules.fits(layout),
         None => false,
     }
 }
 
-fn rules_refuse(heap: Heap) -> bool {
+/// What doesn't allocate is answered while every allocation is refused.
+fn takes_none<'a>(
+    heap: Heap<'a>,
+    layout: &Layout<Heap<'a>>,
+    rules: Option<Rules<Heap<'a>>>,
+) -> bool {
+    heap.refuse_all();
+    let empty = Rules::new(layout, Vec::new(heap)).is_ok();
+    let done = empty && fits(layout, rules);
+    heap.ample();
+    done
+}
+
+fn layout_takes_none(heap: Heap) -> bool {
     match layout(heap) {
-        Some(layout) => list_refuses(heap, &layout),
+        Some(layout) => takes_none(heap, &layout, rules(heap, &layout)),
         None => false,
     }
 }
@@ -173,7 +197,8 @@ fn rules_refuse(heap: Heap) -> bool {
 #[test]
 fn lists_of_rules(rt: HostRuntime) {
     let heap = Refusing::new(rt.alloc());
-    assert!(rt; rules_refuse(&heap));
+    assert!(rt; refuses(&heap, lawful(&heap), Must::AnswerEach));
+    assert!(rt; layout_takes_none(&heap));
 }
 
 fn cut_lines<A: Allocator>(alloc: A) -> Outcome {
@@ -190,6 +215,23 @@ fn cut_fields<A: Allocator>(alloc: A) -> Outcome {
     }
 }
 
+/// A text that is cut into lines, or into fields.
+#[derive(Drop)]
+struct Cut<A: Allocator> {
+    alloc: A,
+    into_lines: bool,
+}
+
+impl<A: Allocator + Copy> Trial for Cut<A> {
+    fn call(&mut self) -> Outcome {
+        if self.into_lines {
+            cut_lines(self.alloc)
+        } else {
+            cut_fields(self.alloc)
+        }
+    }
+}
+
 /// While every allocation is refused nothing can make up for one.
 fn is_never_cut(heap: Heap) -> bool {
     heap.refuse_all();
@@ -198,15 +240,16 @@ fn is_never_cut(heap: Heap) -> bool {
     cut
 }
 
-fn cuts_refuse(heap: Heap) -> bool {
-    is_met(refusals(heap, true, || cut_lines(heap)))
-        && is_met(refusals(heap, true, || cut_fields(heap)))
-        && is_never_cut(heap)
-}
-
 /// An allocation that is refused is answered so, or made up for by another.
 #[test]
 fn cut_texts(rt: HostRuntime) {
     let heap = Refusing::new(rt.alloc());
-    assert!(rt; cuts_refuse(&heap));
+    for into_lines in [true, false] {
+        let cut = Cut {
+            alloc: &heap,
+            into_lines,
+        };
+        assert!(rt; refuses(&heap, Some(cut), Must::Meet));
+    }
+    assert!(rt; is_never_cut(&heap));
 }

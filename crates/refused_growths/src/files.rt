@@ -1,13 +1,17 @@
 //! The File of a record, and what files write.
 
 use crate::common::{Heap, layout, setup};
-use crate::refusing::{Outcome, is_each_answered, memory_if, refusals, right_if};
-use crate::runs::ran;
-use crate::texts::{Pair, pair_in};
+use crate::refusing::{
+    Consuming, Must, Outcome, Trial, memory_if, refuses, refuses_anew, right_if,
+};
+use crate::runs::{closed, ran};
+use crate::texts::{Pair as Texts, pair_in};
 use comtrade_read::read;
-use comtrade_write::{File, FileFault, Kind, WriteFault, cfg_bytes, dat_bytes, file_of};
-use dfr_channels::{Items, Layout, Setup};
-use dfr_recorder::{Answer, Record};
+use comtrade_write::{
+    File, FileFault, Kind, Pair, WriteFault, cfg_bytes, dat_bytes, file_of, pair_of,
+};
+use dfr_channels::{Items, Layout, Memory, Setup};
+use dfr_recorder::{Answer, Record, Recorder};
 use fuel::Refusing;
 use std::alloc::Allocator;
 
@@ -46,22 +50,22 @@ pub fn has_cfg<A: Allocator + Copy>(alloc: A, file: &File<A>, wanted: &[u8]) -> 
 }
 
 /// The file writes these texts.
-pub fn is_file_of<A: Allocator + Copy>(alloc: A, file: &File<A>, wanted: Pair) -> bool {
+pub fn is_file_of<A: Allocator + Copy>(alloc: A, file: &File<A>, wanted: Texts) -> bool {
     has_cfg(alloc, file, wanted.cfg) && is_text(dat_bytes(alloc, file), wanted.dat)
 }
 
-/// What a File is made of. In one value, since a closure may not name one heap in two.
+/// What a File is made of.
 #[derive(Drop)]
-struct Taken<'a> {
-    heap: Heap<'a>,
-    layout: Layout<Heap<'a>>,
-    record: Record<Heap<'a>>,
+struct Taken<A: Allocator> {
+    alloc: A,
+    layout: Layout<A>,
+    record: Record<A>,
 }
 
-fn with_record<'a>(heap: Heap<'a>, layout: Option<Layout<Heap<'a>>>) -> Option<Taken<'a>> {
-    match (layout, record(heap)) {
+fn with_record<A: Allocator + Copy>(alloc: A, layout: Option<Layout<A>>) -> Option<Taken<A>> {
+    match (layout, record(alloc)) {
         (Some(layout), Some(record)) => Some(Taken {
-            heap,
+            alloc,
             layout,
             record,
         }),
@@ -69,29 +73,79 @@ fn with_record<'a>(heap: Heap<'a>, layout: Option<Layout<Heap<'a>>>) -> Option<T
     }
 }
 
-fn make(of: &Taken, kind: Kind) -> Outcome {
-    let made = file_of(of.heap, &of.layout, &of.record, kind);
-    of.heap.refuse_no_more();
+/// A File of this kind that is made.
+#[derive(Drop)]
+struct Own<'a> {
+    of: Taken<Heap<'a>>,
+    kind: Kind,
+}
+
+fn make(of: &Taken<Heap>, kind: Kind) -> Outcome {
+    let made = file_of(of.alloc, &of.layout, &of.record, kind);
+    of.alloc.refuse_no_more();
     match made {
-        Ok(file) => right_if(is_file_of(of.heap, &file, pair_in(kind))),
+        Ok(file) => right_if(is_file_of(of.alloc, &file, pair_in(kind))),
         Err(fault) => memory_if(fault == FileFault::Memory),
     }
 }
 
-fn files_refuse(heap: Heap) -> bool {
+impl Trial for Own<'_> {
+    fn call(&mut self) -> Outcome {
+        make(&self.of, self.kind)
+    }
+}
+
+fn own_file(heap: Heap, kind: Kind) -> Option<Own> {
     match with_record(heap, layout(heap)) {
-        Some(of) => {
-            is_each_answered(refusals(heap, true, || make(&of, Kind::Ascii)))
-                && is_each_answered(refusals(heap, true, || make(&of, Kind::Binary)))
-        }
-        None => false,
+        Some(of) => Some(Own { of, kind }),
+        None => None,
     }
 }
 
 #[test]
 fn files_refused(rt: HostRuntime) {
     let heap = Refusing::new(rt.alloc());
-    assert!(rt; files_refuse(&heap));
+    for kind in [Kind::Ascii, Kind::Binary] {
+        assert!(rt; refuses(&heap, own_file(&heap, kind), Must::AnswerEach));
+    }
+}
+
+/// The bytes of both files of the record that a recorder gives.
+#[derive(Drop)]
+struct Bytes<A: Allocator> {
+    alloc: A,
+    kind: Kind,
+}
+
+fn is_pair_of<A: Allocator>(pair: &Pair<A>, texts: Texts) -> bool {
+    pair.cfg.as_slice() == texts.cfg && pair.dat.as_slice() == texts.dat
+}
+
+impl<A: Allocator + Copy> Consuming for Bytes<A> {
+    type Made = Recorder<A>;
+
+    fn make(&self) -> Option<Recorder<A>> {
+        closed(self.alloc)
+    }
+
+    fn call(&self, recorder: Recorder<A>) -> Outcome {
+        let mut recorder = recorder;
+        match recorder.take() {
+            Some(record) => match pair_of(self.alloc, recorder.layout(), &record, self.kind) {
+                Ok(pair) => right_if(is_pair_of(&pair, pair_in(self.kind))),
+                Err(Memory) => Outcome::Memory,
+            },
+            None => Outcome::Wrong,
+        }
+    }
+}
+
+#[test]
+fn pairs_of_bytes_refused(rt: HostRuntime) {
+    let heap = Refusing::new(rt.alloc());
+    for kind in [Kind::Ascii, Kind::Binary] {
+        assert!(rt; refuses_anew(&heap, Bytes { alloc: &heap, kind }, Must::Answer));
+    }
 }
 
 /// The set-up without its status channel.
@@ -108,18 +162,26 @@ fn other_layout<A: Allocator + Copy>(alloc: A) -> Option<Layout<A>> {
     }
 }
 
-fn refuse(of: &Taken) -> Outcome {
-    match file_of(of.heap, &of.layout, &of.record, Kind::Ascii) {
-        Ok(_) => Outcome::Wrong,
-        Err(FileFault::Foreign) => Outcome::Right,
-        Err(FileFault::Memory) => Outcome::Memory,
+/// A record over a layout that isn't its own.
+#[derive(Drop)]
+struct Foreign<A: Allocator> {
+    of: Taken<A>,
+}
+
+impl<A: Allocator + Copy> Trial for Foreign<A> {
+    fn call(&mut self) -> Outcome {
+        match file_of(self.of.alloc, &self.of.layout, &self.of.record, Kind::Ascii) {
+            Ok(_) => Outcome::Wrong,
+            Err(FileFault::Foreign) => Outcome::Right,
+            Err(FileFault::Memory) => Outcome::Memory,
+        }
     }
 }
 
-fn foreign_refuses(heap: Heap) -> bool {
-    match with_record(heap, other_layout(heap)) {
-        Some(of) => refusals(heap, true, || refuse(&of)).is_some(),
-        None => false,
+fn foreign_file<A: Allocator + Copy>(alloc: A) -> Option<Foreign<A>> {
+    match with_record(alloc, other_layout(alloc)) {
+        Some(of) => Some(Foreign { of }),
+        None => None,
     }
 }
 
@@ -127,5 +189,5 @@ fn foreign_refuses(heap: Heap) -> bool {
 #[test]
 fn foreign_refused(rt: HostRuntime) {
     let heap = Refusing::new(rt.alloc());
-    assert!(rt; foreign_refuses(&heap));
+    assert!(rt; refuses(&heap, foreign_file(&heap), Must::May));
 }

@@ -9,6 +9,12 @@ mod common;
 #[cfg(test)]
 mod files;
 #[cfg(test)]
+mod live_calls;
+#[cfg(test)]
+mod live_ends;
+#[cfg(test)]
+mod live_runs;
+#[cfg(test)]
 mod program;
 #[cfg(test)]
 mod reading;

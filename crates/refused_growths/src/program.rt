@@ -1,14 +1,15 @@
 //! Scripts replayed and pairs of files read: what was written is the front of the whole output.
 
 use crate::common::Heap;
-use crate::refusing::{Outcome, is_answered, memory_if, refusals, right_if};
+use crate::refusing::{Must, Outcome, Trial, memory_if, refuses, refuses_lent, right_if};
 use crate::texts::{CFG, FIRST_CFG, FIRST_COUNTS, FIRST_DAT};
 use comtrade_write::Kind;
 use dfr_program::{RunFault, read_all, read_over, replay_over};
 use fuel::Refusing;
 use std::alloc::{Allocator, Global};
 
-const MANUAL: &[u8] =
+/// One record of one channel, by a trigger after four scans.
+pub const MANUAL: &[u8] =
     b"station Bay 1\ndevice DFR\nanalog IA,A,,A,1,0,0,-32767,32767,1,1,P\nfreq 50\nrate 1000\nstart 0\nlimits 2,2,6,1\ngo\nscan 10/\nscan 11/\nscan 12/\nscan 13/\ntrigger\nscan 14/\nscan 15/\ntake\n";
 
 /// What it answers before it takes the record.
@@ -61,32 +62,55 @@ fn outcome_of(
     }
 }
 
-fn replay(
-    heap: Heap,
+/// A script that is replayed, and the greatest length of what was written where it was out of memory.
+#[derive(Drop)]
+struct Replay<'a> {
+    heap: Heap<'a>,
     alloc: Global,
-    script: &[u8],
+    script: &'a [u8],
     kind: Kind,
-    wanted: Wanted,
-    most: &mut usize,
-) -> Outcome {
-    let mut out = Vec::new(alloc);
-    let mut input = script;
-    let answer = replay_over(heap, &mut input, &mut out, kind);
-    outcome_of(answer, &out, wanted, most)
+    wanted: Wanted<'a>,
+    most: usize,
+}
+
+impl Trial for Replay<'_> {
+    fn call(&mut self) -> Outcome {
+        let mut out = Vec::new(self.alloc);
+        let mut input = self.script;
+        let answer = replay_over(self.heap, &mut input, &mut out, self.kind);
+        outcome_of(answer, &out, self.wanted, &mut self.most)
+    }
+}
+
+fn most_written<'a>(
+    heap: Heap<'a>,
+    alloc: Global,
+    script: &'a [u8],
+    kind: Kind,
+    wanted: Wanted<'a>,
+) -> Option<usize> {
+    let mut replay = Replay {
+        heap,
+        alloc,
+        script,
+        kind,
+        wanted,
+        most: 0,
+    };
+    refuses_lent(heap, &mut replay, Must::Answer).then_some(replay.most)
 }
 
 /// Some replay that was refused an allocation wrote at least these answers.
 fn replay_refuses(heap: Heap, alloc: Global, script: &[u8], kind: Kind, answers: &[u8]) -> bool {
     let mut out = Vec::new(alloc);
     let mut input = script;
-    let mut most = 0usize;
     match replay_over(heap, &mut input, &mut out, kind) {
         Ok(done) => {
             let wanted = Wanted { done, text: &out };
-            let seen = refusals(heap, true, || {
-                replay(heap, alloc, script, kind, wanted, &mut most)
-            });
-            is_answered(seen) && out.starts_with(answers) && most >= answers.len()
+            match most_written(heap, alloc, script, kind, wanted) {
+                Some(most) => out.starts_with(answers) && most >= answers.len(),
+                None => false,
+            }
         }
         Err(_) => false,
     }
@@ -112,24 +136,23 @@ fn replays_refused(rt: HostRuntime) {
     assert!(rt; replays_refuse(&heap, rt.alloc()));
 }
 
-fn print(
-    heap: Heap,
+/// A pair of files whose contents are printed.
+#[derive(Drop)]
+struct Reading<'a> {
+    heap: Heap<'a>,
     alloc: Global,
-    cfg: &[u8],
-    dat: &[u8],
-    wanted: Wanted,
-    most: &mut usize,
-) -> Outcome {
-    let mut out = Vec::new(alloc);
-    let answer = read_over(heap, cfg, dat, &mut out);
-    outcome_of(answer, &out, wanted, most)
+    cfg: &'a [u8],
+    dat: &'a [u8],
+    wanted: Wanted<'a>,
 }
 
-fn reading_refuses(heap: Heap, alloc: Global, cfg: &[u8], dat: &[u8], wanted: Wanted) -> bool {
-    let mut most = 0usize;
-    is_answered(refusals(heap, true, || {
-        print(heap, alloc, cfg, dat, wanted, &mut most)
-    }))
+impl Trial for Reading<'_> {
+    fn call(&mut self) -> Outcome {
+        let mut out = Vec::new(self.alloc);
+        let mut most = 0usize;
+        let answer = read_over(self.heap, self.cfg, self.dat, &mut out);
+        outcome_of(answer, &out, self.wanted, &mut most)
+    }
 }
 
 fn readings_refuse(heap: Heap, alloc: Global) -> bool {
@@ -140,7 +163,14 @@ fn readings_refuse(heap: Heap, alloc: Global) -> bool {
         (FIRST_CFG, FIRST_DAT, true, FIRST_TEXT),
         (FIRST_COUNTS, FIRST_DAT, false, COUNTS_TEXT),
     ] {
-        all = reading_refuses(heap, alloc, cfg, dat, Wanted { done, text }) && all;
+        let reading = Reading {
+            heap,
+            alloc,
+            cfg,
+            dat,
+            wanted: Wanted { done, text },
+        };
+        all = refuses(heap, Some(reading), Must::Answer) && all;
     }
     all
 }
@@ -151,16 +181,24 @@ fn readings_refused(rt: HostRuntime) {
     assert!(rt; readings_refuse(&heap, rt.alloc()));
 }
 
-fn read_script<A: Allocator>(alloc: A, script: &[u8]) -> Outcome {
-    let mut input = script;
-    match read_all(alloc, &mut input) {
-        Ok(bytes) => right_if(bytes.as_slice() == script),
-        Err(fault) => memory_if(fault == RunFault::Memory),
+/// The bytes of a script.
+#[derive(Drop)]
+struct Input<A: Allocator> {
+    alloc: A,
+}
+
+impl<A: Allocator + Copy> Trial for Input<A> {
+    fn call(&mut self) -> Outcome {
+        let mut input = LEVEL;
+        match read_all(self.alloc, &mut input) {
+            Ok(bytes) => right_if(bytes.as_slice() == LEVEL),
+            Err(fault) => memory_if(fault == RunFault::Memory),
+        }
     }
 }
 
 #[test]
 fn inputs_refused(rt: HostRuntime) {
     let heap = Refusing::new(rt.alloc());
-    assert!(rt; is_answered(refusals(&heap, true, || read_script(&heap, LEVEL))));
+    assert!(rt; refuses(&heap, Some(Input { alloc: &heap }), Must::Answer));
 }

@@ -2,7 +2,9 @@
 
 use crate::common::{Heap, with_line};
 use crate::files::{has_cfg, is_file_of};
-use crate::refusing::{Outcome, is_answered, memory_if, refusals, refusals_anew, right_if};
+use crate::refusing::{
+    Consuming, Must, Outcome, Trial, memory_if, refuses, refuses_anew, right_if,
+};
 use crate::texts::{CFG, FIRST_CFG, FIRST_DAT, Pair, pair_in};
 use comtrade_read::{Part, ReadFault, read, read_cfg, read_dat};
 use comtrade_write::{File, Head, Kind};
@@ -27,68 +29,91 @@ fn is_head_of<A: Allocator + Copy>(alloc: A, head: Head<A>, texts: Pair) -> bool
     }
 }
 
-fn read_head(heap: Heap, texts: Pair) -> Outcome {
-    let head = read_cfg(heap, texts.cfg);
-    heap.refuse_no_more();
-    match head {
-        Ok(head) => right_if(is_head_of(heap, head, texts)),
-        Err(fault) => memory_if(fault == ReadFault::Memory),
-    }
+/// The head of these texts.
+#[derive(Drop)]
+struct HeadOf<'a> {
+    heap: Heap<'a>,
+    texts: Pair,
 }
 
-fn heads_refuse(heap: Heap) -> bool {
-    is_answered(refusals(heap, true, || read_head(heap, pair_in(Kind::Ascii))))
-        && is_answered(refusals(heap, true, || read_head(heap, pair_in(Kind::Binary))))
+impl Trial for HeadOf<'_> {
+    fn call(&mut self) -> Outcome {
+        let head = read_cfg(self.heap, self.texts.cfg);
+        self.heap.refuse_no_more();
+        match head {
+            Ok(head) => right_if(is_head_of(self.heap, head, self.texts)),
+            Err(fault) => memory_if(fault == ReadFault::Memory),
+        }
+    }
 }
 
 #[test]
 fn heads_refused(rt: HostRuntime) {
     let heap = Refusing::new(rt.alloc());
-    assert!(rt; heads_refuse(&heap));
-}
-
-/// Reads data. Where there is no memory for it the head comes back, and reads the same data then.
-fn read_data(head: Head<Heap>, texts: Pair) -> Outcome {
-    let heap = *head.station.allocator();
-    let file = data_under(heap, head, texts.dat);
-    heap.refuse_no_more();
-    match file {
-        Some(Ok(file)) => right_if(is_file_of(heap, &file, texts)),
-        Some(Err((fault, back))) => {
-            memory_if(fault == ReadFault::Memory && is_head_of(heap, back, texts))
-        }
-        None => Outcome::Wrong,
+    for kind in [Kind::Ascii, Kind::Binary] {
+        let texts = pair_in(kind);
+        let head = HeadOf { heap: &heap, texts };
+        assert!(rt; refuses(&heap, Some(head), Must::Answer));
     }
 }
 
-fn data_refuses(heap: Heap, texts: Pair) -> bool {
-    is_answered(refusals_anew(
-        heap,
-        || read_cfg(heap, texts.cfg).ok(),
-        |head| read_data(head, texts),
-    ))
+/// The data of these texts under their head. Where there is no memory for them the head comes back, and reads the same data then.
+#[derive(Drop)]
+struct DataOf<'a> {
+    heap: Heap<'a>,
+    texts: Pair,
+}
+
+impl<'a> Consuming for DataOf<'a> {
+    type Made = Head<Heap<'a>>;
+
+    fn make(&self) -> Option<Head<Heap<'a>>> {
+        read_cfg(self.heap, self.texts.cfg).ok()
+    }
+
+    fn call(&self, head: Head<Heap<'a>>) -> Outcome {
+        let file = data_under(self.heap, head, self.texts.dat);
+        self.heap.refuse_no_more();
+        match file {
+            Some(Ok(file)) => right_if(is_file_of(self.heap, &file, self.texts)),
+            Some(Err((ReadFault::Memory, back))) => {
+                memory_if(is_head_of(self.heap, back, self.texts))
+            }
+            _ => Outcome::Wrong,
+        }
+    }
 }
 
 #[test]
 fn data_refused(rt: HostRuntime) {
     let heap = Refusing::new(rt.alloc());
-    assert!(rt;
-        data_refuses(&heap, pair_in(Kind::Ascii)) && data_refuses(&heap, pair_in(Kind::Binary))
-    );
+    for kind in [Kind::Ascii, Kind::Binary] {
+        let texts = pair_in(kind);
+        assert!(rt; refuses_anew(&heap, DataOf { heap: &heap, texts }, Must::Answer));
+    }
 }
 
-/// Reads a pair whose file writes these texts.
-fn read_pair(heap: Heap, pair: Pair, texts: Pair) -> Outcome {
-    let file = read(heap, pair.cfg, pair.dat);
-    heap.refuse_no_more();
-    match file {
-        Ok(file) => right_if(is_file_of(heap, &file, texts)),
-        Err((_, fault)) => memory_if(fault == ReadFault::Memory),
+/// A pair whose file writes these texts.
+#[derive(Drop)]
+struct PairOf<'a> {
+    heap: Heap<'a>,
+    pair: Pair,
+    texts: Pair,
+}
+
+impl Trial for PairOf<'_> {
+    fn call(&mut self) -> Outcome {
+        let file = read(self.heap, self.pair.cfg, self.pair.dat);
+        self.heap.refuse_no_more();
+        match file {
+            Ok(file) => right_if(is_file_of(self.heap, &file, self.texts)),
+            Err((_, fault)) => memory_if(fault == ReadFault::Memory),
+        }
     }
 }
 
 fn pair_refuses(heap: Heap, pair: Pair, texts: Pair) -> bool {
-    is_answered(refusals(heap, true, || read_pair(heap, pair, texts)))
+    refuses(heap, Some(PairOf { heap, pair, texts }), Must::Answer)
 }
 
 #[test]
@@ -132,22 +157,33 @@ fn lenient_pairs_refused(rt: HostRuntime) {
     }
 }
 
-/// Reads a pair with this fault in this part.
-fn refuse<A: Allocator + Copy>(
+/// A pair with this fault in this part.
+#[derive(Drop)]
+struct Faulty<'a, A: Allocator> {
     alloc: A,
-    cfg: &[u8],
-    dat: &[u8],
+    cfg: &'a [u8],
+    dat: &'a [u8],
     wanted: (Part, ReadFault),
-) -> Outcome {
-    match read(alloc, cfg, dat) {
-        Ok(_) => Outcome::Wrong,
-        Err((_, ReadFault::Memory)) => Outcome::Memory,
-        Err((part, fault)) => right_if(part == wanted.0 && fault == wanted.1),
+}
+
+impl<A: Allocator + Copy> Trial for Faulty<'_, A> {
+    fn call(&mut self) -> Outcome {
+        match read(self.alloc, self.cfg, self.dat) {
+            Ok(_) => Outcome::Wrong,
+            Err((_, ReadFault::Memory)) => Outcome::Memory,
+            Err((part, fault)) => right_if(part == self.wanted.0 && fault == self.wanted.1),
+        }
     }
 }
 
 fn fault_refuses(heap: Heap, cfg: &[u8], dat: &[u8], wanted: (Part, ReadFault)) -> bool {
-    is_answered(refusals(heap, true, || refuse(heap, cfg, dat, wanted)))
+    let faulty = Faulty {
+        alloc: heap,
+        cfg,
+        dat,
+        wanted,
+    };
+    refuses(heap, Some(faulty), Must::Answer)
 }
 
 /// A file that ends after its second line, and data whose first value is no number.

@@ -1,7 +1,9 @@
 //! The recorder: what a refusal leaves, and that the call made again goes on as if nothing had happened.
 
 use crate::common::{Heap, are_the_rules, is_the_layout, layout, rules, scan};
-use crate::refusing::{Outcome, is_each_answered, memory_if, refusals, refusals_anew, right_if};
+use crate::refusing::{
+    Consuming, Must, Outcome, Trial, memory_if, refusals, refuses_anew, right_if,
+};
 use dfr_channels::{Layout, Memory, Rules, Scan};
 use dfr_recorder::{Hit, Limits, Record, Recorder, ScanRefusal, Scanned, TriggerFault};
 use fuel::Refusing;
@@ -10,18 +12,13 @@ use std::alloc::Allocator;
 /// What a recorder is made of.
 #[derive(Drop)]
 struct Parts<A: Allocator> {
-    alloc: A,
     layout: Layout<A>,
     rules: Rules<A>,
 }
 
 fn parts_of<A: Allocator + Copy>(alloc: A, layout: Layout<A>) -> Option<Parts<A>> {
     match rules(alloc, &layout) {
-        Some(rules) => Some(Parts {
-            alloc,
-            layout,
-            rules,
-        }),
+        Some(rules) => Some(Parts { layout, rules }),
         None => None,
     }
 }
@@ -68,26 +65,35 @@ fn is_made<A: Allocator>(made: Option<Made<A>>) -> bool {
     }
 }
 
-/// Makes a recorder. Where there is no memory for it its parts come back, and serve a second time.
-fn make<A: Allocator + Copy>(of: Parts<A>) -> Outcome {
-    let Parts {
-        alloc,
-        layout,
-        rules,
-    } = of;
-    match made(alloc, layout, rules) {
-        Some(Err((Memory, layout, rules))) => memory_if(
-            is_the_layout(&layout) && are_the_rules(&rules) && is_made(made(alloc, layout, rules)),
-        ),
-        made => right_if(is_made(made)),
+/// A recorder that is made. Where there is no memory for it its parts come back, and serve a second time.
+#[derive(Drop)]
+struct New<A: Allocator> {
+    alloc: A,
+}
+
+impl<A: Allocator + Copy> Consuming for New<A> {
+    type Made = Parts<A>;
+
+    fn make(&self) -> Option<Parts<A>> {
+        make_parts(self.alloc)
+    }
+
+    fn call(&self, of: Parts<A>) -> Outcome {
+        match made(self.alloc, of.layout, of.rules) {
+            Some(Err((Memory, layout, rules))) => memory_if(
+                is_the_layout(&layout)
+                    && are_the_rules(&rules)
+                    && is_made(made(self.alloc, layout, rules)),
+            ),
+            made => right_if(is_made(made)),
+        }
     }
 }
 
 #[test]
 fn new_refused(rt: HostRuntime) {
     let heap = Refusing::new(rt.alloc());
-    let seen = refusals_anew(&heap, || make_parts(&heap), |of| make(of));
-    assert!(rt; is_each_answered(seen));
+    assert!(rt; refuses_anew(&heap, New { alloc: &heap }, Must::AnswerEach));
 }
 
 /// What a scan is answered, whatever allocation was refused before, and whether it allocates.
@@ -103,28 +109,37 @@ fn is_answer(scanned: Scanned, wanted: Wanted) -> bool {
     scanned.trigger.is_some() == wanted.fired && scanned.closed == wanted.closed
 }
 
-/// Makes the step of a scan, which comes back where there is no memory for it.
-fn step<A: Allocator + Copy>(
-    recorder: &mut Recorder<A>,
-    next: &mut Option<Scan<A>>,
+/// The step of a scan, which comes back where there is no memory for it.
+#[derive(Drop)]
+struct Stepping<'r, A: Allocator> {
+    recorder: &'r mut Recorder<A>,
+    next: Option<Scan<A>>,
     wanted: Wanted,
-) -> Outcome {
-    let held = recorder.held();
-    match next.take() {
-        Some(scan) => match recorder.scan(scan) {
-            Ok(scanned) => right_if(is_answer(scanned, wanted)),
-            Err((fault, back)) => {
-                *next = Some(back);
-                memory_if(fault == ScanRefusal::Memory && recorder.held() == held)
-            }
-        },
-        None => Outcome::Wrong,
+}
+
+impl<A: Allocator + Copy> Trial for Stepping<'_, A> {
+    fn call(&mut self) -> Outcome {
+        let held = self.recorder.held();
+        match self.next.take() {
+            Some(scan) => match self.recorder.scan(scan) {
+                Ok(scanned) => right_if(is_answer(scanned, self.wanted)),
+                Err((fault, back)) => {
+                    self.next = Some(back);
+                    memory_if(fault == ScanRefusal::Memory && self.recorder.held() == held)
+                }
+            },
+            None => Outcome::Wrong,
+        }
     }
 }
 
 fn scan_goes_on<'a>(heap: Heap<'a>, recorder: &mut Recorder<Heap<'a>>, wanted: Wanted) -> bool {
-    let mut next = scan(heap, wanted.x, false);
-    match refusals(heap, false, || step(recorder, &mut next, wanted)) {
+    let mut stepping = Stepping {
+        recorder,
+        next: scan(heap, wanted.x, false),
+        wanted,
+    };
+    match refusals(heap, false, &mut stepping) {
         Some(seen) => seen.answered == wanted.allocates && !seen.made_up,
         None => false,
     }
@@ -224,10 +239,25 @@ fn idle_scans_take_none(rt: HostRuntime) {
     assert!(rt; recorder_idles(&heap));
 }
 
-fn trigger<A: Allocator + Copy>(recorder: &mut Recorder<A>) -> Outcome {
-    match recorder.trigger() {
-        Ok(hit) => right_if(hit == Hit::Opened(1)),
-        Err(fault) => memory_if(fault == TriggerFault::Memory && !recorder.is_recording()),
+/// A trigger, which opens a record where there is memory for it.
+#[derive(Drop)]
+struct Triggering<'r, A: Allocator> {
+    recorder: &'r mut Recorder<A>,
+}
+
+impl<A: Allocator + Copy> Trial for Triggering<'_, A> {
+    fn call(&mut self) -> Outcome {
+        match self.recorder.trigger() {
+            Ok(hit) => right_if(hit == Hit::Opened(1)),
+            Err(fault) => memory_if(fault == TriggerFault::Memory && !self.recorder.is_recording()),
+        }
+    }
+}
+
+fn trigger_goes_on<'a>(heap: Heap<'a>, recorder: &mut Recorder<Heap<'a>>) -> bool {
+    match refusals(heap, false, &mut Triggering { recorder }) {
+        Some(seen) => seen.answered && !seen.made_up,
+        None => false,
     }
 }
 
@@ -236,7 +266,7 @@ fn triggers<'a>(heap: Heap<'a>, recorder: &mut Recorder<Heap<'a>>) -> bool {
     is_scanned(recorder, scan(heap, 10, false))
         && is_scanned(recorder, scan(heap, 11, false))
         && is_scanned(recorder, scan(heap, 12, false))
-        && is_each_answered(refusals(heap, false, || trigger(recorder)))
+        && trigger_goes_on(heap, recorder)
 }
 
 fn recorder_triggers(heap: Heap) -> bool {

@@ -30,7 +30,7 @@ pub struct Seen {
     pub made_up: bool,
 }
 
-const NOTHING: Seen = Seen {
+pub const NOTHING: Seen = Seen {
     answered: false,
     made_up: false,
 };
@@ -51,78 +51,122 @@ fn seen_in(before: Seen, outcome: Outcome, refused: bool) -> Option<Seen> {
     }
 }
 
+/// Notes how a call went, and grants all allocations again. Whether one of the call's was refused; None where it went wrong.
+pub fn noted(heap: Heap, seen: &mut Seen, outcome: Outcome) -> Option<bool> {
+    let refused = heap.has_refused();
+    heap.ample();
+    *seen = seen_in(*seen, outcome, refused)?;
+    Some(refused)
+}
+
+/// A call that can be made over and over.
+pub trait Trial {
+    fn call(&mut self) -> Outcome;
+}
+
+/// A call that consumes what is made for it each time.
+pub trait Consuming {
+    type Made: Drop;
+
+    fn make(&self) -> Option<Self::Made>;
+
+    fn call(&self, made: Self::Made) -> Outcome;
+}
+
 /// Makes a call with its first allocation refused, then with its second, until none is. None where one of these calls went
 /// wrong, or where the call isn't right that is made `again` with enough memory after each refusal.
-pub fn refusals<F: FnMut() -> Outcome>(heap: Heap, again: bool, call: F) -> Option<Seen>
-    requires { F.IsAlwaysCallable call }
-{
-    let mut call = call;
+pub fn refusals<T: Trial>(heap: Heap, again: bool, trial: &mut T) -> Option<Seen> {
     let mut seen = NOTHING;
     for n in 1..5000u64 {
         heap.refuse(n);
-        let outcome = call();
+        let outcome = trial.call();
         let refused = heap.has_refused();
         heap.ample();
         seen = seen_in(seen, outcome, refused)?;
         if !refused {
             return Some(seen);
         }
-        if again && call() != Outcome::Right {
+        if again && trial.call() != Outcome::Right {
             return None;
         }
     }
     None
 }
 
-/// As `refusals`, of a call that consumes what is made for it each time.
-pub fn refusals_anew<S: Drop, M: FnMut() -> Option<S>, F: FnMut(S) -> Outcome>(
-    heap: Heap,
-    make: M,
-    call: F,
-) -> Option<Seen>
-    requires make { M.IsAlwaysCallable make }
-    requires call { F.IsAlwaysCallable call }
-{
-    let mut make = make;
-    let mut call = call;
+/// How the call went whose nth allocation was refused, and whether it had as many.
+fn nth<T: Consuming>(heap: Heap, trial: &T, n: u64) -> Option<(Outcome, bool)> {
+    let made = trial.make()?;
+    heap.refuse(n);
+    let outcome = trial.call(made);
+    let refused = heap.has_refused();
+    heap.ample();
+    Some((outcome, refused))
+}
+
+fn is_right<T: Consuming>(trial: &T) -> bool {
+    match trial.make() {
+        Some(made) => trial.call(made) == Outcome::Right,
+        None => false,
+    }
+}
+
+/// As `refusals`, made again after each refusal, of a call that consumes.
+fn refusals_anew<T: Consuming>(heap: Heap, trial: &T) -> Option<Seen> {
     let mut seen = NOTHING;
     for n in 1..5000u64 {
-        let made = make()?;
-        heap.refuse(n);
-        let outcome = call(made);
-        let refused = heap.has_refused();
-        heap.ample();
+        let (outcome, refused) = nth(heap, trial, n)?;
         seen = seen_in(seen, outcome, refused)?;
         if !refused {
             return Some(seen);
         }
-        if call(make()?) != Outcome::Right {
+        if !is_right(trial) {
             return None;
         }
     }
     None
 }
 
-/// At least one allocation was refused.
-pub fn is_met(seen: Option<Seen>) -> bool {
-    match seen {
-        Some(seen) => seen.answered || seen.made_up,
+/// What must be seen of refused allocations.
+#[derive(Clone, Copy)]
+pub enum Must {
+    /// Nothing: a fault may be found before an allocation.
+    May,
+    /// At least one was refused.
+    Meet,
+    /// At least one was answered by `Memory`.
+    Answer,
+    /// The same, and none was made up for by another.
+    AnswerEach,
+}
+
+fn is_seen(seen: Seen, must: Must) -> bool {
+    match must {
+        Must::May => true,
+        Must::Meet => seen.answered || seen.made_up,
+        Must::Answer => seen.answered,
+        Must::AnswerEach => seen.answered && !seen.made_up,
+    }
+}
+
+/// Refuses each allocation of the call in turn, and makes it again after each refusal.
+pub fn refuses_lent<T: Trial>(heap: Heap, trial: &mut T, must: Must) -> bool {
+    match refusals(heap, true, trial) {
+        Some(seen) => is_seen(seen, must),
         None => false,
     }
 }
 
-/// At least one refused allocation was answered by `Memory`.
-pub fn is_answered(seen: Option<Seen>) -> bool {
-    match seen {
-        Some(seen) => seen.answered,
+pub fn refuses<T: Trial + Drop>(heap: Heap, trial: Option<T>, must: Must) -> bool {
+    match trial {
+        Some(mut trial) => refuses_lent(heap, &mut trial, must),
         None => false,
     }
 }
 
-/// As `is_answered`, and none was made up for by another.
-pub fn is_each_answered(seen: Option<Seen>) -> bool {
-    match seen {
-        Some(seen) => seen.answered && !seen.made_up,
+/// The same of a call that consumes.
+pub fn refuses_anew<T: Consuming + Drop>(heap: Heap, trial: T, must: Must) -> bool {
+    match refusals_anew(heap, &trial) {
+        Some(seen) => is_seen(seen, must),
         None => false,
     }
 }

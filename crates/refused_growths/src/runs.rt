@@ -7,7 +7,7 @@ ghost use Rattle.dfr_recorder.specs.Run.{IsOwnAnswer};
 
 use crate::common::commands;
 use crate::recorder::{is_the_record, recorder};
-use crate::refusing::{Outcome, is_each_answered, memory_if, refusals_anew, right_if};
+use crate::refusing::{Consuming, Must, Outcome, memory_if, refuses_anew, right_if};
 use dfr_recorder::{Answer, Ran, Recorder, Step, run};
 use dfr_script::Command;
 use fuel::Refusing;
@@ -134,17 +134,35 @@ fn goes_on<A: Allocator + Copy>(
     }
 }
 
-/// Makes a run. Where it is stopped it goes on from the step at which it was.
-fn make<A: Allocator + Copy>(alloc: A, of: Start<A>) -> Outcome {
-    let Ran {
-        recorder,
-        answers,
-        stopped,
-        rest,
-    } = run(alloc, of.recorder, of.steps);
-    match stopped {
-        Some(step) => memory_if(goes_on(alloc, recorder, with_first(step, rest), answers.len())),
-        None => right_if(answers.len() == 8 && is_last(&answers)),
+/// A run. Where it is stopped it goes on from the step at which it was.
+#[derive(Drop)]
+struct Running<A: Allocator> {
+    alloc: A,
+}
+
+impl<A: Allocator + Copy> Consuming for Running<A> {
+    type Made = Start<A>;
+
+    fn make(&self) -> Option<Start<A>> {
+        make_start(self.alloc)
+    }
+
+    fn call(&self, of: Start<A>) -> Outcome {
+        let Ran {
+            recorder,
+            answers,
+            stopped,
+            rest,
+        } = run(self.alloc, of.recorder, of.steps);
+        match stopped {
+            Some(step) => memory_if(goes_on(
+                self.alloc,
+                recorder,
+                with_first(step, rest),
+                answers.len(),
+            )),
+            None => right_if(answers.len() == 8 && is_last(&answers)),
+        }
     }
 }
 
@@ -153,6 +171,5 @@ fn make<A: Allocator + Copy>(alloc: A, of: Start<A>) -> Outcome {
 #[test]
 fn runs_refused(rt: HostRuntime) {
     let heap = Refusing::new(rt.alloc());
-    let seen = refusals_anew(&heap, || make_start(&heap), |of| make(&heap, of));
-    assert!(rt; is_each_answered(seen));
+    assert!(rt; refuses_anew(&heap, Running { alloc: &heap }, Must::AnswerEach));
 }

@@ -37,6 +37,11 @@ pub const FIRST_CFG: &[u8] =
 
 pub const FIRST_DAT: &[u8] = b"1,0,11\r\n2,1000,12\r\n3,2000,13\r\n4,3000,14\r\n5,4000,15\r\n\x1A";
 
+pub const FIRST: Pair = Pair {
+    cfg: FIRST_CFG,
+    dat: FIRST_DAT,
+};
+
 /// The same configuration file, whose counts of channels don't add up.
 pub const FIRST_COUNTS: &[u8] =
     b"Bay 1,DFR,1999\r\n2,1A,0D\r\n1,IA,A,,A,1,0,0,-32767,32767,1,1,P\r\n50\r\n1\r\n1000,5\r\n01/01/1970,00:00:00.001000\r\n01/01/1970,00:00:00.003000\r\nASCII\r\n1\r\n";

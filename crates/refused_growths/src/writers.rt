@@ -2,7 +2,7 @@
 
 use crate::common::Heap;
 use crate::files::file;
-use crate::refusing::{Outcome, is_answered, memory_if, refusals, right_if};
+use crate::refusing::{Must, Outcome, Trial, memory_if, refuses, right_if};
 use crate::texts::{Pair, pair_in};
 use comtrade_read::read;
 use comtrade_write::{File, Kind, WriteFault, ascii_bytes, binary_bytes, cfg_bytes, dat_bytes};
@@ -28,25 +28,39 @@ fn written<A: Allocator + Copy>(file: &File<A>, writer: Writer) -> Result<Vec<u8
     }
 }
 
-fn write<A: Allocator + Copy>(file: &File<A>, writer: Writer, wanted: &[u8]) -> Outcome {
-    match written(file, writer) {
-        Ok(bytes) => right_if(bytes.as_slice() == wanted),
-        Err(fault) => memory_if(fault == WriteFault::Memory),
+/// A file that is written so.
+#[derive(Drop)]
+struct Whole<'f, A: Allocator> {
+    file: &'f File<A>,
+    writer: Writer,
+    wanted: &'f [u8],
+}
+
+impl<A: Allocator + Copy> Trial for Whole<'_, A> {
+    fn call(&mut self) -> Outcome {
+        match written(self.file, self.writer) {
+            Ok(bytes) => right_if(bytes.as_slice() == self.wanted),
+            Err(fault) => memory_if(fault == WriteFault::Memory),
+        }
     }
 }
 
-/// The file is written so.
-fn refuses<'a>(heap: Heap<'a>, file: &File<Heap<'a>>, writer: Writer, wanted: &[u8]) -> bool {
-    is_answered(refusals(heap, true, || write(file, writer, wanted)))
+fn is_written<'a>(heap: Heap<'a>, file: &File<Heap<'a>>, writer: Writer, wanted: &[u8]) -> bool {
+    let whole = Whole {
+        file,
+        writer,
+        wanted,
+    };
+    refuses(heap, Some(whole), Must::Answer)
 }
 
 /// Both data writers write these, whatever the head's kind is.
 fn both_refuse<'a>(heap: Heap<'a>, file: &File<Heap<'a>>, ascii: &[u8], binary: &[u8]) -> bool {
-    refuses(heap, file, Writer::Ascii, ascii) && refuses(heap, file, Writer::Binary, binary)
+    is_written(heap, file, Writer::Ascii, ascii) && is_written(heap, file, Writer::Binary, binary)
 }
 
 fn pair_refuses<'a>(heap: Heap<'a>, file: &File<Heap<'a>>, texts: Pair) -> bool {
-    refuses(heap, file, Writer::Cfg, texts.cfg) && refuses(heap, file, Writer::Dat, texts.dat)
+    is_written(heap, file, Writer::Cfg, texts.cfg) && is_written(heap, file, Writer::Dat, texts.dat)
 }
 
 fn kind_refuses(heap: Heap, kind: Kind) -> bool {
@@ -81,7 +95,7 @@ const BINARY: &[u8] = b"\x05\0\0\0\x9B\x02\0\0\x08\xFD\xFA\x04\x48\0\x3D\0\x74\x
 fn six_and_six_refuse(heap: Heap) -> bool {
     match read(heap, SIX_AND_SIX, ASCII) {
         Ok(file) => {
-            refuses(heap, &file, Writer::Cfg, SIX_AND_SIX)
+            is_written(heap, &file, Writer::Cfg, SIX_AND_SIX)
                 && both_refuse(heap, &file, ASCII, BINARY)
         }
         Err(_) => false,
@@ -94,13 +108,37 @@ fn six_and_six_refused(rt: HostRuntime) {
     assert!(rt; six_and_six_refuse(&heap));
 }
 
-/// Writes a file that has this fault.
-fn refuse<A: Allocator + Copy>(file: &File<A>, writer: Writer, wanted: WriteFault) -> Outcome {
-    match written(file, writer) {
-        Ok(_) => Outcome::Wrong,
-        Err(WriteFault::Memory) => Outcome::Memory,
-        Err(fault) => right_if(fault == wanted),
+/// A file that has this fault.
+#[derive(Drop)]
+struct Faulty<'f, A: Allocator> {
+    file: &'f File<A>,
+    writer: Writer,
+    fault: WriteFault,
+}
+
+impl<A: Allocator + Copy> Trial for Faulty<'_, A> {
+    fn call(&mut self) -> Outcome {
+        match written(self.file, self.writer) {
+            Ok(_) => Outcome::Wrong,
+            Err(WriteFault::Memory) => Outcome::Memory,
+            Err(fault) => right_if(fault == self.fault),
+        }
     }
+}
+
+fn is_refused<'a>(
+    heap: Heap<'a>,
+    file: &File<Heap<'a>>,
+    writer: Writer,
+    fault: WriteFault,
+    must: Must,
+) -> bool {
+    let faulty = Faulty {
+        file,
+        writer,
+        fault,
+    };
+    refuses(heap, Some(faulty), must)
 }
 
 /// Data with a value and with a stamp in their second rows that the BINARY form can't say.
@@ -112,7 +150,7 @@ const LATE: &[u8] =
 
 fn row_refuses(heap: Heap, dat: &[u8], fault: WriteFault) -> bool {
     match read(heap, pair_in(Kind::Ascii).cfg, dat) {
-        Ok(file) => is_answered(refusals(heap, true, || { refuse(&file, Writer::Binary, fault) })),
+        Ok(file) => is_refused(heap, &file, Writer::Binary, fault, Must::Answer),
         Err(_) => false,
     }
 }
@@ -148,19 +186,10 @@ fn short<A: Allocator + Copy>(alloc: A) -> Option<File<A>> {
     }
 }
 
-fn may_refuse<'a>(
-    heap: Heap<'a>,
-    file: &File<Heap<'a>>,
-    writer: Writer,
-    fault: WriteFault,
-) -> bool {
-    refusals(heap, true, || refuse(file, writer, fault)).is_some()
-}
-
 fn each_may_refuse<'a>(heap: Heap<'a>, short: &File<Heap<'a>>) -> bool {
-    may_refuse(heap, short, Writer::Cfg, WriteFault::Shape)
-        && may_refuse(heap, short, Writer::Ascii, WriteFault::Shape)
-        && may_refuse(heap, short, Writer::Binary, WriteFault::Shape)
+    is_refused(heap, short, Writer::Cfg, WriteFault::Shape, Must::May)
+        && is_refused(heap, short, Writer::Ascii, WriteFault::Shape, Must::May)
+        && is_refused(heap, short, Writer::Binary, WriteFault::Shape, Must::May)
 }
 
 fn short_refuses(heap: Heap) -> bool {
@@ -200,7 +229,7 @@ fn comma<A: Allocator + Copy>(alloc: A) -> Option<File<A>> {
 
 fn name_refuses(heap: Heap) -> bool {
     match comma(heap) {
-        Some(file) => may_refuse(heap, &file, Writer::Cfg, WriteFault::Text(1, 1)),
+        Some(file) => is_refused(heap, &file, Writer::Cfg, WriteFault::Text(1, 1), Must::May),
         None => false,
     }
 }

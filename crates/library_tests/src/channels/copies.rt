@@ -1,52 +1,10 @@
 //! A copy is as its source, part by part.
 
-use super::setups::{layout, scan};
-use dfr_channels::{AnalogChannel, Items, Layout, Reading, Scan, StatusChannel};
-use std::test::Fail;
-
-fn has_texts(one: &AnalogChannel, other: &AnalogChannel) -> bool {
-    one.id == other.id
-        && one.phase == other.phase
-        && one.component == other.component
-        && one.unit == other.unit
-}
-
-fn has_scale(one: &AnalogChannel, other: &AnalogChannel) -> bool {
-    one.a == other.a && one.b == other.b && one.skew == other.skew && one.min == other.min
-}
-
-fn has_ratio(one: &AnalogChannel, other: &AnalogChannel) -> bool {
-    one.max == other.max
-        && one.primary == other.primary
-        && one.secondary == other.secondary
-        && one.side == other.side
-}
-
-fn is_analog(one: &AnalogChannel, other: &AnalogChannel) -> bool {
-    has_texts(one, other) && has_scale(one, other) && has_ratio(one, other)
-}
-
-fn is_status(one: &StatusChannel, other: &StatusChannel) -> bool {
-    one.id == other.id
-        && one.phase == other.phase
-        && one.component == other.component
-        && one.normal == other.normal
-}
-
-/// Whether the lists are one channel each, and the same.
-fn has_analog(one: &[AnalogChannel], other: &[AnalogChannel]) -> bool {
-    match (one, other) {
-        ([one], [other]) => is_analog(one, other),
-        _ => false,
-    }
-}
-
-fn has_status(one: &[StatusChannel], other: &[StatusChannel]) -> bool {
-    match (one, other) {
-        ([one], [other]) => is_status(one, other),
-        _ => false,
-    }
-}
+use super::setups::{contact_of, one_of, scan, setup, with_analog, with_status};
+use crate::reader::same::{are_analogs, are_statuses};
+use crate::writer::fixture::{analog, number, text};
+use dfr_channels::{AnalogChannel, Items, Layout, Reading, Scan, Side, StatusChannel};
+use std::alloc::Global;
 
 fn has_names(one: &Layout, other: &Layout) -> bool {
     one.station() == other.station() && one.device() == other.device()
@@ -61,54 +19,100 @@ fn has_clock(one: &Layout, other: &Layout) -> bool {
 /// Whether the layouts have one channel of each kind and are the same.
 fn is_layout(one: &Layout, other: &Layout) -> bool {
     has_names(one, other)
-        && has_analog(one.analog(), other.analog())
-        && has_status(one.status(), other.status())
+        && one.analog().len() == 1
+        && are_analogs(one.analog(), other.analog())
+        && one.status().len() == 1
+        && are_statuses(one.status(), other.status())
         && has_clock(one, other)
 }
 
-fn is_copied_layout(made: Layout) -> bool {
-    match made.try_clone() {
-        Ok(copy) => is_layout(&made, &copy),
-        Err(_) => false,
+/// A channel with four texts and five numbers, no two of these equal, on the secondary side.
+fn scaled(alloc: Global) -> Option<AnalogChannel> {
+    match (analog(alloc), text(alloc, b"line 1")) {
+        (Some(mut channel), Some(component)) => {
+            channel.component = component;
+            channel.a = number(1);
+            channel.b = number(2);
+            channel.skew = number(3);
+            channel.primary = number(4);
+            channel.secondary = number(5);
+            channel.side = Side::Secondary;
+            Some(channel)
+        }
+        _ => None,
+    }
+}
+
+/// A contact with three texts.
+fn labelled(alloc: Global) -> Option<StatusChannel> {
+    match (contact_of(alloc, text(alloc, b"A")), text(alloc, b"line 1")) {
+        (Some(mut contact), Some(component)) => {
+            contact.component = component;
+            Some(contact)
+        }
+        _ => None,
+    }
+}
+
+fn layout(alloc: Global) -> Option<Layout> {
+    let setup = with_analog(setup(alloc, 0), one_of(alloc, scaled(alloc)));
+    match with_status(setup, one_of(alloc, labelled(alloc))) {
+        Some(setup) => Layout::new(setup).ok(),
+        None => None,
+    }
+}
+
+fn is_copied_layout(made: Option<Layout>) -> bool {
+    match made {
+        Some(made) => match made.try_clone() {
+            Ok(copy) => is_layout(&made, &copy),
+            Err(_) => false,
+        },
+        None => false,
     }
 }
 
 #[test]
-fn copied_layout(rt: HostRuntime) -> Result<(), Fail> {
-    assert!(rt; is_copied_layout(layout(rt.alloc(), 1)?));
-    Ok(())
+fn copied_layout(rt: HostRuntime) {
+    assert!(rt; is_copied_layout(layout(rt.alloc())));
 }
 
-fn is_copied_scan(made: Scan, readings: &[Reading], bits: &[bool]) -> bool {
-    match made.try_clone() {
-        Ok(copy) => copy.analog() == readings && copy.status() == bits,
-        Err(_) => false,
+fn is_copied_scan(made: Option<Scan>, readings: &[Reading], bits: &[bool]) -> bool {
+    match made {
+        Some(made) => match made.try_clone() {
+            Ok(copy) => copy.analog() == readings && copy.status() == bits,
+            Err(_) => false,
+        },
+        None => false,
     }
 }
 
 #[test]
-fn copied_scan(rt: HostRuntime) -> Result<(), Fail> {
+fn copied_scan(rt: HostRuntime) {
     let (readings, bits) = ([Reading::Missing], [true]);
-    assert!(rt; is_copied_scan(scan(rt.alloc(), &readings, &bits)?, &readings, &bits));
-    Ok(())
+    assert!(rt; is_copied_scan(scan(rt.alloc(), &readings, &bits), &readings, &bits));
 }
 
-fn is_copied_list(list: Items<u8>) -> bool {
-    match list.try_clone() {
-        Ok(copy) => list == copy,
-        Err(_) => false,
+fn is_copied_list(list: Option<Items<u8>>) -> bool {
+    match list {
+        Some(list) => match list.try_clone() {
+            Ok(copy) => list == copy,
+            Err(_) => false,
+        },
+        None => false,
     }
 }
 
-fn differ(one: Items<u8>, other: Items<u8>) -> bool {
-    one != other
+fn differ(one: Option<Items<u8>>, other: Option<Items<u8>>) -> bool {
+    match (one, other) {
+        (Some(one), Some(other)) => one != other,
+        _ => false,
+    }
 }
 
 #[test]
-fn lists(rt: HostRuntime) -> Result<(), Fail> {
-    let list = Items::of(Vec::from_slice(rt.alloc(), &[1u8, 2])?);
-    assert!(rt; is_copied_list(list));
-    let list = Items::of(Vec::from_slice(rt.alloc(), &[1u8, 2])?);
-    assert!(rt; differ(list, Items::of(Vec::from_slice(rt.alloc(), &[1u8])?)));
-    Ok(())
+fn lists(rt: HostRuntime) {
+    let alloc = rt.alloc();
+    assert!(rt; is_copied_list(text(alloc, &[1, 2])));
+    assert!(rt; differ(text(alloc, &[1, 2]), text(alloc, &[1])));
 }

@@ -2,8 +2,7 @@
 
 use super::setups::{layout, scan};
 use dfr_channels::{Layout, Reading, Rule, RuleFault, Rules, Scan};
-use std::alloc::{AllocError, Global};
-use std::test::Fail;
+use std::alloc::Global;
 
 const OVER: Rule = Rule::Level {
     channel: 0,
@@ -27,79 +26,77 @@ const FALL: Rule = Rule::Edge {
     rise: false,
 };
 
-/// The rules of a list over a layout, where they have no fault.
-fn rules_over(layout: Layout, list: Vec<Rule>) -> Option<Rules> {
-    Rules::new(&layout, list).ok()
-}
-
-/// The rules of a list over a layout of one contact.
-fn rules(alloc: Global, list: &[Rule]) -> Result<Rules, Fail> {
-    let list = Vec::from_slice(alloc, list)?;
-    Ok(rules_over(layout(alloc, 1)?, list).ok_or("lawful")?)
-}
-
-/// The fault of a list over a layout, and how many rules come back.
-fn fault_over(layout: Layout, list: Vec<Rule>) -> Option<(RuleFault, usize)> {
-    match Rules::new(&layout, list) {
-        Ok(_) => None,
-        Err((fault, back)) => Some((fault, back.len())),
+fn rules_over(layout: Option<Layout>, list: &[Rule], alloc: Global) -> Option<Rules> {
+    match (layout, Vec::from_slice(alloc, list)) {
+        (Some(layout), Ok(list)) => Rules::new(&layout, list).ok(),
+        _ => None,
     }
 }
 
-/// The same over a layout of so many contacts.
-fn fault(alloc: Global, bits: u32, list: &[Rule]) -> Result<Option<(RuleFault, usize)>, Fail> {
-    let list = Vec::from_slice(alloc, list)?;
-    Ok(fault_over(layout(alloc, bits)?, list))
+/// The rules of a list over a layout of one contact.
+fn rules(alloc: Global, list: &[Rule]) -> Option<Rules> {
+    rules_over(layout(alloc, 1), list, alloc)
+}
+
+/// Why rules of a list over a layout are refused; as many as it has come back.
+fn is_refused(layout: Option<Layout>, list: &[Rule], alloc: Global, wanted: RuleFault) -> bool {
+    match (layout, Vec::from_slice(alloc, list)) {
+        (Some(layout), Ok(given)) => match Rules::new(&layout, given) {
+            Ok(_) => false,
+            Err((fault, back)) => fault == wanted && back.len() == list.len(),
+        },
+        _ => false,
+    }
 }
 
 #[test]
-fn refused_rules(rt: HostRuntime) -> Result<(), Fail> {
-    assert_eq!(rt;
-        fault(rt.alloc(), 0, &[OVER; 33])?,
-        Some((RuleFault::TooMany, 33))
-    );
-    assert_eq!(rt;
-        fault(rt.alloc(), 0, &[OVER, RISE])?,
-        Some((RuleFault::NoChannel(1), 2))
-    );
-    assert_eq!(rt;
-        fault(rt.alloc(), 0, &[RISE])?,
-        Some((RuleFault::NoChannel(0), 1))
-    );
-    assert_eq!(rt; fault(rt.alloc(), 0, &[])?, None);
-    Ok(())
+fn refused_rules(rt: HostRuntime) {
+    let alloc = rt.alloc();
+    let many = [OVER; 33];
+    assert!(rt; is_refused(layout(alloc, 0), &many, alloc, RuleFault::TooMany));
+    let second = [OVER, RISE];
+    assert!(rt; is_refused(layout(alloc, 0), &second, alloc, RuleFault::NoChannel(1)));
+    assert!(rt; is_refused(layout(alloc, 0), &[RISE], alloc, RuleFault::NoChannel(0)));
+    assert!(rt; rules_over(layout(alloc, 0), &[], alloc).is_some());
 }
 
-/// Whether rules and their copy fit a layout, and the copy is this list.
-fn fit_over(rules: Rules, layout: Layout, list: &[Rule]) -> bool {
+/// Whether rules and their copy fit a layout or not, and the copy is this list.
+fn fit_over(rules: &Rules, layout: &Layout, list: &[Rule], fit: bool) -> bool {
     match rules.try_clone() {
-        Ok(copy) => rules.fits(&layout) && copy.fits(&layout) && copy.list() == list,
+        Ok(copy) => { rules.fits(layout) == fit && copy.fits(layout) == fit && copy.list() == list }
         Err(_) => false,
     }
 }
 
 /// Whether rules of a layout with one contact fit a layout of so many.
-fn fit(alloc: Global, list: &[Rule], bits: u32) -> Result<bool, Fail> {
-    let rules = rules(alloc, list)?;
-    Ok(fit_over(rules, layout(alloc, bits)?, list))
+fn is_fit(alloc: Global, list: &[Rule], bits: usize, fit: bool) -> bool {
+    match (rules(alloc, list), layout(alloc, bits)) {
+        (Some(rules), Some(layout)) => fit_over(&rules, &layout, list, fit),
+        _ => false,
+    }
 }
 
 #[test]
-fn rules_that_fit(rt: HostRuntime) -> Result<(), Fail> {
-    assert!(rt; fit(rt.alloc(), &[RISE], 1)?);
-    assert!(rt; !fit(rt.alloc(), &[RISE], 0)?);
-    Ok(())
+fn rules_that_fit(rt: HostRuntime) {
+    assert!(rt; is_fit(rt.alloc(), &[RISE], 1, true));
+    assert!(rt; is_fit(rt.alloc(), &[RISE], 0, false));
 }
 
-fn fires_over(rules: Rules, before: Option<Scan>, now: Scan) -> Option<u32> {
-    rules.fires(before.as_ref(), &now)
+/// The scan before, if any, and the one at which rules fire or not.
+type Scans = (Option<Scan>, Option<Scan>);
+
+fn fires_over(rules: Option<Rules>, (before, now): Scans) -> Option<Option<u32>> {
+    match (rules, now) {
+        (Some(rules), Some(now)) => Some(rules.fires(before.as_ref(), &now)),
+        _ => None,
+    }
 }
 
 /// A scan of this bit, where there is one.
-fn scan_before(alloc: Global, bit: Option<bool>) -> Result<Option<Scan>, AllocError> {
+fn scan_before(alloc: Global, bit: Option<bool>) -> Option<Scan> {
     match bit {
-        None => Ok(None),
-        Some(bit) => Ok(Some(scan(alloc, &[Reading::Missing], &[bit])?)),
+        None => None,
+        Some(bit) => scan(alloc, &[Reading::Missing], &[bit]),
     }
 }
 
@@ -110,56 +107,40 @@ fn fires(
     before: Option<bool>,
     reading: Reading,
     bit: bool,
-) -> Result<Option<u32>, Fail> {
-    let before = scan_before(alloc, before)?;
-    let now = scan(alloc, &[reading], &[bit])?;
-    Ok(fires_over(rules(alloc, list)?, before, now))
+) -> Option<Option<u32>> {
+    let now = scan(alloc, &[reading], &[bit]);
+    fires_over(rules(alloc, list), (scan_before(alloc, before), now))
 }
 
 #[test]
-fn levels(rt: HostRuntime) -> Result<(), Fail> {
+fn levels(rt: HostRuntime) {
     for (reading, fired) in [
         (Reading::Missing, None),
         (Reading::Value(5), Some(0)),
         (Reading::Value(1), None),
         (Reading::Value(0), Some(1)),
     ] {
-        assert_eq!(rt;
-            fires(rt.alloc(), &[OVER, UNDER], None, reading, false)?,
-            fired
-        );
+        let found = fires(rt.alloc(), &[OVER, UNDER], None, reading, false);
+        assert_eq!(rt; found, Some(fired));
     }
-    Ok(())
 }
 
 #[test]
-fn rises(rt: HostRuntime) -> Result<(), Fail> {
-    let zero = Reading::Value(0);
-    assert_eq!(rt; fires(rt.alloc(), &[RISE, OVER], None, zero, true)?, None);
-    assert_eq!(rt;
-        fires(rt.alloc(), &[RISE, OVER], Some(true), zero, false)?,
-        None
-    );
-    assert_eq!(rt;
-        fires(
-            rt.alloc(),
-            &[RISE, OVER],
-            Some(false),
-            Reading::Value(9),
-            true
-        )?,
-        Some(0)
-    );
-    Ok(())
+fn rises(rt: HostRuntime) {
+    for (before, x, bit, fired) in [
+        (None, 0, true, None),
+        (Some(true), 0, false, None),
+        (Some(false), 9, true, Some(0)),
+    ] {
+        let found = fires(rt.alloc(), &[RISE, OVER], before, Reading::Value(x), bit);
+        assert_eq!(rt; found, Some(fired));
+    }
 }
 
 #[test]
-fn falls(rt: HostRuntime) -> Result<(), Fail> {
-    let zero = Reading::Value(0);
-    assert_eq!(rt;
-        fires(rt.alloc(), &[FALL], Some(true), zero, false)?,
-        Some(0)
-    );
-    assert_eq!(rt; fires(rt.alloc(), &[FALL], None, zero, false)?, None);
-    Ok(())
+fn falls(rt: HostRuntime) {
+    for (before, fired) in [(Some(true), Some(0)), (None, None)] {
+        let found = fires(rt.alloc(), &[FALL], before, Reading::Value(0), false);
+        assert_eq!(rt; found, Some(fired));
+    }
 }

@@ -1,96 +1,25 @@
-//! Set-ups and their refusals, copies, and which scans fit.
+//! Set-ups and their refusals, and which scans fit.
 
+use crate::writer::fixture::{analog, head, one, status, text};
+use comtrade_write::Head;
 use dfr_channels::{
-    AnalogChannel, Decimal, Items, Layout, Place, Reading, Scan, ScanFault, Setup, SetupFault,
-    Side, StatusChannel,
+    AnalogChannel, Items, Layout, Place, Reading, Scan, ScanFault, Setup, SetupFault, StatusChannel,
 };
-use std::alloc::{AllocError, Global};
-use std::test::Fail;
-
-fn text(alloc: Global, bytes: &[u8]) -> Result<Items<u8>, AllocError> {
-    Ok(Items::of(Vec::from_slice(alloc, bytes)?))
-}
-
-fn two_texts(
-    alloc: Global,
-    first: &[u8],
-    second: &[u8],
-) -> Result<(Items<u8>, Items<u8>), AllocError> {
-    let first = text(alloc, first)?;
-    Ok((first, text(alloc, second)?))
-}
-
-fn number(units: i128) -> Result<Decimal, Fail> {
-    Ok(Decimal::new(units, 0).ok_or("a number")?)
-}
-
-/// Five numbers, no two of them equal.
-fn numbers() -> Result<[Decimal; 5], Fail> {
-    Ok([number(1)?, number(2)?, number(3)?, number(4)?, number(5)?])
-}
-
-fn analog(alloc: Global, unit: &[u8], min: i32, max: i32) -> Result<AnalogChannel, Fail> {
-    let [a, b, skew, primary, secondary] = numbers()?;
-    let (id, phase) = two_texts(alloc, b"IA", b"A")?;
-    let (component, unit) = two_texts(alloc, b"Line 1", unit)?;
-    Ok(AnalogChannel {
-        id,
-        phase,
-        component,
-        unit,
-        a,
-        b,
-        skew,
-        min,
-        max,
-        primary,
-        secondary,
-        side: Side::Secondary,
-    })
-}
-
-fn status(alloc: Global, phase: &[u8]) -> Result<StatusChannel, Fail> {
-    let (id, phase) = two_texts(alloc, b"TRIP", phase)?;
-    Ok(StatusChannel {
-        id,
-        phase,
-        component: text(alloc, b"Bay 1")?,
-        normal: true,
-    })
-}
-
-/// One analogue channel of this unit and range.
-fn one_analog(
-    alloc: Global,
-    unit: &[u8],
-    min: i32,
-    max: i32,
-) -> Result<Items<AnalogChannel>, Fail> {
-    let mut channels = Vec::new(alloc);
-    channels.push(analog(alloc, unit, min, max)?)?;
-    Ok(Items::of(channels))
-}
-
-/// So many status channels, the last of this phase.
-fn contacts(alloc: Global, count: u32, last: &[u8]) -> Result<Items<StatusChannel>, Fail> {
-    let mut all = Vec::new(alloc);
-    for i in 0..count {
-        let phase: &[u8] = if i + 1 == count { last } else { b"" };
-        all.push(status(alloc, phase)?)?;
-    }
-    Ok(Items::of(all))
-}
+use std::alloc::Global;
 
 /// 1,000 scans a second of these channels, from 1970 on.
-fn setup_of(
-    names: (Items<u8>, Items<u8>),
-    analog: Items<AnalogChannel>,
-    status: Items<StatusChannel>,
-    line_freq: Decimal,
-) -> Setup {
+fn setup_of(head: Head) -> Setup {
+    let Head {
+        station,
+        device,
+        analog,
+        status,
+        line_freq,
+        ..
+    } = head;
     Setup {
-        station: names.0,
-        device: names.1,
+        station,
+        device,
         analog,
         status,
         line_freq,
@@ -100,183 +29,275 @@ fn setup_of(
 }
 
 /// One analogue channel of 16 bits and so many status channels.
-fn setup(alloc: Global, bits: u32) -> Result<Setup, Fail> {
-    let line_freq = number(50)?;
-    let names = two_texts(alloc, b"Bay 1", b"DFR")?;
-    let analog = one_analog(alloc, b"A", -32767, 32767)?;
-    let status = contacts(alloc, bits, b"")?;
-    Ok(setup_of(names, analog, status, line_freq))
-}
-
-fn layout_of(setup: Setup) -> Result<Layout, Fail> {
-    Ok(Layout::new(setup).ok().ok_or("lawful")?)
-}
-
-pub fn layout(alloc: Global, bits: u32) -> Result<Layout, Fail> {
-    layout_of(setup(alloc, bits)?)
-}
-
-fn fault(setup: Setup) -> Option<SetupFault> {
-    match Layout::new(setup) {
-        Ok(_) => None,
-        Err((fault, _)) => Some(fault),
+pub fn setup(alloc: Global, bits: usize) -> Option<Setup> {
+    match head(alloc, 1, bits, 0) {
+        Some(head) => Some(setup_of(head)),
+        None => None,
     }
 }
 
-/// The first fault under these names, at no scans a second.
-fn fault_under(names: (Items<u8>, Items<u8>), mut setup: Setup) -> Option<SetupFault> {
-    setup.station = names.0;
-    setup.device = names.1;
-    setup.rate = 0;
-    fault(setup)
+pub fn layout(alloc: Global, bits: usize) -> Option<Layout> {
+    match setup(alloc, bits) {
+        Some(setup) => Layout::new(setup).ok(),
+        None => None,
+    }
 }
 
-fn fault_of_names(
-    alloc: Global,
-    station: &[u8],
-    device: &[u8],
-) -> Result<Option<SetupFault>, Fail> {
-    let names = two_texts(alloc, station, device)?;
-    Ok(fault_under(names, setup(alloc, 0)?))
+/// Why the set-up is refused.
+fn is_refused(setup: Option<Setup>, wanted: SetupFault) -> bool {
+    match setup {
+        Some(setup) => match Layout::new(setup) {
+            Ok(_) => false,
+            Err((fault, _)) => fault == wanted,
+        },
+        None => false,
+    }
 }
 
-#[test]
-fn refused_names(rt: HostRuntime) -> Result<(), Fail> {
-    let station = fault_of_names(rt.alloc(), b"a,b", b"DFR ")?;
-    assert_eq!(rt; station, Some(SetupFault::Text(Place::Station)));
-    let device = fault_of_names(rt.alloc(), b"Bay 1", b"DFR ")?;
-    assert_eq!(rt; device, Some(SetupFault::Text(Place::Device)));
-    Ok(())
+fn with_names(
+    setup: Option<Setup>,
+    station: Option<Items<u8>>,
+    device: Option<Items<u8>>,
+) -> Option<Setup> {
+    match (setup, station, device) {
+        (Some(mut setup), Some(station), Some(device)) => {
+            setup.station = station;
+            setup.device = device;
+            Some(setup)
+        }
+        _ => None,
+    }
 }
 
-fn clocked(alloc: Global, rate: u32, start: i64) -> Result<Setup, Fail> {
-    let mut clocked = setup(alloc, 0)?;
-    clocked.rate = rate;
-    clocked.start = start;
-    Ok(clocked)
+fn clocked(setup: Option<Setup>, rate: u32, start: i64) -> Option<Setup> {
+    match setup {
+        Some(mut setup) => {
+            setup.rate = rate;
+            setup.start = start;
+            Some(setup)
+        }
+        None => None,
+    }
 }
 
-fn fault_of_clock(alloc: Global, rate: u32, start: i64) -> Result<Option<SetupFault>, Fail> {
-    Ok(fault(clocked(alloc, rate, start)?))
-}
-
-#[test]
-fn refused_clocks(rt: HostRuntime) -> Result<(), Fail> {
-    assert_eq!(rt; fault_of_clock(rt.alloc(), 0, -1)?, Some(SetupFault::Rate));
-    assert_eq!(rt; fault_of_clock(rt.alloc(), 1, -1)?, Some(SetupFault::Start));
-    Ok(())
-}
-
-fn fault_with_analog(mut setup: Setup, analog: Items<AnalogChannel>) -> Option<SetupFault> {
-    setup.analog = analog;
-    fault(setup)
-}
-
-fn fault_of_analog(
-    alloc: Global,
-    unit: &[u8],
-    min: i32,
-    max: i32,
-) -> Result<Option<SetupFault>, Fail> {
-    let setup = setup(alloc, 0)?;
-    Ok(fault_with_analog(setup, one_analog(alloc, unit, min, max)?))
+/// Under these names, at no scans a second.
+fn named(alloc: Global, station: &[u8], device: &[u8]) -> Option<Setup> {
+    let setup = clocked(setup(alloc, 0), 0, 0);
+    with_names(setup, text(alloc, station), text(alloc, device))
 }
 
 #[test]
-fn refused_analog_channels(rt: HostRuntime) -> Result<(), Fail> {
-    let crossed = fault_of_analog(rt.alloc(), b"A", 1, 0)?;
-    assert_eq!(rt; crossed, Some(SetupFault::Span(0)));
-    let bare = fault_of_analog(rt.alloc(), b"", 0, 1)?;
-    assert_eq!(rt; bare, Some(SetupFault::Text(Place::Analog(0))));
-    Ok(())
-}
-
-/// The first fault of a set-up with these channels alone.
-fn fault_with_status(mut setup: Setup, status: Items<StatusChannel>) -> Option<SetupFault> {
-    setup.analog = Items::of(Vec::new(*setup.station.allocator()));
-    setup.status = status;
-    fault(setup)
-}
-
-fn fault_of_contacts(alloc: Global, count: u32, last: &[u8]) -> Result<Option<SetupFault>, Fail> {
-    let setup = setup(alloc, 0)?;
-    Ok(fault_with_status(setup, contacts(alloc, count, last)?))
+fn refused_names(rt: HostRuntime) {
+    let alloc = rt.alloc();
+    let station = SetupFault::Text(Place::Station);
+    assert!(rt; is_refused(named(alloc, b"a,b", b"DFR "), station));
+    let device = SetupFault::Text(Place::Device);
+    assert!(rt; is_refused(named(alloc, b"Bay 1", b"DFR "), device));
 }
 
 #[test]
-fn refused_contacts(rt: HostRuntime) -> Result<(), Fail> {
-    let long = fault_of_contacts(rt.alloc(), 2, b"ABC")?;
-    assert_eq!(rt; long, Some(SetupFault::Text(Place::Status(1))));
-    assert_eq!(rt;
-        fault_of_contacts(rt.alloc(), 0, b"")?,
-        Some(SetupFault::Channels)
-    );
-    Ok(())
+fn refused_clocks(rt: HostRuntime) {
+    let alloc = rt.alloc();
+    assert!(rt; is_refused(clocked(setup(alloc, 0), 0, -1), SetupFault::Rate));
+    assert!(rt; is_refused(clocked(setup(alloc, 0), 1, -1), SetupFault::Start));
+}
+
+/// A channel of this unit and range.
+fn channel_of(alloc: Global, unit: Option<Items<u8>>, min: i32, max: i32) -> Option<AnalogChannel> {
+    match (analog(alloc), unit) {
+        (Some(mut channel), Some(unit)) => {
+            channel.unit = unit;
+            channel.min = min;
+            channel.max = max;
+            Some(channel)
+        }
+        _ => None,
+    }
+}
+
+pub fn with_analog(setup: Option<Setup>, channels: Option<Items<AnalogChannel>>) -> Option<Setup> {
+    match (setup, channels) {
+        (Some(mut setup), Some(channels)) => {
+            setup.analog = channels;
+            Some(setup)
+        }
+        _ => None,
+    }
+}
+
+pub fn one_of<T: Drop>(alloc: Global, channel: Option<T>) -> Option<Items<T>> {
+    match channel {
+        Some(channel) => one(alloc, channel),
+        None => None,
+    }
+}
+
+fn setup_with_channel(alloc: Global, unit: &[u8], min: i32, max: i32) -> Option<Setup> {
+    let channel = channel_of(alloc, text(alloc, unit), min, max);
+    with_analog(setup(alloc, 0), one_of(alloc, channel))
 }
 
 #[test]
-fn many_contacts(rt: HostRuntime) -> Result<(), Fail> {
-    assert_eq!(rt; fault_of_contacts(rt.alloc(), 256, b"")?, None);
-    assert_eq!(rt;
-        fault_of_contacts(rt.alloc(), 257, b"")?,
-        Some(SetupFault::Channels)
-    );
-    let past = fault_of_contacts(rt.alloc(), 257, b"ABC")?;
-    assert_eq!(rt; past, Some(SetupFault::Channels));
-    Ok(())
+fn refused_analog_channels(rt: HostRuntime) {
+    let alloc = rt.alloc();
+    let crossed = setup_with_channel(alloc, b"A", 1, 0);
+    assert!(rt; is_refused(crossed, SetupFault::Span(0)));
+    let bare = setup_with_channel(alloc, b"", 0, 1);
+    assert!(rt; is_refused(bare, SetupFault::Text(Place::Analog(0))));
 }
 
-fn scan_fault(
+/// A contact of this phase.
+pub fn contact_of(alloc: Global, phase: Option<Items<u8>>) -> Option<StatusChannel> {
+    match (status(alloc), phase) {
+        (Some(mut contact), Some(phase)) => {
+            contact.phase = phase;
+            Some(contact)
+        }
+        _ => None,
+    }
+}
+
+fn add(list: &mut Vec<StatusChannel>, contact: Option<StatusChannel>) -> bool {
+    match contact {
+        Some(contact) => list.push(contact).is_ok(),
+        None => false,
+    }
+}
+
+/// So many contacts, and one more of this phase.
+fn contacts(alloc: Global, count: usize, last: &[u8]) -> Option<Items<StatusChannel>> {
+    let mut list = Vec::new(alloc);
+    for _ in 0..count {
+        if !add(&mut list, status(alloc)) {
+            return None;
+        }
+    }
+    add(&mut list, contact_of(alloc, text(alloc, last))).then_some(Items::of(list))
+}
+
+pub fn with_status(setup: Option<Setup>, contacts: Option<Items<StatusChannel>>) -> Option<Setup> {
+    match (setup, contacts) {
+        (Some(mut setup), Some(contacts)) => {
+            setup.status = contacts;
+            Some(setup)
+        }
+        _ => None,
+    }
+}
+
+/// So many contacts and one more of this phase, and no analogue channel.
+fn setup_of_contacts(alloc: Global, count: usize, last: &[u8]) -> Option<Setup> {
+    with_status(bare(alloc, 0), contacts(alloc, count, last))
+}
+
+/// So many contacts alone.
+fn bare(alloc: Global, count: usize) -> Option<Setup> {
+    match head(alloc, 0, count, 0) {
+        Some(head) => Some(setup_of(head)),
+        None => None,
+    }
+}
+
+#[test]
+fn refused_contacts(rt: HostRuntime) {
+    let alloc = rt.alloc();
+    let long = SetupFault::Text(Place::Status(1));
+    assert!(rt; is_refused(setup_of_contacts(alloc, 1, b"ABC"), long));
+    assert!(rt; is_refused(bare(alloc, 0), SetupFault::Channels));
+}
+
+fn is_lawful(setup: Option<Setup>) -> bool {
+    match setup {
+        Some(setup) => Layout::new(setup).is_ok(),
+        None => false,
+    }
+}
+
+#[test]
+fn many_contacts(rt: HostRuntime) {
+    let alloc = rt.alloc();
+    assert!(rt; is_lawful(bare(alloc, 256)));
+    assert!(rt; is_refused(bare(alloc, 257), SetupFault::Channels));
+    let past = setup_of_contacts(alloc, 256, b"ABC");
+    assert!(rt; is_refused(past, SetupFault::Channels));
+}
+
+pub fn scan(alloc: Global, readings: &[Reading], bits: &[bool]) -> Option<Scan> {
+    match (
+        Vec::from_slice(alloc, readings),
+        Vec::from_slice(alloc, bits),
+    ) {
+        (Ok(readings), Ok(bits)) => Some(Scan::new(readings, bits)),
+        _ => None,
+    }
+}
+
+/// What a layout of one analogue channel says of the scan.
+fn checked(layout: Option<Layout>, scan: Option<Scan>) -> Option<Result<(), ScanFault>> {
+    match (layout, scan) {
+        (Some(layout), Some(scan)) => Some(layout.check(&scan)),
+        _ => None,
+    }
+}
+
+fn is_checked(
     alloc: Global,
     readings: &[Reading],
     bits: &[bool],
-) -> Result<Option<ScanFault>, Fail> {
-    let scan = scan(alloc, readings, bits)?;
-    Ok(layout(alloc, 0)?.check(&scan).err())
-}
-
-pub fn scan(alloc: Global, readings: &[Reading], bits: &[bool]) -> Result<Scan, AllocError> {
-    let readings = Vec::from_slice(alloc, readings)?;
-    Ok(Scan::new(readings, Vec::from_slice(alloc, bits)?))
+    wanted: Result<(), ScanFault>,
+) -> bool {
+    checked(layout(alloc, 0), scan(alloc, readings, bits)) == Some(wanted)
 }
 
 #[test]
-fn scans_of_another_shape(rt: HostRuntime) -> Result<(), Fail> {
-    let two = scan_fault(rt.alloc(), &[Reading::Value(1), Reading::Value(2)], &[])?;
-    assert_eq!(rt; two, Some(ScanFault::Shape));
-    let with_bit = scan_fault(rt.alloc(), &[Reading::Value(1)], &[true])?;
-    assert_eq!(rt; with_bit, Some(ScanFault::Shape));
-    Ok(())
-}
-
-#[test]
-fn scans_in_and_out_of_range(rt: HostRuntime) -> Result<(), Fail> {
-    let wide = scan_fault(rt.alloc(), &[Reading::Value(32768)], &[])?;
-    assert_eq!(rt; wide, Some(ScanFault::Range(0)));
-    assert_eq!(rt; scan_fault(rt.alloc(), &[Reading::Missing], &[])?, None);
-    Ok(())
-}
-
-fn instant(alloc: Global, rate: u32, start: i64, k: u64) -> Result<Option<i64>, Fail> {
-    Ok(layout_of(clocked(alloc, rate, start)?)?.instant(k))
-}
-
-#[test]
-fn instants(rt: HostRuntime) -> Result<(), Fail> {
-    for (k, at) in [(0, 0), (1, 208), (2, 416), (3, 625)] {
-        assert_eq!(rt; instant(rt.alloc(), 4800, 0, k)?, Some(at));
-    }
-    assert_eq!(rt; instant(rt.alloc(), 4800, 0, u64::MAX)?, None);
-    Ok(())
-}
-
-#[test]
-fn last_instant(rt: HostRuntime) -> Result<(), Fail> {
-    let late = 253_402_300_798_999_999;
-    assert_eq!(rt;
-        instant(rt.alloc(), 1, late, 1)?,
-        Some(253_402_300_799_999_999)
+fn scans_of_another_shape(rt: HostRuntime) {
+    let value = Reading::Value(1);
+    assert!(rt;
+        is_checked(
+            rt.alloc(),
+            &[value, Reading::Value(2)],
+            &[],
+            Err(ScanFault::Shape)
+        )
     );
-    assert_eq!(rt; instant(rt.alloc(), 1, late, 2)?, None);
-    Ok(())
+    assert!(rt; is_checked(rt.alloc(), &[value], &[true], Err(ScanFault::Shape)));
+}
+
+#[test]
+fn scans_in_and_out_of_range(rt: HostRuntime) {
+    let wide = [Reading::Value(32768)];
+    assert!(rt; is_checked(rt.alloc(), &wide, &[], Err(ScanFault::Range(0))));
+    assert!(rt; is_checked(rt.alloc(), &[Reading::Missing], &[], Ok(())));
+}
+
+/// The instant of scan k, None where there is no layout.
+fn instant(alloc: Global, rate: u32, start: i64, k: u64) -> Option<Option<i64>> {
+    match clocked(setup(alloc, 0), rate, start) {
+        Some(setup) => match Layout::new(setup) {
+            Ok(layout) => Some(layout.instant(k)),
+            Err(_) => None,
+        },
+        None => None,
+    }
+}
+
+#[test]
+fn instants(rt: HostRuntime) {
+    for (k, at) in [
+        (0, Some(0)),
+        (1, Some(208)),
+        (2, Some(416)),
+        (3, Some(625)),
+        (u64::MAX, None),
+    ] {
+        assert_eq!(rt; instant(rt.alloc(), 4800, 0, k), Some(at));
+    }
+}
+
+#[test]
+fn last_instant(rt: HostRuntime) {
+    let late = 253_402_300_798_999_999;
+    for (k, at) in [(1, Some(253_402_300_799_999_999)), (2, None)] {
+        assert_eq!(rt; instant(rt.alloc(), 1, late, k), Some(at));
+    }
 }

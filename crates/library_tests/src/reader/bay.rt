@@ -75,7 +75,7 @@ fn layout_of(head: Head, rate: u32, start: i64) -> Option<Layout> {
     .ok()
 }
 
-fn layout(alloc: Global, bay: Bay) -> Option<Layout> {
+pub fn layout(alloc: Global, bay: Bay) -> Option<Layout> {
     match read_cfg(alloc, bay.channels) {
         Ok(head) => layout_of(head, bay.rate, bay.start),
         Err(_) => None,

@@ -23,11 +23,11 @@ fn is_status(x: &StatusChannel, y: &StatusChannel) -> bool {
     x.id == y.id && x.phase == y.phase && x.component == y.component && x.normal == y.normal
 }
 
-fn are_analogs(xs: &[AnalogChannel], ys: &[AnalogChannel]) -> bool {
+pub fn are_analogs(xs: &[AnalogChannel], ys: &[AnalogChannel]) -> bool {
     xs.len() == ys.len() && xs.iter().zip(ys).all(|(x, y)| is_analog(x, y))
 }
 
-fn are_statuses(xs: &[StatusChannel], ys: &[StatusChannel]) -> bool {
+pub fn are_statuses(xs: &[StatusChannel], ys: &[StatusChannel]) -> bool {
     xs.len() == ys.len() && xs.iter().zip(ys).all(|(x, y)| is_status(x, y))
 }
 

@@ -1,0 +1,25 @@
+//! Tests of recorders that threads share: the calls of one thread, tokens that don't belong, and runs in threads.
+#![tactic(auto)]
+
+#[cfg(test)]
+mod acts;
+#[cfg(test)]
+mod gate;
+#[cfg(test)]
+mod lent;
+#[cfg(test)]
+mod load;
+#[cfg(test)]
+mod one_thread;
+#[cfg(test)]
+mod opening;
+#[cfg(test)]
+mod runs;
+#[cfg(test)]
+mod soak;
+#[cfg(test)]
+mod station;
+#[cfg(test)]
+mod three_threads;
+#[cfg(test)]
+mod tokens;

@@ -1,0 +1,99 @@
+//! Rules that are set on a recorder that threads share, and its end.
+
+use crate::common::{Heap, layout, rules};
+use crate::refusing::{Outcome, Trial, memory_if, refusals, right_if};
+use dfr_channels::Rules;
+use dfr_live::{EndFault, Ended, Inner, RulesRefusal, Session, Shared, Source, Token, end};
+use std::alloc::Allocator;
+use std::sync::Wait;
+
+/// Rules that are set. Where one of their copies is refused they come back, and no call was made.
+#[derive(Drop)]
+struct Setting<'r, N: Session<A>, R, A: Allocator> {
+    rt: &'r R,
+    shared: &'r Shared<N, A>,
+    token: &'r mut Token<A>,
+    next: Option<Rules<A>>,
+}
+
+impl<N: Session<A>, R: Wait, A: Allocator + Copy> Trial for Setting<'_, N, R, A> {
+    fn call(&mut self) -> Outcome {
+        let before = self.token.made().len();
+        let Some(rules) = self.next.take() else {
+            return Outcome::Wrong;
+        };
+        match self.shared.set_rules(self.rt, self.token, rules) {
+            Ok(()) => right_if(self.token.made().len() == before.saturating_add(1)),
+            Err((fault, back)) => {
+                self.next = Some(back);
+                memory_if(fault == RulesRefusal::Memory && self.token.made().len() == before)
+            }
+        }
+    }
+}
+
+fn lawful<A: Allocator + Copy>(alloc: A) -> Option<Rules<A>> {
+    match layout(alloc) {
+        Some(layout) => rules(alloc, &layout),
+        None => None,
+    }
+}
+
+pub fn sets_rules<N: Session<A>, R: Wait, A: Allocator + Copy>(
+    rt: &R,
+    heap: Heap,
+    alloc: A,
+    shared: &Shared<N, A>,
+    token: &mut Token<A>,
+) -> bool {
+    let mut setting = Setting {
+        rt,
+        shared,
+        token,
+        next: lawful(alloc),
+    };
+    match refusals(heap, false, &mut setting) {
+        Some(seen) => seen.answered && !seen.made_up,
+        None => false,
+    }
+}
+
+/// What an end is made of.
+pub type Parts<N, A> = (Inner<N, A>, Source<N, A>, Vec<Token<A>, A>);
+
+/// An end. Where there is no memory for it all three come back.
+#[derive(Drop)]
+struct Ending<N: Session<A>, A: Allocator> {
+    alloc: A,
+    parts: Option<Parts<N, A>>,
+}
+
+fn is_ended<A: Allocator>(ended: &Ended<A>) -> bool {
+    ended.log.len() == 5 && ended.left.is_empty() && ended.recorder.scans() == 14
+}
+
+impl<N: Session<A>, A: Allocator + Copy> Trial for Ending<N, A> {
+    fn call(&mut self) -> Outcome {
+        let Some((inner, source, tokens)) = self.parts.take() else {
+            return Outcome::Wrong;
+        };
+        match end(self.alloc, inner, source, tokens) {
+            Ok(ended) => right_if(is_ended(&ended)),
+            Err((fault, inner, source, tokens)) => {
+                self.parts = Some((inner, source, tokens));
+                memory_if(fault == EndFault::Memory)
+            }
+        }
+    }
+}
+
+pub fn ends<N: Session<A>, A: Allocator + Copy>(heap: Heap, alloc: A, parts: Parts<N, A>) -> bool {
+    let mut ending = Ending {
+        alloc,
+        parts: Some(parts),
+    };
+    match refusals(heap, false, &mut ending) {
+        Some(seen) => seen.answered && !seen.made_up,
+        None => false,
+    }
+}
