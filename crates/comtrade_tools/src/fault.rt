@@ -8,8 +8,8 @@ use thiserror::Error;
 /// Why a tool stopped. What was written before stays written.
 #[derive(Clone, Copy, Debug, PartialEq, Eq, Error)]
 pub enum ToolFault {
-    /// No file has this name.
-    #[error("there is no such file")]
+    /// No file or folder has this name.
+    #[error("there is no such file or folder")]
     NoFile,
     /// The system doesn't let it be opened.
     #[error("no permission")]

@@ -12,12 +12,14 @@ mod names;
 mod number;
 mod output;
 mod peaks;
+mod plot;
 mod records;
 mod refuse;
 mod show;
 mod table;
 mod text;
 mod times;
+mod trace;
 mod view;
 
 pub use check::{Pair, check_over, put_fault};

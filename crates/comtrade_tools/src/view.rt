@@ -3,6 +3,7 @@
 use crate::check::{Pair, check_over, put_fault};
 use crate::csv::csv_over;
 use crate::fault::ToolFault;
+use crate::plot::plot_over;
 use crate::show::show_over;
 use comtrade_pairs::Fault;
 use comtrade_read::{ReadFault, read};
@@ -56,6 +57,7 @@ pub fn view_over<A: Allocator + Copy, W: Write>(
     };
     match view {
         View::Csv => csv_over(alloc, &file, w)?,
+        View::Plot => plot_over(alloc, &file, w)?,
         _ => show_over(alloc, &file, w)?,
     }
     Ok(true)
