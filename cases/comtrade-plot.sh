@@ -7,6 +7,7 @@ trap 'rm -r "$folder"' EXIT
 grep stroke-linecap "$folder/gaps" | tr M '\n' | grep -c h0
 grep 'B, d' "$folder/gaps"
 "$comtrade" plot ../examples/earth-fault/rec1.cfg ../examples/earth-fault/rec1.dat > "$folder/svg"
+cmp "$folder/svg" ../examples/earth-fault/record.svg && echo same
 head -n 1 "$folder/svg" | cut -c 1-60
 tail -n 1 "$folder/svg"
 grep -c stroke-linecap "$folder/svg"

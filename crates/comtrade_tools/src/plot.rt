@@ -164,6 +164,11 @@ fn put_levels<A: Allocator>(out: &mut Vec<u8, A>, panel: Panel) -> Result<(), Al
     Ok(())
 }
 
+/// Whether times are drawn in seconds: where there are ten of them.
+fn is_long(frame: Frame) -> bool {
+    10_000.0 <= frame.last - frame.first
+}
+
 /// The times below, and their lines across all panels.
 fn put_times<A: Allocator>(
     out: &mut Vec<u8, A>,
@@ -171,6 +176,15 @@ fn put_times<A: Allocator>(
     bottom: f64,
 ) -> Result<(), AllocError> {
     let step = step_of(frame.last - frame.first, 10.0);
+    let shown = if is_long(frame) {
+        Step {
+            digit: step.digit,
+            exponent: step.exponent.saturating_sub(3),
+            size: step.size,
+        }
+    } else {
+        step
+    };
     let first = first_tick(step, frame.first);
     for i in 0..12i64 {
         let tick = first.saturating_add(i);
@@ -181,7 +195,7 @@ fn put_times<A: Allocator>(
         let x = across(frame, time);
         put_rule(out, (x, TOP), (x, bottom), "stroke=\"#e4e4e4\"")?;
         put_text_at(out, x, bottom + 16.0, " text-anchor=\"middle\"")?;
-        put_tick(out, step, tick)?;
+        put_tick(out, shown, tick)?;
         end_text(out)?;
     }
     Ok(())
@@ -371,7 +385,7 @@ fn put_traces<A: Allocator, W: Write>(
             put_legend(out, panel, i - from, channel, colour)?;
             put(
                 out,
-                "<path fill=\"none\" stroke-linecap=\"round\" stroke=\"",
+                "<path fill=\"none\" stroke-opacity=\"0.8\" stroke-linecap=\"round\" stroke=\"",
             )?;
             put(out, colour)?;
             put(out, "\" d=\"")?;
@@ -537,13 +551,20 @@ fn put_mark<A: Allocator>(
         bottom + 34.0,
         " text-anchor=\"middle\"",
     )?;
-    put(out, "ms since the trigger")?;
+    put(
+        out,
+        if is_long(frame) {
+            "s since the trigger"
+        } else {
+            "ms since the trigger"
+        },
+    )?;
     end_text(out)?;
     if frame.first <= 0.0 && 0.0 <= frame.last {
         let x = across(frame, 0.0);
         let dashed = "stroke=\"#000000\" stroke-dasharray=\"4 3\"";
         put_rule(out, (x, TOP), (x, bottom), dashed)?;
-        put_text_at(out, x + 4.0, TOP + 10.0, "")?;
+        put_text_at(out, x + 4.0, TOP + 4.0, "")?;
         put(out, "trigger")?;
         end_text(out)?;
     }
