@@ -10,8 +10,10 @@ this page, and their samples and instants are compared with the script's scans. 
 import datetime
 import struct
 import sys
+from decimal import Decimal
 
 EPOCH = datetime.datetime(1970, 1, 1)
+LAST = 253_402_300_799_999_999  # the last microsecond of the year 9999
 
 
 def settings_and_commands(text):
@@ -19,10 +21,10 @@ def settings_and_commands(text):
     for line in text.splitlines():
         if not line.strip() or line.startswith("#"):
             continue
-        word, _, rest = line.partition(" ")
+        word, _, rest = line.replace("\t", " ").partition(" ")
         rest = rest.strip()
         if begun:
-            commands.append((word, rest))
+            commands.append((word, rest.strip()))
         elif word == "go":
             begun = True
         elif word in ("analog", "status"):
@@ -30,6 +32,27 @@ def settings_and_commands(text):
         else:
             settings[word] = rest
     return settings, commands
+
+
+def decimal_text(text):
+    """A decimal as files spell it: no exponent, a digit before the point, an empty one as 0."""
+    if not text:
+        return "0"
+    value = format(Decimal(text), "f")
+    return value[1:] if value.startswith("-") and not Decimal(text) else value
+
+
+def analog_fields(fields):
+    names, scale, span, ratio, side = fields[:4], fields[4:7], fields[7:9], fields[9:11], fields[11]
+    return names + [decimal_text(f) for f in scale] + [str(int(f)) for f in span] + [decimal_text(f) for f in ratio] + [side.upper()]
+
+
+def status_fields(fields):
+    return fields[:3] + [str(int(fields[3] or 0))]
+
+
+def rules_of(text):
+    return [rule for rule in text.split(";") if rule.strip()]
 
 
 def scan_of(rest):
@@ -55,7 +78,7 @@ class History:
     def __init__(self, settings):
         self.settings = settings
         self.pre, self.post, self.longest, self.shelf = map(int, settings["limits"].split(","))
-        self.rules = [rule for rule in settings["rules"].split(";") if rule.strip()]
+        self.rules = rules_of(settings["rules"])
         self.scans, self.records, self.taken = [], [], 0
 
     def is_open(self, n):
@@ -63,6 +86,32 @@ class History:
 
     def waiting(self, n):
         return sum(last < n for _, _, last, _ in self.records) - self.taken
+
+    def refusal(self, scan):
+        """Why a scan isn't accepted, where it isn't."""
+        values, bits = scan
+        if (len(values), len(bits)) != (len(self.settings["analog"]), len(self.settings["status"])):
+            return "shape"
+        for i, (value, fields) in enumerate(zip(values, self.settings["analog"])):
+            if value is not None and not int(fields[7]) <= value <= int(fields[8]):
+                return "range %d" % i
+        return "clock-end" if self.instant(len(self.scans)) > LAST else None
+
+    def set_rules(self, text):
+        rules = rules_of(text)
+        if len(rules) > 32:
+            return "rules refused too-many"
+        for rule in rules:
+            kind, channel = rule.split()[:2]
+            if int(channel) >= len(self.settings["analog" if kind == "level" else "status"]):
+                return "rules refused no-channel"
+        self.rules = rules
+        return "rules set"
+
+    def manual(self):
+        n = len(self.scans)
+        hit = self.trigger(n - 1, n, "manual") if n else "no-scan"
+        return "trigger " + ("refused " + hit if hit in ("no-scan", "shelf-full") else hit)
 
     def trigger(self, place, n, cause):
         wanted = place + self.post
@@ -78,6 +127,8 @@ class History:
 
     def scan(self, scan):
         n = len(self.scans)
+        if refusal := self.refusal(scan):
+            return "scan refused " + refusal
         before = self.scans[-1] if self.scans else None
         fired = [i for i, rule in enumerate(self.rules) if holds(rule, before, scan)]
         line = "scan %d" % n
@@ -104,9 +155,9 @@ class History:
         analog, status, rate = self.settings["analog"], self.settings["status"], int(self.settings["rate"])
         lines = ["%s,%s,1999" % (self.settings["station"], self.settings["device"])]
         lines.append("%d,%dA,%dD" % (len(analog) + len(status), len(analog), len(status)))
-        lines += ["%d,%s" % (n, ",".join(fields)) for n, fields in enumerate(analog, 1)]
-        lines += ["%d,%s" % (n, ",".join(fields)) for n, fields in enumerate(status, 1)]
-        lines += [self.settings["freq"], "1", "%d,%d" % (rate, len(scans))]
+        lines += ["%d,%s" % (n, ",".join(analog_fields(fields))) for n, fields in enumerate(analog, 1)]
+        lines += ["%d,%s" % (n, ",".join(status_fields(fields))) for n, fields in enumerate(status, 1)]
+        lines += [decimal_text(self.settings["freq"]), "1", "%d,%d" % (rate, len(scans))]
         for k in (first, trigger):
             time = EPOCH + datetime.timedelta(microseconds=self.instant(k))
             lines.append(time.strftime("%d/%m/%Y,%H:%M:%S.%f"))
@@ -130,7 +181,9 @@ def expected(settings, commands, kind):
         if word == "scan":
             printed += history.scan(scan_of(rest)).encode() + b"\n"
         elif word == "trigger":
-            printed += b"trigger " + history.trigger(len(history.scans) - 1, len(history.scans), "manual").encode() + b"\n"
+            printed += history.manual().encode() + b"\n"
+        elif word == "rules":
+            printed += history.set_rules(rest).encode() + b"\n"
         else:
             printed += history.take(kind)
     return printed
@@ -148,12 +201,14 @@ def read_back(cfg, dat):
     if rest[5][0] == "ASCII":
         for line in dat.rstrip(b"\x1a").decode().split("\r\n")[:-1]:
             fields = [int(field) for field in line.split(",")]
-            rows.append((begun + fields[1] * timemult, fields[2:2 + analog], fields[2 + analog:]))
+            values = [None if value == 99999 else value for value in fields[2:2 + analog]]
+            rows.append((begun + fields[1] * timemult, values, fields[2 + analog:]))
     else:
         layout = struct.Struct("<II%dh%dH" % (analog, (status + 15) // 16))
         for fields in layout.iter_unpack(dat):
             bits = [fields[2 + analog + i // 16] >> i % 16 & 1 for i in range(status)]
-            rows.append((begun + fields[1] * timemult, list(fields[2:2 + analog]), bits))
+            values = [None if value == -32768 else value for value in fields[2:2 + analog]]
+            rows.append((begun + fields[1] * timemult, values, bits))
     assert len(rows) == count
     return rows
 
@@ -179,7 +234,11 @@ def main():
     kind = sys.argv[3] if len(sys.argv) > 3 else "ascii"
     settings, commands = settings_and_commands(script)
     assert printed == expected(settings, commands, kind), "not what the rules of recording say"
-    scans = [scan_of(rest) for word, rest in commands if word == "scan"]
+    history = History(settings)
+    for scan in (scan_of(rest) for word, rest in commands if word == "scan"):
+        if history.refusal(scan) is None:
+            history.scans.append(scan)
+    scans = history.scans
     for number, first, cfg, dat in files_in(printed):
         rows = read_back(cfg, dat)
         for i, (instant, values, bits) in enumerate(rows):

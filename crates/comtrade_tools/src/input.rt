@@ -1,0 +1,28 @@
+//! What comes in, up to a limit.
+
+ghost use Rattle.std.specs.Prelude.{◌≡◌, ◌≤◌, IfOk, IfSome, length};
+
+use crate::fault::ToolFault;
+use std::alloc::Allocator;
+use std::io::Read;
+
+/// All that the reader has, where it is at most so many bytes; more is `Long`, and a read that failed is `Input`.
+pub fn read_up_to<A: Allocator, R: Read>(
+    alloc: A,
+    r: &mut R,
+    limit: usize,
+) -> Result<Vec<u8, A>, ToolFault>
+    ensures bytes { IfOk result (λ v. IfSome (R.remaining r.old) (λ bytes. v.items ≡ bytes)) }
+    ensures short { IfOk result (λ v. length v.items ≤ limit) }
+{
+    let mut bytes = Vec::new(alloc);
+    let mut piece = [0u8; 16_384];
+    while bytes.len() <= limit {
+        match r.read(&mut piece) {
+            Ok(0) => return Ok(bytes),
+            Ok(count) => bytes.extend_from_slice(&piece[..count])?,
+            Err(_) => return Err(ToolFault::Input),
+        }
+    }
+    Err(ToolFault::Long)
+}

@@ -1,0 +1,216 @@
+//! Numbers of a pair: a decimal, a scaled sample, as text and as the nearest float.
+
+use dfr_channels::{AnalogChannel, Decimal};
+use itoa::Buffer;
+use std::alloc::{AllocError, Allocator};
+use std::num::nearest_i64_to_f64;
+
+/// The number units * 10^exponent.
+#[derive(Clone, Copy, Debug)]
+pub(crate) struct Number {
+    pub(crate) units: i128,
+    pub(crate) exponent: i32,
+}
+
+/// The number with so few digits that its units are below `most`; the digits behind are left out.
+pub(crate) fn cut(number: Number, most: u128) -> Number {
+    let mut cut = number;
+    for _ in 0..40 {
+        if cut.units.unsigned_abs() < most {
+            break;
+        }
+        cut = Number {
+            units: cut.units / 10,
+            exponent: cut.exponent.saturating_add(1),
+        };
+    }
+    cut
+}
+
+/// A decimal, of at most 27 digits, so that products with samples and stamps fit.
+pub(crate) fn number_of(decimal: Decimal) -> Number {
+    let exact = Number {
+        units: decimal.units(),
+        exponent: -(decimal.places() as i32),
+    };
+    cut(exact, 1_000_000_000_000_000_000_000_000_000)
+}
+
+/// With zeros put behind the units until the exponent is the lower one, as long as they fit.
+fn lowered(number: Number, exponent: i32) -> Number {
+    let mut low = number;
+    for _ in 0..80 {
+        if low.exponent <= exponent
+            || 10_000_000_000_000_000_000_000_000_000_000_000 <= low.units.unsigned_abs()
+        {
+            break;
+        }
+        low = Number {
+            units: low.units.saturating_mul(10),
+            exponent: low.exponent.saturating_sub(1),
+        };
+    }
+    low
+}
+
+/// With digits left out until the exponent is the higher one.
+fn raised(number: Number, exponent: i32) -> Number {
+    let mut high = number;
+    for _ in 0..160 {
+        if exponent <= high.exponent {
+            break;
+        }
+        high = Number {
+            units: high.units / 10,
+            exponent: high.exponent.saturating_add(1),
+        };
+    }
+    high
+}
+
+/// The sum: exact where it has at most 35 digits.
+fn sum(one: Number, other: Number) -> Number {
+    let (high, low) = if one.exponent < other.exponent {
+        (other, one)
+    } else {
+        (one, other)
+    };
+    let high = lowered(high, low.exponent);
+    let low = raised(low, high.exponent);
+    Number {
+        units: high.units.saturating_add(low.units),
+        exponent: high.exponent,
+    }
+}
+
+/// What a channel makes of its samples: a * x + b.
+#[derive(Clone, Copy, Debug)]
+pub(crate) struct Scale {
+    pub(crate) a: Number,
+    pub(crate) b: Number,
+}
+
+pub(crate) fn scale_of<A: Allocator>(channel: &AnalogChannel<A>) -> Scale {
+    Scale {
+        a: number_of(channel.a),
+        b: number_of(channel.b),
+    }
+}
+
+/// The value of a sample: exact where a and b have at most 27 digits and the value at most 35.
+pub(crate) fn value_of(scale: Scale, sample: i32) -> Number {
+    let product = Number {
+        units: scale.a.units.saturating_mul(sample as i128),
+        exponent: scale.a.exponent,
+    };
+    sum(product, scale.b)
+}
+
+/// The number rounded to six digits.
+pub(crate) fn rounded(number: Number) -> Number {
+    let seven = cut(number, 10_000_000);
+    if seven.units.unsigned_abs() < 1_000_000 {
+        return seven;
+    }
+    let half = if seven.units < 0 { -5 } else { 5 };
+    Number {
+        units: seven.units.saturating_add(half) / 10,
+        exponent: seven.exponent.saturating_add(1),
+    }
+}
+
+/// Without zeros at the end of the places.
+fn trimmed(number: Number) -> Number {
+    let mut short = number;
+    for _ in 0..120 {
+        if 0 <= short.exponent || short.units % 10 != 0 {
+            break;
+        }
+        short = Number {
+            units: short.units / 10,
+            exponent: short.exponent.saturating_add(1),
+        };
+    }
+    short
+}
+
+pub(crate) fn put_zeros<A: Allocator>(out: &mut Vec<u8, A>, n: usize) -> Result<(), AllocError> {
+    for _ in 0..n {
+        out.extend_from_slice(b"0")?;
+    }
+    Ok(())
+}
+
+/// The digits with a point before the last `places` of them, and a digit before the point.
+fn put_pointed<A: Allocator>(
+    out: &mut Vec<u8, A>,
+    digits: &[u8],
+    places: usize,
+) -> Result<(), AllocError> {
+    if places < digits.len() {
+        let (front, back) = digits.split_at(digits.len() - places);
+        out.extend_from_slice(front)?;
+        out.extend_from_slice(b".")?;
+        return out.extend_from_slice(back);
+    }
+    out.extend_from_slice(b"0.")?;
+    put_zeros(out, places.saturating_sub(digits.len()))?;
+    out.extend_from_slice(digits)
+}
+
+/// A number as a decimal without an exponent and without zeros at its end.
+pub(crate) fn put_value<A: Allocator>(
+    out: &mut Vec<u8, A>,
+    number: Number,
+) -> Result<(), AllocError> {
+    let number = trimmed(number);
+    if number.units < 0 {
+        out.extend_from_slice(b"-")?;
+    }
+    let mut buffer = Buffer::new();
+    let digits = buffer.format(number.units.unsigned_abs()).as_bytes();
+    let places = number.exponent.unsigned_abs() as usize;
+    if number.exponent < 0 {
+        return put_pointed(out, digits, places);
+    }
+    out.extend_from_slice(digits)?;
+    if number.units == 0 {
+        return Ok(());
+    }
+    put_zeros(out, places)
+}
+
+/// A decimal as text.
+pub(crate) fn put_decimal<A: Allocator>(
+    out: &mut Vec<u8, A>,
+    decimal: Decimal,
+) -> Result<(), AllocError> {
+    let exact = Number {
+        units: decimal.units(),
+        exponent: -(decimal.places() as i32),
+    };
+    put_value(out, exact)
+}
+
+fn power_of_ten(exponent: u32) -> f64 {
+    let mut power = 1.0;
+    for _ in 0..exponent {
+        power *= 10.0;
+    }
+    power
+}
+
+/// The number as a float, from its first 18 digits.
+pub(crate) fn float_of(number: Number) -> f64 {
+    let short = cut(number, 1_000_000_000_000_000_000);
+    let units = match i64::try_from(short.units) {
+        Ok(units) => nearest_i64_to_f64(units),
+        Err(_) => 0.0,
+    };
+    let power = power_of_ten(short.exponent.unsigned_abs().min(400));
+    if short.exponent < 0 {
+        units / power
+    } else {
+        units * power
+    }
+}

@@ -1,0 +1,83 @@
+//! Printed text, buffered before it is written. Texts of a file come out as printable characters alone.
+
+ghost use Rattle.std.specs.Prelude.{◌<◌};
+
+use itoa::Buffer;
+use std::alloc::{AllocError, Allocator};
+
+pub(crate) fn put<A: Allocator>(out: &mut Vec<u8, A>, text: &str) -> Result<(), AllocError> {
+    out.extend_from_slice(text.as_bytes())
+}
+
+/// A number in decimal digits.
+pub fn put_number<A: Allocator>(out: &mut Vec<u8, A>, n: u64) -> Result<(), AllocError> {
+    out.extend_from_slice(Buffer::new().format(n).as_bytes())
+}
+
+pub(crate) fn put_signed<A: Allocator>(out: &mut Vec<u8, A>, n: i64) -> Result<(), AllocError> {
+    out.extend_from_slice(Buffer::new().format(n).as_bytes())
+}
+
+/// The text, and a number after it.
+pub(crate) fn put_with<A: Allocator>(
+    out: &mut Vec<u8, A>,
+    text: &str,
+    n: u64,
+) -> Result<(), AllocError> {
+    put(out, text)?;
+    put_number(out, n)
+}
+
+/// A number, and its noun in the singular or the plural.
+pub(crate) fn put_count<A: Allocator>(
+    out: &mut Vec<u8, A>,
+    n: u64,
+    one: &str,
+    more: &str,
+) -> Result<(), AllocError> {
+    put_number(out, n)?;
+    put(out, if n == 1 { one } else { more })
+}
+
+fn hex_digit(n: u8) -> u8
+    requires { n < 16 }
+{
+    if n < 10 { b'0' + n } else { b'a' + (n - 10) }
+}
+
+/// A byte as it is where it is printable, else in hexadecimal.
+fn put_byte<A: Allocator>(out: &mut Vec<u8, A>, b: u8) -> Result<(), AllocError> {
+    if 32 <= b && b <= 126 {
+        return out.extend_from_slice(&[b]);
+    }
+    out.extend_from_slice(&[b'\\', b'x', hex_digit(b / 16), hex_digit(b % 16)])
+}
+
+/// A text of a file: bytes outside 20 to 7E stand in hexadecimal, as `\x1b`.
+pub fn put_safe<A: Allocator>(out: &mut Vec<u8, A>, text: &[u8]) -> Result<(), AllocError> {
+    for b in text {
+        put_byte(out, *b)?;
+    }
+    Ok(())
+}
+
+/// How many bytes of a field are quoted.
+const QUOTED: usize = 60;
+
+/// A field in quotation marks, cut where it is long.
+pub(crate) fn put_quoted<A: Allocator>(
+    out: &mut Vec<u8, A>,
+    text: &[u8],
+) -> Result<(), AllocError> {
+    put(out, "\"")?;
+    match text.get(..QUOTED) {
+        Some(front) => {
+            put_safe(out, front)?;
+            put(out, "\"...")
+        }
+        None => {
+            put_safe(out, text)?;
+            put(out, "\"")
+        }
+    }
+}

@@ -1,0 +1,233 @@
+//! The traces of channels and the bars of contacts in a picture, at most two points for each half pixel.
+
+use crate::peaks::{bit_at, reading_at};
+use crate::text::{put, put_number};
+use crate::times::since_trigger;
+use comtrade_write::Row;
+use dfr_channels::Reading;
+use std::alloc::{AllocError, Allocator};
+use std::num::{nearest_i64_to_f64, saturating_f64_to_i64};
+
+/// Where panels begin and end, and how high each is, in pixels.
+pub(crate) const LEFT: f64 = 80.0;
+
+pub(crate) const RIGHT: f64 = 920.0;
+
+pub(crate) const TOP: f64 = 50.0;
+
+pub(crate) const PANEL: f64 = 110.0;
+
+/// The times that are drawn, in milliseconds since the trigger.
+#[derive(Clone, Copy)]
+pub(crate) struct Frame {
+    pub(crate) first: f64,
+    pub(crate) last: f64,
+}
+
+/// A panel's upper edge in pixels, and the values that are drawn in it.
+#[derive(Clone, Copy)]
+pub(crate) struct Panel {
+    pub(crate) top: f64,
+    pub(crate) low: f64,
+    pub(crate) high: f64,
+}
+
+/// What a channel makes of its samples: a * x + b.
+#[derive(Clone, Copy)]
+pub(crate) struct Line {
+    pub(crate) a: f64,
+    pub(crate) b: f64,
+}
+
+impl Line {
+    pub(crate) fn at(&self, sample: i32) -> f64 {
+        self.a * (sample as f64) + self.b
+    }
+}
+
+/// A number of pixels that isn't below 0, with one place.
+pub(crate) fn put_tenths<A: Allocator>(out: &mut Vec<u8, A>, x: f64) -> Result<(), AllocError> {
+    let tenths = saturating_f64_to_i64(x * 10.0 + 0.5).max(0).unsigned_abs();
+    put_number(out, tenths / 10)?;
+    put(out, ".")?;
+    put_number(out, tenths % 10)
+}
+
+/// Where a time stands.
+pub(crate) fn across(frame: Frame, time: f64) -> f64 {
+    LEFT + (RIGHT - LEFT) * (time - frame.first) / (frame.last - frame.first)
+}
+
+fn place_of(times: &[Option<i64>], row: usize, trigger: i64, frame: Frame) -> Option<f64> {
+    match since_trigger(times, row, trigger) {
+        Some(nanos) => Some(across(frame, nearest_i64_to_f64(nanos) / 1e6)),
+        None => None,
+    }
+}
+
+/// What a trace has in one half pixel: how many samples, the first one's place, the least and the greatest value.
+#[derive(Clone, Copy)]
+struct Pen {
+    is_drawing: bool,
+    count: u64,
+    column: i64,
+    x: f64,
+    low: f64,
+    high: f64,
+}
+
+fn put_point<A: Allocator>(
+    out: &mut Vec<u8, A>,
+    panel: Panel,
+    x: f64,
+    value: f64,
+) -> Result<(), AllocError> {
+    put_tenths(out, x)?;
+    put(out, " ")?;
+    let y = panel.top + PANEL * (panel.high - value) / (panel.high - panel.low);
+    put_tenths(out, y)
+}
+
+/// Draws what the pen has.
+fn put_pen<A: Allocator>(out: &mut Vec<u8, A>, panel: Panel, pen: Pen) -> Result<(), AllocError> {
+    if pen.count == 0 {
+        return Ok(());
+    }
+    put(out, if pen.is_drawing { "L" } else { "M" })?;
+    put_point(out, panel, pen.x, pen.low)?;
+    if !pen.is_drawing {
+        put(out, "h0")?;
+    }
+    if pen.low < pen.high {
+        put(out, "L")?;
+        put_point(out, panel, pen.x, pen.high)?;
+    }
+    Ok(())
+}
+
+/// The pen with a sample of its half pixel more.
+fn with_value(pen: Pen, value: f64) -> Pen {
+    Pen {
+        is_drawing: pen.is_drawing,
+        count: pen.count.saturating_add(1),
+        column: pen.column,
+        x: pen.x,
+        low: if value < pen.low { value } else { pen.low },
+        high: if pen.high < value { value } else { pen.high },
+    }
+}
+
+/// The pen after a sample: what it had is drawn where the sample stands in another half pixel.
+fn moved<A: Allocator>(
+    out: &mut Vec<u8, A>,
+    panel: Panel,
+    pen: Pen,
+    x: f64,
+    value: f64,
+) -> Result<Pen, AllocError> {
+    let column = saturating_f64_to_i64(x * 2.0);
+    if pen.count != 0 && pen.column == column {
+        return Ok(with_value(pen, value));
+    }
+    put_pen(out, panel, pen)?;
+    Ok(Pen {
+        is_drawing: pen.is_drawing || pen.count != 0,
+        count: 1,
+        column,
+        x,
+        low: value,
+        high: value,
+    })
+}
+
+/// A pen that has nothing and has drawn nothing.
+fn new_pen() -> Pen {
+    Pen {
+        is_drawing: false,
+        count: 0,
+        column: 0,
+        x: 0.0,
+        low: 0.0,
+        high: 0.0,
+    }
+}
+
+/// The path of a channel; a missing reading interrupts it.
+pub(crate) fn put_trace<A: Allocator>(
+    out: &mut Vec<u8, A>,
+    rows: &[Row<A>],
+    times: &[Option<i64>],
+    trigger: i64,
+    frame: Frame,
+    panel: Panel,
+    line: Line,
+    channel: usize,
+) -> Result<(), AllocError> {
+    let mut pen = new_pen();
+    for (i, row) in rows.iter().enumerate() {
+        match (place_of(times, i, trigger, frame), reading_at(row, channel)) {
+            (Some(x), Reading::Value(sample)) => {
+                pen = moved(out, panel, pen, x, line.at(sample))?;
+            }
+            _ => {
+                put_pen(out, panel, pen)?;
+                pen = new_pen();
+            }
+        }
+    }
+    put_pen(out, panel, pen)
+}
+
+fn put_box<A: Allocator>(
+    out: &mut Vec<u8, A>,
+    top: f64,
+    from: f64,
+    to: f64,
+) -> Result<(), AllocError> {
+    put(out, "M")?;
+    put_tenths(out, from)?;
+    put(out, " ")?;
+    put_tenths(out, top + 2.0)?;
+    put(out, "H")?;
+    put_tenths(out, if to < from + 0.5 { from + 0.5 } else { to })?;
+    put(out, "v12H")?;
+    put_tenths(out, from)?;
+    put(out, "z")
+}
+
+/// Where a bar begins: where it began, else here.
+fn first_of(begun: Option<f64>, x: f64) -> f64 {
+    match begun {
+        Some(from) => from,
+        None => x,
+    }
+}
+
+/// The bars of a contact, from each row in which its bit is 1 to the next in which it is 0.
+pub(crate) fn put_bar<A: Allocator>(
+    out: &mut Vec<u8, A>,
+    rows: &[Row<A>],
+    times: &[Option<i64>],
+    trigger: i64,
+    frame: Frame,
+    top: f64,
+    channel: usize,
+) -> Result<(), AllocError> {
+    let mut begun = None;
+    let mut last = RIGHT;
+    for (i, row) in rows.iter().enumerate() {
+        if let Some(x) = place_of(times, i, trigger, frame) {
+            last = x;
+            if bit_at(row, channel) {
+                begun = Some(first_of(begun, x));
+            } else if let Some(from) = begun {
+                put_box(out, top, from, x)?;
+                begun = None;
+            }
+        }
+    }
+    match begun {
+        Some(from) => put_box(out, top, from, last),
+        None => Ok(()),
+    }
+}

@@ -1,0 +1,64 @@
+//! What is said of a pair of files.
+
+use crate::check::{Pair, check_over, put_fault};
+use crate::csv::csv_over;
+use crate::fault::ToolFault;
+use crate::plot::plot_over;
+use crate::show::show_over;
+use comtrade_pairs::Fault;
+use comtrade_read::{ReadFault, read};
+use comtrade_write::File;
+use std::alloc::Allocator;
+use std::io::Write;
+
+/// What is said of a pair.
+#[derive(Clone, Copy, Debug, PartialEq, Eq)]
+pub enum View {
+    /// What is in it.
+    Show,
+    /// Its first fault.
+    Check,
+    /// Its rows as comma-separated values.
+    Csv,
+    /// A picture of it.
+    Plot,
+}
+
+/// The file that a pair reads to; None where it has a fault, whose line is put to `said`.
+fn file_in<A: Allocator + Copy>(
+    alloc: A,
+    pair: Pair<'_>,
+    said: &mut Vec<u8, A>,
+) -> Result<Option<File<A>>, ToolFault> {
+    match read(alloc, pair.cfg, pair.dat) {
+        Ok(file) => Ok(Some(file)),
+        Err((_, ReadFault::Memory)) => Err(ToolFault::Memory),
+        Err((part, fault)) => {
+            put_fault(alloc, said, pair, Fault { part, fault })?;
+            Ok(None)
+        }
+    }
+}
+
+/// Prints what is asked of a pair: false where it has a fault. The fault's line is what `Check` prints; the others put it to
+/// `said` and print nothing.
+pub fn view_over<A: Allocator + Copy, W: Write>(
+    alloc: A,
+    view: View,
+    pair: Pair<'_>,
+    w: &mut W,
+    said: &mut Vec<u8, A>,
+) -> Result<bool, ToolFault> {
+    if view == View::Check {
+        return check_over(alloc, pair, w);
+    }
+    let Some(file) = file_in(alloc, pair, said)? else {
+        return Ok(false);
+    };
+    match view {
+        View::Csv => csv_over(alloc, &file, w)?,
+        View::Plot => plot_over(alloc, &file, w)?,
+        _ => show_over(alloc, &file, w)?,
+    }
+    Ok(true)
+}
