@@ -4,7 +4,8 @@ ghost use Rattle.std.specs.Prelude.{◌≡◌, IfOk, true, false};
 ghost use Rattle.comtrade_pairs.specs.Verdicts.{IsFile};
 ghost use Rattle.comtrade_read.specs.Pair.{IsNoFile};
 
-use crate::describe::{put_cfg_fault, put_dat_fault};
+use crate::describe::put_cfg_fault;
+use crate::describe_data::put_dat_fault;
 use crate::fault::ToolFault;
 use crate::names::Counts;
 use crate::output::write_out;

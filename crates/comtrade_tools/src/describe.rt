@@ -1,15 +1,13 @@
 //! A fault of a pair of files in words: the line, the field's name, what stood there, what is wanted.
 
-use crate::names::{
-    Counts, Place, field_at, fields_wanted, place_at, place_name, row_field, type_line,
-};
+use crate::names::{Counts, Place, field_at, fields_wanted, place_at, place_name, type_line};
 use crate::text::{put, put_count, put_number, put_quoted, put_with};
 use comtrade_read::ReadFault;
 use dfr_channels::{fields_of, integer_of, lines_of, without_blank_end};
 use std::alloc::{AllocError, Allocator};
 
 /// The line with this number from 1, empty where there is none.
-fn line_at<'a>(lines: &[&'a [u8]], line: u64) -> &'a [u8] {
+pub(crate) fn line_at<'a>(lines: &[&'a [u8]], line: u64) -> &'a [u8] {
     let Ok(at) = usize::try_from(line.saturating_sub(1)) else {
         return b"";
     };
@@ -62,7 +60,10 @@ fn counts_in<A: Allocator + Copy>(alloc: A, lines: &[&[u8]]) -> Result<Counts, A
     })
 }
 
-fn put_place<A: Allocator>(out: &mut Vec<u8, A>, place: Place) -> Result<(), AllocError> {
+pub(crate) fn put_place<A: Allocator>(
+    out: &mut Vec<u8, A>,
+    place: Place,
+) -> Result<(), AllocError> {
     let (name, number) = place_name(place);
     match number {
         Some(n) => put_with(out, name, n),
@@ -91,7 +92,7 @@ fn put_wanted<A: Allocator>(
 }
 
 /// A field that can't be read.
-fn put_field<A: Allocator + Copy>(
+pub(crate) fn put_field<A: Allocator + Copy>(
     alloc: A,
     out: &mut Vec<u8, A>,
     text: &[u8],
@@ -107,7 +108,7 @@ fn put_field<A: Allocator + Copy>(
 }
 
 /// Another number of fields than is wanted.
-fn put_field_count<A: Allocator + Copy>(
+pub(crate) fn put_field_count<A: Allocator + Copy>(
     alloc: A,
     out: &mut Vec<u8, A>,
     text: &[u8],
@@ -240,103 +241,6 @@ pub(crate) fn put_cfg_fault<A: Allocator + Copy>(
         place_at(counts, line),
         fault,
     )
-}
-
-/// How many bytes a row of a binary data file has.
-fn row_size(counts: Counts) -> u64 {
-    let groups = counts.status.saturating_add(15) / 16;
-    counts
-        .analog
-        .saturating_add(groups)
-        .saturating_mul(2)
-        .saturating_add(8)
-}
-
-/// A binary data file of another size.
-fn put_length<A: Allocator>(
-    out: &mut Vec<u8, A>,
-    counts: Counts,
-    rows: u64,
-    size: usize,
-) -> Result<(), AllocError> {
-    put_count(out, size as u64, " byte stands", " bytes stand")?;
-    let wanted = rows.saturating_mul(row_size(counts));
-    put_with(out, " there; wanted are ", wanted)?;
-    put(out, ": ")?;
-    put_count(out, rows, " row of ", " rows of ")?;
-    put_count(out, row_size(counts), " byte", " bytes")
-}
-
-/// A row that can't be read.
-fn put_row<A: Allocator + Copy>(
-    alloc: A,
-    out: &mut Vec<u8, A>,
-    counts: Counts,
-    row: u64,
-    text: &[u8],
-    fault: ReadFault,
-) -> Result<(), AllocError> {
-    put_with(out, "line ", row)?;
-    match fault {
-        ReadFault::Number(_, field) => {
-            let (named, place) = row_field(counts, field);
-            match place {
-                Place::After => {}
-                _ => {
-                    put(out, " (")?;
-                    put_place(out, place)?;
-                    put(out, ")")?;
-                }
-            }
-            put_field(alloc, out, text, field, named)
-        }
-        _ => {
-            let wanted = counts
-                .analog
-                .saturating_add(counts.status)
-                .saturating_add(2);
-            let names =
-                "row number, time stamp, a sample for each analogue channel, a bit for each status channel";
-            put_field_count(alloc, out, text, wanted, names)
-        }
-    }
-}
-
-/// The rows that a configuration file says there are.
-fn put_rows<A: Allocator>(
-    out: &mut Vec<u8, A>,
-    line: u64,
-    rows: u64,
-    stands: &str,
-) -> Result<(), AllocError> {
-    put_with(out, "line ", line)?;
-    put(out, stands)?;
-    put(out, "; wanted are ")?;
-    put_count(out, rows, " row", " rows")?;
-    put(out, ", as the configuration file says")
-}
-
-/// A fault of a data file, whose configuration file says so many channels and rows.
-pub(crate) fn put_dat_fault<A: Allocator + Copy>(
-    alloc: A,
-    out: &mut Vec<u8, A>,
-    counts: Counts,
-    rows: u64,
-    dat: &[u8],
-    fault: ReadFault,
-) -> Result<(), AllocError> {
-    let line = match fault {
-        ReadFault::Missing(line) => {
-            return put_rows(out, line, rows, ": the file ends before this line");
-        }
-        ReadFault::Extra(line) => {
-            return put_rows(out, line, rows, ": stands after the last row");
-        }
-        ReadFault::Fields(line) | ReadFault::Number(line, _) => line,
-        _ => return put_length(out, counts, rows, dat.len()),
-    };
-    let lines = lines_of(alloc, dat)?;
-    put_row(alloc, out, counts, line, line_at(&lines, line), fault)
 }
 
 /// `line 3 (analogue channel 1), field 2 (id): "IA" stands there`, of a configuration file that can be read.

@@ -3,26 +3,27 @@
 use crate::check::kind_name;
 use crate::fault::ToolFault;
 use crate::instant::{put_instant, put_millis};
-use crate::number::{put_decimal, put_value, rounded, scale_of, value_of};
+use crate::number::put_decimal;
 use crate::output::write_out;
-use crate::peaks::{Peak, bit_at, peaks_of, reading_at};
-use crate::table::{end_cell, end_row, put_cell, put_table};
-use crate::text::{put, put_count, put_number, put_safe, put_signed, put_with};
+use crate::peaks::{peaks_of, reading_at};
+use crate::show_analog::put_analog;
+use crate::show_status::{LISTED, put_more, put_status};
+use crate::text::{put, put_count, put_safe, put_with};
 use crate::times::{since_trigger, times_of, trigger_nanos};
 use comtrade_write::{File, Head, Rate, Row};
-use dfr_channels::{AnalogChannel, Reading, Side, StatusChannel};
+use dfr_channels::Reading;
 use std::alloc::{AllocError, Allocator};
 use std::io::Write;
 
 /// When the rows were taken, in nanoseconds since the first instant, and when the trigger was.
 #[derive(Clone, Copy)]
-struct Clock<'a> {
-    times: &'a [Option<i64>],
-    trigger: i64,
+pub(crate) struct Clock<'a> {
+    pub(crate) times: &'a [Option<i64>],
+    pub(crate) trigger: i64,
 }
 
 /// When a row was taken, in milliseconds since the trigger.
-fn put_row_time<A: Allocator>(
+pub(crate) fn put_row_time<A: Allocator>(
     out: &mut Vec<u8, A>,
     clock: Clock<'_>,
     row: usize,
@@ -108,226 +109,6 @@ fn put_top<A: Allocator>(
     put_instants(out, &file.head, clock.trigger)?;
     put_rates(out, &file.head)?;
     put_data(out, file, clock)
-}
-
-fn put_text_cell<A: Allocator>(table: &mut Vec<u8, A>, text: &[u8]) -> Result<(), AllocError> {
-    put_safe(table, text)?;
-    end_cell(table)
-}
-
-/// Number, id, phase and component.
-fn put_names<A: Allocator>(
-    table: &mut Vec<u8, A>,
-    n: usize,
-    id: &[u8],
-    phase: &[u8],
-    component: &[u8],
-) -> Result<(), AllocError> {
-    put_number(table, n as u64)?;
-    end_cell(table)?;
-    put_text_cell(table, id)?;
-    put_text_cell(table, phase)?;
-    put_text_cell(table, component)
-}
-
-/// Unit, a, b, range, ratio and side.
-fn put_scale<A: Allocator>(
-    table: &mut Vec<u8, A>,
-    channel: &AnalogChannel<A>,
-) -> Result<(), AllocError> {
-    put_text_cell(table, channel.unit.items())?;
-    put_decimal(table, channel.a)?;
-    end_cell(table)?;
-    put_decimal(table, channel.b)?;
-    end_cell(table)?;
-    put_signed(table, channel.min as i64)?;
-    put(table, " to ")?;
-    put_signed(table, channel.max as i64)?;
-    end_cell(table)?;
-    put_decimal(table, channel.primary)?;
-    put(table, ":")?;
-    put_decimal(table, channel.secondary)?;
-    end_cell(table)?;
-    put_cell(
-        table,
-        match channel.side {
-            Side::Primary => "primary",
-            Side::Secondary => "secondary",
-        },
-    )
-}
-
-/// A channel's value at a peak, and when it was.
-fn put_peak<A: Allocator>(
-    table: &mut Vec<u8, A>,
-    clock: Clock<'_>,
-    channel: &AnalogChannel<A>,
-    peak: Peak,
-) -> Result<(), AllocError> {
-    put_value(table, rounded(value_of(scale_of(channel), peak.sample)))?;
-    end_cell(table)?;
-    put_row_time(table, clock, peak.row)?;
-    end_cell(table)
-}
-
-/// The least and the greatest value, and how many readings are missing.
-fn put_peaks<A: Allocator>(
-    table: &mut Vec<u8, A>,
-    rows: &[Row<A>],
-    clock: Clock<'_>,
-    channel: &AnalogChannel<A>,
-    at: usize,
-) -> Result<(), AllocError> {
-    let peaks = peaks_of(rows, at);
-    match peaks.extremes {
-        None => put(table, "\x1F\x1F\x1F\x1F")?,
-        Some((least, greatest)) => {
-            let (low, high) = if channel.a.units() < 0 {
-                (greatest, least)
-            } else {
-                (least, greatest)
-            };
-            put_peak(table, clock, channel, low)?;
-            put_peak(table, clock, channel, high)?;
-        }
-    }
-    put_number(table, peaks.missing)?;
-    end_row(table)
-}
-
-/// The analogue channels.
-fn put_analog<A: Allocator + Copy>(
-    alloc: A,
-    out: &mut Vec<u8, A>,
-    file: &File<A>,
-    clock: Clock<'_>,
-) -> Result<(), AllocError> {
-    let channels = file.head.analog.items();
-    put(out, "\n")?;
-    put_count(
-        out,
-        channels.len() as u64,
-        " analogue channel",
-        " analogue channels",
-    )?;
-    put(
-        out,
-        "; values are a*x + b, times are ms since the trigger\n",
-    )?;
-    let mut table = Vec::new(alloc);
-    put(
-        &mut table,
-        "n\x1Fid\x1Fphase\x1Fcomponent\x1Funit\x1Fa\x1Fb\x1Frange\x1Fratio\x1Fside\x1Fleast\x1Fat\x1Fgreatest\x1Fat\x1Fmissing\n",
-    )?;
-    for (i, channel) in channels.iter().enumerate() {
-        put_names(
-            &mut table,
-            i.saturating_add(1),
-            channel.id.items(),
-            channel.phase.items(),
-            channel.component.items(),
-        )?;
-        put_scale(&mut table, channel)?;
-        put_peaks(&mut table, file.rows.items(), clock, channel, i)?;
-    }
-    put_table(alloc, out, &table)
-}
-
-/// How many changes of a contact, and gaps of a channel, are listed.
-const LISTED: u64 = 20;
-
-/// A change of a contact.
-fn put_change<A: Allocator>(
-    table: &mut Vec<u8, A>,
-    clock: Clock<'_>,
-    row: usize,
-    bit: bool,
-    n: u64,
-) -> Result<(), AllocError> {
-    if n != 0 {
-        put(table, ", ")?;
-    }
-    put(table, if bit { "1 at " } else { "0 at " })?;
-    put_row_time(table, clock, row)
-}
-
-/// What stands after the listed ones.
-fn put_more<A: Allocator>(out: &mut Vec<u8, A>, count: u64) -> Result<(), AllocError> {
-    if LISTED < count {
-        put_with(out, " and ", count.saturating_sub(LISTED))?;
-        put(out, " more")?;
-    }
-    Ok(())
-}
-
-/// A contact's bit in the first row, and its changes.
-fn put_changes<A: Allocator>(
-    table: &mut Vec<u8, A>,
-    rows: &[Row<A>],
-    clock: Clock<'_>,
-    at: usize,
-) -> Result<(), AllocError> {
-    let mut count = 0u64;
-    let mut before = None;
-    for (i, row) in rows.iter().enumerate() {
-        let bit = bit_at(row, at);
-        if before.is_none() {
-            put_cell(table, if bit { "1" } else { "0" })?;
-        } else if before != Some(bit) {
-            if count < LISTED {
-                put_change(table, clock, i, bit, count)?;
-            }
-            count = count.saturating_add(1);
-        }
-        before = Some(bit);
-    }
-    put_more(table, count)?;
-    end_row(table)
-}
-
-fn put_contact<A: Allocator>(
-    table: &mut Vec<u8, A>,
-    channel: &StatusChannel<A>,
-    n: usize,
-) -> Result<(), AllocError> {
-    put_names(
-        table,
-        n,
-        channel.id.items(),
-        channel.phase.items(),
-        channel.component.items(),
-    )?;
-    put_cell(table, if channel.normal { "1" } else { "0" })
-}
-
-/// The status channels.
-fn put_status<A: Allocator + Copy>(
-    alloc: A,
-    out: &mut Vec<u8, A>,
-    file: &File<A>,
-    clock: Clock<'_>,
-) -> Result<(), AllocError> {
-    let channels = file.head.status.items();
-    put(out, "\n")?;
-    put_count(
-        out,
-        channels.len() as u64,
-        " status channel\n",
-        " status channels\n",
-    )?;
-    if channels.is_empty() {
-        return Ok(());
-    }
-    let mut table = Vec::new(alloc);
-    put(
-        &mut table,
-        "n\x1Fid\x1Fphase\x1Fcomponent\x1Fnormal\x1Fat first\x1Fchanges\n",
-    )?;
-    for (i, channel) in channels.iter().enumerate() {
-        put_contact(&mut table, channel, i.saturating_add(1))?;
-        put_changes(&mut table, file.rows.items(), clock, i)?;
-    }
-    put_table(alloc, out, &table)
 }
 
 /// A run of rows in which a reading is missing.
