@@ -1,5 +1,7 @@
 //! Writing and reading the files of one record.
 
+ghost use Rattle.std.specs.Prelude.{◌+◌, ◌<◌, length};
+
 use crate::clock::{Amount, Least, now};
 use crate::numbers::Numbers;
 use crate::station::recorder;
@@ -51,7 +53,9 @@ fn read_rows<R: Clock + AllocGlobal>(
     head: Head,
     dat: &[u8],
     least: &mut Least,
-) -> Result<()> {
+) -> Result<()>
+    requires { length head.analog + length head.status < 1000000 }
+{
     let start = now(rt)?;
     let read = read_dat(rt.alloc(), head, dat);
     let time = start.elapsed(rt);
