@@ -1,7 +1,7 @@
 //! Cutting the records out of what a replay printed.
 
-use crate::main::{complain, read_named, say};
 use crate::write::write_named;
+use crate::{complain, read_named, say};
 use comtrade_tools::{Next, Printed, ToolFault, fault_of, next_record, put_safe};
 use std::fs;
 use std::rt::Files;

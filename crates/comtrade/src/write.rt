@@ -1,6 +1,6 @@
 //! Writing pairs of files that are not there yet.
 
-use crate::main::{complain, pair_of, read_inputs, say};
+use crate::{complain, pair_of, read_inputs, say};
 use comtrade_pairs::{ConvertFault, converted};
 use comtrade_tools::{Pair, ToolFault, fault_of, put_fault, put_refusal, write_out};
 use comtrade_write::Kind;
