@@ -1,4 +1,4 @@
-//! Numbers of a pair: a decimal, a scaled sample, as text and as the nearest float.
+//! Numbers of a pair: a decimal and a scaled sample, as text and as a float near to it.
 
 use dfr_channels::{AnalogChannel, Decimal};
 use itoa::Buffer;
