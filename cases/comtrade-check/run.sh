@@ -1,0 +1,35 @@
+# the first fault of a pair in words: the first configuration with one line replaced, then other pairs, with the status of each
+folder=$(mktemp -d)
+trap 'rm -r "$folder"' EXIT
+checked() {
+    "$comtrade" check "$@" | sed "s|$folder/||"
+    echo "status ${PIPESTATUS[0]}"
+}
+tried() {
+    { head -n "$(($1 - 1))" files/first.cfg; printf '%b\r\n' "$2"; tail -n "+$(($1 + 1))" files/first.cfg; } > "$folder/cfg"
+    checked "$folder/cfg" files/first.dat
+}
+rows() {
+    printf '%b' "$1" > "$folder/dat"
+    checked files/first.cfg "$folder/dat"
+}
+. <(grep '^tried' read-cfg-faults/run.sh)
+tried 1 'Bay\0033[31m,DFR,\0033[2J'
+checked files/first.cfg files/first.dat
+checked files/lenient.cfg files/binary.dat
+checked files/counts.cfg files/first.dat
+checked /dev/null files/first.dat
+checked files/first.cfg files/cut.dat
+checked files/first.cfg /dev/null
+checked files/binary.cfg files/first.dat
+checked files/gaps.cfg files/gaps.dat
+rows '1,0,11\n2,1000\n'
+rows '1,0,11\n2,1000,100000\n'
+rows '1,0,x11111111111111111111111111111111111111111111111111111111111\n'
+rows 'x,0,11\n'
+rows '1,-1,11\n'
+rows '1,0,1\n2,0,2\n3,0,3\n4,0,4\n5,0,5\n6,0,6\n'
+sed '1s/,0,1$/,2,1/' files/gaps.dat > "$folder/dat"
+checked files/gaps.cfg "$folder/dat"
+sed '1s/,0,1$/,0,2/' files/gaps.dat > "$folder/dat"
+checked files/gaps.cfg "$folder/dat"

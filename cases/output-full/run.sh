@@ -1,0 +1,2 @@
+# a device that takes no byte
+"$dfr" < first/in > /dev/full
