@@ -14,10 +14,11 @@ use Rattle.dfr_recorder.specs.Parts.{RecordParts}
 use Rattle.dfr_recorder.specs.Steps as step
 use Rattle.dfr_recorder.specs.Answers as answers
 use Rattle.dfr_recorder.specs.Marks.{mark, mark_if, scanned}
-use Rattle.dfr_recorder.specs.History.{newest, refusal, refused_when_full}
+use Rattle.dfr_recorder.specs.History.{refusal, lost_refusal, lost_scan, refused_when_full}
 use Rattle.dfr_recorder.specs.Kept.{Kept, latest}
-use Rattle.dfr_recorder.specs.Recording.{longer_if, unless_last, if_last}
-use Rattle.dfr_recorder.proofs.Next.{next_scan, next_trigger, told_of_scan, told_of_trigger, met, marked, accepted, after_mark, fired, fired_mark}
+use Rattle.dfr_recorder.specs.Recording.{longer_if, unless_last, if_last, met, accepted, after_mark, fired_mark, IsAccepted}
+use Rattle.dfr_recorder.proofs.Next.{next_scan, next_lost, next_trigger, told_of_scan, told_of_lost, told_of_trigger, marked, fired, lost}
+use Rattle.dfr_recorder.proofs.Slices.{newest_get}
 use Rattle.dfr_recorder.proofs.Told.{IsMade}
 
 -- the front of a queue, and what is behind it
@@ -44,34 +45,42 @@ trigger_body k old j before m recording r v at met_is mark_is recording_is r_is 
       next = ap (next_trigger k) at ∙ ap (λ (q : Marked). marked k q.opened q.extent) is ∙ ap (λ q. record k { opened = m.opened; recording = q }) (sym recording_is);
     })
 
-newest-get : {X : Type 0} (xs : List X) → newest xs ≡ slice_get xs (length xs - 1)
-newest-get [] = refl
-newest-get (x ∷ []) = refl
-newest-get (x ∷ y ∷ xs) =
-    let a : length (x ∷ y ∷ xs) - 1 ≡ suc (length (y ∷ xs) - 1) = omega arith in
-    newest-get (y ∷ xs) ∙ sym (ap (λ i. slice_get (x ∷ y ∷ xs) i) a)
-
--- what a scan does, from the back of the ring
-pub fired_is : (k : Kept) (x : ScanParts) (f : Option ℕ) (before : Met) (m : MarkedIf)
-    → f ≡ lowest_holding (slice_get k.ring (length k.ring - 1)) x k.rules → before ≡ met k → m ≡ mark_if k.limits k.scans f before → fired_mark k (fired k x) ≡ m
-fired_is k x f before m f_is met_is mark_is =
-    ap (λ b. fired_mark k (lowest_holding b x k.rules)) (newest-get k.ring) ∙ sym (mark_is ∙ ap (λ q. mark_if k.limits k.scans q before) f_is ∙ ap (mark_if k.limits k.scans (lowest_holding (slice_get k.ring (length k.ring - 1)) x k.rules)) met_is)
-
 accepted_body : (k : Kept) (x : ScanParts) (m : MarkedIf) (longer recording : Option RecordParts) (shelf : List RecordParts) (ring : List ScanParts)
     → longer ≡ longer_if x (after_mark k m.extent) → recording ≡ unless_last k.scans longer → shelf ≡ k.shelf ++ if_last k.scans longer → ring ≡ latest (k.limits.pre + 1) (k.ring ++ x ∷ [])
     → accepted k x m ≡ record k { scans = k.scans + 1; ring = ring; opened = m.opened; recording = recording; shelf = shelf }
 accepted_body k x m longer recording shelf ring longer_is recording_is shelf_is ring_is = rw (recording_is, shelf_is, ring_is, longer_is) refl
 
-pub scan_body : (k old : Kept) (x : ScanParts) (f : Option ℕ) (before : Met) (m : MarkedIf) (longer recording : Option RecordParts) (shelf : List RecordParts) (ring : List ScanParts) (s : Scanned)
-    → k ≡ old → refusal k.layout k.scans x ≡ None
-    → f ≡ lowest_holding (slice_get k.ring (length k.ring - 1)) x k.rules → before ≡ met k → m ≡ mark_if k.limits k.scans f before
+pub accept_body : (k old : Kept) (x : ScanParts) (f : Option ℕ) (before : Met) (m : MarkedIf) (longer recording : Option RecordParts) (shelf : List RecordParts) (ring : List ScanParts) (s : Scanned)
+    → k ≡ old → before ≡ met k → m ≡ mark_if k.limits k.scans f before
     → longer ≡ longer_if x (after_mark k m.extent) → recording ≡ unless_last k.scans longer → shelf ≡ k.shelf ++ if_last k.scans longer
     → ring ≡ latest (k.limits.pre + 1) (k.ring ++ x ∷ []) → s ≡ scanned k.scans m
-    → IsMade old (step.Scan x) (answers.Scan (Ok s)) (record k { scans = k.scans + 1; ring = ring; opened = m.opened; recording = recording; shelf = shelf })
-scan_body k old x f before m longer recording shelf ring s v ok f_is met_is mark_is longer_is recording_is shelf_is ring_is s_is =
-    let is = fired_is k x f before m f_is met_is mark_is in
+    → IsAccepted old x f s (record k { scans = k.scans + 1; ring = ring; opened = m.opened; recording = recording; shelf = shelf })
+accept_body k old x f before m longer recording shelf ring s v met_is mark_is longer_is recording_is shelf_is ring_is s_is =
+    let is : fired_mark k f ≡ m = sym (mark_is ∙ ap (mark_if k.limits k.scans f) met_is) in
     let new : Kept = record k { scans = k.scans + 1; ring = ring; opened = m.opened; recording = recording; shelf = shelf } in
+    subst (λ (q : Kept). IsAccepted q x f s new) v
+    (ap (scanned k.scans) is ∙ sym s_is, ap (accepted k x) is ∙ accepted_body k x m longer recording shelf ring longer_is recording_is shelf_is ring_is)
+
+-- the rule that a scan fires, from the back of the ring
+pub fired_is : (k : Kept) (x : ScanParts) (f : Option ℕ) → f ≡ lowest_holding (slice_get k.ring (length k.ring - 1)) x k.rules → fired k x ≡ f
+fired_is k x f f_is = ap (λ b. lowest_holding b x k.rules) (newest_get k.ring) ∙ sym f_is
+
+pub scan_body : (k old new : Kept) (x : ScanParts) (f : Option ℕ) (s : Scanned) → k ≡ old → refusal k.layout k.scans x ≡ None
+    → f ≡ lowest_holding (slice_get k.ring (length k.ring - 1)) x k.rules → IsAccepted old x f s new → IsMade old (step.Scan x) (answers.Scan (Ok s)) new
+scan_body k old new x f s v ok f_is done =
+    let is = fired_is k x f f_is in
+    let h : IsAccepted k x f s new = subst (λ (q : Kept). IsAccepted q x f s new) (sym v) done in
     subst (λ (q : Kept). IsMade q (step.Scan x) (answers.Scan (Ok s)) new) v (record {
-      told = ap (λ r. answers.Scan (told_of_scan k x r)) ok ∙ ap (λ q. answers.Scan (Ok (scanned k.scans q))) is ∙ ap (λ q. answers.Scan (Ok q)) (sym s_is);
-      next = ap (next_scan k x) ok ∙ ap (accepted k x) is ∙ accepted_body k x m longer recording shelf ring longer_is recording_is shelf_is ring_is;
+      told = ap (λ r. answers.Scan (told_of_scan k x r)) ok ∙ ap (λ g. answers.Scan (Ok (scanned k.scans (fired_mark k g)))) is ∙ ap (λ q. answers.Scan (Ok q)) h.0;
+      next = ap (next_scan k x) ok ∙ ap (λ g. accepted k x (fired_mark k g)) is ∙ h.1;
+    })
+
+pub lost_body : (k old new : Kept) (x : ScanParts) (s : Scanned) → k ≡ old → lost_refusal k.layout k.scans ≡ None
+    → x ≡ lost_scan k.layout (slice_get k.ring (length k.ring - 1)) → IsAccepted old x None s new → IsMade old step.Lost (answers.Lost (Ok s)) new
+lost_body k old new x s v ok x_is done =
+    let is : lost k ≡ x = ap (lost_scan k.layout) (newest_get k.ring) ∙ sym x_is in
+    let h : IsAccepted k x None s new = subst (λ (q : Kept). IsAccepted q x None s new) (sym v) done in
+    subst (λ (q : Kept). IsMade q step.Lost (answers.Lost (Ok s)) new) v (record {
+      told = ap (λ r. answers.Lost (told_of_lost k r)) ok ∙ ap (λ q. answers.Lost (Ok q)) h.0;
+      next = ap (next_lost k) ok ∙ ap (λ q. accepted k q (fired_mark k None)) is ∙ h.1;
     })

@@ -11,15 +11,16 @@ use Rattle.dfr_recorder.specs.declared.record.Cause.{Cause}
 use Rattle.dfr_recorder.specs.declared.record.Cause.TheVariants as cause
 use Rattle.dfr_recorder.specs.declared.record.Extent.{Extent}
 use Rattle.dfr_recorder.specs.declared.step.ScanRefusal.{ScanRefusal}
+use Rattle.dfr_recorder.specs.declared.step.LostRefusal.{LostRefusal}
 use Rattle.dfr_recorder.specs.Steps.{StepParts}
 use Rattle.dfr_recorder.specs.Steps as step
 use Rattle.dfr_recorder.specs.Parts.{RecordParts}
 use Rattle.dfr_recorder.specs.Marks.{mark, mark_if}
 use Rattle.dfr_recorder.specs.History as history
-use Rattle.dfr_recorder.specs.History.{Opening, Past, past, after, after_scan, after_trigger, fires, refusal, count, open_at, open_one, ended_at, ended, closed, records, record_of}
+use Rattle.dfr_recorder.specs.History.{Opening, Past, past, after, after_scan, after_lost, after_trigger, fires, refusal, lost_refusal, lost_scan, newest, count, open_at, open_one, ended_at, ended, closed, records, record_of}
 use Rattle.dfr_recorder.specs.Kept.{kept, kept_of, latest}
-use Rattle.dfr_recorder.specs.Recording.{extent_of, placed_if, longer, longer_if, unless_last, if_last}
-use Rattle.dfr_recorder.proofs.Next.{next, next_scan, next_trigger, met, marked, accepted, fired, fired_mark}
+use Rattle.dfr_recorder.specs.Recording.{extent_of, placed_if, longer, longer_if, unless_last, if_last, met, accepted, fired_mark}
+use Rattle.dfr_recorder.proofs.Next.{next, next_scan, next_lost, next_trigger, marked, fired}
 use Rattle.dfr_recorder.proofs.Slices.{latest-from, latest-push, range-push, range-so_far, newest-latest}
 
 -- all their scans have come
@@ -248,6 +249,10 @@ good-scan_if : (limits : Limits) (p : Past) (x : ScanParts) (r : Option ScanRefu
 good-scan_if limits p x (Some refusal) good = good
 good-scan_if limits p x None good = good-scan limits p x (fires p x) good
 
+good-lost : (limits : Limits) (p : Past) (x : ScanParts) (r : Option LostRefusal) → Good limits p → Good limits (after_lost limits p x r)
+good-lost limits p x (Some refusal) good = good
+good-lost limits p x None good = good-scan limits p x None good
+
 good-take : (limits : Limits) (p : Past) → Good limits p → Good limits (record p { taken = cond (ltb p.taken (closed p)) (p.taken + 1) p.taken })
 good-take limits p good = elim (cases_lt p.taken (closed p)) [
   | inl lt ↦ let e : ltb p.taken (closed p) ≡ true = lt-ltb p.taken (closed p) lt in record { is = good.is; going = good.going; behind = rw e (omega arith) }
@@ -260,6 +265,7 @@ good-rules limits p rules false good = good
 
 good-after : (layout : SetupParts) (limits : Limits) (p : Past) (s : StepParts) → Good limits p → Good limits (after layout limits p s)
 good-after layout limits p (step.Scan scan) good = good-scan_if limits p scan (refusal layout (count p) scan) good
+good-after layout limits p step.Lost good = good-lost limits p (lost_scan layout (newest p.scans)) (lost_refusal layout (count p)) good
 good-after layout limits p step.Trigger good = good-by_hand limits p (count p) refl good
 good-after layout limits p step.Take good = good-take limits p good
 good-after layout limits p (step.SetRules rules) good = good-rules limits p rules (rules_fit layout rules) good
@@ -273,6 +279,14 @@ law-scan_if : (layout : SetupParts) (limits : Limits) (p : Past) (x : ScanParts)
     → kept_of layout limits (after_scan limits p x r) ≡ next_scan (kept_of layout limits p) x r
 law-scan_if layout limits p x (Some refusal) good = refl
 law-scan_if layout limits p x None good = law-scan layout limits p x (fires p x) good ∙ ap (accepted (kept_of layout limits p) x) (fired_mark-law layout limits p x)
+
+law-lost : (layout : SetupParts) (limits : Limits) (p : Past) (r : Option LostRefusal) → Good limits p
+    → kept_of layout limits (after_lost limits p (lost_scan layout (newest p.scans)) r) ≡ next_lost (kept_of layout limits p) r
+law-lost layout limits p (Some refusal) good = refl
+law-lost layout limits p None good =
+    law-scan layout limits p (lost_scan layout (newest p.scans)) None good
+    ∙ ap (λ m. accepted (kept_of layout limits p) (lost_scan layout (newest p.scans)) (mark_if limits (count p) None m)) (met-law layout limits p)
+    ∙ ap (λ b. accepted (kept_of layout limits p) (lost_scan layout b) (fired_mark (kept_of layout limits p) None)) (sym (newest-latest limits.pre p.scans))
 
 law-by_hand : (layout : SetupParts) (limits : Limits) (p : Past) (n : ℕ) → n ≡ count p → Good limits p
     → kept_of layout limits (after_trigger limits p n) ≡ next_trigger (kept_of layout limits p) n
@@ -300,6 +314,7 @@ law-rules layout limits p rules false = refl
 
 law-after : (layout : SetupParts) (limits : Limits) (p : Past) (s : StepParts) → Good limits p → kept_of layout limits (after layout limits p s) ≡ next (kept_of layout limits p) s
 law-after layout limits p (step.Scan scan) good = law-scan_if layout limits p scan (refusal layout (count p) scan) good
+law-after layout limits p step.Lost good = law-lost layout limits p (lost_refusal layout (count p)) good
 law-after layout limits p step.Trigger good = law-by_hand layout limits p (count p) refl good
 law-after layout limits p step.Take good = law-take layout limits p
 law-after layout limits p (step.SetRules rules) good = law-rules layout limits p rules (rules_fit layout rules)

@@ -13,15 +13,20 @@ use Rattle.dfr_recorder.specs.Steps.{StepParts}
 use Rattle.dfr_recorder.specs.Steps as step
 use Rattle.dfr_recorder.specs.Answers.{AnswerParts}
 use Rattle.dfr_recorder.specs.Answers as answers
-use Rattle.dfr_recorder.specs.History.{Opening, opening}
+use Rattle.dfr_recorder.specs.History.{Opening, opening, refusal}
 use Rattle.dfr_recorder.specs.Kept.{Kept, kept, kept_by, reply, latest}
+use Rattle.dfr_recorder.specs.Recording.{IsAccepted}
+use Rattle.dfr_recorder.specs.declared.step.Scanned.{Scanned}
 use Rattle.dfr_recorder.specs.Sound.{IsSound, IsClosed, IsOpenSound, Passes}
 use Rattle.dfr_recorder.proofs.Law.{core-law}
 use Rattle.dfr_recorder.proofs.Told.{IsMade, told-law}
-use Rattle.dfr_recorder.proofs.Sound.{sound_next}
+use Rattle.dfr_recorder.proofs.Sound.{sound_next, sound_accepted}
 
 pub sound_made : (k old : Kept) (s : StepParts) (a : AnswerParts) (new : Kept) → k ≡ old → IsMade old s a new → IsSound k → IsSound new
 sound_made k old s a new e m h = subst IsSound m.next (sound_next old s (subst IsSound e h))
+
+pub sound_taken_in : (k old : Kept) (x : ScanParts) (f : Option ℕ) (s : Scanned) (new : Kept) → k ≡ old → refusal old.layout old.scans x ≡ None → IsAccepted old x f s new → IsSound k → IsSound new
+sound_taken_in k old x f s new e ok m h = subst IsSound m.1 (sound_accepted old x f ok (subst IsSound e h))
 
 abbrev no_scans : List ScanParts
 no_scans = []

@@ -14,11 +14,11 @@ use Rattle.dfr_recorder.specs.declared.marks.MarkedIf.{MarkedIf}
 use Rattle.dfr_recorder.specs.Parts.{RecordParts}
 use Rattle.dfr_recorder.specs.Steps as step
 use Rattle.dfr_recorder.specs.Marks.{mark, mark_if}
-use Rattle.dfr_recorder.specs.History.{past, count, is_open, refusal}
+use Rattle.dfr_recorder.specs.History.{past, count, is_open, refusal, lost_refusal}
 use Rattle.dfr_recorder.specs.Kept.{Kept, kept}
-use Rattle.dfr_recorder.specs.Memory.{accepts, opens, GrowsRecord, OpensRecord}
-use Rattle.dfr_recorder.specs.Recording.{extent_of}
-use Rattle.dfr_recorder.proofs.Next.{next, next_scan, next_trigger, met, accepted, marked, fired, fired_mark}
+use Rattle.dfr_recorder.specs.Memory.{accepts, opens, GrowsRecord, AddsLost, OpensRecord}
+use Rattle.dfr_recorder.specs.Recording.{extent_of, met, accepted, fired_mark}
+use Rattle.dfr_recorder.proofs.Next.{next, next_scan, next_lost, next_trigger, lost, marked, fired}
 use Rattle.dfr_recorder.proofs.Law.{core-law}
 use Rattle.dfr_recorder.proofs.Body.{fired_is}
 use Rattle.dfr_recorder.proofs.Readers.{open_law}
@@ -39,10 +39,17 @@ fired-by : (k : Kept) (f : Option ℕ) → is_some (fired_mark k f).extent ≡ t
 fired-by k None some = rw some refl
 fired-by k (Some rule) some = mark-by k.limits k.scans k.opened (cause.Rule rule) (eqb (length k.shelf) k.limits.shelf) (extent_of k.recording) some
 
-pub grows_law : (k old : Kept) (x : ScanParts) (f : Option ℕ) (before : Met) (m : MarkedIf) → k ≡ old → refusal k.layout k.scans x ≡ None
-    → f ≡ lowest_holding (slice_get k.ring (length k.ring - 1)) x k.rules → before ≡ met k → m ≡ mark_if k.limits k.scans f before → is_some m.extent ≡ true → GrowsRecord old x
-grows_law k old x f before m v ok f_is met_is mark_is some o h e =
-    let is = fired_is k x f before m f_is met_is mark_is in
+pub finds_law : (k old : Kept) (f : Option ℕ) (before : Met) (m : MarkedIf) → k ≡ old → before ≡ met k → m ≡ mark_if k.limits k.scans f before → is_some m.extent ≡ true
+    → is_some (fired_mark old f).extent ≡ true
+finds_law k old f before m v met_is mark_is some =
+    ap (λ (q : Kept). is_some (fired_mark q f).extent) (sym v) ∙ ap (λ (q : MarkedIf). is_some q.extent) (sym (mark_is ∙ ap (mark_if k.limits k.scans f) met_is)) ∙ some
+
+pub grows_law : (k old : Kept) (x : ScanParts) (f : Option ℕ) → k ≡ old → refusal k.layout k.scans x ≡ None
+    → f ≡ lowest_holding (slice_get k.ring (length k.ring - 1)) x k.rules → is_some (fired_mark old f).extent ≡ true → GrowsRecord old x
+grows_law k old x f v ok f_is found_some o h e =
+    let some : is_some (fired_mark k f).extent ≡ true = ap (λ (q : Kept). is_some (fired_mark q f).extent) v ∙ found_some in
+    let m : MarkedIf = fired_mark k f in
+    let is : fired_mark k (fired k x) ≡ m = ap (fired_mark k) (fired_is k x f f_is) in
     let same : kept o h ≡ k = e ∙ sym v in
     let after : kept o (step.Scan x ∷ h) ≡ accepted k x m = core-law o h (step.Scan x) ∙ ap (λ k. next k (step.Scan x)) same ∙ ap (next_scan k x) ok ∙ ap (accepted k x) is in
     let was : count (past o h) ≡ k.scans = ap (λ (k : Kept). k.scans) same in
@@ -56,6 +63,14 @@ grows_law k old x f before m v ok f_is met_is mark_is some o h e =
     ∙ ap (λ (n : ℕ). is_some k.recording || ltb k.opened n) (ap (λ (k : Kept). k.opened) after)
     ∙ found in
     and_from _ _ taken_in meets
+
+pub adds_law : (k old : Kept) → k ≡ old → lost_refusal k.layout k.scans ≡ None → AddsLost old
+adds_law k old v ok o h e =
+    let same : kept o h ≡ k = e ∙ sym v in
+    let after : kept o (step.Lost ∷ h) ≡ accepted k (lost k) (fired_mark k None) = core-law o h step.Lost ∙ ap (λ k. next k step.Lost) same ∙ ap (next_lost k) ok in
+    let was : count (past o h) ≡ k.scans = ap (λ (k : Kept). k.scans) same in
+    let now : count (past o (step.Lost ∷ h)) ≡ k.scans + 1 = ap (λ (k : Kept). k.scans) after in
+    lt-ltb (count (past o h)) (count (past o (step.Lost ∷ h))) (omega (arith, was, now))
 
 pub opens_law : (k old : Kept) (j : ℕ) (before : Met) (m : Marked) → k ≡ old → k.scans ≡ suc j → before ≡ met k → m ≡ mark k.limits j cause.Manual before → k.recording ≡ None → is_some m.extent ≡ true → OpensRecord old
 opens_law k old j before m v at met_is mark_is none some o h e =

@@ -1,8 +1,8 @@
 -- What is sound stays sound over a step.
 use Rattle.std.proofs.Common.{ℕ, zero, suc, ◌≡◌, ◌+◌, ◌-◌, ◌<◌, ◌≤◌, inl, inr, refl, sym, ap, subst, ◌∙◌, Bool, true, false, cond, eqb, min, All, List, [], ◌∷◌, ◌++◌, length, drop, Option, Some, None, arith, length-append, length-drop}
-use Rattle.std.specs.Prelude.{IfSome, IsTrue}
+use Rattle.std.specs.Prelude.{IfSome, IsTrue, slice_get}
 use Rattle.std.proofs.lemmas.Bool.{cases_lt, eqb-true, eqb-false}
-use Rattle.std.proofs.lemmas.List.Elements.{All-nil, All-cons, All-push, All-append, All-drop}
+use Rattle.std.proofs.lemmas.List.Elements.{All-nil, All-cons, All-head, All-tail, All-push, All-append, All-drop}
 use Rattle.dfr_channels.specs.Parts.{SetupParts, ScanParts}
 use Rattle.dfr_channels.specs.declared.rule.Rule.{Rule}
 use Rattle.dfr_channels.specs.Firing.{rules_fit}
@@ -18,12 +18,14 @@ use Rattle.dfr_recorder.specs.Own.{has_instant}
 use Rattle.dfr_recorder.specs.Steps.{StepParts}
 use Rattle.dfr_recorder.specs.Steps as step
 use Rattle.dfr_recorder.specs.Marks.{mark, mark_if}
-use Rattle.dfr_recorder.specs.History.{refusal}
+use Rattle.dfr_recorder.specs.declared.step.LostRefusal.{LostRefusal}
+use Rattle.dfr_recorder.specs.History.{refusal, lost_refusal, lost_scan, newest}
 use Rattle.dfr_recorder.specs.Kept.{Kept, latest}
-use Rattle.dfr_recorder.specs.Recording.{extent_of, placed_if, longer, longer_if, unless_last, if_last}
+use Rattle.dfr_recorder.specs.Recording.{extent_of, placed_if, longer, longer_if, unless_last, if_last, met, after_mark, fired_mark, accepted}
 use Rattle.dfr_recorder.specs.Sound.{IsSound, IsGrowing, IsOpenSound, IsClosed, Passes}
-use Rattle.dfr_recorder.proofs.Next.{next, next_scan, next_trigger, met, accepted, after_mark, fired, fired_mark}
-use Rattle.dfr_recorder.proofs.Own.{accepted_law, own_record}
+use Rattle.dfr_recorder.proofs.Next.{next, next_scan, next_lost, next_trigger, fired, lost}
+use Rattle.dfr_recorder.proofs.Slices.{newest_get}
+use Rattle.dfr_recorder.proofs.Own.{accepted_law, lost_law, own_record}
 
 length-latest : {X : Type 0} (m : ℕ) (xs : List X) → length (latest m xs) ≡ min (length xs) m
 length-latest m xs = omega (arith, length-drop (length xs - m) xs)
@@ -123,8 +125,8 @@ timed-next layout n h now i lt = elim (cases_lt i n) [
   | inr not_less ↦ let at : n ≡ i = omega arith in subst (λ (k : ℕ). IsTrue (has_instant layout k)) at now
 ]
 
-sound-accepted : (k : Kept) (x : ScanParts) (f : Option ℕ) → refusal k.layout k.scans x ≡ None → IsSound k → IsSound (accepted k x (fired_mark k f))
-sound-accepted k x f ok h =
+pub sound_accepted : (k : Kept) (x : ScanParts) (f : Option ℕ) → refusal k.layout k.scans x ≡ None → IsSound k → IsSound (accepted k x (fired_mark k f))
+sound_accepted k x f ok h =
     let why = accepted_law k.layout k.scans x ok in
     let r : Option RecordParts = longer_if x (after_mark k (fired_mark k f).extent) in
     let a = added-is k.layout k.limits k.scans (fired_mark k f).opened (length k.shelf) x (after_mark k (fired_mark k f).extent) h.stamped why.1 why.0 (sound_fired k f h) in
@@ -141,7 +143,26 @@ sound-accepted k x f ok h =
 
 sound-scan : (k : Kept) (x : ScanParts) (r : Option ScanRefusal) → refusal k.layout k.scans x ≡ r → IsSound k → IsSound (next_scan k x r)
 sound-scan k x (Some refused) e h = h
-sound-scan k x None e h = sound-accepted k x (fired k x) e h
+sound-scan k x None e h = sound_accepted k x (fired k x) e h
+
+newest-passes : (layout : SetupParts) (ring : List ScanParts) → All (Passes layout) ring → IfSome (newest ring) (Passes layout)
+newest-passes layout [] h = tt
+newest-passes layout (x ∷ []) h = All-head (Passes layout) x [] h
+newest-passes layout (x ∷ y ∷ xs) h = newest-passes layout (y ∷ xs) (All-tail (Passes layout) x (y ∷ xs) h)
+
+pub lost_fits : (k : Kept) → IsSound k → lost_refusal k.layout k.scans ≡ None → refusal k.layout k.scans (lost k) ≡ None
+lost_fits k h e = lost_law k.layout k.scans (newest k.ring) (newest-passes k.layout k.ring h.pass) e
+
+-- what stands for a lost scan is accepted
+pub lost_taken_in : (k old : Kept) (x : ScanParts) → k ≡ old → IsSound k → lost_refusal k.layout k.scans ≡ None → x ≡ lost_scan k.layout (slice_get k.ring (length k.ring - 1))
+    → refusal old.layout old.scans x ≡ None
+lost_taken_in k old x v h e x_is =
+    let is : lost k ≡ x = ap (lost_scan k.layout) (newest_get k.ring) ∙ sym x_is in
+    subst (λ (q : Kept). refusal q.layout q.scans x ≡ None) v (subst (λ (y : ScanParts). refusal k.layout k.scans y ≡ None) is (lost_fits k h e))
+
+sound-lost : (k : Kept) (r : Option LostRefusal) → lost_refusal k.layout k.scans ≡ r → IsSound k → IsSound (next_lost k r)
+sound-lost k (Some refused) e h = h
+sound-lost k None e h = sound_accepted k (lost k) None (lost_fits k h e) h
 
 sound-trigger : (k : Kept) (n : ℕ) → k.scans ≡ n → IsSound k → IsSound (next_trigger k n)
 sound-trigger k zero e h = h
@@ -169,6 +190,7 @@ fewer-waiting layout limits n opened w v (Some r) le h =
 
 pub sound_next : (k : Kept) (s : StepParts) → IsSound k → IsSound (next k s)
 sound_next k (step.Scan x) h = sound-scan k x (refusal k.layout k.scans x) refl h
+sound_next k step.Lost h = sound-lost k (lost_refusal k.layout k.scans) refl h
 sound_next k step.Trigger h = sound-trigger k k.scans refl h
 sound_next k step.Take h = record {
   stamped = h.stamped;

@@ -1,7 +1,8 @@
 -- A history of steps, and what each step is answered after it. Every scan and every record stays here for ever.
-use Rattle.std.specs.Prelude.{ℕ, zero, suc, ◌+◌, ◌-◌, Bool, if◌then◌else◌, ◌==◌, nat_lt, nat_le, List, [], ◌∷◌, ◌++◌, length, slice_range, slice_get, Option, Some, None, is_some, option_map, option_to_list, Result, Ok, Err}
+use Rattle.std.specs.Prelude.{ℕ, zero, suc, ◌+◌, ◌-◌, Bool, if◌then◌else◌, ◌==◌, nat_lt, nat_le, List, [], ◌∷◌, ◌++◌, length, map, replicate, slice_range, slice_get, Option, Some, None, is_some, option_map, option_to_list, Result, Ok, Err}
 use Rattle.dfr_channels.specs.Faults.{◌or◌, fault_unless}
-use Rattle.dfr_channels.specs.Parts.{SetupParts, ScanParts}
+use Rattle.dfr_channels.specs.Parts.{SetupParts, StatusParts, ScanParts}
+use Rattle.dfr_channels.specs.declared.scan.Reading.TheVariants as reading
 use Rattle.dfr_channels.specs.declared.layout.ScanFault.{ScanFault}
 use Rattle.dfr_channels.specs.declared.layout.ScanFault.TheVariants as fault
 use Rattle.dfr_channels.specs.declared.rule.Rule.{Rule}
@@ -15,6 +16,8 @@ use Rattle.dfr_recorder.specs.declared.step.Hit.TheVariants.{Opened, Extended, A
 use Rattle.dfr_recorder.specs.declared.step.Scanned.{Scanned}
 use Rattle.dfr_recorder.specs.declared.step.ScanRefusal.{ScanRefusal}
 use Rattle.dfr_recorder.specs.declared.step.ScanRefusal.TheVariants as refused
+use Rattle.dfr_recorder.specs.declared.step.LostRefusal.{LostRefusal}
+use Rattle.dfr_recorder.specs.declared.step.LostRefusal.TheVariants as lost_refused
 use Rattle.dfr_recorder.specs.declared.step.TriggerFault.{TriggerFault}
 use Rattle.dfr_recorder.specs.declared.step.TriggerFault.TheVariants as trigger_refused
 use Rattle.dfr_recorder.specs.declared.record.Extent.{Extent}
@@ -55,6 +58,19 @@ refusal_of (fault.Range i) = refused.Range i
 -- why a scan is not accepted at place k
 abbrev pub refusal : SetupParts → ℕ → ScanParts → Option ScanRefusal
 refusal layout k scan = option_map refusal_of (scan_fault layout scan) or fault_unless (has_instant layout k) refused.ClockEnd
+
+-- why a lost scan is not accepted at place k
+abbrev pub lost_refusal : SetupParts → ℕ → Option LostRefusal
+lost_refusal layout k = fault_unless (has_instant layout k) lost_refused.ClockEnd
+
+-- the bits of the scan before, or each channel's normal state where there is none
+abbrev pub bits_after : SetupParts → Option ScanParts → List Bool
+bits_after layout None = map (λ (channel : StatusParts). channel.normal) layout.status
+bits_after layout (Some before) = before.status
+
+-- the scan that stands for a lost one: every reading is missing
+abbrev pub lost_scan : SetupParts → Option ScanParts → ScanParts
+lost_scan layout before = record { analog = replicate (length layout.analog) reading.Missing; status = bits_after layout before }
 
 -- the last item
 abbrev pub newest : {X : Type 0} → List X → Option X
@@ -112,6 +128,11 @@ abbrev pub after_scan : Limits → Past → ScanParts → Option ScanRefusal →
 after_scan limits p scan (Some refusal) = p
 after_scan limits p scan None = accepted limits p scan (fires p scan)
 
+-- after a lost scan, which never fires
+abbrev pub after_lost : Limits → Past → ScanParts → Option LostRefusal → Past
+after_lost limits p scan (Some refusal) = p
+after_lost limits p scan None = accepted limits p scan None
+
 -- after a trigger by hand, which has its place at the last of n scans
 abbrev pub after_trigger : Limits → Past → ℕ → Past
 after_trigger limits p zero = p
@@ -120,6 +141,7 @@ after_trigger limits p (suc k) = record p { extents = triggered limits p k cause
 -- after a step
 abbrev pub after : SetupParts → Limits → Past → StepParts → Past
 after layout limits p (step.Scan scan) = after_scan limits p scan (refusal layout (count p) scan)
+after layout limits p step.Lost = after_lost limits p (lost_scan layout (newest p.scans)) (lost_refusal layout (count p))
 after layout limits p step.Trigger = after_trigger limits p (count p)
 after layout limits p step.Take = record p { taken = if nat_lt p.taken (closed p) then p.taken + 1 else p.taken }
 after layout limits p (step.SetRules rules) = if rules_fit layout rules then record p { rules = rules } else p
@@ -142,6 +164,10 @@ abbrev pub answer_to_scan : Limits → Past → ScanParts → Option ScanRefusal
 answer_to_scan limits p scan (Some refusal) = Err refusal
 answer_to_scan limits p scan None = Ok (scanned (count p) (mark_if limits (count p) (fires p scan) (met limits p)))
 
+abbrev pub answer_to_lost : Limits → Past → Option LostRefusal → Result Scanned LostRefusal
+answer_to_lost limits p (Some refusal) = Err refusal
+answer_to_lost limits p None = Ok (scanned (count p) (mark_if limits (count p) None (met limits p)))
+
 abbrev pub refused_when_full : Hit → Result Hit TriggerFault
 refused_when_full ShelfFull = Err trigger_refused.ShelfFull
 refused_when_full (Opened c) = Ok (Opened c)
@@ -158,6 +184,7 @@ answer_to_take p = slice_get (records p.scans (ended p)) p.taken
 -- what a step is answered
 abbrev pub answer : SetupParts → Limits → Past → StepParts → AnswerParts
 answer layout limits p (step.Scan scan) = answers.Scan (answer_to_scan limits p scan (refusal layout (count p) scan))
+answer layout limits p step.Lost = answers.Lost (answer_to_lost limits p (lost_refusal layout (count p)))
 answer layout limits p step.Trigger = answers.Trigger (answer_to_trigger limits p (count p))
 answer layout limits p step.Take = answers.Take (answer_to_take p)
 answer layout limits p (step.SetRules rules) = answers.SetRules (rules_fit layout rules)

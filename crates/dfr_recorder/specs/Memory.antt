@@ -6,7 +6,7 @@ use Rattle.dfr_recorder.specs.Steps as step
 use Rattle.dfr_recorder.specs.History.{Opening, past, count, is_open}
 use Rattle.dfr_recorder.specs.Kept.{Kept, kept}
 
--- after a history, the step is an accepted scan
+-- after a history, the step adds a scan
 abbrev pub accepts : Opening → List StepParts → StepParts → Bool
 accepts o h s = nat_lt (count (past o h)) (count (past o (s ∷ h)))
 
@@ -19,13 +19,19 @@ abbrev pub GrowsRecord : Kept → ScanParts → Type 0
 GrowsRecord old scan = (o : Opening) (h : List StepParts) → kept o h ≡ old →
     IsTrue (accepts o h (step.Scan scan) && (is_open (past o h) || opens o h (step.Scan scan)))
 
+-- for every history of which `old` is kept, a lost scan is accepted
+abbrev pub AddsLost : Kept → Type 0
+AddsLost old = (o : Opening) (h : List StepParts) → kept o h ≡ old → IsTrue (accepts o h step.Lost)
+
 -- for every history of which `old` is kept, a trigger opens a record
 abbrev pub OpensRecord : Kept → Type 0
 OpensRecord old = (o : Opening) (h : List StepParts) → kept o h ≡ old → IsTrue (opens o h step.Trigger)
 
--- where a step may want memory: a scan that grows a record and a trigger that opens one; a take and rules never do
+-- where a step may want memory: a scan that grows a record, a lost scan that is added and a trigger that opens a record; a take and
+-- rules never do
 abbrev pub WantsMemory : Kept → StepParts → Type 0
 WantsMemory old (step.Scan scan) = GrowsRecord old scan
+WantsMemory old step.Lost = AddsLost old
 WantsMemory old step.Trigger = OpensRecord old
 WantsMemory old step.Take = ⊥
 WantsMemory old (step.SetRules rules) = ⊥

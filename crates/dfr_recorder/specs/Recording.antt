@@ -1,11 +1,14 @@
 -- What is done to the open record.
-use Rattle.std.specs.Prelude.{ℕ, ◌-◌, Bool, false, if◌then◌else◌, ◌==◌, List, [], ◌∷◌, ◌++◌, length, Option, Some, None, option_map}
+use Rattle.std.specs.Prelude.{ℕ, ◌≡◌, ◌+◌, ◌-◌, Bool, false, if◌then◌else◌, ◌==◌, List, [], ◌∷◌, ◌++◌, length, Option, Some, None, option_map}
 use Rattle.dfr_channels.specs.Parts.{ScanParts}
 use Rattle.dfr_recorder.specs.declared.limits.Limits.{Limits}
 use Rattle.dfr_recorder.specs.declared.record.Extent.{Extent}
 use Rattle.dfr_recorder.specs.declared.marks.Met.{Met}
+use Rattle.dfr_recorder.specs.declared.marks.MarkedIf.{MarkedIf}
 use Rattle.dfr_recorder.specs.Parts.{RecordParts}
-use Rattle.dfr_recorder.specs.Kept.{latest}
+use Rattle.dfr_recorder.specs.declared.step.Scanned.{Scanned}
+use Rattle.dfr_recorder.specs.Marks.{mark_if, scanned}
+use Rattle.dfr_recorder.specs.Kept.{Kept, latest}
 
 abbrev pub extent_of : Option RecordParts → Option Extent
 extent_of recording = option_map (λ (r : RecordParts). r.extent) recording
@@ -43,3 +46,33 @@ unless_last n (Some r) = if r.extent.last == n then None else Some r
 abbrev pub if_last : ℕ → Option RecordParts → List RecordParts
 if_last n None = []
 if_last n (Some r) = if r.extent.last == n then (r ∷ []) else []
+
+-- what a trigger meets
+abbrev pub met : Kept → Met
+met k = met_by k.limits k.opened k.recording k.shelf
+
+-- the open record after a trigger that leaves it this extent
+abbrev pub after_mark : Kept → Option Extent → Option RecordParts
+after_mark k extent = placed_if extent k.scans k.ring k.recording
+
+-- after a scan, with the open record after it and before it is shelved
+abbrev pub added : Kept → ScanParts → ℕ → Option RecordParts → Kept
+added k x opened recording = record k {
+  scans = k.scans + 1;
+  ring = latest (k.limits.pre + 1) (k.ring ++ x ∷ []);
+  opened = opened;
+  recording = unless_last k.scans recording;
+  shelf = k.shelf ++ if_last k.scans recording;
+}
+
+-- what a scan does that fires this rule or none
+abbrev pub fired_mark : Kept → Option ℕ → MarkedIf
+fired_mark k rule = mark_if k.limits k.scans rule (met k)
+
+-- after an accepted scan
+abbrev pub accepted : Kept → ScanParts → MarkedIf → Kept
+accepted k x m = added k x m.opened (longer_if x (after_mark k m.extent))
+
+-- a scan that fires this rule or none is taken in, answered so, and `new` is kept then
+abbrev pub IsAccepted : Kept → ScanParts → Option ℕ → Scanned → Kept → Type 0
+IsAccepted old scan fired a new = (scanned old.scans (fired_mark old fired) ≡ a) × (accepted old scan (fired_mark old fired) ≡ new)

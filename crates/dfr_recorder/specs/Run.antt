@@ -26,5 +26,6 @@ IsRun old steps answers new = (o : Opening) (h : List StepParts) → kept o h �
 abbrev pub IsOwnAnswer : SetupParts → AnswerParts → Type 0
 IsOwnAnswer layout (answer.Take taken) = IfSome taken (λ r. IsTrue (is_own layout r))
 IsOwnAnswer layout (answer.Scan result) = Unit {0}
+IsOwnAnswer layout (answer.Lost result) = Unit {0}
 IsOwnAnswer layout (answer.Trigger result) = Unit {0}
 IsOwnAnswer layout (answer.SetRules done) = Unit {0}

@@ -2,6 +2,7 @@
 #![tactic(auto)]
 
 mod limits;
+mod lost;
 mod marks;
 mod open_record;
 mod record;
@@ -17,4 +18,4 @@ pub use limits::{LimitFault, Limits};
 pub use record::{Cause, Extent, Record};
 pub use recorder::Recorder;
 pub use sequence::{Ran, run};
-pub use step::{Answer, Hit, ScanRefusal, Scanned, Step, TriggerFault};
+pub use step::{Answer, Hit, LostRefusal, ScanRefusal, Scanned, Step, TriggerFault};

@@ -1,12 +1,13 @@
 //! The recorder.
 
+use crate::lost::{lost_refusal, lost_scan};
 use crate::marks::{mark, mark_if, refused_when_full, scanned};
 use crate::open_record::{grow, met_by, place, scans_so_far, shelve};
 use crate::recording::Recording;
 use crate::refusals::refusal;
 use crate::ring::{fires, keep};
 use crate::shelf::scans_in;
-use crate::{Cause, Hit, Limits, Record, ScanRefusal, Scanned, TriggerFault};
+use crate::{Cause, Hit, Limits, LostRefusal, Record, ScanRefusal, Scanned, TriggerFault};
 use circular_buffer::HeapCircularBuffer;
 use dfr_channels::{Layout, Memory, Rules, Scan};
 use std::alloc::{Allocator, Global};
@@ -135,14 +136,16 @@ impl<A: Allocator> Recorder<A> {
 }
 
 impl<A: Allocator + Copy> Recorder<A> {
-    ghost use Rattle.std.specs.Prelude.{◌≡◌, ◌≢◌, [], IfOk, IfErr, OnErr, IsTrue};
+    ghost use Rattle.std.specs.Prelude.{◌≡◌, ◌≢◌, ◌≤◌, [], None, IfOk, IfErr, OnErr, IsTrue, is_some};
+    ghost use Rattle.dfr_channels.specs.Setups.{end_of_time};
     ghost use Rattle.dfr_channels.specs.Firing.{rules_fit};
     ghost use Rattle.dfr_recorder.specs.Limits.{has_stamps};
     ghost use Rattle.dfr_recorder.specs.Steps as step;
     ghost use Rattle.dfr_recorder.specs.Answers as answer;
-    ghost use Rattle.dfr_recorder.specs.History.{opening};
+    ghost use Rattle.dfr_recorder.specs.History.{opening, refusal};
     ghost use Rattle.dfr_recorder.specs.Kept.{kept, IsStep};
-    ghost use Rattle.dfr_recorder.specs.Memory.{GrowsRecord, OpensRecord};
+    ghost use Rattle.dfr_recorder.specs.Memory.{GrowsRecord, AddsLost, OpensRecord};
+    ghost use Rattle.dfr_recorder.specs.Recording.{fired_mark, IsAccepted};
 
     /// A recorder without a past. The limits and the rules have to fit the layout. The room of ring and shelf is made here; where
     /// memory is wanted for it, layout and rules are handed back.
@@ -184,16 +187,51 @@ impl<A: Allocator + Copy> Recorder<A> {
         ensures opening { (self.new.layout ≡ self.old.layout) × (self.new.limits ≡ self.old.limits) }
         ensures memory { IfErr result (λ refused. refused.0 ≡ ScanRefusal.Memory → GrowsRecord self.old scan) }
     {
-        let n = self.count;
-        match refusal(&self.layout, n, &scan) {
+        match refusal(&self.layout, self.count, &scan) {
             Some(refused) => return Err((refused, scan)),
             None => {}
         }
         let fired = fires(&self.rules, &self.ring, &scan);
+        match self.accept(scan, fired) {
+            Ok(scanned) => Ok(scanned),
+            Err(scan) => Err((ScanRefusal::Memory, scan)),
+        }
+    }
+
+    /// Fills the place of a lost scan, so that later scans keep their instants: every reading is missing, the bits are those of the
+    /// scan before, or each channel's normal state where there is none. It fires no rule; it can close a record. It always allocates.
+    pub fn lost(&mut self) -> Result<Scanned, LostRefusal>
+        ensures step { result ≢ Err LostRefusal.Memory → IsStep self.old step.Lost (answer.Lost result) self.new }
+        ensures same { OnErr result (self.new ≡ self.old) }
+        ensures opening { (self.new.layout ≡ self.old.layout) × (self.new.limits ≡ self.old.limits) }
+        ensures memory { result ≡ Err LostRefusal.Memory → AddsLost self.old }
+    {
+        match lost_refusal(&self.layout, self.count) {
+            Some(refused) => return Err(refused),
+            None => {}
+        }
+        let Ok(scan) = lost_scan(&self.layout, &self.ring) else {
+            return Err(LostRefusal::Memory);
+        };
+        let Ok(scanned) = self.accept(scan, None) else {
+            return Err(LostRefusal::Memory);
+        };
+        Ok(scanned)
+    }
+
+    /// Takes in a scan that fires this rule or none; out of memory it hands it back, which only an open record or an opening can cause.
+    fn accept(&mut self, scan: Scan<A>, fired: Option<u32>) -> Result<Scanned, Scan<A>>
+        requires fits { refusal self.old.layout self.old.scans scan ≡ None }
+        requires early { self.old.scans ≤ end_of_time }
+        ensures ok { IfOk result (λ scanned. IsAccepted self.old scan fired scanned self.new) }
+        ensures back { IfErr result (λ back. (back ≡ scan) × (self.new ≡ self.old)) }
+        ensures memory { IfErr result (λ _. IsTrue (is_some (fired_mark self.old fired).extent)) }
+    {
+        let n = self.count;
         let met = met_by(self.limits, self.opened, &self.recording, &self.shelf);
         let marked = mark_if(self.limits, n, fired, met);
         if grow(&mut self.recording, marked.extent, n, &self.ring, &scan).is_err() {
-            return Err((ScanRefusal::Memory, scan));
+            return Err(scan);
         }
         shelve(&mut self.recording, n, &mut self.shelf);
         keep(&mut self.ring, scan);

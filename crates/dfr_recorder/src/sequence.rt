@@ -8,7 +8,7 @@ ghost use Rattle.dfr_recorder.specs.Kept.{IsStep};
 ghost use Rattle.dfr_recorder.specs.Memory.{WantsMemory};
 ghost use Rattle.dfr_recorder.specs.Run.{IsRun, IsOwnAnswer};
 
-use crate::{Answer, Recorder, ScanRefusal, Step, TriggerFault};
+use crate::{Answer, LostRefusal, Recorder, ScanRefusal, Step, TriggerFault};
 use std::alloc::{Allocator, Global};
 use std::collections::VecDeque;
 
@@ -41,6 +41,11 @@ fn make<A: Allocator + Copy>(
             Err((ScanRefusal::Shape, _)) => Ok(Answer::Scan(Err(ScanRefusal::Shape))),
             Err((ScanRefusal::Range(i), _)) => Ok(Answer::Scan(Err(ScanRefusal::Range(i)))),
             Err((ScanRefusal::ClockEnd, _)) => Ok(Answer::Scan(Err(ScanRefusal::ClockEnd))),
+        },
+        Step::Lost => match recorder.lost() {
+            Ok(scanned) => Ok(Answer::Lost(Ok(scanned))),
+            Err(LostRefusal::Memory) => Err(Step::Lost),
+            Err(LostRefusal::ClockEnd) => Ok(Answer::Lost(Err(LostRefusal::ClockEnd))),
         },
         Step::Trigger => match recorder.trigger() {
             Ok(hit) => Ok(Answer::Trigger(Ok(hit))),

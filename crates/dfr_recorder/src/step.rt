@@ -38,6 +38,15 @@ pub enum ScanRefusal {
     Memory,
 }
 
+/// Why a lost scan is not accepted, in the order of the tests.
+#[derive(Clone, Copy, Debug, PartialEq, Eq)]
+pub enum LostRefusal {
+    /// Its instant would be after the year 9999.
+    ClockEnd,
+    /// An allocation failed.
+    Memory,
+}
+
 /// Why a trigger by hand did nothing, in the order of the tests.
 #[derive(Clone, Copy, Debug, PartialEq, Eq)]
 pub enum TriggerFault {
@@ -53,6 +62,8 @@ pub enum TriggerFault {
 #[derive(Drop, Debug)]
 pub enum Step<A: Allocator = Global> {
     Scan(Scan<A>),
+    /// A scan that was lost.
+    Lost,
     Trigger,
     Take,
     SetRules(Rules<A>),
@@ -62,6 +73,7 @@ pub enum Step<A: Allocator = Global> {
 #[derive(Drop, Debug)]
 pub enum Answer<A: Allocator = Global> {
     Scan(Result<Scanned, ScanRefusal>),
+    Lost(Result<Scanned, LostRefusal>),
     Trigger(Result<Hit, TriggerFault>),
     /// The oldest record on the shelf.
     Take(Option<Record<A>>),
