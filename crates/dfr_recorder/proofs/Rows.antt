@@ -58,19 +58,19 @@ abbrev one_of_each : SetupParts
 one_of_each = layout (status_channel ∷ []) 1000 (pos 0)
 
 abbrev limits_2_2_6_1 : Limits
-limits_2_2_6_1 = record { pre = 2; post = 2; longest = 6; shelf = 1; some = (lit≤ tt, lit≤ tt); fit = (lit≤ tt, lit≤ tt); few = lit≤ tt; early = lit≤ tt }
+limits_2_2_6_1 = record { pre = 2; post = 2; longest = 6; shelf = 1; unshared = false; some = (lit≤ tt, lit≤ tt); fit = (lit≤ tt, lit≤ tt); few = lit≤ tt; early = lit≤ tt }
 
 abbrev limits_2_2_6_2 : Limits
-limits_2_2_6_2 = record { pre = 2; post = 2; longest = 6; shelf = 2; some = (lit≤ tt, lit≤ tt); fit = (lit≤ tt, lit≤ tt); few = lit≤ tt; early = lit≤ tt }
+limits_2_2_6_2 = record { pre = 2; post = 2; longest = 6; shelf = 2; unshared = false; some = (lit≤ tt, lit≤ tt); fit = (lit≤ tt, lit≤ tt); few = lit≤ tt; early = lit≤ tt }
 
 abbrev limits_2_2_8_1 : Limits
-limits_2_2_8_1 = record { pre = 2; post = 2; longest = 8; shelf = 1; some = (lit≤ tt, lit≤ tt); fit = (lit≤ tt, lit≤ tt); few = lit≤ tt; early = lit≤ tt }
+limits_2_2_8_1 = record { pre = 2; post = 2; longest = 8; shelf = 1; unshared = false; some = (lit≤ tt, lit≤ tt); fit = (lit≤ tt, lit≤ tt); few = lit≤ tt; early = lit≤ tt }
 
 abbrev limits_0_3_4_1 : Limits
-limits_0_3_4_1 = record { pre = 0; post = 3; longest = 4; shelf = 1; some = (lit≤ tt, lit≤ tt); fit = (lit≤ tt, lit≤ tt); few = lit≤ tt; early = lit≤ tt }
+limits_0_3_4_1 = record { pre = 0; post = 3; longest = 4; shelf = 1; unshared = false; some = (lit≤ tt, lit≤ tt); fit = (lit≤ tt, lit≤ tt); few = lit≤ tt; early = lit≤ tt }
 
 abbrev limits_0_1_2_1 : Limits
-limits_0_1_2_1 = record { pre = 0; post = 1; longest = 2; shelf = 1; some = (lit≤ tt, lit≤ tt); fit = (lit≤ tt, lit≤ tt); few = lit≤ tt; early = lit≤ tt }
+limits_0_1_2_1 = record { pre = 0; post = 1; longest = 2; shelf = 1; unshared = false; some = (lit≤ tt, lit≤ tt); fit = (lit≤ tt, lit≤ tt); few = lit≤ tt; early = lit≤ tt }
 
 abbrev no_rules : List Rule
 no_rules = []
