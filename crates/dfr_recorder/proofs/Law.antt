@@ -96,7 +96,7 @@ record IsMarked (limits : Limits) (scans : List ScanParts) (o : Option Extent) (
   placed : option_map (record_of scans) extent ≡ placed_if extent (length scans) (latest (limits.pre + 1) scans) (option_map (record_of scans) o)
 
 -- a trigger at place k with none open is after the newest record, where limits want that
-abbrev IsFree : Limits → ℕ → Option Extent → ℕ → Type 0
+abbrev pub IsFree : Limits → ℕ → Option Extent → ℕ → Type 0
 IsFree limits k o end = IfNone o (limits.unshared ≡ true → end ≤ k)
 
 first-by : (b : Bool) (low k end : ℕ) → low ≤ k → (b ≡ true → end ≤ k) → (low ≤ cond b (max low end) low) × (cond b (max low end) low ≤ k)
@@ -305,9 +305,9 @@ good-after layout limits p step.Trigger good = good-by_hand limits p (count p) r
 good-after layout limits p step.Take good = good-take limits p good
 good-after layout limits p (step.SetRules rules) good = good-rules limits p rules (rules_fit layout rules) good
 
-good-past : (o : Opening) (h : List StepParts) → Good o.limits (past o h)
-good-past o [] = record { is = refl; going = tt; behind = omega arith }
-good-past o (s ∷ h) = good-after o.layout o.limits (past o h) s (good-past o h)
+pub good_past : (o : Opening) (h : List StepParts) → Good o.limits (past o h)
+good_past o [] = record { is = refl; going = tt; behind = omega arith }
+good_past o (s ∷ h) = good-after o.layout o.limits (past o h) s (good_past o h)
 
 -- the law of each step
 law-scan_if : (layout : SetupParts) (limits : Limits) (p : Past) (x : ScanParts) (r : Option ScanRefusal) → Good limits p
@@ -363,4 +363,4 @@ law-after layout limits p (step.SetRules rules) good = law-rules layout limits p
 
 -- the core law
 pub core-law : (o : Opening) (h : List StepParts) (s : StepParts) → kept o (s ∷ h) ≡ next (kept o h) s
-core-law o h s = law-after o.layout o.limits (past o h) s (good-past o h)
+core-law o h s = law-after o.layout o.limits (past o h) s (good_past o h)

@@ -10,3 +10,4 @@ pub mod Memory
 pub mod Run
 pub mod Recording
 pub mod Sound
+pub mod Unshared
