@@ -42,6 +42,7 @@ abbrev pub file_taken : SetupParts → Kind → AnswerParts → Option FileParts
 file_taken layout kind (answer.Take (Some r)) = Some (file layout r kind)
 file_taken layout kind (answer.Take None) = None
 file_taken layout kind (answer.Scan result) = None
+file_taken layout kind (answer.Lost result) = None
 file_taken layout kind (answer.Trigger result) = None
 file_taken layout kind (answer.SetRules done) = None
 

@@ -1,4 +1,4 @@
-//! The receiving end of the lane, and the scan that stands first in line.
+//! The receiving end of the lane, and the item that stands first in line.
 
 ghost use Rattle.std.specs.Prelude.{◌≡◌, ◌+◌, ◌≤◌, ◌++◌, List, None, length, IfSome, IfNone, vec_len, vec_capacity, option_to_list};
 ghost use Rattle.rtrb.specs.Ring.{received, known_items};
@@ -7,49 +7,49 @@ ghost use Rattle.dfr_live.specs.Lane.{lane_out};
 ghost use Rattle.dfr_live.specs.Calls.{IsHeld};
 ghost use Rattle.dfr_live.specs.Weave.{steps_of};
 
-use dfr_channels::Scan;
+use crate::left::Left;
 use rtrb::Consumer;
 use std::alloc::Allocator;
 
-/// The scan that is next in line. It comes out of the lane where none stands first in line.
+/// The item that is next in line. It comes out of the lane where none stands first in line.
 pub(crate) fn next_in_line<A: Allocator>(
-    first: &mut Option<Scan<A>>,
-    lane: &mut Consumer<Scan<A>, A>,
-) -> Option<Scan<A>>
+    first: &mut Option<Left<A>>,
+    lane: &mut Consumer<Left<A>, A>,
+) -> Option<Left<A>>
     ensures lane { lane_out lane.new ≡ lane_out lane.old }
     ensures first { first.new ≡ None }
-    ensures held { IfSome result (λ scan. IsHeld first.old scan) }
+    ensures held { IfSome result (λ item. IsHeld first.old item) }
     ensures none { IfNone result (first.old ≡ None) }
     ensures line { (before : List StepParts)
         → steps_of (received lane.old) ≡ before ++ steps_of (option_to_list first.old)
         → steps_of (received lane.new) ≡ before ++ steps_of (option_to_list result) }
 {
     match first.take() {
-        Some(scan) => Some(scan),
+        Some(item) => Some(item),
         None => lane.pop().ok(),
     }
 }
 
-/// Takes out the scan that stands first in line, and all that are known to be in the lane.
+/// Takes out the item that stands first in line, and all that are known to be in the lane.
 pub(crate) fn drain<A: Allocator>(
-    first: Option<Scan<A>>,
-    lane: &mut Consumer<Scan<A>, A>,
-    left: &mut Vec<Scan<A>, A>,
+    first: Option<Left<A>>,
+    lane: &mut Consumer<Left<A>, A>,
+    left: &mut Vec<Left<A>, A>,
     more: usize,
 )
     requires known { more ≡ length (known_items lane.old) }
     requires room { vec_len left.old + more + 1 ≤ vec_capacity left.old }
     ensures { left.new.items ≡ left.old.items ++ (option_to_list first ++ known_items lane.old) }
 {
-    if let Some(scan) = first {
-        left.push_reserved(scan);
+    if let Some(item) = first {
+        left.push_reserved(item);
     }
     drain_known(lane, left, more);
 }
 
 fn drain_known<A: Allocator>(
-    lane: &mut Consumer<Scan<A>, A>,
-    left: &mut Vec<Scan<A>, A>,
+    lane: &mut Consumer<Left<A>, A>,
+    left: &mut Vec<Left<A>, A>,
     more: usize,
 )
     requires known { more ≡ length (known_items lane.old) }

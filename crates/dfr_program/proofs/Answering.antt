@@ -9,6 +9,7 @@ use Rattle.dfr_channels.specs.declared.rules.RuleFault.{RuleFault}
 use Rattle.dfr_recorder.specs.declared.step.Hit.{Hit}
 use Rattle.dfr_recorder.specs.declared.step.Scanned.{Scanned}
 use Rattle.dfr_recorder.specs.declared.step.ScanRefusal.{ScanRefusal}
+use Rattle.dfr_recorder.specs.declared.step.LostRefusal.{LostRefusal}
 use Rattle.dfr_recorder.specs.declared.step.TriggerFault.{TriggerFault}
 use Rattle.dfr_recorder.specs.declared.record.Extent.{Extent}
 use Rattle.dfr_recorder.specs.Parts.{RecordParts}
@@ -26,7 +27,7 @@ use Rattle.comtrade_write.specs.Data.{dat}
 use Rattle.comtrade_write.specs.OfRecord.{file}
 use Rattle.dfr_program.specs.declared.fault.RunFault.{RunFault}
 use Rattle.dfr_program.specs.declared.fault.RunFault.TheVariants.{Memory, Output, Input}
-use Rattle.dfr_program.specs.Texts.{scanned_text, scan_refusal_text, trigger_text, record_text}
+use Rattle.dfr_program.specs.Texts.{scanned_text, scan_refusal_text, lost_text, trigger_text, record_text}
 use Rattle.dfr_program.specs.Transcript.{answer_text, taken_text, rules_step, step_of, followed, step_text, transcript, history_after}
 use Rattle.dfr_program.specs.Writing.{Wrote, Cut, Printed}
 use Rattle.dfr_program.specs.Answering.{PutsStep, PrintsStep, AllPrinted}
@@ -68,6 +69,10 @@ pub puts_refusal : (old new : Kept) (scan : ScanParts) (s : ScanRefusal) (x y : 
 unfolding answer_text
 puts_refusal old new scan s x y is e = puts_step old new (step.Scan scan) (answer.Scan (Err s)) x y is (λ kind. e)
 
+pub puts_lost : (old new : Kept) (r : Result Scanned LostRefusal) (x y : List ℕ) → IsStep old step.Lost (answer.Lost r) new → y ≡ x ++ lost_text r → PutsStep old (Ok step.Lost) new x y
+unfolding answer_text
+puts_lost old new r x y is e = puts_step old new step.Lost (answer.Lost r) x y is (λ kind. e)
+
 pub puts_trigger : (old new : Kept) (r : Result Hit TriggerFault) (x y : List ℕ) → IsStep old step.Trigger (answer.Trigger r) new → y ≡ x ++ trigger_text r → PutsStep old (Ok step.Trigger) new x y
 unfolding answer_text
 puts_trigger old new r x y is e = puts_step old new step.Trigger (answer.Trigger r) x y is (λ kind. e)
@@ -83,6 +88,10 @@ puts_rules old new list rules x y f q is e =
 pub scan_step : (layout : SetupParts) (scan : ScanParts) → step_of layout (command.Scan scan) ≡ Ok (step.Scan scan)
 unfolding step_of
 scan_step layout scan = refl
+
+pub lost_step : (layout : SetupParts) → step_of layout command.Lost ≡ Ok step.Lost
+unfolding step_of
+lost_step layout = refl
 
 pub trigger_step : (layout : SetupParts) → step_of layout command.Trigger ≡ Ok step.Trigger
 unfolding step_of

@@ -19,6 +19,7 @@ use Rattle.dfr_program.specs.Faults.{script_fault}
 -- the line of a command's rules, where they don't fit the layout
 abbrev pub refused_line : SetupParts → CommandParts → Option ℕ
 refused_line layout (command.Scan scan) = None
+refused_line layout command.Lost = None
 refused_line layout command.Trigger = None
 refused_line layout command.Take = None
 refused_line layout (command.Rules line list) = option_map (λ fault. line) (rules_fault layout list)
@@ -38,6 +39,7 @@ live_fault text = script_fault text or command_fault (script_value (lines text))
 -- the scan that a command feeds
 abbrev pub scan_in : CommandParts → List ScanParts
 scan_in (command.Scan scan) = scan ∷ []
+scan_in command.Lost = []
 scan_in command.Trigger = []
 scan_in command.Take = []
 scan_in (command.Rules line list) = []
@@ -45,6 +47,7 @@ scan_in (command.Rules line list) = []
 -- the order of a command that stands after so many scans; a take is none
 abbrev pub order_in : ℕ → CommandParts → List (ℕ × CallParts)
 order_in place (command.Scan scan) = []
+order_in place command.Lost = []
 order_in place command.Trigger = (place, call.Trigger) ∷ []
 order_in place command.Take = []
 order_in place (command.Rules line list) = (place, call.SetRules list) ∷ []

@@ -9,6 +9,8 @@ use Rattle.dfr_recorder.specs.declared.step.Hit.TheVariants.{Opened, Extended, A
 use Rattle.dfr_recorder.specs.declared.step.Scanned.{Scanned}
 use Rattle.dfr_recorder.specs.declared.step.ScanRefusal.{ScanRefusal}
 use Rattle.dfr_recorder.specs.declared.step.ScanRefusal.TheVariants as scan_refused
+use Rattle.dfr_recorder.specs.declared.step.LostRefusal.{LostRefusal}
+use Rattle.dfr_recorder.specs.declared.step.LostRefusal.TheVariants as lost_refused
 use Rattle.dfr_recorder.specs.declared.step.TriggerFault.{TriggerFault}
 use Rattle.dfr_recorder.specs.declared.step.TriggerFault.TheVariants as trigger_refused
 use Rattle.dfr_program.specs.FaultTexts.{rule_word}
@@ -36,6 +38,12 @@ scan_refusal_text scan_refused.Shape = codes "scan refused shape\n"
 scan_refusal_text (scan_refused.Range i) = codes "scan refused range " ++ decimal i ++ codes "\n"
 scan_refusal_text scan_refused.ClockEnd = codes "scan refused clock-end\n"
 scan_refusal_text scan_refused.Memory = []
+
+-- a lost scan fires no rule, so no hit is printed; nor is want of memory
+unfoldable pub lost_text : Result Scanned LostRefusal → List ℕ
+lost_text (Ok s) = codes "lost " ++ decimal s.number ++ closed_text s.closed ++ codes "\n"
+lost_text (Err lost_refused.ClockEnd) = codes "lost refused clock-end\n"
+lost_text (Err lost_refused.Memory) = []
 
 -- nor is it here
 unfoldable pub trigger_text : Result Hit TriggerFault → List ℕ

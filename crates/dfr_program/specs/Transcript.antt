@@ -17,7 +17,7 @@ use Rattle.comtrade_write.specs.declared.file.Kind.{Kind}
 use Rattle.comtrade_write.specs.Cfg.{cfg}
 use Rattle.comtrade_write.specs.Data.{dat}
 use Rattle.comtrade_write.specs.OfRecord.{file}
-use Rattle.dfr_program.specs.Texts.{scanned_text, scan_refusal_text, trigger_text, rules_refused_text, record_text}
+use Rattle.dfr_program.specs.Texts.{scanned_text, scan_refusal_text, lost_text, trigger_text, rules_refused_text, record_text}
 
 -- a taken record, and its two files in the kind that is asked for
 unfoldable pub taken_text : SetupParts → Kind → RecordParts → List ℕ
@@ -27,6 +27,7 @@ taken_text layout kind r = record_text r.extent (cfg (file layout r kind).head) 
 unfoldable pub answer_text : SetupParts → Kind → AnswerParts → List ℕ
 answer_text layout kind (answer.Scan (Ok scanned)) = scanned_text scanned
 answer_text layout kind (answer.Scan (Err refusal)) = scan_refusal_text refusal
+answer_text layout kind (answer.Lost result) = lost_text result
 answer_text layout kind (answer.Trigger result) = trigger_text result
 answer_text layout kind (answer.Take (Some r)) = taken_text layout kind r
 answer_text layout kind (answer.Take None) = codes "take none\n"
@@ -39,6 +40,7 @@ rules_step list (Some fault) = Err fault
 -- the step that a command makes; rules with a fault make none
 unfoldable pub step_of : SetupParts → CommandParts → Result StepParts RuleFault
 step_of layout (command.Scan scan) = Ok (step.Scan scan)
+step_of layout command.Lost = Ok step.Lost
 step_of layout command.Trigger = Ok step.Trigger
 step_of layout command.Take = Ok step.Take
 step_of layout (command.Rules line list) = rules_step list (rules_fault layout list)

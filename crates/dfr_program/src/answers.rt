@@ -6,7 +6,7 @@ ghost use Rattle.dfr_program.specs.Texts as spec;
 
 use crate::text::{put, put_number, put_with};
 use dfr_channels::RuleFault;
-use dfr_recorder::{Cause, Extent, Hit, ScanRefusal, Scanned, TriggerFault};
+use dfr_recorder::{Cause, Extent, Hit, LostRefusal, ScanRefusal, Scanned, TriggerFault};
 use std::alloc::{AllocError, Allocator};
 
 fn put_hit<A: Allocator>(out: &mut Vec<u8, A>, hit: Hit) -> Result<(), AllocError>
@@ -74,6 +74,26 @@ pub(crate) fn put_scan_refusal<A: Allocator>(
         }
         ScanRefusal::ClockEnd => put(out, "scan refused clock-end\n"),
         ScanRefusal::Memory => Err(AllocError),
+    }
+}
+
+/// `lost K`, and ` closed R` where a record closed; or why the lost scan was refused, but for memory.
+#[tactic(auto, unfolding(crate::specs::Texts::lost_text))]
+pub(crate) fn put_lost<A: Allocator>(
+    out: &mut Vec<u8, A>,
+    answer: Result<Scanned, LostRefusal>,
+) -> Result<(), AllocError>
+    ensures text { OnOk result (out.new.items ≡ out.old.items ++ spec.lost_text answer) }
+    ensures named { OnOk result (answer ≢ Err LostRefusal.Memory) }
+{
+    match answer {
+        Ok(lost) => {
+            put_with(out, "lost ", lost.number)?;
+            put_closed(out, lost.closed)?;
+            put(out, "\n")
+        }
+        Err(LostRefusal::ClockEnd) => put(out, "lost refused clock-end\n"),
+        Err(LostRefusal::Memory) => Err(AllocError),
     }
 }
 

@@ -10,7 +10,7 @@ ghost use Rattle.dfr_script.specs.Commands.{parts_of};
 ghost use Rattle.dfr_program.specs.Answering.{PutsStep, PrintsStep, AllPrinted};
 ghost use Rattle.dfr_program.specs.Transcript.{rules_step, step_of};
 
-use crate::answers::{put_rules_refused, put_scan_refusal, put_scanned, put_trigger};
+use crate::answers::{put_lost, put_rules_refused, put_scan_refusal, put_scanned, put_trigger};
 use crate::fault::RunFault;
 use crate::output::flush_if_full;
 use crate::records::answer_take;
@@ -57,6 +57,17 @@ fn answer_scan<A: Allocator + Copy>(
     }
 }
 
+/// Makes the step of a lost scan, and puts what came of it.
+fn answer_lost<A: Allocator + Copy>(
+    recorder: &mut Recorder<A>,
+    line: &mut Vec<u8, A>,
+) -> Result<(), AllocError>
+    ensures { OnOk result
+        (PutsStep recorder.old (Ok step.Lost) recorder.new line.old.items line.new.items) }
+{
+    put_lost(line, recorder.lost())
+}
+
 /// Makes the step of a manual trigger, and puts what it did.
 fn answer_trigger<A: Allocator + Copy>(
     recorder: &mut Recorder<A>,
@@ -86,6 +97,11 @@ fn answer<A: Allocator + Copy, W: Write>(
     match command {
         Command::Scan(scan) => {
             answer_scan(recorder, scan, line)?;
+            out.extend_from_slice(line)?;
+            Ok(())
+        }
+        Command::Lost => {
+            answer_lost(recorder, line)?;
             out.extend_from_slice(line)?;
             Ok(())
         }

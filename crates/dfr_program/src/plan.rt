@@ -111,6 +111,7 @@ fn plan_one<A: Allocator + Copy>(
     match command {
         Command::Scan(scan) => scans.push(scan)?,
         Command::Trigger => orders.push((place, Order::Trigger))?,
+        Command::Lost => {}
         Command::Take => {}
         Command::Rules { line, list } => {
             let rules = rules_at(layout, line, list)?;

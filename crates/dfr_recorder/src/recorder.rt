@@ -213,10 +213,10 @@ impl<A: Allocator + Copy> Recorder<A> {
         let Ok(scan) = lost_scan(&self.layout, &self.ring) else {
             return Err(LostRefusal::Memory);
         };
-        let Ok(scanned) = self.accept(scan, None) else {
+        let Ok(accepted) = self.accept(scan, None) else {
             return Err(LostRefusal::Memory);
         };
-        Ok(scanned)
+        Ok(accepted)
     }
 
     /// Takes in a scan that fires this rule or none; out of memory it hands it back, which only an open record or an opening can cause.

@@ -20,6 +20,7 @@ pub record DraftParts : Type 0 where
 -- what a line behind `go` asks for; rules with the number of their line
 pub data CommandParts : Type 0 where
   Scan : ScanParts → CommandParts
+  Lost : CommandParts
   Trigger : CommandParts
   Take : CommandParts
   Rules : ℕ → List Rule → CommandParts

@@ -15,6 +15,8 @@ use std::alloc::{Allocator, Global};
 #[derive(Drop, Debug)]
 pub enum Command<A: Allocator = Global> {
     Scan(Scan<A>),
+    /// A scan that was lost.
+    Lost,
     Trigger,
     Take,
     /// Rules that hold from the next scan on, and the number of their line, from 1.
@@ -25,6 +27,7 @@ pub enum Command<A: Allocator = Global> {
 #[derive(Clone, Copy, Debug, PartialEq, Eq)]
 pub(crate) enum Verb {
     Scan,
+    Lost,
     Trigger,
     Take,
     Rules,
@@ -37,6 +40,8 @@ fn verb_of(word: &[u8]) -> Option<Verb>
 {
     if is_word(word, "scan") {
         Some(Verb::Scan)
+    } else if is_word(word, "lost") {
+        Some(Verb::Lost)
     } else if is_word(word, "trigger") {
         Some(Verb::Trigger)
     } else if is_word(word, "take") {
@@ -73,6 +78,10 @@ fn command_in<A: Allocator + Copy>(
         Verb::Scan => {
             let scan = scan_of(alloc, rest, size)?;
             Ok(Command::Scan(scan))
+        }
+        Verb::Lost => {
+            bare(rest)?;
+            Ok(Command::Lost)
         }
         Verb::Trigger => {
             bare(rest)?;

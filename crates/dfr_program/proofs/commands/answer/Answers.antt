@@ -1,13 +1,18 @@
 use Rattle.std.proofs.Common.{◌++◌, ap, ◌∙◌}
 use Rattle.dfr_script.specs.Commands.{parts_of}
 use Rattle.dfr_program.specs.Transcript.{step_of}
-use Rattle.dfr_program.proofs.Answering.{prints_put, scan_step, trigger_step, take_step, set_step, prints_as}
+use Rattle.dfr_program.proofs.Answering.{prints_put, scan_step, lost_step, trigger_step, take_step, set_step, prints_as}
 use Rattle.dfr_program.proofs.commands.answer.Goals as goal
 
 pub returns-in_ok-extend_from_slice-in-Scan : goal.returns-in_ok-extend_from_slice-in-Scan
 returns-in_ok-extend_from_slice-in-Scan g c =
     prints_put (tt {0}) c.args.kind c.args.recorder.now c.answer_scan.new.recorder _ _ _ _ _ _ _
     (ap (λ v. step_of c.args.recorder.now.layout (parts_of v)) c.in-Scan.is ∙ scan_step _ _) c.requires c.in_ok-answer_scan-in-Scan.ensures (c.in_ok-extend_from_slice-in-Scan.ensures.items ∙ ap (λ l. c.args.out.now.items ++ l) c.deref.ensures.value)
+
+pub returns-in_ok-extend_from_slice-in-Lost : goal.returns-in_ok-extend_from_slice-in-Lost
+returns-in_ok-extend_from_slice-in-Lost g c =
+    prints_put (tt {0}) c.args.kind c.args.recorder.now c.answer_lost.new.recorder _ _ _ _ _ _ _
+    (ap (λ v. step_of c.args.recorder.now.layout (parts_of v)) c.in-Lost.is ∙ lost_step _) c.requires c.in_ok-answer_lost-in-Lost.ensures (c.in_ok-extend_from_slice-in-Lost.ensures.items ∙ ap (λ l. c.args.out.now.items ++ l) c.deref-in-Lost.ensures.value)
 
 pub returns-in_ok-extend_from_slice-in-Trigger : goal.returns-in_ok-extend_from_slice-in-Trigger
 returns-in_ok-extend_from_slice-in-Trigger g c =

@@ -1,0 +1,55 @@
+//! What the lane carries, and one step of it.
+
+ghost use Rattle.std.specs.Prelude.{◌≡◌, MatchResult};
+ghost use Rattle.dfr_live.specs.Calls.{StepsNext};
+
+use crate::calls::{as_scanned, step_lost, step_scan};
+use dfr_channels::Scan;
+use dfr_recorder::{Recorder, ScanRefusal, Scanned};
+use std::alloc::{Allocator, Global};
+use std::marker::Model;
+
+/// So many lost scans, and then a scan.
+#[derive(Drop, Debug)]
+pub struct Left<A: Allocator = Global> {
+    /// How many scans were lost before this one, and after the one before it.
+    pub lost: u32,
+    pub scan: Scan<A>,
+}
+
+impl<A: Allocator> Model for Left<A> {
+    ghost use Rattle.dfr_live.specs.Parts.{LeftParts};
+
+    ghost Value = { LeftParts };
+
+    ghost view = { λ l. record { lost = l.lost; scan = l.scan } };
+}
+
+/// The next step of an item: a lost scan's while it has one, then its scan's. What is left of the
+/// item comes back with the answer, and all of it where an allocation failed.
+pub(crate) fn step_next<A: Allocator + Copy>(
+    recorder: &mut Recorder<A>,
+    item: Left<A>,
+) -> Result<(Result<Scanned, ScanRefusal>, Option<Left<A>>), Left<A>>
+    ensures { MatchResult result
+        (λ r. StepsNext recorder.old item r.0 r.1 recorder.new)
+        (λ back. (back ≡ item) × (recorder.new ≡ recorder.old)) }
+{
+    let Left { lost, scan } = item;
+    if lost > 0 {
+        return match step_lost(recorder) {
+            Some(answer) => Ok((
+                as_scanned(answer),
+                Some(Left {
+                    lost: lost - 1,
+                    scan,
+                }),
+            )),
+            None => Err(Left { lost, scan }),
+        };
+    }
+    match step_scan(recorder, scan) {
+        Ok(answer) => Ok((answer, None)),
+        Err(scan) => Err(Left { lost, scan }),
+    }
+}
