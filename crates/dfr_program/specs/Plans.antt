@@ -1,10 +1,13 @@
--- What a live run is given of a script: the scans that are fed, and the orders with their places.
+-- What a live run is given of a script: the scans that are fed, lost ones among them, and the orders
+-- with their places.
 use Rattle.std.specs.Prelude.{◌≡◌, ℕ, ◌+◌, List, [], ◌∷◌, ◌++◌, length, Option, None, option_map}
 use Rattle.std.specs.List.{flat_map}
 use Rattle.dfr_channels.specs.Faults.{◌or◌}
 use Rattle.dfr_channels.specs.Firing.{rules_fault}
 use Rattle.dfr_channels.specs.Lines.{lines}
-use Rattle.dfr_channels.specs.Parts.{ScanParts, SetupParts}
+use Rattle.dfr_channels.specs.Parts.{SetupParts}
+use Rattle.dfr_recorder.specs.Steps.{StepParts}
+use Rattle.dfr_recorder.specs.Steps as step
 use Rattle.dfr_script.specs.Parts.{CommandParts, ScriptParts}
 use Rattle.dfr_script.specs.Parts as command
 use Rattle.dfr_script.specs.Scripts.{script_value}
@@ -12,6 +15,8 @@ use Rattle.dfr_live.specs.Parts.{CallParts}
 use Rattle.dfr_live.specs.Parts as call
 use Rattle.dfr_live.specs.declared.station.Order.{Order}
 use Rattle.dfr_live.specs.declared.station.Order.TheVariants as order
+use Rattle.dfr_program.specs.declared.plan.Given.{Given}
+use Rattle.dfr_program.specs.declared.plan.Given.TheVariants as gives
 use Rattle.dfr_program.specs.declared.prepared.Fault.{Fault}
 use Rattle.dfr_program.specs.declared.prepared.Fault.TheVariants as faults
 use Rattle.dfr_program.specs.Faults.{script_fault}
@@ -36,15 +41,15 @@ command_fault s = option_map faults.RulesAt (refused_in s.setup s.commands)
 unfoldable pub live_fault : List ℕ → Option Fault
 live_fault text = script_fault text or command_fault (script_value (lines text))
 
--- the scan that a command feeds
-abbrev pub scan_in : CommandParts → List ScanParts
-scan_in (command.Scan scan) = scan ∷ []
-scan_in command.Lost = []
+-- the scan step that a command feeds: a scan's or a lost one's
+abbrev pub scan_in : CommandParts → List StepParts
+scan_in (command.Scan scan) = step.Scan scan ∷ []
+scan_in command.Lost = step.Lost ∷ []
 scan_in command.Trigger = []
 scan_in command.Take = []
 scan_in (command.Rules line list) = []
 
--- the order of a command that stands after so many scans; a take is none
+-- the order of a command that stands after so many scan steps; a take is none
 abbrev pub order_in : ℕ → CommandParts → List (ℕ × CallParts)
 order_in place (command.Scan scan) = []
 order_in place command.Lost = []
@@ -52,13 +57,18 @@ order_in place command.Trigger = (place, call.Trigger) ∷ []
 order_in place command.Take = []
 order_in place (command.Rules line list) = (place, call.SetRules list) ∷ []
 
-unfoldable pub scans_in : List CommandParts → List ScanParts
+unfoldable pub scans_in : List CommandParts → List StepParts
 scans_in cs = flat_map scan_in cs
 
--- the orders of commands of which the first stands after so many scans
+-- the orders of commands of which the first stands after so many scan steps
 unfoldable pub orders_in : ℕ → List CommandParts → List (ℕ × CallParts)
 orders_in place [] = []
 orders_in place (c ∷ cs) = order_in place c ++ orders_in (place + length (scan_in c)) cs
+
+-- the step of what is fed, whatever its allocator is
+abbrev pub given : {A : Type 0} → Given A → StepParts
+given (gives.Scan scan) = step.Scan scan
+given gives.Lost = step.Lost
 
 -- an order with its place, whatever its allocator is
 abbrev pub call_of : {A : Type 0} → Order A → CallParts
@@ -68,9 +78,9 @@ call_of (order.SetRules rules) = call.SetRules rules
 abbrev pub placed : {A : Type 0} → ℕ × Order A → ℕ × CallParts
 placed p = (p.0, call_of p.1)
 
--- commands whose rules all fit: each of their scans is fed, in order, and each trigger and each list of rules is ordered at the
--- number of scans before it
-pub record IsPlanned (layout : SetupParts) (cs : List CommandParts) (scans : List ScanParts) (orders : List (ℕ × CallParts)) : Type 0 where
+-- commands whose rules all fit: each of their scans is fed, lost ones too, in order, and each trigger and each list of rules is
+-- ordered at the number of scan steps before it
+pub record IsPlanned (layout : SetupParts) (cs : List CommandParts) (scans : List StepParts) (orders : List (ℕ × CallParts)) : Type 0 where
   pub fit : refused_in layout cs ≡ None
   pub fed : scans ≡ scans_in cs
   pub ordered : orders ≡ orders_in 0 cs

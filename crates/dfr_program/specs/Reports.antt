@@ -1,7 +1,7 @@
 -- What a live run prints in the end.
-use Rattle.std.specs.Prelude.{ℕ, List, [], ◌++◌, length, Bool, true, false, Option, Some, None, codes, decimal}
+use Rattle.std.specs.Prelude.{ℕ, List, [], ◌++◌, ◌+◌, sum_by, Bool, true, false, Option, Some, None, codes, decimal}
 use Rattle.std.specs.List.{flat_map}
-use Rattle.dfr_live.specs.Parts.{EntryParts}
+use Rattle.dfr_live.specs.Parts.{EntryParts, LeftParts}
 use Rattle.dfr_live.specs.declared.entry.Reply.{Reply}
 use Rattle.dfr_live.specs.declared.entry.Reply.TheVariants as reply
 use Rattle.dfr_live.specs.declared.ended.EndFault.TheVariants as end_refused
@@ -33,9 +33,13 @@ sums_text scans refused records left =
     codes "scans " ++ decimal scans ++ codes " refused " ++ decimal refused ++ codes " records " ++ decimal records
     ++ codes " left " ++ decimal left ++ codes "\n"
 
+-- how many scan steps are left: each scan's own, and those of its losses
+abbrev pub steps_left : List LeftParts → ℕ
+steps_left left = sum_by (λ (x : LeftParts). x.lost + 1) left
+
 -- each call but takes, in the order of the log, and the four numbers
 unfoldable pub report_text : {A : Type 0} → LiveReport A → List ℕ
-report_text r = flat_map entry_text r.ended.log.items ++ sums_text r.stepped r.refused r.records (length r.ended.left.items)
+report_text r = flat_map entry_text r.ended.log.items ++ sums_text r.stepped r.refused r.records (steps_left r.ended.left.items)
 
 -- the word of a run's fault; out of memory has none
 abbrev pub run_word : LiveFault → Option (List ℕ)

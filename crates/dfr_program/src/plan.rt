@@ -17,11 +17,19 @@ use dfr_script::Command;
 use std::alloc::{AllocFailed, Allocator};
 use std::vec::IntoIter;
 
-/// A recorder, the scans that it is fed, and the orders with their places.
+/// What a line of a script feeds.
+#[derive(Drop)]
+pub(crate) enum Given<A: Allocator> {
+    Scan(Scan<A>),
+    /// A scan that was lost.
+    Lost,
+}
+
+/// A recorder, the scans that it is fed, lost ones among them, and the orders with their places.
 #[derive(Drop)]
 pub(crate) struct Plan<A: Allocator> {
     pub(crate) recorder: Recorder<A>,
-    pub(crate) scans: Vec<Scan<A>, A>,
+    pub(crate) scans: Vec<Given<A>, A>,
     pub(crate) orders: Vec<(u64, Order<A>), A>,
 }
 
@@ -38,11 +46,11 @@ impl<T: Drop> From<AllocFailed<T>> for Refusal {
 /// The scans of a script, one after the other, and then the end.
 #[derive(Drop)]
 pub(crate) struct Scans<A: Allocator> {
-    rest: IntoIter<Scan<A>, A>,
+    rest: IntoIter<Given<A>, A>,
 }
 
 impl<A: Allocator> Scans<A> {
-    pub(crate) fn of(list: Vec<Scan<A>, A>) -> Scans<A> {
+    pub(crate) fn of(list: Vec<Given<A>, A>) -> Scans<A> {
         Scans {
             rest: list.into_iter(),
         }
@@ -52,7 +60,8 @@ impl<A: Allocator> Scans<A> {
 impl<A: Allocator> Feed<A> for Scans<A> {
     fn next(&mut self) -> Result<Fed<A>, u32> {
         match self.rest.next() {
-            Some(scan) => Ok(Fed::Scan(scan)),
+            Some(Given::Scan(scan)) => Ok(Fed::Scan(scan)),
+            Some(Given::Lost) => Ok(Fed::Lost),
             None => Ok(Fed::Done),
         }
     }
@@ -97,21 +106,22 @@ fn rules_at<A: Allocator>(
 fn plan_one<A: Allocator + Copy>(
     layout: &Layout<A>,
     command: Command<A>,
-    scans: &mut Vec<Scan<A>, A>,
+    scans: &mut Vec<Given<A>, A>,
     orders: &mut Vec<(u64, Order<A>), A>,
 ) -> Result<(), Refusal>
     ensures { MatchResult result
         (λ _. (spec.refused_line layout.now (parts_of command) ≡ None)
-        × (scans.new.items ≡ scans.old.items ++ spec.scan_in (parts_of command))
+        × (map spec.given scans.new.items
+        ≡ map spec.given scans.old.items ++ spec.scan_in (parts_of command))
         × (map spec.placed orders.new.items ≡ map spec.placed orders.old.items
         ++ spec.order_in (length scans.old.items) (parts_of command)))
         (Refuses (option_map faults.RulesAt (spec.refused_line layout.now (parts_of command)))) }
 {
     let place = scans.len() as u64;
     match command {
-        Command::Scan(scan) => scans.push(scan)?,
+        Command::Scan(scan) => scans.push(Given::Scan(scan))?,
+        Command::Lost => scans.push(Given::Lost)?,
         Command::Trigger => orders.push((place, Order::Trigger))?,
-        Command::Lost => {}
         Command::Take => {}
         Command::Rules { line, list } => {
             let rules = rules_at(layout, line, list)?;
@@ -125,14 +135,14 @@ fn plan_one<A: Allocator + Copy>(
 fn plan_all<A: Allocator + Copy>(
     layout: &Layout<A>,
     commands: Vec<Command<A>, A>,
-    scans: &mut Vec<Scan<A>, A>,
+    scans: &mut Vec<Given<A>, A>,
     orders: &mut Vec<(u64, Order<A>), A>,
 ) -> Result<(), Refusal>
     requires scans { scans.old.items ≡ [] }
     requires orders { orders.old.items ≡ [] }
     ensures { MatchResult result
-        (λ _. spec.IsPlanned layout.now (map parts_of commands.items) scans.new.items
-        (map spec.placed orders.new.items))
+        (λ _. spec.IsPlanned layout.now (map parts_of commands.items)
+        (map spec.given scans.new.items) (map spec.placed orders.new.items))
         (Refuses (option_map faults.RulesAt
         (spec.refused_in layout.now (map parts_of commands.items)))) }
 {
@@ -148,7 +158,8 @@ pub(crate) fn plan_of<A: Allocator + Copy>(alloc: A, text: &[u8]) -> Result<Plan
     ensures { MatchResult result
         (λ plan. (spec.live_fault text.now ≡ None)
         × IsMadeOf (script_value (lines text.now)) plan.recorder
-        × (plan.scans.items ≡ spec.scans_in (script_value (lines text.now)).commands)
+        × (map spec.given plan.scans.items
+        ≡ spec.scans_in (script_value (lines text.now)).commands)
         × (map spec.placed plan.orders.items
         ≡ spec.orders_in 0 (script_value (lines text.now)).commands))
         (Refuses (spec.live_fault text.now)) }

@@ -1,12 +1,12 @@
 //! What a live run prints.
 
-ghost use Rattle.std.specs.Prelude.{◌≡◌, ◌++◌, OnOk, length, option_map};
+ghost use Rattle.std.specs.Prelude.{◌≡◌, ◌+◌, ◌≤◌, ◌++◌, OnOk, option_map};
 ghost use Rattle.std.specs.List.{flat_map};
 ghost use Rattle.dfr_program.specs.Reports as spec;
 
 use crate::answers::put_trigger;
-use crate::text::{put, put_with};
-use dfr_live::{EndFault, Entry, LiveFault, LiveReport, OpenFault, Reply};
+use crate::text::{put, put_long, put_with};
+use dfr_live::{EndFault, Entry, Left, LiveFault, LiveReport, OpenFault, Reply};
 use std::alloc::{AllocError, Allocator};
 
 /// The number of scan steps made before a call.
@@ -66,7 +66,7 @@ fn put_sums<A: Allocator>(
     scans: u64,
     refused: u64,
     records: u64,
-    left: u64,
+    left: u128,
 ) -> Result<(), AllocError>
     ensures { OnOk result (out.new.items
         ≡ out.old.items ++ spec.sums_text scans refused records left) }
@@ -74,8 +74,28 @@ fn put_sums<A: Allocator>(
     put_with(out, "scans ", scans)?;
     put_with(out, " refused ", refused)?;
     put_with(out, " records ", records)?;
-    put_with(out, " left ", left)?;
+    put(out, " left ")?;
+    put_long(out, left)?;
     put(out, "\n")
+}
+
+/// The step of a scan that is left, and those of its losses.
+fn steps_with<A: Allocator>(item: &Left<A>) -> u64
+    ensures steps { result ≡ item.now.lost + 1 }
+    ensures few { result ≤ 4_294_967_296 }
+{
+    item.lost as u64 + 1
+}
+
+/// How many scan steps are left.
+fn steps_left<A: Allocator>(left: &[Left<A>]) -> u128
+    ensures { result ≡ spec.steps_left left.now }
+{
+    let mut steps = 0u128;
+    for item in left {
+        steps += steps_with(item) as u128;
+    }
+    steps
 }
 
 /// Each call of the run's log but takes, and what became of the scans.
@@ -92,7 +112,7 @@ pub(crate) fn put_report<A: Allocator>(
         report.stepped,
         report.refused,
         report.records,
-        report.ended.left.len() as u64,
+        steps_left(report.ended.left.as_slice()),
     )
 }
 

@@ -18,6 +18,13 @@ pub(crate) fn put_number<A: Allocator>(out: &mut Vec<u8, A>, n: u64) -> Result<(
     out.extend_from_slice(Buffer::new().format(n).as_bytes())
 }
 
+/// A number that can pass 64 bits.
+pub(crate) fn put_long<A: Allocator>(out: &mut Vec<u8, A>, n: u128) -> Result<(), AllocError>
+    ensures { OnOk result (out.new.items ≡ out.old.items ++ decimal n) }
+{
+    out.extend_from_slice(Buffer::new().format(n).as_bytes())
+}
+
 pub(crate) fn put_signed<A: Allocator>(out: &mut Vec<u8, A>, n: i64) -> Result<(), AllocError>
     ensures { OnOk result (out.new.items ≡ out.old.items ++ signed_decimal n) }
 {

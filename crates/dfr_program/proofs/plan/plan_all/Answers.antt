@@ -1,10 +1,11 @@
-use Rattle.std.proofs.Common.{◌∙◌, ap, sym, map, map-id, rules}
+use Rattle.std.proofs.Common.{◌∙◌, ap, sym, length, map, map-id, rules}
+use Rattle.std.proofs.lemmas.List.{length-map}
 use Rattle.std.proofs.lemmas.Iterator.Adapters.{YieldsList-from_vec}
 use Rattle.std.proofs.lemmas.Iterator.Consumers.{YieldsList-so_far, YieldsList-turn, YieldsList-end}
 use Rattle.std.proofs.lemmas.Result.{err_from_is_err_and}
 use Rattle.dfr_script.specs.Commands.{parts_of}
 use Rattle.dfr_program.proofs.Answering.{map_push, map_at}
-use Rattle.dfr_program.specs.Plans.{IsPlanned, placed}
+use Rattle.dfr_program.specs.Plans.{IsPlanned, given, placed}
 use Rattle.dfr_program.proofs.Planning.{planned_none, planned_next, planned_all, planned_stop}
 use Rattle.dfr_program.proofs.plan.plan_all.Goals as goal
 
@@ -14,7 +15,7 @@ loop-command-init g c = planned_none c.args.layout.now _ _ (search rules) (searc
 pub loop-command-preserved : goal.loop-command-preserved
 loop-command-preserved g c =
     planned_next c.args.layout.now (map parts_of c.loop-command.yielded) _ (parts_of c.in-Some.command) _ _ _ _
-    c.loop-command.invariant c.in_ok-plan_one.ensures.0 c.in_ok-plan_one.ensures.1 c.in_ok-plan_one.ensures.2 (map_push parts_of c.loop-command.yielded c.in-Some.command)
+    (length c.loop-command.scans.items) c.loop-command.invariant c.in_ok-plan_one.ensures.0 c.in_ok-plan_one.ensures.1 (sym (length-map c.loop-command.scans.items given)) c.in_ok-plan_one.ensures.2 (map_push parts_of c.loop-command.yielded c.in-Some.command)
 
 pub returns : goal.returns
 returns g c =
@@ -28,5 +29,5 @@ returns-in_err-plan_one g c =
     let before = YieldsList-so_far all c.loop-command.yielded c.loop-command.command-iterator c.loop-command.yielded_by in
     let turn = YieldsList-turn all c.loop-command.yielded c.loop-command.command-iterator c.loop-command.yielded_by c.next.result c.next.new.self c.in-Some.command c.in-Some.is c.next.ensures.steps in
     let p = err_from_is_err_and c.from_residual.result c.from_residual.ensures.1 in
-    planned_stop (λ _. IsPlanned c.args.layout.now (map parts_of c.args.commands.items) c.plan_one.new.scans.items (map placed c.plan_one.new.orders.items)) c.from_residual.result p.0 c.args.layout.now (map parts_of c.loop-command.yielded) (map parts_of c.args.commands.items) _ (parts_of c.in-Some.command) c.in_err-plan_one.field-0.0 _ _
+    planned_stop (λ _. IsPlanned c.args.layout.now (map parts_of c.args.commands.items) (map given c.plan_one.new.scans.items) (map placed c.plan_one.new.orders.items)) c.from_residual.result p.0 c.args.layout.now (map parts_of c.loop-command.yielded) (map parts_of c.args.commands.items) _ (parts_of c.in-Some.command) c.in_err-plan_one.field-0.0 _ _
     c.loop-command.invariant (map_at parts_of c.loop-command.yielded c.args.commands.items c.in-Some.command before turn) c.in_err-plan_one.ensures p.1 p.2
