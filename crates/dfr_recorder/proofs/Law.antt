@@ -33,11 +33,11 @@ Ended-more : (m n : ℕ) (es : List Extent) → m ≤ n → Ended m es → Ended
 Ended-more m n [] le h = tt
 Ended-more m n (e ∷ es) le h = (omega arith, Ended-more m n es le h.1)
 
-ended-are : (n : ℕ) (es : List Extent) → Ended n (ended_at n es)
-ended-are n [] = tt
-ended-are n (e ∷ es) = elim (cases_lt e.last n) [
-  | inl over ↦ let b : ltb e.last n ≡ true = lt-ltb e.last n over in rw b (over, ended-are n es)
-  | inr on ↦ let b : ltb e.last n ≡ false = le-ltb e.last n on in rw b (ended-are n es)
+pub ended_are : (n : ℕ) (es : List Extent) → Ended n (ended_at n es)
+ended_are n [] = tt
+ended_are n (e ∷ es) = elim (cases_lt e.last n) [
+  | inl over ↦ let b : ltb e.last n ≡ true = lt-ltb e.last n over in rw b (over, ended_are n es)
+  | inr on ↦ let b : ltb e.last n ≡ false = le-ltb e.last n on in rw b (ended_are n es)
 ]
 
 all-ended : (n : ℕ) (es : List Extent) → Ended n es → ended_at n es ≡ es
@@ -90,10 +90,10 @@ pub record Good (limits : Limits) (p : Past) : Type 0 where
   pub behind : p.taken ≤ closed p
 
 -- what a trigger leaves: this newest record, and an open record of this extent before those that have ended
-record IsMarked (limits : Limits) (scans : List ScanParts) (o : Option Extent) (es : List Extent) (newest : Newest) (extent : Option Extent) : Type 0 where
-  counted : newest_of (option_to_list extent ++ es) ≡ newest
-  going : IfSome extent (IsGoing limits (length scans))
-  placed : option_map (record_of scans) extent ≡ placed_if extent (length scans) (latest (limits.pre + 1) scans) (option_map (record_of scans) o)
+pub record IsMarked (limits : Limits) (scans : List ScanParts) (o : Option Extent) (es : List Extent) (newest : Newest) (extent : Option Extent) : Type 0 where
+  pub counted : newest_of (option_to_list extent ++ es) ≡ newest
+  pub going : IfSome extent (IsGoing limits (length scans))
+  pub placed : option_map (record_of scans) extent ≡ placed_if extent (length scans) (latest (limits.pre + 1) scans) (option_map (record_of scans) o)
 
 -- a trigger at place k with none open is after the newest record, where limits want that
 abbrev pub IsFree : Limits → ℕ → Option Extent → ℕ → Type 0
@@ -145,7 +145,7 @@ free-by limits n (Some e) es all is h = tt
 free-by limits n None es all is h = λ _. omega (arith, ap end_of is, end-low n es h)
 
 pub free_scan : (limits : Limits) (p : Past) → Good limits p → IsFree limits (count p) (open_one p) (end_of p.extents)
-free_scan limits p good = free-by limits (count p) (open_one p) (ended p) p.extents good.is (ended-are (count p) p.extents)
+free_scan limits p good = free-by limits (count p) (open_one p) (ended p) p.extents good.is (ended_are (count p) p.extents)
 
 pub free_trigger : (limits : Limits) (k : ℕ) (o : Option Extent) (end : ℕ) → (limits.unshared && is_none o && ltb k end) ≡ false → IsFree limits k o end
 free_trigger limits k (Some e) end is = tt
@@ -155,28 +155,28 @@ placed-same : (n : ℕ) (ring : List ScanParts) (scans : List ScanParts) (o : Op
 placed-same n ring scans None = refl
 placed-same n ring scans (Some e) = refl
 
-fired-is : (limits : Limits) (p : Past) (f : Option ℕ) → Good limits p
+pub fired_is : (limits : Limits) (p : Past) (f : Option ℕ) → Good limits p
     → IsMarked limits p.scans (open_one p) (ended p) (mark_if limits (count p) f (history.met limits p)).newest (mark_if limits (count p) f (history.met limits p)).extent
-fired-is limits p None good = record { counted = sym (ap newest_of good.is); going = good.going; placed = placed-same (count p) (latest (limits.pre + 1) p.scans) p.scans (open_one p) }
-fired-is limits p (Some rule) good = mark-is limits p (count p) (cause.Rule rule) (omega arith) (omega arith) (free_scan limits p good) good
+fired_is limits p None good = record { counted = sym (ap newest_of good.is); going = good.going; placed = placed-same (count p) (latest (limits.pre + 1) p.scans) p.scans (open_one p) }
+fired_is limits p (Some rule) good = mark-is limits p (count p) (cause.Rule rule) (omega arith) (omega arith) (free_scan limits p good) good
 
-fired-list : (limits : Limits) (p : Past) (f : Option ℕ) → Good limits p → history.fired limits p f ≡ option_to_list (mark_if limits (count p) f (history.met limits p)).extent ++ ended p
-fired-list limits p None good = good.is
-fired-list limits p (Some rule) good = refl
+pub fired_list : (limits : Limits) (p : Past) (f : Option ℕ) → Good limits p → history.fired limits p f ≡ option_to_list (mark_if limits (count p) f (history.met limits p)).extent ++ ended p
+fired_list limits p None good = good.is
+fired_list limits p (Some rule) good = refl
 
 -- the law of a trigger
 good-mark : (limits : Limits) (p : Past) (newest : Newest) (extent : Option Extent) → Good limits p → IsMarked limits p.scans (open_one p) (ended p) newest extent
     → Good limits (record p { extents = option_to_list extent ++ ended p })
 good-mark limits p newest extent good m =
-    let o = open-is limits (count p) extent (ended p) m.going (ended-are (count p) p.extents) in
-    let r = rest-is limits (count p) extent (ended p) m.going (ended-are (count p) p.extents) in
+    let o = open-is limits (count p) extent (ended p) m.going (ended_are (count p) p.extents) in
+    let r = rest-is limits (count p) extent (ended p) m.going (ended_are (count p) p.extents) in
     record { is = rw (o, r) refl; going = rw o m.going; behind = rw r good.behind }
 
 law-mark : (layout : SetupParts) (limits : Limits) (p : Past) (newest : Newest) (extent : Option Extent) → Good limits p → IsMarked limits p.scans (open_one p) (ended p) newest extent
     → kept_of layout limits (record p { extents = option_to_list extent ++ ended p }) ≡ marked (kept_of layout limits p) newest extent
 law-mark layout limits p newest extent good m =
-    let o = open-is limits (count p) extent (ended p) m.going (ended-are (count p) p.extents) in
-    let r = rest-is limits (count p) extent (ended p) m.going (ended-are (count p) p.extents) in
+    let o = open-is limits (count p) extent (ended p) m.going (ended_are (count p) p.extents) in
+    let r = rest-is limits (count p) extent (ended p) m.going (ended_are (count p) p.extents) in
     rw (o, r, m.counted, m.placed) refl
 
 -- what one more scan does to the open record and those that have ended
@@ -237,18 +237,18 @@ add-is limits scans x taken (Some e) es g h behind = elim (cases_lt (length scan
 -- the law of an accepted scan
 good-scan : (limits : Limits) (p : Past) (x : ScanParts) (f : Option ℕ) → Good limits p → Good limits (history.accepted limits p x f)
 good-scan limits p x f good =
-    let m = fired-is limits p f good in
-    let a = add-is limits p.scans x p.taken (mark_if limits (count p) f (history.met limits p)).extent (ended p) m.going (ended-are (count p) p.extents) good.behind in
-    rw (fired-list limits p f good) (record { is = a.is; going = a.going; behind = a.behind })
+    let m = fired_is limits p f good in
+    let a = add-is limits p.scans x p.taken (mark_if limits (count p) f (history.met limits p)).extent (ended p) m.going (ended_are (count p) p.extents) good.behind in
+    rw (fired_list limits p f good) (record { is = a.is; going = a.going; behind = a.behind })
 
 law-scan : (layout : SetupParts) (limits : Limits) (p : Past) (x : ScanParts) (f : Option ℕ) → Good limits p
     → kept_of layout limits (history.accepted limits p x f) ≡ accepted (kept_of layout limits p) x (mark_if limits (count p) f (history.met limits p))
 law-scan layout limits p x f good =
-    let m = fired-is limits p f good in
-    let a = add-is limits p.scans x p.taken (mark_if limits (count p) f (history.met limits p)).extent (ended p) m.going (ended-are (count p) p.extents) good.behind in
+    let m = fired_is limits p f good in
+    let a = add-is limits p.scans x p.taken (mark_if limits (count p) f (history.met limits p)).extent (ended p) m.going (ended_are (count p) p.extents) good.behind in
     let n = push-length p.scans x in
     let ring = sym (latest-push (limits.pre + 1) p.scans x) in
-    rw (fired-list limits p f good) (rw (a.recording, a.shelf, m.counted, ring, n, m.placed) refl)
+    rw (fired_list limits p f good) (rw (a.recording, a.shelf, m.counted, ring, n, m.placed) refl)
 
 -- what a trigger meets
 extent-same : (scans : List ScanParts) (o : Option Extent) → o ≡ extent_of (option_map (record_of scans) o)

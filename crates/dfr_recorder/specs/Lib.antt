@@ -11,3 +11,4 @@ pub mod Run
 pub mod Recording
 pub mod Sound
 pub mod Unshared
+pub mod Sharing

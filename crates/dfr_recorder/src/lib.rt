@@ -15,7 +15,7 @@ mod sequence;
 mod shelf;
 mod step;
 
-pub use laws::no_scan_shared;
+pub use laws::{no_scan_shared, scans_may_be_shared};
 pub use limits::{LimitFault, Limits};
 pub use record::{Cause, Extent, Record};
 pub use recorder::Recorder;
