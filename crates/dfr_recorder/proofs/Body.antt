@@ -1,5 +1,5 @@
 -- What the fields become is the next step.
-use Rattle.std.proofs.Common.{ℕ, suc, ◌≡◌, ◌+◌, ◌-◌, refl, sym, ap, subst, ◌∙◌, List, [], ◌∷◌, ◌++◌, length, drop, Option, Some, None, Result, Ok, arith}
+use Rattle.std.proofs.Common.{ℕ, suc, ◌≡◌, ◌+◌, ◌-◌, refl, sym, ap, subst, ◌∙◌, List, [], ◌∷◌, ◌++◌, length, drop, true, false, cond, Option, Some, None, Result, Ok, Err, arith}
 use Rattle.std.specs.Prelude.{slice_get, option_to_list}
 use Rattle.dfr_channels.specs.Parts.{ScanParts}
 use Rattle.dfr_channels.specs.Firing.{lowest_holding}
@@ -10,10 +10,11 @@ use Rattle.dfr_recorder.specs.declared.marks.MarkedIf.{MarkedIf}
 use Rattle.dfr_recorder.specs.declared.step.Hit.{Hit}
 use Rattle.dfr_recorder.specs.declared.step.Scanned.{Scanned}
 use Rattle.dfr_recorder.specs.declared.step.TriggerFault.{TriggerFault}
+use Rattle.dfr_recorder.specs.declared.step.TriggerFault.TheVariants as trigger_refused
 use Rattle.dfr_recorder.specs.Parts.{RecordParts}
 use Rattle.dfr_recorder.specs.Steps as step
 use Rattle.dfr_recorder.specs.Answers as answers
-use Rattle.dfr_recorder.specs.Marks.{mark, mark_if, scanned}
+use Rattle.dfr_recorder.specs.Marks.{mark, mark_if, is_covered, scanned}
 use Rattle.dfr_recorder.specs.History.{refusal, lost_refusal, lost_scan, refused_when_full}
 use Rattle.dfr_recorder.specs.Kept.{Kept, latest}
 use Rattle.dfr_recorder.specs.Recording.{longer_if, unless_last, if_last, met, accepted, after_mark, fired_mark, IsAccepted}
@@ -36,28 +37,48 @@ take_body k old rest r v e f = subst (λ (q : Kept). IsMade q step.Take (answers
 })
 
 pub trigger_body : (k old : Kept) (j : ℕ) (before : Met) (m : Marked) (recording : Option RecordParts) (r : Result Hit TriggerFault)
-    → k ≡ old → k.scans ≡ suc j → before ≡ met k → m ≡ mark k.limits j cause.Manual before → recording ≡ after_mark k m.extent → r ≡ refused_when_full m.hit
-    → IsMade old step.Trigger (answers.Trigger r) (record k { opened = m.opened; recording = recording })
-trigger_body k old j before m recording r v at met_is mark_is recording_is r_is =
+    → k ≡ old → k.scans ≡ suc j → before ≡ met k → is_covered k.limits j before ≡ false → m ≡ mark k.limits j cause.Manual before → recording ≡ after_mark k m.extent → r ≡ refused_when_full m.hit
+    → IsMade old step.Trigger (answers.Trigger r) (record k { newest = m.newest; recording = recording })
+trigger_body k old j before m recording r v at met_is free mark_is recording_is r_is =
     let is : mark k.limits j cause.Manual (met k) ≡ m = sym (mark_is ∙ ap (mark k.limits j cause.Manual) met_is) in
-    subst (λ (q : Kept). IsMade q step.Trigger (answers.Trigger r) (record k { opened = m.opened; recording = recording })) v (record {
-      told = ap (λ i. answers.Trigger (told_of_trigger k i)) at ∙ ap (λ (q : Marked). answers.Trigger (refused_when_full q.hit)) is ∙ ap answers.Trigger (sym r_is);
-      next = ap (next_trigger k) at ∙ ap (λ (q : Marked). marked k q.opened q.extent) is ∙ ap (λ q. record k { opened = m.opened; recording = q }) (sym recording_is);
+    let not_covered : is_covered k.limits j (met k) ≡ false = sym (ap (is_covered k.limits j) met_is) ∙ free in
+    subst (λ (q : Kept). IsMade q step.Trigger (answers.Trigger r) (record k { newest = m.newest; recording = recording })) v (record {
+      told =
+          ap (λ i. answers.Trigger (told_of_trigger k i)) at
+          ∙ ap (λ b. answers.Trigger (cond b (Err trigger_refused.Covered) (refused_when_full (mark k.limits j cause.Manual (met k)).hit))) not_covered
+          ∙ ap (λ (q : Marked). answers.Trigger (refused_when_full q.hit)) is ∙ ap answers.Trigger (sym r_is);
+      next =
+          ap (next_trigger k) at
+          ∙ ap (λ b. cond b k (marked k (mark k.limits j cause.Manual (met k)).newest (mark k.limits j cause.Manual (met k)).extent)) not_covered
+          ∙ ap (λ (q : Marked). marked k q.newest q.extent) is ∙ ap (λ q. record k { newest = m.newest; recording = q }) (sym recording_is);
+    })
+
+pub covered_body : (k old : Kept) (j : ℕ) (before : Met) → k ≡ old → k.scans ≡ suc j → before ≡ met k → is_covered k.limits j before ≡ true
+    → IsMade old step.Trigger (answers.Trigger (Err trigger_refused.Covered)) old
+covered_body k old j before v at met_is is =
+    let covered : is_covered k.limits j (met k) ≡ true = sym (ap (is_covered k.limits j) met_is) ∙ is in
+    subst (λ (q : Kept). IsMade q step.Trigger (answers.Trigger (Err trigger_refused.Covered)) q) v (record {
+      told =
+          ap (λ i. answers.Trigger (told_of_trigger k i)) at
+          ∙ ap (λ b. answers.Trigger (cond b (Err trigger_refused.Covered) (refused_when_full (mark k.limits j cause.Manual (met k)).hit))) covered;
+      next =
+          ap (next_trigger k) at
+          ∙ ap (λ b. cond b k (marked k (mark k.limits j cause.Manual (met k)).newest (mark k.limits j cause.Manual (met k)).extent)) covered;
     })
 
 accepted_body : (k : Kept) (x : ScanParts) (m : MarkedIf) (longer recording : Option RecordParts) (shelf : List RecordParts) (ring : List ScanParts)
     → longer ≡ longer_if x (after_mark k m.extent) → recording ≡ unless_last k.scans longer → shelf ≡ k.shelf ++ if_last k.scans longer → ring ≡ latest (k.limits.pre + 1) (k.ring ++ x ∷ [])
-    → accepted k x m ≡ record k { scans = k.scans + 1; ring = ring; opened = m.opened; recording = recording; shelf = shelf }
+    → accepted k x m ≡ record k { scans = k.scans + 1; ring = ring; newest = m.newest; recording = recording; shelf = shelf }
 accepted_body k x m longer recording shelf ring longer_is recording_is shelf_is ring_is = rw (recording_is, shelf_is, ring_is, longer_is) refl
 
 pub accept_body : (k old : Kept) (x : ScanParts) (f : Option ℕ) (before : Met) (m : MarkedIf) (longer recording : Option RecordParts) (shelf : List RecordParts) (ring : List ScanParts) (s : Scanned)
     → k ≡ old → before ≡ met k → m ≡ mark_if k.limits k.scans f before
     → longer ≡ longer_if x (after_mark k m.extent) → recording ≡ unless_last k.scans longer → shelf ≡ k.shelf ++ if_last k.scans longer
     → ring ≡ latest (k.limits.pre + 1) (k.ring ++ x ∷ []) → s ≡ scanned k.scans m
-    → IsAccepted old x f s (record k { scans = k.scans + 1; ring = ring; opened = m.opened; recording = recording; shelf = shelf })
+    → IsAccepted old x f s (record k { scans = k.scans + 1; ring = ring; newest = m.newest; recording = recording; shelf = shelf })
 accept_body k old x f before m longer recording shelf ring s v met_is mark_is longer_is recording_is shelf_is ring_is s_is =
     let is : fired_mark k f ≡ m = sym (mark_is ∙ ap (mark_if k.limits k.scans f) met_is) in
-    let new : Kept = record k { scans = k.scans + 1; ring = ring; opened = m.opened; recording = recording; shelf = shelf } in
+    let new : Kept = record k { scans = k.scans + 1; ring = ring; newest = m.newest; recording = recording; shelf = shelf } in
     subst (λ (q : Kept). IsAccepted q x f s new) v
     (ap (scanned k.scans) is ∙ sym s_is, ap (accepted k x) is ∙ accepted_body k x m longer recording shelf ring longer_is recording_is shelf_is ring_is)
 

@@ -6,6 +6,7 @@ use Rattle.std.proofs.Math.Nat.{mul-le-mul_left}
 use Rattle.std.proofs.lemmas.Nat.{mul-le}
 use Rattle.dfr_channels.specs.Parts.{SetupParts}
 use Rattle.dfr_recorder.specs.declared.limits.Limits.{Limits}
+use Rattle.dfr_recorder.specs.declared.marks.Newest.{Newest}
 use Rattle.dfr_recorder.specs.Parts.{RecordParts}
 use Rattle.dfr_recorder.specs.Kept.{Kept, scans_in, held}
 use Rattle.dfr_recorder.specs.Sound.{IsSound, IsClosed, IsOpenSound}
@@ -29,15 +30,15 @@ scans-short layout limits [] h = omega arith
 scans-short layout limits (r ∷ rs) h = omega (arith, (All-head (IsClosed layout limits) r rs h).short, scans-short layout limits rs (All-tail (IsClosed layout limits) r rs h))
 
 -- the open record and the shelf
-records-bound : (layout : SetupParts) (limits : Limits) (n opened : ℕ) (recording : Option RecordParts) (shelf : List RecordParts)
-    → IsOpenSound layout limits n n opened (length shelf) recording → All (IsClosed layout limits) shelf → scans_in (option_to_list recording) + scans_in shelf ≤ limits.longest * limits.shelf
-records-bound layout limits n opened None shelf h closed = omega (arith, scans-short layout limits shelf closed, mul-le-mul_left limits.longest h.1)
-records-bound layout limits n opened (Some r) shelf h closed =
+records-bound : (layout : SetupParts) (limits : Limits) (n : ℕ) (newest : Newest) (recording : Option RecordParts) (shelf : List RecordParts)
+    → IsOpenSound layout limits n n newest (length shelf) recording → All (IsClosed layout limits) shelf → scans_in (option_to_list recording) + scans_in shelf ≤ limits.longest * limits.shelf
+records-bound layout limits n newest None shelf h closed = omega (arith, scans-short layout limits shelf closed, mul-le-mul_left limits.longest h.1)
+records-bound layout limits n newest (Some r) shelf h closed =
     let all : limits.longest * (length shelf + 1) ≤ limits.longest * limits.shelf = mul-le-mul_left limits.longest (omega (arith, h.room)) in
     omega (arith, scans-short layout limits shelf closed, all, h.short, h.scans, h.to_come)
 
 pub held_bound : (k : Kept) → IsSound k → held k ≤ k.limits.pre + 1 + k.limits.longest * k.limits.shelf
-held_bound k h = omega (arith, h.ring, records-bound k.layout k.limits k.scans k.opened k.recording k.shelf h.recording h.shelf)
+held_bound k h = omega (arith, h.ring, records-bound k.layout k.limits k.scans k.newest k.recording k.shelf h.recording h.shelf)
 
 -- the same by numbers
 limits-low : (limits : Limits) → limits.pre + 1 + limits.longest * limits.shelf ≤ 65000000

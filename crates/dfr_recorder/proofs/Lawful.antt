@@ -6,6 +6,7 @@ use Rattle.std.proofs.lemmas.List.Elements.{All-head, All-nil}
 use Rattle.dfr_channels.specs.Parts.{SetupParts, ScanParts}
 use Rattle.dfr_channels.specs.declared.rule.Rule.{Rule}
 use Rattle.dfr_recorder.specs.declared.limits.Limits.{Limits}
+use Rattle.dfr_recorder.specs.declared.marks.Newest.{Newest}
 use Rattle.dfr_recorder.specs.Parts.{RecordParts}
 use Rattle.dfr_recorder.specs.Limits.{has_stamps}
 use Rattle.dfr_recorder.specs.Own.{is_own}
@@ -31,19 +32,22 @@ sound_taken_in k old x f s new e ok m h = subst IsSound m.1 (sound_accepted old 
 abbrev no_scans : List ScanParts
 no_scans = []
 
+abbrev pub none_opened : Newest
+none_opened = record { number = 0; end = 0 }
+
 -- a recorder without a past
-pub kept_new : (layout : SetupParts) (limits : Limits) (rules : List Rule) → kept (opening layout limits rules) [] ≡ kept_by layout limits rules 0 [] 0 None []
+pub kept_new : (layout : SetupParts) (limits : Limits) (rules : List Rule) → kept (opening layout limits rules) [] ≡ kept_by layout limits rules 0 [] none_opened None []
 kept_new layout limits rules =
     let none : latest (limits.pre + 1) no_scans ≡ [] = drop_all (0 - (limits.pre + 1)) no_scans (omega arith) in
-    ap (λ ring. kept_by layout limits rules 0 ring 0 None []) none
+    ap (λ ring. kept_by layout limits rules 0 ring none_opened None []) none
 
-pub sound_new : (layout : SetupParts) (limits : Limits) (rules : List Rule) → IsTrue (has_stamps layout.rate limits.longest) → IsSound (kept_by layout limits rules 0 [] 0 None [])
+pub sound_new : (layout : SetupParts) (limits : Limits) (rules : List Rule) → IsTrue (has_stamps layout.rate limits.longest) → IsSound (kept_by layout limits rules 0 [] none_opened None [])
 sound_new layout limits rules h = record {
   stamped = h;
   timed = λ i lt. absurd (omega arith);
   ring = omega arith;
   pass = All-nil (Passes layout);
-  recording = (omega arith, omega arith);
+  recording = (omega arith, omega arith, omega arith);
   few = omega arith;
   shelf = All-nil (IsClosed layout limits);
 }
@@ -72,14 +76,17 @@ nothing-in : {X : Type 0} (xs : List X) → length xs ≡ 0 → xs ≡ []
 nothing-in [] e = refl
 nothing-in (x ∷ xs) e = absurd (omega (arith, e))
 
-none-open : (layout : SetupParts) (limits : Limits) (opened w : ℕ) (recording : Option RecordParts) → IsOpenSound layout limits 0 0 opened w recording → (opened ≡ 0) × (recording ≡ None)
-none-open layout limits opened w None h = (omega (arith, h.0), refl)
-none-open layout limits opened w (Some r) h = absurd (omega (arith, h.triggered))
+none-open : (layout : SetupParts) (limits : Limits) (newest : Newest) (w : ℕ) (recording : Option RecordParts) → IsOpenSound layout limits 0 0 newest w recording → (newest ≡ none_opened) × (recording ≡ None)
+none-open layout limits newest w None h =
+    let number : newest.number ≡ 0 = omega (arith, h.0) in
+    let end : newest.end ≡ 0 = omega (arith, h.2) in
+    (ap (λ n. record newest { number = n }) number ∙ ap (λ n. record none_opened { end = n }) end, refl)
+none-open layout limits newest w (Some r) h = absurd (omega (arith, h.triggered))
 
 pub fresh_law : (k : Kept) → IsSound k → k.scans ≡ 0 → k ≡ kept (opening k.layout k.limits k.rules) []
 fresh_law k h e =
-    let none = none-open k.layout k.limits k.opened (length k.shelf) k.recording (subst (λ (m : ℕ). IsOpenSound k.layout k.limits m m k.opened (length k.shelf) k.recording) e h.recording) in
+    let none = none-open k.layout k.limits k.newest (length k.shelf) k.recording (subst (λ (m : ℕ). IsOpenSound k.layout k.limits m m k.newest (length k.shelf) k.recording) e h.recording) in
     let ring = nothing-in k.ring (omega (arith, h.ring)) in
     let shelf = nothing-in k.shelf (omega (arith, h.few)) in
-    let same : kept_by k.layout k.limits k.rules k.scans k.ring k.opened k.recording k.shelf ≡ kept_by k.layout k.limits k.rules 0 [] 0 None [] = rw (e, ring, none.0, none.1, shelf) refl in
+    let same : kept_by k.layout k.limits k.rules k.scans k.ring k.newest k.recording k.shelf ≡ kept_by k.layout k.limits k.rules 0 [] none_opened None [] = rw (e, ring, none.0, none.1, shelf) refl in
     same ∙ sym (kept_new k.layout k.limits k.rules)

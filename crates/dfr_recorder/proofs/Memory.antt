@@ -1,5 +1,5 @@
 -- Where memory is wanted, a record is open or opens.
-use Rattle.std.proofs.Common.{ℕ, suc, ◌≡◌, ◌+◌, sym, ap, subst, ◌∙◌, refl, Bool, true, false, eqb, ltb, ◌∷◌, length, Option, Some, None, arith}
+use Rattle.std.proofs.Common.{ℕ, suc, ◌≡◌, ◌+◌, sym, ap, subst, ◌∙◌, refl, Bool, true, false, cond, eqb, ltb, ◌∷◌, length, Option, Some, None, arith}
 use Rattle.std.specs.Prelude.{◌-◌, ◌||◌, IsTrue, is_some, slice_get}
 use Rattle.std.proofs.lemmas.Bool.{lt-ltb, and_from}
 use Rattle.dfr_channels.specs.Parts.{ScanParts}
@@ -8,12 +8,13 @@ use Rattle.dfr_recorder.specs.declared.limits.Limits.{Limits}
 use Rattle.dfr_recorder.specs.declared.record.Cause.{Cause}
 use Rattle.dfr_recorder.specs.declared.record.Cause.TheVariants as cause
 use Rattle.dfr_recorder.specs.declared.record.Extent.{Extent}
+use Rattle.dfr_recorder.specs.declared.marks.Newest.{Newest}
 use Rattle.dfr_recorder.specs.declared.marks.Met.{Met}
 use Rattle.dfr_recorder.specs.declared.marks.Marked.{Marked}
 use Rattle.dfr_recorder.specs.declared.marks.MarkedIf.{MarkedIf}
 use Rattle.dfr_recorder.specs.Parts.{RecordParts}
 use Rattle.dfr_recorder.specs.Steps as step
-use Rattle.dfr_recorder.specs.Marks.{mark, mark_if}
+use Rattle.dfr_recorder.specs.Marks.{mark, mark_if, is_covered}
 use Rattle.dfr_recorder.specs.History.{past, count, is_open, refusal, lost_refusal}
 use Rattle.dfr_recorder.specs.Kept.{Kept, kept}
 use Rattle.dfr_recorder.specs.Memory.{accepts, opens, GrowsRecord, AddsLost, OpensRecord}
@@ -24,20 +25,20 @@ use Rattle.dfr_recorder.proofs.Body.{fired_is}
 use Rattle.dfr_recorder.proofs.Readers.{open_law}
 
 -- a trigger after which a record is open found one or opened one
-mark-by : (limits : Limits) (k opened : ℕ) (by : Cause) (full : Bool) (extent : Option Extent)
-    → is_some (mark limits k by (record { opened = opened; full = full; extent = extent })).extent ≡ true
-    → (is_some extent || ltb opened (mark limits k by (record { opened = opened; full = full; extent = extent })).opened) ≡ true
-mark-by limits k opened by full (Some e) some = refl
-mark-by limits k opened by true None some = absurd (cc)
-mark-by limits k opened by false None some = lt-ltb opened (opened + 1) (omega arith)
+mark-by : (limits : Limits) (k : ℕ) (newest : Newest) (by : Cause) (full : Bool) (extent : Option Extent)
+    → is_some (mark limits k by (record { newest = newest; full = full; extent = extent })).extent ≡ true
+    → (is_some extent || ltb newest.number (mark limits k by (record { newest = newest; full = full; extent = extent })).newest.number) ≡ true
+mark-by limits k newest by full (Some e) some = refl
+mark-by limits k newest by true None some = absurd (cc)
+mark-by limits k newest by false None some = lt-ltb newest.number (newest.number + 1) (omega arith)
 
 found-by : (opened opened2 : ℕ) (recording : Option RecordParts) → (is_some (extent_of recording) || ltb opened opened2) ≡ true → (is_some recording || ltb opened opened2) ≡ true
 found-by opened opened2 None e = e
 found-by opened opened2 (Some r) e = refl
 
-fired-by : (k : Kept) (f : Option ℕ) → is_some (fired_mark k f).extent ≡ true → (is_some (extent_of k.recording) || ltb k.opened (fired_mark k f).opened) ≡ true
+fired-by : (k : Kept) (f : Option ℕ) → is_some (fired_mark k f).extent ≡ true → (is_some (extent_of k.recording) || ltb k.newest.number (fired_mark k f).newest.number) ≡ true
 fired-by k None some = rw some refl
-fired-by k (Some rule) some = mark-by k.limits k.scans k.opened (cause.Rule rule) (eqb (length k.shelf) k.limits.shelf) (extent_of k.recording) some
+fired-by k (Some rule) some = mark-by k.limits k.scans k.newest (cause.Rule rule) (eqb (length k.shelf) k.limits.shelf) (extent_of k.recording) some
 
 pub finds_law : (k old : Kept) (f : Option ℕ) (before : Met) (m : MarkedIf) → k ≡ old → before ≡ met k → m ≡ mark_if k.limits k.scans f before → is_some m.extent ≡ true
     → is_some (fired_mark old f).extent ≡ true
@@ -55,12 +56,12 @@ grows_law k old x f v ok f_is found_some o h e =
     let was : count (past o h) ≡ k.scans = ap (λ (k : Kept). k.scans) same in
     let now : count (past o (step.Scan x ∷ h)) ≡ k.scans + 1 = ap (λ (k : Kept). k.scans) after in
     let taken_in : IsTrue (accepts o h (step.Scan x)) = lt-ltb (count (past o h)) (count (past o (step.Scan x ∷ h))) (omega (arith, was, now)) in
-    let found : (is_some k.recording || ltb k.opened m.opened) ≡ true =
-    found-by k.opened m.opened k.recording (subst (λ (q : MarkedIf). (is_some (extent_of k.recording) || ltb k.opened q.opened) ≡ true) is (fired-by k (fired k x) (ap (λ (q : MarkedIf). is_some q.extent) is ∙ some))) in
+    let found : (is_some k.recording || ltb k.newest.number m.newest.number) ≡ true =
+    found-by k.newest.number m.newest.number k.recording (subst (λ (q : MarkedIf). (is_some (extent_of k.recording) || ltb k.newest.number q.newest.number) ≡ true) is (fired-by k (fired k x) (ap (λ (q : MarkedIf). is_some q.extent) is ∙ some))) in
     let meets : (is_open (past o h) || opens o h (step.Scan x)) ≡ true =
     ap (λ b. b || opens o h (step.Scan x)) (sym (open_law o h) ∙ ap (λ (k : Kept). is_some k.recording) same)
-    ∙ ap (λ (n : ℕ). is_some k.recording || ltb n (length (past o (step.Scan x ∷ h)).extents)) (ap (λ (k : Kept). k.opened) same)
-    ∙ ap (λ (n : ℕ). is_some k.recording || ltb k.opened n) (ap (λ (k : Kept). k.opened) after)
+    ∙ ap (λ (n : ℕ). is_some k.recording || ltb n (length (past o (step.Scan x ∷ h)).extents)) (ap (λ (k : Kept). k.newest.number) same)
+    ∙ ap (λ (n : ℕ). is_some k.recording || ltb k.newest.number n) (ap (λ (k : Kept). k.newest.number) after)
     ∙ found in
     and_from _ _ taken_in meets
 
@@ -72,14 +73,17 @@ adds_law k old v ok o h e =
     let now : count (past o (step.Lost ∷ h)) ≡ k.scans + 1 = ap (λ (k : Kept). k.scans) after in
     lt-ltb (count (past o h)) (count (past o (step.Lost ∷ h))) (omega (arith, was, now))
 
-pub opens_law : (k old : Kept) (j : ℕ) (before : Met) (m : Marked) → k ≡ old → k.scans ≡ suc j → before ≡ met k → m ≡ mark k.limits j cause.Manual before → k.recording ≡ None → is_some m.extent ≡ true → OpensRecord old
-opens_law k old j before m v at met_is mark_is none some o h e =
+pub opens_law : (k old : Kept) (j : ℕ) (before : Met) (m : Marked) → k ≡ old → k.scans ≡ suc j → before ≡ met k → is_covered k.limits j before ≡ false
+    → m ≡ mark k.limits j cause.Manual before → k.recording ≡ None → is_some m.extent ≡ true → OpensRecord old
+opens_law k old j before m v at met_is free mark_is none some o h e =
     let is : mark k.limits j cause.Manual (met k) ≡ m = sym (mark_is ∙ ap (mark k.limits j cause.Manual) met_is) in
     let same : kept o h ≡ k = e ∙ sym v in
-    let after : kept o (step.Trigger ∷ h) ≡ marked k m.opened m.extent = core-law o h step.Trigger ∙ ap (λ k. next k step.Trigger) same ∙ ap (next_trigger k) at ∙ ap (λ (q : Marked). marked k q.opened q.extent) is in
-    let more : (is_some (extent_of k.recording) || ltb k.opened m.opened) ≡ true =
-    subst (λ (q : Marked). (is_some (extent_of k.recording) || ltb k.opened q.opened) ≡ true) is
-    (mark-by k.limits j k.opened cause.Manual (eqb (length k.shelf) k.limits.shelf) (extent_of k.recording) (ap (λ (q : Marked). is_some q.extent) is ∙ some)) in
-    ap (λ (n : ℕ). ltb n (length (past o (step.Trigger ∷ h)).extents)) (ap (λ (k : Kept). k.opened) same)
-    ∙ ap (λ (n : ℕ). ltb k.opened n) (ap (λ (k : Kept). k.opened) after)
-    ∙ sym (ap (λ r. is_some (extent_of r) || ltb k.opened m.opened) none) ∙ more
+    let after : kept o (step.Trigger ∷ h) ≡ marked k m.newest m.extent = core-law o h step.Trigger ∙ ap (λ k. next k step.Trigger) same ∙ ap (next_trigger k) at
+    ∙ ap (λ b. cond b k (marked k (mark k.limits j cause.Manual (met k)).newest (mark k.limits j cause.Manual (met k)).extent)) (sym (ap (is_covered k.limits j) met_is) ∙ free)
+    ∙ ap (λ (q : Marked). marked k q.newest q.extent) is in
+    let more : (is_some (extent_of k.recording) || ltb k.newest.number m.newest.number) ≡ true =
+    subst (λ (q : Marked). (is_some (extent_of k.recording) || ltb k.newest.number q.newest.number) ≡ true) is
+    (mark-by k.limits j k.newest cause.Manual (eqb (length k.shelf) k.limits.shelf) (extent_of k.recording) (ap (λ (q : Marked). is_some q.extent) is ∙ some)) in
+    ap (λ (n : ℕ). ltb n (length (past o (step.Trigger ∷ h)).extents)) (ap (λ (k : Kept). k.newest.number) same)
+    ∙ ap (λ (n : ℕ). ltb k.newest.number n) (ap (λ (k : Kept). k.newest.number) after)
+    ∙ sym (ap (λ r. is_some (extent_of r) || ltb k.newest.number m.newest.number) none) ∙ more

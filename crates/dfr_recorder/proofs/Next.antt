@@ -4,6 +4,7 @@ use Rattle.dfr_channels.specs.Parts.{ScanParts}
 use Rattle.dfr_channels.specs.Firing.{lowest_holding, rules_fit}
 use Rattle.dfr_recorder.specs.declared.record.Cause.TheVariants as cause
 use Rattle.dfr_recorder.specs.declared.record.Extent.{Extent}
+use Rattle.dfr_recorder.specs.declared.marks.Newest.{Newest}
 use Rattle.dfr_recorder.specs.declared.step.Hit.{Hit}
 use Rattle.dfr_recorder.specs.declared.step.Scanned.{Scanned}
 use Rattle.dfr_recorder.specs.declared.step.ScanRefusal.{ScanRefusal}
@@ -14,14 +15,14 @@ use Rattle.dfr_recorder.specs.Steps.{StepParts}
 use Rattle.dfr_recorder.specs.Steps as step
 use Rattle.dfr_recorder.specs.Answers.{AnswerParts}
 use Rattle.dfr_recorder.specs.Answers as answers
-use Rattle.dfr_recorder.specs.Marks.{mark, scanned}
+use Rattle.dfr_recorder.specs.Marks.{mark, is_covered, scanned}
 use Rattle.dfr_recorder.specs.History.{newest, refusal, lost_refusal, lost_scan, refused_when_full}
 use Rattle.dfr_recorder.specs.Kept.{Kept}
 use Rattle.dfr_recorder.specs.Recording.{met, after_mark, fired_mark, accepted}
 
 -- after a trigger
-abbrev pub marked : Kept → ℕ → Option Extent → Kept
-marked k opened extent = record k { opened = opened; recording = after_mark k extent }
+abbrev pub marked : Kept → Newest → Option Extent → Kept
+marked k newest extent = record k { newest = newest; recording = after_mark k extent }
 
 abbrev pub fired : Kept → ScanParts → Option ℕ
 fired k scan = lowest_holding (newest k.ring) scan k.rules
@@ -40,7 +41,7 @@ next_lost k None = accepted k (lost k) (fired_mark k None)
 
 abbrev pub next_trigger : Kept → ℕ → Kept
 next_trigger k zero = k
-next_trigger k (suc j) = marked k (mark k.limits j cause.Manual (met k)).opened (mark k.limits j cause.Manual (met k)).extent
+next_trigger k (suc j) = cond (is_covered k.limits j (met k)) k (marked k (mark k.limits j cause.Manual (met k)).newest (mark k.limits j cause.Manual (met k)).extent)
 
 -- after a step
 abbrev pub next : Kept → StepParts → Kept
@@ -60,7 +61,7 @@ told_of_lost k None = Ok (scanned k.scans (fired_mark k None))
 
 abbrev pub told_of_trigger : Kept → ℕ → Result Hit TriggerFault
 told_of_trigger k zero = Err fault_of_trigger.NoScan
-told_of_trigger k (suc j) = refused_when_full (mark k.limits j cause.Manual (met k)).hit
+told_of_trigger k (suc j) = cond (is_covered k.limits j (met k)) (Err fault_of_trigger.Covered) (refused_when_full (mark k.limits j cause.Manual (met k)).hit)
 
 -- what a step is answered
 abbrev pub told : Kept → StepParts → AnswerParts

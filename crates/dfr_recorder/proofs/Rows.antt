@@ -58,19 +58,19 @@ abbrev one_of_each : SetupParts
 one_of_each = layout (status_channel ∷ []) 1000 (pos 0)
 
 abbrev limits_2_2_6_1 : Limits
-limits_2_2_6_1 = record { pre = 2; post = 2; longest = 6; shelf = 1; some = (lit≤ tt, lit≤ tt); fit = (lit≤ tt, lit≤ tt); few = lit≤ tt; early = lit≤ tt }
+limits_2_2_6_1 = record { pre = 2; post = 2; longest = 6; shelf = 1; unshared = false; some = (lit≤ tt, lit≤ tt); fit = (lit≤ tt, lit≤ tt); few = lit≤ tt; early = lit≤ tt }
 
 abbrev limits_2_2_6_2 : Limits
-limits_2_2_6_2 = record { pre = 2; post = 2; longest = 6; shelf = 2; some = (lit≤ tt, lit≤ tt); fit = (lit≤ tt, lit≤ tt); few = lit≤ tt; early = lit≤ tt }
+limits_2_2_6_2 = record { pre = 2; post = 2; longest = 6; shelf = 2; unshared = false; some = (lit≤ tt, lit≤ tt); fit = (lit≤ tt, lit≤ tt); few = lit≤ tt; early = lit≤ tt }
 
 abbrev limits_2_2_8_1 : Limits
-limits_2_2_8_1 = record { pre = 2; post = 2; longest = 8; shelf = 1; some = (lit≤ tt, lit≤ tt); fit = (lit≤ tt, lit≤ tt); few = lit≤ tt; early = lit≤ tt }
+limits_2_2_8_1 = record { pre = 2; post = 2; longest = 8; shelf = 1; unshared = false; some = (lit≤ tt, lit≤ tt); fit = (lit≤ tt, lit≤ tt); few = lit≤ tt; early = lit≤ tt }
 
 abbrev limits_0_3_4_1 : Limits
-limits_0_3_4_1 = record { pre = 0; post = 3; longest = 4; shelf = 1; some = (lit≤ tt, lit≤ tt); fit = (lit≤ tt, lit≤ tt); few = lit≤ tt; early = lit≤ tt }
+limits_0_3_4_1 = record { pre = 0; post = 3; longest = 4; shelf = 1; unshared = false; some = (lit≤ tt, lit≤ tt); fit = (lit≤ tt, lit≤ tt); few = lit≤ tt; early = lit≤ tt }
 
 abbrev limits_0_1_2_1 : Limits
-limits_0_1_2_1 = record { pre = 0; post = 1; longest = 2; shelf = 1; some = (lit≤ tt, lit≤ tt); fit = (lit≤ tt, lit≤ tt); few = lit≤ tt; early = lit≤ tt }
+limits_0_1_2_1 = record { pre = 0; post = 1; longest = 2; shelf = 1; unshared = false; some = (lit≤ tt, lit≤ tt); fit = (lit≤ tt, lit≤ tt); few = lit≤ tt; early = lit≤ tt }
 
 abbrev no_rules : List Rule
 no_rules = []
@@ -177,6 +177,28 @@ pub taken_first : replies first_opening [] (first_steps ++ step.Trigger ∷ step
     ≡ first_answers ++ answer.Trigger (Err fault.ShelfFull) ∷ first_record ∷ opened_by_hand 2 ∷ []
 unfolding scan_fault lowest_holding holds
 taken_first = refl
+
+-- the same two under unshared limits: a manual trigger is refused until a scan comes that no record has, and the next record begins there
+abbrev covered : AnswerParts
+covered = answer.Trigger (Err fault.Covered)
+
+pub no_shared_scans : replies (opening one_channel (record limits_2_2_6_2 { unshared = true }) no_rules) [] (first_steps ++ step.Trigger ∷ scan 16 ∷ step.Trigger ∷ scan 17 ∷ scan 18 ∷ step.Take ∷ step.Take ∷ [])
+    ≡ first_answers ++ covered ∷ idle 6 ∷ opened_by_hand 2 ∷ idle 7 ∷ closes 8 2 ∷ first_record ∷ taken 2 6 6 8 cause.Manual (16 ∷ 17 ∷ 18 ∷ []) ∷ []
+unfolding scan_fault lowest_holding holds
+no_shared_scans = refl
+
+pub covered_before_full : replies (opening one_channel (record limits_2_2_6_1 { unshared = true }) no_rules) [] (first_steps ++ step.Trigger ∷ step.Take ∷ step.Trigger ∷ scan 16 ∷ step.Trigger ∷ [])
+    ≡ first_answers ++ covered ∷ first_record ∷ covered ∷ idle 6 ∷ opened_by_hand 2 ∷ []
+unfolding scan_fault lowest_holding holds
+covered_before_full = refl
+
+-- a scan that fires is never covered
+pub fired_unshared : replies (opening one_channel (record limits_2_2_6_2 { unshared = true }) over_100) [] (high_steps ++ scan 0 ∷ scan 0 ∷ step.Take ∷ step.Take ∷ [])
+    ≡ idle 0 ∷ idle 1 ∷ idle 2 ∷ fired 3 (hit.Opened 1) None ∷ fired 4 (hit.Extended 1) None ∷ fired 5 (hit.AtLimit 1) None
+    ∷ fired 6 (hit.AtLimit 1) (Some 1) ∷ fired 7 (hit.Opened 2) None ∷ idle 8 ∷ closes 9 2
+    ∷ taken 1 1 3 6 (cause.Rule 0) (0 ∷ 0 ∷ 100 ∷ 100 ∷ 100 ∷ 100 ∷ []) ∷ taken 2 7 7 9 (cause.Rule 0) (100 ∷ 0 ∷ 0 ∷ []) ∷ []
+unfolding scan_fault lowest_holding holds
+fired_unshared = refl
 
 -- another rate, and none before the trigger
 pub none_before : replies (opening (layout [] 4800 (pos 0)) limits_0_3_4_1 no_rules) [] (scan 1 ∷ step.Trigger ∷ scan 2 ∷ scan 3 ∷ scan 4 ∷ step.Take ∷ [])

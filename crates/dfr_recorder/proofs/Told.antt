@@ -1,16 +1,17 @@
 -- The answers: what is told from what is kept is what the history has answered.
-use Rattle.std.proofs.Common.{ℕ, zero, suc, ◌≡◌, refl, sym, ap, ◌∙◌, List, [], ◌∷◌, drop, Option, Some, None, Ok}
+use Rattle.std.proofs.Common.{ℕ, zero, suc, ◌≡◌, refl, sym, ap, ◌∙◌, cond, List, [], ◌∷◌, drop, Option, Some, None, Ok, Err}
 use Rattle.std.specs.Prelude.{slice_get}
 use Rattle.dfr_channels.specs.Parts.{SetupParts, ScanParts}
 use Rattle.dfr_recorder.specs.declared.limits.Limits.{Limits}
 use Rattle.dfr_recorder.specs.declared.record.Cause.TheVariants as cause
 use Rattle.dfr_recorder.specs.declared.step.ScanRefusal.{ScanRefusal}
 use Rattle.dfr_recorder.specs.declared.step.LostRefusal.{LostRefusal}
+use Rattle.dfr_recorder.specs.declared.step.TriggerFault.TheVariants as trigger_refused
 use Rattle.dfr_recorder.specs.Steps.{StepParts}
 use Rattle.dfr_recorder.specs.Steps as step
 use Rattle.dfr_recorder.specs.Answers.{AnswerParts}
 use Rattle.dfr_recorder.specs.Answers as answers
-use Rattle.dfr_recorder.specs.Marks.{mark, mark_if, scanned}
+use Rattle.dfr_recorder.specs.Marks.{mark, mark_if, is_covered, scanned}
 use Rattle.dfr_recorder.specs.History.{Opening, Past, past, count, ended, records, refusal, lost_refusal, refused_when_full, answer, answer_to_scan, answer_to_lost, answer_to_trigger}
 use Rattle.dfr_recorder.specs.Kept.{Kept, kept, kept_of, reply, IsStep}
 use Rattle.dfr_recorder.proofs.Next.{next, told, told_of_scan, told_of_lost, told_of_trigger}
@@ -26,7 +27,7 @@ told-lost layout limits p None = ap (λ m. Ok (scanned (count p) (mark_if limits
 
 told-trigger : (layout : SetupParts) (limits : Limits) (p : Past) (n : ℕ) → answer_to_trigger limits p n ≡ told_of_trigger (kept_of layout limits p) n
 told-trigger layout limits p zero = refl
-told-trigger layout limits p (suc k) = ap (λ m. refused_when_full (mark limits k cause.Manual m).hit) (met-law layout limits p)
+told-trigger layout limits p (suc k) = ap (λ m. cond (is_covered limits k m) (Err trigger_refused.Covered) (refused_when_full (mark limits k cause.Manual m).hit)) (met-law layout limits p)
 
 -- the oldest on the shelf
 slice_get-drop : {X : Type 0} (t : ℕ) (xs : List X) → slice_get (drop t xs) 0 ≡ slice_get xs t

@@ -39,6 +39,7 @@ is_memory (Lost (Ok scanned)) = false
 is_memory (Trigger (Err trigger_refused.Memory)) = true
 is_memory (Trigger (Err trigger_refused.NoScan)) = false
 is_memory (Trigger (Err trigger_refused.ShelfFull)) = false
+is_memory (Trigger (Err trigger_refused.Covered)) = false
 is_memory (Trigger (Ok hit)) = false
 is_memory (Take taken) = false
 is_memory (SetRules done) = false

@@ -21,9 +21,10 @@ use Rattle.dfr_recorder.specs.declared.step.LostRefusal.TheVariants as lost_refu
 use Rattle.dfr_recorder.specs.declared.step.TriggerFault.{TriggerFault}
 use Rattle.dfr_recorder.specs.declared.step.TriggerFault.TheVariants as trigger_refused
 use Rattle.dfr_recorder.specs.declared.record.Extent.{Extent}
+use Rattle.dfr_recorder.specs.declared.marks.Newest.{Newest}
 use Rattle.dfr_recorder.specs.declared.marks.Met.{Met}
 use Rattle.dfr_recorder.specs.Parts.{RecordParts}
-use Rattle.dfr_recorder.specs.Marks.{mark, mark_if, scanned}
+use Rattle.dfr_recorder.specs.Marks.{mark, mark_if, is_covered, scanned}
 use Rattle.dfr_recorder.specs.Own.{has_instant}
 use Rattle.dfr_recorder.specs.Steps.{StepParts}
 use Rattle.dfr_recorder.specs.Steps as step
@@ -108,9 +109,17 @@ closed p = length (ended p)
 abbrev pub waiting : Past → ℕ
 waiting p = closed p - p.taken
 
+-- the place after the newest record, 0 where there is none
+abbrev pub end_of : List Extent → ℕ
+end_of [] = 0
+end_of (e ∷ before) = e.last + 1
+
+abbrev pub newest_of : List Extent → Newest
+newest_of extents = record { number = length extents; end = end_of extents }
+
 -- what a trigger meets
 abbrev pub met : Limits → Past → Met
-met limits p = record { opened = length p.extents; full = waiting p == limits.shelf; extent = open_one p }
+met limits p = record { newest = newest_of p.extents; full = waiting p == limits.shelf; extent = open_one p }
 
 -- after a trigger at place k: the open record, and those that have ended
 abbrev pub triggered : Limits → Past → ℕ → Cause → List Extent
@@ -133,10 +142,10 @@ abbrev pub after_lost : Limits → Past → ScanParts → Option LostRefusal →
 after_lost limits p scan (Some refusal) = p
 after_lost limits p scan None = accepted limits p scan None
 
--- after a trigger by hand, which has its place at the last of n scans
+-- after a manual trigger, which has its place at the last of n scans
 abbrev pub after_trigger : Limits → Past → ℕ → Past
 after_trigger limits p zero = p
-after_trigger limits p (suc k) = record p { extents = triggered limits p k cause.Manual }
+after_trigger limits p (suc k) = if is_covered limits k (met limits p) then p else record p { extents = triggered limits p k cause.Manual }
 
 -- after a step
 abbrev pub after : SetupParts → Limits → Past → StepParts → Past
@@ -176,7 +185,9 @@ refused_when_full (AtLimit c) = Ok (AtLimit c)
 
 abbrev pub answer_to_trigger : Limits → Past → ℕ → Result Hit TriggerFault
 answer_to_trigger limits p zero = Err trigger_refused.NoScan
-answer_to_trigger limits p (suc k) = refused_when_full (mark limits k cause.Manual (met limits p)).hit
+answer_to_trigger limits p (suc k) =
+    if is_covered limits k (met limits p) then Err trigger_refused.Covered
+    else refused_when_full (mark limits k cause.Manual (met limits p)).hit
 
 abbrev pub answer_to_take : Past → Option RecordParts
 answer_to_take p = slice_get (records p.scans (ended p)) p.taken

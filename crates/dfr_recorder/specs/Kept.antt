@@ -3,20 +3,21 @@ use Rattle.std.specs.Prelude.{ℕ, ◌≡◌, ◌+◌, ◌-◌, List, [], ◌∷
 use Rattle.dfr_channels.specs.Parts.{SetupParts, ScanParts}
 use Rattle.dfr_channels.specs.declared.rule.Rule.{Rule}
 use Rattle.dfr_recorder.specs.declared.limits.Limits.{Limits}
+use Rattle.dfr_recorder.specs.declared.marks.Newest.{Newest}
 use Rattle.dfr_recorder.specs.Parts.{RecordParts}
 use Rattle.dfr_recorder.specs.Steps.{StepParts}
 use Rattle.dfr_recorder.specs.Answers.{AnswerParts}
-use Rattle.dfr_recorder.specs.History.{Opening, Past, past, count, open_one, ended, record_of, records, answer}
+use Rattle.dfr_recorder.specs.History.{Opening, Past, past, count, open_one, ended, newest_of, record_of, records, answer}
 
--- layout and limits, how many scans were accepted, the last ones, the rules, how many records were opened, the open one with its scans so far,
--- and those that wait, the oldest first
+-- layout and limits, how many scans were accepted, the last ones, the rules, the number and the end of the newest record, the open one with its
+-- scans so far, and those that wait, the oldest first
 pub record Kept : Type 0 where
   pub layout : SetupParts
   pub limits : Limits
   pub scans : ℕ
   pub ring : List ScanParts
   pub rules : List Rule
-  pub opened : ℕ
+  pub newest : Newest
   pub recording : Option RecordParts
   pub shelf : List RecordParts
 
@@ -31,15 +32,15 @@ kept_of layout limits p = record {
   scans = count p;
   ring = latest (limits.pre + 1) p.scans;
   rules = p.rules;
-  opened = length p.extents;
+  newest = newest_of p.extents;
   recording = option_map (record_of p.scans) (open_one p);
   shelf = drop p.taken (records p.scans (ended p));
 }
 
 -- what is kept, by its parts
-abbrev pub kept_by : SetupParts → Limits → List Rule → ℕ → List ScanParts → ℕ → Option RecordParts → List RecordParts → Kept
-kept_by layout limits rules n ring opened recording shelf =
-    record { layout = layout; limits = limits; scans = n; ring = ring; rules = rules; opened = opened; recording = recording; shelf = shelf }
+abbrev pub kept_by : SetupParts → Limits → List Rule → ℕ → List ScanParts → Newest → Option RecordParts → List RecordParts → Kept
+kept_by layout limits rules n ring newest recording shelf =
+    record { layout = layout; limits = limits; scans = n; ring = ring; rules = rules; newest = newest; recording = recording; shelf = shelf }
 
 -- what is kept after a history
 abbrev pub kept : Opening → List StepParts → Kept

@@ -10,3 +10,5 @@ pub mod Memory
 pub mod Run
 pub mod Recording
 pub mod Sound
+pub mod Unshared
+pub mod Sharing

@@ -3,6 +3,7 @@ use Rattle.std.specs.Prelude.{ℕ, ◌≡◌, ◌+◌, ◌-◌, Bool, false, if�
 use Rattle.dfr_channels.specs.Parts.{ScanParts}
 use Rattle.dfr_recorder.specs.declared.limits.Limits.{Limits}
 use Rattle.dfr_recorder.specs.declared.record.Extent.{Extent}
+use Rattle.dfr_recorder.specs.declared.marks.Newest.{Newest}
 use Rattle.dfr_recorder.specs.declared.marks.Met.{Met}
 use Rattle.dfr_recorder.specs.declared.marks.MarkedIf.{MarkedIf}
 use Rattle.dfr_recorder.specs.Parts.{RecordParts}
@@ -14,8 +15,8 @@ abbrev pub extent_of : Option RecordParts → Option Extent
 extent_of recording = option_map (λ (r : RecordParts). r.extent) recording
 
 -- what a trigger meets
-abbrev pub met_by : Limits → ℕ → Option RecordParts → List RecordParts → Met
-met_by limits opened recording shelf = record { opened = opened; full = length shelf == limits.shelf; extent = extent_of recording }
+abbrev pub met_by : Limits → Newest → Option RecordParts → List RecordParts → Met
+met_by limits newest recording shelf = record { newest = newest; full = length shelf == limits.shelf; extent = extent_of recording }
 
 -- the open record, which now has this extent, or a new one with the scans of the ring that lie in it, where place n is the next
 abbrev pub placed : Extent → ℕ → List ScanParts → Option RecordParts → RecordParts
@@ -49,18 +50,18 @@ if_last n (Some r) = if r.extent.last == n then (r ∷ []) else []
 
 -- what a trigger meets
 abbrev pub met : Kept → Met
-met k = met_by k.limits k.opened k.recording k.shelf
+met k = met_by k.limits k.newest k.recording k.shelf
 
 -- the open record after a trigger that leaves it this extent
 abbrev pub after_mark : Kept → Option Extent → Option RecordParts
 after_mark k extent = placed_if extent k.scans k.ring k.recording
 
 -- after a scan, with the open record after it and before it is shelved
-abbrev pub added : Kept → ScanParts → ℕ → Option RecordParts → Kept
-added k x opened recording = record k {
+abbrev pub added : Kept → ScanParts → Newest → Option RecordParts → Kept
+added k x newest recording = record k {
   scans = k.scans + 1;
   ring = latest (k.limits.pre + 1) (k.ring ++ x ∷ []);
-  opened = opened;
+  newest = newest;
   recording = unless_last k.scans recording;
   shelf = k.shelf ++ if_last k.scans recording;
 }
@@ -71,7 +72,7 @@ fired_mark k rule = mark_if k.limits k.scans rule (met k)
 
 -- after an accepted scan
 abbrev pub accepted : Kept → ScanParts → MarkedIf → Kept
-accepted k x m = added k x m.opened (longer_if x (after_mark k m.extent))
+accepted k x m = added k x m.newest (longer_if x (after_mark k m.extent))
 
 -- a scan that fires this rule or none is taken in, answered so, and `new` is kept then
 abbrev pub IsAccepted : Kept → ScanParts → Option ℕ → Scanned → Kept → Type 0

@@ -1,6 +1,7 @@
 //! A recorder with pre-trigger memory: the scans round each trigger, within limits of length and of records that wait.
 #![tactic(auto)]
 
+mod laws;
 mod limits;
 mod lost;
 mod marks;
@@ -14,6 +15,7 @@ mod sequence;
 mod shelf;
 mod step;
 
+pub use laws::{no_scan_shared, scans_may_be_shared};
 pub use limits::{LimitFault, Limits};
 pub use record::{Cause, Extent, Record};
 pub use recorder::Recorder;

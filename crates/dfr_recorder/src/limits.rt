@@ -5,14 +5,15 @@ ghost use Rattle.std.specs.Prelude.{◌≡◌, ◌≤◌, ◌+◌};
 use dfr_channels::Layout;
 use std::alloc::Allocator;
 
-/// How many scans a record has before its trigger (`pre`) and after it (`post`), how many it has at most (`longest`), and
-/// how many closed records wait at most (`shelf`).
+/// How many scans a record has before its trigger (`pre`) and after it (`post`), how many it has at most (`longest`), how many
+/// closed records wait at most (`shelf`), and whether each scan stands in at most one record (`unshared`).
 #[derive(Clone, Copy, Debug, PartialEq, Eq)]
 pub struct Limits {
     pre: u32,
     post: u32,
     longest: u32,
     shelf: u32,
+    unshared: bool,
     ghost some: { (1 ≤ post) × (1 ≤ shelf) },
     ghost fit: { (pre + 1 + post ≤ longest) × (longest ≤ 1_000_000) },
     ghost few: { shelf ≤ 64 },
@@ -45,7 +46,7 @@ const MOST_WAITING: u32 = 64;
 const LAST_STAMP: u64 = 4_294_967_294;
 
 impl Limits {
-    ghost use Rattle.std.specs.Prelude.{◌≡◌, ◌≤◌, Some, None, IfOk, IfErr};
+    ghost use Rattle.std.specs.Prelude.{◌≡◌, ◌≤◌, Some, None, IfOk, IfErr, true, false};
     ghost use Rattle.dfr_recorder.specs.Limits.{limit_fault, has_stamps};
 
     /// Whether the time stamps of `longest` rows at this rate, in scans a second, can be written.
@@ -57,7 +58,7 @@ impl Limits {
         (longest as u64 - 1) * 1_000_000 / rate as u64 <= LAST_STAMP
     }
 
-    /// Limits for records of this layout, or the first test that fails. Takes no memory.
+    /// Limits for records of this layout, which may share scans, or the first test that fails. Takes no memory.
     pub fn new<A: Allocator>(
         layout: &Layout<A>,
         pre: u32,
@@ -67,6 +68,7 @@ impl Limits {
     ) -> Result<Limits, LimitFault>
         ensures lawful { IfOk result (λ _. limit_fault layout.now.rate pre post longest shelf ≡ None) }
         ensures made { IfOk result (λ limits. (limits.pre ≡ pre) × (limits.post ≡ post) × (limits.longest ≡ longest) × (limits.shelf ≡ shelf)) }
+        ensures shared { IfOk result (λ limits. limits.unshared ≡ false) }
         ensures fault { IfErr result (λ fault. limit_fault layout.now.rate pre post longest shelf ≡ Some fault) }
     {
         if pre > LONGEST_PRE {
@@ -95,7 +97,29 @@ impl Limits {
             post,
             longest,
             shelf,
+            unshared: false,
         })
+    }
+
+    /// The same numbers for records that share no scan: a record begins after the last scan of the one opened before it, and
+    /// a manual trigger at a scan of a closed record is refused. Doesn't allocate.
+    pub fn unshared(self) -> Limits
+        ensures { result ≡ record self { unshared = true } }
+    {
+        Limits {
+            pre: self.pre,
+            post: self.post,
+            longest: self.longest,
+            shelf: self.shelf,
+            unshared: true,
+        }
+    }
+
+    /// Whether each scan stands in at most one record.
+    pub fn is_unshared(&self) -> bool
+        ensures { result ≡ self.now.unshared }
+    {
+        self.unshared
     }
 
     /// Whether the longest record's time stamps can be written at this layout's rate.

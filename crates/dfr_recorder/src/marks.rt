@@ -1,24 +1,31 @@
 //! What a trigger does to the newest record, by numbers alone.
 
 ghost use Rattle.std.specs.Prelude.{◌≡◌, ◌+◌, ◌<◌, ◌^◌, IfSome};
-ghost use Rattle.dfr_recorder.specs.Marks.{extended, begun, mark, mark_if, closed_by, scanned};
+ghost use Rattle.dfr_recorder.specs.Marks.{extended, first_scan, begun, mark, mark_if, is_covered, closed_by, scanned};
 ghost use Rattle.dfr_recorder.specs.History.{refused_when_full};
 
 use crate::{Cause, Extent, Hit, Limits, Scanned, TriggerFault};
 
-/// What a trigger meets: how many records were opened, whether the shelf is full, and the open record's extent.
+/// The newest record: its number and the place after its last scan, both 0 where none was opened.
+#[derive(Clone, Copy, Debug)]
+pub(crate) struct Newest {
+    pub(crate) number: u64,
+    pub(crate) end: u64,
+}
+
+/// What a trigger meets: the newest record, whether the shelf is full, and the open record's extent.
 #[derive(Clone, Copy, Debug)]
 pub(crate) struct Met {
-    pub(crate) opened: u64,
+    pub(crate) newest: Newest,
     pub(crate) full: bool,
     pub(crate) extent: Option<Extent>,
 }
 
-/// What a trigger did, how many records were opened by then, and the extent of the open one.
+/// What a trigger did, the newest record after it, and the extent of the open one.
 #[derive(Clone, Copy, Debug)]
 pub(crate) struct Marked {
     pub(crate) hit: Hit,
-    pub(crate) opened: u64,
+    pub(crate) newest: Newest,
     pub(crate) extent: Option<Extent>,
 }
 
@@ -26,46 +33,65 @@ pub(crate) struct Marked {
 #[derive(Clone, Copy, Debug)]
 pub(crate) struct MarkedIf {
     pub(crate) hit: Option<Hit>,
-    pub(crate) opened: u64,
+    pub(crate) newest: Newest,
     pub(crate) extent: Option<Extent>,
 }
 
 /// A trigger at place `k` moves the open record's last scan on, as far as the greatest length lets it.
-fn extend(limits: Limits, k: u64, opened: u64, extent: Extent) -> Marked
+fn extend(limits: Limits, k: u64, newest: Newest, extent: Extent) -> Marked
     requires early { k < 2 ^ 62 }
     requires begun { extent.first < 2 ^ 62 }
-    ensures { result ≡ extended limits k opened extent }
+    ensures { result ≡ extended limits k newest extent }
 {
     let asked = k + limits.post() as u64;
     let limit = extent.first + limits.longest() as u64 - 1;
     let hit = if asked > limit {
-        Hit::AtLimit(opened)
+        Hit::AtLimit(newest.number)
     } else {
-        Hit::Extended(opened)
+        Hit::Extended(newest.number)
     };
     let last = asked.min(limit);
     Marked {
         hit,
-        opened,
+        newest: Newest {
+            end: last + 1,
+            ..newest
+        },
         extent: Some(Extent { last, ..extent }),
     }
 }
 
-/// A trigger at place `k` opens a record.
-fn begin(limits: Limits, k: u64, cause: Cause, opened: u64) -> Marked
-    requires early { k < 2 ^ 62 }
-    requires few { opened < 2 ^ 62 }
-    ensures { result ≡ begun limits k cause opened }
+/// The first scan of a record that a trigger at place `k` opens.
+fn first_scan(limits: Limits, k: u64, newest: Newest) -> u64
+    ensures { result ≡ first_scan limits k newest }
 {
-    let number = opened + 1;
+    let first = k.saturating_sub(limits.pre() as u64);
+    if limits.is_unshared() {
+        first.max(newest.end)
+    } else {
+        first
+    }
+}
+
+/// A trigger at place `k` opens a record.
+fn begin(limits: Limits, k: u64, cause: Cause, newest: Newest) -> Marked
+    requires early { k < 2 ^ 62 }
+    requires few { newest.number < 2 ^ 62 }
+    ensures { result ≡ begun limits k cause newest }
+{
+    let number = newest.number + 1;
+    let last = k + limits.post() as u64;
     Marked {
         hit: Hit::Opened(number),
-        opened: number,
+        newest: Newest {
+            number,
+            end: last + 1,
+        },
         extent: Some(Extent {
             number,
-            first: k.saturating_sub(limits.pre() as u64),
+            first: first_scan(limits, k, newest),
             trigger: k,
-            last: k + limits.post() as u64,
+            last,
             cause,
         }),
     }
@@ -74,23 +100,30 @@ fn begin(limits: Limits, k: u64, cause: Cause, opened: u64) -> Marked
 /// A trigger at place `k`.
 pub(crate) fn mark(limits: Limits, k: u64, cause: Cause, met: Met) -> Marked
     requires early { k < 2 ^ 62 }
-    requires few { met.opened < 2 ^ 62 }
+    requires few { met.newest.number < 2 ^ 62 }
     requires begun { IfSome met.extent (λ e. e.first < 2 ^ 62) }
     ensures { result ≡ mark limits k cause met }
 {
     match met.extent {
-        Some(extent) => extend(limits, k, met.opened, extent),
+        Some(extent) => extend(limits, k, met.newest, extent),
         None => {
             if met.full {
                 return Marked {
                     hit: Hit::ShelfFull,
-                    opened: met.opened,
+                    newest: met.newest,
                     extent: None,
                 };
             }
-            begin(limits, k, cause, met.opened)
+            begin(limits, k, cause, met.newest)
         }
     }
+}
+
+/// Whether a manual trigger at place `k` would share a scan that unshared limits leave to a closed record.
+pub(crate) fn is_covered(limits: Limits, k: u64, met: Met) -> bool
+    ensures { result ≡ is_covered limits k met }
+{
+    limits.is_unshared() && met.extent.is_none() && k < met.newest.end
 }
 
 /// A full shelf refuses a trigger by hand.
@@ -106,7 +139,7 @@ pub(crate) fn refused_when_full(hit: Hit) -> Result<Hit, TriggerFault>
 /// A scan at place `n` that may have fired a rule.
 pub(crate) fn mark_if(limits: Limits, n: u64, fired: Option<u32>, met: Met) -> MarkedIf
     requires early { n < 2 ^ 62 }
-    requires few { met.opened < 2 ^ 62 }
+    requires few { met.newest.number < 2 ^ 62 }
     requires begun { IfSome met.extent (λ e. e.first < 2 ^ 62) }
     ensures { result ≡ mark_if limits n fired met }
 {
@@ -115,24 +148,30 @@ pub(crate) fn mark_if(limits: Limits, n: u64, fired: Option<u32>, met: Met) -> M
             let marked = mark(limits, n, Cause::Rule(rule), met);
             MarkedIf {
                 hit: Some(marked.hit),
-                opened: marked.opened,
+                newest: marked.newest,
                 extent: marked.extent,
             }
         }
         None => MarkedIf {
             hit: None,
-            opened: met.opened,
+            newest: met.newest,
             extent: met.extent,
         },
     }
 }
 
 /// The number of the newest record, where place `n` is its last.
-fn closed_by(n: u64, opened: u64, extent: Option<Extent>) -> Option<u64>
-    ensures { result ≡ closed_by n opened extent }
+fn closed_by(n: u64, newest: Newest, extent: Option<Extent>) -> Option<u64>
+    ensures { result ≡ closed_by n newest extent }
 {
     match extent {
-        Some(extent) => { if extent.last == n { Some(opened) } else { None } }
+        Some(extent) => {
+            if extent.last == n {
+                Some(newest.number)
+            } else {
+                None
+            }
+        }
         None => None,
     }
 }
@@ -144,6 +183,6 @@ pub(crate) fn scanned(n: u64, marked: MarkedIf) -> Scanned
     Scanned {
         number: n,
         trigger: marked.hit,
-        closed: closed_by(n, marked.opened, marked.extent),
+        closed: closed_by(n, marked.newest, marked.extent),
     }
 }

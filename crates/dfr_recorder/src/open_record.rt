@@ -6,7 +6,7 @@ ghost use Rattle.dfr_recorder.specs.Parts.{IsWhole};
 ghost use Rattle.dfr_recorder.specs.Kept.{scans_in};
 ghost use Rattle.dfr_recorder.specs.Recording.{extent_of, met_by, placed, placed_if, longer_if, unless_last, if_last, ends_at};
 
-use crate::marks::Met;
+use crate::marks::{Met, Newest};
 use crate::recording::Recording;
 use crate::ring::copies;
 use crate::shelf::is_full;
@@ -28,14 +28,14 @@ fn extent_of<A: Allocator>(recording: &Option<Recording<A>>) -> Option<Extent>
 /// What a trigger meets.
 pub(crate) fn met_by<A: Allocator>(
     limits: Limits,
-    opened: u64,
+    newest: Newest,
     recording: &Option<Recording<A>>,
     shelf: &VecDeque<Record<A>, A>,
 ) -> Met
-    ensures { result ≡ met_by limits opened recording.now shelf.now.items }
+    ensures { result ≡ met_by limits newest recording.now shelf.now.items }
 {
     Met {
-        opened,
+        newest,
         full: is_full(shelf, limits),
         extent: extent_of(recording),
     }

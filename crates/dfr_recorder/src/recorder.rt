@@ -1,7 +1,7 @@
 //! The recorder.
 
 use crate::lost::{lost_refusal, lost_scan};
-use crate::marks::{mark, mark_if, refused_when_full, scanned};
+use crate::marks::{Newest, is_covered, mark, mark_if, refused_when_full, scanned};
 use crate::open_record::{grow, met_by, place, scans_so_far, shelve};
 use crate::recording::Recording;
 use crate::refusals::refusal;
@@ -24,7 +24,7 @@ pub struct Recorder<A: Allocator = Global> {
     rules: Rules<A>,
     count: u64,
     ring: HeapCircularBuffer<Scan<A>, A>,
-    opened: u64,
+    newest: Newest,
     recording: Option<Recording<A>>,
     shelf: VecDeque<Record<A>, A>,
 }
@@ -36,9 +36,9 @@ impl<A: Allocator> Model for Recorder<A> {
 
     ghost Value = { Kept };
 
-    ghost view = { λ a. kept_by a.layout a.limits a.rules a.count a.ring.items a.opened a.recording a.shelf.items };
+    ghost view = { λ a. kept_by a.layout a.limits a.rules a.count a.ring.items a.newest a.recording a.shelf.items };
 
-    ghost invariant = { λ a. IsSoundBody (kept_by a.layout a.limits a.rules a.count a.ring.items a.opened a.recording a.shelf.items) a.ring.capacity (deque_capacity a.shelf) };
+    ghost invariant = { λ a. IsSoundBody (kept_by a.layout a.limits a.rules a.count a.ring.items a.newest a.recording a.shelf.items) a.ring.capacity (deque_capacity a.shelf) };
 }
 
 impl<A: Allocator> Recorder<A> {
@@ -172,7 +172,7 @@ impl<A: Allocator + Copy> Recorder<A> {
             rules,
             count: 0,
             ring,
-            opened: 0,
+            newest: Newest { number: 0, end: 0 },
             recording: None,
             shelf,
         })
@@ -229,7 +229,7 @@ impl<A: Allocator + Copy> Recorder<A> {
         ensures memory { IfErr result (λ _. IsTrue (is_some (fired_mark self.old fired).extent)) }
     {
         let n = self.count;
-        let met = met_by(self.limits, self.opened, &self.recording, &self.shelf);
+        let met = met_by(self.limits, self.newest, &self.recording, &self.shelf);
         let marked = mark_if(self.limits, n, fired, met);
         if grow(&mut self.recording, marked.extent, n, &self.ring, &scan).is_err() {
             return Err(scan);
@@ -237,11 +237,11 @@ impl<A: Allocator + Copy> Recorder<A> {
         shelve(&mut self.recording, n, &mut self.shelf);
         keep(&mut self.ring, scan);
         self.count = n + 1;
-        self.opened = marked.opened;
+        self.newest = marked.newest;
         Ok(scanned(n, marked))
     }
 
-    /// A trigger by hand, at the last scan. A refused one changes nothing. Memory is wanted only to open a record.
+    /// A manual trigger, at the last scan. A refused one changes nothing. Only an opening allocates.
     pub fn trigger(&mut self) -> Result<Hit, TriggerFault>
         ensures step { result ≢ Err TriggerFault.Memory → IsStep self.old step.Trigger (answer.Trigger result) self.new }
         ensures same { OnErr result (self.new ≡ self.old) }
@@ -253,12 +253,15 @@ impl<A: Allocator + Copy> Recorder<A> {
         if n == 0 {
             return Err(TriggerFault::NoScan);
         }
-        let met = met_by(self.limits, self.opened, &self.recording, &self.shelf);
+        let met = met_by(self.limits, self.newest, &self.recording, &self.shelf);
+        if is_covered(self.limits, n - 1, met) {
+            return Err(TriggerFault::Covered);
+        }
         let marked = mark(self.limits, n - 1, Cause::Manual, met);
         if place(&mut self.recording, marked.extent, n, &self.ring).is_err() {
             return Err(TriggerFault::Memory);
         }
-        self.opened = marked.opened;
+        self.newest = marked.newest;
         refused_when_full(marked.hit)
     }
 }

@@ -52,6 +52,7 @@ fn make<A: Allocator + Copy>(
             Err(TriggerFault::Memory) => Err(Step::Trigger),
             Err(TriggerFault::NoScan) => Ok(Answer::Trigger(Err(TriggerFault::NoScan))),
             Err(TriggerFault::ShelfFull) => Ok(Answer::Trigger(Err(TriggerFault::ShelfFull))),
+            Err(TriggerFault::Covered) => Ok(Answer::Trigger(Err(TriggerFault::Covered))),
         },
         Step::Take => Ok(Answer::Take(recorder.take())),
         Step::SetRules(rules) => {

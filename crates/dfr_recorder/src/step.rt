@@ -47,7 +47,7 @@ pub enum LostRefusal {
     Memory,
 }
 
-/// Why a trigger by hand did nothing, in the order of the tests.
+/// Why a manual trigger did nothing. The order of the tests is `NoScan`, `Covered`, `ShelfFull`, `Memory`.
 #[derive(Clone, Copy, Debug, PartialEq, Eq)]
 pub enum TriggerFault {
     /// No scan was accepted yet.
@@ -56,6 +56,8 @@ pub enum TriggerFault {
     ShelfFull,
     /// A growth was refused.
     Memory,
+    /// Under unshared limits: no record is open, and the newest one has the last scan already.
+    Covered,
 }
 
 /// One call of a recorder.

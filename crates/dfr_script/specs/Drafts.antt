@@ -112,7 +112,7 @@ is_complete d =
     is_some d.station && is_some d.device && is_some d.line_freq && is_some d.rate && is_some d.start && is_some d.limits
 
 abbrev pub no_limits : LimitNumbers
-no_limits = record { pre = 0; post = 0; longest = 0; shelf = 0 }
+no_limits = record { pre = 0; post = 0; longest = 0; shelf = 0; unshared = false }
 
 -- the script of the lines, without commands
 unfoldable pub script_in : DraftParts → ScriptParts

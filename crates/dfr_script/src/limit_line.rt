@@ -1,28 +1,47 @@
-//! The four numbers of a line of limits.
+//! The numbers of a line of limits, and its choice.
 
+ghost use Rattle.std.specs.Prelude.{◌≡◌, length};
 ghost use Rattle.dfr_script.specs.Faults.{Gives};
 ghost use Rattle.dfr_script.specs.Limits as spec;
 ghost use Rattle.dfr_channels.specs.Lines.{texts};
 
 use crate::fault::{LineRefusal, Word};
 use crate::fields::natural_at;
+use crate::line::is_word;
 use dfr_channels::fields_of;
 use std::alloc::Allocator;
 
-/// The numbers of a line of limits, which a recorder tests: scans before and behind a trigger, the greatest number of a
-/// record's scans, and how many records wait.
+/// The numbers of a line of limits, which a recorder tests: scans before and after a trigger, the greatest number of a
+/// record's scans, and how many records wait; and whether each scan stands in at most one record.
 #[derive(Clone, Copy, Debug, PartialEq, Eq)]
 pub struct LimitNumbers {
     pub pre: u32,
     pub post: u32,
     pub longest: u32,
     pub shelf: u32,
+    pub unshared: bool,
 }
 
+/// That the fifth of five fields is the choice.
+fn chosen(fields: &[&[u8]]) -> Result<(), LineRefusal>
+    requires { length fields.now ≡ 5 }
+    ensures { Gives (λ x. x) (spec.choice_fault (texts fields.now)) tt result }
+{
+    if is_word(fields[4], "unshared") {
+        Ok(())
+    } else {
+        Err(LineRefusal::Fault(Word::Number))
+    }
+}
+
+/// Four numbers, and the choice where there is a fifth field.
 fn limits_in(fields: &[&[u8]]) -> Result<LimitNumbers, LineRefusal>
     ensures { Gives (λ x. x) (spec.limits_fault (texts fields.now)) (spec.limits_value (texts fields.now)) result }
 {
-    if fields.len() != 4 {
+    let unshared = fields.len() == 5;
+    if unshared {
+        chosen(fields)?;
+    } else if fields.len() != 4 {
         return Err(LineRefusal::Fault(Word::Fields));
     }
     let pre = natural_at(fields, 0)?;
@@ -34,10 +53,11 @@ fn limits_in(fields: &[&[u8]]) -> Result<LimitNumbers, LineRefusal>
         post,
         longest,
         shelf,
+        unshared,
     })
 }
 
-/// The numbers that the rest of a line of limits says.
+/// The numbers and the choice that the rest of a line of limits says.
 pub(crate) fn limits_of<A: Allocator>(alloc: A, rest: &[u8]) -> Result<LimitNumbers, LineRefusal>
     ensures { Gives (λ x. x) (spec.limits_line_fault rest.now) (spec.limits_line_value rest.now) result }
 {

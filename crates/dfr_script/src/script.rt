@@ -22,7 +22,7 @@ use dfr_channels::{Rule, Setup, lines_of, without_blank_end};
 use std::alloc::{Allocator, Global};
 use std::marker::Model;
 
-/// What a script says: the set-up, the four numbers of its limits, its first rules, and the commands in order.
+/// What a script says: the set-up, its limits, its first rules, and the commands in order.
 #[derive(Drop, Debug)]
 pub struct Script<A: Allocator = Global> {
     pub setup: Setup<A>,

@@ -19,7 +19,7 @@ pub invariant_of-self : goal.invariant_of-self
 invariant_of-self g c =
     let same : c.grow.new.recording ≡ c.self.inside.recording = err_gives c.grow.result (sym c.is_err.ensures.value ∙ c.if-is_err.true) c.grow.ensures.err in
     let P : Option RecordParts → Type 0 =
-    λ r. IsSoundBody (kept_by c.self.inside.layout c.self.inside.limits c.self.inside.rules c.self.inside.count c.self.inside.ring.items c.self.inside.opened r c.self.inside.shelf.items) c.self.inside.ring.capacity (deque_capacity c.self.inside.shelf) in
+    λ r. IsSoundBody (kept_by c.self.inside.layout c.self.inside.limits c.self.inside.rules c.self.inside.count c.self.inside.ring.items c.self.inside.newest r c.self.inside.shelf.items) c.self.inside.ring.capacity (deque_capacity c.self.inside.shelf) in
     subst P (sym same) c.self.invariant
 
 pub shelve-requires-clause-room : goal.shelve-requires-clause-room
