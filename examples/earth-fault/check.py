@@ -77,7 +77,9 @@ class History:
 
     def __init__(self, settings):
         self.settings = settings
-        self.pre, self.post, self.longest, self.shelf = map(int, settings["limits"].split(","))
+        numbers = settings["limits"].split(",")
+        self.pre, self.post, self.longest, self.shelf = map(int, numbers[:4])
+        self.unshared = [field.strip() for field in numbers[4:]] == ["unshared"]
         self.rules = rules_of(settings["rules"])
         self.scans, self.records, self.taken = [], [], 0
 
@@ -110,8 +112,12 @@ class History:
 
     def manual(self):
         n = len(self.scans)
-        hit = self.trigger(n - 1, n, "manual") if n else "no-scan"
-        return "trigger " + ("refused " + hit if hit in ("no-scan", "shelf-full") else hit)
+        if not n:
+            return "trigger refused no-scan"
+        if self.unshared and not self.is_open(n) and self.records and n - 1 <= self.records[-1][2]:
+            return "trigger refused covered"
+        hit = self.trigger(n - 1, n, "manual")
+        return "trigger " + ("refused " + hit if hit == "shelf-full" else hit)
 
     def trigger(self, place, n, cause):
         wanted = place + self.post
@@ -122,7 +128,10 @@ class History:
             return "%s %d" % ("at-limit" if wanted > most else "extended", len(self.records))
         if self.waiting(n) == self.shelf:
             return "shelf-full"
-        self.records.append([max(0, place - self.pre), place, wanted, cause])
+        first = max(0, place - self.pre)
+        if self.unshared and self.records:
+            first = max(first, self.records[-1][2] + 1)
+        self.records.append([first, place, wanted, cause])
         return "opened %d" % len(self.records)
 
     def scan(self, scan):
@@ -135,23 +144,19 @@ class History:
         if fired:
             line += " " + self.trigger(n, n, "rule %d" % fired[0])
         self.scans.append(scan)
-        if self.records and self.records[-1][2] == n:
-            line += " closed %d" % len(self.records)
-        return line
+        return line + self.closing(n)
 
-    def lost_scan(self):
-        """What stands for a scan that was lost: no sample, and the bits before it."""
-        normal = [int(fields[3] or 0) for fields in self.settings["status"]]
-        return [None] * len(self.settings["analog"]), self.scans[-1][1] if self.scans else normal
+    def closing(self, n):
+        return " closed %d" % len(self.records) if self.records and self.records[-1][2] == n else ""
 
-    def lose(self):
-        """It fires nothing, and may close a record."""
+    def lost(self):
+        """A scan that never came: all readings missing, the bits of the scan before or the normal ones; it fires nothing."""
         n = len(self.scans)
         if self.instant(n) > LAST:
             return "lost refused clock-end"
-        self.scans.append(self.lost_scan())
-        closed = self.records and self.records[-1][2] == n
-        return "lost %d" % n + (" closed %d" % len(self.records) if closed else "")
+        bits = self.scans[-1][1] if self.scans else [int(fields[3] or 0) for fields in self.settings["status"]]
+        self.scans.append(([None] * len(self.settings["analog"]), bits))
+        return "lost %d" % n + self.closing(n)
 
     def take(self, kind):
         if self.taken == sum(last < len(self.scans) for _, _, last, _ in self.records):
@@ -190,19 +195,20 @@ class History:
 
 
 def expected(settings, commands, kind):
+    """What is printed, and all scans that were accepted."""
     history, printed = History(settings), b""
     for word, rest in commands:
         if word == "scan":
             printed += history.scan(scan_of(rest)).encode() + b"\n"
         elif word == "lost":
-            printed += history.lose().encode() + b"\n"
+            printed += history.lost().encode() + b"\n"
         elif word == "trigger":
             printed += history.manual().encode() + b"\n"
         elif word == "rules":
             printed += history.set_rules(rest).encode() + b"\n"
         else:
             printed += history.take(kind)
-    return printed
+    return printed, history.scans
 
 
 def read_back(cfg, dat):
@@ -249,13 +255,8 @@ def main():
     script, printed = open(sys.argv[1], encoding="utf8").read(), open(sys.argv[2], "rb").read()
     kind = sys.argv[3] if len(sys.argv) > 3 else "ascii"
     settings, commands = settings_and_commands(script)
-    assert printed == expected(settings, commands, kind), "not what the rules of recording say"
-    history = History(settings)
-    for word, rest in commands:
-        scan = scan_of(rest) if word == "scan" else history.lost_scan()
-        if word in ("scan", "lost") and history.refusal(scan) is None:
-            history.scans.append(scan)
-    scans = history.scans
+    wanted, scans = expected(settings, commands, kind)
+    assert printed == wanted, "not what the rules of recording say"
     for number, first, cfg, dat in files_in(printed):
         rows = read_back(cfg, dat)
         for i, (instant, values, bits) in enumerate(rows):
