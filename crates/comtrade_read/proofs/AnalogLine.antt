@@ -7,9 +7,9 @@ use Rattle.dfr_channels.specs.Parts.{AnalogParts}
 use Rattle.dfr_channels.specs.Lines.{field, line_fields}
 use Rattle.dfr_channels.specs.Fields.{free_scale, side}
 use Rattle.comtrade_read.specs.Fields.{whole, natural, small, scale}
-use Rattle.comtrade_read.specs.LineSteps.{fields_fault}
+use Rattle.comtrade_read.specs.Inner.LineFaults.{fields_fault}
 use Rattle.comtrade_read.specs.Head.{analog_rule, rate_before}
-use Rattle.comtrade_read.specs.HeadSteps.{analog_value}
+use Rattle.comtrade_read.specs.Inner.HeadValues.{analog_value}
 
 same : (n : ℕ) → eqb n n ≡ true
 same n = grind (arith, nat_tests)

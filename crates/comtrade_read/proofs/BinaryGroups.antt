@@ -3,7 +3,7 @@ use Rattle.std.proofs.Common.{◌≡◌, ℕ, zero, suc, ◌+◌, ◌*◌, ◌/�
 use Rattle.std.specs.Int.{bit_at}
 use Rattle.std.proofs.lemmas.List.FromFn.{map-range_with_len_more}
 use Rattle.byteorder.specs.Endian.{little_number}
-use Rattle.comtrade_read.specs.BinarySteps.{bit_of, bits_at, group_bits}
+use Rattle.comtrade_read.specs.Inner.BinaryRows.{bit_of, bits_at, group_bits}
 
 -- bit d of group g
 bit_in : (bytes : List ℕ) (g d : ℕ) → d < 16 → bit_of bytes (16 * g + d) ≡ eqb (bit_at (little_number 2 (drop (2 * g) bytes)) d) 1

@@ -6,9 +6,9 @@ use Rattle.comtrade_read.specs.declared.fault.ReadFault.{ReadFault}
 use Rattle.dfr_channels.specs.Lines.{line_fields}
 use Rattle.dfr_channels.specs.Faults.{◌or◌}
 use Rattle.comtrade_read.specs.Table.{Rule}
-use Rattle.comtrade_read.specs.LineSteps.{line_fault, lines_fault, extra_fault, file_fault, first_in}
+use Rattle.comtrade_read.specs.Inner.LineFaults.{line_fault, lines_fault, extra_fault, file_fault, first_in}
 use Rattle.comtrade_read.specs.Head.{names_rule, counts_rule, analog_rule, status_rule, frequency_rule, nrates_rule, rate_rule, rate_before, instant_rule, kind_rule, timemult_rule, analog_rules, status_rules, rate_rules, analog_count, status_count, rate_count, head_rules}
-use Rattle.comtrade_read.specs.HeadSteps.{analog_faults, status_faults, rate_faults, head_fault, tail_fault, chain}
+use Rattle.comtrade_read.specs.Inner.HeadValues.{analog_faults, status_faults, rate_faults, head_fault, tail_fault, chain}
 
 or_assoc : (a b c : Option ReadFault) → ((a or b) or c) ≡ (a or (b or c))
 or_assoc None b c = refl

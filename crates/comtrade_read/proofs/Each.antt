@@ -5,7 +5,7 @@ use Rattle.std.specs.List.{range_with_len, AllByRecursion}
 use Rattle.std.proofs.lemmas.Bool.{cases_lt}
 use Rattle.comtrade_read.specs.declared.fault.ReadFault.{ReadFault}
 use Rattle.dfr_channels.specs.Faults.{◌or◌}
-use Rattle.comtrade_read.specs.LineSteps.{first_in}
+use Rattle.comtrade_read.specs.Inner.LineFaults.{first_in}
 use Rattle.comtrade_read.specs.Spells.{EachFrom}
 
 -- ---- what an option holds

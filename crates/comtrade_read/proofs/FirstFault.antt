@@ -8,7 +8,7 @@ use Rattle.comtrade_read.specs.declared.fault.ReadFault.TheVariants as faults
 use Rattle.dfr_channels.specs.Lines.{field, line_fields}
 use Rattle.dfr_channels.specs.Faults.{◌or◌}
 use Rattle.comtrade_read.specs.Table.{Rule, always}
-use Rattle.comtrade_read.specs.LineSteps.{tests_fault, fields_fault, line_fault, lines_fault, extra_fault, file_fault, first_in}
+use Rattle.comtrade_read.specs.Inner.LineFaults.{tests_fault, fields_fault, line_fault, lines_fault, extra_fault, file_fault, first_in}
 use Rattle.comtrade_read.specs.Faulty.{ObeysFields, Obeys, IsFieldsFault, few, bad, wrong, IsLineFault, missing, within, rule, Faulty, at, extra, AllObey}
 use Rattle.dfr_channels.proofs.Lawful.{or-none}
 

@@ -20,7 +20,9 @@ use Rattle.comtrade_read.proofs.WrittenFields.{IsClean, clean_printed, clean_pla
 use Rattle.comtrade_read.proofs.WrittenLines.{IsCleanLine}
 use Rattle.comtrade_read.proofs.WrittenDates.{Instant, date_printed, time_printed}
 use Rattle.comtrade_read.proofs.WrittenRows.{int_le-is}
-use Rattle.comtrade_read.proofs.HeadLines.{names_fields, counts_fields, analog_fields, status_fields, rate_fields, instant_fields, one, ends, tail, head_lines}
+use Rattle.comtrade_write.specs.Cfg.{names_fields, counts_fields, analog_fields, status_fields, rate_fields}
+use Rattle.comtrade_write.specs.Dates.{instant_fields}
+use Rattle.comtrade_read.proofs.HeadLines.{ends, tail, all_lines}
 use Rattle.comtrade_read.proofs.HeadTaken.{AnalogTaken, StatusTaken, HeadTaken}
 
 number_clean : (n : ℕ) → n < 10 ^ 36 → IsClean (decimal n)
@@ -97,8 +99,7 @@ instant_clean : (t : ℤ) → Instant t → IsCleanLine (instant_fields t)
 unfolding instant_fields
 instant_clean t i = (clean_printed _ (date_printed (day_number t) i.dated_day), (clean_printed _ (time_printed (time_of_day t) i.small), tt))
 
-one_clean : (f : List ℕ) → IsClean f → IsCleanLine (one f)
-unfolding one
+one_clean : (f : List ℕ) → IsClean f → IsCleanLine (f ∷ [])
 one_clean f c = (c, tt)
 
 names_clean : (h : HeadParts) (rows : ℕ) → HeadTaken h rows → IsCleanLine (names_fields h.station h.device)
@@ -110,8 +111,7 @@ unfolding counts_fields
 counts_clean k m lt =
     (number_clean (k + m) (omega arith), (clean_printed (decimal k ++ 65 ∷ []) (printed_count k 65 (omega arith) refl), (clean_printed (decimal m ++ 68 ∷ []) (printed_count m 68 (omega arith) refl), tt)))
 
-pub head_clean : (h : HeadParts) (rows : ℕ) → HeadTaken h rows → AllByRecursion IsCleanLine (head_lines h)
-unfolding head_lines
+pub head_clean : (h : HeadParts) (rows : ℕ) → HeadTaken h rows → AllByRecursion IsCleanLine (all_lines h)
 head_clean h rows t =
     let few = t.few in
     let n = t.nrates in

@@ -10,10 +10,10 @@ use Rattle.dfr_channels.specs.Fields.{up_to}
 use Rattle.comtrade_read.specs.Fields.{natural}
 use Rattle.comtrade_write.specs.Parts.{HeadParts}
 use Rattle.dfr_channels.specs.Lines.{field, line_fields}
-use Rattle.comtrade_read.specs.LineSteps.{Gives, line_fault, first_in}
+use Rattle.comtrade_read.specs.Inner.LineFaults.{Gives, line_fault, first_in}
 use Rattle.comtrade_read.specs.Faulty.{AllObey, Faulty}
 use Rattle.comtrade_read.specs.Head.{names_rule, counts_rule, frequency_rule, nrates_rule, analog_count, status_count, rate_count, head_rules}
-use Rattle.comtrade_read.specs.HeadSteps.{TailParts, analog_faults, status_faults, rate_faults, end_fault, analog_items, status_items, analog_value, status_value, head_fault, head_value, tail_fault, tail_value, chain, value_of}
+use Rattle.comtrade_read.specs.Inner.HeadValues.{TailParts, analog_faults, status_faults, rate_faults, end_fault, analog_items, status_items, analog_value, status_value, head_fault, head_value, tail_fault, tail_value, chain, value_of}
 use Rattle.comtrade_read.proofs.FirstFault.{file_first, file_sound}
 use Rattle.comtrade_read.proofs.Chain.{chain_is}
 

@@ -14,10 +14,10 @@ use Rattle.comtrade_read.specs.declared.fault.ReadFault.TheVariants as faults
 use Rattle.dfr_channels.specs.Fields.{free_scale, zero_number}
 use Rattle.comtrade_read.specs.Fields.{natural, scale}
 use Rattle.comtrade_read.specs.Table.{Rule}
-use Rattle.comtrade_read.specs.LineSteps.{fields_fault, line_fault, extra_fault, first_in}
+use Rattle.comtrade_read.specs.Inner.LineFaults.{fields_fault, line_fault, extra_fault, first_in}
 use Rattle.comtrade_read.specs.Faulty.{AllObey}
 use Rattle.comtrade_read.specs.Head.{kind, names_rule, counts_rule, analog_rule, status_rule, frequency_rule, nrates_rule, rate_rule, instant_rule, kind_rule, timemult_rule, nrates_value, analog_count, status_count, rate_count, rate_before, head_rules}
-use Rattle.comtrade_read.specs.HeadSteps.{decimal_in, analog_value, status_value, rate_value, instant_value, kind_value, analog_items, status_items, rate_items, analog_faults, status_faults, rate_faults, head_fault, head_value, value_of, chain}
+use Rattle.comtrade_read.specs.Inner.HeadValues.{decimal_in, analog_value, status_value, rate_value, instant_value, kind_value, analog_items, status_items, rate_items, analog_faults, status_faults, rate_faults, head_fault, head_value, value_of, chain}
 use Rattle.comtrade_read.specs.Spells.{EachFrom, fields_at, sample_before, SpellsNames, SpellsCounts, SpellsAnalog, SpellsStatus, SpellsRate, SpellsInstant, SpellsOne, SpellsHead}
 use Rattle.comtrade_read.proofs.Each.{map_at, made_at, each_made, each_same, each_at, none_each, each_none}
 use Rattle.comtrade_read.proofs.FirstFault.{line_none, file_complete, file_sound}

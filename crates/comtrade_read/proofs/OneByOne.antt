@@ -17,9 +17,9 @@ use Rattle.comtrade_read.specs.declared.fault.ReadFault.TheVariants as faults
 use Rattle.dfr_channels.specs.Fields.{bit}
 use Rattle.comtrade_read.specs.Fields.{natural}
 use Rattle.comtrade_read.specs.Table.{reads}
-use Rattle.comtrade_read.specs.LineSteps.{first_in}
+use Rattle.comtrade_read.specs.Inner.LineFaults.{first_in}
 use Rattle.comtrade_read.specs.Ascii.{stamp, value}
-use Rattle.comtrade_read.specs.RowSteps.{value_items, bit_items, row_value, cells, cell_faults, field_fault, value_faults, bit_faults, row_chain}
+use Rattle.comtrade_read.specs.Inner.RowValues.{value_items, bit_items, row_value, cells, cell_faults, field_fault, value_faults, bit_faults, row_chain}
 use Rattle.comtrade_read.proofs.RowLine.{same_first}
 
 abbrev is_comma : ℕ → Bool

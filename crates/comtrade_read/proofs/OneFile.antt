@@ -9,7 +9,7 @@ use Rattle.comtrade_read.specs.declared.pair.Part.TheVariants.{Cfg, Dat}
 use Rattle.comtrade_read.specs.Table.{Rule}
 use Rattle.comtrade_read.specs.Faulty.{ObeysFields, Obeys, passes, IsFieldsFault, few, bad, wrong, IsLineFault, missing, within, rule, AllObey, Faulty, at, extra}
 use Rattle.comtrade_read.specs.Data.{row_count, FaultyAs, FaultyData}
-use Rattle.comtrade_read.specs.RowSteps.{SaysAs, SaysRows}
+use Rattle.comtrade_read.specs.Inner.RowValues.{SaysAs, SaysRows}
 use Rattle.comtrade_read.specs.Pair.{FaultyHead, FaultyPair, OneFileLaw}
 use Rattle.comtrade_read.specs.Reads.{ReadsHead, ReadsAs, ReadsRows, Reads}
 use Rattle.comtrade_read.proofs.BinaryNumbers.{AllBytes}

@@ -7,12 +7,12 @@ use Rattle.std.proofs.lemmas.List.{take_all}
 use Rattle.comtrade_read.specs.declared.fault.ReadFault.{ReadFault}
 use Rattle.comtrade_read.specs.declared.fault.ReadFault.TheVariants as faults
 use Rattle.comtrade_read.specs.Table.{Rule}
-use Rattle.comtrade_read.specs.LineSteps.{Gives, file_fault}
+use Rattle.comtrade_read.specs.Inner.LineFaults.{Gives, file_fault}
 use Rattle.comtrade_read.specs.Faulty.{AllObey, Faulty}
 use Rattle.comtrade_write.specs.declared.file.Kind.{Kind}
 use Rattle.comtrade_write.specs.Parts.{HeadParts, RowParts}
 use Rattle.comtrade_read.specs.Data.{row_count, FaultyAs, FaultyData}
-use Rattle.comtrade_read.specs.RowSteps.{SaysAs, SaysRows}
+use Rattle.comtrade_read.specs.Inner.RowValues.{SaysAs, SaysRows}
 use Rattle.comtrade_read.proofs.FirstFault.{file_first, file_sound}
 
 pub found : {X Y : Type 0} (view : X → Y) (ls : List (List ℕ)) (rs : List Rule) (value : Y) (r : Result X ReadFault)

@@ -1,5 +1,5 @@
 -- Every record that a recorder gives is whole, and is read from its own two files.
-use Rattle.std.proofs.Common.{ℕ, ◌≡◌, All, List, arith}
+use Rattle.std.proofs.Common.{All, arith}
 use Rattle.std.specs.Prelude.{IsTrue}
 use Rattle.std.proofs.lemmas.Int.{ints}
 use Rattle.std.proofs.lemmas.List.Elements.{recursion_from_All}
@@ -11,8 +11,7 @@ use Rattle.dfr_recorder.specs.Limits.{has_stamps}
 use Rattle.dfr_recorder.specs.History.{Opening}
 use Rattle.dfr_recorder.proofs.Lawful.{closed_law}
 use Rattle.comtrade_write.specs.declared.file.Kind.{Kind}
-use Rattle.comtrade_write.specs.Data.{dat_refusal}
-use Rattle.comtrade_write.specs.OfRecord.{file, head_of, IsWritable}
+use Rattle.comtrade_write.specs.OfRecord.{file, head_of}
 use Rattle.comtrade_write.proofs.Own.{own_writable}
 use Rattle.comtrade_write.proofs.Writable.{dat_taken}
 use Rattle.comtrade_read.specs.ReadBack.{HasDecimals, HasNumbers, RecordsReadBack}

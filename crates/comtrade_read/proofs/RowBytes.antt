@@ -12,7 +12,7 @@ use Rattle.byteorder.specs.Numbers.{little_number-reads_back, length-bytes_low_f
 use Rattle.dfr_channels.specs.declared.scan.Reading.{Reading}
 use Rattle.comtrade_write.specs.Parts.{RowParts}
 use Rattle.comtrade_write.specs.Binary.{reading_number, stamp_number, bits_number, group_bytes, status_bytes, row_bytes}
-use Rattle.comtrade_read.specs.BinarySteps.{value_at, stamp_at, values_at, bit_of, bits_at, row_at, rows_at}
+use Rattle.comtrade_read.specs.Inner.BinaryRows.{value_at, stamp_at, values_at, bit_of, bits_at, row_at, rows_at}
 use Rattle.comtrade_read.specs.Data.{row_size}
 use Rattle.comtrade_read.specs.Spells.{EachFrom}
 use Rattle.comtrade_read.specs.Reads.{IsPresent, IsRowOf, ReadsBinary}

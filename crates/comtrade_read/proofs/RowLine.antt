@@ -8,10 +8,10 @@ use Rattle.comtrade_read.specs.Fields.{natural}
 use Rattle.dfr_channels.specs.Faults.{◌or◌}
 use Rattle.std.proofs.lemmas.List.FromFn.{length-map-range_with_len}
 use Rattle.comtrade_read.specs.Table.{Rule, reads}
-use Rattle.comtrade_read.specs.LineSteps.{tests_fault, fields_fault, line_fault, extra_fault, file_fault, first_in}
+use Rattle.comtrade_read.specs.Inner.LineFaults.{tests_fault, fields_fault, line_fault, extra_fault, file_fault, first_in}
 use Rattle.comtrade_read.proofs.Chain.{lines_map}
 use Rattle.comtrade_read.specs.Ascii.{stamp, value, row_rule, row_rules}
-use Rattle.comtrade_read.specs.RowSteps.{row_faults, value_faults, bit_faults, field_fault, row_chain}
+use Rattle.comtrade_read.specs.Inner.RowValues.{row_faults, value_faults, bit_faults, field_fault, row_chain}
 use Rattle.std.proofs.lemmas.List.{append-nil, length-replicate}
 use Rattle.std.proofs.lemmas.Bool.Decides.{nat_tests}
 use Rattle.std.specs.Prelude.{◌≢◌}

@@ -14,12 +14,12 @@ use Rattle.comtrade_read.specs.declared.fault.ReadFault.TheVariants as faults
 use Rattle.dfr_channels.specs.Fields.{up_to, free_scale, zero_number, side, bit, free_bit}
 use Rattle.comtrade_read.specs.Fields.{whole, natural, small, scale, count}
 use Rattle.comtrade_read.specs.Instant.{date, time}
-use Rattle.comtrade_read.specs.LineSteps.{fields_fault, first_in}
+use Rattle.comtrade_read.specs.Inner.LineFaults.{fields_fault, first_in}
 use Rattle.comtrade_read.specs.Faulty.{ObeysFields}
 use Rattle.comtrade_read.specs.Head.{kind, is_number, names_rule, counts_rule, analog_rule, status_rule, frequency_rule, nrates_rule, rate_rule, instant_rule, kind_rule, timemult_rule, analog_count, status_count}
-use Rattle.comtrade_read.specs.HeadSteps.{analog_value, status_value, rate_value, instant_value}
+use Rattle.comtrade_read.specs.Inner.HeadValues.{analog_value, status_value, rate_value, instant_value}
 use Rattle.comtrade_read.specs.Ascii.{stamp, value, row_rule}
-use Rattle.comtrade_read.specs.RowSteps.{row_value, value_items, bit_items, value_faults, bit_faults, field_fault, row_chain}
+use Rattle.comtrade_read.specs.Inner.RowValues.{row_value, value_items, bit_items, value_faults, bit_faults, field_fault, row_chain}
 use Rattle.comtrade_read.specs.Spells.{SpellsNames, SpellsCounts, SpellsAnalog, SpellsStatus, SpellsRate, SpellsInstant, SpellsOne, SpellsRow}
 use Rattle.comtrade_read.proofs.Each.{some_of, held, each_made, each_same, each_at, none_each, each_none}
 use Rattle.comtrade_read.proofs.RowLine.{row_is}

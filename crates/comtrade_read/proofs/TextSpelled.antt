@@ -11,11 +11,11 @@ use Rattle.dfr_channels.specs.Lines.{field, fields, lines, line_fields}
 use Rattle.comtrade_write.specs.Parts.{HeadParts, RowParts}
 use Rattle.dfr_channels.specs.Fields.{bit}
 use Rattle.comtrade_read.specs.Fields.{scale}
-use Rattle.comtrade_read.specs.LineSteps.{file_fault, line_fault, extra_fault, first_in}
+use Rattle.comtrade_read.specs.Inner.LineFaults.{file_fault, line_fault, extra_fault, first_in}
 use Rattle.comtrade_read.specs.Faulty.{AllObey}
 use Rattle.comtrade_read.specs.Ascii.{value, data_lines, row_rule, row_rules, is_end_mark}
-use Rattle.comtrade_read.specs.RowSteps.{row_value, row_items, row_faults, row_chain}
-use Rattle.comtrade_read.specs.HeadSteps.{SaysHead}
+use Rattle.comtrade_read.specs.Inner.RowValues.{row_value, row_items, row_faults, row_chain}
+use Rattle.comtrade_read.specs.Inner.HeadValues.{SaysHead}
 use Rattle.comtrade_read.specs.Spells.{EachFrom, fields_at, SpellsAnalog, SpellsStatus, SpellsRate, SpellsHead, SpellsRow, sample_before}
 use Rattle.comtrade_read.specs.Reads.{ReadsHead, ReadsAscii}
 use Rattle.comtrade_read.proofs.Each.{all_at, each_at, each_made, each_same, none_each, each_none}

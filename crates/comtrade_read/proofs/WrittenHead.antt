@@ -25,7 +25,9 @@ use Rattle.comtrade_read.proofs.WrittenFields.{whole_written, natural_written, s
 use Rattle.comtrade_read.proofs.WrittenLines.{written_joined}
 use Rattle.comtrade_read.proofs.WrittenDates.{Instant, date_written, time_written}
 use Rattle.comtrade_read.proofs.WrittenRows.{int_le-is, each_by, got_map, got_below, all_got}
-use Rattle.comtrade_read.proofs.HeadLines.{names_fields, counts_fields, analog_fields, status_fields, rate_fields, instant_fields, one, ends, tail, head_lines, cfg_lines}
+use Rattle.comtrade_write.specs.Cfg.{names_fields, counts_fields, analog_fields, status_fields, rate_fields}
+use Rattle.comtrade_write.specs.Dates.{instant_fields}
+use Rattle.comtrade_read.proofs.HeadLines.{ends, tail, all_lines, cfg_lines}
 use Rattle.comtrade_read.proofs.HeadTaken.{AnalogTaken, HeadTaken}
 use Rattle.comtrade_read.proofs.HeadClean.{head_clean}
 
@@ -38,8 +40,7 @@ got_numbered f n [] j d x e = absurd cc
 got_numbered f n (y ∷ ys) zero d x e = let same : y ≡ x = cc in let z : n + 0 ≡ n = omega arith in rw z (ap (f n) same)
 got_numbered f n (y ∷ ys) (suc j) d x e = let s : n + suc j ≡ n + 1 + j = omega arith in rw s (got_numbered f (n + 1) ys j d x e)
 
-analog_at : (h : HeadParts) (j : ℕ) (c : AnalogParts) → slice_get h.analog j ≡ Some c → get_or (head_lines h) (2 + j) [] ≡ analog_fields (j + 1) c
-unfolding head_lines
+analog_at : (h : HeadParts) (j : ℕ) (c : AnalogParts) → slice_get h.analog j ≡ Some c → get_or (all_lines h) (2 + j) [] ≡ analog_fields (j + 1) c
 analog_at h j c e =
     let A = numbered analog_fields 1 h.analog in
     let rest = numbered status_fields 1 h.status ++ tail h in
@@ -48,8 +49,7 @@ analog_at h j c e =
     let n : 1 + j ≡ j + 1 = omega arith in
     rw s (get_or-append A rest [] j (omega (arith, length-numbered analog_fields 1 h.analog)) ∙ got_numbered analog_fields 1 h.analog j [] c e ∙ ap (λ (i : ℕ). analog_fields i c) n)
 
-status_at : (h : HeadParts) (j : ℕ) (c : StatusParts) → slice_get h.status j ≡ Some c → get_or (head_lines h) (2 + length h.analog + j) [] ≡ status_fields (j + 1) c
-unfolding head_lines
+status_at : (h : HeadParts) (j : ℕ) (c : StatusParts) → slice_get h.status j ≡ Some c → get_or (all_lines h) (2 + length h.analog + j) [] ≡ status_fields (j + 1) c
 status_at h j c e =
     let A = numbered analog_fields 1 h.analog in
     let S = numbered status_fields 1 h.status in
@@ -58,20 +58,19 @@ status_at h j c e =
     let n : 1 + j ≡ j + 1 = omega arith in
     rw s (get_or-append-add A (S ++ tail h) j [] ∙ get_or-append S (tail h) [] j (omega (arith, length-numbered status_fields 1 h.status)) ∙ got_numbered status_fields 1 h.status j [] c e ∙ ap (λ (i : ℕ). status_fields i c) n)
 
-tail_at : (h : HeadParts) (i j : ℕ) → i ≡ 2 + length h.analog + length h.status + j → get_or (head_lines h) i [] ≡ get_or (tail h) j []
-unfolding head_lines
+tail_at : (h : HeadParts) (i j : ℕ) → i ≡ 2 + length h.analog + length h.status + j → get_or (all_lines h) i [] ≡ get_or (tail h) j []
 tail_at h i j e =
     let A = numbered analog_fields 1 h.analog in
     let S = numbered status_fields 1 h.status in
     let s : i ≡ suc (suc (length A + (length S + j))) = omega (arith, length-numbered analog_fields 1 h.analog, length-numbered status_fields 1 h.status) in
     rw s (get_or-append-add A (S ++ tail h) (length S + j) [] ∙ get_or-append-add S (tail h) j [])
 
-ends_at : (h : HeadParts) (i j : ℕ) → i ≡ 4 + length h.analog + length h.status + length h.rates + j → get_or (head_lines h) i [] ≡ get_or (ends h) j []
+ends_at : (h : HeadParts) (i j : ℕ) → i ≡ 4 + length h.analog + length h.status + length h.rates + j → get_or (all_lines h) i [] ≡ get_or (ends h) j []
 ends_at h i j e =
     let R = map rate_fields h.rates in
     tail_at h i (suc (suc (length R + j))) (omega (arith, length-map h.rates rate_fields)) ∙ get_or-append-add R (ends h) j []
 
-rate_at : (h : HeadParts) (j : ℕ) (r : Rate) → slice_get h.rates j ≡ Some r → get_or (head_lines h) (4 + length h.analog + length h.status + j) [] ≡ rate_fields r
+rate_at : (h : HeadParts) (j : ℕ) (r : Rate) → slice_get h.rates j ≡ Some r → get_or (all_lines h) (4 + length h.analog + length h.status + j) [] ≡ rate_fields r
 rate_at h j r e =
     let R = map rate_fields h.rates in
     let lt = got_below h.rates j r e in
@@ -138,24 +137,21 @@ instant_spelled t i = record {
   instant = i.is;
 }
 
-one_spelled : {A : Type 0} (read : List ℕ → Option A) (f : List ℕ) (x : A) → read f ≡ Some x → SpellsOne read (one f) x
-unfolding one
+one_spelled : {A : Type 0} (read : List ℕ → Option A) (f : List ℕ) (x : A) → read f ≡ Some x → SpellsOne read (f ∷ []) x
 one_spelled read f x e = record { many = refl; field = e }
 
 before_is : (rates : List Rate) (j : ℕ) → cond (eqb j 0) 0 (sample_before rates j) ≡ sample_before rates j
 before_is rates zero = refl
 before_is rates (suc j) = let t : eqb (suc j) 0 ≡ false = grind (arith, nat_tests) in rw t refl
 
-lines_long : (h : HeadParts) → length (head_lines h) ≡ 8 + length h.analog + length h.status + length h.rates
-unfolding head_lines
+lines_long : (h : HeadParts) → length (all_lines h) ≡ 8 + length h.analog + length h.status + length h.rates
 lines_long h =
     let A = numbered analog_fields 1 h.analog in
     let S = numbered status_fields 1 h.status in
     let R = map rate_fields h.rates in
     omega (arith, length-append A (S ++ tail h), length-append S (tail h), length-append R (ends h), length-numbered analog_fields 1 h.analog, length-numbered status_fields 1 h.status, length-map h.rates rate_fields)
 
-pub head_spelled : (h : HeadParts) (rows : ℕ) → HeadTaken h rows → SpellsHead (head_lines h) h
-unfolding head_lines
+pub head_spelled : (h : HeadParts) (rows : ℕ) → HeadTaken h rows → SpellsHead (all_lines h) h
 head_spelled h rows t =
     let k = length h.analog in
     let m = length h.status in
@@ -166,18 +162,18 @@ head_spelled h rows t =
       count = lines_long h;
       names = names_spelled h.station h.device;
       counts = counts_spelled k m t.some t.few;
-      analog = each_by (λ i c. SpellsAnalog (i + 1) (slice_index_or (head_lines h) (2 + i) []) c) 0 h.analog (λ j c e.
+      analog = each_by (λ i c. SpellsAnalog (i + 1) (slice_index_or (all_lines h) (2 + i) []) c) 0 h.analog (λ j c e.
           let z : 0 + j ≡ j = omega arith in
           let lt = got_below h.analog j c e in
           rw (z, analog_at h j c e) (analog_spelled (j + 1) c (omega arith) (all_got AnalogTaken h.analog j c t.analog e)));
-      status = each_by (λ i c. SpellsStatus (i + 1) (slice_index_or (head_lines h) (2 + k + i) []) c) 0 h.status (λ j c e.
+      status = each_by (λ i c. SpellsStatus (i + 1) (slice_index_or (all_lines h) (2 + k + i) []) c) 0 h.status (λ j c e.
           let z : 0 + j ≡ j = omega arith in
           let lt = got_below h.status j c e in
           rw (z, status_at h j c e) (status_spelled (j + 1) c (omega arith)));
       line_freq = rw (tail_at h (2 + k + m) 0 (omega arith)) (one_spelled free_scale (decimal_text h.line_freq) h.line_freq (free_scale_written h.line_freq t.numbers.line_freq));
       nrates = rw (tail_at h (3 + k + m) 1 (omega arith)) (one_spelled (natural 999) (decimal h.nrates) h.nrates (natural_written 999 h.nrates nr (omega arith)));
       rate_count = t.rate_count;
-      rates = each_by (λ i x. SpellsRate (sample_before h.rates i) (slice_index_or (head_lines h) (4 + k + m + i) []) x) 0 h.rates (λ j x e.
+      rates = each_by (λ i x. SpellsRate (sample_before h.rates i) (slice_index_or (all_lines h) (4 + k + m + i) []) x) 0 h.rates (λ j x e.
           let z : 0 + j ≡ j = omega arith in
           let p = t.rates.each j x e in
           let le : sample_before h.rates j ≤ x.endsamp = rw (before_is h.rates j) at p.0 in
@@ -189,7 +185,7 @@ head_spelled h rows t =
     }
 
 pub head_written : (h : HeadParts) (rows : ℕ) → HeadTaken h rows → ReadsHead (cfg h) h
-head_written h rows t = record { lines = head_lines h; joined = rw (cfg_lines h) (written_joined (head_lines h) (head_clean h rows t)); head = head_spelled h rows t }
+head_written h rows t = record { lines = all_lines h; joined = rw (cfg_lines h) (written_joined (all_lines h) (head_clean h rows t)); head = head_spelled h rows t }
 
 -- as many rows as the last sample of the last rate
 pub last_row : (h : HeadParts) (rows : ℕ) → HeadTaken h rows → last_sample h.rates ≡ rows

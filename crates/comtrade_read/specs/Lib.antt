@@ -10,8 +10,4 @@ pub mod Spells
 pub mod Reads
 pub mod Pair
 pub mod ReadBack
-pub mod LineSteps
-pub mod HeadSteps
-pub mod BinarySteps
-pub mod RowSteps
-pub mod PlainRows
+pub mod Inner

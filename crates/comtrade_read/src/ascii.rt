@@ -6,10 +6,10 @@ ghost use Rattle.comtrade_read.specs.declared.fault.ReadFault.TheVariants as fau
 ghost use Rattle.dfr_channels.specs.Lines.{texts, fields, line_fields};
 ghost use Rattle.dfr_channels.specs.declared.scan.Reading.TheVariants as readings;
 ghost use Rattle.dfr_channels.specs.Fields.{bit as read_bit};
-ghost use Rattle.comtrade_read.specs.LineSteps.{Gives, first_in, fields_fault, line_fault, file_fault};
+ghost use Rattle.comtrade_read.specs.Inner.LineFaults.{Gives, first_in, fields_fault, line_fault, file_fault};
 ghost use Rattle.comtrade_read.specs.Faulty.{AllObey, Faulty};
 ghost use Rattle.comtrade_read.specs.Ascii as spec;
-ghost use Rattle.comtrade_read.specs.RowSteps as steps;
+ghost use Rattle.comtrade_read.specs.Inner.RowValues as steps;
 
 use crate::cells::{field_count, first_field};
 use crate::fault::ReadFault;
@@ -144,7 +144,7 @@ fn row_of<A: Allocator + Copy>(
 }
 
 /// The row on the line at this place.
-#[tactic(auto, unfolding(crate::specs::LineSteps::line_fault, dfr_channels::specs::Lines::line_fields))]
+#[tactic(auto, unfolding(crate::specs::Inner::LineFaults::line_fault, dfr_channels::specs::Lines::line_fields))]
 fn row_at<A: Allocator + Copy>(
     alloc: A,
     lines: &[&[u8]],

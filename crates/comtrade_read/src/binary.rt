@@ -3,7 +3,7 @@
 ghost use Rattle.std.specs.Prelude.{◌≡◌, ◌≢◌, ◌≤◌, ◌<◌, ◌*◌, ◌+◌, ◌/◌, ◌^◌, ◌++◌, length, map, min, IfOk, IfErr};
 ghost use Rattle.std.specs.Vec.{vec_len, vec_capacity};
 ghost use Rattle.comtrade_read.specs.declared.fault.ReadFault.TheVariants as faults;
-ghost use Rattle.comtrade_read.specs.BinarySteps as spec;
+ghost use Rattle.comtrade_read.specs.Inner.BinaryRows as spec;
 ghost use Rattle.comtrade_read.specs.Data.{row_size};
 
 use crate::fault::ReadFault;
@@ -89,7 +89,7 @@ fn bits_of<A: Allocator>(alloc: A, bytes: &[u8], count: usize) -> Result<Vec<boo
 }
 
 /// The row that begins the bytes.
-#[tactic(auto, unfolding(crate::specs::BinarySteps::row_at))]
+#[tactic(auto, unfolding(crate::specs::Inner::BinaryRows::row_at))]
 fn row_of<A: Allocator + Copy>(
     alloc: A,
     bytes: &[u8],

@@ -3,8 +3,8 @@
 ghost use Rattle.std.specs.Prelude.{◌≡◌, ◌+◌, ◌<◌, ◌^◌};
 ghost use Rattle.dfr_channels.specs.Lines.{texts, line_fields};
 ghost use Rattle.comtrade_read.specs.Head.{analog_rule, status_rule};
-ghost use Rattle.comtrade_read.specs.HeadSteps.{analog_value, status_value, analog_faults, analog_items, status_faults, status_items};
-ghost use Rattle.comtrade_read.specs.LineSteps.{Gives, fields_fault, line_fault, first_in};
+ghost use Rattle.comtrade_read.specs.Inner.HeadValues.{analog_value, status_value, analog_faults, analog_items, status_faults, status_items};
+ghost use Rattle.comtrade_read.specs.Inner.LineFaults.{Gives, fields_fault, line_fault, first_in};
 
 use crate::fault::ReadFault;
 use crate::fields::{free_bit_of, free_scale_of, scale_of, side_of, small_of, text_of, whole_of};
@@ -85,7 +85,7 @@ fn status_of<A: Allocator + Copy>(
 }
 
 /// The analogue channel n on the line at this place.
-#[tactic(auto, unfolding(crate::specs::LineSteps::line_fault))]
+#[tactic(auto, unfolding(crate::specs::Inner::LineFaults::line_fault))]
 fn analog_at<A: Allocator + Copy>(
     alloc: A,
     lines: &[&[u8]],
@@ -116,7 +116,7 @@ pub(crate) fn analogs_of<A: Allocator + Copy>(
 }
 
 /// The status channel n on the line at this place.
-#[tactic(auto, unfolding(crate::specs::LineSteps::line_fault))]
+#[tactic(auto, unfolding(crate::specs::Inner::LineFaults::line_fault))]
 fn status_at<A: Allocator + Copy>(
     alloc: A,
     lines: &[&[u8]],

@@ -7,7 +7,7 @@ ghost use Rattle.dfr_channels.specs.Lines.{texts, field};
 ghost use Rattle.dfr_channels.specs.Fields as shared;
 ghost use Rattle.comtrade_read.specs.Fields as spec;
 ghost use Rattle.comtrade_read.specs.Head as head;
-ghost use Rattle.comtrade_read.specs.LineSteps.{Gives, GivesField};
+ghost use Rattle.comtrade_read.specs.Inner.LineFaults.{Gives, GivesField};
 
 use crate::fault::ReadFault;
 use comtrade_write::Kind;

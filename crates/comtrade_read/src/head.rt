@@ -3,11 +3,11 @@
 ghost use Rattle.std.specs.Prelude.{◌≡◌, ◌≢◌, ◌+◌, ◌<◌, length, IfOk, IfErr};
 ghost use Rattle.comtrade_read.specs.declared.fault.ReadFault.TheVariants as faults;
 ghost use Rattle.dfr_channels.specs.Lines.{texts, lines, line_fields};
-ghost use Rattle.comtrade_read.specs.LineSteps.{Gives};
+ghost use Rattle.comtrade_read.specs.Inner.LineFaults.{Gives};
 ghost use Rattle.comtrade_read.specs.Pair.{FaultyHead, IsNoHead};
 ghost use Rattle.comtrade_read.specs.Reads.{ReadsHead};
 ghost use Rattle.comtrade_read.specs.Head as spec;
-ghost use Rattle.comtrade_read.specs.HeadSteps as steps;
+ghost use Rattle.comtrade_read.specs.Inner.HeadValues as steps;
 
 use crate::channels::{analogs_of, statuses_of};
 use crate::fault::ReadFault;

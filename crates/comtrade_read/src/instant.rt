@@ -5,7 +5,7 @@ ghost use Rattle.std.specs.List.{before_first, after_first};
 ghost use Rattle.jiff_core.specs.Calendar.{IsBetween, IsDate, days_from_civil};
 ghost use Rattle.comtrade_read.specs.declared.fault.ReadFault.TheVariants as faults;
 ghost use Rattle.comtrade_read.specs.Instant as spec;
-ghost use Rattle.comtrade_read.specs.LineSteps.{GivesField};
+ghost use Rattle.comtrade_read.specs.Inner.LineFaults.{GivesField};
 ghost use Rattle.dfr_channels.specs.Lines.{texts, field};
 
 use crate::fault::ReadFault;

@@ -3,7 +3,7 @@
 ghost use Rattle.std.specs.Prelude.{◌≡◌, ◌≢◌, ◌+◌, ◌<◌, ◌≤◌, ◌^◌, length, IfOk, IfErr};
 ghost use Rattle.comtrade_read.specs.declared.fault.ReadFault.TheVariants as faults;
 ghost use Rattle.dfr_channels.specs.Lines.{texts, line_fields};
-ghost use Rattle.comtrade_read.specs.LineSteps.{Gives, extra_fault};
+ghost use Rattle.comtrade_read.specs.Inner.LineFaults.{Gives, extra_fault};
 
 use crate::fault::ReadFault;
 use dfr_channels::fields_of;
@@ -28,7 +28,7 @@ pub(crate) fn fields_at<'a, A: Allocator>(
 }
 
 /// That no line stands at this place.
-#[tactic(auto, unfolding(crate::specs::LineSteps::extra_fault))]
+#[tactic(auto, unfolding(crate::specs::Inner::LineFaults::extra_fault))]
 pub(crate) fn end_at(lines: &[&[u8]], place: usize) -> Result<(), ReadFault>
     ensures { Gives (λ x. x) (extra_fault (texts lines.now) place) tt result }
 {

@@ -7,7 +7,7 @@ ghost use Rattle.dfr_channels.specs.PlainNumbers.{fields_behind};
 ghost use Rattle.dfr_channels.specs.Fields.{within, up_to, bit as read_bit};
 ghost use Rattle.comtrade_read.specs.Fields.{natural};
 ghost use Rattle.comtrade_read.specs.Ascii as spec;
-ghost use Rattle.comtrade_read.specs.PlainRows.{IsNext, AreNext, IsRow};
+ghost use Rattle.comtrade_read.specs.Inner.PlainRows.{IsNext, AreNext, IsRow};
 
 use comtrade_write::Row;
 use dfr_channels::{Items, Reading, plain_number};

@@ -2,9 +2,9 @@
 
 ghost use Rattle.std.specs.Prelude.{◌≡◌, ◌+◌, ◌<◌, ◌≤◌, ◌^◌, length, IfOk, List, ℕ};
 ghost use Rattle.dfr_channels.specs.Lines.{texts, line_fields, field};
-ghost use Rattle.comtrade_read.specs.LineSteps.{Gives, line_fault, fields_fault, first_in};
+ghost use Rattle.comtrade_read.specs.Inner.LineFaults.{Gives, line_fault, fields_fault, first_in};
 ghost use Rattle.comtrade_read.specs.Head as spec;
-ghost use Rattle.comtrade_read.specs.HeadSteps as steps;
+ghost use Rattle.comtrade_read.specs.Inner.HeadValues as steps;
 ghost use Rattle.dfr_channels.specs.Fields.{free_scale};
 ghost use Rattle.comtrade_read.specs.Fields.{whole, scale};
 
@@ -136,7 +136,7 @@ fn nrates_of(line: u64, fields: &[&[u8]]) -> Result<u64, ReadFault>
 }
 
 /// The rate on the line at this place.
-#[tactic(auto, unfolding(crate::specs::LineSteps::line_fault))]
+#[tactic(auto, unfolding(crate::specs::Inner::LineFaults::line_fault))]
 fn rate_at<A: Allocator + Copy>(
     alloc: A,
     lines: &[&[u8]],
@@ -172,7 +172,7 @@ pub(crate) fn rates_of<A: Allocator + Copy>(
 }
 
 /// Station and device, on the line at this place.
-#[tactic(auto, unfolding(crate::specs::LineSteps::line_fault))]
+#[tactic(auto, unfolding(crate::specs::Inner::LineFaults::line_fault))]
 pub(crate) fn names_at<A: Allocator + Copy>(
     alloc: A,
     lines: &[&[u8]],
@@ -184,7 +184,7 @@ pub(crate) fn names_at<A: Allocator + Copy>(
 }
 
 /// The numbers of analogue and status channels.
-#[tactic(auto, unfolding(crate::specs::LineSteps::line_fault))]
+#[tactic(auto, unfolding(crate::specs::Inner::LineFaults::line_fault))]
 pub(crate) fn counts_at<A: Allocator + Copy>(
     alloc: A,
     lines: &[&[u8]],
@@ -197,7 +197,7 @@ pub(crate) fn counts_at<A: Allocator + Copy>(
 }
 
 /// The line frequency, on the line at this place.
-#[tactic(auto, unfolding(crate::specs::LineSteps::line_fault))]
+#[tactic(auto, unfolding(crate::specs::Inner::LineFaults::line_fault))]
 pub(crate) fn frequency_at<A: Allocator + Copy>(
     alloc: A,
     lines: &[&[u8]],
@@ -211,7 +211,7 @@ pub(crate) fn frequency_at<A: Allocator + Copy>(
 }
 
 /// The number of rates, on the line at this place.
-#[tactic(auto, unfolding(crate::specs::LineSteps::line_fault))]
+#[tactic(auto, unfolding(crate::specs::Inner::LineFaults::line_fault))]
 pub(crate) fn nrates_at<A: Allocator + Copy>(
     alloc: A,
     lines: &[&[u8]],
@@ -226,7 +226,7 @@ pub(crate) fn nrates_at<A: Allocator + Copy>(
 }
 
 /// An instant, on the line at this place.
-#[tactic(auto, unfolding(crate::specs::LineSteps::line_fault))]
+#[tactic(auto, unfolding(crate::specs::Inner::LineFaults::line_fault))]
 pub(crate) fn instant_at_place<A: Allocator + Copy>(
     alloc: A,
     lines: &[&[u8]],
@@ -240,7 +240,7 @@ pub(crate) fn instant_at_place<A: Allocator + Copy>(
 }
 
 /// The kind of the data file, on the line at this place.
-#[tactic(auto, unfolding(crate::specs::LineSteps::line_fault))]
+#[tactic(auto, unfolding(crate::specs::Inner::LineFaults::line_fault))]
 pub(crate) fn kind_at<A: Allocator + Copy>(
     alloc: A,
     lines: &[&[u8]],
@@ -254,7 +254,7 @@ pub(crate) fn kind_at<A: Allocator + Copy>(
 }
 
 /// The time multiplier, on the line at this place.
-#[tactic(auto, unfolding(crate::specs::LineSteps::line_fault))]
+#[tactic(auto, unfolding(crate::specs::Inner::LineFaults::line_fault))]
 pub(crate) fn timemult_at<A: Allocator + Copy>(
     alloc: A,
     lines: &[&[u8]],

@@ -2,10 +2,10 @@
 
 ghost use Rattle.std.specs.Prelude.{◌≡◌, ◌+◌, ◌<◌, ◌≤◌, ◌^◌, IfOk};
 ghost use Rattle.dfr_channels.specs.Lines.{texts};
-ghost use Rattle.comtrade_read.specs.LineSteps.{Gives};
-ghost use Rattle.comtrade_read.specs.HeadSteps.{EndParts, TailParts};
+ghost use Rattle.comtrade_read.specs.Inner.LineFaults.{Gives};
+ghost use Rattle.comtrade_read.specs.Inner.HeadValues.{EndParts, TailParts};
 ghost use Rattle.comtrade_read.specs.Head as spec;
-ghost use Rattle.comtrade_read.specs.HeadSteps as steps;
+ghost use Rattle.comtrade_read.specs.Inner.HeadValues as steps;
 
 use crate::fault::ReadFault;
 use crate::place::end_at;

@@ -8,19 +8,13 @@ use Rattle.comtrade_write.specs.Parts.{RowParts}
 use Rattle.comtrade_write.specs.declared.fault.WriteFault.{WriteFault}
 use Rattle.comtrade_write.specs.declared.fault.WriteFault.TheVariants as faults
 use Rattle.dfr_channels.specs.Faults.{◌or◌, fault_unless}
-use Rattle.comtrade_write.specs.Numbered.{first_from, each_from, numbered}
+use Rattle.comtrade_write.specs.Numbered.{first_from, numbered}
 use Rattle.comtrade_write.specs.Refusals.{takes_reading, takes_times, takes_row, rows_refusal, WritesTaken, values_from, rows_from, stamps_from, values_refusal, value_refusal, stamp_refusal}
 use Rattle.comtrade_write.specs.declared.bounds.Bounds.{Bounds}
-use Rattle.std.specs.List.{list_all}
+use Rattle.std.specs.List.{list_all, flat_map}
 
 pub first_from-step : {X F : Type 0} (f : ℕ → X → Option F) (n : ℕ) (xs : List X) (i : ℕ) (d : X) → i < length xs → first_from f (n + i) (drop i xs) ≡ (f (n + i) (get_or xs i d) or first_from f (n + (i + 1)) (drop (i + 1) xs))
 first_from-step f n xs i d h =
-    let e = drop-cons xs i d h in
-    let s : n + i + 1 ≡ n + (i + 1) = omega arith in
-    rw (e, s, add-one) refl
-
-pub each_from-step : {X A : Type 0} (f : ℕ → X → List A) (n : ℕ) (xs : List X) (i : ℕ) (d : X) → i < length xs → each_from f (n + i) (drop i xs) ≡ f (n + i) (get_or xs i d) ++ each_from f (n + (i + 1)) (drop (i + 1) xs)
-each_from-step f n xs i d h =
     let e = drop-cons xs i d h in
     let s : n + i + 1 ≡ n + (i + 1) = omega arith in
     rw (e, s, add-one) refl
@@ -144,15 +138,6 @@ unfolding rows_from stamps_from
 rows_end m n i rows None h = rw (drop_all i rows h) refl
 rows_end m n i rows (Some x) h = rw (drop_all i rows h) refl
 
--- one more item is written
-pub each_from-more : {X A : Type 0} (f : ℕ → X → List A) (n : ℕ) (xs : List X) (i k : ℕ) (x : X) (out new total : List A) → k ≡ n + i → i < length xs → x ≡ get_or xs i x → new ≡ out ++ f k x → out ++ each_from f (n + i) (drop i xs) ≡ total → new ++ each_from f (n + (i + 1)) (drop (i + 1) xs) ≡ total
-each_from-more {X} {A} f n xs i k x out new total number lt item written so_far =
-    let step = each_from-step f n xs i x lt in
-    let here : f k x ≡ f (n + i) (get_or xs i x) = ap (λ (j : ℕ). f j x) number ∙ ap (f (n + i)) item in
-    ap (λ (r : List A). r ++ each_from f (n + (i + 1)) (drop (i + 1) xs)) (written ∙ ap (λ (r : List A). out ++ r) here)
-    ∙ append_assoc out (f (n + i) (get_or xs i x)) (each_from f (n + (i + 1)) (drop (i + 1) xs))
-    ∙ ap (λ (r : List A). out ++ r) (sym step) ∙ so_far
-
 numbered-step : {X Y : Type 0} (f : ℕ → X → Y) (n : ℕ) (xs : List X) (i : ℕ) (d : X) → i < length xs → numbered f (n + i) (drop i xs) ≡ f (n + i) (get_or xs i d) ∷ numbered f (n + (i + 1)) (drop (i + 1) xs)
 numbered-step f n xs i d h =
     let e = drop-cons xs i d h in
@@ -166,6 +151,16 @@ numbered-more {X} {Y} f n xs i k x y out new total number lt item made written s
     ap (λ (r : List Y). r ++ numbered f (n + (i + 1)) (drop (i + 1) xs)) (written ∙ ap (λ (z : Y). out ++ z ∷ []) here)
     ∙ append_assoc out (f (n + i) (get_or xs i x) ∷ []) (numbered f (n + (i + 1)) (drop (i + 1) xs))
     ∙ ap (λ (r : List Y). out ++ r) (sym step) ∙ so_far
+
+-- one more item is written
+pub numbered-written : {X Y A : Type 0} (g : Y → List A) (f : ℕ → X → Y) (n : ℕ) (xs : List X) (i k : ℕ) (x : X) (out new total : List A) → k ≡ n + i → i < length xs → x ≡ get_or xs i x → new ≡ out ++ g (f k x) → out ++ flat_map g (numbered f (n + i) (drop i xs)) ≡ total → new ++ flat_map g (numbered f (n + (i + 1)) (drop (i + 1) xs)) ≡ total
+numbered-written {X} {Y} {A} g f n xs i k x out new total number lt item written so_far =
+    let rest = flat_map g (numbered f (n + (i + 1)) (drop (i + 1) xs)) in
+    let step : flat_map g (numbered f (n + i) (drop i xs)) ≡ g (f (n + i) (get_or xs i x)) ++ rest = ap (flat_map g) (numbered-step f n xs i x lt) in
+    let here : g (f k x) ≡ g (f (n + i) (get_or xs i x)) = ap (λ (j : ℕ). g (f j x)) number ∙ ap (λ (y : X). g (f (n + i) y)) item in
+    ap (λ (r : List A). r ++ rest) (written ∙ ap (λ (r : List A). out ++ r) here)
+    ∙ append_assoc out (g (f (n + i) (get_or xs i x))) rest
+    ∙ ap (λ (r : List A). out ++ r) (sym step) ∙ so_far
 
 values_all : (m : Bounds) (row n : ℕ) (values : List Reading) → values_from m row n values ≡ None → list_all (takes_reading m) values ≡ true
 unfolding values_from

@@ -1,5 +1,6 @@
 -- The date and time stamps of a configuration file (C37.111-1999, 5.3.7).
-use Rattle.std.specs.Prelude.{ℕ, zero, suc, ◌+◌, ◌/◌, ◌%◌, Bool, if◌then◌else◌, ℤ, pos, int_le, unsigned_abs, ◌-ℤ◌, List, ◌∷◌, ◌++◌}
+use Rattle.std.specs.Prelude.{ℕ, zero, suc, ◌+◌, ◌/◌, ◌%◌, Bool, if◌then◌else◌, ℤ, pos, int_le, unsigned_abs, ◌-ℤ◌, List, [], ◌∷◌, ◌++◌}
+use Rattle.std.specs.List.{join_with_byte}
 use Rattle.std.specs.Int.{int_div_euclid, int_rem_euclid}
 use Rattle.jiff_core.specs.Calendar.{days_from_civil}
 use Rattle.dfr_channels.specs.Written.{padded}
@@ -49,6 +50,10 @@ time_text us =
     padded 2 (us / 3_600_000_000) ++ 58 ∷ padded 2 (us / 60_000_000 % 60)
     ++ 58 ∷ padded 2 (us / 1_000_000 % 60) ++ 46 ∷ padded 6 (us % 1_000_000)
 
--- the date field, a comma and the time field
+-- the date field and the time field
+unfoldable pub instant_fields : ℤ → List (List ℕ)
+instant_fields instant = date_text (civil_of (day_number instant)) ∷ time_text (time_of_day instant) ∷ []
+
+-- both, with a comma between them
 unfoldable pub instant_text : ℤ → List ℕ
-instant_text instant = date_text (civil_of (day_number instant)) ++ 44 ∷ time_text (time_of_day instant)
+instant_text instant = join_with_byte 44 (instant_fields instant)

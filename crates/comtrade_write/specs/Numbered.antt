@@ -1,16 +1,11 @@
 -- Lists whose items are numbered on.
-use Rattle.std.specs.Prelude.{ℕ, ◌+◌, Option, None, List, [], ◌∷◌, ◌++◌}
+use Rattle.std.specs.Prelude.{ℕ, ◌+◌, Option, None, List, [], ◌∷◌}
 use Rattle.dfr_channels.specs.Faults.{◌or◌}
 
 -- the first answer that f gives of an item and its number, counted from n
 abbrev pub first_from : {X F : Type 0} → (ℕ → X → Option F) → ℕ → List X → Option F
 first_from f n [] = None
 first_from f n (x ∷ xs) = f n x or first_from f (n + 1) xs
-
--- what f makes of each item and its number, counted from n, one after the other
-abbrev pub each_from : {X A : Type 0} → (ℕ → X → List A) → ℕ → List X → List A
-each_from f n [] = []
-each_from f n (x ∷ xs) = f n x ++ each_from f (n + 1) xs
 
 -- each item with its number, counted from n, as f makes it
 abbrev pub numbered : {X Y : Type 0} → (ℕ → X → Y) → ℕ → List X → List Y

@@ -1,12 +1,12 @@
 //! The lines of the configuration file (C37.111-1999, clause 5).
 
-ghost use Rattle.std.specs.Prelude.{◌≡◌, ◌++◌, ◌∷◌, ◌<◌, ◌+◌, [], OnOk, length, decimal, true};
+ghost use Rattle.std.specs.Prelude.{◌≡◌, ◌++◌, ◌∷◌, ◌<◌, ◌+◌, [], OnOk, length, map, decimal, true};
 ghost use Rattle.std.specs.List.{flat_map};
 ghost use Rattle.std.specs.Fmt.{signed_decimal};
 ghost use Rattle.dfr_channels.specs.Written.{decimal_text};
 ghost use Rattle.comtrade_write.specs.Lines.{line, field};
-ghost use Rattle.comtrade_write.specs.Dates.{instant_text};
-ghost use Rattle.comtrade_write.specs.Numbered.{each_from};
+ghost use Rattle.comtrade_write.specs.Dates.{instant_fields};
+ghost use Rattle.comtrade_write.specs.Numbered.{numbered};
 ghost use Rattle.comtrade_write.specs.Shape.{is_writable};
 ghost use Rattle.comtrade_write.specs.Cfg as spec;
 
@@ -25,7 +25,7 @@ fn put_station<A: Allocator>(
     station: &[u8],
     device: &[u8],
 ) -> Result<(), AllocError>
-    ensures { OnOk result (out.new.items ≡ out.old.items ++ spec.station_line station.now device.now) }
+    ensures { OnOk result (out.new.items ≡ out.old.items ++ line (spec.names_fields station.now device.now)) }
 {
     text_field(out, station)?;
     text_field(out, device)?;
@@ -35,7 +35,7 @@ fn put_station<A: Allocator>(
 
 fn put_counts<A: Allocator>(out: &mut Vec<u8, A>, k: usize, m: usize) -> Result<(), AllocError>
     requires { k + m < 1000000 }
-    ensures { OnOk result (out.new.items ≡ out.old.items ++ spec.counts_line k m) }
+    ensures { OnOk result (out.new.items ≡ out.old.items ++ line (spec.counts_fields k m)) }
 {
     number_field(out, (k + m) as u64)?;
     put_number(out, k as u64)?;
@@ -52,7 +52,7 @@ fn put_top<A: Allocator>(
     m: usize,
 ) -> Result<(), AllocError>
     requires { k + m < 1000000 }
-    ensures { OnOk result (out.new.items ≡ out.old.items ++ spec.top_lines station.now device.now k m) }
+    ensures { OnOk result (out.new.items ≡ out.old.items ++ (line (spec.names_fields station.now device.now) ++ line (spec.counts_fields k m))) }
 {
     put_station(out, station, device)?;
     put_counts(out, k, m)
@@ -103,7 +103,7 @@ fn put_analog<A: Allocator>(
     n: u64,
     channel: &AnalogChannel<A>,
 ) -> Result<(), AllocError>
-    ensures { OnOk result (out.new.items ≡ out.old.items ++ spec.analog_line n channel.now) }
+    ensures { OnOk result (out.new.items ≡ out.old.items ++ line (spec.analog_fields n channel.now)) }
 {
     analog_names(out, n, channel)?;
     analog_scale(out, channel)?;
@@ -118,7 +118,7 @@ fn put_analogs<A: Allocator>(
     channels: &[AnalogChannel<A>],
 ) -> Result<(), AllocError>
     requires { length channels.now < 1000000 }
-    ensures { OnOk result (out.new.items ≡ out.old.items ++ each_from spec.analog_line 1 channels.now) }
+    ensures { OnOk result (out.new.items ≡ out.old.items ++ flat_map line (numbered spec.analog_fields 1 channels.now)) }
 {
     for (i, channel) in channels.iter().enumerate() {
         put_analog(out, i as u64 + 1, channel)?;
@@ -131,7 +131,7 @@ fn put_status<A: Allocator>(
     n: u64,
     channel: &StatusChannel<A>,
 ) -> Result<(), AllocError>
-    ensures { OnOk result (out.new.items ≡ out.old.items ++ spec.status_line n channel.now) }
+    ensures { OnOk result (out.new.items ≡ out.old.items ++ line (spec.status_fields n channel.now)) }
 {
     number_field(out, n)?;
     text_field(out, channel.id.items())?;
@@ -146,7 +146,7 @@ fn put_statuses<A: Allocator>(
     channels: &[StatusChannel<A>],
 ) -> Result<(), AllocError>
     requires { length channels.now < 1000000 }
-    ensures { OnOk result (out.new.items ≡ out.old.items ++ each_from spec.status_line 1 channels.now) }
+    ensures { OnOk result (out.new.items ≡ out.old.items ++ flat_map line (numbered spec.status_fields 1 channels.now)) }
 {
     for (i, channel) in channels.iter().enumerate() {
         put_status(out, i as u64 + 1, channel)?;
@@ -162,7 +162,7 @@ fn put_channels<A: Allocator>(
     status: &[StatusChannel<A>],
 ) -> Result<(), AllocError>
     requires { length analog.now + length status.now < 1000000 }
-    ensures { OnOk result (out.new.items ≡ out.old.items ++ spec.channels_text station.now device.now analog.now status.now) }
+    ensures { OnOk result (out.new.items ≡ out.old.items ++ flat_map line (spec.channel_lines station.now device.now analog.now status.now)) }
 {
     put_top(out, station, device, analog.len(), status.len())?;
     put_analogs(out, analog)?;
@@ -173,7 +173,7 @@ fn put_channels<A: Allocator>(
 /// The lines up to the last channel's.
 fn put_front<A: Allocator>(out: &mut Vec<u8, A>, head: &Head<A>) -> Result<(), AllocError>
     requires { length head.now.analog + length head.now.status < 1000000 }
-    ensures { OnOk result (out.new.items ≡ out.old.items ++ spec.channel_lines head.now) }
+    ensures { OnOk result (out.new.items ≡ out.old.items ++ flat_map line (spec.channel_lines head.now.station head.now.device head.now.analog head.now.status)) }
 {
     put_channels(
         out,
@@ -185,7 +185,7 @@ fn put_front<A: Allocator>(out: &mut Vec<u8, A>, head: &Head<A>) -> Result<(), A
 }
 
 fn put_rate<A: Allocator>(out: &mut Vec<u8, A>, rate: &Rate) -> Result<(), AllocError>
-    ensures { OnOk result (out.new.items ≡ out.old.items ++ spec.rate_line rate.now) }
+    ensures { OnOk result (out.new.items ≡ out.old.items ++ line (spec.rate_fields rate.now)) }
 {
     decimal_field(out, rate.samp)?;
     put_number(out, rate.endsamp)?;
@@ -193,7 +193,7 @@ fn put_rate<A: Allocator>(out: &mut Vec<u8, A>, rate: &Rate) -> Result<(), Alloc
 }
 
 fn put_rates<A: Allocator>(out: &mut Vec<u8, A>, rates: &[Rate]) -> Result<(), AllocError>
-    ensures { OnOk result (out.new.items ≡ out.old.items ++ flat_map spec.rate_line rates.now) }
+    ensures { OnOk result (out.new.items ≡ out.old.items ++ flat_map line (map spec.rate_fields rates.now)) }
 {
     for rate in rates {
         put_rate(out, rate)?;
@@ -207,17 +207,17 @@ fn put_rate_lines<A: Allocator>(
     nrates: u32,
     rates: &[Rate],
 ) -> Result<(), AllocError>
-    ensures { OnOk result (out.new.items ≡ out.old.items ++ spec.rate_lines line_freq nrates rates.now) }
+    ensures { OnOk result (out.new.items ≡ out.old.items ++ flat_map line (spec.rate_lines line_freq nrates rates.now)) }
 {
     decimal_line(out, line_freq)?;
     number_line(out, nrates as u64)?;
     put_rates(out, rates)
 }
 
-#[tactic(auto, unfolding(crate::specs::Lines::line))]
+#[tactic(auto, unfolding(crate::specs::Lines::line, crate::specs::Dates::instant_text, crate::specs::Dates::instant_fields))]
 fn instant_line<A: Allocator>(out: &mut Vec<u8, A>, instant: i64) -> Result<(), AllocError>
     requires { is_writable instant ≡ true }
-    ensures { OnOk result (out.new.items ≡ out.old.items ++ line (instant_text instant ∷ [])) }
+    ensures { OnOk result (out.new.items ≡ out.old.items ++ line (instant_fields instant)) }
 {
     put_instant(out, instant)?;
     end_line(out)
@@ -242,7 +242,7 @@ fn put_last_lines<A: Allocator>(
 ) -> Result<(), AllocError>
     requires first { is_writable first ≡ true }
     requires trigger { is_writable trigger ≡ true }
-    ensures { OnOk result (out.new.items ≡ out.old.items ++ spec.last_lines first trigger kind timemult) }
+    ensures { OnOk result (out.new.items ≡ out.old.items ++ flat_map line (spec.last_lines first trigger kind timemult)) }
 {
     instant_line(out, first)?;
     instant_line(out, trigger)?;

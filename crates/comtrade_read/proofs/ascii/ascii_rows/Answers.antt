@@ -1,7 +1,7 @@
 use Rattle.std.proofs.Common.{◌≡◌, ap, ◌∙◌}
 use Rattle.dfr_channels.specs.Lines.{texts, drop_end, is_blank_line, cut_lines}
 use Rattle.comtrade_read.specs.Ascii.{data_lines, row_rules}
-use Rattle.comtrade_read.specs.RowSteps.{row_items}
+use Rattle.comtrade_read.specs.Inner.RowValues.{row_items}
 use Rattle.comtrade_read.proofs.Outcomes.{found, faulty}
 use Rattle.comtrade_read.proofs.ascii.ascii_rows.Goals as goal
 

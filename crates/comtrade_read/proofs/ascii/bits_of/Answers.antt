@@ -5,7 +5,7 @@ use Rattle.std.proofs.lemmas.List.FromFn.{map-range_with_len_more}
 use Rattle.dfr_channels.specs.Lines.{fields, field}
 use Rattle.std.specs.Prelude.{false}
 use Rattle.dfr_channels.specs.Fields.{bit}
-use Rattle.comtrade_read.specs.RowSteps.{cell_faults}
+use Rattle.comtrade_read.specs.Inner.RowValues.{cell_faults}
 use Rattle.comtrade_read.proofs.FirstFault.{starts, goes_on, stops}
 use Rattle.comtrade_read.proofs.OneByOne.{at_left, next_left}
 use Rattle.comtrade_read.proofs.ascii.bits_of.Goals as goal

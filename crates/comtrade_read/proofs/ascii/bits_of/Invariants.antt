@@ -1,9 +1,9 @@
 use Rattle.std.proofs.Common.{◌≡◌, ◌<◌, ◌+◌}
 use Rattle.std.specs.Prelude.{None, drop, length, false}
 use Rattle.dfr_channels.specs.Fields.{bit}
-use Rattle.comtrade_read.specs.RowSteps.{cells, cell_faults}
+use Rattle.comtrade_read.specs.Inner.RowValues.{cells, cell_faults}
 use Rattle.dfr_channels.specs.Lines.{fields}
-use Rattle.comtrade_read.specs.LineSteps.{first_in}
+use Rattle.comtrade_read.specs.Inner.LineFaults.{first_in}
 use Rattle.comtrade_read.proofs.ascii.bits_of.Given as goal
 
 abbrev pub invariant-loop-i : goal.invariant-loop-i

@@ -1,7 +1,7 @@
 use Rattle.std.proofs.Common.{◌≡◌, ◌+◌, ◌-◌, ◌*◌, ◌++◌, length, take, drop, ap, ◌∙◌, arith, length-drop}
 use Rattle.std.specs.Prelude.{min}
 use Rattle.std.proofs.lemmas.List.{take_all}
-use Rattle.comtrade_read.specs.BinarySteps.{bits_at, group_bits}
+use Rattle.comtrade_read.specs.Inner.BinaryRows.{bits_at, group_bits}
 use Rattle.comtrade_read.proofs.BinaryGroups.{group_behind}
 use Rattle.comtrade_read.proofs.binary.bits_of.Goals as goal
 

@@ -1,7 +1,7 @@
 use Rattle.std.proofs.Common.{◌≡◌, ◌≤◌, ◌*◌}
 use Rattle.std.specs.Prelude.{min}
 use Rattle.std.specs.Vec.{vec_len, vec_capacity}
-use Rattle.comtrade_read.specs.BinarySteps.{bits_at}
+use Rattle.comtrade_read.specs.Inner.BinaryRows.{bits_at}
 use Rattle.comtrade_read.proofs.binary.bits_of.Given as goal
 
 abbrev pub invariant-loop-i : goal.invariant-loop-i

@@ -1,6 +1,6 @@
 use Rattle.std.proofs.Common.{◌≡◌, ◌+◌, ◌++◌}
 use Rattle.std.specs.Vec.{vec_len, vec_capacity}
-use Rattle.comtrade_read.specs.BinarySteps.{group_bits}
+use Rattle.comtrade_read.specs.Inner.BinaryRows.{group_bits}
 use Rattle.comtrade_read.proofs.binary.push_group.Given as goal
 
 abbrev pub invariant-loop-i : goal.invariant-loop-i

@@ -1,5 +1,5 @@
 use Rattle.std.proofs.Common.{◌≡◌}
-use Rattle.comtrade_read.specs.BinarySteps.{rows_at}
+use Rattle.comtrade_read.specs.Inner.BinaryRows.{rows_at}
 use Rattle.comtrade_read.proofs.binary.rows_of.Given as goal
 
 abbrev pub invariant-loop-i : goal.invariant-loop-i

@@ -2,7 +2,7 @@ use Rattle.std.proofs.Common.{◌≡◌, ℕ, ◌-◌, ◌*◌, length, take, dr
 use Rattle.std.proofs.lemmas.Grind.{common_steps}
 use Rattle.std.proofs.lemmas.List.{take_all}
 use Rattle.std.proofs.lemmas.List.FromFn.{map-range_with_len_more}
-use Rattle.comtrade_read.specs.BinarySteps.{value_at}
+use Rattle.comtrade_read.specs.Inner.BinaryRows.{value_at}
 use Rattle.comtrade_read.proofs.binary.values_of.Goals as goal
 
 pub loop-i-preserved : goal.loop-i-preserved

@@ -1,6 +1,6 @@
 use Rattle.std.proofs.Common.{◌≡◌, ◌≤◌}
 use Rattle.std.specs.Vec.{vec_len, vec_capacity}
-use Rattle.comtrade_read.specs.BinarySteps.{values_at}
+use Rattle.comtrade_read.specs.Inner.BinaryRows.{values_at}
 use Rattle.comtrade_read.proofs.binary.values_of.Given as goal
 
 abbrev pub invariant-loop-i : goal.invariant-loop-i

@@ -2,7 +2,7 @@ use Rattle.std.proofs.Common.{◌≡◌, ℕ, ◌+◌, refl, arith}
 use Rattle.std.proofs.lemmas.Result.{err_from_is_err_and}
 use Rattle.std.proofs.lemmas.List.FromFn.{map-range_with_len_more}
 use Rattle.dfr_channels.specs.Lines.{texts, line_fields}
-use Rattle.comtrade_read.specs.HeadSteps.{analog_faults, analog_value}
+use Rattle.comtrade_read.specs.Inner.HeadValues.{analog_faults, analog_value}
 use Rattle.comtrade_read.proofs.FirstFault.{starts, goes_on, stops}
 use Rattle.comtrade_read.proofs.channels.analogs_of.Goals as goal
 

@@ -3,7 +3,7 @@ use Rattle.std.proofs.lemmas.Int.{to_z-of_z}
 use Rattle.std.proofs.lemmas.Result.{err_from_is_err_and}
 use Rattle.dfr_channels.specs.Lines.{texts}
 use Rattle.comtrade_write.specs.Parts.{HeadParts}
-use Rattle.comtrade_read.specs.HeadSteps.{TailParts}
+use Rattle.comtrade_read.specs.Inner.HeadValues.{TailParts}
 use Rattle.comtrade_read.proofs.HeadRead.{Front, status_fails, tail_fails, all_read, value_is}
 use Rattle.comtrade_read.proofs.head.head_of.Goals as goal
 

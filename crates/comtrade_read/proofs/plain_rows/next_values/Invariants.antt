@@ -3,7 +3,7 @@ use Rattle.std.specs.Prelude.{option_copied, vec_capacity}
 use Rattle.dfr_channels.specs.declared.scan.Reading.TheVariants.{Missing}
 use Rattle.dfr_channels.specs.PlainNumbers.{fields_behind}
 use Rattle.comtrade_read.specs.Ascii.{value}
-use Rattle.comtrade_read.specs.PlainRows.{AreNext}
+use Rattle.comtrade_read.specs.Inner.PlainRows.{AreNext}
 use Rattle.comtrade_read.proofs.plain_rows.next_values.Given as goal
 
 abbrev pub invariant-loop-i : goal.invariant-loop-i

@@ -1,9 +1,9 @@
 use Rattle.std.proofs.Common.{◌≡◌}
 use Rattle.std.specs.Prelude.{None}
 use Rattle.dfr_channels.specs.Lines.{texts}
-use Rattle.comtrade_read.specs.LineSteps.{first_in}
+use Rattle.comtrade_read.specs.Inner.LineFaults.{first_in}
 use Rattle.comtrade_read.specs.Head.{rate_before}
-use Rattle.comtrade_read.specs.HeadSteps.{rate_faults, rate_items}
+use Rattle.comtrade_read.specs.Inner.HeadValues.{rate_faults, rate_items}
 use Rattle.comtrade_read.proofs.settings.rates_of.Given as goal
 
 abbrev pub invariant-loop-i : goal.invariant-loop-i

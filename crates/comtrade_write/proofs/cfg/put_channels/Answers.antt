@@ -1,7 +1,8 @@
 use Rattle.std.proofs.Common.{rules, append_assoc}
-use Rattle.comtrade_write.specs.Cfg.{channels_text}
+use Rattle.std.proofs.lemmas.List.Concat.{flat_map-append}
+use Rattle.comtrade_write.specs.Cfg.{channel_lines}
 use Rattle.comtrade_write.proofs.cfg.put_channels.Goals as goal
 
 pub returns : goal.returns
-unfolding channels_text
-returns g c = search (rules, append_assoc)
+unfolding channel_lines
+returns g c = search (rules, append_assoc, flat_map-append)

@@ -1,10 +1,10 @@
 use Rattle.std.proofs.Common.{rules, append_assoc}
 use Rattle.std.proofs.lemmas.Result.{IfOk-equal}
-use Rattle.comtrade_write.specs.Cfg.{counts_line}
+use Rattle.comtrade_write.specs.Cfg.{counts_fields}
 use Rattle.comtrade_write.specs.Lines.{field}
 use Rattle.comtrade_write.proofs.Lines.{line-cons, line-last}
 use Rattle.comtrade_write.proofs.cfg.put_counts.Goals as goal
 
 pub returns : goal.returns
-unfolding counts_line field
+unfolding counts_fields field
 returns g c = simp (line-cons, line-last) (search (rules, IfOk-equal, append_assoc))

@@ -1,8 +1,9 @@
 use Rattle.std.proofs.Common.{rules, append_assoc}
 use Rattle.std.proofs.lemmas.Result.{IfOk-equal}
-use Rattle.comtrade_write.specs.Cfg.{cfg}
+use Rattle.std.proofs.lemmas.List.Concat.{flat_map-append}
+use Rattle.comtrade_write.specs.Cfg.{cfg, head_lines}
 use Rattle.comtrade_write.proofs.cfg.put_head.Goals as goal
 
 pub returns : goal.returns
-unfolding cfg
-returns g c = rw (← c.head.view_is) (search (rules, IfOk-equal, append_assoc))
+unfolding cfg head_lines
+returns g c = rw (← c.head.view_is) (search (rules, IfOk-equal, append_assoc, flat_map-append))

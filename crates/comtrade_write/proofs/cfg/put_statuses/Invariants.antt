@@ -1,8 +1,10 @@
 use Rattle.std.proofs.Common.{◌≡◌, ◌+◌, ◌++◌, drop}
-use Rattle.comtrade_write.specs.Numbered.{each_from}
-use Rattle.comtrade_write.specs.Cfg.{status_line}
+use Rattle.std.specs.List.{flat_map}
+use Rattle.comtrade_write.specs.Lines.{line}
+use Rattle.comtrade_write.specs.Numbered.{numbered}
+use Rattle.comtrade_write.specs.Cfg.{status_fields}
 use Rattle.comtrade_write.proofs.cfg.put_statuses.Given as goal
 
 -- what is written and what is still to be written are all of it
 abbrev pub invariant-loop-i : goal.invariant-loop-i
-invariant-loop-i g l = l.out.items ++ each_from status_line (1 + l.i) (drop l.i l.channels) ≡ l.initial.out.items ++ each_from status_line 1 l.channels
+invariant-loop-i g l = l.out.items ++ flat_map line (numbered status_fields (1 + l.i) (drop l.i l.channels)) ≡ l.initial.out.items ++ flat_map line (numbered status_fields 1 l.channels)

@@ -1,10 +1,10 @@
 use Rattle.std.proofs.Common.{append_assoc, rules, to_z-of_z, FitsSigned, w64}
 use Rattle.std.proofs.lemmas.Result.{IfOk-equal}
-use Rattle.comtrade_write.specs.Dates.{instant_text, day_number, time_of_day}
+use Rattle.comtrade_write.specs.Dates.{instant_text, instant_fields, day_number, time_of_day}
 use Rattle.comtrade_write.proofs.dates.put_instant.Goals as goal
 
 pub returns : goal.returns
-unfolding instant_text day_number time_of_day
+unfolding instant_text instant_fields day_number time_of_day
 returns g c =
     let fits : FitsSigned w64 c.args.instant = c.ranges.instant in
     let day = simp to_z-of_z at c.div_euclid.ensures in

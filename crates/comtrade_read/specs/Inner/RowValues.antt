@@ -13,10 +13,10 @@ use Rattle.comtrade_read.specs.declared.fault.ReadFault.{ReadFault}
 use Rattle.comtrade_read.specs.Table.{reads}
 use Rattle.comtrade_read.specs.Fields.{natural}
 use Rattle.comtrade_read.specs.Faulty.{AllObey}
-use Rattle.comtrade_read.specs.LineSteps.{line_fault, first_in}
+use Rattle.comtrade_read.specs.Inner.LineFaults.{line_fault, first_in}
 use Rattle.comtrade_read.specs.Ascii.{stamp, value, data_lines, row_rule, row_rules}
 use Rattle.comtrade_read.specs.Data.{row_count, row_size}
-use Rattle.comtrade_read.specs.BinarySteps.{rows_at}
+use Rattle.comtrade_read.specs.Inner.BinaryRows.{rows_at}
 use Rattle.comtrade_read.specs.declared.fault.ReadFault.TheVariants as faults
 
 -- ---- what a row says

@@ -15,7 +15,7 @@ use Rattle.comtrade_read.specs.declared.fault.ReadFault.{ReadFault}
 use Rattle.comtrade_read.specs.Fields.{natural, small, scale}
 use Rattle.comtrade_read.specs.Instant.{date, time, instant_at}
 use Rattle.comtrade_read.specs.Faulty.{AllObey}
-use Rattle.comtrade_read.specs.LineSteps.{line_fault, extra_fault, file_fault, first_in}
+use Rattle.comtrade_read.specs.Inner.LineFaults.{line_fault, extra_fault, file_fault, first_in}
 use Rattle.comtrade_read.specs.Head.{names_rule, counts_rule, analog_rule, status_rule, frequency_rule, nrates_rule, rate_rule, instant_rule, kind_rule, timemult_rule, kind, analog_count, status_count, nrates_value, rate_before, rate_count, head_rules}
 
 -- the part of a head behind its rates

@@ -1,9 +1,9 @@
 -- What a row in the writers' spelling says of its fields.
 use Rattle.std.specs.Prelude.{◌≡◌, ℕ, ◌≤◌, List, ◌∷◌, length, drop, Option, Some, None}
 use Rattle.comtrade_write.specs.Parts.{RowParts}
-use Rattle.comtrade_read.specs.LineSteps.{first_in, fields_fault}
+use Rattle.comtrade_read.specs.Inner.LineFaults.{first_in, fields_fault}
 use Rattle.comtrade_read.specs.Ascii.{row_rule}
-use Rattle.comtrade_read.specs.RowSteps.{cells, cell_faults, row_value}
+use Rattle.comtrade_read.specs.Inner.RowValues.{cells, cell_faults, row_value}
 
 -- the first field reads as x, and these stand behind it
 pub record IsNext {A : Type 0} (read : List ℕ → Option A) (fs : List (List ℕ)) (x : A) (behind : List (List ℕ)) : Type 0 where
