@@ -1,6 +1,6 @@
 //! A set-up that was found lawful.
 
-ghost use Rattle.std.specs.Prelude.{◌≡◌, ◌<◌, ◌≤◌, ◌^◌, ◌≤ℤ◌, ◌+ℤ◌, pos, length, Some, None, IfSome, OnOk, MatchResult, true};
+ghost use Rattle.std.specs.Prelude.{◌≡◌, ◌<◌, ◌≤◌, ◌≤ℤ◌, ◌+ℤ◌, pos, length, Some, None, IfSome, OnOk, MatchResult, true};
 ghost use Rattle.std.specs.Bool.{OnTrue};
 ghost use Rattle.dfr_channels.specs.Setups.{end_of_time};
 ghost use Rattle.dfr_channels.specs.Scans as spec;
@@ -88,19 +88,6 @@ fn scan_fault<A: Allocator>(setup: &Setup<A>, scan: &Scan<A>) -> Result<(), Scan
     }
 }
 
-/// The microseconds from scan 0 to scan k. A product of 64 bits is divided much faster than one of 128.
-fn micros(rate: u32, k: u64) -> u128
-    requires rate { 1 ≤ rate }
-    ensures value { result ≡ spec.micros rate k }
-    ensures small { result < 2 ^ 84 }
-{
-    if k <= 18_446_744_073_709 {
-        (k * 1_000_000 / rate as u64) as u128
-    } else {
-        k as u128 * 1_000_000 / rate as u128
-    }
-}
-
 /// The instant of scan k of a recorder that starts then and makes so many scans a second.
 fn instant_at(rate: u32, start: i64, k: u64) -> Option<i64>
     requires rate { (1 ≤ rate) × (rate ≤ 1000000) }
@@ -108,7 +95,7 @@ fn instant_at(rate: u32, start: i64, k: u64) -> Option<i64>
     ensures value { result ≡ spec.within_time (start +ℤ pos (spec.micros rate k)) }
     ensures early { IfSome result (λ _. k ≤ end_of_time) }
 {
-    let at = start as i128 + micros(rate, k) as i128;
+    let at = start as i128 + (k as u128 * 1_000_000 / rate as u128) as i128;
     if at <= LAST as i128 {
         Some(at as i64)
     } else {
