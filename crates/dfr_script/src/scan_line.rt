@@ -72,8 +72,7 @@ fn plain_reading(text: &[u8]) -> Option<(Reading, Option<&[u8]>)>
     Some((Reading::Value(value), behind))
 }
 
-/// The readings in their plain spelling that a part begins with, as many as there is room for, and what stands behind them. A
-/// loop that does nothing else is twice as fast.
+/// The readings in their plain spelling that a part begins with, as many as there is room for, and what stands behind them.
 fn plain_readings<A: Allocator>(
     alloc: A,
     part: &[u8],
