@@ -1,7 +1,8 @@
 -- Rows in the writers' spelling are rows by the full rule.
-use Rattle.std.proofs.Common.{◌≡◌, ℕ, suc, ◌+◌, ◌-◌, ◌<◌, ◌≤◌, List, [], ◌∷◌, ◌++◌, length, get_or, take, drop, Bool, true, false, cond, eqb, Option, Some, refl, sym, ap, ◌∙◌, arith, length-drop}
-use Rattle.std.specs.Prelude.{unwrap_or, ℤ, pos, negsuc, option_map}
-use Rattle.std.proofs.lemmas.List.{drop-drop, get_or-drop, take_all}
+use Rattle.std.proofs.Common.{◌≡◌, ℕ, suc, ◌+◌, ◌-◌, ◌<◌, ◌≤◌, List, [], ◌∷◌, ◌++◌, length, get_or, take, drop, Bool, true, false, cond, eqb, ltb, Option, Some, refl, sym, ap, ◌∙◌, arith, length-drop, ◌*◌, ◌⊎◌, ⊎_elim, set, slice_index}
+use Rattle.std.specs.Prelude.{◌==◌, unwrap_or, ℤ, pos, negsuc, option_map}
+use Rattle.std.proofs.lemmas.Bool.{lt-ltb, ltb-true, ltb-false}
+use Rattle.std.proofs.lemmas.List.{drop-drop, drop_more, drop_all, get_or-drop, take_all, take_more_set}
 use Rattle.std.proofs.lemmas.List.FromFn.{map-range_with_len_more}
 use Rattle.std.proofs.lemmas.Bool.Decides.{nat_tests}
 use Rattle.dfr_channels.specs.Spelling.{whole_number}
@@ -12,8 +13,8 @@ use Rattle.dfr_channels.specs.declared.scan.Reading.TheVariants.{Missing}
 use Rattle.dfr_channels.specs.Fields.{within, up_to, bit}
 use Rattle.comtrade_read.specs.Fields.{natural, small}
 use Rattle.comtrade_read.specs.Ascii.{stamp, value, reading}
-use Rattle.comtrade_read.specs.Inner.RowValues.{cell_faults}
-use Rattle.comtrade_read.specs.Inner.PlainRows.{IsNext, AreNext, IsRow}
+use Rattle.comtrade_read.specs.RowSteps.{cell_faults}
+use Rattle.comtrade_read.specs.Inner.PlainRows.{IsNext, AreNext, AreBits, IsRow}
 use Rattle.comtrade_read.proofs.FirstFault.{starts, goes_on}
 use Rattle.comtrade_read.proofs.RowLine.{row_is}
 use Rattle.comtrade_read.proofs.OneByOne.{RowCells, row_read, row_made}
@@ -61,23 +62,58 @@ value_read text z x behind b e = record { first = b.field; cut = b.cut; says = s
     says [] h = absurd cc
     says (c ∷ cs) h = rw (some (length cs), h) e
 
-pub bit_and_comma : (text : List ℕ) (b : Bool) → 2 ≤ length text → get_or text 0 0 ≡ cond b 49 48 → get_or text 1 0 ≡ 44 → IsNext bit (fields text) b (fields (take (length text - 2) (drop 2 text)))
+bit_digit : (d : ℕ) → (d ≡ 48) ⊎ (d ≡ 49) → bit (d ∷ []) ≡ Some (d == 49)
 unfolding bit
-bit_and_comma [] b some p q = absurd (omega arith)
-bit_and_comma (x ∷ []) b some p q = absurd (omega arith)
-bit_and_comma (x ∷ y ∷ rest) true some p q =
-    let all : take (length (x ∷ y ∷ rest) - 2) rest ≡ rest = take_all (length (x ∷ y ∷ rest) - 2) rest (omega arith) in
-    record { first = 49 ∷ []; cut = rw (p, q, all) refl; says = refl }
-bit_and_comma (x ∷ y ∷ rest) false some p q =
-    let all : take (length (x ∷ y ∷ rest) - 2) rest ≡ rest = take_all (length (x ∷ y ∷ rest) - 2) rest (omega arith) in
-    record { first = 48 ∷ []; cut = rw (p, q, all) refl; says = refl }
+bit_digit d is = ⊎_elim (λ e. rw e refl) (λ e. rw e refl) is
 
-pub bit_at_end : (text : List ℕ) (b : Bool) → 1 ≤ length text → length text < 2 → get_or text 0 0 ≡ cond b 49 48 → IsNext bit (fields text) b []
-unfolding bit
-bit_at_end [] b some few p = absurd (omega arith)
-bit_at_end (x ∷ y ∷ rest) b some few p = absurd (omega arith)
-bit_at_end (x ∷ []) true some few p = record { first = 49 ∷ []; cut = rw p refl; says = refl }
-bit_at_end (x ∷ []) false some few p = record { first = 48 ∷ []; cut = rw p refl; says = refl }
+digit_first : (d : ℕ) (rest : List ℕ) → (d ≡ 48) ⊎ (d ≡ 49) → fields (d ∷ 44 ∷ rest) ≡ (d ∷ []) ∷ fields rest
+digit_first d rest is = ⊎_elim (λ e. rw e refl) (λ e. rw e refl) is
+
+digit_last : (d : ℕ) → (d ≡ 48) ⊎ (d ≡ 49) → fields (d ∷ []) ≡ (d ∷ []) ∷ []
+digit_last d is = ⊎_elim (λ e. rw e refl) (λ e. rw e refl) is
+
+-- the fields from bit i of n on
+abbrev pub bits_from : List ℕ → ℕ → ℕ → List (List ℕ)
+bits_from text n i = cond (ltb i n) (fields (drop (2 * i) text)) []
+
+module _ (text : List ℕ) (n : ℕ) (are : AreBits text n) (exact : length text + 1 ≡ 2 * n) where
+  inner : (i : ℕ) → i + 1 < n → fields (drop (2 * i) text) ≡ (slice_index text (2 * i) ∷ []) ∷ fields (drop (2 * (i + 1)) text)
+  inner i less =
+      let here = drop_more text (2 * i) 0 (omega arith) in
+      let next = drop_more text (2 * i + 1) 0 (omega arith) in
+      let places : 2 * i + 1 + 1 ≡ 2 * (i + 1) = omega arith in
+      let cut : drop (2 * i) text ≡ slice_index text (2 * i) ∷ 44 ∷ drop (2 * (i + 1)) text = here ∙ ap (λ l. slice_index text (2 * i) ∷ l) (next ∙ rw (are.commas i less, places) refl) in
+      ap fields cut ∙ digit_first (slice_index text (2 * i)) (drop (2 * (i + 1)) text) (are.digits i (omega arith))
+
+  final : (i : ℕ) → i + 1 ≡ n → fields (drop (2 * i) text) ≡ (slice_index text (2 * i) ∷ []) ∷ []
+  final i is =
+      let here = drop_more text (2 * i) 0 (omega arith) in
+      let cut : drop (2 * i) text ≡ slice_index text (2 * i) ∷ [] = here ∙ ap (λ l. slice_index text (2 * i) ∷ l) (drop_all (2 * i + 1) text (omega arith)) in
+      ap fields cut ∙ digit_last (slice_index text (2 * i)) (are.digits i (omega arith))
+
+  next_bit : (i : ℕ) → i < n → bits_from text n i ≡ (slice_index text (2 * i) ∷ []) ∷ bits_from text n (i + 1)
+  next_bit i less = with_test (ltb (i + 1) n) refl
+    where
+      with_test : (b : Bool) → ltb (i + 1) n ≡ b → bits_from text n i ≡ (slice_index text (2 * i) ∷ []) ∷ bits_from text n (i + 1)
+      with_test true t = rw (lt-ltb i n less, t) (inner i (ltb-true (i + 1) n t))
+      with_test false t = let is : i + 1 ≡ n = omega (arith, ltb-false (i + 1) n t) in rw (lt-ltb i n less, t) (final i is)
+
+  pub first_bit : (slot : List Bool) → AreNext bit false (fields text) 0 (take 0 slot) (bits_from text n 0)
+  first_bit slot = rw (lt-ltb 0 n (omega arith)) (none_yet bit false (fields text))
+
+  -- one bit more is written
+  pub written : (slot : List Bool) (i : ℕ) → i < length slot → i < n → AreNext bit false (fields text) i (take i slot) (bits_from text n i)
+      → AreNext bit false (fields text) (i + 1) (take (i + 1) (set slot i (slice_index text (2 * i) == 49))) (bits_from text n (i + 1))
+  written slot i room less before =
+      let b : Bool = slice_index text (2 * i) == 49 in
+      let next : IsNext bit (bits_from text n i) b (bits_from text n (i + 1)) = record { first = slice_index text (2 * i) ∷ []; cut = next_bit i less; says = bit_digit (slice_index text (2 * i)) (are.digits i less) } in
+      rw (take_more_set slot i b room) (one_more bit false (fields text) i (take i slot) (bits_from text n i) b (bits_from text n (i + 1)) before next)
+
+  pub last_bit : (slot : List Bool) → length slot ≡ n → AreNext bit false (fields text) n (take n slot) (bits_from text n n) → AreNext bit false (fields text) n slot []
+  last_bit slot len read = rw (lt-leb-no n, take_all n slot (omega (arith, len))) at read
+    where
+      lt-leb-no : (k : ℕ) → ltb k k ≡ false
+      lt-leb-no k = grind (arith, nat_tests)
 
 pub row_of_fields : (fs gs hs ks : List (List ℕ)) (k m number stamped : ℕ) (values vs : List Reading) (bits bs : List Bool)
     → vs ≡ values → bs ≡ bits → IsNext (natural 9999999999) fs number gs → IsNext stamp gs (Some stamped) hs → AreNext value Missing hs k values ks → AreNext bit false ks m bits []

@@ -55,6 +55,7 @@ fn values_of<A: Allocator>(
 }
 
 /// Appends the lowest bits of a group, for which there is room.
+#[inline(always)]
 fn push_group<A: Allocator>(bits: &mut Vec<bool, A>, group: u16, count: usize)
     requires few { count ≤ 16 }
     requires room { vec_len bits.old + count ≤ vec_capacity bits.old }
@@ -64,6 +65,22 @@ fn push_group<A: Allocator>(bits: &mut Vec<bool, A>, group: u16, count: usize)
 {
     for i in 0..count {
         bits.push_reserved((group >> i) & 1 == 1);
+    }
+}
+
+/// The same, where the compiler knows how long a whole group is, and has no loop for it.
+#[inline(always)]
+fn push_bits<A: Allocator>(bits: &mut Vec<bool, A>, group: u16, count: usize)
+    requires few { count ≤ 16 }
+    requires room { vec_len bits.old + count ≤ vec_capacity bits.old }
+    ensures items { bits.new.items ≡ bits.old.items ++ spec.group_bits count group }
+    ensures len { vec_len bits.new ≡ vec_len bits.old + count }
+    ensures capacity { vec_capacity bits.new ≡ vec_capacity bits.old }
+{
+    if count == 16 {
+        push_group(bits, group, 16);
+    } else {
+        push_group(bits, group, count);
     }
 }
 
@@ -83,7 +100,7 @@ fn bits_of<A: Allocator>(alloc: A, bytes: &[u8], count: usize) -> Result<Vec<boo
     let groups = count.div_ceil(16);
     for i in 0..groups {
         let group = LittleEndian::read_u16(&bytes[2 * i..]);
-        push_group(&mut bits, group, group_len(count - 16 * i));
+        push_bits(&mut bits, group, group_len(count - 16 * i));
     }
     Ok(bits)
 }

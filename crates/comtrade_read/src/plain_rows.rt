@@ -1,13 +1,13 @@
 //! Rows with a stamp, in the writers' spelling, read in one pass.
 
-ghost use Rattle.std.specs.Prelude.{◌≡◌, ◌<◌, [], IfOk, IfSome, option_copied, option_map, Some, false, pos, negsuc, if◌then◌else◌};
+ghost use Rattle.std.specs.Prelude.{◌≡◌, ◌<◌, ◌+◌, ◌*◌, [], IfOk, IfSome, option_copied, option_map, Some, true, false, pos, negsuc, length};
 ghost use Rattle.dfr_channels.specs.declared.scan.Reading.TheVariants as readings;
 ghost use Rattle.dfr_channels.specs.Lines.{fields};
 ghost use Rattle.dfr_channels.specs.PlainNumbers.{fields_behind};
 ghost use Rattle.dfr_channels.specs.Fields.{within, up_to, bit as read_bit};
 ghost use Rattle.comtrade_read.specs.Fields.{natural};
 ghost use Rattle.comtrade_read.specs.Ascii as spec;
-ghost use Rattle.comtrade_read.specs.Inner.PlainRows.{IsNext, AreNext, IsRow};
+ghost use Rattle.comtrade_read.specs.Inner.PlainRows.{IsNext, AreNext, AreBits, IsRow};
 
 use comtrade_write::Row;
 use dfr_channels::{Items, Reading, plain_number};
@@ -88,48 +88,68 @@ fn next_values<A: Allocator>(
     Ok(Some((list, left)))
 }
 
-/// A digit as a bit.
-fn digit_bit(digit: u8) -> Option<bool>
-    ensures { IfSome result (λ bit. digit ≡ (if bit then 49 else 48)) }
+/// Whether a text of this length is so many digits 0 and 1, with a comma between each two. It has no branch.
+fn are_bits(text: &[u8], count: usize) -> bool
+    requires { length text.now + 1 ≡ 2 * count }
+    ensures { result ≡ true → AreBits text.now count }
 {
-    if digit < b'0' {
-        return None;
+    let mut all = true;
+    for i in 0..count - 1 {
+        let digit = text[2 * i];
+        all = all & (digit == b'0' || digit == b'1') & (text[2 * i + 1] == b',');
     }
-    if b'1' < digit {
-        return None;
-    }
-    Some(digit == b'1')
+    let last = text[2 * (count - 1)];
+    all & (last == b'0' || last == b'1')
 }
 
-/// The bit that stands next, and what stands behind its comma if it has one.
-fn next_bit(left: Option<&[u8]>) -> Option<(bool, Option<&[u8]>)>
-    ensures { IfSome result (λ r. IsNext read_bit (fields_behind (option_copied left.entry)) r.0 (fields_behind (option_copied r.1))) }
+/// Fills the slot with the bits of a text, so many.
+fn write_bits(slot: &mut [bool], text: &[u8], count: usize)
+    requires many { length slot.old ≡ count }
+    requires bits { AreBits text.now count }
+    requires room { length text.now + 1 ≡ 2 * count }
+    ensures { AreNext read_bit false (fields text.now) count slot.new [] }
 {
-    match left? {
-        [digit, b',', behind @ ..] => Some((digit_bit(*digit)?, Some(behind))),
-        [digit] => Some((digit_bit(*digit)?, None)),
-        _ => None,
+    for i in 0..count {
+        slot[i] = text[2 * i] == b'1';
     }
 }
 
-/// The bits that stand next, so many, and what stands behind them.
-fn next_bits<A: Allocator>(
+/// The bits of a text, where it is so many and nothing stands behind them.
+fn plain_bits<A: Allocator>(
     alloc: A,
-    text: Option<&[u8]>,
-    count: u32,
-) -> Result<Option<(Vec<bool, A>, Option<&[u8]>)>, AllocError>
-    ensures { IfOk result (λ r. IfSome r (λ x. AreNext read_bit false (fields_behind (option_copied text.entry)) count x.0.items (fields_behind (option_copied x.1)))) }
+    text: &[u8],
+    count: usize,
+) -> Result<Option<Vec<bool, A>>, AllocError>
+    requires { count < 1000000 }
+    ensures { IfOk result (λ r. IfSome r (λ bits. AreNext read_bit false (fields text.now) count bits.items [])) }
 {
-    let mut list = Vec::with_capacity(alloc, count as usize)?;
-    let mut left = text;
-    for _i in 0..count {
-        let Some((bit, behind)) = next_bit(left) else {
-            return Ok(None);
-        };
-        list.push_reserved(bit);
-        left = behind;
+    if text.len() % 2 == 0 || text.len() / 2 + 1 != count || !are_bits(text, count) {
+        return Ok(None);
     }
-    Ok(Some((list, left)))
+    let mut bits = vec![in alloc; false; count]?;
+    write_bits(&mut bits, text, count);
+    Ok(Some(bits))
+}
+
+/// The bits that stand last, so many.
+fn last_bits<A: Allocator>(
+    alloc: A,
+    left: Option<&[u8]>,
+    count: u32,
+) -> Result<Option<Vec<bool, A>>, AllocError>
+    requires { count < 1000000 }
+    ensures { IfOk result (λ r. IfSome r (λ bits. AreNext read_bit false (fields_behind (option_copied left.entry)) count bits.items [])) }
+{
+    match left {
+        Some(text) => plain_bits(alloc, text, count as usize),
+        None => {
+            if count == 0 {
+                Ok(Some(Vec::new(alloc)))
+            } else {
+                Ok(None)
+            }
+        }
+    }
 }
 
 /// The row that the text says in the writers' spelling. None says no more than that it is spelled otherwise.
@@ -156,7 +176,7 @@ pub(crate) fn plain_row<A: Allocator + Copy>(
     let Some((values, left)) = next_values(alloc, left, k)? else {
         return Ok(None);
     };
-    let Some((bits, None)) = next_bits(alloc, left, m)? else {
+    let Some(bits) = last_bits(alloc, left, m)? else {
         return Ok(None);
     };
     Ok(Some(Row {

@@ -38,6 +38,7 @@ fn write_readings(slot: &mut [u8], readings: &[Reading])
 }
 
 /// Sixteen bits at most, the first one the least significant.
+#[inline(always)]
 fn group_of(bits: &[bool]) -> u16
     requires { length bits.now ≤ 16 }
     ensures { result ≡ bits_number bits.now }
@@ -49,14 +50,17 @@ fn group_of(bits: &[bool]) -> u16
     group as u16
 }
 
-/// The i-th sixteen bits as a number.
+/// The i-th sixteen bits as a number. The compiler knows how long a whole group is, and has no loop for it.
 fn group_at(bits: &[bool], i: usize) -> u16
     requires { 16 * i < length bits.now }
     ensures { result ≡ bits_number (take 16 (drop (16 * i) bits.now)) }
 {
     let rest = &bits[16 * i..];
-    let end = if rest.len() < 16 { rest.len() } else { 16 };
-    group_of(&rest[..end])
+    if rest.len() < 16 {
+        group_of(rest)
+    } else {
+        group_of(&rest[..16])
+    }
 }
 
 /// Fills the slot with the groups of sixteen bits of a row.

@@ -1,5 +1,5 @@
 -- What a row in the writers' spelling says of its fields.
-use Rattle.std.specs.Prelude.{◌≡◌, ℕ, ◌≤◌, List, ◌∷◌, length, drop, Option, Some, None}
+use Rattle.std.specs.Prelude.{◌≡◌, ℕ, ◌+◌, ◌*◌, ◌<◌, ◌≤◌, ◌⊎◌, List, ◌∷◌, length, drop, slice_index, Option, Some, None}
 use Rattle.comtrade_write.specs.Parts.{RowParts}
 use Rattle.comtrade_read.specs.Inner.LineFaults.{first_in, fields_fault}
 use Rattle.comtrade_read.specs.Ascii.{row_rule}
@@ -17,6 +17,11 @@ pub record AreNext {A : Type 0} (read : List ℕ → Option A) (d : A) (fs : Lis
   pub sound : (line at : ℕ) → first_in (cell_faults read line at fs) count ≡ None
   pub same : items ≡ cells read d fs count
   pub rest : behind ≡ drop count fs
+
+-- so many digits 0 or 1, with a comma between each two
+pub record AreBits (text : List ℕ) (count : ℕ) : Type 0 where
+  pub digits : (k : ℕ) → k < count → (slice_index text (2 * k) ≡ 48) ⊎ (slice_index text (2 * k) ≡ 49)
+  pub commas : (k : ℕ) → k + 1 < count → slice_index text (2 * k + 1) ≡ 44
 
 -- the fields of a line have no fault as a row, and say this one
 pub record IsRow (k m : ℕ) (fs : List (List ℕ)) (row : RowParts) : Type 0 where

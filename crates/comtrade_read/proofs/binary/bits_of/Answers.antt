@@ -17,7 +17,7 @@ loop-i-preserved g c =
     let joined : c.loop-i.bits.items ++ group_bits d c.read_u16-group.result ≡ bits_at (16 * i + d) bytes =
     rw (c.loop-i.invariant.items, here, c.read_u16-group.ensures, t) (group_behind bytes i d (omega (arith, c.group_len.ensures))) in
     record {
-      items = c.push_group.ensures.items ∙ joined ∙ ap (λ k. bits_at k bytes) next;
-      len = omega (arith, c.push_group.ensures.len, c.loop-i.invariant.len, here, next);
-      room = omega (arith, c.push_group.ensures.capacity, c.loop-i.invariant.room);
+      items = c.push_bits.ensures.items ∙ joined ∙ ap (λ k. bits_at k bytes) next;
+      len = omega (arith, c.push_bits.ensures.len, c.loop-i.invariant.len, here, next);
+      room = omega (arith, c.push_bits.ensures.capacity, c.loop-i.invariant.room);
     }
