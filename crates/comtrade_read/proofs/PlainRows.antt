@@ -13,7 +13,7 @@ use Rattle.dfr_channels.specs.declared.scan.Reading.TheVariants.{Missing}
 use Rattle.dfr_channels.specs.Fields.{within, up_to, bit}
 use Rattle.comtrade_read.specs.Fields.{natural, small}
 use Rattle.comtrade_read.specs.Ascii.{stamp, value, reading}
-use Rattle.comtrade_read.specs.RowSteps.{cell_faults}
+use Rattle.comtrade_read.specs.Inner.RowValues.{cell_faults}
 use Rattle.comtrade_read.specs.Inner.PlainRows.{IsNext, AreNext, AreBits, IsRow}
 use Rattle.comtrade_read.proofs.FirstFault.{starts, goes_on}
 use Rattle.comtrade_read.proofs.RowLine.{row_is}
