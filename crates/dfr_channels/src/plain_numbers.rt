@@ -17,33 +17,7 @@ fn without_minus(text: &[u8]) -> (bool, &[u8])
     }
 }
 
-/// The digits at the front of a text, so many at most: how many, and the number that they make.
-#[inline(always)]
-fn digits_among(text: &[u8], most: usize) -> (usize, u64)
-    requires there { most ≤ length text.now }
-    requires short { most ≤ 10 }
-    ensures within { result.0 ≤ most }
-    ensures digits { all_ascii_digits (take result.0 text.now) ≡ true }
-    ensures value { result.1 ≡ digits_value 10 (take result.0 text.now) }
-    ensures small { result.1 < 10 ^ 10 }
-    ensures all { (nat_lt result.0 most && is_ascii_digit (get_or text.now result.0 0)) ≡ false }
-{
-    let mut count = 0;
-    let mut number: u64 = 0;
-    while count < most {
-        let digit = text[count];
-        if !digit.is_ascii_digit() {
-            return (count, number);
-        }
-        number = number * 10 + (digit - b'0') as u64;
-        count += 1;
-    }
-    (count, number)
-}
-
-/// The digits at the front of a text, ten at most: how many, and the number that they make. Where ten bytes stand, their number is
-/// known to the compiler, which writes the loop out.
-#[inline(always)]
+/// The digits at the front of a text, ten at most: how many, and the number that they make.
 fn digits_at(text: &[u8]) -> (usize, u64)
     ensures within { result.0 ≤ length text.now }
     ensures few { result.0 ≤ 10 }
@@ -52,11 +26,17 @@ fn digits_at(text: &[u8]) -> (usize, u64)
     ensures small { result.1 < 10 ^ 10 }
     ensures all { (nat_lt result.0 10 && is_ascii_digit (get_or text.now result.0 0)) ≡ false }
 {
-    if text.len() < 10 {
-        digits_among(text, text.len())
-    } else {
-        digits_among(text, 10)
+    let mut count = 0;
+    let mut number: u64 = 0;
+    while count < text.len() && count < 10 {
+        let digit = text[count];
+        if !digit.is_ascii_digit() {
+            return (count, number);
+        }
+        number = number * 10 + (digit - b'0') as u64;
+        count += 1;
     }
+    (count, number)
 }
 
 /// The number of the one to ten digits that a text begins with, and what stands behind its comma if it has one.

@@ -1,6 +1,6 @@
 //! The readings and bits of a scan's line.
 
-ghost use Rattle.std.specs.Prelude.{◌≡◌, ◌<◌, ◌∷◌, ◌++◌, ◌&&◌, IfOk, IfSome, is_some, length, position, option_copied, option_to_list};
+ghost use Rattle.std.specs.Prelude.{◌≡◌, ◌<◌, ◌∷◌, ◌++◌, ◌&&◌, IfSome, is_some, length, position, option_copied, option_to_list};
 ghost use Rattle.std.specs.List.{filter_map};
 ghost use Rattle.dfr_channels.specs.Fields.{bit};
 ghost use Rattle.dfr_script.specs.Faults.{Gives};
@@ -13,7 +13,7 @@ use crate::plain::plain_field;
 use crate::plain_bits::plain_bits;
 use dfr_channels::{Reading, Scan, bit_of, trim};
 use memchr::memchr;
-use std::alloc::{AllocError, Allocator};
+use std::alloc::Allocator;
 
 /// How many readings and bits the set-up's scans have: the room to make for a line's.
 #[derive(Clone, Copy, Debug)]
@@ -60,50 +60,14 @@ fn reading_of(text: &[u8]) -> Option<Reading>
     }
 }
 
-/// The reading that a text begins with in its plain spelling, and what stands behind its comma if it has one. None says no more
-/// than that it is spelled otherwise.
-#[inline(always)]
-fn plain_reading(text: &[u8]) -> Option<(Reading, Option<&[u8]>)>
-    ensures all { IfSome result (λ r. spec.reads_all spec.reading (spec.fields text.now) ≡ spec.reads_all spec.reading (spec.fields_behind (option_copied r.1))) }
-    ensures values { IfSome result (λ r. filter_map spec.reading (spec.fields text.now) ≡ r.0 ∷ filter_map spec.reading (spec.fields_behind (option_copied r.1))) }
-    ensures shorter { IfSome result (λ r. IfSome r.1 (λ behind. length behind.now < length text.now)) }
-{
-    let (value, behind) = plain_field(text)?;
-    Some((Reading::Value(value), behind))
-}
-
-/// The readings in their plain spelling that a part begins with, as many as there is room for, and what stands behind them.
-fn plain_readings<A: Allocator>(
-    alloc: A,
-    part: &[u8],
-    room: usize,
-) -> Result<(Vec<Reading, A>, Option<&[u8]>), AllocError>
-    ensures all { IfOk result (λ r. spec.reads_all spec.reading (spec.fields part.now) ≡ spec.reads_all spec.reading (spec.fields_behind (option_copied r.1))) }
-    ensures values { IfOk result (λ r. filter_map spec.reading (spec.fields part.now) ≡ r.0.items ++ filter_map spec.reading (spec.fields_behind (option_copied r.1))) }
-{
-    let mut list = Vec::with_capacity(alloc, room)?;
-    let mut left = Some(part);
-    for _i in 0..room {
-        let Some(text) = left else {
-            return Ok((list, left));
-        };
-        let Some((reading, behind)) = plain_reading(text) else {
-            return Ok((list, left));
-        };
-        list.push_reserved(reading);
-        left = behind;
-    }
-    Ok((list, left))
-}
-
 /// The reading that a text begins with, and what stands behind its comma if it has one.
 fn next_reading(text: &[u8]) -> (Option<Reading>, Option<&[u8]>)
     ensures all { spec.reads_all spec.reading (spec.fields text.now) ≡ (is_some result.0 && spec.reads_all spec.reading (spec.fields_behind (option_copied result.1))) }
     ensures values { filter_map spec.reading (spec.fields text.now) ≡ option_to_list result.0 ++ filter_map spec.reading (spec.fields_behind (option_copied result.1)) }
     ensures shorter { IfSome result.1 (λ behind. length behind.now < length text.now) }
 {
-    match plain_reading(text) {
-        Some((reading, behind)) => (Some(reading), behind),
+    match plain_field(text) {
+        Some((value, behind)) => (Some(Reading::Value(value)), behind),
         None => {
             let (field, behind) = at_comma(text);
             (reading_of(field), behind)
@@ -124,8 +88,8 @@ fn readings_of<A: Allocator>(
         return Ok(Vec::new(alloc));
     }
     // no more readings than this can be read of a text, however many channels there are
-    let room = room.min(part.len() / 2 + 1);
-    let (mut list, mut left) = plain_readings(alloc, part, room)?;
+    let mut list = Vec::with_capacity(alloc, room.min(part.len() / 2 + 1))?;
+    let mut left = Some(part);
     while let Some(text) = left {
         let (reading, behind) = next_reading(text);
         list.push(needed(reading)?)?;

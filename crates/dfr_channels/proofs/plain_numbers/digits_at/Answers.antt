@@ -3,11 +3,11 @@ use Rattle.std.proofs.lemmas.List.{take_more}
 use Rattle.dfr_channels.proofs.Capped.{digit_is}
 use Rattle.dfr_channels.proofs.PlainNumbers.{digits_more, value_more, room}
 use Rattle.dfr_channels.proofs.Short.{digit_few}
-use Rattle.dfr_channels.proofs.plain_numbers.digits_among.Goals as goal
+use Rattle.dfr_channels.proofs.plain_numbers.digits_at.Goals as goal
 
 pub overflow_mul-number : goal.overflow_mul-number
 overflow_mul-number c =
-    let r = room c.loop-count.number c.loop-count.count 0 c.loop-count.invariant.small (omega (arith, c.loop-count-test.true)) (omega arith) in
+    let r = room c.loop-count.number c.loop-count.count 0 c.loop-count.invariant.small c.if-count-lt10.true (omega arith) in
     omega (arith, r.0)
 
 pub overflow_add-number : goal.overflow_add-number
@@ -15,7 +15,7 @@ overflow_add-number c =
     let digit = sym c.is_ascii_digit.ensures.value ∙ c.if-not-is_ascii_digit.false in
     let d : ℕ = get_or c.args.text.now c.loop-count.count 0 in
     let few : d - 48 < 10 = digit_few d digit in
-    let r = room c.loop-count.number c.loop-count.count (d - 48) c.loop-count.invariant.small (omega (arith, c.loop-count-test.true)) few in
+    let r = room c.loop-count.number c.loop-count.count (d - 48) c.loop-count.invariant.small c.if-count-lt10.true few in
     omega (arith, r.0)
 
 pub loop-count-preserved : goal.loop-count-preserved
@@ -26,8 +26,9 @@ loop-count-preserved c =
     let more = take_more text i 0 (omega arith) in
     let d : ℕ = get_or text i 0 in
     let few : d - 48 < 10 = digit_few d digit in
-    let r = room c.loop-count.number i (d - 48) c.loop-count.invariant.small (omega (arith, c.loop-count-test.true)) few in
+    let r = room c.loop-count.number i (d - 48) c.loop-count.invariant.small c.if-count-lt10.true few in
     record {
+      few = omega arith;
       within = omega arith;
       digits = rw more (digits_more (take i text) d c.loop-count.invariant.digits digit);
       value = rw (more, value_more (take i text) d 0, ← c.loop-count.invariant.value, digit_is d digit) refl;
