@@ -4,6 +4,7 @@
 mod fixture;
 mod held;
 mod limits;
+mod lost;
 mod memory;
 mod records;
 mod rules;

@@ -197,7 +197,7 @@ fn scans_refused(rt: HostRuntime) {
     assert!(rt; recorder_goes_on(&heap));
 }
 
-fn is_scanned<A: Allocator + Copy>(recorder: &mut Recorder<A>, scan: Option<Scan<A>>) -> bool {
+pub fn is_scanned<A: Allocator + Copy>(recorder: &mut Recorder<A>, scan: Option<Scan<A>>) -> bool {
     match scan {
         Some(scan) => recorder.scan(scan).is_ok(),
         None => false,

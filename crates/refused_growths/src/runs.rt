@@ -17,6 +17,7 @@ use std::collections::VecDeque;
 fn step_of<A: Allocator>(command: Command<A>) -> Option<Step<A>> {
     match command {
         Command::Scan(scan) => Some(Step::Scan(scan)),
+        Command::Lost => Some(Step::Lost),
         Command::Trigger => Some(Step::Trigger),
         Command::Take => Some(Step::Take),
         Command::Rules { line: _, list: _ } => None,

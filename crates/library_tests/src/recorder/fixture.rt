@@ -42,10 +42,11 @@ fn analogs<A: Allocator + Copy>(alloc: A) -> Option<Vec<AnalogChannel<A>, A>> {
     one(alloc, analog(alloc)?)
 }
 
-/// One analogue channel and these status channels.
-pub fn layout_with<A: Allocator + Copy>(
+/// One analogue channel and these status channels; scan 0 has this instant.
+fn layout_from<A: Allocator + Copy>(
     alloc: A,
     rate: u32,
+    start: i64,
     status: Vec<StatusChannel<A>, A>,
 ) -> Option<Layout<A>> {
     let line_freq = Decimal::new(50, 0)?;
@@ -57,9 +58,18 @@ pub fn layout_with<A: Allocator + Copy>(
         status: Items::of(status),
         line_freq,
         rate,
-        start: 0,
+        start,
     };
     Layout::new(setup).ok()
+}
+
+/// The same from 1970 on.
+pub fn layout_with<A: Allocator + Copy>(
+    alloc: A,
+    rate: u32,
+    status: Vec<StatusChannel<A>, A>,
+) -> Option<Layout<A>> {
+    layout_from(alloc, rate, 0, status)
 }
 
 pub fn layout<A: Allocator + Copy>(alloc: A, rate: u32) -> Option<Layout<A>> {
@@ -102,12 +112,24 @@ fn joined<A: Allocator + Copy>(
     None
 }
 
-/// A recorder at a thousand scans a second, without rules.
-pub fn recorder<A: Allocator + Copy>(alloc: A, shelf: u32) -> Option<Recorder<A>> {
-    let layout = layout(alloc, 1000)?;
+fn recorder_over<A: Allocator + Copy>(
+    alloc: A,
+    layout: Layout<A>,
+    shelf: u32,
+) -> Option<Recorder<A>> {
     let limits = limits(&layout, shelf)?;
     let rules = no_rules(alloc, &layout)?;
     joined(alloc, layout, limits, rules)
+}
+
+/// A recorder at a thousand scans a second, without rules.
+pub fn recorder<A: Allocator + Copy>(alloc: A, shelf: u32) -> Option<Recorder<A>> {
+    recorder_over(alloc, layout(alloc, 1000)?, shelf)
+}
+
+/// The same whose scan 0 has this instant.
+pub fn recorder_from<A: Allocator + Copy>(alloc: A, start: i64) -> Option<Recorder<A>> {
+    recorder_over(alloc, layout_from(alloc, 1000, start, Vec::new(alloc))?, 1)
 }
 
 fn fires_at_100<A: Allocator + Copy>(alloc: A, recorder: &mut Recorder<A>) -> bool {

@@ -18,6 +18,15 @@ fn takes_scans<'a>(heap: &'a LocalHeap, recorder: &mut Local<'a>, n: u32) -> boo
     true
 }
 
+fn takes_lost_scans(recorder: &mut Local, n: u32) -> bool {
+    for _ in 0..n {
+        if recorder.lost().is_err() {
+            return false;
+        }
+    }
+    true
+}
+
 /// A record that is opened, closed, taken and dropped.
 fn makes_a_record<'a>(heap: &'a LocalHeap, recorder: &mut Local<'a>) -> bool {
     recorder.trigger().is_ok() && takes_scans(heap, recorder, 2) && recorder.take().is_some()
@@ -32,10 +41,14 @@ fn makes_records<'a>(heap: &'a LocalHeap, recorder: &mut Local<'a>, n: u32) -> b
     true
 }
 
-/// Whether as much of the heap is used after many scans, and after many records, as before them.
+/// Whether as much of the heap is used after many scans, after many lost ones and three that fill the ring with scans like those
+/// before, and after many records.
 fn stays<'a>(heap: &'a LocalHeap, recorder: &mut Local<'a>) -> bool {
     let before = heap.used();
     takes_scans(heap, recorder, 1200)
+        && heap.used() == before
+        && takes_lost_scans(recorder, 1200)
+        && takes_scans(heap, recorder, 3)
         && heap.used() == before
         && makes_records(heap, recorder, 50)
         && heap.used() == before

@@ -36,7 +36,7 @@ pub fn are_scanned<A: Allocator + Copy>(
     true
 }
 
-fn is_value<A: Allocator>(scan: &Scan<A>, x: i32) -> bool {
+pub fn is_value<A: Allocator>(scan: &Scan<A>, x: i32) -> bool {
     matches!(scan.analog(), [Reading::Value(y)] if *y == x)
 }
 

@@ -6,13 +6,13 @@ use dfr_recorder::{Answer, Hit, Ran, Step, TriggerFault, run};
 use std::alloc::Global;
 use std::collections::VecDeque;
 
-type Steps = VecDeque<Step>;
+pub type Steps = VecDeque<Step>;
 
-fn add(steps: &mut Steps, step: Step) -> bool {
+pub fn add(steps: &mut Steps, step: Step) -> bool {
     steps.push_back(step).is_ok()
 }
 
-fn add_scan(alloc: Global, steps: &mut Steps, x: i32) -> bool {
+pub fn add_scan(alloc: Global, steps: &mut Steps, x: i32) -> bool {
     match value(alloc, x) {
         Some(scan) => add(steps, Step::Scan(scan)),
         None => false,
@@ -45,11 +45,11 @@ fn add_idle(alloc: Global, steps: &mut Steps, n: u32) -> bool {
 }
 
 /// The steps made by a new recorder with a shelf of one.
-fn ran(alloc: Global, steps: Steps) -> Option<Ran> {
+pub fn ran(alloc: Global, steps: Steps) -> Option<Ran> {
     Some(run(alloc, recorder(alloc, 1)?, steps))
 }
 
-fn is_whole(ran: &Ran, answers: usize) -> bool {
+pub fn is_whole(ran: &Ran, answers: usize) -> bool {
     ran.stopped.is_none() && ran.rest.is_empty() && ran.answers.len() == answers
 }
 
