@@ -139,6 +139,20 @@ class History:
             line += " closed %d" % len(self.records)
         return line
 
+    def lost_scan(self):
+        """What stands for a scan that was lost: no sample, and the bits before it."""
+        normal = [int(fields[3] or 0) for fields in self.settings["status"]]
+        return [None] * len(self.settings["analog"]), self.scans[-1][1] if self.scans else normal
+
+    def lose(self):
+        """It fires nothing, and may close a record."""
+        n = len(self.scans)
+        if self.instant(n) > LAST:
+            return "lost refused clock-end"
+        self.scans.append(self.lost_scan())
+        closed = self.records and self.records[-1][2] == n
+        return "lost %d" % n + (" closed %d" % len(self.records) if closed else "")
+
     def take(self, kind):
         if self.taken == sum(last < len(self.scans) for _, _, last, _ in self.records):
             return b"take none\n"
@@ -180,6 +194,8 @@ def expected(settings, commands, kind):
     for word, rest in commands:
         if word == "scan":
             printed += history.scan(scan_of(rest)).encode() + b"\n"
+        elif word == "lost":
+            printed += history.lose().encode() + b"\n"
         elif word == "trigger":
             printed += history.manual().encode() + b"\n"
         elif word == "rules":
@@ -235,8 +251,9 @@ def main():
     settings, commands = settings_and_commands(script)
     assert printed == expected(settings, commands, kind), "not what the rules of recording say"
     history = History(settings)
-    for scan in (scan_of(rest) for word, rest in commands if word == "scan"):
-        if history.refusal(scan) is None:
+    for word, rest in commands:
+        scan = scan_of(rest) if word == "scan" else history.lost_scan()
+        if word in ("scan", "lost") and history.refusal(scan) is None:
             history.scans.append(scan)
     scans = history.scans
     for number, first, cfg, dat in files_in(printed):

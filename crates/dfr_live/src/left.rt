@@ -25,17 +25,18 @@ impl<A: Allocator> Model for Left<A> {
     ghost view = { λ l. record { lost = l.lost; scan = l.scan } };
 }
 
-/// The next step of an item: a lost scan's while it has one, then its scan's. What is left of the
-/// item comes back with the answer, and all of it where an allocation failed.
+/// The next step of so many lost scans and then this scan. What is left comes back with the answer,
+/// and all of it where an allocation failed.
 pub(crate) fn step_next<A: Allocator + Copy>(
     recorder: &mut Recorder<A>,
-    item: Left<A>,
+    lost: u32,
+    scan: Scan<A>,
 ) -> Result<(Result<Scanned, ScanRefusal>, Option<Left<A>>), Left<A>>
     ensures { MatchResult result
-        (λ r. StepsNext recorder.old item r.0 r.1 recorder.new)
-        (λ back. (back ≡ item) × (recorder.new ≡ recorder.old)) }
+        (λ r. StepsNext recorder.old (record { lost = lost; scan = scan }) r.0 r.1 recorder.new)
+        (λ back. (back ≡ record { lost = lost; scan = scan })
+        × (recorder.new ≡ recorder.old)) }
 {
-    let Left { lost, scan } = item;
     if lost > 0 {
         return match step_lost(recorder) {
             Some(answer) => Ok((
