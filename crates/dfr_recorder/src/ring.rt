@@ -20,6 +20,7 @@ pub(crate) fn fires<A: Allocator>(
 }
 
 /// Takes a scan into the ring, which drops its oldest where it is full.
+#[inline(always)]
 pub(crate) fn keep<A: Allocator>(ring: &mut HeapCircularBuffer<Scan<A>, A>, scan: Scan<A>)
     ensures items { ring.new.items ≡ latest ring.old.capacity (ring.old.items ++ scan ∷ []) }
     ensures places { ring.new.capacity ≡ ring.old.capacity }
