@@ -21,6 +21,10 @@ pub enum Act {
     Full(i32),
     /// A scan of two readings, which the lane takes and the recorder refuses.
     TwoReadings,
+    /// A lost scan, the nth since the last one that the lane took.
+    Lose(u32),
+    /// So many lost scans are counted.
+    Lost(u32),
     /// A pump of at most so many scan steps, which makes so many and then stops for this.
     Pump(u32, u32, End),
     Trigger(Result<Hit, TriggerFault>),
@@ -104,6 +108,8 @@ fn is_offered<N: Session<Global>>(alloc: Global, source: &mut Source<N>, act: Ac
         Act::Offer(x) => offers(source, value(alloc, x)),
         Act::Full(x) => is_full(source, value(alloc, x), x),
         Act::TwoReadings => offers(source, scan(alloc, &[Reading::Value(1), Reading::Value(2)])),
+        Act::Lose(n) => source.lose() == Ok(n),
+        Act::Lost(n) => source.lost() == n,
         _ => false,
     }
 }
@@ -136,7 +142,9 @@ fn is_made<N: Session<Global>>(
     act: Act,
 ) -> bool {
     match act {
-        Act::Offer(_) | Act::Full(_) | Act::TwoReadings => is_offered(alloc, source, act),
+        Act::Offer(_) | Act::Full(_) | Act::TwoReadings | Act::Lose(_) | Act::Lost(_) => is_offered(
+            alloc, source, act,
+        ),
         _ => is_called(rt, alloc, shared, token, act),
     }
 }

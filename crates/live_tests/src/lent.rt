@@ -3,12 +3,12 @@
 ghost use Rattle.std.specs.Prelude.{◌≡◌};
 
 use crate::acts::{Act, are_entries};
-use crate::station::{edge, recorder, value};
+use crate::station::{edge, recorder, recorder_at_the_end, value};
 use dfr_channels::Rules;
 use dfr_live::{
     EndFault, Inner, One, Opened, RulesRefusal, Session, Shared, Source, Token, end, open,
 };
-use dfr_recorder::{Hit, Recorder, Scanned};
+use dfr_recorder::{Hit, Recorder, ScanRefusal, Scanned};
 use std::alloc::Global;
 use std::marker::Brand;
 use std::sync::Wait;
@@ -120,4 +120,36 @@ fn is_right<R: Wait>(rt: &R, alloc: Global) -> bool {
 #[test]
 fn calls_without_the_lock(rt: HostRuntime) {
     assert!(rt; is_right(&rt, rt.alloc()));
+}
+
+/// The answer to a scan, and to a lost one, whose instant is past the year 9999.
+const PAST: One = One::Stepped(Err(ScanRefusal::ClockEnd));
+
+/// Of two losses and a scan the first loss is the last that has an instant.
+fn are_past<N: Session<Global>>(inner: &mut Inner<N>) -> bool {
+    steps(inner, 0)
+        && inner.pump_one() == PAST
+        && inner.pump_one() == PAST
+        && inner.pump_one() == One::Empty
+}
+
+fn loses_at_the_end<N: Session<Global>>(alloc: Global, opened: Opened) -> bool
+    requires { (opened.opening ≡ N.opening) × (opened.lane ≡ N.lane) }
+{
+    let (shared, mut source, _) = opened.share::<N>();
+    let begun = source.lose() == Ok(1) && source.lose() == Ok(2) && offers(alloc, &mut source, 10);
+    let mut inner = shared.unlock();
+    begun && are_past(&mut inner)
+}
+
+fn is_refused(alloc: Global) -> bool {
+    match opened(alloc, recorder_at_the_end(alloc)) {
+        Some(opened) => loses_at_the_end::<Brand>(alloc, opened),
+        None => false,
+    }
+}
+
+#[test]
+fn losses_past_the_clock(rt: HostRuntime) {
+    assert!(rt; is_refused(rt.alloc()));
 }

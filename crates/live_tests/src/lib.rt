@@ -10,6 +10,8 @@ mod lent;
 #[cfg(test)]
 mod load;
 #[cfg(test)]
+mod losses;
+#[cfg(test)]
 mod one_thread;
 #[cfg(test)]
 mod opening;

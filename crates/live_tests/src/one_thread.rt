@@ -4,32 +4,33 @@ ghost use Rattle.std.specs.Prelude.{◌≡◌};
 
 use crate::acts::{Act, are_entries, are_made};
 use crate::station::{is_value, recorder};
-use dfr_channels::Scan;
-use dfr_live::{End, Ended, Opened, Session, Shared, Source, Token, end, open};
+use dfr_live::{End, Ended, Left, Opened, Session, Shared, Source, Token, end, open};
 use dfr_recorder::{Hit, Recorder, TriggerFault};
 use std::alloc::Global;
 use std::marker::Brand;
 use std::sync::Wait;
 
-/// A lane, a shelf, the calls of the one token and of the source, the entries that they leave, the values of the scans that are
-/// left in the lane, and how many scans were accepted.
+/// A lane, a shelf, the calls of the one token and of the source, the entries that they leave, the scans that are left in the lane
+/// by their losses and values, and how many scans were accepted.
 #[derive(Clone, Copy)]
 struct Play<'a> {
     lane: usize,
     shelf: u32,
     acts: &'a [Act],
     entries: &'a [(u64, Act)],
-    left: &'a [i32],
+    left: &'a [(u32, i32)],
     scans: u64,
 }
 
-fn are_values(scans: &[Scan], values: &[i32]) -> bool {
-    scans.len() == values.len() && scans.iter().zip(values).all(|(scan, x)| is_value(scan, *x))
+fn are_left(left: &[Left], wanted: &[(u32, i32)]) -> bool {
+    left.len() == wanted.len()
+        && left.iter().zip(wanted).all(|(item, (lost, x))| item.lost == *lost
+            && is_value(&item.scan, *x))
 }
 
 fn is_ended(ended: &Ended, play: Play) -> bool {
     are_entries(&ended.log, 0, play.entries)
-        && are_values(&ended.left, play.left)
+        && are_left(&ended.left, play.left)
         && ended.recorder.scans() == play.scans
 }
 
@@ -160,7 +161,7 @@ const FULL_LANE: Play = Play {
     shelf: 1,
     acts: &[Act::Offer(10), Act::Full(11)],
     entries: &[],
-    left: &[10],
+    left: &[(0, 10)],
     scans: 0,
 };
 
@@ -188,7 +189,7 @@ const PUMPS: Play = Play {
         Act::Pump(3, 3, End::Most),
     ],
     entries: &[],
-    left: &[15, 16],
+    left: &[(0, 15), (0, 16)],
     scans: 5,
 };
 
@@ -227,4 +228,83 @@ const RULES: Play = Play {
 #[test]
 fn rules(rt: HostRuntime) {
     assert!(rt; is_played(&rt, rt.alloc(), RULES));
+}
+
+/// Two scans are lost while a lane of one is full; the next scan that it takes carries both. Each is a scan step, before that
+/// scan's own.
+const LOSSES: Play = Play {
+    lane: 1,
+    shelf: 1,
+    acts: &[
+        Act::Lost(0),
+        Act::Offer(10),
+        Act::Full(11),
+        Act::Lose(1),
+        Act::Full(12),
+        Act::Lose(2),
+        Act::Pump(9, 1, End::Empty),
+        Act::Lost(2),
+        Act::Offer(13),
+        Act::Lost(0),
+        Act::Pump(2, 2, End::Most),
+        OPENS,
+    ],
+    entries: &[(3, OPENS)],
+    left: &[(0, 13)],
+    scans: 3,
+};
+
+#[test]
+fn losses(rt: HostRuntime) {
+    assert!(rt; is_played(&rt, rt.alloc(), LOSSES));
+}
+
+/// The same, where the pump stops between the two: one is left with its scan.
+const ONE_LOSS: Play = Play {
+    acts: &[
+        Act::Offer(10),
+        Act::Full(11),
+        Act::Lose(1),
+        Act::Full(12),
+        Act::Lose(2),
+        Act::Pump(9, 1, End::Empty),
+        Act::Offer(13),
+        Act::Pump(1, 1, End::Most),
+        OPENS,
+    ],
+    entries: &[(2, OPENS)],
+    left: &[(1, 13)],
+    scans: 2,
+    ..LOSSES
+};
+
+#[test]
+fn a_pump_between_two_losses(rt: HostRuntime) {
+    assert!(rt; is_played(&rt, rt.alloc(), ONE_LOSS));
+}
+
+/// Losses after the last scan that the lane took are in no list. Those of two scans come before each.
+const LAST_LOSSES: Play = Play {
+    lane: 8,
+    shelf: 1,
+    acts: &[
+        Act::Lose(1),
+        Act::Offer(11),
+        Act::Lose(1),
+        Act::Lose(2),
+        Act::Offer(14),
+        Act::Lose(1),
+        Act::Pump(1, 1, End::Most),
+        OPENS,
+        Act::Pump(9, 4, End::Empty),
+        Act::Lost(1),
+    ],
+    entries: &[(1, OPENS)],
+    left: &[],
+    scans: 5,
+};
+
+#[test]
+fn losses_after_the_last_scan(rt: HostRuntime) {
+    assert!(rt; is_played(&rt, rt.alloc(), LAST_LOSSES));
 }

@@ -14,8 +14,8 @@ const ONE: &[u8] =
 const WITH_CONTACT: &[u8] =
     b"Bay 1,DFR,1999\n2,1A,1D\n1,IA,A,,A,1,0,0,-32767,32767,1,1,P\n1,TRIP,,CB 1,0\n50\n1\n1,1\n01/01/1970,0:0:0\n01/01/1970,0:0:0\nASCII\n1";
 
-/// 1,000 scans a second of these channels, from 1970 on.
-fn layout_of(head: Head) -> Option<Layout> {
+/// 1,000 scans a second of these channels, from this instant on.
+fn layout_from(head: Head, start: i64) -> Option<Layout> {
     let Head {
         station,
         device,
@@ -31,9 +31,13 @@ fn layout_of(head: Head) -> Option<Layout> {
         status,
         line_freq,
         rate: 1000,
-        start: 0,
+        start,
     })
     .ok()
+}
+
+fn layout_of(head: Head) -> Option<Layout> {
+    layout_from(head, 0)
 }
 
 fn layout(alloc: Global, channels: &[u8]) -> Option<Layout> {
@@ -62,12 +66,27 @@ fn limits(layout: &Layout, shelf: u32) -> Option<Limits> {
     Limits::new(layout, 2, 2, 6, shelf).ok()
 }
 
-/// A recorder of one channel whose shelf has room for so many records.
-pub fn recorder(alloc: Global, shelf: u32) -> Option<Recorder> {
-    let layout = layout(alloc, ONE)?;
+fn recorder_over(alloc: Global, layout: Option<Layout>, shelf: u32) -> Option<Recorder> {
+    let layout = layout?;
     match limits(&layout, shelf) {
         Some(limits) => begin_without_rules(alloc, layout, limits),
         None => None,
+    }
+}
+
+/// A recorder of one channel whose shelf has room for so many records.
+pub fn recorder(alloc: Global, shelf: u32) -> Option<Recorder> {
+    recorder_over(alloc, layout(alloc, ONE), shelf)
+}
+
+/// The last instant of the year 9999 at 1,000 scans a second.
+const LAST: i64 = 253_402_300_799_999_000;
+
+/// A recorder whose second scan would be past the year 9999.
+pub fn recorder_at_the_end(alloc: Global) -> Option<Recorder> {
+    match read_cfg(alloc, ONE) {
+        Ok(head) => recorder_over(alloc, layout_from(head, LAST), 1),
+        Err(_) => None,
     }
 }
 

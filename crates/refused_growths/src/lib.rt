@@ -13,6 +13,8 @@ mod live_calls;
 #[cfg(test)]
 mod live_ends;
 #[cfg(test)]
+mod live_losses;
+#[cfg(test)]
 mod live_runs;
 #[cfg(test)]
 mod lost;

@@ -3,7 +3,7 @@
 ghost use Rattle.std.specs.Prelude.{◌≡◌};
 
 use crate::common::{Heap, are_the_rules, is_the_layout, scan};
-use crate::live_ends::{ends, sets_rules};
+use crate::live_ends::{Leaving, ends, sets_rules};
 use crate::recorder::{is_the_record, recorder};
 use crate::refusing::{
     Consuming, Must, Outcome, Trial, memory_if, refusals, refuses_anew, right_if,
@@ -63,7 +63,7 @@ fn openings_refused(rt: HostRuntime) {
 
 /// A call of a token.
 #[derive(Clone, Copy)]
-enum Call {
+pub enum Call {
     /// One scan step.
     Pump,
     Trigger(Result<Hit, TriggerFault>),
@@ -152,7 +152,7 @@ fn goes_on<N: Session<A>, R: Wait, A: Allocator + Copy>(
 }
 
 /// A scan is offered while every allocation is refused.
-fn is_offered<N: Session<A>, A: Allocator + Copy>(
+pub fn is_offered<N: Session<A>, A: Allocator + Copy>(
     heap: Heap,
     source: &mut Source<N, A>,
     scan: Option<Scan<A>>,
@@ -180,9 +180,10 @@ fn are_offered<N: Session<A>, A: Allocator + Copy>(
     true
 }
 
-type Calls<'c> = &'c [(Call, Option<bool>)];
+/// Calls, and whether each wants an allocation, where that is said.
+pub type Calls<'c> = &'c [(Call, Option<bool>)];
 
-fn go_on<N: Session<A>, R: Wait, A: Allocator + Copy>(
+pub fn go_on<N: Session<A>, R: Wait, A: Allocator + Copy>(
     rt: &R,
     heap: Heap,
     shared: &Shared<N, A>,
@@ -261,6 +262,12 @@ fn calls<N: Session<A>, R: Wait, A: Allocator + Copy>(
     }
 }
 
+const LEAVING: Leaving = Leaving {
+    calls: 5,
+    lost: None,
+    scans: 14,
+};
+
 fn plays<N: Session<A>, R: Wait, A: Allocator + Copy>(
     rt: &R,
     heap: Heap,
@@ -271,7 +278,7 @@ fn plays<N: Session<A>, R: Wait, A: Allocator + Copy>(
 {
     let (shared, mut source, mut tokens) = opened.share::<N>();
     calls(rt, heap, alloc, &shared, &mut source, &mut tokens)
-        && ends(heap, alloc, (shared.unlock(), source, tokens))
+        && ends(heap, alloc, (shared.unlock(), source, tokens), LEAVING)
 }
 
 fn opened_from<A: Allocator + Copy>(alloc: A, recorder: Option<Recorder<A>>) -> Option<Opened<A>> {

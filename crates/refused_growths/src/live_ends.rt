@@ -3,7 +3,7 @@
 use crate::common::{Heap, layout, rules};
 use crate::refusing::{Outcome, Trial, memory_if, refusals, right_if};
 use dfr_channels::Rules;
-use dfr_live::{EndFault, Ended, Inner, RulesRefusal, Session, Shared, Source, Token, end};
+use dfr_live::{EndFault, Ended, Inner, Left, RulesRefusal, Session, Shared, Source, Token, end};
 use std::alloc::Allocator;
 use std::sync::Wait;
 
@@ -61,15 +61,34 @@ pub fn sets_rules<N: Session<A>, R: Wait, A: Allocator + Copy>(
 /// What an end is made of.
 pub type Parts<N, A> = (Inner<N, A>, Source<N, A>, Vec<Token<A>, A>);
 
+/// What an end leaves: so many calls, the losses of the one scan that is left, or no scan, and so many accepted scans.
+#[derive(Clone, Copy)]
+pub struct Leaving {
+    pub calls: usize,
+    pub lost: Option<u32>,
+    pub scans: u64,
+}
+
 /// An end. Where there is no memory for it all three come back.
 #[derive(Drop)]
 struct Ending<N: Session<A>, A: Allocator> {
     alloc: A,
+    leaving: Leaving,
     parts: Option<Parts<N, A>>,
 }
 
-fn is_ended<A: Allocator>(ended: &Ended<A>) -> bool {
-    ended.log.len() == 5 && ended.left.is_empty() && ended.recorder.scans() == 14
+fn is_left<A: Allocator>(left: &[Left<A>], lost: Option<u32>) -> bool {
+    match left {
+        [] => lost.is_none(),
+        [item] => lost == Some(item.lost),
+        _ => false,
+    }
+}
+
+fn is_ended<A: Allocator>(ended: &Ended<A>, leaving: Leaving) -> bool {
+    ended.log.len() == leaving.calls
+        && is_left(&ended.left, leaving.lost)
+        && ended.recorder.scans() == leaving.scans
 }
 
 impl<N: Session<A>, A: Allocator + Copy> Trial for Ending<N, A> {
@@ -78,7 +97,7 @@ impl<N: Session<A>, A: Allocator + Copy> Trial for Ending<N, A> {
             return Outcome::Wrong;
         };
         match end(self.alloc, inner, source, tokens) {
-            Ok(ended) => right_if(is_ended(&ended)),
+            Ok(ended) => right_if(is_ended(&ended, self.leaving)),
             Err((fault, inner, source, tokens)) => {
                 self.parts = Some((inner, source, tokens));
                 memory_if(fault == EndFault::Memory)
@@ -87,9 +106,15 @@ impl<N: Session<A>, A: Allocator + Copy> Trial for Ending<N, A> {
     }
 }
 
-pub fn ends<N: Session<A>, A: Allocator + Copy>(heap: Heap, alloc: A, parts: Parts<N, A>) -> bool {
+pub fn ends<N: Session<A>, A: Allocator + Copy>(
+    heap: Heap,
+    alloc: A,
+    parts: Parts<N, A>,
+    leaving: Leaving,
+) -> bool {
     let mut ending = Ending {
         alloc,
+        leaving,
         parts: Some(parts),
     };
     match refusals(heap, false, &mut ending) {
