@@ -23,3 +23,5 @@ mod station;
 mod three_threads;
 #[cfg(test)]
 mod tokens;
+#[cfg(test)]
+mod unshared;

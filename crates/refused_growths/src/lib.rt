@@ -33,4 +33,6 @@ mod script;
 #[cfg(test)]
 mod texts;
 #[cfg(test)]
+mod unshared;
+#[cfg(test)]
 mod writers;

@@ -63,7 +63,7 @@ fn openings_refused(rt: HostRuntime) {
 
 /// A call of a token.
 #[derive(Clone, Copy)]
-enum Call {
+pub enum Call {
     /// One scan step.
     Pump,
     Trigger(Result<Hit, TriggerFault>),
@@ -152,7 +152,7 @@ fn goes_on<N: Session<A>, R: Wait, A: Allocator + Copy>(
 }
 
 /// A scan is offered while every allocation is refused.
-fn is_offered<N: Session<A>, A: Allocator + Copy>(
+pub fn is_offered<N: Session<A>, A: Allocator + Copy>(
     heap: Heap,
     source: &mut Source<N, A>,
     scan: Option<Scan<A>>,
@@ -180,9 +180,10 @@ fn are_offered<N: Session<A>, A: Allocator + Copy>(
     true
 }
 
-type Calls<'c> = &'c [(Call, Option<bool>)];
+/// Calls, and whether each wants an allocation, where that is said.
+pub type Calls<'c> = &'c [(Call, Option<bool>)];
 
-fn go_on<N: Session<A>, R: Wait, A: Allocator + Copy>(
+pub fn go_on<N: Session<A>, R: Wait, A: Allocator + Copy>(
     rt: &R,
     heap: Heap,
     shared: &Shared<N, A>,
