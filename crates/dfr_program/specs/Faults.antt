@@ -43,12 +43,13 @@ abbrev pub Refuses : Option Fault → Refusal → Type 0
 Refuses fault (refusal.Fault f) = fault ≡ Some f
 Refuses fault refusal.Memory = Unit {0}
 
--- limits of these numbers
+-- limits of these numbers and this choice
 pub record HasNumbers (numbers : LimitNumbers) (limits : Limits) : Type 0 where
   pub pre : limits.pre ≡ numbers.pre
   pub post : limits.post ≡ numbers.post
   pub longest : limits.longest ≡ numbers.longest
   pub shelf : limits.shelf ≡ numbers.shelf
+  pub unshared : limits.unshared ≡ numbers.unshared
 
 -- a new recorder over this layout, with limits of these numbers and these rules
 pub record IsRecorderOf (over : SetupParts) (numbers : LimitNumbers) (list : List Rule) (k : Kept) : Type 0 where

@@ -49,6 +49,7 @@ lost_text (Err lost_refused.Memory) = []
 unfoldable pub trigger_text : Result Hit TriggerFault → List ℕ
 trigger_text (Ok hit) = codes "trigger " ++ hit_text hit ++ codes "\n"
 trigger_text (Err trigger_refused.NoScan) = codes "trigger refused no-scan\n"
+trigger_text (Err trigger_refused.Covered) = codes "trigger refused covered\n"
 trigger_text (Err trigger_refused.ShelfFull) = codes "trigger refused shelf-full\n"
 trigger_text (Err trigger_refused.Memory) = []
 

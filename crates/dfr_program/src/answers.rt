@@ -113,6 +113,7 @@ pub(crate) fn put_trigger<A: Allocator>(
             put(out, "\n")
         }
         Err(TriggerFault::NoScan) => put(out, "trigger refused no-scan\n"),
+        Err(TriggerFault::Covered) => put(out, "trigger refused covered\n"),
         Err(TriggerFault::ShelfFull) => put(out, "trigger refused shelf-full\n"),
         Err(TriggerFault::Memory) => Err(AllocError),
     }

@@ -39,7 +39,14 @@ pub(crate) struct Prepared<A: Allocator> {
     pub(crate) commands: Vec<Command<A>, A>,
 }
 
-/// The limits of these numbers.
+/// The limits with the choice, where it is made.
+fn with_choice(limits: Limits, unshared: bool) -> Limits
+    ensures { result ≡ (if unshared then record limits { unshared = true } else limits) }
+{
+    if unshared { limits.unshared() } else { limits }
+}
+
+/// The limits of these numbers and this choice.
 #[tactic(auto, using(crate::proofs::Stamps::stamps))]
 fn limits_of<A: Allocator>(layout: &Layout<A>, numbers: LimitNumbers) -> Result<Limits, LimitFault>
     ensures lawful { IfOk result (λ _. spec.number_fault layout.now.rate numbers ≡ None) }
@@ -47,13 +54,14 @@ fn limits_of<A: Allocator>(layout: &Layout<A>, numbers: LimitNumbers) -> Result<
     ensures same { IfOk result (spec.HasNumbers numbers) }
     ensures fault { IfErr result (λ fault. spec.number_fault layout.now.rate numbers ≡ Some fault) }
 {
-    Limits::new(
+    let limits = Limits::new(
         layout,
         numbers.pre,
         numbers.post,
         numbers.longest,
         numbers.shelf,
-    )
+    )?;
+    Ok(with_choice(limits, numbers.unshared))
 }
 
 /// The layout of a set-up.

@@ -9,3 +9,4 @@ mod memory;
 mod records;
 mod rules;
 mod runs;
+mod unshared;

@@ -25,3 +25,5 @@ mod station;
 mod three_threads;
 #[cfg(test)]
 mod tokens;
+#[cfg(test)]
+mod unshared;

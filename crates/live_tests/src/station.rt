@@ -148,3 +148,12 @@ pub fn is_in_order(record: &Record, more: u64) -> bool {
     }
     k == record.extent().last.saturating_add(1)
 }
+
+/// A recorder of one channel whose shelf has room for so many records, which share no scan.
+pub fn unshared_recorder(alloc: Global, shelf: u32) -> Option<Recorder> {
+    let layout = layout(alloc, ONE)?;
+    match limits(&layout, shelf) {
+        Some(limits) => begin_without_rules(alloc, layout, limits.unshared()),
+        None => None,
+    }
+}

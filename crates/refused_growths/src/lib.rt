@@ -35,4 +35,6 @@ mod script;
 #[cfg(test)]
 mod texts;
 #[cfg(test)]
+mod unshared;
+#[cfg(test)]
 mod writers;

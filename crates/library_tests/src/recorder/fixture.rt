@@ -147,3 +147,20 @@ pub fn recorder_at_100<A: Allocator + Copy>(alloc: A, shelf: u32) -> Option<Reco
     }
     None
 }
+
+/// A recorder without rules, whose records share no scan.
+pub fn unshared_recorder<A: Allocator + Copy>(alloc: A, shelf: u32) -> Option<Recorder<A>> {
+    let layout = layout(alloc, 1000)?;
+    let limits = limits(&layout, shelf)?.unshared();
+    let rules = no_rules(alloc, &layout)?;
+    joined(alloc, layout, limits, rules)
+}
+
+/// The same with a rule that fires from 100 on.
+pub fn unshared_recorder_at_100<A: Allocator + Copy>(alloc: A, shelf: u32) -> Option<Recorder<A>> {
+    let mut recorder = unshared_recorder(alloc, shelf)?;
+    if fires_at_100(alloc, &mut recorder) {
+        return Some(recorder);
+    }
+    None
+}
