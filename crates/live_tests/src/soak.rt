@@ -1,4 +1,4 @@
-//! Runs by chance: small lanes, a feed and a sink that pause, and orders of triggers and rules. `bench/soak` makes many of them.
+//! Runs by chance: small lanes, a feed and a sink that pause, and orders of triggers and rules.
 
 use crate::runs::is_read_back;
 use crate::station::{level_over, recorder, value};

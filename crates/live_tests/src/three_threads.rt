@@ -8,14 +8,34 @@ use std::alloc::Global;
 use std::sync::Wait;
 use std::thread::Threads;
 
+/// Two triggers over 12 scans: records of scans 1 to 5 and 6 to 10.
+const TWO_RECORDS: Run = Run {
+    shelf: 2,
+    giving: Giving::Scans(12),
+    triggers: Placing::At(&[4, 9]),
+    ..RUN
+};
+
+/// How many of these records are closed after so many scans.
+fn closed_after(scans: u32) -> u64 {
+    (scans > 5) as u64 + (scans > 10) as u64
+}
+
+/// It fails at each of its calls in turn, the one after the last scan too. The sink had whole records of the scans before, from the
+/// first on.
 #[test]
 fn a_feed_that_fails(rt: HostRuntime) {
-    for call in [0u32, 2] {
+    for call in 0..13u32 {
         let run = Run {
             giving: Giving::FailsAt(call),
-            ..RUN
+            ..TWO_RECORDS
         };
-        assert_eq!(rt; fault(&rt, rt.alloc(), run), Some((LiveFault::Feed(7), 0)));
+        let came = fault(&rt, rt.alloc(), run);
+        let most = closed_after(call);
+        assert!(rt;
+            matches!(came, Some((LiveFault::Feed(7), got)) if got <= most),
+            "call {call}"
+        );
     }
 }
 
@@ -38,22 +58,27 @@ fn no_lane(rt: HostRuntime) {
     );
 }
 
-/// A sink that fails at its first record, and one that fails at its second.
+/// The sink fails at the record of this number, and had those before it; the first is of scans 1 to 5.
+fn sink_fails<R: Threads + Wait + Sync>(rt: &R, alloc: Global, fails_at: u64) -> bool {
+    let run = Run {
+        fails_at,
+        ..TWO_RECORDS
+    };
+    match outcome(rt, alloc, run) {
+        Some(came) => {
+            matches!(came.report, Err(LiveFault::Sink(9)))
+                && came.whole
+                && came.got == fails_at.saturating_sub(1)
+                && (came.got == 0 || came.newest == (1, 5))
+        }
+        None => false,
+    }
+}
+
+/// It fails at each of its calls in turn.
 #[test]
 fn a_sink_that_fails(rt: HostRuntime) {
-    for (fails_at, got) in [(1u64, 0u64), (2, 1)] {
-        let run = Run {
-            shelf: 2,
-            giving: Giving::Scans(12),
-            triggers: Placing::At(&[4, 9]),
-            fails_at,
-            ..RUN
-        };
-        assert_eq!(rt;
-            fault(&rt, rt.alloc(), run),
-            Some((LiveFault::Sink(9), got))
-        );
-    }
+    assert!(rt; sink_fails(&rt, rt.alloc(), 1) && sink_fails(&rt, rt.alloc(), 2));
 }
 
 /// What orders made, with the number of scan steps before each.

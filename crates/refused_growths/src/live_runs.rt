@@ -1,5 +1,5 @@
 //! Runs in three threads. Which call meets a refused allocation depends on the schedule; whichever it is, the run answers `Memory`,
-//! and the sink got nothing or the whole record.
+//! and the sink got nothing or the whole record. And a script's run whose writer fails at each call in turn.
 
 use crate::common::{Heap, scan};
 use crate::program::MANUAL;
@@ -16,6 +16,8 @@ use dfr_recorder::{Extent, Recorder};
 use fuel::Refusing;
 use std::alloc::{Allocator, Global};
 use std::collections::VecDeque;
+use std::io;
+use std::io::{Error, ErrorKind, Write};
 use std::sync::Wait;
 use std::thread::Threads;
 
@@ -231,4 +233,57 @@ fn live_runs_refused(rt: HostRuntime) {
 fn live_scripts_refused(rt: HostRuntime) {
     let heap = Refusing::new(rt.alloc());
     assert!(rt; is_answered(&rt, &heap, rt.alloc(), Live::Script));
+}
+
+/// A writer that takes a byte a call, and fails at its call of this number, from 1.
+#[derive(Drop)]
+struct Narrow {
+    bytes: Vec<u8>,
+    calls: usize,
+    fails_at: usize,
+}
+
+impl Write for Narrow {
+    fn write(&mut self, buf: &[u8]) -> io::Result<usize> {
+        self.calls = self.calls.saturating_add(1);
+        match buf.first() {
+            Some(byte) => {
+                if self.calls == self.fails_at || self.bytes.push(*byte).is_err() {
+                    return Err(Error::from(ErrorKind::Other));
+                }
+                Ok(1)
+            }
+            None => Ok(0),
+        }
+    }
+
+    fn flush(&mut self) -> io::Result<()> {
+        Ok(())
+    }
+}
+
+/// The writer has what it took before that call, and the sink its record all the same.
+fn is_cut_at<R: Threads + Wait + Sync>(rt: &R, alloc: Global, fails_at: usize) -> bool {
+    let mut out = Narrow {
+        bytes: Vec::new(alloc),
+        calls: 0,
+        fails_at,
+    };
+    let mut sink = Texts {
+        texts: FIRST,
+        got: 0,
+        are_right: true,
+    };
+    let answer = live_of(rt, alloc, MANUAL, Kind::Ascii, &mut sink, &mut out);
+    answer == Err(RunFault::Output)
+        && PRINTED.get(..fails_at.saturating_sub(1)) == Some(out.bytes.as_slice())
+        && sink.got == 1
+        && sink.are_right
+}
+
+#[test]
+fn live_scripts_with_a_failing_writer(rt: HostRuntime) {
+    for fails_at in 1..=PRINTED.len() {
+        assert!(rt; is_cut_at(&rt, rt.alloc(), fails_at), "call {fails_at}");
+    }
 }
