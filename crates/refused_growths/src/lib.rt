@@ -15,6 +15,8 @@ mod live_ends;
 #[cfg(test)]
 mod live_runs;
 #[cfg(test)]
+mod pairs;
+#[cfg(test)]
 mod program;
 #[cfg(test)]
 mod reading;
