@@ -19,6 +19,8 @@ mod live_runs;
 #[cfg(test)]
 mod lost;
 #[cfg(test)]
+mod pairs;
+#[cfg(test)]
 mod program;
 #[cfg(test)]
 mod reading;
