@@ -1,6 +1,6 @@
 //! A recorder that is made of a script, and its commands.
 
-ghost use Rattle.std.specs.Prelude.{◌≡◌, IfOk, IfErr, IsTrue, MatchResult, Some, None, map, option_map};
+ghost use Rattle.std.specs.Prelude.{◌≡◌, IfOk, IfErr, IsTrue, MatchResult, Some, None, map, option_map, if◌then◌else◌, true};
 ghost use Rattle.dfr_channels.specs.Firing.{rules_fault, rules_fit};
 ghost use Rattle.dfr_channels.specs.Lines.{lines};
 ghost use Rattle.dfr_channels.specs.Setups.{setup_fault};
