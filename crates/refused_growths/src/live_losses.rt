@@ -90,10 +90,11 @@ fn plays<N: Session<A>, R: Wait, A: Allocator + Copy>(
     heap: Heap,
     alloc: A,
     opened: Opened<A>,
-    (losing, leaving): (Calls, Leaving),
+    play: (Calls, Leaving),
 ) -> bool
     requires { (opened.opening ≡ N.opening) × (opened.lane ≡ N.lane) }
 {
+    let (losing, leaving) = play;
     let (shared, mut source, mut tokens) = opened.share::<N>();
     calls(rt, heap, alloc, &shared, &mut source, (&mut tokens, losing))
         && ends(heap, alloc, (shared.unlock(), source, tokens), leaving)
