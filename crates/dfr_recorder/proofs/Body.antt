@@ -1,6 +1,7 @@
 -- What the fields become is the next step.
 use Rattle.std.proofs.Common.{ℕ, suc, ◌≡◌, ◌+◌, ◌-◌, refl, sym, ap, subst, ◌∙◌, List, [], ◌∷◌, ◌++◌, length, drop, true, false, cond, Option, Some, None, Result, Ok, Err, arith}
 use Rattle.std.specs.Prelude.{slice_get, option_to_list}
+use Rattle.std.proofs.lemmas.List.{append-nil}
 use Rattle.dfr_channels.specs.Parts.{ScanParts}
 use Rattle.dfr_channels.specs.Firing.{lowest_holding}
 use Rattle.dfr_recorder.specs.declared.record.Cause.TheVariants as cause
@@ -81,6 +82,15 @@ accept_body k old x f before m longer recording shelf ring s v met_is mark_is lo
     let new : Kept = record k { scans = k.scans + 1; ring = ring; newest = m.newest; recording = recording; shelf = shelf } in
     subst (λ (q : Kept). IsAccepted q x f s new) v
     (ap (scanned k.scans) is ∙ sym s_is, ap (accepted k x) is ∙ accepted_body k x m longer recording shelf ring longer_is recording_is shelf_is ring_is)
+
+-- a scan that fires nothing where no record is open
+pub idle_body : (k old : Kept) (x : ScanParts) (ring : List ScanParts) → k ≡ old → k.recording ≡ None → ring ≡ latest (k.limits.pre + 1) (k.ring ++ x ∷ [])
+    → IsAccepted old x None (record { number = k.scans; trigger = None; closed = None }) (record k { scans = k.scans + 1; ring = ring })
+idle_body k old x ring v idle ring_is =
+    let new : Kept = record k { scans = k.scans + 1; ring = ring } in
+    let all : k.shelf ++ [] ≡ k.shelf = append-nil k.shelf in
+    subst (λ (q : Kept). IsAccepted q x None (record { number = k.scans; trigger = None; closed = None }) new) v
+    (rw idle refl, rw (idle, ring_is, all) refl)
 
 -- the rule that a scan fires, from the back of the ring
 pub fired_is : (k : Kept) (x : ScanParts) (f : Option ℕ) → f ≡ lowest_holding (slice_get k.ring (length k.ring - 1)) x k.rules → fired k x ≡ f

@@ -1,6 +1,6 @@
 -- What limits without the choice mean.
-use Rattle.std.proofs.Common.{ℕ, zero, suc, ◌≡◌, ◌+◌, ◌-◌, refl, sym, ap, ◌∙◌, Bool, true, false, cond, ltb, eqb, List, [], ◌∷◌, ◌++◌, length, Option, Some, None, Ok, Err, arith}
-use Rattle.std.specs.Prelude.{◌&&◌, is_none, option_map, option_to_list}
+use Rattle.std.proofs.Common.{ℕ, zero, suc, ◌≡◌, ◌+◌, ◌-◌, refl, sym, ap, ◌∙◌, Bool, true, false, cond, eqb, List, [], ◌∷◌, ◌++◌, length, Option, Some, None, Ok, arith}
+use Rattle.std.specs.Prelude.{option_map, option_to_list}
 use Rattle.std.proofs.lemmas.Bool.{ne_eqb}
 use Rattle.dfr_channels.specs.Parts.{SetupParts, ScanParts}
 use Rattle.dfr_channels.specs.declared.rule.Rule.{Rule}
@@ -13,7 +13,6 @@ use Rattle.dfr_recorder.specs.declared.marks.Newest.{Newest}
 use Rattle.dfr_recorder.specs.declared.marks.MarkedIf.{MarkedIf}
 use Rattle.dfr_recorder.specs.declared.step.ScanRefusal.{ScanRefusal}
 use Rattle.dfr_recorder.specs.declared.step.LostRefusal.{LostRefusal}
-use Rattle.dfr_recorder.specs.declared.step.TriggerFault.TheVariants as trigger_refused
 use Rattle.dfr_recorder.specs.Steps.{StepParts}
 use Rattle.dfr_recorder.specs.Steps as step
 use Rattle.dfr_recorder.specs.Answers as answers

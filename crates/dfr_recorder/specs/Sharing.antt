@@ -1,6 +1,6 @@
 -- The records of limits under which scans may be shared, by the rules for these alone, which ask for no record's end: the extents
 -- after each step, and what the step is answered.
-use Rattle.std.specs.Prelude.{ℕ, zero, suc, ◌≡◌, ◌+◌, ◌-◌, min, Bool, false, if◌then◌else◌, ◌==◌, nat_lt, List, [], ◌∷◌, length, Option, Some, None, option_map, Result, Ok, Err}
+use Rattle.std.specs.Prelude.{ℕ, zero, suc, ◌≡◌, ◌+◌, ◌-◌, min, false, if◌then◌else◌, ◌==◌, nat_lt, List, [], ◌∷◌, length, Option, Some, None, option_map, Result, Ok, Err}
 use Rattle.dfr_channels.specs.Parts.{SetupParts, ScanParts}
 use Rattle.dfr_recorder.specs.declared.limits.Limits.{Limits}
 use Rattle.dfr_recorder.specs.declared.record.Cause.{Cause}

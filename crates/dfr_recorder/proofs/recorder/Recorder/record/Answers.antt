@@ -8,7 +8,7 @@ use Rattle.dfr_recorder.proofs.Runs.{ok_gives, err_gives}
 use Rattle.dfr_recorder.proofs.Body.{accept_body}
 use Rattle.dfr_recorder.proofs.Lawful.{sound_taken_in}
 use Rattle.dfr_recorder.proofs.Sound.{closes}
-use Rattle.dfr_recorder.proofs.recorder.Recorder.accept.Goals as goal
+use Rattle.dfr_recorder.proofs.recorder.Recorder.record.Goals as goal
 
 pub returns-then-is_err-clause-memory : goal.returns-then-is_err-clause-memory
 returns-then-is_err-clause-memory g c =
