@@ -21,7 +21,8 @@ use Rattle.dfr_recorder.specs.History as history
 use Rattle.dfr_recorder.specs.History.{Opening, Past, past, count, open_one, ended, newest_of, waiting, fires, refusal, lost_refusal, lost_scan, refused_when_full}
 use Rattle.dfr_recorder.specs.Kept.{reply}
 use Rattle.dfr_recorder.specs.Sharing.{marked, hit, fired, after_scan, after_trigger, after, closed_at, answer_to_scan, answer_to_trigger, answer}
-use Rattle.dfr_recorder.proofs.Law.{Good, Ended, ended_are, fired_is, fired_list, good_past}
+use Rattle.dfr_recorder.proofs.Extents.{Good, Ended, ended_are, fired_is, fired_list}
+use Rattle.dfr_recorder.proofs.Law.{good_past}
 
 -- the extents after a trigger
 marked-by : (limits : Limits) (p : Past) (k : ℕ) (by : Cause) (full : Bool) (o : Option Extent) → limits.unshared ≡ false → eqb (waiting p) limits.shelf ≡ full → p.extents ≡ option_to_list o ++ ended p

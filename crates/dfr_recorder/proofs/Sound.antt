@@ -27,7 +27,7 @@ use Rattle.dfr_recorder.specs.Recording.{extent_of, placed_if, longer, longer_if
 use Rattle.dfr_recorder.specs.Sound.{IsSound, IsGrowing, IsOpenSound, IsClosed, Passes}
 use Rattle.dfr_recorder.proofs.Next.{next, next_scan, next_lost, next_trigger, marked, fired, lost}
 use Rattle.dfr_recorder.proofs.Slices.{newest_get}
-use Rattle.dfr_recorder.proofs.Law.{first_law, free_trigger}
+use Rattle.dfr_recorder.proofs.Extents.{first_law, free_trigger}
 use Rattle.dfr_recorder.proofs.Own.{accepted_law, lost_law, own_record}
 
 length-latest : {X : Type 0} (m : ℕ) (xs : List X) → length (latest m xs) ≡ min (length xs) m

@@ -18,7 +18,8 @@ use Rattle.dfr_recorder.specs.Marks.{mark, first_scan, is_covered}
 use Rattle.dfr_recorder.specs.History as history
 use Rattle.dfr_recorder.specs.History.{Opening, Past, past, after, after_scan, after_lost, after_trigger, triggered, fires, refusal, lost_refusal, lost_scan, count, open_one, ended, end_of, newest_of}
 use Rattle.dfr_recorder.specs.Unshared.{IsApart}
-use Rattle.dfr_recorder.proofs.Law.{Good, IsGoing, IsFree, first_law, free_scan, free_trigger, good_past}
+use Rattle.dfr_recorder.proofs.Extents.{Good, IsGoing, IsFree, first_law, free_scan, free_trigger}
+use Rattle.dfr_recorder.proofs.Law.{good_past}
 
 -- each ends before m, and those opened before it end before its first scan
 abbrev Chain : ℕ → List Extent → Type 0
