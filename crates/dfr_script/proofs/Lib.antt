@@ -1,4 +1,3 @@
-pub mod Cuts
 pub mod CutFields
 pub mod FirstByte
 pub mod FirstFault

@@ -27,7 +27,7 @@ pub(crate) fn is_word(word: &[u8], text: &str) -> bool
 }
 
 /// What stands before the first blank, and what stands behind it without the blanks around it.
-#[tactic(auto, using(crate::proofs::Cuts::cuts), unfolding(crate::specs::Words::word, crate::specs::Words::rest))]
+#[tactic(auto, using(dfr_channels::proofs::Cuts::cuts), unfolding(crate::specs::Words::word, crate::specs::Words::rest))]
 pub(crate) fn cut(line: &[u8]) -> (&[u8], &[u8])
     ensures word { result.0.now ≡ spec.word line.now }
     ensures rest { result.1.now ≡ spec.rest line.now }
