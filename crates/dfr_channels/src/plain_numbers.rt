@@ -1,12 +1,13 @@
 //! Numbers in their plain spelling, read in one pass.
 
-ghost use Rattle.std.specs.Prelude.{◌≡◌, ◌-◌, ◌≤◌, ◌<◌, ◌<ℤ◌, ◌^◌, ◌∷◌, IfSome, option_copied, true, length, take, if◌then◌else◌, pos, negsuc, neg_ℤ, nat_lt, ◌&&◌, get_or, false, is_some};
+ghost use Rattle.std.specs.Prelude.{◌≡◌, ◌-◌, ◌≤◌, ◌<◌, ◌<ℤ◌, ◌^◌, ◌∷◌, IfSome, option_copied, true, length, min, take, if◌then◌else◌, pos, negsuc, neg_ℤ, nat_lt, ◌&&◌, get_or, false, is_some};
 ghost use Rattle.std.specs.Char.{is_ascii_digit};
 ghost use Rattle.std.specs.Str.{all_ascii_digits};
 ghost use Rattle.std.specs.Str.Parse.{digits_value};
 ghost use Rattle.dfr_channels.specs.PlainNumbers.{DigitsFirst, Begins, behind_minus, begins_short, begins_plain};
 
 /// Whether a minus stands first, and what follows it.
+#[inline(always)]
 fn without_minus(text: &[u8]) -> (bool, &[u8])
     ensures cut { text.now ≡ (if result.0 then 45 ∷ result.1.now else result.1.now) }
     ensures behind { result.1.now ≡ behind_minus text.now }
@@ -18,7 +19,9 @@ fn without_minus(text: &[u8]) -> (bool, &[u8])
 }
 
 /// The digits at the front of a text, ten at most: how many, and the number that they make.
-fn digits_at(text: &[u8]) -> (usize, u64)
+#[inline(always)]
+fn digits_within(text: &[u8], most: usize) -> (usize, u64)
+    requires { most ≡ min (length text.now) 10 }
     ensures within { result.0 ≤ length text.now }
     ensures few { result.0 ≤ 10 }
     ensures digits { all_ascii_digits (take result.0 text.now) ≡ true }
@@ -28,7 +31,7 @@ fn digits_at(text: &[u8]) -> (usize, u64)
 {
     let mut count = 0;
     let mut number: u64 = 0;
-    while count < text.len() && count < 10 {
+    while count < most {
         let digit = text[count];
         if !digit.is_ascii_digit() {
             return (count, number);
@@ -39,7 +42,25 @@ fn digits_at(text: &[u8]) -> (usize, u64)
     (count, number)
 }
 
+/// The same, where the compiler knows that ten bytes are there, and has no loop for them.
+#[inline(always)]
+fn digits_at(text: &[u8]) -> (usize, u64)
+    ensures within { result.0 ≤ length text.now }
+    ensures few { result.0 ≤ 10 }
+    ensures digits { all_ascii_digits (take result.0 text.now) ≡ true }
+    ensures value { result.1 ≡ digits_value 10 (take result.0 text.now) }
+    ensures small { result.1 < 10 ^ 10 }
+    ensures all { (nat_lt result.0 10 && is_ascii_digit (get_or text.now result.0 0)) ≡ false }
+{
+    if text.len() < 10 {
+        digits_within(text, text.len())
+    } else {
+        digits_within(text, 10)
+    }
+}
+
 /// The number of the one to ten digits that a text begins with, and what stands behind its comma if it has one.
+#[inline(always)]
 fn plain_digits(text: &[u8]) -> Option<(u64, Option<&[u8]>)>
     ensures plain { is_some result ≡ begins_short text.now }
     ensures first { IfSome result (λ r. DigitsFirst text.now r.0 (option_copied r.1)) }
@@ -60,6 +81,7 @@ fn plain_digits(text: &[u8]) -> Option<(u64, Option<&[u8]>)>
 }
 
 /// The number with this sign.
+#[inline(always)]
 fn signed(minus: bool, number: u64) -> i64
     requires { number < 10 ^ 10 }
     ensures value { result ≡ (if minus then neg_ℤ (pos number) else pos number) }
@@ -72,6 +94,7 @@ fn signed(minus: bool, number: u64) -> i64
 
 /// The number that a text begins with, and what stands behind its comma if it has one, where the field is a minus or nothing
 /// and one to ten digits; None exactly where it is spelled otherwise.
+#[inline(always)]
 pub fn plain_number(text: &[u8]) -> Option<(i64, Option<&[u8]>)>
     ensures plain { is_some result ≡ begins_plain text.now }
     ensures first { IfSome result (λ r. Begins text.now r.0 (option_copied r.1)) }
