@@ -1,0 +1,153 @@
+//! What a script gives a run: the recorder, the scans, and the calls.
+
+use dfr_channels::{Layout, Rule, Rules, Scan, Setup};
+use dfr_recorder::{Limits, Recorder};
+use dfr_script::{Command, LimitNumbers, Script, script_of};
+use std::alloc::Allocator;
+use std::collections::VecDeque;
+
+/// What the acquisition is given.
+#[derive(Drop)]
+pub enum Sample<A: Allocator> {
+    Scan(Scan<A>),
+    Lost,
+}
+
+/// What a token is to do.
+#[derive(Drop)]
+pub enum Work<A: Allocator> {
+    Trigger,
+    Take,
+    /// Rules of this number among the script's commands.
+    Rules(u64, Rules<A>),
+}
+
+/// The samples, and the calls with the number of samples before each.
+#[derive(Drop)]
+pub struct Lists<A: Allocator> {
+    pub samples: VecDeque<Sample<A>, A>,
+    pub works: VecDeque<(u64, Work<A>), A>,
+}
+
+#[derive(Drop)]
+pub struct Given<A: Allocator> {
+    pub recorder: Recorder<A>,
+    pub lists: Lists<A>,
+}
+
+/// Eight channels of each kind: more than a script has, so that rules can name one that isn't there.
+const WIDE: &[u8] =
+    b"station W\ndevice W\nanalog a,,,V,1,0,0,-9,9,1,1,P\nanalog a,,,V,1,0,0,-9,9,1,1,P\nanalog a,,,V,1,0,0,-9,9,1,1,P\nanalog a,,,V,1,0,0,-9,9,1,1,P\nanalog a,,,V,1,0,0,-9,9,1,1,P\nanalog a,,,V,1,0,0,-9,9,1,1,P\nstatus s,,,0\nstatus s,,,0\nstatus s,,,0\nstatus s,,,0\nstatus s,,,0\nstatus s,,,0\nfreq 50\nrate 1\nstart 0\nlimits 0,1,2,1\ngo\n";
+
+fn wide<A: Allocator + Copy>(alloc: A) -> Option<Layout<A>> {
+    match script_of(alloc, WIDE) {
+        Ok(script) => Layout::new(script.setup).ok(),
+        Err(_) => None,
+    }
+}
+
+fn limits_of<A: Allocator>(layout: &Layout<A>, numbers: LimitNumbers) -> Option<Limits> {
+    let LimitNumbers {
+        pre,
+        post,
+        longest,
+        shelf,
+        unshared,
+    } = numbers;
+    let limits = Limits::new(layout, pre, post, longest, shelf).ok()?;
+    Some(if unshared { limits.unshared() } else { limits })
+}
+
+fn recorder_over<A: Allocator + Copy>(
+    alloc: A,
+    layout: Layout<A>,
+    limits: Limits,
+    list: Vec<Rule, A>,
+) -> Option<Recorder<A>> {
+    match Rules::new(&layout, list) {
+        Ok(rules) => {
+            if limits.fits(&layout) && rules.fits(&layout) {
+                return Recorder::new(alloc, layout, limits, rules).ok();
+            }
+            None
+        }
+        Err(_) => None,
+    }
+}
+
+fn recorder_of<A: Allocator + Copy>(
+    alloc: A,
+    setup: Setup<A>,
+    numbers: LimitNumbers,
+    list: Vec<Rule, A>,
+) -> Option<Recorder<A>> {
+    match Layout::new(setup) {
+        Ok(layout) => match limits_of(&layout, numbers) {
+            Some(limits) => recorder_over(alloc, layout, limits, list),
+            None => None,
+        },
+        Err(_) => None,
+    }
+}
+
+impl<A: Allocator> Lists<A> {
+    fn sample(&mut self, sample: Sample<A>) -> bool {
+        self.samples.push_back(sample).is_ok()
+    }
+
+    fn work(&mut self, work: Work<A>) -> bool {
+        let place = self.samples.len() as u64;
+        self.works.push_back((place, work)).is_ok()
+    }
+
+    fn rules(&mut self, wide: &Layout<A>, number: u64, list: Vec<Rule, A>) -> bool {
+        match Rules::new(wide, list) {
+            Ok(rules) => self.work(Work::Rules(number, rules)),
+            Err(_) => false,
+        }
+    }
+
+    fn put(&mut self, wide: &Layout<A>, command: Command<A>) -> bool {
+        match command {
+            Command::Scan(scan) => self.sample(Sample::Scan(scan)),
+            Command::Lost => self.sample(Sample::Lost),
+            Command::Trigger => self.work(Work::Trigger),
+            Command::Take => self.work(Work::Take),
+            Command::Rules { line, list } => self.rules(wide, line, list),
+        }
+    }
+}
+
+fn lists_of<A: Allocator + Copy>(alloc: A, commands: Vec<Command<A>, A>) -> Option<Lists<A>> {
+    let wide = wide(alloc)?;
+    let mut lists = Lists {
+        samples: VecDeque::new(alloc),
+        works: VecDeque::new(alloc),
+    };
+    let mut all = true;
+    for command in commands {
+        all = lists.put(&wide, command) && all;
+    }
+    all.then_some(lists)
+}
+
+fn with_lists<A: Allocator>(recorder: Recorder<A>, lists: Option<Lists<A>>) -> Option<Given<A>> {
+    match lists {
+        Some(lists) => Some(Given { recorder, lists }),
+        None => None,
+    }
+}
+
+pub fn given_of<A: Allocator + Copy>(alloc: A, script: Script<A>) -> Option<Given<A>> {
+    let Script {
+        setup,
+        limits,
+        rules,
+        commands,
+    } = script;
+    let lists = lists_of(alloc, commands);
+    match recorder_of(alloc, setup, limits, rules) {
+        Some(recorder) => with_lists(recorder, lists),
+        None => None,
+    }
+}

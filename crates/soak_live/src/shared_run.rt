@@ -1,0 +1,94 @@
+//! A recorder that threads share, from opening to end.
+
+ghost use Rattle.std.specs.Prelude.{◌≡◌};
+
+use crate::chance::Chance;
+use crate::desk::{Acquiring, Desk, Heap, Held};
+use crate::ending::{Trouble, ends, tell_callers, tell_ends};
+use crate::given::{Given, Lists};
+use crate::plan::{Plan, Way};
+use crate::threads::{at_once, in_order};
+use anyhow::Result;
+use dfr_live::{OpenFault, Opened, Session, Token, open};
+use std::alloc::{AllocGlobal, Allocator, Global};
+use std::marker::Brand;
+use std::sync::{Mutex, Wait};
+use std::thread::Threads;
+
+fn held<A: Allocator>(alloc: Global, tokens: Vec<Token<A>, A>) -> Vec<Mutex<Held<A>>> {
+    let mut list = Vec::new(alloc);
+    for token in tokens {
+        let held = Held {
+            token,
+            notes: Vec::new(alloc),
+        };
+        let _pushed = list.push(Mutex::new(held)).is_ok();
+    }
+    list
+}
+
+fn desk_of<'h, N: Session<A>, A: Allocator + Copy>(
+    alloc: Global,
+    heap: Heap<'h>,
+    opened: Opened<A>,
+    lists: Lists<A>,
+    plan: Plan,
+) -> Desk<'h, N, A>
+    requires { (opened.opening ≡ N.opening) × (opened.lane ≡ N.lane) }
+{
+    let Lists { samples, works } = lists;
+    let (shared, source, tokens) = opened.share::<N>();
+    Desk {
+        heap,
+        seed: plan.seed,
+        rounds: plan.rounds,
+        shared,
+        acquiring: Mutex::new(Acquiring {
+            source,
+            samples,
+            seen: Vec::new(alloc),
+            full: 0,
+        }),
+        tokens: held(alloc, tokens),
+        works: Mutex::new(works),
+    }
+}
+
+fn named<
+    N: Session<A> + Send + Sync,
+    A: Allocator + Copy + Send + Sync,
+    R: Wait + Threads + Sync + Print + AllocGlobal,
+>(rt: &R, heap: Heap, alloc: A, opened: Opened<A>, lists: Lists<A>, plan: Plan) -> Result<()>
+    requires { (opened.opening ≡ N.opening) × (opened.lane ≡ N.lane) }
+{
+    let desk = desk_of::<N, A>(rt.alloc(), heap, opened, lists, plan);
+    let started = match plan.way {
+        Way::Orderly => in_order(rt, &desk, plan.threads),
+        _ => at_once(rt, &desk, plan.threads),
+    };
+    heap.ample();
+    tell_callers(rt, &desk, started)?;
+    let mut chance = Chance::of(plan.seed, 2000);
+    let trouble = Trouble::by(&mut chance);
+    let ends = ends(heap, alloc, desk, &mut chance, trouble);
+    tell_ends(rt, trouble, ends)
+}
+
+fn tell_fault<R: Print>(rt: &R, fault: OpenFault) -> Result<()> {
+    println!(rt; "open {fault:?}")?;
+    Ok(())
+}
+
+pub fn run<A: Allocator + Copy + Send + Sync, R: Wait + Threads + Sync + Print + AllocGlobal>(
+    rt: &R,
+    heap: Heap,
+    alloc: A,
+    given: Given<A>,
+    plan: Plan,
+) -> Result<()> {
+    let Given { recorder, lists } = given;
+    match open(alloc, recorder, plan.lane, plan.seats) {
+        Ok(opened) => named::<Brand, A, R>(rt, heap, alloc, opened, lists, plan),
+        Err((fault, _)) => tell_fault(rt, fault),
+    }
+}
