@@ -1,13 +1,26 @@
 //! What comes in, up to a limit.
 
-ghost use Rattle.std.specs.Prelude.{◌≡◌, ◌≢◌, ◌≤◌, length, IfOk, IfErr, IfSome};
+ghost use Rattle.std.specs.Prelude.{◌≡◌, ◌≢◌, ◌≤◌, ◌++◌, length, IfOk, IfErr, IfSome};
 
 use crate::fault::RunFault;
-use std::alloc::Allocator;
+use std::alloc::{AllocError, Allocator};
 use std::io::Read;
 
 /// The most bytes of a script, or of a file that is read.
 const LIMIT: usize = 16_777_216;
+
+/// How many bytes are copied at once: a C library moves so few by vectors, more by a string instruction.
+const PART: usize = 2_048;
+
+/// Appends the piece.
+fn append<A: Allocator>(bytes: &mut Vec<u8, A>, piece: &[u8]) -> Result<(), AllocError>
+    ensures { IfOk result (λ _. bytes.new.items ≡ bytes.old.items ++ piece.now) }
+{
+    for part in piece.chunks(PART) {
+        bytes.extend_from_slice(part)?;
+    }
+    Ok(())
+}
 
 /// All that the reader has, where it is at most so many bytes; more is `Input`.
 pub(crate) fn read_up_to<A: Allocator, R: Read>(
@@ -24,7 +37,7 @@ pub(crate) fn read_up_to<A: Allocator, R: Read>(
     while bytes.len() <= limit {
         match r.read(&mut piece) {
             Ok(0) => return Ok(bytes),
-            Ok(count) => bytes.extend_from_slice(&piece[..count])?,
+            Ok(count) => append(&mut bytes, &piece[..count])?,
             Err(_) => return Err(RunFault::Input),
         }
     }
