@@ -84,5 +84,5 @@ int main(int argc, char **argv) {
     keep(argv[3], new_cfg, sizes.cfg);
     keep(argv[4], new_dat, sizes.dat);
     printf("written: %zu and %zu bytes\n", sizes.cfg, sizes.dat);
-    return 0;
+    return 0; /* the process ends, and its memory with it */
 }
