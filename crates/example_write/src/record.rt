@@ -1,0 +1,106 @@
+//! A record, made by hand.
+
+ghost use Rattle.std.specs.Prelude.{◌<◌};
+
+use anyhow::{Context, Result};
+use comtrade_write::{File, Head, Kind, Rate, Row};
+use dfr_channels::{AnalogChannel, Decimal, Items, Reading, Side, StatusChannel};
+use std::alloc::{AllocError, Global};
+
+/// A period of the current at 1,000 scans a second: 1,000 · sin(2π · k / 20), rounded.
+const PERIOD: [i32; 20] = [
+    0, 309, 588, 809, 951, 1000, 951, 809, 588, 309, 0, -309, -588, -809, -951, -1000, -951, -809,
+    -588, -309,
+];
+
+/// Two periods.
+const ROWS: usize = 40;
+
+/// The row with which the breaker is open.
+const OPEN: usize = 30;
+
+/// A text of the file: bytes from hexadecimal 20 to 7E without a comma.
+fn text(alloc: Global, text: &str) -> Result<Items<u8>, AllocError> {
+    Ok(Items::of(Vec::from_slice(alloc, text.as_bytes())?))
+}
+
+/// units / 10^places.
+fn decimal(units: i128, places: u8) -> Result<Decimal> {
+    Decimal::new(units, places).context("a decimal that a file can hold")
+}
+
+/// A current in steps of 0.5 A, by a transformer of 600 to 1 A; the values are those of the primary side.
+fn current(alloc: Global) -> Result<AnalogChannel> {
+    Ok(AnalogChannel {
+        id: text(alloc, "IA")?,
+        phase: text(alloc, "A")?,
+        component: text(alloc, "Line 3")?,
+        unit: text(alloc, "A")?,
+        a: decimal(5, 1)?,
+        b: decimal(0, 0)?,
+        skew: decimal(0, 0)?,
+        min: -32_767,
+        max: 32_767,
+        primary: decimal(600, 0)?,
+        secondary: decimal(1, 0)?,
+        side: Side::Primary,
+    })
+}
+
+fn breaker(alloc: Global) -> Result<StatusChannel> {
+    Ok(StatusChannel {
+        id: text(alloc, "Breaker open")?,
+        phase: text(alloc, "")?,
+        component: text(alloc, "Q0")?,
+        normal: false,
+    })
+}
+
+/// Row k from 0: its number counts from 1, and its stamp is in microseconds.
+fn row(alloc: Global, k: usize) -> Result<Row, AllocError>
+    requires { k < ROWS }
+{
+    let sample = PERIOD[k % 20];
+    Ok(Row {
+        number: k as u64 + 1,
+        stamp: Some(k as u64 * 1000),
+        values: Items::of(vec![in alloc; Reading::Value(sample)]?),
+        bits: Items::of(vec![in alloc; OPEN <= k]?),
+    })
+}
+
+fn rows(alloc: Global) -> Result<Items<Row>, AllocError> {
+    let mut rows = Vec::with_capacity(alloc, ROWS)?;
+    for k in 0..ROWS {
+        rows.push(row(alloc, k)?)?;
+    }
+    Ok(Items::of(rows))
+}
+
+/// The instants are microseconds since 1970-01-01 00:00:00: 2024-07-01 10:30:00, and 20 ms later.
+fn head(alloc: Global) -> Result<Head> {
+    let rate = Rate {
+        samp: decimal(1000, 0)?,
+        endsamp: ROWS as u64,
+    };
+    Ok(Head {
+        station: text(alloc, "Northfield 110 kV")?,
+        device: text(alloc, "Example")?,
+        analog: Items::of(vec![in alloc; current(alloc)?]?),
+        status: Items::of(vec![in alloc; breaker(alloc)?]?),
+        line_freq: decimal(50, 0)?,
+        nrates: 1,
+        rates: Items::of(vec![in alloc; rate]?),
+        first: 1_719_829_800_000_000,
+        trigger: 1_719_829_800_020_000,
+        kind: Kind::Ascii,
+        timemult: decimal(1, 0)?,
+    })
+}
+
+/// The whole record. What a file can't hold is found when it is written: `WriteFault` says where it stands.
+pub fn record(alloc: Global) -> Result<File> {
+    let head = head(alloc)?;
+    let rows = rows(alloc)?;
+    Ok(File { head, rows })
+}
