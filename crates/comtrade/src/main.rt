@@ -22,7 +22,7 @@ use std::{env, io};
 const LIMIT: usize = 1_073_741_824;
 
 /// A pair of so many bytes may last over a second.
-const LONG: usize = 4_000_000;
+const LONG: usize = 32_000_000;
 
 /// Bytes on standard error.
 pub(crate) fn say<R: Eprint>(rt: &R, bytes: &[u8]) {

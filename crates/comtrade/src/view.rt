@@ -38,6 +38,20 @@ fn file_in<A: Allocator + Copy>(
     }
 }
 
+/// Prints what is asked of a file.
+fn put_view<A: Allocator + Copy, W: Write>(
+    alloc: A,
+    view: View,
+    file: &File<A>,
+    w: &mut W,
+) -> Result<(), ToolFault> {
+    match view {
+        View::Csv => csv_over(alloc, file, w),
+        View::Plot => plot_over(alloc, file, w),
+        _ => show_over(alloc, file, w),
+    }
+}
+
 /// Prints what is asked of a pair: false where it has a fault. The fault's line is what `Check` prints; the others put it to
 /// `said` and print nothing.
 pub(crate) fn view_over<A: Allocator + Copy, W: Write>(
@@ -50,13 +64,12 @@ pub(crate) fn view_over<A: Allocator + Copy, W: Write>(
     if view == View::Check {
         return check_over(alloc, pair, w);
     }
-    let Some(file) = file_in(alloc, pair, said)? else {
-        return Ok(false);
-    };
-    match view {
-        View::Csv => csv_over(alloc, &file, w)?,
-        View::Plot => plot_over(alloc, &file, w)?,
-        _ => show_over(alloc, &file, w)?,
+    match file_in(alloc, pair, said) {
+        Ok(Some(file)) => match put_view(alloc, view, &file, w) {
+            Ok(()) => Ok(true),
+            Err(fault) => Err(fault),
+        },
+        Ok(None) => Ok(false),
+        Err(fault) => Err(fault),
     }
-    Ok(true)
 }
