@@ -2,7 +2,8 @@
 
 use crate::write::write_named;
 use crate::{complain, read_named, say};
-use comtrade_tools::{Next, Printed, ToolFault, fault_of, next_record, put_safe};
+use comtrade_text::{ToolFault, fault_of, put_safe};
+use comtrade_tools::{Next, Printed, next_record};
 use std::fs;
 use std::rt::Files;
 
@@ -24,13 +25,22 @@ fn write_record<R: Files + Print + Eprint + AllocGlobal>(
 }
 
 /// Says what no replay prints, or the fault that ended one.
-fn refuse_line<R: Eprint + AllocGlobal>(rt: &R, what: &str, line: &[u8]) -> u8 {
+fn refuse_line<R: Eprint + AllocGlobal>(rt: &R, what: &str, line: &[u8]) {
     let mut text = Vec::new(rt.alloc());
     if put_safe(&mut text, line).is_ok() {
         let _ = eprint!(rt; "comtrade: standard input: {what}: ");
         say(rt, &text);
         let _ = eprintln!(rt; "");
     }
+}
+
+/// Says how many records were written before the cutting stopped.
+fn stop<R: Eprint>(rt: &R, written: u64) -> u8 {
+    let _ = match written {
+        0 => eprintln!(rt; "comtrade: no record was written"),
+        1 => eprintln!(rt; "comtrade: 1 record was written before"),
+        _ => eprintln!(rt; "comtrade: {written} records were written before"),
+    };
     1
 }
 
@@ -41,23 +51,29 @@ fn extract_all<R: Files + Print + Eprint + AllocGlobal>(
     printed: &[u8],
 ) -> u8 {
     let mut left = printed;
+    let mut written = 0u64;
     for _ in 0..printed.len().saturating_add(1) {
         match next_record(left) {
             Next::Record(record, rest) => {
                 if write_record(rt, folder, record) != 0 {
-                    return 1;
+                    return stop(rt, written);
                 }
+                written = written.saturating_add(1);
                 left = rest;
             }
             Next::End => return 0,
             Next::Foreign(line) => {
-                return refuse_line(
+                refuse_line(
                     rt,
                     "a line that no replay prints, or a record cut off",
                     line,
                 );
+                return stop(rt, written);
             }
-            Next::Fault(line) => return refuse_line(rt, "the replay ended with", line),
+            Next::Fault(line) => {
+                refuse_line(rt, "the replay ended with", line);
+                return stop(rt, written);
+            }
         }
     }
     0

@@ -3,15 +3,17 @@
 #![tactic(auto)]
 
 mod extract;
+mod view;
 mod write;
 
 use crate::extract::run_extract;
+use crate::view::{View, view_over};
 use crate::write::run_convert;
-use comtrade_tools::{
-    Command, Pair, ToolFault, View, WordFault, command_of, fault_of, put_safe, read_up_to,
-    view_over, write_out,
-};
+use comtrade_faults::Pair;
+use comtrade_text::{ToolFault, fault_of, put_safe, read_up_to, write_out};
+use comtrade_words::{Answer, Asked, Names, answer_of};
 use std::fs::File;
+use std::io::IsTerminal;
 use std::process::ExitCode;
 use std::rt::{Env, Files};
 use std::{env, io};
@@ -19,22 +21,8 @@ use std::{env, io};
 /// The most bytes of a file that is read: 1 GiB.
 const LIMIT: usize = 1_073_741_824;
 
-const HELP: &str =
-    "comtrade reads, checks, draws and converts COMTRADE files of 1999 (IEEE Std C37.111-1999).
-
-    comtrade show CFG DAT      what is in a pair: names, instants, channels, extremes, changes, gaps
-    comtrade check CFG DAT     the first fault of a pair, or that it has none
-    comtrade csv CFG DAT       the rows: instants, values a*x + b, contacts
-    comtrade plot CFG DAT      a picture, as SVG
-    comtrade convert --kind ascii|binary CFG DAT NAME
-                               writes NAME.cfg and NAME.dat, which say the same; neither may be there
-    comtrade extract DIR       cuts what `dfr replay` printed, on standard input, into DIR/recN.cfg and .dat
-    comtrade help, --version
-
-CFG is the configuration file and DAT its data file; one of them may be -, which is standard input.
-
-Status: 0 done; 1 a fault of the files, or what can't be read or written; 2 words that ask for nothing.
-";
+/// A pair of so many bytes may last over a second.
+const LONG: usize = 32_000_000;
 
 /// Bytes on standard error.
 pub(crate) fn say<R: Eprint>(rt: &R, bytes: &[u8]) {
@@ -101,30 +89,43 @@ struct Inputs {
 /// Reads a pair; None where that was refused, which is said.
 pub(crate) fn read_inputs<R: Files + Input + Eprint + AllocGlobal>(
     rt: &R,
-    cfg_name: &str,
-    dat_name: &str,
+    names: Names<'_>,
 ) -> Option<Inputs> {
-    let cfg = match read_named(rt, cfg_name) {
+    let cfg = match read_named(rt, names.cfg) {
         Ok(cfg) => cfg,
         Err(fault) => {
-            complain(rt, cfg_name, fault);
+            complain(rt, shown(names.cfg), fault);
             return None;
         }
     };
-    match read_named(rt, dat_name) {
+    match read_named(rt, names.dat) {
         Ok(dat) => Some(Inputs { cfg, dat }),
         Err(fault) => {
-            complain(rt, dat_name, fault);
+            complain(rt, shown(names.dat), fault);
             None
         }
     }
 }
 
-pub(crate) fn pair_of<'a>(cfg_name: &'a str, dat_name: &'a str, inputs: &'a Inputs) -> Pair<'a> {
+/// Says how much there is to do, where it may last over a second and someone sees it.
+pub(crate) fn note_size<R: Eprint>(rt: &R, is_watched: bool, inputs: &Inputs) {
+    let bytes = inputs.cfg.len().saturating_add(inputs.dat.len());
+    if is_watched && LONG <= bytes {
+        let megabytes = bytes / 1_000_000;
+        let _ = eprintln!(rt; "comtrade: works on {megabytes} MB");
+    }
+}
+
+/// What a file is called in messages.
+fn shown(name: &str) -> &str {
+    if name == "-" { "standard input" } else { name }
+}
+
+pub(crate) fn pair_of<'a>(names: Names<'a>, inputs: &'a Inputs) -> Pair<'a> {
     Pair {
-        cfg_name: cfg_name.as_bytes(),
+        cfg_name: shown(names.cfg).as_bytes(),
         cfg: &inputs.cfg,
-        dat_name: dat_name.as_bytes(),
+        dat_name: shown(names.dat).as_bytes(),
         dat: &inputs.dat,
     }
 }
@@ -132,47 +133,43 @@ pub(crate) fn pair_of<'a>(cfg_name: &'a str, dat_name: &'a str, inputs: &'a Inpu
 /// Reads a pair, and prints what is asked of it.
 fn run_view<R: Files + Input + Print + Eprint + AllocGlobal>(
     rt: &R,
+    is_watched: bool,
     view: View,
-    cfg_name: &str,
-    dat_name: &str,
+    names: Names<'_>,
 ) -> u8 {
-    match read_inputs(rt, cfg_name, dat_name) {
-        Some(inputs) => print_view(rt, view, pair_of(cfg_name, dat_name, &inputs)),
+    match read_inputs(rt, names) {
+        Some(inputs) => {
+            note_size(rt, is_watched, &inputs);
+            print_view(rt, view, pair_of(names, &inputs))
+        }
         None => 1,
     }
 }
 
-fn run<R: Files + Input + Print + Eprint + AllocGlobal>(rt: &R, command: Command<'_>) -> u8 {
-    match command {
-        Command::Help => print_text(rt, HELP),
-        Command::Version => print_text(rt, "comtrade 0.1\n"),
-        Command::View { view, cfg, dat } => run_view(rt, view, cfg, dat),
-        Command::Convert {
-            kind,
-            cfg,
-            dat,
-            name,
-        } => run_convert(rt, kind, cfg, dat, name),
-        Command::Extract { folder } => run_extract(rt, folder),
+fn run<R: Files + Input + Print + Eprint + AllocGlobal>(
+    rt: &R,
+    is_watched: bool,
+    asked: Asked<'_>,
+) -> u8 {
+    match asked {
+        Asked::Show(names) => run_view(rt, is_watched, View::Show, names),
+        Asked::Check(names) => run_view(rt, is_watched, View::Check, names),
+        Asked::Csv(names) => run_view(rt, is_watched, View::Csv, names),
+        Asked::Plot(names) => run_view(rt, is_watched, View::Plot, names),
+        Asked::Convert(names, kind, name) => run_convert(rt, is_watched, kind, names, name),
+        Asked::Extract(folder) => run_extract(rt, folder),
     }
 }
 
-/// Words that ask for nothing.
-fn refuse<R: Eprint + AllocGlobal>(rt: &R, fault: WordFault<'_>) -> u8 {
-    match fault {
-        WordFault::Wants(usage) => {
-            let _ = eprintln!(rt; "comtrade: wanted is: {usage}");
+/// Lines on standard error, as printable characters.
+fn say_lines<R: Eprint + AllocGlobal>(rt: &R, text: &str) {
+    for line in text.lines() {
+        let mut safe = Vec::new(rt.alloc());
+        if put_safe(&mut safe, line.as_bytes()).is_ok() {
+            say(rt, &safe);
         }
-        WordFault::Unknown(word) => {
-            let mut text = Vec::new(rt.alloc());
-            if put_safe(&mut text, word.as_bytes()).is_ok() {
-                let _ = eprint!(rt; "comtrade: no command is named \"");
-                say(rt, &text);
-                let _ = eprintln!(rt; "\"; comtrade help lists them");
-            }
-        }
+        let _ = eprintln!(rt; "");
     }
-    2
 }
 
 /// The words after the program's name.
@@ -184,23 +181,44 @@ fn words_of<R: Env + AllocGlobal>(rt: &R) -> io::Result<Vec<String>> {
     Ok(rest)
 }
 
+/// Does what is to be done with words; `is_watched` where standard error is a terminal.
+fn act<R: Files + Input + Print + Eprint + AllocGlobal>(
+    rt: &R,
+    is_watched: bool,
+    answer: Answer<'_>,
+) -> u8 {
+    match answer {
+        Answer::Do(asked) => run(rt, is_watched, asked),
+        Answer::Print(text) => print_text(rt, text.as_str()),
+        Answer::Refuse(text) => {
+            say_lines(rt, text.as_str());
+            2
+        }
+    }
+}
+
 /// Does what the words ask for.
-fn answer<R: Files + Input + Print + Eprint + AllocGlobal>(rt: &R, words: &[String]) -> u8 {
+fn answer<R: Files + Input + Print + Eprint + AllocGlobal>(
+    rt: &R,
+    is_watched: bool,
+    words: &[String],
+) -> u8 {
     let mut texts: Vec<&str> = Vec::new(rt.alloc());
     for word in words {
         if texts.push(word.as_str()).is_err() {
             return complain(rt, "the words", ToolFault::Memory);
         }
     }
-    match command_of(&texts) {
-        Ok(command) => run(rt, command),
-        Err(fault) => refuse(rt, fault),
+    match answer_of(rt.alloc(), &texts) {
+        Ok(answer) => act(rt, is_watched, answer),
+        Err(_) => complain(rt, "the words", ToolFault::Memory),
     }
 }
 
 fn main(rt: HostRuntime) -> ExitCode {
+    let is_watched = rt.stderr().is_terminal();
     match words_of(&rt) {
-        Ok(words) => ExitCode::from(answer(&rt, &words)),
+        Ok(words) => ExitCode::from(answer(&rt, is_watched, &words)),
         Err(_) => {
             let _ = eprintln!(rt; "comtrade: a word isn't valid text");
             ExitCode::from(2)

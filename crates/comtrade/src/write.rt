@@ -1,8 +1,10 @@
 //! Writing pairs of files that are not there yet.
 
-use crate::{complain, pair_of, read_inputs, say};
+use crate::{complain, note_size, pair_of, read_inputs, say};
+use comtrade_faults::{Pair, put_fault, put_refusal};
 use comtrade_pairs::{ConvertFault, converted};
-use comtrade_tools::{Pair, ToolFault, fault_of, put_fault, put_refusal, write_out};
+use comtrade_text::{ToolFault, fault_of, write_out};
+use comtrade_words::Names;
 use comtrade_write::Kind;
 use std::alloc::AllocError;
 use std::fs;
@@ -10,22 +12,33 @@ use std::fs::File;
 use std::io::Write;
 use std::rt::Files;
 
-/// Writes a file that isn't there yet.
-fn write_new<R: Files>(rt: &R, name: &str, bytes: &[u8]) -> Result<(), ToolFault> {
-    match File::create_new(rt, name) {
-        Ok(mut file) => write_out(&mut file, bytes),
-        Err(error) => Err(fault_of(error.kind(), ToolFault::Output)),
-    }
-}
-
-/// Says what became of a pair's first file, where its second isn't written: it is taken away.
+/// Takes away a file of a pair that can't be written whole, and says so, or that it stays.
 fn take_back<R: Files + Eprint + AllocGlobal>(rt: &R, name: &str) {
-    if fs::remove_file(rt, name).is_err() {
-        complain(rt, name, ToolFault::Alone);
-    }
+    let end = match fs::remove_file(rt, name) {
+        Ok(()) => ToolFault::Removed,
+        Err(_) => ToolFault::Left,
+    };
+    complain(rt, name, end);
 }
 
-/// Writes both files of a pair, or none of them; where one can't be taken away again, that is said.
+/// Writes a file that isn't there yet; where that fails, it says why, and takes away what it began.
+fn write_new<R: Files + Eprint + AllocGlobal>(rt: &R, name: &str, bytes: &[u8]) -> bool {
+    let mut file = match File::create_new(rt, name) {
+        Ok(file) => file,
+        Err(error) => {
+            complain(rt, name, fault_of(error.kind(), ToolFault::Output));
+            return false;
+        }
+    };
+    if let Err(fault) = write_out(&mut file, bytes) {
+        complain(rt, name, fault);
+        take_back(rt, name);
+        return false;
+    }
+    true
+}
+
+/// Writes both files of a pair, or none of them: what becomes of each is said.
 fn write_pair<R: Files + Eprint + AllocGlobal>(
     rt: &R,
     cfg_name: &str,
@@ -33,17 +46,10 @@ fn write_pair<R: Files + Eprint + AllocGlobal>(
     cfg: &[u8],
     dat: &[u8],
 ) -> u8 {
-    if let Err(fault) = write_new(rt, cfg_name, cfg) {
-        if fault != ToolFault::Exists {
-            let _ = fs::remove_file(rt, cfg_name);
-        }
-        return complain(rt, cfg_name, fault);
+    if !write_new(rt, cfg_name, cfg) {
+        return 1;
     }
-    if let Err(fault) = write_new(rt, dat_name, dat) {
-        complain(rt, dat_name, fault);
-        if fault != ToolFault::Exists {
-            let _ = fs::remove_file(rt, dat_name);
-        }
+    if !write_new(rt, dat_name, dat) {
         take_back(rt, cfg_name);
         return 1;
     }
@@ -90,16 +96,17 @@ fn refuse_pair<R: Eprint + AllocGlobal>(
 
 pub(crate) fn run_convert<R: Files + Input + Eprint + AllocGlobal>(
     rt: &R,
+    is_watched: bool,
     kind: Kind,
-    cfg_name: &str,
-    dat_name: &str,
+    names: Names<'_>,
     name: &str,
 ) -> u8 {
-    let Some(inputs) = read_inputs(rt, cfg_name, dat_name) else {
+    let Some(inputs) = read_inputs(rt, names) else {
         return 1;
     };
+    note_size(rt, is_watched, &inputs);
     match converted(rt.alloc(), &inputs.cfg, &inputs.dat, kind) {
         Ok(made) => write_named(rt, name, &made.cfg, &made.dat),
-        Err(fault) => refuse_pair(rt, kind, pair_of(cfg_name, dat_name, &inputs), fault),
+        Err(fault) => refuse_pair(rt, kind, pair_of(names, &inputs), fault),
     }
 }

@@ -1,11 +1,9 @@
 //! A pair of files as comma-separated values.
 
-use crate::fault::ToolFault;
 use crate::instant::put_instant;
 use crate::number::{Number, Scale, put_value, scale_of, value_of};
-use crate::output::{flush_if_full, write_out};
-use crate::text::{put, put_number, put_safe};
 use crate::times::{since_trigger, times_of, trigger_nanos};
+use comtrade_text::{ToolFault, flush_if_full, put, put_number, put_safe, write_out};
 use comtrade_write::{File, Head, Row};
 use dfr_channels::Reading;
 use std::alloc::{AllocError, Allocator};
@@ -152,7 +150,7 @@ fn write_rows<A: Allocator, W: Write>(
 }
 
 /// Prints the rows of a file: number, instant, milliseconds since the trigger, values a*x + b, bits.
-pub(crate) fn csv_over<A: Allocator + Copy, W: Write>(
+pub fn csv_over<A: Allocator + Copy, W: Write>(
     alloc: A,
     file: &File<A>,
     w: &mut W,

@@ -1,6 +1,6 @@
 //! Instants as dates, and spans of time.
 
-use crate::text::put_number;
+use comtrade_text::put_number;
 use itoa::Buffer;
 use jiff_core::civil::Date;
 use std::alloc::{AllocError, Allocator};

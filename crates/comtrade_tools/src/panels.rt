@@ -1,13 +1,11 @@
 //! The panels of a picture: analogue channels that share a unit, with their names and traces.
 
-use crate::fault::ToolFault;
 use crate::number::{float_of, number_of};
-use crate::output::flush_if_full;
 use crate::peaks::peaks_of;
 use crate::svg::{end_text, put_rule, put_text_at, put_xml};
-use crate::text::put;
 use crate::ticks::put_levels;
 use crate::trace::{Frame, LEFT, Line, PANEL, Panel, RIGHT, TOP, put_trace};
+use comtrade_text::{ToolFault, flush_if_full, put};
 use comtrade_write::File;
 use dfr_channels::{AnalogChannel, Side};
 use std::alloc::{AllocError, Allocator};
@@ -16,6 +14,9 @@ use std::num::nearest_usize_to_f64;
 
 /// The most channels of a panel.
 const TOGETHER: usize = 4;
+
+/// The most rows whose traces share a panel: ten for each pixel. Traces of more are bands, which hide one another.
+const WAVES: usize = 8400;
 
 /// What stands between panels, and how high a contact is, in pixels.
 pub(crate) const GAP: f64 = 26.0;
@@ -33,21 +34,27 @@ fn other_colour(place: usize) -> &'static str {
     }
 }
 
-/// The colour of a phase by its last letter, else one by the place in the panel.
-fn colour_of(phase: &[u8], place: usize) -> &'static str {
-    let Some(letter) = phase.last() else {
-        return other_colour(place);
-    };
+/// The colour of a phase by its last letter, where it has one.
+fn phase_colour(phase: &[u8]) -> Option<&'static str> {
+    let letter = phase.last()?;
     if b"Aa1Rr".contains(letter) {
-        "#c0392b"
+        Some("#c0392b")
     } else if b"Bb2Ss".contains(letter) {
-        "#c48a00"
+        Some("#c48a00")
     } else if b"Cc3Tt".contains(letter) {
-        "#2f6db3"
+        Some("#2f6db3")
     } else if b"NnGgEe0".contains(letter) {
-        "#333333"
+        Some("#333333")
     } else {
-        other_colour(place)
+        None
+    }
+}
+
+/// The colour of a channel: its phase's, else one by the place in the panel.
+fn colour_of(phase: &[u8], place: usize) -> &'static str {
+    match phase_colour(phase) {
+        Some(colour) => colour,
+        None => other_colour(place),
     }
 }
 
@@ -58,21 +65,43 @@ fn line_of<A: Allocator>(channel: &AnalogChannel<A>) -> Line {
     }
 }
 
-/// Whether two channels are drawn in one panel.
+/// Whether two channels may be drawn in one panel.
 fn is_alike<A: Allocator>(one: &AnalogChannel<A>, other: &AnalogChannel<A>) -> bool {
     one.unit.items() == other.unit.items()
         && one.component.items() == other.component.items()
         && one.side == other.side
 }
 
-/// The channels of a panel: those at the front that are alike, at most four.
-fn together<A: Allocator>(channels: &[AnalogChannel<A>]) -> usize {
+/// Whether a phase's colour is that of one of the channels.
+fn is_taken<A: Allocator>(channels: &[AnalogChannel<A>], phase: &[u8]) -> bool {
+    let Some(colour) = phase_colour(phase) else {
+        return false;
+    };
+    for channel in channels {
+        if phase_colour(channel.phase.items()) == Some(colour) {
+            return true;
+        }
+    }
+    false
+}
+
+/// The most channels of a panel in a picture of so many rows.
+fn most_together(rows: usize) -> usize {
+    if WAVES < rows { 1 } else { TOGETHER }
+}
+
+/// The channels of a panel: those at the front that are alike and have colours of their own, so many at most.
+fn together<A: Allocator>(channels: &[AnalogChannel<A>], most: usize) -> usize {
     let Some(first) = channels.first() else {
         return 0;
     };
     let mut count = 0usize;
-    for channel in channels.iter().take(TOGETHER) {
-        if !is_alike(first, channel) {
+    for channel in channels.iter().take(most) {
+        let before = match channels.get(..count) {
+            Some(before) => before,
+            None => &[],
+        };
+        if !is_alike(first, channel) || is_taken(before, channel.phase.items()) {
             break;
         }
         count = count.saturating_add(1);
@@ -80,14 +109,17 @@ fn together<A: Allocator>(channels: &[AnalogChannel<A>]) -> usize {
     count
 }
 
-pub(crate) fn panels_in<A: Allocator>(channels: &[AnalogChannel<A>]) -> usize {
+/// How many panels a file is drawn in.
+pub(crate) fn panels_in<A: Allocator>(file: &File<A>) -> usize {
+    let most = most_together(file.rows.items().len());
+    let channels = file.head.analog.items();
     let mut left = channels;
     let mut count = 0usize;
     for _ in 0..channels.len() {
         if left.is_empty() {
             break;
         }
-        left = match left.get(together(left)..) {
+        left = match left.get(together(left, most)..) {
             Some(rest) => rest,
             None => &[],
         };
@@ -236,6 +268,7 @@ pub(crate) fn put_panels<A: Allocator, W: Write>(
 ) -> Result<(), ToolFault> {
     let file = scene.file;
     let channels = file.head.analog.items();
+    let most = most_together(file.rows.items().len());
     let mut from = 0usize;
     let mut top = TOP + GAP;
     for _ in 0..channels.len() {
@@ -245,7 +278,7 @@ pub(crate) fn put_panels<A: Allocator, W: Write>(
         let Some(first) = left.first() else {
             break;
         };
-        let count = together(left);
+        let count = together(left, most);
         let (low, high) = bounds_of(file, from, count);
         let panel = Panel { top, low, high };
         put_panel(out, panel)?;

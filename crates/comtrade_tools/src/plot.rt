@@ -1,14 +1,12 @@
 //! A picture of a pair of files, as SVG.
 
-use crate::fault::ToolFault;
 use crate::instant::put_instant;
-use crate::output::{flush_if_full, write_out};
 use crate::panels::{GAP, NAME, Scene, panels_in, put_panels, spread};
 use crate::svg::{end_text, put_rule, put_text_at, put_xml};
-use crate::text::{put, put_count};
 use crate::ticks::{is_long, put_times};
 use crate::times::{since_trigger, times_of, trigger_nanos};
 use crate::trace::{Frame, LEFT, PANEL, RIGHT, TOP, across, put_bar, put_tenths};
+use comtrade_text::{ToolFault, flush_if_full, put, put_count, write_out};
 use comtrade_write::{File, Head};
 use dfr_channels::StatusChannel;
 use std::alloc::{AllocError, Allocator};
@@ -104,7 +102,7 @@ fn put_top<A: Allocator>(
 ) -> Result<(), AllocError> {
     put(
         out,
-        "<svg xmlns=\"http://www.w3.org/2000/svg\" width=\"1100\" height=\"",
+        "<svg xmlns=\"http://www.w3.org/2000/svg\" width=\"1160\" height=\"",
     )?;
     put_tenths(out, height)?;
     put(out, "\" font-family=\"sans-serif\" font-size=\"12\">\n")?;
@@ -154,7 +152,7 @@ fn put_mark<A: Allocator>(
 }
 
 /// Prints a picture of a file.
-pub(crate) fn plot_over<A: Allocator + Copy, W: Write>(
+pub fn plot_over<A: Allocator + Copy, W: Write>(
     alloc: A,
     file: &File<A>,
     w: &mut W,
@@ -162,7 +160,7 @@ pub(crate) fn plot_over<A: Allocator + Copy, W: Write>(
     let times = times_of(alloc, file)?;
     let trigger = trigger_nanos(file);
     let frame = frame_of(&times, trigger);
-    let panels = nearest_usize_to_f64(panels_in(file.head.analog.items()));
+    let panels = nearest_usize_to_f64(panels_in(file));
     let contacts = TOP + GAP + panels * (PANEL + GAP);
     let bottom = contacts + CONTACT * nearest_usize_to_f64(file.head.status.items().len());
     let mut out = Vec::new(alloc);

@@ -1,15 +1,12 @@
 //! What is in a pair of files, for people.
 
-use crate::check::kind_name;
-use crate::fault::ToolFault;
 use crate::instant::{put_instant, put_millis};
 use crate::number::put_decimal;
-use crate::output::write_out;
 use crate::peaks::{peaks_of, reading_at};
 use crate::show_analog::put_analog;
 use crate::show_status::{LISTED, put_more, put_status};
-use crate::text::{put, put_count, put_safe, put_with};
 use crate::times::{since_trigger, times_of, trigger_nanos};
+use comtrade_text::{ToolFault, kind_name, put, put_count, put_safe, put_with, write_out};
 use comtrade_write::{File, Head, Rate, Row};
 use dfr_channels::Reading;
 use std::alloc::{AllocError, Allocator};
@@ -178,7 +175,7 @@ fn put_gaps<A: Allocator>(
 }
 
 /// Prints what is in a file.
-pub(crate) fn show_over<A: Allocator + Copy, W: Write>(
+pub fn show_over<A: Allocator + Copy, W: Write>(
     alloc: A,
     file: &File<A>,
     w: &mut W,

@@ -4,7 +4,7 @@ use crate::number::{put_decimal, put_value, rounded, scale_of, value_of};
 use crate::peaks::{Peak, peaks_of};
 use crate::show::{Clock, put_row_time};
 use crate::table::{end_cell, end_row, put_cell, put_table};
-use crate::text::{put, put_count, put_number, put_safe, put_signed};
+use comtrade_text::{put, put_count, put_number, put_safe, put_signed};
 use comtrade_write::{File, Row};
 use dfr_channels::{AnalogChannel, Side};
 use std::alloc::{AllocError, Allocator};

@@ -4,7 +4,7 @@ use crate::peaks::bit_at;
 use crate::show::{Clock, put_row_time};
 use crate::show_analog::put_names;
 use crate::table::{end_row, put_cell, put_table};
-use crate::text::{put, put_count, put_with};
+use comtrade_text::{put, put_count, put_with};
 use comtrade_write::{File, Row};
 use dfr_channels::StatusChannel;
 use std::alloc::{AllocError, Allocator};

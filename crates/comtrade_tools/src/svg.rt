@@ -1,7 +1,7 @@
 //! Texts and lines of an SVG picture.
 
-use crate::text::{put, put_safe};
 use crate::trace::put_tenths;
+use comtrade_text::{put, put_safe};
 use std::alloc::{AllocError, Allocator};
 
 fn put_xml_byte<A: Allocator>(out: &mut Vec<u8, A>, b: u8) -> Result<(), AllocError> {
@@ -13,16 +13,32 @@ fn put_xml_byte<A: Allocator>(out: &mut Vec<u8, A>, b: u8) -> Result<(), AllocEr
     }
 }
 
-/// A text of a file, cut where it is long.
+fn put_xml_bytes<A: Allocator>(out: &mut Vec<u8, A>, text: &[u8]) -> Result<(), AllocError> {
+    for b in text {
+        put_xml_byte(out, *b)?;
+    }
+    Ok(())
+}
+
+/// How much of a text's end is drawn where it is cut: names that begin alike mostly end in a number.
+const END: usize = 8;
+
+/// A text of a file, cut in its middle where it is longer than this.
 pub(crate) fn put_xml<A: Allocator>(
     out: &mut Vec<u8, A>,
     text: &[u8],
     most: usize,
 ) -> Result<(), AllocError> {
-    for b in text.iter().take(most) {
-        put_xml_byte(out, *b)?;
+    let front = text.get(..most.saturating_sub(END));
+    let back = text.get(text.len().saturating_sub(END)..);
+    match (front, back) {
+        (Some(front), Some(back)) if most < text.len() => {
+            put_xml_bytes(out, front)?;
+            put(out, "...")?;
+            put_xml_bytes(out, back)
+        }
+        _ => put_xml_bytes(out, text),
     }
-    put(out, if most < text.len() { "..." } else { "" })
 }
 
 /// `<text x=.. y=..` and what stands behind it, up to the text.

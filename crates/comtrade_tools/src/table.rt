@@ -1,6 +1,6 @@
 //! Tables of text in columns.
 
-use crate::text::put;
+use comtrade_text::put;
 use std::alloc::{AllocError, Allocator};
 
 /// Ends a cell; texts of a file hold no such byte once they are printable.

@@ -95,7 +95,24 @@ pub(crate) fn is_long(frame: Frame) -> bool {
     10_000.0 <= frame.last - frame.first
 }
 
-/// The times below, and their lines across all panels.
+/// A time above all panels and below them, and its line across them.
+fn put_time<A: Allocator>(
+    out: &mut Vec<u8, A>,
+    shown: Step,
+    tick: i64,
+    x: f64,
+    bottom: f64,
+) -> Result<(), AllocError> {
+    put_rule(out, (x, TOP), (x, bottom), "stroke=\"#e4e4e4\"")?;
+    for y in [TOP - 6.0, bottom + 16.0] {
+        put_text_at(out, x, y, " text-anchor=\"middle\"")?;
+        put_tick(out, shown, tick)?;
+        end_text(out)?;
+    }
+    Ok(())
+}
+
+/// The times above and below, and their lines across all panels.
 pub(crate) fn put_times<A: Allocator>(
     out: &mut Vec<u8, A>,
     frame: Frame,
@@ -118,11 +135,7 @@ pub(crate) fn put_times<A: Allocator>(
         if frame.last < time {
             break;
         }
-        let x = across(frame, time);
-        put_rule(out, (x, TOP), (x, bottom), "stroke=\"#e4e4e4\"")?;
-        put_text_at(out, x, bottom + 16.0, " text-anchor=\"middle\"")?;
-        put_tick(out, shown, tick)?;
-        end_text(out)?;
+        put_time(out, shown, tick, across(frame, time), bottom)?;
     }
     Ok(())
 }

@@ -1,8 +1,8 @@
 //! The traces of channels and the bars of contacts in a picture, at most two points for each half pixel.
 
 use crate::peaks::{bit_at, reading_at};
-use crate::text::{put, put_number};
 use crate::times::since_trigger;
+use comtrade_text::{put, put_number};
 use comtrade_write::Row;
 use dfr_channels::Reading;
 use std::alloc::{AllocError, Allocator};
@@ -13,7 +13,7 @@ pub(crate) const LEFT: f64 = 80.0;
 
 pub(crate) const RIGHT: f64 = 920.0;
 
-pub(crate) const TOP: f64 = 50.0;
+pub(crate) const TOP: f64 = 64.0;
 
 pub(crate) const PANEL: f64 = 110.0;
 

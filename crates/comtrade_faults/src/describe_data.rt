@@ -2,8 +2,8 @@
 
 use crate::describe::{line_at, put_field, put_field_count, put_place};
 use crate::names::{Counts, Place, row_field};
-use crate::text::{put, put_count, put_with};
 use comtrade_read::ReadFault;
+use comtrade_text::{put, put_count, put_with};
 use dfr_channels::lines_of;
 use std::alloc::{AllocError, Allocator};
 

@@ -23,9 +23,12 @@ pub enum ToolFault {
     /// More came than is read.
     #[error("is longer than 1073741824 bytes")]
     Long,
-    /// A configuration file that was written stays there, though its data file isn't.
-    #[error("stays there without its data file")]
-    Alone,
+    /// A file that was begun is taken away again, since its pair isn't whole.
+    #[error("is removed again, since its pair can't be written whole")]
+    Removed,
+    /// A file that was begun can't be taken away, though its pair isn't whole.
+    #[error("can't be removed again, and stays there, though its pair isn't whole")]
+    Left,
     /// A write failed.
     #[error("can't be written")]
     Output,

@@ -17,7 +17,7 @@ pub fn write_out<W: Write>(w: &mut W, bytes: &[u8]) -> Result<(), ToolFault> {
 }
 
 /// Writes what was buffered, where it exceeds 64 KiB.
-pub(crate) fn flush_if_full<A: Allocator, W: Write>(
+pub fn flush_if_full<A: Allocator, W: Write>(
     w: &mut W,
     out: &mut Vec<u8, A>,
 ) -> Result<(), ToolFault> {

@@ -2,9 +2,9 @@
 
 use crate::check::Pair;
 use crate::describe::put_line_of;
-use crate::text::{put, put_safe, put_signed, put_with};
 use comtrade_read::read;
-use comtrade_write::{Kind, WriteFault};
+use comtrade_text::{put, put_safe, put_signed, put_with};
+use comtrade_write::{File, Kind, WriteFault};
 use dfr_channels::Reading;
 use std::alloc::{AllocError, Allocator};
 
@@ -36,15 +36,20 @@ fn put_text<A: Allocator + Copy>(
 }
 
 /// The sample of a row and a channel, both counted from 1.
-fn sample_at<A: Allocator + Copy>(alloc: A, pair: Pair<'_>, row: u64, channel: u32) -> Option<i32> {
-    let Ok(file) = read(alloc, pair.cfg, pair.dat) else {
-        return None;
-    };
+fn sample_in<A: Allocator>(file: &File<A>, row: u64, channel: u32) -> Option<i32> {
     let row = usize::try_from(row.checked_sub(1)?).ok()?;
     let at = (channel as usize).checked_sub(1)?;
     match file.rows.items().get(row)?.values.items().get(at)? {
         Reading::Value(sample) => Some(*sample),
         Reading::Missing => None,
+    }
+}
+
+/// The same of the file that a pair reads to.
+fn sample_at<A: Allocator + Copy>(alloc: A, pair: Pair<'_>, row: u64, channel: u32) -> Option<i32> {
+    match read(alloc, pair.cfg, pair.dat) {
+        Ok(file) => sample_in(&file, row, channel),
+        Err(_) => None,
     }
 }
 

@@ -121,9 +121,10 @@ pub(crate) fn fields_wanted(place: Place) -> (u64, &'static str) {
 /// A field's name, and what is wanted there.
 type Named = (&'static str, &'static str);
 
-const DECIMAL: &str = "a decimal, as 0.01 or 1.5E-3";
+const DECIMAL: &str = "a decimal of at most 36 digits and 80 places, as 0.01 or 1.5E-3";
 
-const DECIMAL_OR_NONE: &str = "a decimal, as 0.01 or 1.5E-3, or nothing";
+const DECIMAL_OR_NONE: &str =
+    "a decimal of at most 36 digits and 80 places, as 0.01 or 1.5E-3, or nothing";
 
 const SAMPLE: &str = "a whole number from -99999 to 99999";
 

@@ -6,12 +6,10 @@ ghost use Rattle.comtrade_read.specs.Pair.{IsNoFile};
 
 use crate::describe::put_cfg_fault;
 use crate::describe_data::put_dat_fault;
-use crate::fault::ToolFault;
 use crate::names::Counts;
-use crate::output::write_out;
-use crate::text::{put, put_count, put_safe};
 use comtrade_pairs::{Fault, verdict_of};
 use comtrade_read::{Part, ReadFault, read_cfg};
+use comtrade_text::{ToolFault, kind_name, put, put_count, put_safe, write_out};
 use comtrade_write::{Head, Kind};
 use std::alloc::{AllocError, Allocator};
 use std::io::Write;
@@ -83,10 +81,22 @@ pub fn put_fault<A: Allocator + Copy>(
     put(out, "\n")
 }
 
-pub(crate) fn kind_name(kind: Kind) -> &'static str {
-    match kind {
-        Kind::Ascii => "ASCII",
-        Kind::Binary => "BINARY",
+/// What is said of a pair that can be read.
+#[derive(Clone, Copy)]
+struct Sound {
+    kind: Kind,
+    counts: Counts,
+    rows: u64,
+}
+
+fn sound_of<A: Allocator + Copy>(alloc: A, cfg: &[u8]) -> Option<Sound> {
+    match read_cfg(alloc, cfg) {
+        Ok(head) => Some(Sound {
+            kind: head.kind,
+            counts: counts_of(&head),
+            rows: rows_of(&head),
+        }),
+        Err(_) => None,
     }
 }
 
@@ -96,16 +106,16 @@ fn put_sound<A: Allocator + Copy>(
     out: &mut Vec<u8, A>,
     pair: Pair<'_>,
 ) -> Result<(), AllocError> {
-    let Ok(head) = read_cfg(alloc, pair.cfg) else {
+    let Some(sound) = sound_of(alloc, pair.cfg) else {
         return Err(AllocError);
     };
     put_safe(out, pair.cfg_name)?;
     put(out, ", ")?;
     put_safe(out, pair.dat_name)?;
     put(out, ": no fault; ")?;
-    put(out, kind_name(head.kind))?;
+    put(out, kind_name(sound.kind))?;
     put(out, " data, ")?;
-    put_head_counts(out, counts_of(&head), rows_of(&head))?;
+    put_head_counts(out, sound.counts, sound.rows)?;
     put(out, "\n")
 }
 

@@ -2,11 +2,20 @@
 
 ghost use Rattle.std.specs.Prelude.{◌<◌};
 
+use comtrade_write::Kind;
 use itoa::Buffer;
 use std::alloc::{AllocError, Allocator};
 
-pub(crate) fn put<A: Allocator>(out: &mut Vec<u8, A>, text: &str) -> Result<(), AllocError> {
+pub fn put<A: Allocator>(out: &mut Vec<u8, A>, text: &str) -> Result<(), AllocError> {
     out.extend_from_slice(text.as_bytes())
+}
+
+/// What a kind of data is called.
+pub fn kind_name(kind: Kind) -> &'static str {
+    match kind {
+        Kind::Ascii => "ASCII",
+        Kind::Binary => "BINARY",
+    }
 }
 
 /// A number in decimal digits.
@@ -14,22 +23,18 @@ pub fn put_number<A: Allocator>(out: &mut Vec<u8, A>, n: u64) -> Result<(), Allo
     out.extend_from_slice(Buffer::new().format(n).as_bytes())
 }
 
-pub(crate) fn put_signed<A: Allocator>(out: &mut Vec<u8, A>, n: i64) -> Result<(), AllocError> {
+pub fn put_signed<A: Allocator>(out: &mut Vec<u8, A>, n: i64) -> Result<(), AllocError> {
     out.extend_from_slice(Buffer::new().format(n).as_bytes())
 }
 
 /// The text, and a number after it.
-pub(crate) fn put_with<A: Allocator>(
-    out: &mut Vec<u8, A>,
-    text: &str,
-    n: u64,
-) -> Result<(), AllocError> {
+pub fn put_with<A: Allocator>(out: &mut Vec<u8, A>, text: &str, n: u64) -> Result<(), AllocError> {
     put(out, text)?;
     put_number(out, n)
 }
 
 /// A number, and its noun in the singular or the plural.
-pub(crate) fn put_count<A: Allocator>(
+pub fn put_count<A: Allocator>(
     out: &mut Vec<u8, A>,
     n: u64,
     one: &str,
@@ -65,10 +70,7 @@ pub fn put_safe<A: Allocator>(out: &mut Vec<u8, A>, text: &[u8]) -> Result<(), A
 const QUOTED: usize = 60;
 
 /// A field in quotation marks, cut where it is long.
-pub(crate) fn put_quoted<A: Allocator>(
-    out: &mut Vec<u8, A>,
-    text: &[u8],
-) -> Result<(), AllocError> {
+pub fn put_quoted<A: Allocator>(out: &mut Vec<u8, A>, text: &[u8]) -> Result<(), AllocError> {
     put(out, "\"")?;
     match text.get(..QUOTED) {
         Some(front) => {

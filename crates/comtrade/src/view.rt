@@ -1,19 +1,17 @@
 //! What is said of a pair of files.
 
-use crate::check::{Pair, check_over, put_fault};
-use crate::csv::csv_over;
-use crate::fault::ToolFault;
-use crate::plot::plot_over;
-use crate::show::show_over;
+use comtrade_faults::{Pair, check_over, put_fault};
 use comtrade_pairs::Fault;
 use comtrade_read::{ReadFault, read};
+use comtrade_text::ToolFault;
+use comtrade_tools::{csv_over, plot_over, show_over};
 use comtrade_write::File;
 use std::alloc::Allocator;
 use std::io::Write;
 
 /// What is said of a pair.
 #[derive(Clone, Copy, Debug, PartialEq, Eq)]
-pub enum View {
+pub(crate) enum View {
     /// What is in it.
     Show,
     /// Its first fault.
@@ -40,9 +38,23 @@ fn file_in<A: Allocator + Copy>(
     }
 }
 
+/// Prints what is asked of a file.
+fn put_view<A: Allocator + Copy, W: Write>(
+    alloc: A,
+    view: View,
+    file: &File<A>,
+    w: &mut W,
+) -> Result<(), ToolFault> {
+    match view {
+        View::Csv => csv_over(alloc, file, w),
+        View::Plot => plot_over(alloc, file, w),
+        _ => show_over(alloc, file, w),
+    }
+}
+
 /// Prints what is asked of a pair: false where it has a fault. The fault's line is what `Check` prints; the others put it to
 /// `said` and print nothing.
-pub fn view_over<A: Allocator + Copy, W: Write>(
+pub(crate) fn view_over<A: Allocator + Copy, W: Write>(
     alloc: A,
     view: View,
     pair: Pair<'_>,
@@ -52,13 +64,12 @@ pub fn view_over<A: Allocator + Copy, W: Write>(
     if view == View::Check {
         return check_over(alloc, pair, w);
     }
-    let Some(file) = file_in(alloc, pair, said)? else {
-        return Ok(false);
-    };
-    match view {
-        View::Csv => csv_over(alloc, &file, w)?,
-        View::Plot => plot_over(alloc, &file, w)?,
-        _ => show_over(alloc, &file, w)?,
+    match file_in(alloc, pair, said) {
+        Ok(Some(file)) => match put_view(alloc, view, &file, w) {
+            Ok(()) => Ok(true),
+            Err(fault) => Err(fault),
+        },
+        Ok(None) => Ok(false),
+        Err(fault) => Err(fault),
     }
-    Ok(true)
 }

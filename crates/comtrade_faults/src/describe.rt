@@ -1,8 +1,8 @@
 //! A fault of a pair of files in words: the line, the field's name, what stood there, what is wanted.
 
 use crate::names::{Counts, Place, field_at, fields_wanted, place_at, place_name, type_line};
-use crate::text::{put, put_count, put_number, put_quoted, put_with};
 use comtrade_read::ReadFault;
+use comtrade_text::{put, put_count, put_number, put_quoted, put_with};
 use dfr_channels::{fields_of, integer_of, lines_of, without_blank_end};
 use std::alloc::{AllocError, Allocator};
 
@@ -206,7 +206,7 @@ fn put_at_line<A: Allocator + Copy>(
         ReadFault::Instant(_) => put_wanted(
             out,
             text,
-            "a date and a time of the years 1 to 9999, dd/mm/yyyy,hh:mm:ss.ssssss",
+            "a date and a time of the years 1 to 9999 without leap seconds, dd/mm/yyyy,hh:mm:ss.ssssss",
         ),
         _ => put_wanted(out, text, "ASCII or BINARY"),
     }
@@ -243,7 +243,27 @@ pub(crate) fn put_cfg_fault<A: Allocator + Copy>(
     )
 }
 
-/// `line 3 (analogue channel 1), field 2 (id): "IA" stands there`, of a configuration file that can be read.
+/// `line 3 (analogue channel 1), field 2 (id): "IA" stands there`, of the lines of a configuration file.
+fn put_field_there<A: Allocator + Copy>(
+    alloc: A,
+    out: &mut Vec<u8, A>,
+    lines: &[&[u8]],
+    line: u64,
+    field: u32,
+    name: &str,
+) -> Result<(), AllocError> {
+    let counts = counts_in(alloc, lines)?;
+    let text = field_of(alloc, line_at(lines, line), field)?;
+    put_line(out, line, place_at(counts, line))?;
+    put_with(out, ", field ", field as u64)?;
+    put(out, " (")?;
+    put(out, name)?;
+    put(out, "): ")?;
+    put_quoted(out, text)?;
+    put(out, " stands there")
+}
+
+/// The same of a configuration file that can be read.
 pub(crate) fn put_line_of<A: Allocator + Copy>(
     alloc: A,
     out: &mut Vec<u8, A>,
@@ -253,12 +273,5 @@ pub(crate) fn put_line_of<A: Allocator + Copy>(
     name: &str,
 ) -> Result<(), AllocError> {
     let lines = lines_of(alloc, cfg)?;
-    let counts = counts_in(alloc, &lines)?;
-    put_line(out, line, place_at(counts, line))?;
-    put_with(out, ", field ", field as u64)?;
-    put(out, " (")?;
-    put(out, name)?;
-    put(out, "): ")?;
-    put_quoted(out, field_of(alloc, line_at(&lines, line), field)?)?;
-    put(out, " stands there")
+    put_field_there(alloc, out, &lines, line, field, name)
 }

@@ -1,0 +1,11 @@
+//! What is wrong with a pair of COMTRADE files of C37.111-1999, in words: where it stands, what stands there and what is wanted.
+#![tactic(auto)]
+
+mod check;
+mod describe;
+mod describe_data;
+mod names;
+mod refuse;
+
+pub use check::{Pair, check_over, put_fault};
+pub use refuse::put_refusal;

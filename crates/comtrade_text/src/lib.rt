@@ -1,0 +1,13 @@
+//! What the tools over COMTRADE files read and print: bytes up to a limit, texts of a file as printable characters alone, and
+//! why a tool stopped.
+#![tactic(auto)]
+
+mod fault;
+mod input;
+mod output;
+mod text;
+
+pub use fault::{ToolFault, fault_of};
+pub use input::read_up_to;
+pub use output::{flush_if_full, write_out};
+pub use text::{kind_name, put, put_count, put_number, put_quoted, put_safe, put_signed, put_with};

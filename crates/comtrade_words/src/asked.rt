@@ -1,0 +1,113 @@
+//! What words ask for.
+
+use crate::commands::comtrade;
+use clap::{ArgMatches, Error};
+use comtrade_write::Kind;
+use std::alloc::{AllocError, Global};
+
+/// What both files of a pair are called. One of them may be `-`, which is standard input.
+#[derive(Clone, Copy, Debug, PartialEq, Eq)]
+pub struct Names<'a> {
+    pub cfg: &'a str,
+    pub dat: &'a str,
+}
+
+/// What the words ask for.
+#[derive(Clone, Copy, Debug)]
+pub enum Asked<'a> {
+    /// What is in a pair.
+    Show(Names<'a>),
+    /// Its first fault.
+    Check(Names<'a>),
+    /// Its rows as comma-separated values.
+    Csv(Names<'a>),
+    /// A picture of it.
+    Plot(Names<'a>),
+    /// A pair as a pair of another kind, with this name.
+    Convert(Names<'a>, Kind, &'a str),
+    /// The pairs that a replay printed, into a folder.
+    Extract(&'a str),
+}
+
+/// What is to be done with words.
+#[derive(Debug, Drop)]
+pub enum Answer<'a> {
+    /// What they ask for.
+    Do(Asked<'a>),
+    /// A text that they ask for: help or the version.
+    Print(String),
+    /// Why they ask for nothing, as text of whole lines, with the words as they came.
+    Refuse(String),
+}
+
+/// Both names of a pair; none where both are standard input.
+fn names_of<'a>(found: &ArgMatches<'a>) -> Option<Names<'a>> {
+    let cfg = found.get_str("CFG")?;
+    let dat = found.get_str("DAT")?;
+    if cfg == "-" && dat == "-" {
+        return None;
+    }
+    Some(Names { cfg, dat })
+}
+
+/// The kind that is asked for; the parse lets no other word through.
+fn kind_of(found: &ArgMatches<'_>) -> Kind {
+    match found.get_str("KIND") {
+        Some("binary") => Kind::Binary,
+        _ => Kind::Ascii,
+    }
+}
+
+/// What a command's matches ask for.
+fn asked_of<'a>(verb: &str, found: &ArgMatches<'a>) -> Option<Asked<'a>> {
+    if verb == "extract" {
+        return Some(Asked::Extract(found.get_str("DIR")?));
+    }
+    let names = names_of(found)?;
+    if verb == "convert" {
+        return Some(Asked::Convert(names, kind_of(found), found.get_str("NAME")?));
+    }
+    if verb == "check" {
+        return Some(Asked::Check(names));
+    }
+    if verb == "csv" {
+        return Some(Asked::Csv(names));
+    }
+    if verb == "plot" {
+        return Some(Asked::Plot(names));
+    }
+    Some(Asked::Show(names))
+}
+
+/// What is to be done with matches: all that the parse lets through are asked for, but for a pair of which both are standard input.
+fn answer_to<'a>(alloc: Global, matches: &ArgMatches<'a>) -> Result<Answer<'a>, AllocError> {
+    let asked = match matches.subcommand() {
+        Some((verb, found)) => asked_of(verb, found),
+        None => None,
+    };
+    match asked {
+        Some(asked) => Ok(Answer::Do(asked)),
+        None => Ok(Answer::Refuse(String::from_str(
+            alloc,
+            "error: only one of CFG and DAT can be -, standard input\n",
+        )?)),
+    }
+}
+
+/// The text of a parse that found nothing to do.
+fn told<'a>(alloc: Global, error: &Error) -> Result<Answer<'a>, AllocError> {
+    let text = format!(in alloc; "{error}")?;
+    if error.use_stderr() {
+        Ok(Answer::Refuse(text))
+    } else {
+        Ok(Answer::Print(text))
+    }
+}
+
+/// What is to be done with the words after the program's name.
+pub fn answer_of<'a>(alloc: Global, words: &'a [&'a str]) -> Result<Answer<'a>, AllocError> {
+    match comtrade(alloc)?.try_get_matches_from(words) {
+        Ok(matches) => answer_to(alloc, &matches),
+        Err(error) => told(alloc, &error),
+    }
+}
