@@ -46,11 +46,6 @@ each_at P n (x ∷ xs) (suc j) e lt =
     let r = each_at P (n + 1) xs j e.1 (omega arith) in
     record { item = r.item; there = r.there; holds_it = rw s r.holds_it }
 
-pub made_at : {X : Type 0} (g : ℕ → X) (n count j : ℕ) → j < count → slice_get (map g (range_with_len n count)) j ≡ Some (g (n + j))
-made_at g n zero j lt = absurd (omega arith)
-made_at g n (suc c) zero lt = let z : n + 0 ≡ n = omega arith in rw z refl
-made_at g n (suc c) (suc j) lt = let s : n + suc j ≡ n + 1 + j = omega arith in rw s (made_at g (n + 1) c j (omega arith))
-
 -- ---- the first fault of several
 
 pub none_each : (f : ℕ → Option ReadFault) (n : ℕ) → first_in f n ≡ None → (i : ℕ) → i < n → f i ≡ None

@@ -1,6 +1,6 @@
 -- Each field of a configuration file that is written stands clean in its line.
-use Rattle.std.proofs.Common.{◌≡◌, ℕ, suc, ◌+◌, ◌<◌, ◌≤◌, ◌^◌, true, List, [], ◌∷◌, ◌++◌, length, map, Some, refl, arith}
-use Rattle.std.specs.Prelude.{ℤ, pos, negsuc, neg_ℤ, ◌≤ℤ◌, int_le, slice_get, unsigned_abs, codes}
+use Rattle.std.proofs.Common.{◌≡◌, ℕ, ◌+◌, ◌<◌, ◌^◌, true, List, [], ◌∷◌, ◌++◌, length, map, Some, refl, arith}
+use Rattle.std.specs.Prelude.{ℤ, pos, negsuc, neg_ℤ, ◌≤ℤ◌, int_le, unsigned_abs, codes}
 use Rattle.std.specs.List.{AllByRecursion}
 use Rattle.std.specs.Fmt.{decimal, signed_decimal}
 use Rattle.std.proofs.lemmas.Int.{ints}
@@ -23,7 +23,7 @@ use Rattle.comtrade_read.proofs.WrittenRows.{int_le-is}
 use Rattle.comtrade_write.specs.Cfg.{names_fields, counts_fields, analog_fields, status_fields, rate_fields}
 use Rattle.comtrade_write.specs.Dates.{instant_fields}
 use Rattle.comtrade_read.proofs.HeadLines.{ends, tail, all_lines}
-use Rattle.comtrade_read.proofs.HeadTaken.{AnalogTaken, StatusTaken, HeadTaken}
+use Rattle.comtrade_read.proofs.HeadTaken.{AnalogTaken, StatusTaken, rate_taken, HeadTaken}
 
 number_clean : (n : ℕ) → n < 10 ^ 36 → IsClean (decimal n)
 number_clean n lt = clean_printed (decimal n) (printed_decimal n (omega arith))
@@ -88,12 +88,12 @@ statuses_clean : (n : ℕ) (cs : List StatusParts) → n + length cs < 10 ^ 36 �
 statuses_clean n [] lt h = tt
 statuses_clean n (c ∷ cs) lt h = (status_clean n c (omega arith) h.0, statuses_clean (n + 1) cs (omega arith) h.1)
 
-rates_clean : (rates : List Rate) → AllByRecursion (λ r. IsNumber r.samp) rates → ((j : ℕ) (r : Rate) → slice_get rates j ≡ Some r → r.endsamp ≤ 9999999999) → AllByRecursion IsCleanLine (map rate_fields rates)
+rates_clean : (before last : ℕ) (rates : List Rate) → AllByRecursion (λ r. IsNumber r.samp) rates → shape.rates_end before rates ≡ Some last → AllByRecursion IsCleanLine (map rate_fields rates)
 unfolding rate_fields
-rates_clean [] h e = tt
-rates_clean (r ∷ rs) h e =
-    let le = e 0 r refl in
-    ((decimal_clean r.samp h.0, (number_clean r.endsamp (omega arith), tt)), rates_clean rs h.1 (λ j x f. e (suc j) x f))
+rates_clean before last [] h e = tt
+rates_clean before last (r ∷ rs) h e =
+    let p = rate_taken before last r rs e in
+    ((decimal_clean r.samp h.0, (number_clean r.endsamp (omega (arith, p.1)), tt)), rates_clean r.endsamp last rs h.1 p.2)
 
 instant_clean : (t : ℤ) → Instant t → IsCleanLine (instant_fields t)
 unfolding instant_fields
@@ -125,7 +125,7 @@ head_clean h rows t =
               one_clean _ (decimal_clean h.line_freq t.numbers.line_freq),
               (
                 one_clean _ (number_clean h.nrates (omega arith)),
-                All-append IsCleanLine (map rate_fields h.rates) (ends h) (rates_clean h.rates t.numbers.rates (λ j r e. (t.rates.each j r e).1))
+                All-append IsCleanLine (map rate_fields h.rates) (ends h) (rates_clean 0 rows h.rates t.numbers.rates t.rates)
                     (instant_clean h.first t.first, (instant_clean h.trigger t.trigger, (one_clean _ (clean_printed (kind_text h.kind) (printed_kind h.kind)), (one_clean _ (decimal_clean h.timemult t.numbers.timemult), tt)))),
               ),
             )),

@@ -1,6 +1,6 @@
 -- What holds of a head that the writers don't refuse.
 use Rattle.std.proofs.Common.{◌≡◌, ℕ, zero, suc, ◌+◌, ◌-◌, ◌<◌, ◌≤◌, max, Bool, true, false, cond, ltb, leb, eqb, List, [], ◌∷◌, length, Option, Some, None, refl, ap, ◌∙◌, arith}
-use Rattle.std.specs.Prelude.{ℤ, pos, neg_ℤ, int_le, ◌&&◌, slice_get}
+use Rattle.std.specs.Prelude.{ℤ, pos, neg_ℤ, int_le, ◌&&◌}
 use Rattle.std.specs.List.{list_all, AllByRecursion}
 use Rattle.std.proofs.lemmas.Bool.{leb-true, ltb-true, eqb-true, and_parts}
 use Rattle.std.proofs.lemmas.Bool.Decides.{nat_tests}
@@ -11,8 +11,6 @@ use Rattle.comtrade_write.specs.Parts.{HeadParts}
 use Rattle.comtrade_write.specs.Numbered.{first_from}
 use Rattle.comtrade_write.specs.Shape as shape
 use Rattle.comtrade_write.specs.Refusals.{text_fault, names_refusal, analog_refusal, status_refusal, text_refusal}
-use Rattle.comtrade_read.specs.Spells.{sample_before}
-use Rattle.comtrade_read.specs.Data.{last_sample}
 use Rattle.comtrade_read.specs.ReadBack.{HasDecimals, HasNumbers}
 use Rattle.comtrade_read.proofs.WrittenDates.{Instant, instant_written}
 use Rattle.comtrade_read.proofs.WrittenRows.{int_le-is}
@@ -67,43 +65,13 @@ status_taken n (c ∷ cs) e =
       status_taken (n + 1) cs p.1,
     )
 
--- rates whose last samples don't fall
-pub record RatesTaken (before : ℕ) (rates : List Rate) (last : ℕ) : Type 0 where
-  pub each : (j : ℕ) (r : Rate) → slice_get rates j ≡ Some r → (cond (eqb j 0) before (sample_before rates j) ≤ r.endsamp) × (r.endsamp ≤ 9999999999)
-  pub end : 0 < length rates → last_sample rates ≡ last
-
-before_next : (before : ℕ) (x : Rate) (xs : List Rate) (j : ℕ) → cond (eqb (suc j) 0) before (sample_before (x ∷ xs) (suc j)) ≡ cond (eqb j 0) x.endsamp (sample_before xs j)
-before_next before x xs zero = refl
-before_next before x xs (suc j) =
-    let a : eqb (suc (suc j)) 0 ≡ false = grind (arith, nat_tests) in
-    let b : eqb (suc j) 0 ≡ false = grind (arith, nat_tests) in
-    let c : suc (suc j) - 1 ≡ suc j = omega arith in
-    let d : suc j - 1 ≡ j = omega arith in
-    rw (a, b, c, d) refl
-
-last_next : (x : Rate) (xs : List Rate) (last : ℕ) → shape.rates_end x.endsamp xs ≡ Some last → (0 < length xs → last_sample xs ≡ last) → last_sample (x ∷ xs) ≡ last
-last_next x [] last e h = cc
-last_next x (y ∷ ys) last e h =
-    let c : suc (suc (length ys)) - 1 ≡ suc (length ys) = omega arith in
-    let d : suc (length ys) - 1 ≡ length ys = omega arith in
-    let g : last_sample (y ∷ ys) ≡ last = h (omega arith) in
-    rw c (rw d at g)
-
-rates_taken : (before : ℕ) (rates : List Rate) (last : ℕ) → shape.rates_end before rates ≡ Some last → RatesTaken before rates last
-rates_taken before [] last e = record { each = λ j r g. absurd cc; end = λ lt. absurd (omega arith) }
-rates_taken before (x ∷ xs) last e = with_test (shape.endsamp_fits before x.endsamp) refl e (λ g. rates_taken x.endsamp xs last g)
+-- the first of the rates, and those behind it
+pub rate_taken : (before last : ℕ) (r : Rate) (rs : List Rate) → shape.rates_end before (r ∷ rs) ≡ Some last → (before ≤ r.endsamp) × (r.endsamp ≤ 9999999999) × (shape.rates_end r.endsamp rs ≡ Some last)
+rate_taken before last r rs e = with_test (shape.endsamp_fits before r.endsamp) refl e
   where
-    each : (leb before x.endsamp ≡ true) × (leb x.endsamp 9999999999 ≡ true) → RatesTaken x.endsamp xs last → (j : ℕ) (r : Rate) → slice_get (x ∷ xs) j ≡ Some r
-        → (cond (eqb j 0) before (sample_before (x ∷ xs) j) ≤ r.endsamp) × (r.endsamp ≤ 9999999999)
-    each p more zero r f = let same : x ≡ r = cc in rw (← same) (leb-true before x.endsamp p.0, leb-true x.endsamp 9999999999 p.1)
-    each p more (suc j) r f = let q = more.each j r f in (rw (before_next before x xs j) q.0, q.1)
-
-    with_test : (b : Bool) → shape.endsamp_fits before x.endsamp ≡ b → cond b (shape.rates_end x.endsamp xs) None ≡ Some last → (shape.rates_end x.endsamp xs ≡ Some last → RatesTaken x.endsamp xs last) → RatesTaken before (x ∷ xs) last
-    with_test false t g rest = absurd cc
-    with_test true t g rest =
-        let p = and_parts (leb before x.endsamp) (leb x.endsamp 9999999999) t in
-        let more = rest g in
-        record { each = each p more; end = λ lt. last_next x xs last g more.end }
+    with_test : (b : Bool) → shape.endsamp_fits before r.endsamp ≡ b → cond b (shape.rates_end r.endsamp rs) None ≡ Some last → (before ≤ r.endsamp) × (r.endsamp ≤ 9999999999) × (shape.rates_end r.endsamp rs ≡ Some last)
+    with_test true t h = let p = and_parts (leb before r.endsamp) (leb r.endsamp 9999999999) t in (leb-true before r.endsamp p.0, leb-true r.endsamp 9999999999 p.1, h)
+    with_test false t h = absurd cc
 
 rate_line_count_max : (n : ℕ) → shape.rate_line_count n ≡ max 1 n
 rate_line_count_max zero = refl
@@ -120,7 +88,7 @@ pub record HeadTaken (h : HeadParts) (rows : ℕ) : Type 0 where
   pub few : length h.analog + length h.status < 1000000
   pub nrates : h.nrates ≤ 999
   pub rate_count : length h.rates ≡ max 1 h.nrates
-  pub rates : RatesTaken 0 h.rates rows
+  pub rates : shape.rates_end 0 h.rates ≡ Some rows
   pub first : Instant h.first
   pub trigger : Instant h.trigger
   pub station : is_name h.station ≡ true
@@ -156,7 +124,7 @@ head_taken h rows n s l t =
       few = omega arith;
       nrates = leb-true h.nrates 999 r.0;
       rate_count = eqb-true (length h.rates) (shape.rate_line_count h.nrates) r.1 ∙ rate_line_count_max h.nrates;
-      rates = rates_taken 0 h.rates rows (end_is (shape.rates_end 0 h.rates) rows l);
+      rates = end_is (shape.rates_end 0 h.rates) rows l;
       first = writable h.first i.0;
       trigger = writable h.trigger i.1;
       station = unless-none (is_name h.station) _ z.0;

@@ -1,8 +1,7 @@
-pub mod AnalogLine
+pub mod Signed
 pub mod Digits
 pub mod FirstFault
 pub mod Chain
-pub mod HeadRead
 pub mod RowLine
 pub mod OneByOne
 pub mod Outcomes
@@ -13,9 +12,12 @@ pub mod LineEnds
 pub mod Joining
 pub mod Cutting
 pub mod Each
+pub mod Places
+pub mod Stages
+pub mod HeadRead
 pub mod Spelled
-pub mod HeadSpelled
 pub mod NoReturn
+pub mod HeadSays
 pub mod TextSpelled
 pub mod BinaryNumbers
 pub mod BinaryGroups

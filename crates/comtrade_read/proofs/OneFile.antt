@@ -65,10 +65,10 @@ no_rows h dat e f rows r = as_fault h.kind (length h.analog) (length h.status) (
 -- ---- heads and files
 
 pub no_head : (cfg : List ℕ) (e : ReadFault) → FaultyHead cfg e → (h : HeadParts) → ReadsHead cfg h → ⊥
-no_head cfg e f h r = no_fault _ _ e (cfg_only cfg h r).0 f
+no_head cfg e f h r = let g = cfg_only cfg h r in absurd cc
 
 pub one_head : (cfg : List ℕ) (g h : HeadParts) → ReadsHead cfg g → ReadsHead cfg h → g ≡ h
-one_head cfg g h r s = (cfg_only cfg g r).1 ∙ sym (cfg_only cfg h s).1
+one_head cfg g h r s = let a = cfg_only cfg g r in let b = cfg_only cfg h s in cc
 
 pub rows_same : (h : HeadParts) (dat : List ℕ) (a b : List RowParts) → ReadsRows h dat a → ReadsRows h dat b → a ≡ b
 rows_same h dat a b r s = as_same h.kind (length h.analog) (length h.status) (row_count h) dat a b (rows_only h dat a r) (rows_only h dat b s)

@@ -1,7 +1,6 @@
 -- From what was computed to what is said of the lines.
-use Rattle.std.proofs.Common.{◌≡◌, Option, Some, ℕ, ◌+◌, ◌-◌, ◌*◌, ◌<◌, ◌≤◌, List, length, take, drop, arith, length-drop}
+use Rattle.std.proofs.Common.{◌≡◌, ℕ, ◌+◌, ◌-◌, ◌*◌, ◌<◌, ◌≤◌, List, length, take, drop, arith, length-drop}
 use Rattle.std.specs.Prelude.{◌≢◌, Result, Ok, Err, IfOk, IfErr}
-use Rattle.std.specs.Result.{IsErrAnd}
 use Rattle.std.proofs.Math.Nat.{mul-le-mul_right}
 use Rattle.std.proofs.lemmas.List.{take_all}
 use Rattle.comtrade_read.specs.declared.fault.ReadFault.{ReadFault}
@@ -46,8 +45,3 @@ says h kind k m count dat t rows o = rw (t.kind_is, t.k_is, t.m_is, t.count_is) 
 
 pub fails : (h : HeadParts) (kind : Kind) (k m count : ℕ) (dat : List ℕ) → Taken h kind k m count → (e : ReadFault) → (e ≢ faults.Memory → FaultyAs kind k m count dat e) → e ≢ faults.Memory → FaultyData h dat e
 fails h kind k m count dat t e o n = rw (t.kind_is, t.k_is, t.m_is, t.count_is) (o n)
-
--- what `?` returns of a fault
-pub gives_fault : {X Y : Type 0} (view : X → Y) (fault : Option ReadFault) (value : Y) (e : ReadFault) (r : Result X ReadFault) → IsErrAnd r (λ x. x ≡ e) → (e ≢ faults.Memory → fault ≡ Some e) → Gives view fault value r
-gives_fault view fault value e (Ok x) is h = absurd is
-gives_fault view fault value e (Err x) is h = rw is h

@@ -1,5 +1,5 @@
 -- Rows in the writers' spelling are rows by the full rule.
-use Rattle.std.proofs.Common.{◌≡◌, ℕ, suc, ◌+◌, ◌-◌, ◌<◌, ◌≤◌, List, [], ◌∷◌, ◌++◌, length, get_or, take, drop, Bool, true, false, cond, eqb, ltb, Option, Some, refl, sym, ap, ◌∙◌, arith, length-drop, ◌*◌, ◌⊎◌, ⊎_elim, set, slice_index}
+use Rattle.std.proofs.Common.{◌≡◌, ℕ, suc, ◌+◌, ◌<◌, List, [], ◌∷◌, ◌++◌, length, get_or, take, drop, Bool, true, false, cond, eqb, ltb, Option, Some, refl, sym, ap, ◌∙◌, arith, length-drop, ◌*◌, ◌⊎◌, ⊎_elim, set, slice_index}
 use Rattle.std.specs.Prelude.{◌==◌, unwrap_or, ℤ, pos, negsuc, option_map}
 use Rattle.std.proofs.lemmas.Bool.{lt-ltb, ltb-true, ltb-false}
 use Rattle.std.proofs.lemmas.List.{drop-drop, drop_more, drop_all, get_or-drop, take_all, take_more_set}

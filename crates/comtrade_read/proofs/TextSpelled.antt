@@ -1,22 +1,20 @@
 -- Texts: what is read of them is what they spell, and nothing else.
-use Rattle.std.proofs.Common.{◌≡◌, ℕ, zero, suc, ◌+◌, ◌-◌, ◌<◌, ◌≤◌, Bool, true, false, ltb, List, [], ◌∷◌, length, map, Some, None, refl, sym, ap, ◌∙◌, arith, inl, inr}
-use Rattle.std.specs.Prelude.{◌≢◌, ◌⊎◌, slice_index_or}
+use Rattle.std.proofs.Common.{◌≡◌, ℕ, zero, suc, ◌+◌, ◌<◌, ◌≤◌, Bool, true, false, ltb, List, [], ◌∷◌, length, map, Some, None, refl, sym, ap, ◌∙◌, arith, inl, inr}
+use Rattle.std.specs.Prelude.{◌≢◌, ◌⊎◌, slice_index_or, Ok}
 use Rattle.std.specs.List.{before_first}
 use Rattle.std.proofs.lemmas.List.{length-map}
 use Rattle.std.proofs.lemmas.List.FromFn.{length-map-range_with_len}
 use Rattle.std.proofs.lemmas.Bool.{ltb-true, ltb-false}
 use Rattle.dfr_channels.specs.Faults.{◌or◌}
-use Rattle.dfr_channels.specs.Spelling.{Number}
 use Rattle.dfr_channels.specs.Lines.{field, fields, lines, line_fields}
 use Rattle.comtrade_write.specs.Parts.{HeadParts, RowParts}
 use Rattle.dfr_channels.specs.Fields.{bit}
-use Rattle.comtrade_read.specs.Fields.{scale}
 use Rattle.comtrade_read.specs.Inner.LineFaults.{file_fault, line_fault, extra_fault, first_in}
 use Rattle.comtrade_read.specs.Faulty.{AllObey}
 use Rattle.comtrade_read.specs.Ascii.{value, data_lines, row_rule, row_rules, is_end_mark}
 use Rattle.comtrade_read.specs.Inner.RowValues.{row_value, row_items, row_faults, row_chain}
-use Rattle.comtrade_read.specs.Inner.HeadValues.{SaysHead}
-use Rattle.comtrade_read.specs.Spells.{EachFrom, fields_at, SpellsAnalog, SpellsStatus, SpellsRate, SpellsHead, SpellsRow, sample_before}
+use Rattle.comtrade_read.specs.Head.{head}
+use Rattle.comtrade_read.specs.Spells.{EachFrom, fields_at, SpellsRow}
 use Rattle.comtrade_read.specs.Reads.{ReadsHead, ReadsAscii}
 use Rattle.comtrade_read.proofs.Each.{all_at, each_at, each_made, each_same, none_each, each_none}
 use Rattle.comtrade_read.proofs.FirstFault.{fields_again, line_none, file_complete, file_sound}
@@ -24,8 +22,9 @@ use Rattle.comtrade_read.proofs.RowLine.{rows_are, row_is, row_many}
 use Rattle.comtrade_read.proofs.LineEnds.{EndsPlain, EndsFull}
 use Rattle.comtrade_read.proofs.Joining.{cut_again}
 use Rattle.comtrade_read.proofs.Cutting.{joined_of}
-use Rattle.comtrade_read.proofs.HeadSpelled.{head_found, head_only, line_at, line_again, end_is, end_again}
-use Rattle.comtrade_read.proofs.NoReturn.{ends_plain, no_return, whole_plain, natural_plain, bit_plain, free_bit_plain, stamp_plain, value_plain, scale_plain, free_scale_plain, side_plain, count_plain, time_plain, kind_plain}
+use Rattle.comtrade_read.proofs.Places.{line_is, line_again, end_is, end_again}
+use Rattle.comtrade_read.proofs.HeadSays.{head_said}
+use Rattle.comtrade_read.proofs.NoReturn.{no_return, bit_plain, stamp_plain, value_plain}
 use Rattle.comtrade_read.proofs.Spelled.{row_found, row_only, row_same}
 use Rattle.dfr_channels.proofs.Lawful.{or-none}
 
@@ -36,83 +35,13 @@ below i a = with_test (ltb i a) refl
     with_test true t = inl (ltb-true i a t)
     with_test false t = inr (ltb-false i a t)
 
--- ---- the ends of a head's lines
-
-abbrev Ends : List (List (List ℕ)) → ℕ → Type 0
-Ends ls i = EndsPlain (slice_index_or ls i [])
-
-moved : (ls : List (List (List ℕ))) (i j : ℕ) → i ≡ j → Ends ls j → Ends ls i
-moved ls i j e h = rw e h
-
-head_ends : (ls : List (List (List ℕ))) (h : HeadParts) → SpellsHead ls h → (i : ℕ) → i < length ls → Ends ls i
-head_ends ls h s i lt =
-    let k = length h.analog in
-    let m = length h.status in
-    let r = length h.rates in
-    elim (below i 1) [
-      | inl a ↦ moved ls i 0 (omega arith) (no_return (fields_at ls 0) 2 s.names.many (whole_plain (field (fields_at ls 0) 2) _ s.names.revision))
-      | inr a ↦ elim (below i 2) [
-        | inl b ↦ moved ls i 1 (omega arith) (ends_plain (fields_at ls 1) 2 s.counts.many (count_plain 68 (field (fields_at ls 1) 2) _ refl s.counts.status))
-        | inr b ↦ elim (below i (2 + k)) [
-          | inl c ↦
-              let x = each_at (λ i c. SpellsAnalog (i + 1) (fields_at ls (2 + i)) c) 0 h.analog (i - 2) s.analog (omega arith) in
-              moved ls i (2 + (0 + (i - 2))) (omega arith) (no_return (fields_at ls (2 + (0 + (i - 2)))) 12 x.holds_it.many (side_plain (field (fields_at ls (2 + (0 + (i - 2)))) 12) _ x.holds_it.side))
-          | inr c ↦ elim (below i (2 + k + m)) [
-            | inl d ↦
-                let x = each_at (λ i c. SpellsStatus (i + 1) (fields_at ls (2 + k + i)) c) 0 h.status (i - (2 + k)) s.status (omega arith) in
-                moved ls i (2 + k + (0 + (i - (2 + k)))) (omega arith) (no_return (fields_at ls (2 + k + (0 + (i - (2 + k))))) 4 x.holds_it.many (free_bit_plain (field (fields_at ls (2 + k + (0 + (i - (2 + k))))) 4) _ x.holds_it.normal))
-            | inr d ↦ elim (below i (3 + k + m)) [
-              | inl e ↦ moved ls i (2 + k + m) (omega arith) (no_return (fields_at ls (2 + k + m)) 0 s.line_freq.many (free_scale_plain (field (fields_at ls (2 + k + m)) 0) _ s.line_freq.field))
-              | inr e ↦ elim (below i (4 + k + m)) [
-                | inl f ↦ moved ls i (3 + k + m) (omega arith) (no_return (fields_at ls (3 + k + m)) 0 s.nrates.many (natural_plain 999 (field (fields_at ls (3 + k + m)) 0) _ s.nrates.field))
-                | inr f ↦ elim (below i (4 + k + m + r)) [
-                  | inl g ↦
-                      let x = each_at (λ i r. SpellsRate (sample_before h.rates i) (fields_at ls (4 + k + m + i)) r) 0 h.rates (i - (4 + k + m)) s.rates (omega arith) in
-                      moved ls i (4 + k + m + (0 + (i - (4 + k + m)))) (omega arith) (no_return (fields_at ls (4 + k + m + (0 + (i - (4 + k + m))))) 1 x.holds_it.many (natural_plain 9999999999 (field (fields_at ls (4 + k + m + (0 + (i - (4 + k + m))))) 1) _ x.holds_it.endsamp))
-                  | inr g ↦ elim (below i (5 + k + m + r)) [
-                    | inl j ↦ moved ls i (4 + k + m + r) (omega arith) (no_return (fields_at ls (4 + k + m + r)) 1 s.first.many (time_plain (field (fields_at ls (4 + k + m + r)) 1) _ s.first.time))
-                    | inr j ↦ elim (below i (6 + k + m + r)) [
-                      | inl l ↦ moved ls i (5 + k + m + r) (omega arith) (no_return (fields_at ls (5 + k + m + r)) 1 s.trigger.many (time_plain (field (fields_at ls (5 + k + m + r)) 1) _ s.trigger.time))
-                      | inr l ↦ elim (below i (7 + k + m + r)) [
-                        | inl o ↦ moved ls i (6 + k + m + r) (omega arith) (no_return (fields_at ls (6 + k + m + r)) 0 s.kind.many (kind_plain (field (fields_at ls (6 + k + m + r)) 0) _ s.kind.field))
-                        | inr o ↦ moved ls i (7 + k + m + r) (omega (arith, s.count)) (no_return (fields_at ls (7 + k + m + r)) 0 s.timemult.many (scale_plain (field (fields_at ls (7 + k + m + r)) 0) _ s.timemult.field))
-                      ]
-                    ]
-                  ]
-                ]
-              ]
-            ]
-          ]
-        ]
-      ]
-    ]
-
-full_at : (ls : List (List (List ℕ))) (n : ℕ) → length ls ≡ suc n → slice_index_or ls n [] ≢ [] ∷ [] → EndsFull ls
-full_at [] n e h = tt
-full_at (l ∷ []) zero e h = h
-full_at (l ∷ []) (suc n) e h = absurd (omega arith)
-full_at (l ∷ x ∷ ls) zero e h = absurd (omega arith)
-full_at (l ∷ x ∷ ls) (suc n) e h = full_at (x ∷ ls) n (omega arith) h
-
-no_scale : (fs : List (List ℕ)) (x : Number) → scale (field fs 0) ≡ Some x → fs ≢ [] ∷ []
-unfolding scale
-no_scale fs x h e = let g : scale [] ≡ Some x = rw e at h in absurd cc
-
-head_full : (ls : List (List (List ℕ))) (h : HeadParts) → SpellsHead ls h → EndsFull ls
-head_full ls h s =
-    let n = 7 + length h.analog + length h.status + length h.rates in
-    full_at ls n (omega (arith, s.count)) (no_scale (fields_at ls n) h.timemult s.timemult.field)
-
 -- ---- a configuration file
 
-pub cfg_spelled : (cfg : List ℕ) (h : HeadParts) → SaysHead cfg h → ReadsHead cfg h
-cfg_spelled cfg h s = record { lines = map fields (lines cfg); joined = joined_of cfg; head = rw s.1 (head_found (lines cfg) s.0) }
+pub cfg_only : (cfg : List ℕ) (h : HeadParts) → ReadsHead cfg h → head (map fields (lines cfg)) ≡ Ok h
+cfg_only cfg h r = let s = head_said r.lines h r.head in rw (cut_again cfg r.lines r.joined s.plain s.full) r.head
 
-pub cfg_only : (cfg : List ℕ) (h : HeadParts) → ReadsHead cfg h → SaysHead cfg h
-cfg_only cfg h r =
-    let cut : map fields (lines cfg) ≡ r.lines = cut_again cfg r.lines r.joined (all_at EndsPlain [] r.lines (head_ends r.lines h r.head)) (head_full r.lines h r.head) in
-    let s : SpellsHead (map fields (lines cfg)) h = rw cut r.head in
-    head_only (lines cfg) h s
+pub cfg_spelled : (cfg : List ℕ) (h : HeadParts) → head (map fields (lines cfg)) ≡ Ok h → ReadsHead cfg h
+cfg_spelled cfg h e = record { lines = map fields (lines cfg); joined = joined_of cfg; head = e }
 
 -- ---- ASCII data
 
@@ -127,7 +56,7 @@ lines_found ls k m n o =
           let fs = line_fields ls j in
           let len : length fs ≡ 2 + k + m = x.fields.many ∙ row_many k m in
           let chain : row_chain k m 0 fs ≡ None = sym (row_is k m 0 fs len) ∙ fields_again (row_rule k m) 0 fs x.fields in
-          rw (line_at ls j x.there) (row_found k m 0 fs len chain)),
+          rw (line_is ls j x.there) (row_found k m 0 fs len chain)),
     )
   where
     count : (n : ℕ) → ((i : ℕ) → i < n → line_fault ls (row_rule k m) i ≡ None) → length ls ≤ n → length ls ≡ n
@@ -177,7 +106,7 @@ ascii_only k m dat rows r =
     (all_full r.lines (λ i lt. let p = row i lt in row_full k m (fields_at r.lines i) p.0 p.1)) in
     let each : EachFrom (λ i r'. SpellsRow k m (fields_at (map fields ls) i) r') 0 rows = rw cut r.each in
     let len : length ls ≡ n = sym (length-map ls fields) ∙ ap length cut ∙ r.count in
-    let here : (j : ℕ) (x : RowParts) → j < n → SpellsRow k m (fields_at (map fields ls) j) x → SpellsRow k m (line_fields ls j) x = λ j x lt s. rw (line_at ls j (omega arith)) at s in
+    let here : (j : ℕ) (x : RowParts) → j < n → SpellsRow k m (fields_at (map fields ls) j) x → SpellsRow k m (line_fields ls j) x = λ j x lt s. rw (line_is ls j (omega arith)) at s in
     let faults : first_in (row_faults k m ls) n ≡ None = each_none (row_faults k m ls) n (λ j lt.
     let x = each_at (λ i r'. SpellsRow k m (fields_at (map fields ls) i) r') 0 rows j each lt in
     let z : 0 + j ≡ j = omega arith in

@@ -1,192 +1,157 @@
 -- A configuration file that is written is read.
-use Rattle.std.proofs.Common.{◌≡◌, ℕ, zero, suc, ◌+◌, ◌<◌, ◌≤◌, ◌^◌, true, false, cond, eqb, List, [], ◌∷◌, ◌++◌, length, map, get_or, Option, Some, refl, ap, ◌∙◌, arith, length-append}
-use Rattle.std.specs.Prelude.{ℤ, pos, neg_ℤ, int_le, slice_get, slice_index_or}
+use Rattle.std.proofs.Common.{◌≡◌, ℕ, suc, ◌+◌, ◌<◌, ◌≤◌, ◌^◌, true, eqb, List, [], ◌∷◌, ◌++◌, length, map, Some, refl, sym, ap, ◌∙◌, arith, append_assoc, length-append}
+use Rattle.std.specs.Prelude.{ℤ, pos, neg_ℤ, int_le, Result, Ok}
+use Rattle.std.specs.List.{AllByRecursion}
 use Rattle.std.specs.Fmt.{decimal, signed_decimal}
-use Rattle.std.proofs.lemmas.List.{get_or-append-add, length-map}
-use Rattle.std.proofs.Math.ListN.{get_or-append}
-use Rattle.std.proofs.lemmas.Bool.{and_parts}
+use Rattle.std.proofs.lemmas.List.{append-nil}
+use Rattle.std.proofs.lemmas.Bool.{and_parts, le-leb, lt-ltb}
 use Rattle.std.proofs.lemmas.Bool.Decides.{nat_tests}
-use Rattle.dfr_channels.specs.Spelling.{IsNumber}
+use Rattle.dfr_channels.specs.Spelling.{IsNumber, Number}
 use Rattle.dfr_channels.specs.Written.{decimal_text}
 use Rattle.dfr_channels.specs.Parts.{AnalogParts, StatusParts}
+use Rattle.comtrade_write.specs.declared.file.Kind.{Kind}
 use Rattle.comtrade_write.specs.declared.file.Rate.{Rate}
 use Rattle.comtrade_write.specs.Parts.{HeadParts}
 use Rattle.comtrade_write.specs.Numbered.{numbered}
-use Rattle.comtrade_write.specs.Dates.{day_number, time_of_day}
-use Rattle.comtrade_write.specs.Cfg.{kind_text, cfg}
+use Rattle.comtrade_write.specs.Dates.{day_number, time_of_day, instant_fields}
+use Rattle.comtrade_write.specs.Cfg.{kind_text, names_fields, counts_fields, analog_fields, status_fields, rate_fields, cfg}
 use Rattle.comtrade_write.specs.Shape as shape
-use Rattle.dfr_channels.specs.Fields.{free_scale}
-use Rattle.comtrade_read.specs.Fields.{natural, small, scale}
-use Rattle.comtrade_read.specs.Head.{kind}
-use Rattle.comtrade_read.specs.Spells.{sample_before, SpellsNames, SpellsCounts, SpellsAnalog, SpellsStatus, SpellsRate, SpellsInstant, SpellsOne, SpellsHead}
+use Rattle.comtrade_read.specs.Fields.{small}
+use Rattle.comtrade_read.specs.Line.{Fault, Lines, each}
 use Rattle.comtrade_read.specs.Data.{last_sample}
+use Rattle.comtrade_read.specs.Head.{names_line, counts_line, analog_line, status_line, frequency_line, nrates_line, rate_line, instant_line, kind_line, timemult_line, next_rate, head}
 use Rattle.comtrade_read.specs.Reads.{ReadsHead}
 use Rattle.comtrade_read.proofs.WrittenFields.{whole_written, natural_written, small_written, count_written, scale_written, free_scale_written, side_written, free_bit_written, kind_written, revision_written}
 use Rattle.comtrade_read.proofs.WrittenLines.{written_joined}
 use Rattle.comtrade_read.proofs.WrittenDates.{Instant, date_written, time_written}
-use Rattle.comtrade_read.proofs.WrittenRows.{int_le-is, each_by, got_map, got_below, all_got}
-use Rattle.comtrade_write.specs.Cfg.{names_fields, counts_fields, analog_fields, status_fields, rate_fields}
-use Rattle.comtrade_write.specs.Dates.{instant_fields}
+use Rattle.comtrade_read.proofs.WrittenRows.{int_le-is}
 use Rattle.comtrade_read.proofs.HeadLines.{ends, tail, all_lines, cfg_lines}
-use Rattle.comtrade_read.proofs.HeadTaken.{AnalogTaken, HeadTaken}
+use Rattle.comtrade_read.proofs.HeadRead.{last_added}
+use Rattle.comtrade_read.proofs.HeadTaken.{AnalogTaken, StatusTaken, rate_taken, HeadTaken}
+use Rattle.comtrade_read.proofs.Stages.{after_rates, after_nrates, after_status, after_analog}
 use Rattle.comtrade_read.proofs.HeadClean.{head_clean}
 
-length-numbered : {X Y : Type 0} (f : ℕ → X → Y) (n : ℕ) (xs : List X) → length (numbered f n xs) ≡ length xs
-length-numbered f n [] = refl
-length-numbered f n (x ∷ xs) = ap suc (length-numbered f (n + 1) xs)
+eqb-same : (n : ℕ) → eqb n n ≡ true
+eqb-same n = grind (arith, nat_tests)
 
-got_numbered : {X Y : Type 0} (f : ℕ → X → Y) (n : ℕ) (xs : List X) (j : ℕ) (d : Y) (x : X) → slice_get xs j ≡ Some x → get_or (numbered f n xs) j d ≡ f (n + j) x
-got_numbered f n [] j d x e = absurd cc
-got_numbered f n (y ∷ ys) zero d x e = let same : y ≡ x = cc in let z : n + 0 ≡ n = omega arith in rw z (ap (f n) same)
-got_numbered f n (y ∷ ys) (suc j) d x e = let s : n + suc j ≡ n + 1 + j = omega arith in rw s (got_numbered f (n + 1) ys j d x e)
+-- ---- a line of each kind
 
-analog_at : (h : HeadParts) (j : ℕ) (c : AnalogParts) → slice_get h.analog j ≡ Some c → get_or (all_lines h) (2 + j) [] ≡ analog_fields (j + 1) c
-analog_at h j c e =
-    let A = numbered analog_fields 1 h.analog in
-    let rest = numbered status_fields 1 h.status ++ tail h in
-    let lt = got_below h.analog j c e in
-    let s : 2 + j ≡ suc (suc j) = omega arith in
-    let n : 1 + j ≡ j + 1 = omega arith in
-    rw s (get_or-append A rest [] j (omega (arith, length-numbered analog_fields 1 h.analog)) ∙ got_numbered analog_fields 1 h.analog j [] c e ∙ ap (λ (i : ℕ). analog_fields i c) n)
+names_written : (station device : List ℕ) → names_line (names_fields station device) ≡ Ok (station, device)
+unfolding names_fields names_line
+names_written station device = rw revision_written refl
 
-status_at : (h : HeadParts) (j : ℕ) (c : StatusParts) → slice_get h.status j ≡ Some c → get_or (all_lines h) (2 + length h.analog + j) [] ≡ status_fields (j + 1) c
-status_at h j c e =
-    let A = numbered analog_fields 1 h.analog in
-    let S = numbered status_fields 1 h.status in
-    let lt = got_below h.status j c e in
-    let s : 2 + length h.analog + j ≡ suc (suc (length A + j)) = omega (arith, length-numbered analog_fields 1 h.analog) in
-    let n : 1 + j ≡ j + 1 = omega arith in
-    rw s (get_or-append-add A (S ++ tail h) j [] ∙ get_or-append S (tail h) [] j (omega (arith, length-numbered status_fields 1 h.status)) ∙ got_numbered status_fields 1 h.status j [] c e ∙ ap (λ (i : ℕ). status_fields i c) n)
+counts_written : (k m : ℕ) → 0 < k + m → k + m < 1000000 → counts_line (counts_fields k m) ≡ Ok (k, m)
+unfolding counts_fields counts_line
+counts_written k m some few =
+    rw (natural_written 999999 (k + m) (omega arith) (omega arith), count_written 65 k (omega arith), count_written 68 m (omega arith), eqb-same (k + m), lt-ltb 0 (k + m) some) refl
 
-tail_at : (h : HeadParts) (i j : ℕ) → i ≡ 2 + length h.analog + length h.status + j → get_or (all_lines h) i [] ≡ get_or (tail h) j []
-tail_at h i j e =
-    let A = numbered analog_fields 1 h.analog in
-    let S = numbered status_fields 1 h.status in
-    let s : i ≡ suc (suc (length A + (length S + j))) = omega (arith, length-numbered analog_fields 1 h.analog, length-numbered status_fields 1 h.status) in
-    rw s (get_or-append-add A (S ++ tail h) (length S + j) [] ∙ get_or-append-add S (tail h) j [])
-
-ends_at : (h : HeadParts) (i j : ℕ) → i ≡ 4 + length h.analog + length h.status + length h.rates + j → get_or (all_lines h) i [] ≡ get_or (ends h) j []
-ends_at h i j e =
-    let R = map rate_fields h.rates in
-    tail_at h i (suc (suc (length R + j))) (omega (arith, length-map h.rates rate_fields)) ∙ get_or-append-add R (ends h) j []
-
-rate_at : (h : HeadParts) (j : ℕ) (r : Rate) → slice_get h.rates j ≡ Some r → get_or (all_lines h) (4 + length h.analog + length h.status + j) [] ≡ rate_fields r
-rate_at h j r e =
-    let R = map rate_fields h.rates in
-    let lt = got_below h.rates j r e in
-    tail_at h (4 + length h.analog + length h.status + j) (suc (suc j)) (omega arith)
-    ∙ get_or-append R (ends h) [] j (omega (arith, length-map h.rates rate_fields))
-    ∙ got_map rate_fields h.rates j [] r e
-
-names_spelled : (station device : List ℕ) → SpellsNames (names_fields station device) station device
-unfolding names_fields
-names_spelled station device = record { many = refl; station = refl; device = refl; revision = revision_written }
-
-counts_spelled : (k m : ℕ) → 0 < k + m → k + m < 1000000 → SpellsCounts (counts_fields k m) k m
-unfolding counts_fields
-counts_spelled k m some few = record {
-  many = refl;
-  total = natural_written 999999 (k + m) (omega arith) (omega arith);
-  analog = count_written 65 k (omega arith);
-  status = count_written 68 m (omega arith);
-  some = some;
-}
-
-small_spelled : (z : ℤ) → shape.in_bounds z ≡ true → small (signed_decimal z) ≡ Some z
-small_spelled z e =
+small_taken : (z : ℤ) → shape.in_bounds z ≡ true → small (signed_decimal z) ≡ Some z
+small_taken z e =
     let p = and_parts (int_le (neg_ℤ (pos 99_999)) z) (int_le z (pos 99_999)) e in
     small_written z (int_le-is (neg_ℤ (pos 99_999)) z p.0) (int_le-is z (pos 99_999) p.1)
 
-analog_spelled : (n : ℕ) (c : AnalogParts) → n < 10 ^ 36 → AnalogTaken c → SpellsAnalog n (analog_fields n c) c
-unfolding analog_fields
-analog_spelled n c lt t =
+analog_written : (n : ℕ) (c : AnalogParts) → n < 10 ^ 36 → AnalogTaken c → analog_line n (analog_fields n c) ≡ Ok c
+unfolding analog_fields analog_line
+analog_written n c lt t =
     let b = and_parts (shape.in_bounds c.min) (shape.in_bounds c.max) t.bounds in
-    record {
-      many = refl;
-      number = whole_written n lt;
-      id = refl;
-      phase = refl;
-      component = refl;
-      unit = refl;
-      a = scale_written c.a t.scale.a;
-      b = free_scale_written c.b t.scale.b;
-      skew = free_scale_written c.skew t.scale.skew;
-      min = small_spelled c.min b.0;
-      max = small_spelled c.max b.1;
-      primary = free_scale_written c.primary t.scale.primary;
-      secondary = free_scale_written c.secondary t.scale.secondary;
-      side = side_written c.side;
-    }
+    rw (
+      whole_written n lt,
+      scale_written c.a t.scale.a,
+      free_scale_written c.b t.scale.b,
+      free_scale_written c.skew t.scale.skew,
+      small_taken c.min b.0,
+      small_taken c.max b.1,
+      free_scale_written c.primary t.scale.primary,
+      free_scale_written c.secondary t.scale.secondary,
+      side_written c.side,
+      eqb-same n,
+    ) refl
 
-status_spelled : (n : ℕ) (c : StatusParts) → n < 10 ^ 36 → SpellsStatus n (status_fields n c) c
-unfolding status_fields
-status_spelled n c lt = record { many = refl; number = whole_written n lt; id = refl; phase = refl; component = refl; normal = free_bit_written c.normal }
+status_written : (n : ℕ) (c : StatusParts) → n < 10 ^ 36 → status_line n (status_fields n c) ≡ Ok c
+unfolding status_fields status_line
+status_written n c lt = rw (whole_written n lt, free_bit_written c.normal, eqb-same n) refl
 
-rate_spelled : (before : ℕ) (r : Rate) → IsNumber r.samp → before ≤ r.endsamp → r.endsamp ≤ 9999999999 → SpellsRate before (rate_fields r) r
-unfolding rate_fields
-rate_spelled before r h le few = record { many = refl; samp = scale_written r.samp h; endsamp = natural_written 9999999999 r.endsamp few (omega arith); after = le }
+rate_written : (before : ℕ) (r : Rate) → IsNumber r.samp → before ≤ r.endsamp → r.endsamp ≤ 9999999999 → rate_line before (rate_fields r) ≡ Ok r
+unfolding rate_fields rate_line
+rate_written before r h le few = rw (scale_written r.samp h, natural_written 9999999999 r.endsamp few (omega arith), le-leb before r.endsamp le) refl
 
-instant_spelled : (t : ℤ) → Instant t → SpellsInstant (instant_fields t) t
-unfolding instant_fields
-instant_spelled t i = record {
-  day = day_number t;
-  micros = time_of_day t;
-  many = refl;
-  date = date_written (day_number t) i.dated_day;
-  time = time_written (time_of_day t) i.small;
-  instant = i.is;
-}
+instant_said : (t : ℤ) → Instant t → instant_line (instant_fields t) ≡ Ok t
+unfolding instant_fields instant_line
+instant_said t i = rw (date_written (day_number t) i.dated_day, time_written (time_of_day t) i.small) (ap (λ (x : ℤ). Ok x) (sym i.is))
 
-one_spelled : {A : Type 0} (read : List ℕ → Option A) (f : List ℕ) (x : A) → read f ≡ Some x → SpellsOne read (f ∷ []) x
-one_spelled read f x e = record { many = refl; field = e }
+frequency_written : (d : Number) → IsNumber d → frequency_line (decimal_text d ∷ []) ≡ Ok d
+unfolding frequency_line
+frequency_written d h = rw (free_scale_written d h) refl
 
-before_is : (rates : List Rate) (j : ℕ) → cond (eqb j 0) 0 (sample_before rates j) ≡ sample_before rates j
-before_is rates zero = refl
-before_is rates (suc j) = let t : eqb (suc j) 0 ≡ false = grind (arith, nat_tests) in rw t refl
+nrates_written : (n : ℕ) → n ≤ 999 → nrates_line (decimal n ∷ []) ≡ Ok n
+unfolding nrates_line
+nrates_written n le = rw (natural_written 999 n le (omega arith)) refl
 
-lines_long : (h : HeadParts) → length (all_lines h) ≡ 8 + length h.analog + length h.status + length h.rates
-lines_long h =
-    let A = numbered analog_fields 1 h.analog in
-    let S = numbered status_fields 1 h.status in
-    let R = map rate_fields h.rates in
-    omega (arith, length-append A (S ++ tail h), length-append S (tail h), length-append R (ends h), length-numbered analog_fields 1 h.analog, length-numbered status_fields 1 h.status, length-map h.rates rate_fields)
+kind_said : (k : Kind) → kind_line (kind_text k ∷ []) ≡ Ok k
+unfolding kind_line
+kind_said k = rw (kind_written k) refl
 
-pub head_spelled : (h : HeadParts) (rows : ℕ) → HeadTaken h rows → SpellsHead (all_lines h) h
-head_spelled h rows t =
+timemult_written : (d : Number) → IsNumber d → timemult_line (decimal_text d ∷ []) ≡ Ok d
+unfolding timemult_line
+timemult_written d h = rw (scale_written d h) refl
+
+-- ---- lines of one kind
+
+numbered_written : {X C : Type 0} (says : ℕ → List (List ℕ) → Result X Fault) (f : ℕ → X → List (List ℕ)) (P : X → Type 0) (more : List X → Lines C) (before xs : List X) (line : ℕ) (rest : List (List (List ℕ)))
+    → ((n : ℕ) (x : X) → n < 10 ^ 36 → P x → says n (f n x) ≡ Ok x) → length before + length xs < 1000000 → AllByRecursion P xs
+    → each (λ b fs. says (length b + 1) fs) (length xs) before more line (numbered f (length before + 1) xs ++ rest) ≡ more (before ++ xs) (line + length xs) rest
+numbered_written says f P more before [] line rest w lt h = let z : line + 0 ≡ line = omega arith in rw (append-nil before, z) refl
+numbered_written says f P more before (x ∷ xs) line rest w lt h =
+    let here = w (length before + 1) x (omega arith) h.0 in
+    let len : length (before ++ x ∷ []) ≡ length before + 1 = omega (arith, length-append before (x ∷ [])) in
+    let s : line + 1 + length xs ≡ line + suc (length xs) = omega arith in
+    let moved : (before ++ x ∷ []) ++ xs ≡ before ++ x ∷ xs = append_assoc before (x ∷ []) xs in
+    let more_lines = numbered_written says f P more (before ++ x ∷ []) xs (line + 1) rest w (omega (arith, len)) h.1 in
+    rw here (rw (len, moved, s) at more_lines)
+
+rates_written : {C : Type 0} (more : List Rate → Lines C) (before rates : List Rate) (line last : ℕ) (rest : List (List (List ℕ))) → shape.rates_end (last_sample before) rates ≡ Some last → AllByRecursion (λ r. IsNumber r.samp) rates
+    → each next_rate (length rates) before more line (map rate_fields rates ++ rest) ≡ more (before ++ rates) (line + length rates) rest
+rates_written more before [] line last rest e h = let z : line + 0 ≡ line = omega arith in rw (append-nil before, z) refl
+rates_written more before (r ∷ rs) line last rest e h =
+    let p = rate_taken (last_sample before) last r rs e in
+    let here = rate_written (last_sample before) r h.0 p.0 p.1 in
+    let s : line + 1 + length rs ≡ line + suc (length rs) = omega arith in
+    let moved : (before ++ r ∷ []) ++ rs ≡ before ++ r ∷ rs = append_assoc before (r ∷ []) rs in
+    let g : shape.rates_end (last_sample (before ++ r ∷ [])) rs ≡ Some last = rw (last_added before r) p.2 in
+    let more_lines = rates_written more (before ++ r ∷ []) rs (line + 1) last rest g h.1 in
+    rw here (rw (moved, s) at more_lines)
+
+last_is : (before rates : List Rate) (last : ℕ) → shape.rates_end (last_sample before) rates ≡ Some last → last_sample (before ++ rates) ≡ last
+last_is before [] last e = rw (append-nil before) cc
+last_is before (r ∷ rs) last e =
+    let p = rate_taken (last_sample before) last r rs e in
+    let g : shape.rates_end (last_sample (before ++ r ∷ [])) rs ≡ Some last = rw (last_added before r) p.2 in
+    let moved : (before ++ r ∷ []) ++ rs ≡ before ++ r ∷ rs = append_assoc before (r ∷ []) rs in
+    rw moved at (last_is (before ++ r ∷ []) rs last g)
+
+-- ---- the file
+
+says_head : (h : HeadParts) (rows : ℕ) → HeadTaken h rows → head (all_lines h) ≡ Ok h
+unfolding head
+says_head h rows t =
+    let few = t.few in
     let k = length h.analog in
     let m = length h.status in
-    let r = length h.rates in
-    let few = t.few in
-    let nr = t.nrates in
-    record {
-      count = lines_long h;
-      names = names_spelled h.station h.device;
-      counts = counts_spelled k m t.some t.few;
-      analog = each_by (λ i c. SpellsAnalog (i + 1) (slice_index_or (all_lines h) (2 + i) []) c) 0 h.analog (λ j c e.
-          let z : 0 + j ≡ j = omega arith in
-          let lt = got_below h.analog j c e in
-          rw (z, analog_at h j c e) (analog_spelled (j + 1) c (omega arith) (all_got AnalogTaken h.analog j c t.analog e)));
-      status = each_by (λ i c. SpellsStatus (i + 1) (slice_index_or (all_lines h) (2 + k + i) []) c) 0 h.status (λ j c e.
-          let z : 0 + j ≡ j = omega arith in
-          let lt = got_below h.status j c e in
-          rw (z, status_at h j c e) (status_spelled (j + 1) c (omega arith)));
-      line_freq = rw (tail_at h (2 + k + m) 0 (omega arith)) (one_spelled free_scale (decimal_text h.line_freq) h.line_freq (free_scale_written h.line_freq t.numbers.line_freq));
-      nrates = rw (tail_at h (3 + k + m) 1 (omega arith)) (one_spelled (natural 999) (decimal h.nrates) h.nrates (natural_written 999 h.nrates nr (omega arith)));
-      rate_count = t.rate_count;
-      rates = each_by (λ i x. SpellsRate (sample_before h.rates i) (slice_index_or (all_lines h) (4 + k + m + i) []) x) 0 h.rates (λ j x e.
-          let z : 0 + j ≡ j = omega arith in
-          let p = t.rates.each j x e in
-          let le : sample_before h.rates j ≤ x.endsamp = rw (before_is h.rates j) at p.0 in
-          rw (z, rate_at h j x e) (rate_spelled (sample_before h.rates j) x (all_got (λ y. IsNumber y.samp) h.rates j x t.numbers.rates e) le p.1));
-      first = rw (ends_at h (4 + k + m + r) 0 (omega arith)) (instant_spelled h.first t.first);
-      trigger = rw (ends_at h (5 + k + m + r) 1 (omega arith)) (instant_spelled h.trigger t.trigger);
-      kind = rw (ends_at h (6 + k + m + r) 2 (omega arith)) (one_spelled kind (kind_text h.kind) h.kind (kind_written h.kind));
-      timemult = rw (ends_at h (7 + k + m + r) 3 (omega arith)) (one_spelled scale (decimal_text h.timemult) h.timemult (scale_written h.timemult t.numbers.timemult));
-    }
+    let at = 3 + k + m + 1 + 1 in
+    let names : List ℕ × List ℕ = (h.station, h.device) in
+    let last : after_rates names h.analog h.status h.line_freq h.nrates h.rates (at + length h.rates) (ends h) ≡ Ok h =
+    rw (instant_said h.first t.first, instant_said h.trigger t.trigger, kind_said h.kind, timemult_written h.timemult t.numbers.timemult) refl in
+    let rates : after_nrates names h.analog h.status h.line_freq h.nrates at (map rate_fields h.rates ++ ends h) ≡ Ok h =
+    rw (← t.rate_count) (rates_written (after_rates names h.analog h.status h.line_freq h.nrates) [] h.rates at rows (ends h) t.rates t.numbers.rates ∙ last) in
+    let tails : after_status names h.analog h.status (3 + k + m) (tail h) ≡ Ok h = rw (frequency_written h.line_freq t.numbers.line_freq, nrates_written h.nrates t.nrates) rates in
+    let status : after_analog names (k, m) h.analog (3 + k) (numbered status_fields 1 h.status ++ tail h) ≡ Ok h =
+    numbered_written status_line status_fields StatusTaken (after_status names h.analog) [] h.status (3 + k) (tail h) (λ n c lt s. status_written n c lt) (omega arith) t.status ∙ tails in
+    rw (names_written h.station h.device, counts_written k m t.some t.few)
+    (numbered_written analog_line analog_fields AnalogTaken (after_analog names (k, m)) [] h.analog 3 (numbered status_fields 1 h.status ++ tail h) analog_written (omega arith) t.analog ∙ status)
 
 pub head_written : (h : HeadParts) (rows : ℕ) → HeadTaken h rows → ReadsHead (cfg h) h
-head_written h rows t = record { lines = all_lines h; joined = rw (cfg_lines h) (written_joined (all_lines h) (head_clean h rows t)); head = head_spelled h rows t }
+head_written h rows t = record { lines = all_lines h; joined = rw (cfg_lines h) (written_joined (all_lines h) (head_clean h rows t)); head = says_head h rows t }
 
 -- as many rows as the last sample of the last rate
 pub last_row : (h : HeadParts) (rows : ℕ) → HeadTaken h rows → last_sample h.rates ≡ rows
-last_row h rows t = t.rates.end (omega (arith, t.rate_count))
+last_row h rows t = last_is [] h.rates rows t.rates

@@ -1,15 +1,22 @@
--- The kinds of line of a configuration file, and where they stand.
-use Rattle.std.specs.Prelude.{ℕ, ◌+◌, ◌-◌, max, Bool, false, ◌&&◌, ◌==◌, nat_lt, nat_le, if◌then◌else◌, List, [], ◌∷◌, ◌++◌, map, Option, Some, None, unwrap_or, ℤ, pos, negsuc, codes}
+-- The kinds of line of a configuration file (C37.111-1999, clause 5), and where they stand.
+use Rattle.std.specs.Prelude.{ℕ, ◌+◌, max, Bool, false, ◌&&◌, ◌==◌, nat_lt, nat_le, if◌then◌else◌, List, [], length, Option, Some, None, Result, Ok, Err, ℤ, pos, negsuc, codes}
 use Rattle.std.specs.Str.{str_eq_ignore_ascii_case}
-use Rattle.std.specs.List.{range_with_len}
-use Rattle.dfr_channels.specs.Lines.{field, line_fields}
+use Rattle.dfr_channels.specs.Spelling.{Number}
+use Rattle.dfr_channels.specs.Lines.{field}
 use Rattle.dfr_channels.specs.Fields.{free_scale, side, free_bit}
+use Rattle.dfr_channels.specs.Parts.{AnalogParts, StatusParts}
 use Rattle.comtrade_write.specs.declared.file.Kind.{Kind}
 use Rattle.comtrade_write.specs.declared.file.Kind.TheVariants.{Ascii, Binary}
-use Rattle.comtrade_read.specs.Table.{Rule, plain, always, reads}
+use Rattle.comtrade_write.specs.declared.file.Rate.{Rate}
+use Rattle.comtrade_write.specs.Parts.{HeadParts}
+use Rattle.comtrade_read.specs.Data.{last_sample}
+use Rattle.comtrade_read.specs.Line.{Fault, number, many, need, one, next, each, end}
+use Rattle.comtrade_read.specs.declared.fault.ReadFault.{ReadFault}
 use Rattle.comtrade_read.specs.Fields.{whole, natural, small, scale, count}
-use Rattle.comtrade_read.specs.Instant.{date, time}
+use Rattle.comtrade_read.specs.Instant.{date, time, instant_at}
 use Rattle.comtrade_read.specs.declared.fault.ReadFault.TheVariants as faults
+
+-- ---- what a line of each kind says, or its first fault
 
 -- the whole number n stands there
 abbrev pub is_number : ℕ → Option ℤ → Bool
@@ -17,101 +24,114 @@ is_number n None = false
 is_number n (Some (pos m)) = m == n
 is_number n (Some (negsuc m)) = false
 
--- ---- one rule for each kind of line
+abbrev pub revision : Fault
+revision line = faults.Revision
 
 -- station, device and the revision
-abbrev pub names_rule : Rule
-names_rule = record {
-  tests = always ∷ always ∷ (λ f. is_number 1999 (whole f)) ∷ [];
-  whole = always;
-  few = λ line count. if count == 2 then faults.Revision else faults.Fields line;
-  bad = λ line i. faults.Revision;
-  wrong = λ line. faults.Revision;
-}
+unfoldable pub names_line : List (List ℕ) → Result (List ℕ × List ℕ) Fault
+names_line fs =
+    if length fs == 2 then Err revision
+    else many 3 fs (if is_number 1999 (whole (field fs 2)) then Ok (field fs 0, field fs 1) else Err revision)
 
--- the numbers of channels
-abbrev pub counts_rule : Rule
-counts_rule = plain (reads (natural 999999) ∷ reads (count 65) ∷ reads (count 68) ∷ [])
-    (λ fs. (unwrap_or (natural 999999 (field fs 0)) 0 == unwrap_or (count 65 (field fs 1)) 0 + unwrap_or (count 68 (field fs 2)) 0) && nat_lt 0 (unwrap_or (natural 999999 (field fs 0)) 0))
+-- the numbers of channels, analogue and status, together 1 to 999,999
+unfoldable pub counts_line : List (List ℕ) → Result (ℕ × ℕ) Fault
+counts_line fs = many 3 fs (
+    need (natural 999999 (field fs 0)) (number 1) (λ total.
+    need (count 65 (field fs 1)) (number 2) (λ k.
+    need (count 68 (field fs 2)) (number 3) (λ m.
+    if (total == k + m) && nat_lt 0 total then Ok (k, m) else Err faults.Counts))))
 
 -- the analogue channel n, from 1
-abbrev pub analog_rule : ℕ → Rule
-analog_rule n = plain
-    (reads whole ∷ always ∷ always ∷ always ∷ always ∷ reads scale ∷ reads free_scale ∷ reads free_scale ∷ reads small ∷ reads small ∷ reads free_scale ∷ reads free_scale ∷ reads side ∷ [])
-    (λ fs. is_number n (whole (field fs 0)))
+unfoldable pub analog_line : ℕ → List (List ℕ) → Result AnalogParts Fault
+analog_line n fs = many 13 fs (
+    need (whole (field fs 0)) (number 1) (λ found.
+    need (scale (field fs 5)) (number 6) (λ a.
+    need (free_scale (field fs 6)) (number 7) (λ b.
+    need (free_scale (field fs 7)) (number 8) (λ skew.
+    need (small (field fs 8)) (number 9) (λ min.
+    need (small (field fs 9)) (number 10) (λ max.
+    need (free_scale (field fs 10)) (number 11) (λ primary.
+    need (free_scale (field fs 11)) (number 12) (λ secondary.
+    need (side (field fs 12)) (number 13) (λ side.
+    if is_number n (Some found) then Ok (record {
+      id = field fs 1;
+      phase = field fs 2;
+      component = field fs 3;
+      unit = field fs 4;
+      a = a;
+      b = b;
+      skew = skew;
+      min = min;
+      max = max;
+      primary = primary;
+      secondary = secondary;
+      side = side;
+    }) else Err faults.Counts))))))))))
 
 -- the status channel n, from 1
-abbrev pub status_rule : ℕ → Rule
-status_rule n = plain (reads whole ∷ always ∷ always ∷ always ∷ reads free_bit ∷ []) (λ fs. is_number n (whole (field fs 0)))
+unfoldable pub status_line : ℕ → List (List ℕ) → Result StatusParts Fault
+status_line n fs = many 5 fs (
+    need (whole (field fs 0)) (number 1) (λ found.
+    need (free_bit (field fs 4)) (number 5) (λ normal.
+    if is_number n (Some found) then Ok (record { id = field fs 1; phase = field fs 2; component = field fs 3; normal = normal }) else Err faults.Counts)))
 
-abbrev pub frequency_rule : Rule
-frequency_rule = plain (reads free_scale ∷ []) always
+unfoldable pub frequency_line : List (List ℕ) → Result Number Fault
+frequency_line fs = one free_scale (number 1) fs
 
-abbrev pub nrates_rule : Rule
-nrates_rule = plain (reads (natural 999) ∷ []) always
+unfoldable pub nrates_line : List (List ℕ) → Result ℕ Fault
+nrates_line fs = one (natural 999) (number 1) fs
 
 -- a rate whose last sample isn't below this one
-abbrev pub rate_rule : ℕ → Rule
-rate_rule before = plain (reads scale ∷ reads (natural 9999999999) ∷ []) (λ fs. nat_le before (unwrap_or (natural 9999999999 (field fs 1)) 0))
+unfoldable pub rate_line : ℕ → List (List ℕ) → Result Rate Fault
+rate_line before fs = many 2 fs (
+    need (scale (field fs 0)) (number 1) (λ samp.
+    need (natural 9999999999 (field fs 1)) (number 2) (λ endsamp.
+    if nat_le before endsamp then Ok (record { samp = samp; endsamp = endsamp }) else Err faults.Counts)))
 
-abbrev pub instant_rule : Rule
-instant_rule = record {
-  tests = reads date ∷ reads time ∷ [];
-  whole = always;
-  few = λ line count. faults.Fields line;
-  bad = λ line i. faults.Instant line;
-  wrong = faults.Instant;
-}
+unfoldable pub instant_line : List (List ℕ) → Result ℤ Fault
+instant_line fs = many 2 fs (
+    need (date (field fs 0)) faults.Instant (λ day.
+    need (time (field fs 1)) faults.Instant (λ micros.
+    Ok (instant_at day micros))))
 
 -- ASCII or BINARY in any case of letters
 unfoldable pub kind : List ℕ → Option Kind
 kind f = if str_eq_ignore_ascii_case f (codes "ASCII") then Some Ascii else if str_eq_ignore_ascii_case f (codes "BINARY") then Some Binary else None
 
-abbrev pub kind_rule : Rule
-kind_rule = record {
-  tests = reads kind ∷ [];
-  whole = always;
-  few = λ line count. faults.Fields line;
-  bad = λ line i. faults.Kind;
-  wrong = λ line. faults.Kind;
-}
+unfoldable pub kind_line : List (List ℕ) → Result Kind Fault
+kind_line fs = one kind (λ line. faults.Kind) fs
 
-abbrev pub timemult_rule : Rule
-timemult_rule = plain (reads scale ∷ []) always
+unfoldable pub timemult_line : List (List ℕ) → Result Number Fault
+timemult_line fs = one scale (number 1) fs
 
--- ---- how many lines there are of each kind, and where they stand
+-- ---- the lines in their order
 
-abbrev pub analog_count : List (List ℕ) → ℕ
-analog_count fs = unwrap_or (count 65 (field fs 1)) 0
+-- channels of a kind are numbered from 1
+abbrev pub next_analog : List AnalogParts → List (List ℕ) → Result AnalogParts Fault
+next_analog before fs = analog_line (length before + 1) fs
 
-abbrev pub status_count : List (List ℕ) → ℕ
-status_count fs = unwrap_or (count 68 (field fs 2)) 0
+abbrev pub next_status : List StatusParts → List (List ℕ) → Result StatusParts Fault
+next_status before fs = status_line (length before + 1) fs
 
-abbrev pub nrates_value : List (List ℕ) → ℕ
-nrates_value fs = unwrap_or (natural 999 (field fs 0)) 0
+abbrev pub next_rate : List Rate → List (List ℕ) → Result Rate Fault
+next_rate before fs = rate_line (last_sample before) fs
 
--- the last sample of the rate before rate i, from 0
-unfoldable pub rate_before : List (List ℕ) → ℕ → ℕ → ℕ
-rate_before ls start i = if i == 0 then 0 else unwrap_or (natural 9999999999 (field (line_fields ls (start + i - 1)) 1)) 0
-
-abbrev pub analog_rules : ℕ → List Rule
-analog_rules k = map (λ i. analog_rule (i + 1)) (range_with_len 0 k)
-
-abbrev pub status_rules : ℕ → ℕ → List Rule
-status_rules k m = map (λ i. status_rule (i + 1)) (range_with_len 0 m)
-
-abbrev pub rate_rules : List (List ℕ) → ℕ → ℕ → List Rule
-rate_rules ls start n = map (λ i. rate_rule (rate_before ls start i)) (range_with_len 0 n)
-
--- how many rate lines there are, where the line frequency stands at this place
-abbrev pub rate_count : List (List ℕ) → ℕ → ℕ
-rate_count ls at = max 1 (nrates_value (line_fields ls (at + 1)))
-
--- the kinds of the lines, in order
-unfoldable pub head_rules : List (List ℕ) → List Rule
-head_rules ls =
-    let k = analog_count (line_fields ls 1) in
-    let m = status_count (line_fields ls 1) in
-    names_rule ∷ counts_rule ∷ (analog_rules k ++ (status_rules k m
-    ++ (frequency_rule ∷ nrates_rule ∷ (rate_rules ls (2 + k + m + 2) (rate_count ls (2 + k + m))
-    ++ (instant_rule ∷ instant_rule ∷ kind_rule ∷ timemult_rule ∷ [])))))
+-- what the lines of a configuration file say, or their first fault; where there is no rate there is one rate line
+unfoldable pub head : List (List (List ℕ)) → Result HeadParts ReadFault
+head ls =
+    next names_line (λ names. next counts_line (λ counts.
+    each next_analog counts.0 [] (λ analog. each next_status counts.1 [] (λ status.
+    next frequency_line (λ line_freq. next nrates_line (λ nrates. each next_rate (max 1 nrates) [] (λ rates.
+    next instant_line (λ first. next instant_line (λ trigger. next kind_line (λ kind. next timemult_line (λ timemult. end (record {
+      station = names.0;
+      device = names.1;
+      analog = analog;
+      status = status;
+      line_freq = line_freq;
+      nrates = nrates;
+      rates = rates;
+      first = first;
+      trigger = trigger;
+      kind = kind;
+      timemult = timemult;
+    })))))))))))) 1 ls

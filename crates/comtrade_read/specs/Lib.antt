@@ -1,4 +1,5 @@
 pub mod Table
+pub mod Line
 pub mod Fields
 pub mod Instant
 pub mod Head

@@ -1,18 +1,17 @@
 -- What a pair of files says, and its fault.
-use Rattle.std.specs.Prelude.{◌≡◌, ℕ, List}
-use Rattle.dfr_channels.specs.Lines.{lines}
+use Rattle.std.specs.Prelude.{◌≡◌, ℕ, List, map, Err}
+use Rattle.dfr_channels.specs.Lines.{lines, fields}
 use Rattle.comtrade_write.specs.Parts.{HeadParts, RowParts, FileParts}
 use Rattle.comtrade_read.specs.declared.fault.ReadFault.{ReadFault}
 use Rattle.comtrade_read.specs.declared.pair.Part.{Part}
 use Rattle.comtrade_read.specs.declared.pair.Part.TheVariants.{Cfg, Dat}
-use Rattle.comtrade_read.specs.Faulty.{Faulty}
-use Rattle.comtrade_read.specs.Head.{head_rules}
+use Rattle.comtrade_read.specs.Head.{head}
 use Rattle.comtrade_read.specs.Data.{FaultyData}
 use Rattle.comtrade_read.specs.Reads.{ReadsHead, ReadsRows, Reads}
 
 -- the first fault of a configuration file
 abbrev pub FaultyHead : List ℕ → ReadFault → Type 0
-FaultyHead cfg e = Faulty (lines cfg) (head_rules (lines cfg)) e
+FaultyHead cfg e = head (map fields (lines cfg)) ≡ Err e
 
 -- the first fault of a pair: the data are judged under the head that the configuration file reads to
 abbrev pub FaultyPair : List ℕ → List ℕ → Part → ReadFault → Type 0

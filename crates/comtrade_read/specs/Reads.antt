@@ -1,5 +1,5 @@
 -- Which texts read to which files: the grammar of both files, apart from how a reader cuts them and in what order it looks.
-use Rattle.std.specs.Prelude.{◌≡◌, ℕ, ◌+◌, ◌-◌, ◌*◌, ◌/◌, ◌<◌, ◌^◌, ◌≤ℤ◌, Bool, List, ◌++◌, length, Option, Some, None, pos, neg_ℤ}
+use Rattle.std.specs.Prelude.{◌≡◌, ℕ, ◌+◌, ◌-◌, ◌*◌, ◌/◌, ◌<◌, ◌^◌, ◌≤ℤ◌, Bool, List, ◌++◌, length, Option, Some, None, Ok, pos, neg_ℤ}
 use Rattle.std.specs.List.{before_first, concat, AllByRecursion, AllZip}
 use Rattle.dfr_channels.specs.declared.scan.Reading.{Reading}
 use Rattle.dfr_channels.specs.declared.scan.Reading.TheVariants.{Value, Missing}
@@ -8,7 +8,8 @@ use Rattle.comtrade_write.specs.declared.file.Kind.TheVariants.{Ascii, Binary}
 use Rattle.comtrade_write.specs.Parts.{HeadParts, RowParts, FileParts}
 use Rattle.comtrade_write.specs.Binary.{row_bytes}
 use Rattle.comtrade_read.specs.Joined.{IsJoined}
-use Rattle.comtrade_read.specs.Spells.{SpellsHead, SpellsRow, EachFrom, fields_at}
+use Rattle.comtrade_read.specs.Spells.{SpellsRow, EachFrom, fields_at}
+use Rattle.comtrade_read.specs.Head.{head}
 use Rattle.comtrade_read.specs.Ascii.{is_end_mark}
 use Rattle.comtrade_read.specs.Data.{row_count}
 
@@ -16,7 +17,7 @@ use Rattle.comtrade_read.specs.Data.{row_count}
 pub record ReadsHead (cfg : List ℕ) (h : HeadParts) : Type 0 where
   pub lines : List (List (List ℕ))
   pub joined : IsJoined cfg lines
-  pub head : SpellsHead lines h
+  pub head : head lines ≡ Ok h
 
 -- ASCII data: what stands before the first byte 1A is one line for each row
 pub record ReadsAscii (k m : ℕ) (dat : List ℕ) (rows : List RowParts) : Type 0 where

@@ -1,10 +1,11 @@
 //! The lines of channels.
 
 ghost use Rattle.std.specs.Prelude.{◌≡◌, ◌+◌, ◌<◌, ◌^◌};
-ghost use Rattle.dfr_channels.specs.Lines.{texts, line_fields};
-ghost use Rattle.comtrade_read.specs.Head.{analog_rule, status_rule};
-ghost use Rattle.comtrade_read.specs.Inner.HeadValues.{analog_value, status_value, analog_faults, analog_items, status_faults, status_items};
-ghost use Rattle.comtrade_read.specs.Inner.LineFaults.{Gives, fields_fault, line_fault, first_in};
+ghost use Rattle.dfr_channels.specs.Lines.{texts};
+ghost use Rattle.comtrade_read.specs.Line.{told};
+ghost use Rattle.comtrade_read.specs.Head.{analog_line, status_line, next_analog, next_status};
+ghost use Rattle.comtrade_read.specs.Inner.HeadValues.{line_at, lines_at};
+ghost use Rattle.comtrade_read.specs.Inner.LineFaults.{Is};
 
 use crate::fault::ReadFault;
 use crate::fields::{free_bit_of, free_scale_of, scale_of, side_of, small_of, text_of, whole_of};
@@ -13,13 +14,14 @@ use dfr_channels::{AnalogChannel, StatusChannel};
 use std::alloc::Allocator;
 
 /// The analogue channel n, counted from 1.
+#[tactic(auto, unfolding(crate::specs::Head::analog_line))]
 fn analog_of<A: Allocator + Copy>(
     alloc: A,
     line: u64,
     n: u64,
     fields: &[&[u8]],
 ) -> Result<AnalogChannel<A>, ReadFault>
-    ensures { Gives (λ x. x) (fields_fault (analog_rule n) line (texts fields.now)) (analog_value (texts fields.now)) result }
+    ensures { Is (λ x. x) (told line (analog_line n (texts fields.now))) result }
 {
     if fields.len() != 13 {
         return Err(ReadFault::Fields(line));
@@ -57,13 +59,14 @@ fn analog_of<A: Allocator + Copy>(
 }
 
 /// The status channel n, counted from 1.
+#[tactic(auto, unfolding(crate::specs::Head::status_line))]
 fn status_of<A: Allocator + Copy>(
     alloc: A,
     line: u64,
     n: u64,
     fields: &[&[u8]],
 ) -> Result<StatusChannel<A>, ReadFault>
-    ensures { Gives (λ x. x) (fields_fault (status_rule n) line (texts fields.now)) (status_value (texts fields.now)) result }
+    ensures { Is (λ x. x) (told line (status_line n (texts fields.now))) result }
 {
     if fields.len() != 5 {
         return Err(ReadFault::Fields(line));
@@ -85,7 +88,7 @@ fn status_of<A: Allocator + Copy>(
 }
 
 /// The analogue channel n on the line at this place.
-#[tactic(auto, unfolding(crate::specs::Inner::LineFaults::line_fault))]
+#[tactic(auto, unfolding(crate::specs::Inner::HeadValues::line_at))]
 fn analog_at<A: Allocator + Copy>(
     alloc: A,
     lines: &[&[u8]],
@@ -93,7 +96,7 @@ fn analog_at<A: Allocator + Copy>(
     n: u64,
 ) -> Result<AnalogChannel<A>, ReadFault>
     requires { place < 2 ^ 63 }
-    ensures { Gives (λ x. x) (line_fault (texts lines.now) (analog_rule n) place) (analog_value (line_fields (texts lines.now) place)) result }
+    ensures { Is (λ x. x) (line_at (analog_line n) (texts lines.now) place) result }
 {
     let fields = fields_at(alloc, lines, place)?;
     analog_of(alloc, place as u64 + 1, n, &fields)
@@ -106,7 +109,7 @@ pub(crate) fn analogs_of<A: Allocator + Copy>(
     count: usize,
 ) -> Result<Vec<AnalogChannel<A>, A>, ReadFault>
     requires { count < 2 ^ 32 }
-    ensures { Gives (λ v. v.items) (first_in (analog_faults (texts lines.now)) count) (analog_items (texts lines.now) count) result }
+    ensures { Is (λ v. v.items) (lines_at next_analog (texts lines.now) 2 count) result }
 {
     let mut list = Vec::new(alloc);
     for i in 0..count {
@@ -116,7 +119,7 @@ pub(crate) fn analogs_of<A: Allocator + Copy>(
 }
 
 /// The status channel n on the line at this place.
-#[tactic(auto, unfolding(crate::specs::Inner::LineFaults::line_fault))]
+#[tactic(auto, unfolding(crate::specs::Inner::HeadValues::line_at))]
 fn status_at<A: Allocator + Copy>(
     alloc: A,
     lines: &[&[u8]],
@@ -124,7 +127,7 @@ fn status_at<A: Allocator + Copy>(
     n: u64,
 ) -> Result<StatusChannel<A>, ReadFault>
     requires { place < 2 ^ 63 }
-    ensures { Gives (λ x. x) (line_fault (texts lines.now) (status_rule n) place) (status_value (line_fields (texts lines.now) place)) result }
+    ensures { Is (λ x. x) (line_at (status_line n) (texts lines.now) place) result }
 {
     let fields = fields_at(alloc, lines, place)?;
     status_of(alloc, place as u64 + 1, n, &fields)
@@ -139,7 +142,7 @@ pub(crate) fn statuses_of<A: Allocator + Copy>(
 ) -> Result<Vec<StatusChannel<A>, A>, ReadFault>
     requires analog { analog < 2 ^ 32 }
     requires count { count < 2 ^ 32 }
-    ensures { Gives (λ v. v.items) (first_in (status_faults (texts lines.now) analog) count) (status_items (texts lines.now) analog count) result }
+    ensures { Is (λ v. v.items) (lines_at next_status (texts lines.now) (2 + analog) count) result }
 {
     let mut list = Vec::new(alloc);
     for i in 0..count {

@@ -2,12 +2,11 @@
 
 ghost use Rattle.std.specs.Prelude.{◌≡◌, ◌≢◌, ◌+◌, ◌<◌, length, IfOk, IfErr};
 ghost use Rattle.comtrade_read.specs.declared.fault.ReadFault.TheVariants as faults;
-ghost use Rattle.dfr_channels.specs.Lines.{texts, lines, line_fields};
-ghost use Rattle.comtrade_read.specs.Inner.LineFaults.{Gives};
+ghost use Rattle.dfr_channels.specs.Lines.{texts};
+ghost use Rattle.comtrade_read.specs.Inner.LineFaults.{Is};
 ghost use Rattle.comtrade_read.specs.Pair.{FaultyHead, IsNoHead};
 ghost use Rattle.comtrade_read.specs.Reads.{ReadsHead};
-ghost use Rattle.comtrade_read.specs.Head as spec;
-ghost use Rattle.comtrade_read.specs.Inner.HeadValues as steps;
+ghost use Rattle.comtrade_read.specs.Inner.HeadValues.{head_at};
 
 use crate::channels::{analogs_of, statuses_of};
 use crate::fault::ReadFault;
@@ -18,10 +17,9 @@ use dfr_channels::{Items, lines_of, without_blank_end};
 use std::alloc::Allocator;
 
 /// The head that the lines say.
+#[tactic(auto, unfolding(crate::specs::Inner::HeadValues::head_at))]
 fn head_of<A: Allocator + Copy>(alloc: A, lines: &[&[u8]]) -> Result<Head<A>, ReadFault>
-    ensures { Gives (λ x. x)
-        (steps.chain (texts lines.now) (spec.analog_count (line_fields (texts lines.now) 1)) (spec.status_count (line_fields (texts lines.now) 1)))
-        (steps.value_of (texts lines.now) (spec.analog_count (line_fields (texts lines.now) 1)) (spec.status_count (line_fields (texts lines.now) 1))) result }
+    ensures { Is (λ x. x) (head_at (texts lines.now)) result }
 {
     let names = names_at(alloc, lines)?;
     let (analog_count, status_count) = counts_at(alloc, lines)?;

@@ -1,12 +1,12 @@
 //! The lines that are no channel's, one by one.
 
 ghost use Rattle.std.specs.Prelude.{◌≡◌, ◌+◌, ◌<◌, ◌≤◌, ◌^◌, length, IfOk, List, ℕ};
-ghost use Rattle.dfr_channels.specs.Lines.{texts, line_fields, field};
-ghost use Rattle.comtrade_read.specs.Inner.LineFaults.{Gives, line_fault, fields_fault, first_in};
+ghost use Rattle.dfr_channels.specs.Lines.{texts};
+ghost use Rattle.comtrade_read.specs.Line.{told};
 ghost use Rattle.comtrade_read.specs.Head as spec;
-ghost use Rattle.comtrade_read.specs.Inner.HeadValues as steps;
-ghost use Rattle.dfr_channels.specs.Fields.{free_scale};
-ghost use Rattle.comtrade_read.specs.Fields.{whole, scale};
+ghost use Rattle.comtrade_read.specs.Inner.HeadValues.{line_at, lines_at};
+ghost use Rattle.comtrade_read.specs.Inner.LineFaults.{Is};
+ghost use Rattle.comtrade_read.specs.Fields.{whole};
 
 use crate::fault::ReadFault;
 use crate::fields::{count_of, free_scale_of, kind_of, natural_of, scale_of, text_of};
@@ -32,8 +32,9 @@ fn is_revision(text: &[u8]) -> bool
 }
 
 /// Station and device.
+#[tactic(auto, unfolding(crate::specs::Head::names_line))]
 fn names_of<A: Allocator + Copy>(alloc: A, fields: &[&[u8]]) -> Result<Names<A>, ReadFault>
-    ensures { Gives {Y = List ℕ × List ℕ} (λ x. (x.station, x.device)) (fields_fault spec.names_rule 1 (texts fields.now)) (field (texts fields.now) 0, field (texts fields.now) 1) result }
+    ensures { Is {Y = List ℕ × List ℕ} (λ x. (x.station, x.device)) (told 1 (spec.names_line (texts fields.now))) result }
 {
     if fields.len() != 3 {
         return Err(if fields.len() == 2 {
@@ -51,8 +52,9 @@ fn names_of<A: Allocator + Copy>(alloc: A, fields: &[&[u8]]) -> Result<Names<A>,
 }
 
 /// The numbers of analogue and status channels.
+#[tactic(auto, unfolding(crate::specs::Head::counts_line))]
 fn counts_of(fields: &[&[u8]]) -> Result<(u64, u64), ReadFault>
-    ensures counts { Gives (λ x. x) (fields_fault spec.counts_rule 2 (texts fields.now)) (spec.analog_count (texts fields.now), spec.status_count (texts fields.now)) result }
+    ensures counts { Is (λ x. x) (told 2 (spec.counts_line (texts fields.now))) result }
     ensures bound { IfOk result (λ x. (x.0 < 1000000) × (x.1 < 1000000)) }
 {
     if fields.len() != 3 {
@@ -68,8 +70,9 @@ fn counts_of(fields: &[&[u8]]) -> Result<(u64, u64), ReadFault>
 }
 
 /// A rate whose last sample isn't below the one before.
+#[tactic(auto, unfolding(crate::specs::Head::rate_line))]
 fn rate_of(line: u64, fields: &[&[u8]], before: u64) -> Result<Rate, ReadFault>
-    ensures { Gives (λ x. x) (fields_fault (spec.rate_rule before) line (texts fields.now)) (steps.rate_value (texts fields.now)) result }
+    ensures { Is (λ x. x) (told line (spec.rate_line before (texts fields.now))) result }
 {
     if fields.len() != 2 {
         return Err(ReadFault::Fields(line));
@@ -83,8 +86,9 @@ fn rate_of(line: u64, fields: &[&[u8]], before: u64) -> Result<Rate, ReadFault>
 }
 
 /// An instant.
+#[tactic(auto, unfolding(crate::specs::Head::instant_line))]
 fn instant_of(line: u64, fields: &[&[u8]]) -> Result<i64, ReadFault>
-    ensures { Gives (λ x. x) (fields_fault spec.instant_rule line (texts fields.now)) (steps.instant_value (texts fields.now)) result }
+    ensures { Is (λ x. x) (told line (spec.instant_line (texts fields.now))) result }
 {
     if fields.len() != 2 {
         return Err(ReadFault::Fields(line));
@@ -95,8 +99,9 @@ fn instant_of(line: u64, fields: &[&[u8]]) -> Result<i64, ReadFault>
 }
 
 /// The kind of the data file.
-fn kind_line(line: u64, fields: &[&[u8]]) -> Result<Kind, ReadFault>
-    ensures { Gives (λ x. x) (fields_fault spec.kind_rule line (texts fields.now)) (steps.kind_value (texts fields.now)) result }
+#[tactic(auto, unfolding(crate::specs::Head::kind_line))]
+fn kind_in(line: u64, fields: &[&[u8]]) -> Result<Kind, ReadFault>
+    ensures { Is (λ x. x) (told line (spec.kind_line (texts fields.now))) result }
 {
     if fields.len() != 1 {
         return Err(ReadFault::Fields(line));
@@ -105,8 +110,9 @@ fn kind_line(line: u64, fields: &[&[u8]]) -> Result<Kind, ReadFault>
 }
 
 /// The time multiplier.
+#[tactic(auto, unfolding(crate::specs::Head::timemult_line))]
 fn timemult_of(line: u64, fields: &[&[u8]]) -> Result<Decimal, ReadFault>
-    ensures { Gives (λ x. x) (fields_fault spec.timemult_rule line (texts fields.now)) (steps.decimal_in (scale (field (texts fields.now) 0))) result }
+    ensures { Is (λ x. x) (told line (spec.timemult_line (texts fields.now))) result }
 {
     if fields.len() != 1 {
         return Err(ReadFault::Fields(line));
@@ -115,8 +121,9 @@ fn timemult_of(line: u64, fields: &[&[u8]]) -> Result<Decimal, ReadFault>
 }
 
 /// The line frequency.
+#[tactic(auto, unfolding(crate::specs::Head::frequency_line))]
 fn frequency_of(line: u64, fields: &[&[u8]]) -> Result<Decimal, ReadFault>
-    ensures { Gives (λ x. x) (fields_fault spec.frequency_rule line (texts fields.now)) (steps.decimal_in (free_scale (field (texts fields.now) 0))) result }
+    ensures { Is (λ x. x) (told line (spec.frequency_line (texts fields.now))) result }
 {
     if fields.len() != 1 {
         return Err(ReadFault::Fields(line));
@@ -125,8 +132,9 @@ fn frequency_of(line: u64, fields: &[&[u8]]) -> Result<Decimal, ReadFault>
 }
 
 /// The number of rates.
+#[tactic(auto, unfolding(crate::specs::Head::nrates_line))]
 fn nrates_of(line: u64, fields: &[&[u8]]) -> Result<u64, ReadFault>
-    ensures value { Gives (λ x. x) (fields_fault spec.nrates_rule line (texts fields.now)) (spec.nrates_value (texts fields.now)) result }
+    ensures value { Is (λ x. x) (told line (spec.nrates_line (texts fields.now))) result }
     ensures bound { IfOk result (λ n. n ≤ 999) }
 {
     if fields.len() != 1 {
@@ -136,7 +144,7 @@ fn nrates_of(line: u64, fields: &[&[u8]]) -> Result<u64, ReadFault>
 }
 
 /// The rate on the line at this place.
-#[tactic(auto, unfolding(crate::specs::Inner::LineFaults::line_fault))]
+#[tactic(auto, unfolding(crate::specs::Inner::HeadValues::line_at))]
 fn rate_at<A: Allocator + Copy>(
     alloc: A,
     lines: &[&[u8]],
@@ -144,7 +152,7 @@ fn rate_at<A: Allocator + Copy>(
     before: u64,
 ) -> Result<Rate, ReadFault>
     requires { place < 2 ^ 63 }
-    ensures { Gives (λ x. x) (line_fault (texts lines.now) (spec.rate_rule before) place) (steps.rate_value (line_fields (texts lines.now) place)) result }
+    ensures { Is (λ x. x) (line_at (spec.rate_line before) (texts lines.now) place) result }
 {
     let fields = fields_at(alloc, lines, place)?;
     rate_of(place as u64 + 1, &fields, before)
@@ -159,7 +167,7 @@ pub(crate) fn rates_of<A: Allocator + Copy>(
 ) -> Result<Vec<Rate, A>, ReadFault>
     requires start { start < 2 ^ 32 }
     requires count { count < 2 ^ 32 }
-    ensures { Gives (λ v. v.items) (first_in (steps.rate_faults (texts lines.now) start) count) (steps.rate_items (texts lines.now) start count) result }
+    ensures { Is (λ v. v.items) (lines_at spec.next_rate (texts lines.now) start count) result }
 {
     let mut list = Vec::new(alloc);
     let mut before = 0;
@@ -172,24 +180,24 @@ pub(crate) fn rates_of<A: Allocator + Copy>(
 }
 
 /// Station and device, on the line at this place.
-#[tactic(auto, unfolding(crate::specs::Inner::LineFaults::line_fault))]
+#[tactic(auto, unfolding(crate::specs::Inner::HeadValues::line_at))]
 pub(crate) fn names_at<A: Allocator + Copy>(
     alloc: A,
     lines: &[&[u8]],
 ) -> Result<Names<A>, ReadFault>
-    ensures { Gives {Y = List ℕ × List ℕ} (λ x. (x.station, x.device)) (line_fault (texts lines.now) spec.names_rule 0) (field (line_fields (texts lines.now) 0) 0, field (line_fields (texts lines.now) 0) 1) result }
+    ensures { Is {Y = List ℕ × List ℕ} (λ x. (x.station, x.device)) (line_at spec.names_line (texts lines.now) 0) result }
 {
     let fields = fields_at(alloc, lines, 0)?;
     names_of(alloc, &fields)
 }
 
 /// The numbers of analogue and status channels.
-#[tactic(auto, unfolding(crate::specs::Inner::LineFaults::line_fault))]
+#[tactic(auto, unfolding(crate::specs::Inner::HeadValues::line_at))]
 pub(crate) fn counts_at<A: Allocator + Copy>(
     alloc: A,
     lines: &[&[u8]],
 ) -> Result<(u64, u64), ReadFault>
-    ensures counts { Gives (λ x. x) (line_fault (texts lines.now) spec.counts_rule 1) (spec.analog_count (line_fields (texts lines.now) 1), spec.status_count (line_fields (texts lines.now) 1)) result }
+    ensures counts { Is (λ x. x) (line_at spec.counts_line (texts lines.now) 1) result }
     ensures bound { IfOk result (λ x. (x.0 < 1000000) × (x.1 < 1000000)) }
 {
     let fields = fields_at(alloc, lines, 1)?;
@@ -197,28 +205,28 @@ pub(crate) fn counts_at<A: Allocator + Copy>(
 }
 
 /// The line frequency, on the line at this place.
-#[tactic(auto, unfolding(crate::specs::Inner::LineFaults::line_fault))]
+#[tactic(auto, unfolding(crate::specs::Inner::HeadValues::line_at))]
 pub(crate) fn frequency_at<A: Allocator + Copy>(
     alloc: A,
     lines: &[&[u8]],
     place: usize,
 ) -> Result<Decimal, ReadFault>
     requires { place < 2 ^ 63 }
-    ensures { Gives (λ x. x) (line_fault (texts lines.now) spec.frequency_rule place) (steps.decimal_in (free_scale (field (line_fields (texts lines.now) place) 0))) result }
+    ensures { Is (λ x. x) (line_at spec.frequency_line (texts lines.now) place) result }
 {
     let fields = fields_at(alloc, lines, place)?;
     frequency_of(place as u64 + 1, &fields)
 }
 
 /// The number of rates, on the line at this place.
-#[tactic(auto, unfolding(crate::specs::Inner::LineFaults::line_fault))]
+#[tactic(auto, unfolding(crate::specs::Inner::HeadValues::line_at))]
 pub(crate) fn nrates_at<A: Allocator + Copy>(
     alloc: A,
     lines: &[&[u8]],
     place: usize,
 ) -> Result<u64, ReadFault>
     requires { place < 2 ^ 63 }
-    ensures value { Gives (λ x. x) (line_fault (texts lines.now) spec.nrates_rule place) (spec.nrates_value (line_fields (texts lines.now) place)) result }
+    ensures value { Is (λ x. x) (line_at spec.nrates_line (texts lines.now) place) result }
     ensures bound { IfOk result (λ n. n ≤ 999) }
 {
     let fields = fields_at(alloc, lines, place)?;
@@ -226,42 +234,42 @@ pub(crate) fn nrates_at<A: Allocator + Copy>(
 }
 
 /// An instant, on the line at this place.
-#[tactic(auto, unfolding(crate::specs::Inner::LineFaults::line_fault))]
+#[tactic(auto, unfolding(crate::specs::Inner::HeadValues::line_at))]
 pub(crate) fn instant_at_place<A: Allocator + Copy>(
     alloc: A,
     lines: &[&[u8]],
     place: usize,
 ) -> Result<i64, ReadFault>
     requires { place < 2 ^ 63 }
-    ensures { Gives (λ x. x) (line_fault (texts lines.now) spec.instant_rule place) (steps.instant_value (line_fields (texts lines.now) place)) result }
+    ensures { Is (λ x. x) (line_at spec.instant_line (texts lines.now) place) result }
 {
     let fields = fields_at(alloc, lines, place)?;
     instant_of(place as u64 + 1, &fields)
 }
 
 /// The kind of the data file, on the line at this place.
-#[tactic(auto, unfolding(crate::specs::Inner::LineFaults::line_fault))]
+#[tactic(auto, unfolding(crate::specs::Inner::HeadValues::line_at))]
 pub(crate) fn kind_at<A: Allocator + Copy>(
     alloc: A,
     lines: &[&[u8]],
     place: usize,
 ) -> Result<Kind, ReadFault>
     requires { place < 2 ^ 63 }
-    ensures { Gives (λ x. x) (line_fault (texts lines.now) spec.kind_rule place) (steps.kind_value (line_fields (texts lines.now) place)) result }
+    ensures { Is (λ x. x) (line_at spec.kind_line (texts lines.now) place) result }
 {
     let fields = fields_at(alloc, lines, place)?;
-    kind_line(place as u64 + 1, &fields)
+    kind_in(place as u64 + 1, &fields)
 }
 
 /// The time multiplier, on the line at this place.
-#[tactic(auto, unfolding(crate::specs::Inner::LineFaults::line_fault))]
+#[tactic(auto, unfolding(crate::specs::Inner::HeadValues::line_at))]
 pub(crate) fn timemult_at<A: Allocator + Copy>(
     alloc: A,
     lines: &[&[u8]],
     place: usize,
 ) -> Result<Decimal, ReadFault>
     requires { place < 2 ^ 63 }
-    ensures { Gives (λ x. x) (line_fault (texts lines.now) spec.timemult_rule place) (steps.decimal_in (scale (field (line_fields (texts lines.now) place) 0))) result }
+    ensures { Is (λ x. x) (line_at spec.timemult_line (texts lines.now) place) result }
 {
     let fields = fields_at(alloc, lines, place)?;
     timemult_of(place as u64 + 1, &fields)

@@ -2,10 +2,8 @@
 
 ghost use Rattle.std.specs.Prelude.{◌≡◌, ◌+◌, ◌<◌, ◌≤◌, ◌^◌, IfOk};
 ghost use Rattle.dfr_channels.specs.Lines.{texts};
-ghost use Rattle.comtrade_read.specs.Inner.LineFaults.{Gives};
-ghost use Rattle.comtrade_read.specs.Inner.HeadValues.{EndParts, TailParts};
-ghost use Rattle.comtrade_read.specs.Head as spec;
-ghost use Rattle.comtrade_read.specs.Inner.HeadValues as steps;
+ghost use Rattle.comtrade_read.specs.Inner.LineFaults.{Is};
+ghost use Rattle.comtrade_read.specs.Inner.HeadValues.{EndParts, TailParts, ends_at, tail_at};
 
 use crate::fault::ReadFault;
 use crate::place::end_at;
@@ -23,25 +21,19 @@ struct End {
     timemult: Decimal,
 }
 
-/// The lines behind the rates, of which there are so many, and no line behind them.
-fn end_of<A: Allocator + Copy>(
-    alloc: A,
-    lines: &[&[u8]],
-    at: usize,
-    count: usize,
-) -> Result<End, ReadFault>
-    requires at { at < 2 ^ 31 }
-    requires count { count < 2 ^ 31 }
-    ensures { Gives {Y = EndParts}
+/// The lines behind the rates, from this place on, and no line behind them.
+#[tactic(auto, unfolding(crate::specs::Inner::HeadValues::ends_at))]
+fn end_of<A: Allocator + Copy>(alloc: A, lines: &[&[u8]], at: usize) -> Result<End, ReadFault>
+    requires { at < 2 ^ 32 }
+    ensures { Is {Y = EndParts}
         (λ x. record { first = x.first; trigger = x.trigger; kind = x.kind; timemult = x.timemult })
-        (steps.end_fault (texts lines.now) at count)
-        (steps.end_value (texts lines.now) at count) result }
+        (ends_at (texts lines.now) at) result }
 {
-    let first = instant_at_place(alloc, lines, at + 2 + count)?;
-    let trigger = instant_at_place(alloc, lines, at + 3 + count)?;
-    let kind = kind_at(alloc, lines, at + 4 + count)?;
-    let timemult = timemult_at(alloc, lines, at + 5 + count)?;
-    end_at(lines, at + 6 + count)?;
+    let first = instant_at_place(alloc, lines, at)?;
+    let trigger = instant_at_place(alloc, lines, at + 1)?;
+    let kind = kind_at(alloc, lines, at + 2)?;
+    let timemult = timemult_at(alloc, lines, at + 3)?;
+    end_at(lines, at + 4)?;
     Ok(End {
         first,
         trigger,
@@ -63,6 +55,7 @@ pub(crate) struct Tail<A: Allocator> {
 }
 
 /// The lines behind the channels, from this place on.
+#[tactic(auto, unfolding(crate::specs::Inner::HeadValues::tail_at))]
 pub(crate) fn tail_of<A: Allocator + Copy>(
     alloc: A,
     lines: &[&[u8]],
@@ -70,14 +63,14 @@ pub(crate) fn tail_of<A: Allocator + Copy>(
 ) -> Result<Tail<A>, ReadFault>
     requires { at < 2 ^ 31 }
     ensures small { IfOk result (λ x. x.nrates ≤ 999) }
-    ensures value { Gives {Y = TailParts} (λ x. record { line_freq = x.line_freq; nrates = x.nrates; rates = x.rates.items; first = x.first; trigger = x.trigger; kind = x.kind; timemult = x.timemult })
-        (steps.tail_fault (texts lines.now) at (spec.rate_count (texts lines.now) at)) (steps.tail_value (texts lines.now) at (spec.rate_count (texts lines.now) at)) result }
+    ensures value { Is {Y = TailParts} (λ x. record { line_freq = x.line_freq; nrates = x.nrates; rates = x.rates.items; first = x.first; trigger = x.trigger; kind = x.kind; timemult = x.timemult })
+        (tail_at (texts lines.now) at) result }
 {
     let line_freq = frequency_at(alloc, lines, at)?;
     let nrates = nrates_at(alloc, lines, at + 1)?;
     let count = (nrates as usize).max(1);
     let rates = rates_of(alloc, lines, at + 2, count)?;
-    let end = end_of(alloc, lines, at, count)?;
+    let end = end_of(alloc, lines, at + 2 + count)?;
     Ok(Tail {
         line_freq,
         nrates,

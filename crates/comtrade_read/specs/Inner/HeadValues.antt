@@ -1,22 +1,15 @@
--- What the reader's functions answer of a configuration file, line after line, in words that no public contract needs.
-use Rattle.std.specs.Prelude.{◌≡◌, ℕ, ◌+◌, false, List, map, Option, unwrap_or, ℤ, pos}
-use Rattle.std.specs.List.{range_with_len}
+-- What the reader's functions answer of a configuration file, line after line by their places, in words that no public contract needs.
+use Rattle.std.specs.Prelude.{ℕ, ◌+◌, zero, suc, max, nat_lt, if◌then◌else◌, List, [], ◌∷◌, ◌++◌, length, Option, Some, None, Result, Ok, Err, ℤ}
 use Rattle.dfr_channels.specs.Spelling.{Number}
-use Rattle.dfr_channels.specs.Lines.{lines, field, line_fields}
-use Rattle.dfr_channels.specs.Fields.{zero_number, free_scale, side, free_bit}
-use Rattle.dfr_channels.specs.Faults.{◌or◌}
-use Rattle.dfr_channels.specs.Parts.{AnalogParts, StatusParts}
-use Rattle.dfr_channels.specs.declared.channel.Side.TheVariants.{Primary}
+use Rattle.dfr_channels.specs.Lines.{line_fields}
 use Rattle.comtrade_write.specs.declared.file.Kind.{Kind}
-use Rattle.comtrade_write.specs.declared.file.Kind.TheVariants.{Ascii}
 use Rattle.comtrade_write.specs.declared.file.Rate.{Rate}
 use Rattle.comtrade_write.specs.Parts.{HeadParts}
 use Rattle.comtrade_read.specs.declared.fault.ReadFault.{ReadFault}
-use Rattle.comtrade_read.specs.Fields.{natural, small, scale}
-use Rattle.comtrade_read.specs.Instant.{date, time, instant_at}
-use Rattle.comtrade_read.specs.Faulty.{AllObey}
-use Rattle.comtrade_read.specs.Inner.LineFaults.{line_fault, extra_fault, file_fault, first_in}
-use Rattle.comtrade_read.specs.Head.{names_rule, counts_rule, analog_rule, status_rule, frequency_rule, nrates_rule, rate_rule, instant_rule, kind_rule, timemult_rule, kind, analog_count, status_count, nrates_value, rate_before, rate_count, head_rules}
+use Rattle.comtrade_read.specs.declared.fault.ReadFault.TheVariants as faults
+use Rattle.comtrade_read.specs.Line.{Fault, told, follow}
+use Rattle.comtrade_read.specs.Inner.LineFaults.{extra_fault}
+use Rattle.comtrade_read.specs.Head.{names_line, counts_line, frequency_line, nrates_line, instant_line, kind_line, timemult_line, next_analog, next_status, next_rate}
 
 -- the part of a head behind its rates
 pub record EndParts : Type 0 where
@@ -35,119 +28,50 @@ pub record TailParts : Type 0 where
   pub kind : Kind
   pub timemult : Number
 
--- ---- what a line of each kind says
+-- what the line at place n says, from 0
+unfoldable pub line_at : {A : Type 0} → (List (List ℕ) → Result A Fault) → List (List ℕ) → ℕ → Result A ReadFault
+line_at says ls n = if nat_lt n (length ls) then told (n + 1) (says (line_fields ls n)) else Err (faults.Missing (n + 1))
 
-abbrev pub decimal_in : Option Number → Number
-decimal_in read = unwrap_or read zero_number
+-- what so many lines from place n on say
+unfoldable pub lines_at : {A : Type 0} → (List A → List (List ℕ) → Result A Fault) → List (List ℕ) → ℕ → ℕ → Result (List A) ReadFault
+lines_at says ls n zero = Ok []
+lines_at says ls n (suc c) = follow (lines_at says ls n c) (λ xs. follow (line_at (says xs) ls (n + c)) (λ x. Ok (xs ++ x ∷ [])))
 
-abbrev pub analog_value : List (List ℕ) → AnalogParts
-analog_value fs = record {
-  id = field fs 1;
-  phase = field fs 2;
-  component = field fs 3;
-  unit = field fs 4;
-  a = decimal_in (scale (field fs 5));
-  b = decimal_in (free_scale (field fs 6));
-  skew = decimal_in (free_scale (field fs 7));
-  min = unwrap_or (small (field fs 8)) (pos 0);
-  max = unwrap_or (small (field fs 9)) (pos 0);
-  primary = decimal_in (free_scale (field fs 10));
-  secondary = decimal_in (free_scale (field fs 11));
-  side = unwrap_or (side (field fs 12)) Primary;
-}
+-- the value, where there is no fault
+abbrev pub unless_fault : {A : Type 0} → Option ReadFault → A → Result A ReadFault
+unless_fault None x = Ok x
+unless_fault (Some e) x = Err e
 
-abbrev pub status_value : List (List ℕ) → StatusParts
-status_value fs = record { id = field fs 1; phase = field fs 2; component = field fs 3; normal = unwrap_or (free_bit (field fs 4)) false }
+-- the lines behind the rates
+unfoldable pub ends_at : List (List ℕ) → ℕ → Result EndParts ReadFault
+ends_at ls at =
+    follow (line_at instant_line ls at) (λ first. follow (line_at instant_line ls (at + 1)) (λ trigger.
+    follow (line_at kind_line ls (at + 2)) (λ kind. follow (line_at timemult_line ls (at + 3)) (λ timemult.
+    unless_fault (extra_fault ls (at + 4)) (record { first = first; trigger = trigger; kind = kind; timemult = timemult })))))
 
-abbrev pub rate_value : List (List ℕ) → Rate
-rate_value fs = record { samp = decimal_in (scale (field fs 0)); endsamp = unwrap_or (natural 9999999999 (field fs 1)) 0 }
+-- the lines behind the channels
+unfoldable pub tail_at : List (List ℕ) → ℕ → Result TailParts ReadFault
+tail_at ls at =
+    follow (line_at frequency_line ls at) (λ line_freq. follow (line_at nrates_line ls (at + 1)) (λ nrates.
+    follow (lines_at next_rate ls (at + 2) (max 1 nrates)) (λ rates. follow (ends_at ls (at + 2 + max 1 nrates)) (λ e.
+    Ok (record { line_freq = line_freq; nrates = nrates; rates = rates; first = e.first; trigger = e.trigger; kind = e.kind; timemult = e.timemult })))))
 
-abbrev pub instant_value : List (List ℕ) → ℤ
-instant_value fs = instant_at (unwrap_or (date (field fs 0)) (pos 0)) (unwrap_or (time (field fs 1)) 0)
-
-abbrev pub kind_value : List (List ℕ) → Kind
-kind_value fs = unwrap_or (kind (field fs 0)) Ascii
-
-unfoldable pub head_fault : List (List ℕ) → Option ReadFault
-head_fault ls = file_fault ls (head_rules ls)
-
--- ---- the faults and values of the lines of a list, one after the other
-
-abbrev pub analog_faults : List (List ℕ) → ℕ → Option ReadFault
-analog_faults ls i = line_fault ls (analog_rule (i + 1)) (2 + i)
-
-abbrev pub analog_items : List (List ℕ) → ℕ → List AnalogParts
-analog_items ls count = map (λ i. analog_value (line_fields ls (2 + i))) (range_with_len 0 count)
-
-abbrev pub status_faults : List (List ℕ) → ℕ → ℕ → Option ReadFault
-status_faults ls k i = line_fault ls (status_rule (i + 1)) (2 + k + i)
-
-abbrev pub status_items : List (List ℕ) → ℕ → ℕ → List StatusParts
-status_items ls k count = map (λ i. status_value (line_fields ls (2 + k + i))) (range_with_len 0 count)
-
-abbrev pub rate_faults : List (List ℕ) → ℕ → ℕ → Option ReadFault
-rate_faults ls start i = line_fault ls (rate_rule (rate_before ls start i)) (start + i)
-
-abbrev pub rate_items : List (List ℕ) → ℕ → ℕ → List Rate
-rate_items ls start count = map (λ i. rate_value (line_fields ls (start + i))) (range_with_len 0 count)
-
--- the first fault of the lines behind the rates, of which there are r
-abbrev pub end_fault : List (List ℕ) → ℕ → ℕ → Option ReadFault
-end_fault ls at r =
-    line_fault ls instant_rule (at + 2 + r) or (line_fault ls instant_rule (at + 3 + r) or (line_fault ls kind_rule (at + 4 + r)
-    or (line_fault ls timemult_rule (at + 5 + r) or extra_fault ls (at + 6 + r))))
-
-abbrev pub end_value : List (List ℕ) → ℕ → ℕ → EndParts
-end_value ls at r = record {
-  first = instant_value (line_fields ls (at + 2 + r));
-  trigger = instant_value (line_fields ls (at + 3 + r));
-  kind = kind_value (line_fields ls (at + 4 + r));
-  timemult = decimal_in (scale (field (line_fields ls (at + 5 + r)) 0));
-}
-
--- the first fault of the lines behind the channels
-abbrev pub tail_fault : List (List ℕ) → ℕ → ℕ → Option ReadFault
-tail_fault ls at r =
-    line_fault ls frequency_rule at or (line_fault ls nrates_rule (at + 1) or (first_in (rate_faults ls (at + 2)) r or end_fault ls at r))
-
-abbrev pub tail_value : List (List ℕ) → ℕ → ℕ → TailParts
-tail_value ls at r = record {
-  line_freq = decimal_in (free_scale (field (line_fields ls at) 0));
-  nrates = nrates_value (line_fields ls (at + 1));
-  rates = rate_items ls (at + 2) r;
-  first = instant_value (line_fields ls (at + 2 + r));
-  trigger = instant_value (line_fields ls (at + 3 + r));
-  kind = kind_value (line_fields ls (at + 4 + r));
-  timemult = decimal_in (scale (field (line_fields ls (at + 5 + r)) 0));
-}
-
--- the first fault of a head with k analogue and m status channels, part by part
-abbrev pub chain : List (List ℕ) → ℕ → ℕ → Option ReadFault
-chain ls k m =
-    line_fault ls names_rule 0 or (line_fault ls counts_rule 1 or (first_in (analog_faults ls) k or (first_in (status_faults ls k) m
-    or tail_fault ls (2 + k + m) (rate_count ls (2 + k + m)))))
-
-abbrev pub value_of : List (List ℕ) → ℕ → ℕ → HeadParts
-value_of ls k m =
-    let tail = tail_value ls (2 + k + m) (rate_count ls (2 + k + m)) in
-    record {
-      station = field (line_fields ls 0) 0;
-      device = field (line_fields ls 0) 1;
-      analog = analog_items ls k;
-      status = status_items ls k m;
-      line_freq = tail.line_freq;
-      nrates = tail.nrates;
-      rates = tail.rates;
-      first = tail.first;
-      trigger = tail.trigger;
-      kind = tail.kind;
-      timemult = tail.timemult;
-    }
-
--- what the lines say
-unfoldable pub head_value : List (List ℕ) → HeadParts
-head_value ls = value_of ls (analog_count (line_fields ls 1)) (status_count (line_fields ls 1))
-
--- each line of the text is of its kind, and together they say this head
-abbrev pub SaysHead : List ℕ → HeadParts → Type 0
-SaysHead cfg h = AllObey (lines cfg) (head_rules (lines cfg)) × (h ≡ head_value (lines cfg))
+-- all lines
+unfoldable pub head_at : List (List ℕ) → Result HeadParts ReadFault
+head_at ls =
+    follow (line_at names_line ls 0) (λ names. follow (line_at counts_line ls 1) (λ counts.
+    follow (lines_at next_analog ls 2 counts.0) (λ analog. follow (lines_at next_status ls (2 + counts.0) counts.1) (λ status.
+    follow (tail_at ls (2 + counts.0 + counts.1)) (λ t.
+    Ok (record {
+      station = names.0;
+      device = names.1;
+      analog = analog;
+      status = status;
+      line_freq = t.line_freq;
+      nrates = t.nrates;
+      rates = t.rates;
+      first = t.first;
+      trigger = t.trigger;
+      kind = t.kind;
+      timemult = t.timemult;
+    }))))))

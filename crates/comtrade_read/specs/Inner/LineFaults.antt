@@ -42,6 +42,11 @@ abbrev pub Gives : {X Y : Type 0} → (X → Y) → Option ReadFault → Y → R
 Gives view fault value (Ok x) = (fault ≡ None) × (view x ≡ value)
 Gives view fault value (Err e) = e ≢ faults.Memory → fault ≡ Some e
 
+-- what a function returned, seen by view: what is said, or want of memory
+abbrev pub Is : {X Y : Type 0} → (X → Y) → Result Y ReadFault → Result X ReadFault → Type 0
+Is view said (Ok x) = said ≡ Ok (view x)
+Is view said (Err e) = e ≢ faults.Memory → said ≡ Err e
+
 -- what reading a field gave
 abbrev pub GivesField : {A : Type 0} → Option A → ReadFault → Result A ReadFault → Type 0
 GivesField read fault (Ok x) = read ≡ Some x

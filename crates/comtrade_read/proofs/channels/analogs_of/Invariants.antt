@@ -1,12 +1,12 @@
-use Rattle.std.proofs.Common.{◌≡◌}
-use Rattle.std.specs.Prelude.{None}
+use Rattle.std.proofs.Common.{◌≡◌, length}
+use Rattle.std.specs.Prelude.{Ok}
 use Rattle.dfr_channels.specs.Lines.{texts}
-use Rattle.comtrade_read.specs.Inner.LineFaults.{first_in}
-use Rattle.comtrade_read.specs.Inner.HeadValues.{analog_faults, analog_items}
+use Rattle.comtrade_read.specs.Head.{next_analog}
+use Rattle.comtrade_read.specs.Inner.HeadValues.{lines_at}
 use Rattle.comtrade_read.proofs.channels.analogs_of.Given as goal
 
 abbrev pub invariant-loop-i : goal.invariant-loop-i
 invariant-loop-i g l = record {
-  sound : first_in (analog_faults (texts l.lines)) l.i ≡ None;
-  same : l.list.items ≡ analog_items (texts l.lines) l.i;
+  sound : lines_at next_analog (texts l.lines) 2 l.i ≡ Ok l.list.items;
+  long : length l.list.items ≡ l.i;
 }

@@ -1,28 +1,35 @@
-use Rattle.std.proofs.Common.{◌≡◌, ℕ, ◌+◌, refl, arith}
+use Rattle.std.proofs.Common.{◌≡◌, ℕ, ◌+◌, ◌∷◌, [], length, sym, ap, ◌∙◌, arith, length-append}
+use Rattle.std.specs.Prelude.{Ok, Err}
 use Rattle.std.proofs.lemmas.Result.{err_from_is_err_and}
-use Rattle.std.proofs.lemmas.List.FromFn.{map-range_with_len_more}
-use Rattle.dfr_channels.specs.Lines.{texts, line_fields}
-use Rattle.comtrade_read.specs.Inner.HeadValues.{status_faults, status_value}
-use Rattle.comtrade_read.proofs.FirstFault.{starts, goes_on, stops}
+use Rattle.dfr_channels.specs.Lines.{texts}
+use Rattle.comtrade_read.specs.Head.{status_line, next_status}
+use Rattle.comtrade_read.specs.Inner.HeadValues.{line_at}
+use Rattle.comtrade_read.proofs.HeadRead.{starts, goes_on, stops}
 use Rattle.comtrade_read.proofs.channels.statuses_of.Goals as goal
 
 pub loop-i-init : goal.loop-i-init
-loop-i-init g c = record { sound = starts (status_faults (texts c.args.lines.now) c.args.analog); same = c.new-list.ensures.items }
+loop-i-init g c = record { sound = starts next_status (texts c.args.lines.now) (2 + c.args.analog) ∙ ap (λ xs. Ok xs) (sym c.new-list.ensures.items); long = ap length c.new-list.ensures.items }
 
 pub returns-in_err-status_at : goal.returns-in_err-status_at
 returns-in_err-status_at g c =
     let p = err_from_is_err_and c.from_residual.result c.from_residual.ensures.1 in
-    rw (p.1, p.2) (λ n. stops (status_faults (texts c.args.lines.now) c.args.analog) c.in_err-status_at.field-0.0 c.loop-i.i c.args.count c.loop-i.invariant.sound (c.in_err-status_at.ensures n) c.loop-i-test.true)
+    let xs = c.loop-i.list.items in
+    rw (p.1, p.2) (λ n.
+    let e : line_at (next_status xs) (texts c.args.lines.now) ((2 + c.args.analog) + c.loop-i.i) ≡ Err c.in_err-status_at.field-0.0 =
+    ap (λ (k : ℕ). line_at (status_line (k + 1)) (texts c.args.lines.now) ((2 + c.args.analog) + c.loop-i.i)) c.loop-i.invariant.long ∙ c.in_err-status_at.ensures n in
+    stops next_status (texts c.args.lines.now) (2 + c.args.analog) c.loop-i.i c.args.count xs c.in_err-status_at.field-0.0 c.loop-i.invariant.sound e c.loop-i-test.true)
 
 pub loop-i-preserved : goal.loop-i-preserved
 loop-i-preserved g c =
-    let more = map-range_with_len_more (λ (i : ℕ). status_value (line_fields (texts c.args.lines.now) (2 + c.args.analog + i))) 0 c.loop-i.i c.loop-i.i (omega arith) in
+    let xs = c.loop-i.list.items in
+    let e : line_at (next_status xs) (texts c.args.lines.now) ((2 + c.args.analog) + c.loop-i.i) ≡ Ok c.in_ok-status_at.field-0 =
+    ap (λ (k : ℕ). line_at (status_line (k + 1)) (texts c.args.lines.now) ((2 + c.args.analog) + c.loop-i.i)) c.loop-i.invariant.long ∙ c.in_ok-status_at.ensures in
     record {
-      sound = goes_on (status_faults (texts c.args.lines.now) c.args.analog) c.loop-i.i c.loop-i.invariant.sound c.in_ok-status_at.ensures.0;
-      same = rw (c.in_ok-push.ensures.items, more, c.loop-i.invariant.same, c.in_ok-status_at.ensures.1) refl;
+      sound = rw c.in_ok-push.ensures.items (goes_on next_status (texts c.args.lines.now) (2 + c.args.analog) c.loop-i.i xs c.in_ok-status_at.field-0 c.loop-i.invariant.sound e);
+      long = ap length c.in_ok-push.ensures.items ∙ length-append xs (c.in_ok-status_at.field-0 ∷ []) ∙ ap (λ n. n + 1) c.loop-i.invariant.long;
     }
 
 pub returns : goal.returns
 returns g c =
     let end : c.loop-i.i ≡ c.args.count = omega arith in
-    (rw end at c.loop-i.invariant.sound, rw end at c.loop-i.invariant.same)
+    rw end at c.loop-i.invariant.sound

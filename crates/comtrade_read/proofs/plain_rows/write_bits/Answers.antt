@@ -1,5 +1,5 @@
-use Rattle.std.proofs.Common.{◌≡◌, ◌∙◌, length, arith}
-use Rattle.comtrade_read.proofs.PlainRows.{first_bit, written, last_bit}
+use Rattle.std.proofs.Common.{◌∙◌, arith}
+use Rattle.comtrade_read.proofs.PlainRows.{first_bit, written}
 use Rattle.comtrade_read.proofs.plain_rows.write_bits.Goals as goal
 
 pub loop-i-init : goal.loop-i-init
