@@ -1,6 +1,6 @@
 //! The rows of a binary data file (C37.111-1999, clause 6).
 
-ghost use Rattle.std.specs.Prelude.{◌≡◌, ◌≢◌, ◌≤◌, ◌<◌, ◌*◌, ◌+◌, ◌/◌, ◌^◌, ◌++◌, length, map, IfOk, IfErr};
+ghost use Rattle.std.specs.Prelude.{◌≡◌, ◌≢◌, ◌≤◌, ◌<◌, ◌*◌, ◌+◌, ◌/◌, ◌^◌, ◌++◌, length, map, min, IfOk, IfErr};
 ghost use Rattle.std.specs.Vec.{vec_len, vec_capacity};
 ghost use Rattle.comtrade_read.specs.declared.fault.ReadFault.TheVariants as faults;
 ghost use Rattle.comtrade_read.specs.Inner.BinaryRows as spec;
@@ -54,8 +54,7 @@ fn values_of<A: Allocator>(
     Ok(values)
 }
 
-/// Appends the lowest bits of a group, for which there is room. Where the compiler knows that it is a whole group, it has
-/// no loop for it.
+/// Appends the lowest bits of a group, for which there is room.
 #[inline(always)]
 fn push_group<A: Allocator>(bits: &mut Vec<bool, A>, group: u16, count: usize)
     requires few { count ≤ 16 }
@@ -69,23 +68,40 @@ fn push_group<A: Allocator>(bits: &mut Vec<bool, A>, group: u16, count: usize)
     }
 }
 
+/// The same, where the compiler knows how long a whole group is, and has no loop for it.
+#[inline(always)]
+fn push_bits<A: Allocator>(bits: &mut Vec<bool, A>, group: u16, count: usize)
+    requires few { count ≤ 16 }
+    requires room { vec_len bits.old + count ≤ vec_capacity bits.old }
+    ensures items { bits.new.items ≡ bits.old.items ++ spec.group_bits count group }
+    ensures len { vec_len bits.new ≡ vec_len bits.old + count }
+    ensures capacity { vec_capacity bits.new ≡ vec_capacity bits.old }
+{
+    if count == 16 {
+        push_group(bits, group, 16);
+    } else {
+        push_group(bits, group, count);
+    }
+}
+
+/// How many bits of a group are of channels, where so many channels are left.
+fn group_len(left: usize) -> usize
+    ensures { result ≡ min left 16 }
+{
+    if left < 16 { left } else { 16 }
+}
+
 /// The first status bits, sixteen to a group, the lowest channel in the lowest bit.
 fn bits_of<A: Allocator>(alloc: A, bytes: &[u8], count: usize) -> Result<Vec<bool, A>, AllocError>
     requires { 2 * ((count + 15) / 16) ≤ length bytes.now }
     ensures { IfOk result (λ v. v.items ≡ spec.bits_at count bytes.now) }
 {
     let mut bits = Vec::with_capacity(alloc, count)?;
-    let whole = count / 16;
-    for i in 0..whole {
+    let groups = count.div_ceil(16);
+    for i in 0..groups {
         let group = LittleEndian::read_u16(&bytes[2 * i..]);
-        push_group(&mut bits, group, 16);
+        push_bits(&mut bits, group, group_len(count - 16 * i));
     }
-    let left = count - 16 * whole;
-    if left == 0 {
-        return Ok(bits);
-    }
-    let last = LittleEndian::read_u16(&bytes[2 * whole..]);
-    push_group(&mut bits, last, left);
     Ok(bits)
 }
 
