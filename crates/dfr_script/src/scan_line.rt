@@ -75,8 +75,9 @@ fn next_reading(text: &[u8]) -> (Option<Reading>, Option<&[u8]>)
     }
 }
 
-/// The readings between the commas of a part; none in an empty one.
+/// The readings between the commas of a part; none in an empty one. Inside its caller the loop had too few registers.
 #[tactic(auto, unfolding(crate::specs::ScanLines::part_fields))]
+#[inline(never)]
 fn readings_of<A: Allocator>(
     alloc: A,
     part: &[u8],
