@@ -290,17 +290,13 @@ def binary_of(script, scans):
 
 
 def rule_text(rule):
-    def bool_text(x):
-        return "true" if x else "false"
-
     if rule[0] == "level":
-        return (f"Level {{ channel: {rule[1]}, over: {bool_text(rule[2])}, "
-                f"threshold: {rule[3]} }}")
-    return f"Edge {{ channel: {rule[1]}, rise: {bool_text(rule[2])} }}"
+        return f"level {rule[1]} {'over' if rule[2] else 'under'} {rule[3]};"
+    return f"edge {rule[1]} {'rise' if rule[2] else 'fall'};"
 
 
 def rules_text(rules):
-    return "[" + ", ".join(map(rule_text, rules)) + "]"
+    return "[" + "".join(map(rule_text, rules)) + "]"
 
 
 PUMP = re.compile(r"Pump\((\d+), Pumped \{ scans: (\d+), stopped: (\w+) \}\)$")
@@ -503,6 +499,15 @@ def check_works(script, callers):
     need(sorted(n for c in callers for n in c.rules) == [n for _, n, rules in given if rules is not None], "rules set")
 
 
+def first_end(trouble, seat, callers):
+    """Why the first end is refused, where the token of this seat is missing, or exchanged for one of seat 0 that made nothing."""
+    if trouble == "Stranger":
+        if seat != 0:
+            return "Tokens"
+        return "Mismatch" if callers[0].made or callers[0].pumped else None
+    return {"Missing": "Tokens", "Refused": "Memory", "None": None}[trouble]
+
+
 def judge_shared(script, args, lines, seen):
     lane, seats = int(args[2]), int(args[3])
     need(lines.next("started ") == "true", "threads weren't started")
@@ -523,10 +528,10 @@ def judge_shared(script, args, lines, seen):
     check_works(script, callers)
     offered, behind = offered_steps(script, lines.next("source full "), lane)
     need(int(lines.next("lost ")) == behind, "lost behind the last scan", behind)
-    ending = lines.next("end with ")
+    ending, seat = lines.next("end with ").split()
     first = list(lines.while_("first end "))
-    wanted = {"Missing": ["first end Tokens"], "Refused": ["first end Memory"], "None": []}[ending]
-    need(first == wanted, "the first end", ending, first)
+    wanted = first_end(ending, int(seat), callers)
+    need(first == ([f"first end {wanted}"] if wanted else []), "the first end", ending, first, wanted)
     log = read_log(lines)
     by_seat = [[] for _ in range(seats)]
     for entry in log:

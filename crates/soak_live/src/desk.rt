@@ -175,7 +175,7 @@ impl<N: Session<A>, A: Allocator + Copy> Desk<'_, N, A> {
                 return self.do_work(rt, token, work);
             }
         }
-        pump(rt, &self.shared, token, most.saturating_mul(most))
+        pump(rt, &self.shared, token, most.saturating_pow(3))
     }
 
     fn call_noted(&self, rt: &impl Wait, held: &mut Held<A>, chance: &mut Chance) {

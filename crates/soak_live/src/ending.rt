@@ -1,120 +1,131 @@
 //! The end of a shared recorder, and what is told of it.
 
 use crate::chance::Chance;
-use crate::desk::{Desk, Heap, Held, Offered};
+use crate::desk::{Acquiring, Desk, Heap, Held, Offered};
+use crate::given::stranger;
 use crate::notes::{record_sum, scan_sum};
-use anyhow::Result;
+use crate::out::Out;
 use dfr_live::{Call, EndFault, Ended, Entry, Inner, Left, Session, Source, Token, end};
-use dfr_recorder::Recorder;
+use dfr_recorder::{Record, Recorder};
 use std::alloc::Allocator;
 use std::sync::{Mutex, Wait};
 
-fn tell_seen<R: Print>(rt: &R, seen: &[Offered]) -> Result<()> {
+fn put_seen(out: &mut Out, seen: &[Offered]) {
     let mut taken = 0u64;
     for one in seen {
         match *one {
             Offered::Taken => taken = taken.saturating_add(1),
             Offered::Lost(n) => {
-                print!(rt; " {taken} l{n}")?;
+                out.item(" ", taken);
+                out.item(" l", n as u64);
                 taken = 0;
             }
         }
     }
-    println!(rt; " {taken}")?;
-    Ok(())
+    out.item(" ", taken);
 }
 
-fn tell_notes<A: Allocator, R: Print>(rt: &R, held: &Held<A>) -> Result<()> {
-    let seat = held.token.seat();
+fn put_source<N: Session<A>, A: Allocator>(out: &mut Out, acquiring: &Acquiring<N, A>) {
+    out.item("source full ", acquiring.full);
+    out.put(":");
+    put_seen(out, &acquiring.seen);
+    out.item("\nlost ", acquiring.source.lost() as u64);
+    out.put("\n");
+}
+
+fn put_notes<A: Allocator>(out: &mut Out, held: &Held<A>) {
+    let seat = held.token.seat() as u64;
     for note in &held.notes {
-        println!(rt; "{seat} {note:?}")?;
+        out.item("", seat);
+        out.put(" ");
+        out.note(*note);
     }
-    println!(rt; "{seat} pumped {}", held.token.pumped())?;
-    Ok(())
-}
-
-fn tell_source<N: Session<A>, A: Allocator, R: Print + Wait>(
-    rt: &R,
-    desk: &Desk<'_, N, A>,
-) -> Result<()> {
-    let acquiring = desk.acquiring.lock(rt);
-    print!(rt; "source full {}:", acquiring.full)?;
-    tell_seen(rt, &acquiring.seen)?;
-    println!(rt; "lost {}", acquiring.source.lost())?;
-    Ok(())
+    out.item("", seat);
+    out.item(" pumped ", held.token.pumped());
+    out.put("\n");
 }
 
 /// Whether the threads were started, and what each caller saw.
-pub fn tell_callers<N: Session<A>, A: Allocator, R: Print + Wait>(
-    rt: &R,
+pub fn put_callers<N: Session<A>, A: Allocator>(
+    rt: &impl Wait,
+    out: &mut Out,
     desk: &Desk<'_, N, A>,
     started: bool,
-) -> Result<()> {
-    println!(rt; "started {started}")?;
+) {
+    out.put(if started {
+        "started true\n"
+    } else {
+        "started false\n"
+    });
     for held in &desk.tokens {
-        tell_notes(rt, &held.lock(rt))?;
+        put_notes(out, &held.lock(rt));
     }
-    tell_source(rt, desk)
+    put_source(out, &desk.acquiring.lock(rt));
 }
 
-fn tell_entry<A: Allocator, R: Print>(rt: &R, entry: &Entry<A>) -> Result<()> {
-    print!(rt; "log {} {} {:?}", entry.caller, entry.at, entry.reply)?;
-    match &entry.call {
-        Call::SetRules(rules) => println!(rt; " {:?}", rules.list())?,
-        Call::Trigger | Call::Take => println!(rt; "")?,
+fn put_entry<A: Allocator>(out: &mut Out, entry: &Entry<A>) {
+    out.item("log ", entry.caller as u64);
+    out.item(" ", entry.at);
+    out.put(" ");
+    out.reply(&entry.reply);
+    if let Call::SetRules(rules) = &entry.call {
+        out.put(" ");
+        out.rules(rules.list());
     }
-    Ok(())
+    out.put("\n");
 }
 
-fn tell_lists<A: Allocator, R: Print>(rt: &R, log: &[Entry<A>], left: &[Left<A>]) -> Result<()> {
-    for entry in log {
-        tell_entry(rt, entry)?;
-    }
-    for item in left {
-        println!(rt; "left {} {}", item.lost, scan_sum(&item.scan))?;
-    }
-    Ok(())
+fn put_left<A: Allocator>(out: &mut Out, item: &Left<A>) {
+    out.item("left ", item.lost as u64);
+    out.item(" ", scan_sum(&item.scan));
+    out.put("\n");
 }
 
-fn tell_counts<A: Allocator + Copy, R: Print>(rt: &R, recorder: &Recorder<A>) -> Result<()> {
-    println!(rt;
-        "recorder {} {} {} {}",
-        recorder.scans(),
-        recorder.waiting(),
-        recorder.is_recording(),
-        recorder.held()
-    )?;
-    println!(rt; "rules {:?}", recorder.rules().list())?;
-    Ok(())
+fn put_counts<A: Allocator + Copy>(out: &mut Out, recorder: &Recorder<A>) {
+    out.item("recorder ", recorder.scans());
+    out.item(" ", recorder.waiting() as u64);
+    out.put(if recorder.is_recording() {
+        " true"
+    } else {
+        " false"
+    });
+    out.item(" ", recorder.held());
+    out.put("\nrules ");
+    out.rules(recorder.rules().list());
+    out.put("\n");
 }
 
-fn tell_next<A: Allocator + Copy, R: Print>(rt: &R, recorder: &mut Recorder<A>) -> Result<()> {
-    if let Some(record) = recorder.take() {
-        println!(rt; "waits {:?} {}", record.extent(), record_sum(&record))?;
+fn put_waiting<A: Allocator + Copy>(out: &mut Out, record: &Record<A>) {
+    out.put("waits ");
+    out.extent(record.extent());
+    out.item(" ", record_sum(record));
+    out.put("\n");
+}
+
+/// The log, what is left, what the recorder counts, and the records that wait in it.
+pub fn put_ended<A: Allocator + Copy>(out: &mut Out, ended: Ended<A>) {
+    for entry in &ended.log {
+        put_entry(out, entry);
     }
-    Ok(())
-}
-
-/// What the recorder counts, and the records that wait in it.
-fn tell_recorder<A: Allocator + Copy, R: Print>(rt: &R, recorder: Recorder<A>) -> Result<()> {
-    let mut recorder = recorder;
-    tell_counts(rt, &recorder)?;
+    for item in &ended.left {
+        put_left(out, item);
+    }
+    let mut recorder = ended.recorder;
+    put_counts(out, &recorder);
     for _ in 0..recorder.waiting() {
-        tell_next(rt, &mut recorder)?;
+        if let Some(record) = recorder.take() {
+            put_waiting(out, &record);
+        }
     }
-    Ok(())
-}
-
-pub fn tell_ended<A: Allocator + Copy, R: Print>(rt: &R, ended: Ended<A>) -> Result<()> {
-    tell_lists(rt, &ended.log, &ended.left)?;
-    tell_recorder(rt, ended.recorder)
 }
 
 /// What is wrong with the first end.
-#[derive(Clone, Copy, Debug)]
+#[derive(Clone, Copy, PartialEq, Eq)]
 pub enum Trouble {
     /// A token is missing.
     Missing,
+    /// A token is exchanged for that of seat 0 of another opening.
+    Stranger,
     /// An allocation is refused.
     Refused,
     None,
@@ -122,9 +133,10 @@ pub enum Trouble {
 
 impl Trouble {
     pub fn by(chance: &mut Chance) -> Trouble {
-        match chance.below(3) {
+        match chance.below(4) {
             0 => Trouble::Missing,
             1 => Trouble::Refused,
+            2 => Trouble::Stranger,
             _ => Trouble::None,
         }
     }
@@ -132,8 +144,14 @@ impl Trouble {
 
 type Parts<N, A> = (Inner<N, A>, Source<N, A>, Vec<Token<A>, A>);
 
-/// What came of ending: why it was refused at first, and at last.
-pub type Ends<A> = (Option<EndFault>, std::result::Result<Ended<A>, EndFault>);
+/// What came of ending: the seat of the token that was missing or exchanged at first, why the end was
+/// refused then, and the end at last.
+#[derive(Drop)]
+pub struct Ends<A: Allocator> {
+    seat: Option<u32>,
+    first: Option<EndFault>,
+    last: Result<Ended<A>, EndFault>,
+}
 
 fn put<A: Allocator + Copy>(tokens: &mut Vec<Token<A>, A>, token: Token<A>, chance: &mut Chance) {
     let _pushed = tokens.push(token).is_ok();
@@ -170,18 +188,52 @@ fn parts_of<N: Session<A>, A: Allocator + Copy>(
     (shared.unlock(), source, tokens_of(alloc, tokens, chance))
 }
 
+/// Ends with all tokens, but for this stranger.
 fn end_again<N: Session<A>, A: Allocator + Copy>(
     alloc: A,
     parts: Parts<N, A>,
     missing: Option<Token<A>>,
-) -> std::result::Result<Ended<A>, EndFault> {
+    stranger: bool,
+) -> Result<Ended<A>, EndFault> {
     let (inner, source, mut tokens) = parts;
+    if stranger {
+        let _stranger = tokens.pop();
+    }
     if let Some(token) = missing {
         let _pushed = tokens.push(token).is_ok();
     }
     match end(alloc, inner, source, tokens) {
         Ok(ended) => Ok(ended),
         Err((fault, _, _, _)) => Err(fault),
+    }
+}
+
+/// Takes a token out, and puts a stranger in.
+fn exchange<A: Allocator + Copy>(alloc: A, tokens: &mut Vec<Token<A>, A>) -> Option<Token<A>> {
+    let missing = tokens.pop();
+    if let Some(stranger) = stranger(alloc) {
+        let _pushed = tokens.push(stranger).is_ok();
+    }
+    missing
+}
+
+/// The token that is missing then.
+fn trouble_tokens<A: Allocator + Copy>(
+    alloc: A,
+    tokens: &mut Vec<Token<A>, A>,
+    trouble: Trouble,
+) -> Option<Token<A>> {
+    match trouble {
+        Trouble::Missing => tokens.pop(),
+        Trouble::Stranger => exchange(alloc, tokens),
+        Trouble::Refused | Trouble::None => None,
+    }
+}
+
+fn seat_of<A: Allocator>(token: &Option<Token<A>>) -> Option<u32> {
+    match token {
+        Some(token) => Some(token.seat()),
+        None => None,
     }
 }
 
@@ -193,24 +245,31 @@ fn end_with<N: Session<A>, A: Allocator + Copy>(
     trouble: Trouble,
 ) -> Ends<A> {
     let (inner, source, mut tokens) = parts;
-    let mut missing = None;
-    match trouble {
-        Trouble::Missing => missing = tokens.pop(),
-        Trouble::Refused => heap.refuse(1),
-        Trouble::None => {}
+    let missing = trouble_tokens(alloc, &mut tokens, trouble);
+    let seat = seat_of(&missing);
+    if trouble == Trouble::Refused {
+        heap.refuse(1);
     }
     match end(alloc, inner, source, tokens) {
-        Ok(ended) => (None, Ok(ended)),
+        Ok(ended) => Ends {
+            seat,
+            first: None,
+            last: Ok(ended),
+        },
         Err((fault, inner, source, tokens)) => {
             heap.ample();
-            let at_last = end_again(alloc, (inner, source, tokens), missing);
-            (Some(fault), at_last)
+            let parts = (inner, source, tokens);
+            Ends {
+                seat,
+                first: Some(fault),
+                last: end_again(alloc, parts, missing, trouble == Trouble::Stranger),
+            }
         }
     }
 }
 
 /// What came of ending a desk's recorder.
-pub fn ends<N: Session<A>, A: Allocator + Copy>(
+pub fn end_desk<N: Session<A>, A: Allocator + Copy>(
     heap: Heap,
     alloc: A,
     desk: Desk<'_, N, A>,
@@ -220,28 +279,33 @@ pub fn ends<N: Session<A>, A: Allocator + Copy>(
     end_with(heap, alloc, parts_of(alloc, desk, chance), trouble)
 }
 
-fn tell_first<R: Print>(rt: &R, trouble: Trouble, first: Option<EndFault>) -> Result<()> {
-    println!(rt; "end with {trouble:?}")?;
-    if let Some(fault) = first {
-        println!(rt; "first end {fault:?}")?;
+fn trouble_text(trouble: Trouble) -> &'static str {
+    match trouble {
+        Trouble::Missing => "Missing ",
+        Trouble::Stranger => "Stranger ",
+        Trouble::Refused => "Refused ",
+        Trouble::None => "None ",
     }
-    Ok(())
 }
 
-fn tell_fault<R: Print>(rt: &R, fault: EndFault) -> Result<()> {
-    println!(rt; "end {fault:?}")?;
-    Ok(())
+fn fault_text(fault: EndFault) -> &'static str {
+    match fault {
+        EndFault::Tokens => "end Tokens\n",
+        EndFault::Mismatch => "end Mismatch\n",
+        EndFault::Memory => "end Memory\n",
+    }
 }
 
-pub fn tell_ends<A: Allocator + Copy, R: Print>(
-    rt: &R,
-    trouble: Trouble,
-    ends: Ends<A>,
-) -> Result<()> {
-    let (first, ended) = ends;
-    tell_first(rt, trouble, first)?;
-    match ended {
-        Ok(ended) => tell_ended(rt, ended),
-        Err(fault) => tell_fault(rt, fault),
+pub fn put_ends<A: Allocator + Copy>(out: &mut Out, trouble: Trouble, ends: Ends<A>) {
+    out.put("end with ");
+    out.item(trouble_text(trouble), ends.seat.unwrap_or(0) as u64);
+    out.put("\n");
+    if let Some(fault) = ends.first {
+        out.put("first ");
+        out.put(fault_text(fault));
+    }
+    match ends.last {
+        Ok(ended) => put_ended(out, ended),
+        Err(fault) => out.put(fault_text(fault)),
     }
 }

@@ -1,10 +1,14 @@
 //! What a script gives a run: the recorder, the scans, and the calls.
 
+ghost use Rattle.std.specs.Prelude.{◌≡◌};
+
 use dfr_channels::{Layout, Rule, Rules, Scan, Setup};
+use dfr_live::{Opened, Session, Token, open};
 use dfr_recorder::{Limits, Recorder};
 use dfr_script::{Command, LimitNumbers, Script, script_of};
 use std::alloc::Allocator;
 use std::collections::VecDeque;
+use std::marker::Brand;
 
 /// What the acquisition is given.
 #[derive(Drop)]
@@ -149,5 +153,38 @@ pub fn given_of<A: Allocator + Copy>(alloc: A, script: Script<A>) -> Option<Give
     match recorder_of(alloc, setup, limits, rules) {
         Some(recorder) => with_lists(recorder, lists),
         None => None,
+    }
+}
+
+fn token_named<N: Session<A>, A: Allocator + Copy>(opened: Opened<A>) -> Option<Token<A>>
+    requires { (opened.opening ≡ N.opening) × (opened.lane ≡ N.lane) }
+{
+    let (_, _, tokens) = opened.share::<N>();
+    tokens.into_iter().next()
+}
+
+const ONE_SCAN: LimitNumbers = LimitNumbers {
+    pre: 0,
+    post: 1,
+    longest: 2,
+    shelf: 1,
+    unshared: false,
+};
+
+fn another<A: Allocator + Copy>(alloc: A) -> Option<Recorder<A>> {
+    match wide(alloc) {
+        Some(layout) => match limits_of(&layout, ONE_SCAN) {
+            Some(limits) => recorder_over(alloc, layout, limits, Vec::new(alloc)),
+            None => None,
+        },
+        None => None,
+    }
+}
+
+/// The token of another opening, of seat 0.
+pub fn stranger<A: Allocator + Copy>(alloc: A) -> Option<Token<A>> {
+    match open(alloc, another(alloc)?, 1, 1) {
+        Ok(opened) => token_named::<Brand, A>(opened),
+        Err(_) => None,
     }
 }

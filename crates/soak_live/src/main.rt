@@ -9,12 +9,14 @@ mod desk;
 mod ending;
 mod given;
 mod notes;
+mod out;
 mod plan;
 mod shared_run;
 mod station;
 mod threads;
 
 use crate::given::given_of;
+use crate::out::Out;
 use crate::plan::{Plan, Way};
 use anyhow::{Context, Result};
 use dfr_script::script_of;
@@ -31,18 +33,24 @@ fn input<R: Input + AllocGlobal>(rt: &R) -> Result<Vec<u8>> {
     Ok(text)
 }
 
-fn run<R: Wait + Threads + Sync + Print + AllocGlobal>(
+fn run<R: Wait + Threads + Sync + AllocGlobal>(
     rt: &R,
+    out: &mut Out,
     text: &[u8],
     plan: Plan,
-) -> Result<()> {
+) -> bool {
     let heap = Refusing::new(rt.alloc());
-    let script = script_of(&heap, text).ok().context("a script")?;
-    let given = given_of(&heap, script).context("a recorder")?;
+    let Ok(script) = script_of(&heap, text) else {
+        return false;
+    };
+    let Some(given) = given_of(&heap, script) else {
+        return false;
+    };
     match plan.way {
-        Way::Free | Way::Orderly => shared_run::run(rt, &heap, &heap, given, plan),
-        Way::Station => station::run(rt, &heap, given, plan),
+        Way::Free | Way::Orderly => shared_run::run(rt, out, (&heap, &heap), given, plan),
+        Way::Station => station::run(rt, out, &heap, given, plan),
     }
+    true
 }
 
 fn main(rt: HostRuntime) -> Result<()> {
@@ -50,5 +58,10 @@ fn main(rt: HostRuntime) -> Result<()> {
     let _program = words.next();
     let plan = Plan::of(&mut words).context("WAY SEED LANE SEATS THREADS ROUNDS")?;
     let text = input(&rt)?;
-    run(&rt, &text, plan)
+    let mut out = Out::new(rt.alloc());
+    if !run(&rt, &mut out, &text, plan) {
+        return None.context("a script of a recorder");
+    }
+    print!(rt; "{}", out.text)?;
+    Ok(())
 }

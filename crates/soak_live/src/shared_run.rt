@@ -4,12 +4,12 @@ ghost use Rattle.std.specs.Prelude.{◌≡◌};
 
 use crate::chance::Chance;
 use crate::desk::{Acquiring, Desk, Heap, Held};
-use crate::ending::{Trouble, ends, tell_callers, tell_ends};
+use crate::ending::{Trouble, end_desk, put_callers, put_ends};
 use crate::given::{Given, Lists};
+use crate::out::Out;
 use crate::plan::{Plan, Way};
 use crate::threads::{at_once, in_order};
-use anyhow::Result;
-use dfr_live::{OpenFault, Opened, Session, Token, open};
+use dfr_live::{Opened, Session, Token, open};
 use std::alloc::{AllocGlobal, Allocator, Global};
 use std::marker::Brand;
 use std::sync::{Mutex, Wait};
@@ -57,38 +57,34 @@ fn desk_of<'h, N: Session<A>, A: Allocator + Copy>(
 fn named<
     N: Session<A> + Send + Sync,
     A: Allocator + Copy + Send + Sync,
-    R: Wait + Threads + Sync + Print + AllocGlobal,
->(rt: &R, heap: Heap, alloc: A, opened: Opened<A>, lists: Lists<A>, plan: Plan) -> Result<()>
+    R: Wait + Threads + Sync + AllocGlobal,
+>(rt: &R, out: &mut Out, heaps: (Heap, A), opened: Opened<A>, lists: Lists<A>, plan: Plan)
     requires { (opened.opening ≡ N.opening) × (opened.lane ≡ N.lane) }
 {
+    let (heap, alloc) = heaps;
     let desk = desk_of::<N, A>(rt.alloc(), heap, opened, lists, plan);
     let started = match plan.way {
         Way::Orderly => in_order(rt, &desk, plan.threads),
         _ => at_once(rt, &desk, plan.threads),
     };
     heap.ample();
-    tell_callers(rt, &desk, started)?;
+    put_callers(rt, out, &desk, started);
     let mut chance = Chance::of(plan.seed, 2000);
     let trouble = Trouble::by(&mut chance);
-    let ends = ends(heap, alloc, desk, &mut chance, trouble);
-    tell_ends(rt, trouble, ends)
+    let ends = end_desk(heap, alloc, desk, &mut chance, trouble);
+    put_ends(out, trouble, ends);
 }
 
-fn tell_fault<R: Print>(rt: &R, fault: OpenFault) -> Result<()> {
-    println!(rt; "open {fault:?}")?;
-    Ok(())
-}
-
-pub fn run<A: Allocator + Copy + Send + Sync, R: Wait + Threads + Sync + Print + AllocGlobal>(
+pub fn run<A: Allocator + Copy + Send + Sync, R: Wait + Threads + Sync + AllocGlobal>(
     rt: &R,
-    heap: Heap,
-    alloc: A,
+    out: &mut Out,
+    (heap, alloc): (Heap, A),
     given: Given<A>,
     plan: Plan,
-) -> Result<()> {
+) {
     let Given { recorder, lists } = given;
     match open(alloc, recorder, plan.lane, plan.seats) {
-        Ok(opened) => named::<Brand, A, R>(rt, heap, alloc, opened, lists, plan),
-        Err((fault, _)) => tell_fault(rt, fault),
+        Ok(opened) => named::<Brand, A, R>(rt, out, (heap, alloc), opened, lists, plan),
+        Err((_, _)) => out.put("not opened\n"),
     }
 }

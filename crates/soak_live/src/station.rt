@@ -2,14 +2,16 @@
 
 use crate::chance::Chance;
 use crate::desk::Heap;
-use crate::ending::tell_ended;
+use crate::ending::put_ended;
 use crate::given::{Given, Lists, Sample, Work};
 use crate::notes::text_sum;
+use crate::out::Out;
 use crate::plan::Plan;
-use anyhow::Result;
 use comtrade_write::Kind;
-use dfr_live::{Fed, Feed, LiveFault, LiveReport, Order, Orders, Sink, run_live};
-use dfr_recorder::Extent;
+use dfr_live::{
+    EndFault, Fed, Feed, LiveFault, LiveReport, OpenFault, Order, Orders, Sink, run_live,
+};
+use dfr_recorder::{Extent, Recorder};
 use std::alloc::{AllocGlobal, Allocator};
 use std::collections::VecDeque;
 use std::sync::Wait;
@@ -48,7 +50,7 @@ struct Samples<A: Allocator> {
 }
 
 impl<A: Allocator> Feed<A> for Samples<A> {
-    fn next(&mut self) -> std::result::Result<Fed<A>, u32> {
+    fn next(&mut self) -> Result<Fed<A>, u32> {
         if self.failing.fails() {
             return Err(7);
         }
@@ -87,7 +89,7 @@ struct Slow {
 }
 
 impl Sink for Slow {
-    fn put(&mut self, extent: Extent, cfg: &[u8], dat: &[u8]) -> std::result::Result<(), u32> {
+    fn put(&mut self, extent: Extent, cfg: &[u8], dat: &[u8]) -> Result<(), u32> {
         if self.failing.fails() {
             return Err(9);
         }
@@ -99,47 +101,57 @@ impl Sink for Slow {
     }
 }
 
-fn tell_files<R: Print>(rt: &R, got: &[Files]) -> Result<()> {
+fn put_files(out: &mut Out, got: &[Files]) {
     for (extent, cfg, dat) in got {
-        println!(rt; "sink {extent:?} {cfg} {dat}")?;
+        out.put("sink ");
+        out.extent(*extent);
+        out.item(" ", *cfg);
+        out.item(" ", *dat);
+        out.put("\n");
     }
-    Ok(())
 }
 
-type Report<A> = std::result::Result<LiveReport<A>, LiveFault>;
+type Report<A> = Result<LiveReport<A>, LiveFault>;
 
-fn tell_fault<R: Print>(rt: &R, fault: LiveFault) -> Result<()> {
-    println!(rt; "fault {fault:?}")?;
-    Ok(())
+fn put_code(out: &mut Out, word: &str, code: u32) {
+    out.item(word, code as u64);
+    out.put(")\n");
 }
 
-fn tell_whole<A: Allocator + Copy, R: Print>(rt: &R, report: LiveReport<A>) -> Result<()> {
-    println!(rt;
-        "report {} {} {}",
-        report.stepped, report.refused, report.records
-    )?;
-    tell_ended(rt, report.ended)
+fn put_fault(out: &mut Out, fault: LiveFault) {
+    match fault {
+        LiveFault::Feed(code) => put_code(out, "fault Feed(", code),
+        LiveFault::Sink(code) => put_code(out, "fault Sink(", code),
+        LiveFault::Turns => out.put("fault Turns\n"),
+        LiveFault::Counter => out.put("fault Counter\n"),
+        LiveFault::Memory => out.put("fault Memory\n"),
+        LiveFault::Open(OpenFault::Memory) => out.put("fault Open(Memory)\n"),
+        LiveFault::Open(_) => out.put("fault Open\n"),
+        LiveFault::End(EndFault::Memory) => out.put("fault End(Memory)\n"),
+        LiveFault::End(_) => out.put("fault End\n"),
+    }
 }
 
-fn tell_report<A: Allocator + Copy, R: Print>(rt: &R, report: Report<A>) -> Result<()> {
+fn put_report<A: Allocator + Copy>(out: &mut Out, report: Report<A>) {
     match report {
-        Ok(report) => tell_whole(rt, report),
-        Err(fault) => tell_fault(rt, fault),
+        Ok(report) => {
+            out.item("report ", report.stepped);
+            out.item(" ", report.refused);
+            out.item(" ", report.records);
+            out.put("\n");
+            put_ended(out, report.ended);
+        }
+        Err(fault) => put_fault(out, fault),
     }
 }
 
 /// What the sink got; how many calls of the feed and of the sink were to come before one fails, and
-/// whether an allocation was refused; the report.
-fn tell_run<A: Allocator + Copy, R: Print>(
-    rt: &R,
-    got: &[Files],
-    (feed, sink): (u64, u64),
-    refused: bool,
-    report: Report<A>,
-) -> Result<()> {
-    tell_files(rt, got)?;
-    println!(rt; "to come {feed} {sink} {refused}")?;
-    tell_report(rt, report)
+/// whether an allocation was refused.
+fn put_devices(out: &mut Out, got: &[Files], (feed, sink): (u64, u64), refused: bool) {
+    put_files(out, got);
+    out.item("to come ", feed);
+    out.item(" ", sink);
+    out.put(if refused { " true\n" } else { " false\n" });
 }
 
 fn kind_of(plan: Plan) -> Kind {
@@ -160,12 +172,36 @@ fn refuse_by_chance(heap: Heap, plan: Plan) {
     heap.refuse(number);
 }
 
-pub fn run<'h, R: Wait + Threads + Sync + Print + AllocGlobal>(
+fn live<'h, R: Wait + Threads + Sync>(
     rt: &R,
+    heap: Heap<'h>,
+    recorder: Recorder<Heap<'h>>,
+    plan: Plan,
+    feed: &mut Samples<Heap<'h>>,
+    orders: &mut Works<Heap<'h>>,
+    sink: &mut Slow,
+) -> Report<Heap<'h>> {
+    refuse_by_chance(heap, plan);
+    run_live(
+        rt,
+        heap,
+        recorder,
+        plan.lane,
+        kind_of(plan),
+        1_000_000_000,
+        feed,
+        orders,
+        sink,
+    )
+}
+
+pub fn run<'h, R: Wait + Threads + Sync + AllocGlobal>(
+    rt: &R,
+    out: &mut Out,
     heap: Heap<'h>,
     given: Given<Heap<'h>>,
     plan: Plan,
-) -> Result<()> {
+) {
     let Given { recorder, lists } = given;
     let Lists { samples, works } = lists;
     let mut feed = Samples {
@@ -177,20 +213,14 @@ pub fn run<'h, R: Wait + Threads + Sync + Print + AllocGlobal>(
         got: Vec::new(rt.alloc()),
         failing: Failing::of(plan, 12, 8),
     };
-    refuse_by_chance(heap, plan);
-    let report = run_live(
-        rt,
-        heap,
-        recorder,
-        plan.lane,
-        kind_of(plan),
-        1_000_000_000,
-        &mut feed,
-        &mut orders,
-        &mut sink,
-    );
+    let report = live(rt, heap, recorder, plan, &mut feed, &mut orders, &mut sink);
     let refused = heap.has_refused();
     heap.ample();
-    let left = (feed.failing.left, sink.failing.left);
-    tell_run(rt, &sink.got, left, refused, report)
+    put_devices(
+        out,
+        &sink.got,
+        (feed.failing.left, sink.failing.left),
+        refused,
+    );
+    put_report(out, report);
 }
