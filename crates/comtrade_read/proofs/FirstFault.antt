@@ -1,20 +1,15 @@
--- The fault that a table gives is the first, and there is none exactly where every line is of its kind.
-use Rattle.std.proofs.Common.{◌≡◌, ℕ, zero, suc, ◌+◌, ◌<◌, ◌≤◌, Bool, true, false, cond, ltb, eqb, List, [], ◌∷◌, length, Option, Some, None, refl, arith, inl, inr}
-use Rattle.std.specs.Prelude.{◌≢◌, ◌⊎◌, slice_index_or}
-use Rattle.std.proofs.lemmas.Bool.Decides.{nat_tests}
-use Rattle.std.proofs.lemmas.Bool.{ltb-true, ltb-false, lt-ltb, le-ltb, eqb-true, cases_lt}
+-- The fault that is given is the first, and there is none exactly where every line is of its kind.
+use Rattle.std.proofs.Common.{◌≡◌, ℕ, zero, suc, ◌+◌, ◌<◌, ◌≤◌, Bool, true, false, cond, ltb, List, [], ◌∷◌, length, Option, Some, None, refl, arith, inl, inr}
+use Rattle.std.specs.Prelude.{◌⊎◌}
+use Rattle.std.proofs.lemmas.Bool.{ltb-true, ltb-false, lt-ltb, le-ltb, cases_lt}
 use Rattle.comtrade_read.specs.declared.fault.ReadFault.{ReadFault}
 use Rattle.comtrade_read.specs.declared.fault.ReadFault.TheVariants as faults
-use Rattle.dfr_channels.specs.Lines.{field, line_fields}
+use Rattle.dfr_channels.specs.Lines.{line_fields}
 use Rattle.dfr_channels.specs.Faults.{◌or◌}
-use Rattle.comtrade_read.specs.Table.{Rule, always}
-use Rattle.comtrade_read.specs.Inner.LineFaults.{tests_fault, fields_fault, line_fault, lines_fault, extra_fault, file_fault, first_in}
-use Rattle.comtrade_read.specs.Faulty.{ObeysFields, Obeys, IsFieldsFault, few, bad, wrong, IsLineFault, missing, within, rule, Faulty, at, extra, AllObey}
+use Rattle.comtrade_read.specs.Table.{Rule}
+use Rattle.comtrade_read.specs.Inner.LineFaults.{fields_fault, line_fault, lines_fault, extra_fault, file_fault, first_in}
+use Rattle.comtrade_read.specs.Faulty.{Obeys, IsLineFault, missing, within, rule, Faulty, at, extra, AllObey}
 use Rattle.dfr_channels.proofs.Lawful.{or-none}
-
--- whether test i passes the field at a place
-abbrev passes_at : List (List ℕ → Bool) → List (List ℕ) → ℕ → ℕ → Bool
-passes_at tests fs i place = (slice_index_or tests i always) (field fs place)
 
 abbrev some : ReadFault → Option ReadFault
 some e = Some e
@@ -30,102 +25,6 @@ or_some : (a b : Option ReadFault) (e : ReadFault) → (a or b) ≡ Some e → (
 or_some None b e h = inr (refl, h)
 or_some (Some d) b e h = inl h
 
-not_same : (m n : ℕ) → eqb m n ≡ false → m ≢ n
-not_same m n e h = grind (arith, nat_tests)
-
-eqb-same : (n : ℕ) → eqb n n ≡ true
-eqb-same n = grind (arith, nat_tests)
-
--- ---- the fields of a line
-
--- the tests of the fields from i on
-tests_none : (r : Rule) (line : ℕ) (ts : List (List ℕ → Bool)) (i : ℕ) (fs : List (List ℕ)) → tests_fault r line ts i fs ≡ None
-    → ((j : ℕ) → j < length ts → passes_at ts fs j (i + j) ≡ true) × (r.whole fs ≡ true)
-tests_none r line [] i fs h = with_test (r.whole fs) refl h
-  where
-    with_test : (b : Bool) → r.whole fs ≡ b → cond b None (some (r.wrong line)) ≡ None → ((j : ℕ) → j < 0 → passes_at [] fs j (i + j) ≡ true) × (r.whole fs ≡ true)
-    with_test true t e = (λ j lt. absurd (omega arith), t)
-    with_test false t e = none_not (r.wrong line) e
-tests_none r line (t ∷ ts) i fs h = with_test (λ e. tests_none r line ts (i + 1) fs e) (t (field fs i)) refl h
-  where
-    each : t (field fs i) ≡ true → ((j : ℕ) → j < length ts → passes_at ts fs j (i + 1 + j) ≡ true) → (j : ℕ) → j < suc (length ts) → passes_at (t ∷ ts) fs j (i + j) ≡ true
-    each here rest zero lt = let e : i + 0 ≡ i = omega arith in rw e here
-    each here rest (suc j) lt = let e : i + suc j ≡ i + 1 + j = omega arith in rw e (rest j (omega arith))
-
-    with_test : (tests_fault r line ts (i + 1) fs ≡ None → ((j : ℕ) → j < length ts → passes_at ts fs j (i + 1 + j) ≡ true) × (r.whole fs ≡ true)) → (b : Bool) → t (field fs i) ≡ b
-        → cond b (tests_fault r line ts (i + 1) fs) (some (r.bad line (i + 1))) ≡ None → ((j : ℕ) → j < suc (length ts) → passes_at (t ∷ ts) fs j (i + j) ≡ true) × (r.whole fs ≡ true)
-    with_test rest true here e = let p = rest e in (each here p.0, p.1)
-    with_test rest false here e = none_not (r.bad line (i + 1)) e
-
-tests_again : (r : Rule) (line : ℕ) (ts : List (List ℕ → Bool)) (i : ℕ) (fs : List (List ℕ)) → ((j : ℕ) → j < length ts → passes_at ts fs j (i + j) ≡ true) → r.whole fs ≡ true → tests_fault r line ts i fs ≡ None
-tests_again r line [] i fs each whole = rw whole refl
-tests_again r line (t ∷ ts) i fs each whole =
-    let zero_at : i + 0 ≡ i = omega arith in
-    let here : t (field fs i) ≡ true = rw zero_at at (each 0 (omega arith)) in
-    rw here (tests_again r line ts (i + 1) fs (λ j lt. let e : i + suc j ≡ i + 1 + j = omega arith in rw e at (each (suc j) (omega arith))) whole)
-
--- the first field that fails, or else the whole
-abbrev TestsFault : Rule → ℕ → List (List ℕ → Bool) → ℕ → List (List ℕ) → ReadFault → Type 0
-TestsFault r line ts i fs e =
-    ((k : ℕ) × (k < length ts) × (passes_at ts fs k (i + k) ≡ false) × ((j : ℕ) → j < k → passes_at ts fs j (i + j) ≡ true) × (e ≡ r.bad line (i + k + 1)))
-    ⊎ (((j : ℕ) → j < length ts → passes_at ts fs j (i + j) ≡ true) × (r.whole fs ≡ false) × (e ≡ r.wrong line))
-
-tests_some : (r : Rule) (line : ℕ) (ts : List (List ℕ → Bool)) (i : ℕ) (fs : List (List ℕ)) (e : ReadFault) → tests_fault r line ts i fs ≡ Some e → TestsFault r line ts i fs e
-tests_some r line [] i fs e h = with_test (r.whole fs) refl h
-  where
-    with_test : (b : Bool) → r.whole fs ≡ b → cond b None (some (r.wrong line)) ≡ Some e → TestsFault r line [] i fs e
-    with_test true t g = absurd cc
-    with_test false t g = inr (λ j lt. absurd (omega arith), t, some_is (r.wrong line) e g)
-tests_some r line (t ∷ ts) i fs e h = with_test (λ g. tests_some r line ts (i + 1) fs e g) (t (field fs i)) refl h
-  where
-    each : t (field fs i) ≡ true → (n : ℕ) → ((j : ℕ) → j < n → passes_at ts fs j (i + 1 + j) ≡ true) → (j : ℕ) → j < suc n → passes_at (t ∷ ts) fs j (i + j) ≡ true
-    each here n rest zero lt = let z : i + 0 ≡ i = omega arith in rw z here
-    each here n rest (suc j) lt = let s : i + suc j ≡ i + 1 + j = omega arith in rw s (rest j (omega arith))
-
-    with_test : (tests_fault r line ts (i + 1) fs ≡ Some e → TestsFault r line ts (i + 1) fs e) → (b : Bool) → t (field fs i) ≡ b
-        → cond b (tests_fault r line ts (i + 1) fs) (some (r.bad line (i + 1))) ≡ Some e → TestsFault r line (t ∷ ts) i fs e
-    with_test rest true here g = elim (rest g) [
-      | inl p ↦
-          let s : i + suc p.0 ≡ i + 1 + p.0 = omega arith in
-          let q : passes_at (t ∷ ts) fs (suc p.0) (i + suc p.0) ≡ false = rw s p.2 in
-          let f : e ≡ r.bad line (i + suc p.0 + 1) = rw s p.4 in
-          inl (suc p.0, omega (arith, p.1), q, each here p.0 p.3, f)
-      | inr p ↦ inr (each here (length ts) p.0, p.1, p.2)
-    ]
-    with_test rest false here g =
-        let z : i + 0 ≡ i = omega arith in
-        let q : passes_at (t ∷ ts) fs 0 (i + 0) ≡ false = rw z here in
-        let f : e ≡ r.bad line (i + 0 + 1) = rw z (some_is (r.bad line (i + 1)) e g) in
-        inl (0, omega arith, q, λ j lt. absurd (omega arith), f)
-
-pub fields_none : (r : Rule) (line : ℕ) (fs : List (List ℕ)) → fields_fault r line fs ≡ None → ObeysFields r fs
-fields_none r line fs h = with_test (eqb (length fs) (length r.tests)) refl h
-  where
-    with_test : (b : Bool) → eqb (length fs) (length r.tests) ≡ b → cond b (tests_fault r line r.tests 0 fs) (some (r.few line (length fs))) ≡ None → ObeysFields r fs
-    with_test true t e =
-        let p = tests_none r line r.tests 0 fs e in
-        record { many = eqb-true _ _ t; each = λ i lt. let z : 0 + i ≡ i = omega arith in rw z at (p.0 i lt); whole = p.1 }
-    with_test false t e = none_not (r.few line (length fs)) e
-
-pub fields_again : (r : Rule) (line : ℕ) (fs : List (List ℕ)) → ObeysFields r fs → fields_fault r line fs ≡ None
-fields_again r line fs o =
-    rw (o.many, eqb-same (length r.tests)) (tests_again r line r.tests 0 fs (λ j lt. let z : 0 + j ≡ j = omega arith in rw z (o.each j lt)) o.whole)
-
-fields_some : (r : Rule) (line : ℕ) (fs : List (List ℕ)) (e : ReadFault) → fields_fault r line fs ≡ Some e → IsFieldsFault r line fs e
-fields_some r line fs e h = with_test (eqb (length fs) (length r.tests)) refl h
-  where
-    at_0 : (n : ℕ) (b : Bool) → passes_at r.tests fs n (0 + n) ≡ b → passes_at r.tests fs n n ≡ b
-    at_0 n b p = let z : 0 + n ≡ n = omega arith in rw z at p
-
-    with_test : (b : Bool) → eqb (length fs) (length r.tests) ≡ b → cond b (tests_fault r line r.tests 0 fs) (some (r.few line (length fs))) ≡ Some e → IsFieldsFault r line fs e
-    with_test true t g = elim (tests_some r line r.tests 0 fs e g) [
-      | inl p ↦
-          let z : 0 + p.0 + 1 ≡ p.0 + 1 = omega arith in
-          bad (eqb-true _ _ t) p.0 p.1 (at_0 p.0 false p.2) (λ j lt. at_0 j true (p.3 j lt)) (rw z at p.4)
-      | inr p ↦ wrong (eqb-true _ _ t) (λ j lt. at_0 j true (p.0 j lt)) p.1 p.2
-    ]
-    with_test false t g = few (not_same _ _ t) (some_is _ e g)
-
 -- ---- the lines of a file
 
 pub line_none : (ls : List (List ℕ)) (r : Rule) (n : ℕ) → line_fault ls r n ≡ None → Obeys ls r n
@@ -133,19 +32,19 @@ unfolding line_fault
 line_none ls r n h = with_test (ltb n (length ls)) refl h
   where
     with_test : (b : Bool) → ltb n (length ls) ≡ b → cond b (fields_fault r (n + 1) (line_fields ls n)) (some (faults.Missing (n + 1))) ≡ None → Obeys ls r n
-    with_test true t e = record { there = ltb-true _ _ t; fields = fields_none r (n + 1) (line_fields ls n) e }
+    with_test true t e = record { there = ltb-true _ _ t; fields = e }
     with_test false t e = none_not (faults.Missing (n + 1)) e
 
 line_again : (ls : List (List ℕ)) (r : Rule) (n : ℕ) → Obeys ls r n → line_fault ls r n ≡ None
 unfolding line_fault
-line_again ls r n o = rw (lt-ltb n (length ls) o.there) (fields_again r (n + 1) (line_fields ls n) o.fields)
+line_again ls r n o = rw (lt-ltb n (length ls) o.there) o.fields
 
 line_some : (ls : List (List ℕ)) (r : Rule) (n : ℕ) (e : ReadFault) → line_fault ls r n ≡ Some e → IsLineFault ls r n e
 unfolding line_fault
 line_some ls r n e h = with_test (ltb n (length ls)) refl h
   where
     with_test : (b : Bool) → ltb n (length ls) ≡ b → cond b (fields_fault r (n + 1) (line_fields ls n)) (some (faults.Missing (n + 1))) ≡ Some e → IsLineFault ls r n e
-    with_test true t g = within (ltb-true _ _ t) (fields_some r (n + 1) (line_fields ls n) e g)
+    with_test true t g = within (ltb-true _ _ t) g
     with_test false t g = missing (ltb-false _ _ t) (some_is _ e g)
 
 -- the lines from place n on

@@ -7,7 +7,7 @@ use Rattle.comtrade_read.specs.declared.fault.ReadFault.{ReadFault}
 use Rattle.comtrade_read.specs.declared.pair.Part.{Part}
 use Rattle.comtrade_read.specs.declared.pair.Part.TheVariants.{Cfg, Dat}
 use Rattle.comtrade_read.specs.Table.{Rule}
-use Rattle.comtrade_read.specs.Faulty.{ObeysFields, Obeys, passes, IsFieldsFault, few, bad, wrong, IsLineFault, missing, within, rule, AllObey, Faulty, at, extra}
+use Rattle.comtrade_read.specs.Faulty.{Obeys, IsLineFault, missing, within, rule, AllObey, Faulty, at, extra}
 use Rattle.comtrade_read.specs.Data.{row_count, FaultyAs, FaultyData}
 use Rattle.comtrade_read.specs.Inner.RowValues.{SaysAs, SaysRows}
 use Rattle.comtrade_read.specs.Pair.{FaultyHead, FaultyPair, OneFileLaw}
@@ -18,18 +18,9 @@ use Rattle.comtrade_read.proofs.TextSpelled.{cfg_only, ascii_spelled, ascii_only
 
 -- ---- a fault and no fault
 
-not_both : (b : Bool) → b ≡ true → b ≡ false → ⊥
-not_both true e f = absurd cc
-not_both false e f = absurd cc
-
-no_fields_fault : (r : Rule) (line : ℕ) (fs : List (List ℕ)) (e : ReadFault) → ObeysFields r fs → IsFieldsFault r line fs e → ⊥
-no_fields_fault r line fs e o (few f is) = f o.many
-no_fields_fault r line fs e o (bad many i lt fails before is) = not_both (passes r.tests fs i) (o.each i lt) fails
-no_fields_fault r line fs e o (wrong many each fails is) = not_both (r.whole fs) o.whole fails
-
 no_line_fault : (ls : List (List ℕ)) (r : Rule) (n : ℕ) (e : ReadFault) → Obeys ls r n → IsLineFault ls r n e → ⊥
 no_line_fault ls r n e o (missing le is) = let t = o.there in absurd (omega arith)
-no_line_fault ls r n e o (within lt f) = no_fields_fault r (n + 1) _ e o.fields f
+no_line_fault ls r n e o (within lt f) = let none = o.fields in absurd cc
 
 pub no_fault : (ls : List (List ℕ)) (rs : List Rule) (e : ReadFault) → AllObey ls rs → Faulty ls rs e → ⊥
 no_fault ls rs e o (at n lt before f) = no_line_fault ls (rule rs n) n e (o.each n lt) f

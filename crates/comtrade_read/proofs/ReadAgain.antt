@@ -25,26 +25,6 @@ use Rattle.comtrade_write.specs.OfRecord.{file, IsWritable}
 use Rattle.comtrade_read.specs.Reads.{Reads}
 use Rattle.comtrade_read.proofs.OneFile.{one_file}
 
--- a refusal that comes first is the first of both
-pub fails_first : (e : WriteFault) (a b : Option WriteFault) → Fails e a → Fails e (a or b)
-fails_first faults.Memory a b h = tt
-fails_first faults.Shape a b h = rw h refl
-fails_first (faults.Text line field) a b h = rw h refl
-fails_first (faults.Value row channel) a b h = rw h refl
-fails_first (faults.Stamp row) a b h = rw h refl
-
--- one that comes second is, where there is no first
-pub fails_second : (e : WriteFault) (a b : Option WriteFault) → a ≡ None → Fails e b → Fails e (a or b)
-fails_second e a b none h = subst (λ (o : Option WriteFault). Fails e (o or b)) (sym none) h
-
--- where nothing is refused, memory was wanted
-pub fails_none : (e : WriteFault) (a : Option WriteFault) → a ≡ None → Fails e a → e ≡ faults.Memory
-fails_none faults.Memory a none h = refl
-fails_none faults.Shape a none h = cc
-fails_none (faults.Text line field) a none h = cc
-fails_none (faults.Value row channel) a none h = cc
-fails_none (faults.Stamp row) a none h = cc
-
 -- a file that its own texts read to, and these texts
 pub record IsWritten (f : FileParts) (c d : List ℕ) : Type 0 where
   pub reads : Reads (cfg f.head) (dat f.head.kind f) f
@@ -61,14 +41,6 @@ same_again f g c d w r = one_file c d g f r (written_reads f c d w)
 pub reads_again : (f g : FileParts) (c d : List ℕ) → IsWritten f c d → Reads c d g → Reads (cfg g.head) (dat g.head.kind g) g
 reads_again f g c d w r =
     subst (λ (x : FileParts). Reads (cfg x.head) (dat x.head.kind x) x) (sym (same_again f g c d w r)) w.reads
-
--- the data of a file of either kind aren't refused
-pub data_taken : (kind : Kind) (f : FileParts) → IsWritable f → dat_refusal kind f ≡ None
-data_taken Ascii f w = w.ascii
-data_taken Binary f w = w.binary
-
-pub nothing_refused : (f : FileParts) → IsWritable f → (cfg_refusal f or dat_refusal f.head.kind f) ≡ None
-nothing_refused f w = rw (w.cfg, data_taken f.head.kind f w) refl
 
 -- a record's file is of the kind that was asked for
 pub kind_of_file : (layout : SetupParts) (r : RecordParts) (kind : Kind) → (file layout r kind).head.kind ≡ kind

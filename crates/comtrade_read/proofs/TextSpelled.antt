@@ -17,8 +17,8 @@ use Rattle.comtrade_read.specs.Head.{head}
 use Rattle.comtrade_read.specs.Spells.{EachFrom, fields_at, SpellsRow}
 use Rattle.comtrade_read.specs.Reads.{ReadsHead, ReadsAscii}
 use Rattle.comtrade_read.proofs.Each.{all_at, each_at, each_made, each_same, none_each, each_none}
-use Rattle.comtrade_read.proofs.FirstFault.{fields_again, line_none, file_complete, file_sound}
-use Rattle.comtrade_read.proofs.RowLine.{rows_are, row_is, row_many}
+use Rattle.comtrade_read.proofs.FirstFault.{line_none, file_complete, file_sound}
+use Rattle.comtrade_read.proofs.RowLine.{rows_are, row_is, row_length}
 use Rattle.comtrade_read.proofs.LineEnds.{EndsPlain, EndsFull}
 use Rattle.comtrade_read.proofs.Joining.{cut_again}
 use Rattle.comtrade_read.proofs.Cutting.{joined_of}
@@ -54,9 +54,9 @@ lines_found ls k m n o =
       each_made (λ i r. SpellsRow k m (fields_at (map fields ls) i) r) (λ (i : ℕ). row_value k m (line_fields ls i)) 0 n (λ j le lt.
           let x = line_none ls (row_rule k m) j (each j (omega arith)) in
           let fs = line_fields ls j in
-          let len : length fs ≡ 2 + k + m = x.fields.many ∙ row_many k m in
-          let chain : row_chain k m 0 fs ≡ None = sym (row_is k m 0 fs len) ∙ fields_again (row_rule k m) 0 fs x.fields in
-          rw (line_is ls j x.there) (row_found k m 0 fs len chain)),
+          let len : length fs ≡ 2 + k + m = row_length k m (j + 1) fs x.fields in
+          let chain : row_chain k m (j + 1) fs ≡ None = sym (row_is k m (j + 1) fs len) ∙ x.fields in
+          rw (line_is ls j x.there) (row_found k m (j + 1) fs len chain)),
     )
   where
     count : (n : ℕ) → ((i : ℕ) → i < n → line_fault ls (row_rule k m) i ≡ None) → length ls ≤ n → length ls ≡ n

@@ -6,7 +6,7 @@ use Rattle.dfr_channels.specs.Lines.{lines}
 use Rattle.dfr_channels.specs.Fields.{bit}
 use Rattle.dfr_channels.specs.declared.scan.Reading.{Reading}
 use Rattle.dfr_channels.specs.declared.scan.Reading.TheVariants.{Value, Missing}
-use Rattle.comtrade_read.specs.Table.{Rule, plain, always, reads}
+use Rattle.comtrade_read.specs.Table.{Rule, tested, reads}
 use Rattle.comtrade_read.specs.Fields.{natural, small}
 
 abbrev pub is_end_mark : ℕ → Bool
@@ -29,7 +29,7 @@ value f = if length f == 0 then Some Missing else option_map reading (small f)
 
 -- a row of k values and m bits
 abbrev pub row_rule : ℕ → ℕ → Rule
-row_rule k m = plain (reads (natural 9999999999) ∷ reads stamp ∷ (replicate k (reads value) ++ replicate m (reads bit))) always
+row_rule k m = tested (reads (natural 9999999999) ∷ reads stamp ∷ (replicate k (reads value) ++ replicate m (reads bit)))
 
 -- the kinds of the lines, in order
 unfoldable pub row_rules : ℕ → ℕ → ℕ → List Rule

@@ -1,27 +1,21 @@
--- Kinds of line: a test for each field, one for the whole, and the faults that they name.
-use Rattle.std.specs.Prelude.{ℕ, Bool, true, List, Option, is_some}
+-- Kinds of line whose fields are told one by one.
+use Rattle.std.specs.Prelude.{ℕ, ◌+◌, Bool, ◌==◌, if◌then◌else◌, List, [], ◌∷◌, length, Option, Some, None, is_some}
+use Rattle.dfr_channels.specs.Lines.{field}
 use Rattle.comtrade_read.specs.declared.fault.ReadFault.{ReadFault}
 use Rattle.comtrade_read.specs.declared.fault.ReadFault.TheVariants as faults
 
--- a kind of line; its faults are those of a line of this number
-pub record Rule : Type 0 where
-  -- a test for each field
-  pub tests : List (List ℕ → Bool)
-  -- and one for all of them
-  pub whole : List (List ℕ) → Bool
-  -- the fault where there are so many fields
-  pub few : ℕ → ℕ → ReadFault
-  -- the fault of a field, counted from 1
-  pub bad : ℕ → ℕ → ReadFault
-  -- the fault of the whole
-  pub wrong : ℕ → ReadFault
+-- a kind of line: the first fault of the line of this number with these fields
+abbrev pub Rule : Type 0
+Rule = ℕ → List (List ℕ) → Option ReadFault
 
--- a kind of line with no fault of its own
-abbrev pub plain : List (List ℕ → Bool) → (List (List ℕ) → Bool) → Rule
-plain tests whole = record { tests = tests; whole = whole; few = λ line count. faults.Fields line; bad = λ line i. faults.Number line i; wrong = λ line. faults.Counts line }
+-- the first field, from field i on, that fails its test
+abbrev pub first_bad : List (List ℕ → Bool) → ℕ → Rule
+first_bad [] i line fs = None
+first_bad (t ∷ ts) i line fs = if t (field fs i) then first_bad ts (i + 1) line fs else Some (faults.Number line (i + 1))
 
-abbrev pub always : {A : Type 0} → A → Bool
-always x = true
+-- a field for each test
+abbrev pub tested : List (List ℕ → Bool) → Rule
+tested tests line fs = if length fs == length tests then first_bad tests 0 line fs else Some (faults.Fields line)
 
 abbrev pub reads : {A : Type 0} → (List ℕ → Option A) → List ℕ → Bool
 reads read f = is_some (read f)

@@ -1,19 +1,14 @@
 -- What the reader's functions answer of one line after the other, in words that no public contract needs.
-use Rattle.std.specs.Prelude.{◌≡◌, ◌≢◌, ℕ, ◌+◌, zero, suc, Bool, ◌==◌, nat_lt, if◌then◌else◌, List, [], ◌∷◌, length, Option, Some, None, Result, Ok, Err}
-use Rattle.dfr_channels.specs.Lines.{field, line_fields}
+use Rattle.std.specs.Prelude.{◌≡◌, ◌≢◌, ℕ, ◌+◌, zero, suc, nat_lt, if◌then◌else◌, List, [], ◌∷◌, length, Option, Some, None, Result, Ok, Err}
+use Rattle.dfr_channels.specs.Lines.{line_fields}
 use Rattle.dfr_channels.specs.Faults.{◌or◌}
 use Rattle.comtrade_read.specs.declared.fault.ReadFault.{ReadFault}
 use Rattle.comtrade_read.specs.Table.{Rule}
 use Rattle.comtrade_read.specs.declared.fault.ReadFault.TheVariants as faults
 
--- the first fault of the fields from i on, and then of the whole
-abbrev pub tests_fault : Rule → ℕ → List (List ℕ → Bool) → ℕ → List (List ℕ) → Option ReadFault
-tests_fault r line [] i fs = if r.whole fs then None else Some (r.wrong line)
-tests_fault r line (t ∷ ts) i fs = if t (field fs i) then tests_fault r line ts (i + 1) fs else Some (r.bad line (i + 1))
-
 -- the first fault of a line's fields
 abbrev pub fields_fault : Rule → ℕ → List (List ℕ) → Option ReadFault
-fields_fault r line fs = if length fs == length r.tests then tests_fault r line r.tests 0 fs else Some (r.few line (length fs))
+fields_fault r line fs = r line fs
 
 -- the first fault of the line at place n, from 0
 unfoldable pub line_fault : List (List ℕ) → Rule → ℕ → Option ReadFault
