@@ -92,7 +92,8 @@ int32_t comtrade_status(const uint8_t *cfg, size_t cfg_length, size_t channel, s
 #define COMTRADE_NO_STAMP UINT64_MAX  /* a stamp that is missing */
 
 /* All rows. `stamps` has a place for each row, `samples` one for each row and analogue channel, and `bits` one for each row and
- * status channel, all channels of a row together; each is exactly so long. */
+ * status channel, all channels of a row together; each is exactly so long. After another answer than COMTRADE_DONE nothing is said of what
+ * stands in them. */
 int32_t comtrade_rows(const uint8_t *cfg, size_t cfg_length, const uint8_t *dat, size_t dat_length,
                       uint64_t *stamps, size_t stamps_length, int32_t *samples, size_t samples_length,
                       uint8_t *bits, size_t bits_length, struct comtrade_fault *fault);

@@ -1,57 +1,126 @@
 //! The rows of a pair, as tables of numbers.
 
-use crate::answer::{DONE, Fault, NO_ROOM, refuse_read};
+ghost use Rattle.std.specs.Prelude.{◌≡◌, ◌++◌, map, OnOk, IfOk, IsTrue};
+ghost use Rattle.std.specs.List.{flat_map};
+ghost use Rattle.comtrade_c.specs.Tables as tables;
+ghost use Rattle.comtrade_c.specs.Tables.{Tabulates, row_bits, row_samples};
+
+use crate::answer::{DONE, Fault, NO_MEMORY, NO_ROOM, refuse_read};
 use comtrade_read::read;
 use comtrade_write::{File, Row};
 use dfr_channels::Reading;
-use std::alloc::Global;
+use std::alloc::{AllocError, Global};
 
 /// What stands for a reading that is missing.
 pub(crate) const NO_SAMPLE: i32 = i32::MIN;
 /// What stands for a stamp that is missing.
 pub(crate) const NO_STAMP: u64 = u64::MAX;
 
-fn sample_of(reading: Reading) -> i32 {
+fn sample_of(reading: Reading) -> i32
+    ensures { result ≡ tables.sample_of reading }
+{
     match reading {
         Reading::Value(x) => x,
         Reading::Missing => NO_SAMPLE,
     }
 }
 
-fn put_samples(rows: &[Row], samples: &mut [i32]) {
-    let mut slots = samples.iter_mut();
+fn bit_of(bit: bool) -> u8
+    ensures { result ≡ tables.bit_of bit }
+{
+    if bit { 1 } else { 0 }
+}
+
+fn stamp_of(stamp: Option<u64>) -> u64
+    ensures { result ≡ tables.stamp_of stamp }
+{
+    match stamp {
+        Some(t) => t,
+        None => NO_STAMP,
+    }
+}
+
+fn put_samples(out: &mut Vec<i32>, readings: &[Reading]) -> Result<(), AllocError>
+    ensures { OnOk result (out.new.items ≡ out.old.items ++ map tables.sample_of readings.now) }
+{
+    for reading in readings {
+        out.push(sample_of(*reading))?;
+    }
+    Ok(())
+}
+
+fn put_bits(out: &mut Vec<u8>, bits: &[bool]) -> Result<(), AllocError>
+    ensures { OnOk result (out.new.items ≡ out.old.items ++ map tables.bit_of bits.now) }
+{
+    for bit in bits {
+        out.push(bit_of(*bit))?;
+    }
+    Ok(())
+}
+
+fn samples(alloc: Global, rows: &[Row]) -> Result<Vec<i32>, AllocError>
+    ensures { IfOk result (λ v. v.items ≡ flat_map row_samples rows.now) }
+{
+    let mut out = Vec::new(alloc);
     for row in rows {
-        for reading in row.values.items() {
-            if let Some(slot) = slots.next() {
-                *slot = sample_of(*reading);
-            }
-        }
+        put_samples(&mut out, row.values.items())?;
     }
+    Ok(out)
 }
 
-fn put_bits(rows: &[Row], bits: &mut [u8]) {
-    let mut slots = bits.iter_mut();
+fn bits(alloc: Global, rows: &[Row]) -> Result<Vec<u8>, AllocError>
+    ensures { IfOk result (λ v. v.items ≡ flat_map row_bits rows.now) }
+{
+    let mut out = Vec::new(alloc);
     for row in rows {
-        for bit in row.bits.items() {
-            if let Some(slot) = slots.next() {
-                *slot = *bit as u8;
-            }
-        }
+        put_bits(&mut out, row.bits.items())?;
     }
+    Ok(out)
 }
 
-fn put_stamps(rows: &[Row], stamps: &mut [u64]) {
-    for (slot, row) in stamps.iter_mut().zip(rows) {
-        *slot = row.stamp.unwrap_or(NO_STAMP);
+fn stamps(alloc: Global, rows: &[Row]) -> Result<Vec<u64>, AllocError>
+    ensures { IfOk result (λ v. v.items ≡ map (λ r. tables.stamp_of r.stamp) rows.now) }
+{
+    let mut out = Vec::new(alloc);
+    for row in rows {
+        out.push(stamp_of(row.stamp))?;
     }
+    Ok(out)
 }
 
-/// Whether the tables have the file's size.
-fn has_size(file: &File, stamps: usize, samples: usize, bits: usize) -> bool {
-    let rows = file.rows.items().len();
-    rows == stamps
-        && rows.checked_mul(file.head.analog.items().len()) == Some(samples)
-        && rows.checked_mul(file.head.status.items().len()) == Some(bits)
+/// Copies a list into a table; false where that isn't as long.
+fn fill<T: Copy>(table: &mut [T], list: &[T]) -> bool
+    ensures { IsTrue result → table.new ≡ list.now }
+{
+    if table.len() != list.len() {
+        return false;
+    }
+    table.copy_from_slice(list);
+    true
+}
+
+/// The three tables of some rows.
+#[derive(Drop)]
+struct Tables {
+    stamps: Vec<u64>,
+    samples: Vec<i32>,
+    bits: Vec<u8>,
+}
+
+fn tables_of(alloc: Global, file: &File) -> Result<Tables, AllocError>
+    ensures stamps { IfOk result (λ t. t.stamps.items ≡ map (λ r. tables.stamp_of r.stamp) file.now.rows) }
+    ensures samples { IfOk result (λ t. t.samples.items ≡ flat_map row_samples file.now.rows) }
+    ensures bits { IfOk result (λ t. t.bits.items ≡ flat_map row_bits file.now.rows) }
+{
+    let rows = file.rows.items();
+    let stamps = stamps(alloc, rows)?;
+    let samples = samples(alloc, rows)?;
+    let bits = bits(alloc, rows)?;
+    Ok(Tables {
+        stamps,
+        samples,
+        bits,
+    })
 }
 
 /// The rows of a pair: a stamp for each row, and row by row a sample for each analogue channel and a bit for each status channel.
@@ -64,17 +133,24 @@ pub extern "C" fn comtrade_rows(
     samples: &mut [i32],
     bits: &mut [u8],
     fault: &mut Fault,
-) -> i32 {
-    match read(alloc, cfg, dat) {
-        Err((part, why)) => refuse_read(part, why, fault),
-        Ok(file) => {
-            if !has_size(&file, stamps.len(), samples.len(), bits.len()) {
-                return NO_ROOM;
-            }
-            put_stamps(file.rows.items(), stamps);
-            put_samples(file.rows.items(), samples);
-            put_bits(file.rows.items(), bits);
-            DONE
-        }
+) -> i32
+    ensures { result ≡ DONE → Tabulates cfg.now dat.now stamps.new samples.new bits.new }
+{
+    let file = match read(alloc, cfg, dat) {
+        Ok(file) => file,
+        Err((part, why)) => return refuse_read(part, why, fault),
+    };
+    let Ok(all) = tables_of(alloc, &file) else {
+        return NO_MEMORY;
+    };
+    if !fill(stamps, &all.stamps) {
+        return NO_ROOM;
     }
+    if !fill(samples, &all.samples) {
+        return NO_ROOM;
+    }
+    if !fill(bits, &all.bits) {
+        return NO_ROOM;
+    }
+    DONE
 }

@@ -1,10 +1,11 @@
 //! What a pair of files says as a whole.
 
-ghost use Rattle.std.specs.Prelude.{◌≡◌};
+ghost use Rattle.std.specs.Prelude.{◌≡◌, ◌⊎◌};
+ghost use Rattle.comtrade_read.specs.Pair.{IsNoFile};
 ghost use Rattle.comtrade_c.specs.Summaries.{Holds, Summarizes};
 
-use crate::answer::{DONE, Fault, refuse_read};
-use comtrade_read::read;
+use crate::answer::{CFG_FAULT, DAT_FAULT, DONE, Fault, NO_MEMORY, refuse_read};
+use comtrade_read::{ReadFault, read};
 use comtrade_write::{File, Kind};
 use std::alloc::Global;
 
@@ -43,13 +44,15 @@ pub extern "C" fn comtrade_summary(
     summary: &mut Summary,
     fault: &mut Fault,
 ) -> i32
-    ensures { result ≡ DONE → Summarizes cfg.now dat.now summary.new }
+    ensures held { result ≡ DONE → Summarizes cfg.now dat.now summary.new }
+    ensures refused { (result ≡ CFG_FAULT) ⊎ (result ≡ DAT_FAULT) → IsNoFile cfg.now dat.now }
 {
     match read(alloc, cfg, dat) {
         Ok(file) => {
             *summary = summary_of(&file);
             DONE
         }
+        Err((_, ReadFault::Memory)) => NO_MEMORY,
         Err((part, why)) => refuse_read(part, why, fault),
     }
 }
