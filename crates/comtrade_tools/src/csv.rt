@@ -149,6 +149,20 @@ fn write_rows<A: Allocator, W: Write>(
     Ok(())
 }
 
+/// The names and the rows, with what each row's instant and values are worked out from.
+fn write_table<A: Allocator + Copy, W: Write>(
+    alloc: A,
+    file: &File<A>,
+    scales: &[Scale],
+    times: &[Option<i64>],
+    w: &mut W,
+) -> Result<(), ToolFault> {
+    let mut out = Vec::new(alloc);
+    put_head(alloc, &mut out, &file.head)?;
+    write_rows(file, scales, times, &mut out, w)?;
+    write_out(w, &out)
+}
+
 /// Prints the rows of a file: number, instant, milliseconds since the trigger, values a*x + b, bits.
 pub fn csv_over<A: Allocator + Copy, W: Write>(
     alloc: A,
@@ -157,8 +171,5 @@ pub fn csv_over<A: Allocator + Copy, W: Write>(
 ) -> Result<(), ToolFault> {
     let scales = scales_of(alloc, &file.head)?;
     let times = times_of(alloc, file)?;
-    let mut out = Vec::new(alloc);
-    put_head(alloc, &mut out, &file.head)?;
-    write_rows(file, &scales, &times, &mut out, w)?;
-    write_out(w, &out)
+    write_table(alloc, file, &scales, &times, w)
 }

@@ -6,7 +6,7 @@ use crate::show::{Clock, put_row_time};
 use crate::table::{end_cell, end_row, put_cell, put_table};
 use comtrade_text::{put, put_count, put_number, put_safe, put_signed};
 use comtrade_write::{File, Row};
-use dfr_channels::{AnalogChannel, Side};
+use dfr_channels::{AnalogChannel, Decimal, Side};
 use std::alloc::{AllocError, Allocator};
 
 fn put_text_cell<A: Allocator>(table: &mut Vec<u8, A>, text: &[u8]) -> Result<(), AllocError> {
@@ -29,24 +29,45 @@ pub(crate) fn put_names<A: Allocator>(
     put_text_cell(table, component)
 }
 
+fn put_decimal_cell<A: Allocator>(
+    table: &mut Vec<u8, A>,
+    decimal: Decimal,
+) -> Result<(), AllocError> {
+    put_decimal(table, decimal)?;
+    end_cell(table)
+}
+
+/// `-32767 to 32767`
+fn put_range<A: Allocator>(
+    table: &mut Vec<u8, A>,
+    channel: &AnalogChannel<A>,
+) -> Result<(), AllocError> {
+    put_signed(table, channel.min as i64)?;
+    put(table, " to ")?;
+    put_signed(table, channel.max as i64)?;
+    end_cell(table)
+}
+
+/// `110000:100`
+fn put_ratio<A: Allocator>(
+    table: &mut Vec<u8, A>,
+    channel: &AnalogChannel<A>,
+) -> Result<(), AllocError> {
+    put_decimal(table, channel.primary)?;
+    put(table, ":")?;
+    put_decimal_cell(table, channel.secondary)
+}
+
 /// Unit, a, b, range, ratio and side.
 fn put_scale<A: Allocator>(
     table: &mut Vec<u8, A>,
     channel: &AnalogChannel<A>,
 ) -> Result<(), AllocError> {
     put_text_cell(table, channel.unit.items())?;
-    put_decimal(table, channel.a)?;
-    end_cell(table)?;
-    put_decimal(table, channel.b)?;
-    end_cell(table)?;
-    put_signed(table, channel.min as i64)?;
-    put(table, " to ")?;
-    put_signed(table, channel.max as i64)?;
-    end_cell(table)?;
-    put_decimal(table, channel.primary)?;
-    put(table, ":")?;
-    put_decimal(table, channel.secondary)?;
-    end_cell(table)?;
+    put_decimal_cell(table, channel.a)?;
+    put_decimal_cell(table, channel.b)?;
+    put_range(table, channel)?;
+    put_ratio(table, channel)?;
     put_cell(
         table,
         match channel.side {
@@ -94,6 +115,30 @@ fn put_peaks<A: Allocator>(
     end_row(table)
 }
 
+/// The rows of the table, a line of names above them.
+fn put_rows<A: Allocator>(
+    table: &mut Vec<u8, A>,
+    file: &File<A>,
+    clock: Clock<'_>,
+) -> Result<(), AllocError> {
+    put(
+        table,
+        "n\x1Fid\x1Fphase\x1Fcomponent\x1Funit\x1Fa\x1Fb\x1Frange\x1Fratio\x1Fside\x1Fleast\x1Fat\x1Fgreatest\x1Fat\x1Fmissing\n",
+    )?;
+    for (i, channel) in file.head.analog.items().iter().enumerate() {
+        put_names(
+            table,
+            i.saturating_add(1),
+            channel.id.items(),
+            channel.phase.items(),
+            channel.component.items(),
+        )?;
+        put_scale(table, channel)?;
+        put_peaks(table, file.rows.items(), clock, channel, i)?;
+    }
+    Ok(())
+}
+
 /// The analogue channels.
 pub(crate) fn put_analog<A: Allocator + Copy>(
     alloc: A,
@@ -101,11 +146,10 @@ pub(crate) fn put_analog<A: Allocator + Copy>(
     file: &File<A>,
     clock: Clock<'_>,
 ) -> Result<(), AllocError> {
-    let channels = file.head.analog.items();
     put(out, "\n")?;
     put_count(
         out,
-        channels.len() as u64,
+        file.head.analog.items().len() as u64,
         " analogue channel",
         " analogue channels",
     )?;
@@ -114,20 +158,6 @@ pub(crate) fn put_analog<A: Allocator + Copy>(
         "; values are a*x + b, times are ms since the trigger\n",
     )?;
     let mut table = Vec::new(alloc);
-    put(
-        &mut table,
-        "n\x1Fid\x1Fphase\x1Fcomponent\x1Funit\x1Fa\x1Fb\x1Frange\x1Fratio\x1Fside\x1Fleast\x1Fat\x1Fgreatest\x1Fat\x1Fmissing\n",
-    )?;
-    for (i, channel) in channels.iter().enumerate() {
-        put_names(
-            &mut table,
-            i.saturating_add(1),
-            channel.id.items(),
-            channel.phase.items(),
-            channel.component.items(),
-        )?;
-        put_scale(&mut table, channel)?;
-        put_peaks(&mut table, file.rows.items(), clock, channel, i)?;
-    }
+    put_rows(&mut table, file, clock)?;
     put_table(alloc, out, &table)
 }
