@@ -75,9 +75,8 @@ fn next_reading(text: &[u8]) -> (Option<Reading>, Option<&[u8]>)
     }
 }
 
-/// The readings between the commas of a part; none in an empty one. Inside its caller the loop had too few registers.
+/// The readings between the commas of a part; none in an empty one.
 #[tactic(auto, unfolding(crate::specs::ScanLines::part_fields))]
-#[inline(never)]
 fn readings_of<A: Allocator>(
     alloc: A,
     part: &[u8],
