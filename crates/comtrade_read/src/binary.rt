@@ -68,22 +68,6 @@ fn push_group<A: Allocator>(bits: &mut Vec<bool, A>, group: u16, count: usize)
     }
 }
 
-/// The same, where the compiler knows how long a whole group is, and has no loop for it.
-#[inline(always)]
-fn push_bits<A: Allocator>(bits: &mut Vec<bool, A>, group: u16, count: usize)
-    requires few { count ≤ 16 }
-    requires room { vec_len bits.old + count ≤ vec_capacity bits.old }
-    ensures items { bits.new.items ≡ bits.old.items ++ spec.group_bits count group }
-    ensures len { vec_len bits.new ≡ vec_len bits.old + count }
-    ensures capacity { vec_capacity bits.new ≡ vec_capacity bits.old }
-{
-    if count == 16 {
-        push_group(bits, group, 16);
-    } else {
-        push_group(bits, group, count);
-    }
-}
-
 /// How many bits of a group are of channels, where so many channels are left.
 fn group_len(left: usize) -> usize
     ensures { result ≡ min left 16 }
@@ -97,11 +81,19 @@ fn bits_of<A: Allocator>(alloc: A, bytes: &[u8], count: usize) -> Result<Vec<boo
     ensures { IfOk result (λ v. v.items ≡ spec.bits_at count bytes.now) }
 {
     let mut bits = Vec::with_capacity(alloc, count)?;
-    let groups = count.div_ceil(16);
-    for i in 0..groups {
+    let whole = count / 16;
+    // a number, since the compiler lays a loop of sixteen out step by step, and another out in vectors
+    let size = group_len(count);
+    for i in 0..whole {
         let group = LittleEndian::read_u16(&bytes[2 * i..]);
-        push_bits(&mut bits, group, group_len(count - 16 * i));
+        push_group(&mut bits, group, size);
     }
+    let left = count - 16 * whole;
+    if left == 0 {
+        return Ok(bits);
+    }
+    let last = LittleEndian::read_u16(&bytes[2 * whole..]);
+    push_group(&mut bits, last, left);
     Ok(bits)
 }
 
