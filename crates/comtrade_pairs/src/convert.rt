@@ -11,6 +11,7 @@ use crate::verdict::Fault;
 use comtrade_read::{ReadFault, file_reads_back, read};
 use comtrade_write::{File, Kind, WriteFault, cfg_bytes, dat_bytes};
 use std::alloc::Allocator;
+use thiserror::Error;
 
 /// The bytes of a configuration file and its data file.
 #[derive(Drop)]
@@ -20,13 +21,16 @@ pub struct Written<A: Allocator> {
 }
 
 /// Why a pair has no form of the kind asked for.
-#[derive(Clone, Copy, Debug, PartialEq, Eq)]
+#[derive(Clone, Copy, Debug, PartialEq, Eq, Error)]
 pub enum ConvertFault {
     /// It can't be read.
+    #[error("{0}")]
     Read(Fault),
     /// A file of this kind can't hold what it says.
+    #[error("{0}")]
     Write(WriteFault),
     /// A growth was refused.
+    #[error("out of memory")]
     Memory,
 }
 

@@ -6,9 +6,11 @@ ghost use Rattle.comtrade_pairs.specs.Verdicts.{IsFile, IsFaultyPair};
 use comtrade_read::{Part, ReadFault, read};
 use dfr_channels::Memory;
 use std::alloc::Allocator;
+use thiserror::Error;
 
 /// The first fault of a pair, and the file that has it.
-#[derive(Clone, Copy, Debug, PartialEq, Eq)]
+#[derive(Clone, Copy, Debug, PartialEq, Eq, Error)]
+#[error("{part}: {fault}")]
 pub struct Fault {
     pub part: Part,
     pub fault: ReadFault,

@@ -10,6 +10,7 @@ use crate::fault::ReadFault;
 use crate::head::read_cfg;
 use comtrade_write::File;
 use std::alloc::Allocator;
+use std::fmt::{self, Display, Formatter, Write};
 
 /// One file of a pair.
 #[derive(Clone, Copy, Debug, PartialEq, Eq)]
@@ -18,6 +19,15 @@ pub enum Part {
     Cfg,
     /// The data file.
     Dat,
+}
+
+impl Display for Part {
+    fn fmt<W: Write>(&self, f: &mut Formatter<W>) -> fmt::Result {
+        f.write_str(match self {
+            Part::Cfg => "the configuration file",
+            Part::Dat => "the data file",
+        })
+    }
 }
 
 /// The file that a configuration file and its data file say, or the part that isn't read and its first fault. The data are

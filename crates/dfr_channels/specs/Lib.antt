@@ -4,6 +4,7 @@ pub mod Written
 pub mod Lines
 pub mod PlainNumbers
 pub mod Fields
+pub mod LineFields
 pub mod Texts
 pub mod Parts
 pub mod Setups

@@ -47,6 +47,13 @@ impl<T, A: Allocator> Items<T, A> {
         self.list.as_slice()
     }
 
+    /// The list of the items. Takes no memory.
+    pub fn into_vec(self) -> Vec<T, A>
+        ensures { result.items ≡ self }
+    {
+        self.list
+    }
+
     /// The allocator that the list was made with.
     pub fn allocator(&self) -> &A {
         self.list.allocator()

@@ -10,6 +10,7 @@ use crate::setup::{Setup, SetupFault, setup_fault};
 use crate::{Decimal, Memory, Reading, Scan};
 use std::alloc::{Allocator, Global};
 use std::marker::Model;
+use thiserror::Error;
 
 /// A set-up without a fault, which contracts see as the set-up.
 #[derive(Drop, Debug)]
@@ -30,11 +31,13 @@ impl<A: Allocator> Model for Layout<A> {
 }
 
 /// Why a scan doesn't fit a layout, in the order of the tests.
-#[derive(Clone, Copy, Debug, PartialEq, Eq)]
+#[derive(Clone, Copy, Debug, PartialEq, Eq, Error)]
 pub enum ScanFault {
     /// A number of readings or bits that isn't the layout's.
+    #[error("another number of readings or bits than the layout has")]
     Shape,
     /// The lowest channel, from 0, whose value is out of its range. A missing reading never is.
+    #[error("the value of analogue channel {0}, counted from 0, is out of its range")]
     Range(u32),
 }
 

@@ -1,9 +1,11 @@
 //! Want of memory.
 
 use std::alloc::{AllocError, AllocFailed};
+use thiserror::Error;
 
 /// A growth was refused.
-#[derive(Clone, Copy, Debug, PartialEq, Eq)]
+#[derive(Clone, Copy, Debug, PartialEq, Eq, Error)]
+#[error("out of memory")]
 pub struct Memory;
 
 impl From<AllocError> for Memory {

@@ -6,6 +6,7 @@ ghost use Rattle.dfr_channels.specs.Firing as spec;
 use crate::{Items, Layout, Memory, Rule, Scan};
 use std::alloc::{Allocator, Global};
 use std::marker::Model;
+use thiserror::Error;
 
 /// At most 32 rules, which contracts see as the list.
 #[derive(Drop, Debug)]
@@ -25,11 +26,13 @@ impl<A: Allocator> Model for Rules<A> {
 }
 
 /// Why rules are refused, in the order of the tests.
-#[derive(Clone, Copy, Debug, PartialEq, Eq)]
+#[derive(Clone, Copy, Debug, PartialEq, Eq, Error)]
 pub enum RuleFault {
     /// More than 32.
+    #[error("more than 32 rules")]
     TooMany,
     /// The lowest rule, from 0, that names no channel of its kind in the layout.
+    #[error("rule {0}, counted from 0, names no channel of its kind")]
     NoChannel(u32),
 }
 

@@ -6,7 +6,9 @@ ghost use Rattle.dfr_channels.specs.Setups as spec;
 use crate::channel::{has_analog_texts, has_span, has_status_texts};
 use crate::{AnalogChannel, Decimal, Items, Memory, StatusChannel, copies_of, is_plain};
 use std::alloc::{Allocator, Global};
+use std::fmt::{self, Display, Formatter, Write};
 use std::marker::Model;
+use thiserror::Error;
 
 /// What a recorder is set up with. `line_freq` is in Hz, `rate` in scans a second, `start` the instant of scan 0 in
 /// microseconds since 1970-01-01 00:00:00.
@@ -46,18 +48,34 @@ pub enum Place {
     Status(u32),
 }
 
+impl Display for Place {
+    fn fmt<W: Write>(&self, f: &mut Formatter<W>) -> fmt::Result {
+        match self {
+            Place::Station => f.write_str("the station"),
+            Place::Device => f.write_str("the recording device"),
+            Place::Analog(k) => write!(f, "analogue channel {k}, counted from 0"),
+            Place::Status(k) => write!(f, "status channel {k}, counted from 0"),
+        }
+    }
+}
+
 /// Why a set-up is refused, in the order of the tests.
-#[derive(Clone, Copy, Debug, PartialEq, Eq)]
+#[derive(Clone, Copy, Debug, PartialEq, Eq, Error)]
 pub enum SetupFault {
     /// A text that a file can't hold, the first by its place; of each kind the first 256 channels are looked at.
+    #[error("a text of {0} that a file can't hold")]
     Text(Place),
     /// No channel at all, or more than 256 of a kind.
+    #[error("no channel, or more than 256 of a kind")]
     Channels,
     /// The lowest analogue channel without -32767 <= min <= max <= 32767.
+    #[error("min and max of analogue channel {0}, counted from 0, aren't in order within 32767")]
     Span(u32),
     /// Not 1 to 1,000,000 scans a second.
+    #[error("not 1 to 1000000 scans a second")]
     Rate,
     /// Before 1970 or past the year 9999.
+    #[error("a start before 1970 or past the year 9999")]
     Start,
 }
 

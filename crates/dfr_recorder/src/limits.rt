@@ -4,6 +4,7 @@ ghost use Rattle.std.specs.Prelude.{◌≡◌, ◌≤◌, ◌+◌};
 
 use dfr_channels::Layout;
 use std::alloc::Allocator;
+use thiserror::Error;
 
 /// How many scans a record has before its trigger (`pre`) and after it (`post`), how many it has at most (`longest`), how many
 /// closed records wait at most (`shelf`), and whether each scan stands in at most one record (`unshared`).
@@ -21,17 +22,22 @@ pub struct Limits {
 }
 
 /// Why limits are refused, in the order of the tests.
-#[derive(Clone, Copy, Debug, PartialEq, Eq)]
+#[derive(Clone, Copy, Debug, PartialEq, Eq, Error)]
 pub enum LimitFault {
     /// `pre` is over 100,000.
+    #[error("more than 100000 scans before the trigger")]
     Pre,
     /// `post` is 0.
+    #[error("no scan behind the trigger")]
     Post,
     /// Not `pre + 1 + post <= longest <= 1,000,000`.
+    #[error("the longest record has too few scans, or more than 1000000")]
     Longest,
     /// `shelf` is not 1 to 64.
+    #[error("not 1 to 64 records on the shelf")]
     Shelf,
     /// The last row of the longest record would have a time stamp over 4,294,967,294 microseconds.
+    #[error("the longest record would have a time stamp over 4294967294 microseconds")]
     Stamp,
 }
 

@@ -3,6 +3,7 @@
 use crate::Record;
 use dfr_channels::{Rules, Scan};
 use std::alloc::{Allocator, Global};
+use thiserror::Error;
 
 /// What a trigger did, with the number of the record that it met or opened.
 #[derive(Clone, Copy, Debug, PartialEq, Eq)]
@@ -48,15 +49,19 @@ pub enum LostRefusal {
 }
 
 /// Why a manual trigger did nothing. The order of the tests is `NoScan`, `Covered`, `ShelfFull`, `Memory`.
-#[derive(Clone, Copy, Debug, PartialEq, Eq)]
+#[derive(Clone, Copy, Debug, PartialEq, Eq, Error)]
 pub enum TriggerFault {
     /// No scan was accepted yet.
+    #[error("no scan was accepted yet")]
     NoScan,
     /// No record is open, and as many wait on the shelf as may.
+    #[error("the shelf is full of records")]
     ShelfFull,
     /// A growth was refused.
+    #[error("out of memory")]
     Memory,
     /// Under unshared limits: no record is open, and the newest one has the last scan already.
+    #[error("the newest record has the last scan already")]
     Covered,
 }
 

@@ -1,0 +1,47 @@
+-- What the fields of a line say, read from the left, or the line's first fault, of a type F of faults.
+use Rattle.std.specs.Prelude.{ℕ, ◌+◌, ◌==◌, if◌then◌else◌, List, length, Option, Some, None, ℤ, Result, Ok, Err}
+use Rattle.dfr_channels.specs.Spelling.{decimal_number}
+use Rattle.dfr_channels.specs.Lines.{field}
+use Rattle.dfr_channels.specs.Fields.{free_scale, free_bit, side}
+use Rattle.dfr_channels.specs.Parts.{AnalogParts, StatusParts}
+
+-- fields that are so many
+abbrev pub many : {A F : Type 0} → ℕ → F → List (List ℕ) → Result A F → Result A F
+many n fault fs says = if length fs == n then says else Err fault
+
+-- a field that can be read, and what follows from what it says
+abbrev pub need : {A B F : Type 0} → Option A → F → (A → Result B F) → Result B F
+need None fault more = Err fault
+need (Some x) fault more = more x
+
+-- an analogue channel (C37.111-1999, 5.3.3), whose id is field i, from 0; bad n is the fault of field n, from 1, and bound reads min and max
+unfoldable pub analog_from : {F : Type 0} → ℕ → (ℕ → F) → (List ℕ → Option ℤ) → List (List ℕ) → Result AnalogParts F
+analog_from i bad bound fs =
+    need (decimal_number (field fs (i + 4))) (bad (i + 5)) (λ a.
+    need (free_scale (field fs (i + 5))) (bad (i + 6)) (λ b.
+    need (free_scale (field fs (i + 6))) (bad (i + 7)) (λ skew.
+    need (bound (field fs (i + 7))) (bad (i + 8)) (λ min.
+    need (bound (field fs (i + 8))) (bad (i + 9)) (λ max.
+    need (free_scale (field fs (i + 9))) (bad (i + 10)) (λ primary.
+    need (free_scale (field fs (i + 10))) (bad (i + 11)) (λ secondary.
+    need (side (field fs (i + 11))) (bad (i + 12)) (λ side.
+    Ok (record {
+      id = field fs i;
+      phase = field fs (i + 1);
+      component = field fs (i + 2);
+      unit = field fs (i + 3);
+      a = a;
+      b = b;
+      skew = skew;
+      min = min;
+      max = max;
+      primary = primary;
+      secondary = secondary;
+      side = side;
+    })))))))))
+
+-- a status channel (5.3.4), whose id is field i, from 0
+unfoldable pub status_from : {F : Type 0} → ℕ → (ℕ → F) → List (List ℕ) → Result StatusParts F
+status_from i bad fs =
+    need (free_bit (field fs (i + 3))) (bad (i + 4)) (λ normal.
+    Ok (record { id = field fs i; phase = field fs (i + 1); component = field fs (i + 2); normal = normal }))
