@@ -40,6 +40,8 @@ fn put_pointed<A: Allocator>(
     out.extend_from_slice(digits)
 }
 
+/// Appends a decimal's text as the configuration file has it (C37.111-1999, clause 5): its digits with a point before the last `places` of
+/// them, zeros in front so that a digit stands before the point, and a minus where it is below 0.
 pub fn put_decimal<A: Allocator>(out: &mut Vec<u8, A>, d: Decimal) -> Result<(), AllocError>
     ensures { OnOk result (out.new.items ≡ out.old.items ++ decimal_text d) }
 {

@@ -22,6 +22,7 @@ mod texts;
 mod value_text;
 
 pub use bytes::{ascii_bytes, binary_bytes, cfg_bytes, dat_bytes};
+pub use decimal::put_decimal;
 pub use fault::WriteFault;
 pub use file::{File, Head, Kind, Rate, Row};
 pub use of_record::{FileFault, file_of};
