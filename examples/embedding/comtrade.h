@@ -26,12 +26,12 @@ enum {
     COMTRADE_NO_CHANNEL = 6   /* no channel has this number */
 };
 
-/* Kinds of faults. Of a pair that is read: */
+/* Kinds of faults; specs/Faults of the library has the same table. Of a pair that is read: */
 enum {
-    COMTRADE_REVISION = 1, /* the first line isn't of the year 1999 (5.3.1) */
+    COMTRADE_REVISION = 1, /* place 1: the first line isn't of the year 1999 (5.3.1) */
     COMTRADE_FIELDS = 2,   /* place: the line that has another number of fields than its kind wants */
     COMTRADE_NUMBER = 3,   /* place, field: the field that can't be read or is out of its range */
-    COMTRADE_COUNTS = 4,   /* place: the line whose counts don't add up (5.3.2), or whose number isn't its own */
+    COMTRADE_COUNTS = 4,   /* place: the line whose counts don't add up (5.3.2), whose number isn't its own, or whose rate ends too soon */
     COMTRADE_INSTANT = 5,  /* place: the line that is no date and time of day (5.3.7) */
     COMTRADE_KIND = 6,     /* the data file's type is neither ASCII nor BINARY (5.3.8) */
     COMTRADE_MISSING = 7,  /* place: the line before which the file ends */
@@ -41,7 +41,7 @@ enum {
     COMTRADE_SHAPE = 10,   /* counts or instants that no file has */
     COMTRADE_TEXT = 11,    /* place, field: the line and the field of a text that no file can hold */
     COMTRADE_VALUE = 12,   /* place, field: the row and the channel of a sample out of range (clause 6) */
-    COMTRADE_STAMP = 13    /* place: the row whose stamp is out of range, or missing where data are binary (clause 6) */
+    COMTRADE_STAMP = 13    /* place: the row whose number or stamp is out of range (clause 6) */
 };
 
 /* Where a fault stands: lines, rows, fields and channels count from 1; 0 where there is none. */
@@ -75,7 +75,7 @@ struct comtrade_analog {
     size_t unit;
 };
 
-/* The texts are put into the front of the buffers, with no zero behind them. */
+/* The texts are put into the front of the buffers, with no zero behind them. After COMTRADE_NO_ROOM `said` is set too. */
 int32_t comtrade_analog(const uint8_t *cfg, size_t cfg_length, size_t channel, struct comtrade_analog *said,
                         uint8_t *id, size_t id_room, uint8_t *unit, size_t unit_room, struct comtrade_fault *fault);
 

@@ -1,2 +1,5 @@
+pub mod Faults
 pub mod Summaries
+pub mod Channels
 pub mod Tables
+pub mod Writing

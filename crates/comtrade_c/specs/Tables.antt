@@ -1,5 +1,5 @@
 -- The rows of a file as tables of numbers.
-use Rattle.std.specs.Prelude.{◌≡◌, ℕ, ℤ, negsuc, Bool, true, false, Option, Some, None, List, map}
+use Rattle.std.specs.Prelude.{◌≡◌, ◌≢◌, ◌⊎◌, ℕ, ℤ, negsuc, Bool, true, false, Option, Some, None, List, length, map}
 use Rattle.std.specs.List.{flat_map}
 use Rattle.dfr_channels.specs.declared.scan.Reading.{Reading}
 use Rattle.dfr_channels.specs.declared.scan.Reading.TheVariants.{Value, Missing}
@@ -26,10 +26,27 @@ row_samples r = map sample_of r.values
 abbrev pub row_bits : RowParts → List ℕ
 row_bits r = map bit_of r.bits
 
+abbrev pub stamps_in : FileParts → List ℕ
+stamps_in f = map (λ r. stamp_of r.stamp) f.rows
+
+abbrev pub samples_in : FileParts → List ℤ
+samples_in f = flat_map row_samples f.rows
+
+abbrev pub bits_in : FileParts → List ℕ
+bits_in f = flat_map row_bits f.rows
+
 -- the pair reads to a file with these stamps, samples and bits, all of a row together
 pub record Tabulates (cfg dat : List ℕ) (stamps : List ℕ) (samples : List ℤ) (bits : List ℕ) : Type 0 where
   pub file : FileParts
   pub reads : Reads cfg dat file
-  pub stamps_are : stamps ≡ map (λ r. stamp_of r.stamp) file.rows
-  pub samples_are : samples ≡ flat_map row_samples file.rows
-  pub bits_are : bits ≡ flat_map row_bits file.rows
+  pub stamps_are : stamps ≡ stamps_in file
+  pub samples_are : samples ≡ samples_in file
+  pub bits_are : bits ≡ bits_in file
+
+-- the pair reads to a file, and one of the tables isn't as long as its stamps, samples or bits
+pub record LacksRoom (cfg dat : List ℕ) (stamps : List ℕ) (samples : List ℤ) (bits : List ℕ) : Type 0 where
+  pub file : FileParts
+  pub reads : Reads cfg dat file
+  pub lengths :
+      (length stamps ≢ length (stamps_in file)) ⊎ (length samples ≢ length (samples_in file))
+      ⊎ (length bits ≢ length (bits_in file))

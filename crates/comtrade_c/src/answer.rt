@@ -1,6 +1,11 @@
 //! What a call answers.
 
-ghost use Rattle.std.specs.Prelude.{◌≡◌, IsTrue, take, length};
+ghost use Rattle.std.specs.Prelude.{◌≡◌, ◌≢◌, ◌≤◌, ◌<◌, ◌⊎◌, IsTrue, IsFalse, length};
+ghost use Rattle.comtrade_read.specs.declared.fault.ReadFault.TheVariants as reading;
+ghost use Rattle.comtrade_read.specs.declared.pair.Part.TheVariants as parts;
+ghost use Rattle.comtrade_write.specs.declared.fault.WriteFault.TheVariants as writing;
+ghost use Rattle.comtrade_c.specs.Channels as channels;
+ghost use Rattle.comtrade_c.specs.Faults as faults;
 
 use comtrade_read::{Part, ReadFault};
 use comtrade_write::WriteFault;
@@ -28,11 +33,15 @@ pub struct Fault {
     pub kind: u32,
 }
 
-fn fault_at(kind: u32, place: u64, field: u32) -> Fault {
+fn fault_at(kind: u32, place: u64, field: u32) -> Fault
+    ensures { result ≡ faults.at kind place field }
+{
     Fault { place, field, kind }
 }
 
-fn of_read(why: ReadFault) -> Fault {
+fn of_read(why: ReadFault) -> Fault
+    ensures { result ≡ faults.of_read why }
+{
     match why {
         ReadFault::Revision => fault_at(1, 1, 0),
         ReadFault::Fields(line) => fault_at(2, line, 0),
@@ -47,7 +56,9 @@ fn of_read(why: ReadFault) -> Fault {
     }
 }
 
-fn of_write(why: WriteFault) -> Fault {
+fn of_write(why: WriteFault) -> Fault
+    ensures { result ≡ faults.of_write why }
+{
     match why {
         WriteFault::Shape => fault_at(10, 0, 0),
         WriteFault::Text(line, field) => fault_at(11, line, field),
@@ -59,7 +70,11 @@ fn of_write(why: WriteFault) -> Fault {
 
 /// Says why a pair isn't read.
 pub(crate) fn refuse_read(part: Part, why: ReadFault, said: &mut Fault) -> i32
-    ensures { result ≡ DONE → ⊥ }
+    ensures answer { (result ≡ CFG_FAULT) ⊎ (result ≡ DAT_FAULT) ⊎ (result ≡ NO_MEMORY) }
+    ensures fault { (result ≡ CFG_FAULT) ⊎ (result ≡ DAT_FAULT) → (why ≢ reading.Memory) }
+    ensures numbers { said.new ≡ faults.of_read why }
+    ensures cfg { result ≡ CFG_FAULT → part ≡ parts.Cfg }
+    ensures dat { result ≡ DAT_FAULT → part ≡ parts.Dat }
 {
     *said = of_read(why);
     match (part, why) {
@@ -69,9 +84,24 @@ pub(crate) fn refuse_read(part: Part, why: ReadFault, said: &mut Fault) -> i32
     }
 }
 
+/// Says why a configuration file isn't read.
+pub(crate) fn refuse_head(why: ReadFault, said: &mut Fault) -> i32
+    ensures answer { (result ≡ CFG_FAULT) ⊎ (result ≡ NO_MEMORY) }
+    ensures fault { result ≡ CFG_FAULT → (why ≢ reading.Memory) }
+    ensures numbers { said.new ≡ faults.of_read why }
+{
+    *said = of_read(why);
+    match why {
+        ReadFault::Memory => NO_MEMORY,
+        _ => CFG_FAULT,
+    }
+}
+
 /// Says why a pair isn't written.
 pub(crate) fn refuse_write(why: WriteFault, said: &mut Fault) -> i32
-    ensures { result ≡ DONE → ⊥ }
+    ensures answer { (result ≡ WRITE_FAULT) ⊎ (result ≡ NO_MEMORY) }
+    ensures fault { result ≡ WRITE_FAULT → (why ≢ writing.Memory) }
+    ensures numbers { said.new ≡ faults.of_write why }
 {
     *said = of_write(why);
     match why {
@@ -82,7 +112,8 @@ pub(crate) fn refuse_write(why: WriteFault, said: &mut Fault) -> i32
 
 /// The text at the front of a buffer; false where it has no room.
 pub(crate) fn put(out: &mut [u8], text: &[u8]) -> bool
-    ensures { IsTrue result → take (length text.now) out.new ≡ text.now }
+    ensures text { IsTrue result → out.new ≡ channels.put text.now out.old }
+    ensures room { IsFalse result → length out.old < length text.now }
 {
     if out.len() < text.len() {
         return false;

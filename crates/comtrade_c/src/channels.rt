@@ -1,8 +1,16 @@
 //! The channels of a configuration file.
 
-use crate::answer::{DONE, Fault, NO_CHANNEL, NO_MEMORY, NO_ROOM, put, refuse_read};
-use comtrade_read::{Part, read_cfg};
-use comtrade_values::scale_of;
+ghost use Rattle.std.specs.Prelude.{◌≡◌, ◌≤◌, ◌<◌, ◌⊎◌, length};
+ghost use Rattle.comtrade_c.specs.Channels as spec;
+ghost use Rattle.comtrade_c.specs.Channels.{Has, IsAnalog, IsStatus};
+ghost use Rattle.comtrade_c.specs.Channels.{PutsAnalog, PutsStatus, AnalogLacksRoom, StatusLacksRoom};
+ghost use Rattle.comtrade_c.specs.Faults.{IsHeadFault, OfHead};
+ghost use Rattle.comtrade_values.specs.Floats.{IsScale};
+
+use crate::answer::{CFG_FAULT, DONE, Fault, NO_CHANNEL, NO_MEMORY, NO_ROOM, put, refuse_head};
+use comtrade_read::read_cfg;
+use comtrade_values::{Scale, scale_of};
+use comtrade_write::Head;
 use dfr_channels::{AnalogChannel, Side, StatusChannel};
 use std::alloc::Global;
 
@@ -27,29 +35,72 @@ pub struct Status {
     pub id: usize,
 }
 
+fn is_secondary(side: Side) -> bool
+    ensures { result ≡ spec.is_secondary side }
+{
+    match side {
+        Side::Primary => false,
+        Side::Secondary => true,
+    }
+}
+
+fn analog_of(channel: &AnalogChannel, scale: Scale) -> Analog
+    requires { IsScale channel.now scale }
+    ensures { IsAnalog channel.now result }
+{
+    Analog {
+        a: scale.a,
+        b: scale.b,
+        min: channel.min,
+        max: channel.max,
+        secondary: is_secondary(channel.side),
+        id: channel.id.items().len(),
+        unit: channel.unit.items().len(),
+    }
+}
+
 fn put_analog(
     alloc: Global,
     channel: &AnalogChannel,
     said: &mut Analog,
     id: &mut [u8],
     unit: &mut [u8],
-) -> i32 {
+) -> i32
+    ensures answer { (result ≡ DONE) ⊎ (result ≡ NO_ROOM) ⊎ (result ≡ NO_MEMORY) }
+    ensures done { result ≡ DONE → PutsAnalog channel.now said.new id.old id.new unit.old unit.new }
+    ensures room { result ≡ NO_ROOM → AnalogLacksRoom channel.now said.new id.old unit.old }
+{
     let Ok(scale) = scale_of(alloc, channel) else {
         return NO_MEMORY;
     };
-    *said = Analog {
-        a: scale.a,
-        b: scale.b,
-        min: channel.min,
-        max: channel.max,
-        secondary: channel.side == Side::Secondary,
-        id: channel.id.items().len(),
-        unit: channel.unit.items().len(),
-    };
-    if put(id, channel.id.items()) && put(unit, channel.unit.items()) {
-        DONE
-    } else {
-        NO_ROOM
+    *said = analog_of(channel, scale);
+    if !put(id, channel.id.items()) {
+        return NO_ROOM;
+    }
+    if !put(unit, channel.unit.items()) {
+        return NO_ROOM;
+    }
+    DONE
+}
+
+fn analog_in(
+    alloc: Global,
+    head: &Head,
+    channel: usize,
+    said: &mut Analog,
+    id: &mut [u8],
+    unit: &mut [u8],
+) -> i32
+    ensures answer { (result ≡ DONE) ⊎ (result ≡ NO_CHANNEL) ⊎ (result ≡ NO_ROOM) ⊎ (result ≡ NO_MEMORY) }
+    ensures done { result ≡ DONE → Has head.now.analog channel
+        (λ c. PutsAnalog c said.new id.old id.new unit.old unit.new) }
+    ensures room { result ≡ NO_ROOM → Has head.now.analog channel
+        (λ c. AnalogLacksRoom c said.new id.old unit.old) }
+    ensures lacking { result ≡ NO_CHANNEL → length head.now.analog ≤ channel }
+{
+    match head.analog.items().get(channel) {
+        Some(channel) => put_analog(alloc, channel, said, id, unit),
+        None => NO_CHANNEL,
     }
 }
 
@@ -63,17 +114,27 @@ pub extern "C" fn comtrade_analog(
     id: &mut [u8],
     unit: &mut [u8],
     fault: &mut Fault,
-) -> i32 {
+) -> i32
+    ensures answer { (result ≡ DONE) ⊎ (result ≡ CFG_FAULT) ⊎ (result ≡ NO_CHANNEL)
+        ⊎ (result ≡ NO_ROOM) ⊎ (result ≡ NO_MEMORY) }
+    ensures done { result ≡ DONE → OfHead cfg.now (λ h. Has h.analog channel
+        (λ c. PutsAnalog c said.new id.old id.new unit.old unit.new)) }
+    ensures room { result ≡ NO_ROOM → OfHead cfg.now (λ h. Has h.analog channel
+        (λ c. AnalogLacksRoom c said.new id.old unit.old)) }
+    ensures lacking { result ≡ NO_CHANNEL → OfHead cfg.now (λ h. length h.analog ≤ channel) }
+    ensures fault { result ≡ CFG_FAULT → IsHeadFault cfg.now fault.new }
+{
     match read_cfg(alloc, cfg) {
-        Err(why) => refuse_read(Part::Cfg, why, fault),
-        Ok(head) => match head.analog.items().get(channel) {
-            Some(channel) => put_analog(alloc, channel, said, id, unit),
-            None => NO_CHANNEL,
-        },
+        Err(why) => refuse_head(why, fault),
+        Ok(head) => analog_in(alloc, &head, channel, said, id, unit),
     }
 }
 
-fn put_status(channel: &StatusChannel, said: &mut Status, id: &mut [u8]) -> i32 {
+fn put_status(channel: &StatusChannel, said: &mut Status, id: &mut [u8]) -> i32
+    ensures answer { (result ≡ DONE) ⊎ (result ≡ NO_ROOM) }
+    ensures done { result ≡ DONE → PutsStatus channel.now said.new id.old id.new }
+    ensures room { result ≡ NO_ROOM → StatusLacksRoom channel.now said.new id.old }
+{
     *said = Status {
         normal: channel.normal,
         id: channel.id.items().len(),
@@ -82,6 +143,20 @@ fn put_status(channel: &StatusChannel, said: &mut Status, id: &mut [u8]) -> i32 
         DONE
     } else {
         NO_ROOM
+    }
+}
+
+fn status_in(head: &Head, channel: usize, said: &mut Status, id: &mut [u8]) -> i32
+    ensures answer { (result ≡ DONE) ⊎ (result ≡ NO_CHANNEL) ⊎ (result ≡ NO_ROOM) }
+    ensures done { result ≡ DONE → Has head.now.status channel
+        (λ c. PutsStatus c said.new id.old id.new) }
+    ensures room { result ≡ NO_ROOM → Has head.now.status channel
+        (λ c. StatusLacksRoom c said.new id.old) }
+    ensures lacking { result ≡ NO_CHANNEL → length head.now.status ≤ channel }
+{
+    match head.status.items().get(channel) {
+        Some(channel) => put_status(channel, said, id),
+        None => NO_CHANNEL,
     }
 }
 
@@ -94,12 +169,18 @@ pub extern "C" fn comtrade_status(
     said: &mut Status,
     id: &mut [u8],
     fault: &mut Fault,
-) -> i32 {
+) -> i32
+    ensures answer { (result ≡ DONE) ⊎ (result ≡ CFG_FAULT) ⊎ (result ≡ NO_CHANNEL)
+        ⊎ (result ≡ NO_ROOM) ⊎ (result ≡ NO_MEMORY) }
+    ensures done { result ≡ DONE → OfHead cfg.now (λ h. Has h.status channel
+        (λ c. PutsStatus c said.new id.old id.new)) }
+    ensures room { result ≡ NO_ROOM → OfHead cfg.now (λ h. Has h.status channel
+        (λ c. StatusLacksRoom c said.new id.old)) }
+    ensures lacking { result ≡ NO_CHANNEL → OfHead cfg.now (λ h. length h.status ≤ channel) }
+    ensures fault { result ≡ CFG_FAULT → IsHeadFault cfg.now fault.new }
+{
     match read_cfg(alloc, cfg) {
-        Err(why) => refuse_read(Part::Cfg, why, fault),
-        Ok(head) => match head.status.items().get(channel) {
-            Some(channel) => put_status(channel, said, id),
-            None => NO_CHANNEL,
-        },
+        Err(why) => refuse_head(why, fault),
+        Ok(head) => status_in(&head, channel, said, id),
     }
 }

@@ -1,11 +1,13 @@
 //! The rows of a pair, as tables of numbers.
 
-ghost use Rattle.std.specs.Prelude.{◌≡◌, ◌++◌, map, OnOk, IfOk, IsTrue};
+ghost use Rattle.std.specs.Prelude.{◌≡◌, ◌≢◌, ◌⊎◌, ◌++◌, length, map, OnOk, IfOk, IsTrue, IsFalse};
 ghost use Rattle.std.specs.List.{flat_map};
+ghost use Rattle.comtrade_read.specs.declared.pair.Part.TheVariants.{Cfg, Dat};
+ghost use Rattle.comtrade_c.specs.Faults.{IsPairFault};
 ghost use Rattle.comtrade_c.specs.Tables as tables;
-ghost use Rattle.comtrade_c.specs.Tables.{Tabulates, row_bits, row_samples};
+ghost use Rattle.comtrade_c.specs.Tables.{Tabulates, LacksRoom, row_bits, row_samples};
 
-use crate::answer::{DONE, Fault, NO_MEMORY, NO_ROOM, refuse_read};
+use crate::answer::{CFG_FAULT, DAT_FAULT, DONE, Fault, NO_MEMORY, NO_ROOM, refuse_read};
 use comtrade_read::read;
 use comtrade_write::{File, Row};
 use dfr_channels::Reading;
@@ -90,7 +92,8 @@ fn stamps(alloc: Global, rows: &[Row]) -> Result<Vec<u64>, AllocError>
 
 /// Copies a list into a table; false where that isn't as long.
 fn fill<T: Copy>(table: &mut [T], list: &[T]) -> bool
-    ensures { IsTrue result → table.new ≡ list.now }
+    ensures table { IsTrue result → table.new ≡ list.now }
+    ensures room { IsFalse result → length table.old ≢ length list.now }
 {
     if table.len() != list.len() {
         return false;
@@ -108,9 +111,9 @@ struct Tables {
 }
 
 fn tables_of(alloc: Global, file: &File) -> Result<Tables, AllocError>
-    ensures stamps { IfOk result (λ t. t.stamps.items ≡ map (λ r. tables.stamp_of r.stamp) file.now.rows) }
-    ensures samples { IfOk result (λ t. t.samples.items ≡ flat_map row_samples file.now.rows) }
-    ensures bits { IfOk result (λ t. t.bits.items ≡ flat_map row_bits file.now.rows) }
+    ensures stamps { IfOk result (λ t. t.stamps.items ≡ tables.stamps_in file.now) }
+    ensures samples { IfOk result (λ t. t.samples.items ≡ tables.samples_in file.now) }
+    ensures bits { IfOk result (λ t. t.bits.items ≡ tables.bits_in file.now) }
 {
     let rows = file.rows.items();
     let stamps = stamps(alloc, rows)?;
@@ -134,7 +137,12 @@ pub extern "C" fn comtrade_rows(
     bits: &mut [u8],
     fault: &mut Fault,
 ) -> i32
-    ensures { result ≡ DONE → Tabulates cfg.now dat.now stamps.new samples.new bits.new }
+    ensures answer { (result ≡ DONE) ⊎ (result ≡ CFG_FAULT) ⊎ (result ≡ DAT_FAULT)
+        ⊎ (result ≡ NO_ROOM) ⊎ (result ≡ NO_MEMORY) }
+    ensures done { result ≡ DONE → Tabulates cfg.now dat.now stamps.new samples.new bits.new }
+    ensures room { result ≡ NO_ROOM → LacksRoom cfg.now dat.now stamps.old samples.old bits.old }
+    ensures cfg_fault { result ≡ CFG_FAULT → IsPairFault cfg.now dat.now Cfg fault.new }
+    ensures dat_fault { result ≡ DAT_FAULT → IsPairFault cfg.now dat.now Dat fault.new }
 {
     let file = match read(alloc, cfg, dat) {
         Ok(file) => file,

@@ -1,11 +1,13 @@
 //! What a pair of files says as a whole.
 
 ghost use Rattle.std.specs.Prelude.{◌≡◌, ◌⊎◌};
-ghost use Rattle.comtrade_read.specs.Pair.{IsNoFile};
+ghost use Rattle.comtrade_read.specs.declared.pair.Part.TheVariants.{Cfg, Dat};
+ghost use Rattle.comtrade_c.specs.Faults.{IsPairFault};
 ghost use Rattle.comtrade_c.specs.Summaries.{Holds, Summarizes};
+ghost use Rattle.comtrade_c.specs.Summaries as spec;
 
 use crate::answer::{CFG_FAULT, DAT_FAULT, DONE, Fault, NO_MEMORY, refuse_read};
-use comtrade_read::{ReadFault, read};
+use comtrade_read::read;
 use comtrade_write::{File, Kind};
 use std::alloc::Global;
 
@@ -22,6 +24,15 @@ pub struct Summary {
     pub binary: bool,
 }
 
+fn is_binary(kind: Kind) -> bool
+    ensures { result ≡ spec.is_binary kind }
+{
+    match kind {
+        Kind::Ascii => false,
+        Kind::Binary => true,
+    }
+}
+
 fn summary_of(file: &File) -> Summary
     ensures { Holds file.now result }
 {
@@ -31,7 +42,7 @@ fn summary_of(file: &File) -> Summary
         rows: file.rows.items().len(),
         first: file.head.first,
         trigger: file.head.trigger,
-        binary: file.head.kind == Kind::Binary,
+        binary: is_binary(file.head.kind),
     }
 }
 
@@ -44,15 +55,16 @@ pub extern "C" fn comtrade_summary(
     summary: &mut Summary,
     fault: &mut Fault,
 ) -> i32
-    ensures held { result ≡ DONE → Summarizes cfg.now dat.now summary.new }
-    ensures refused { (result ≡ CFG_FAULT) ⊎ (result ≡ DAT_FAULT) → IsNoFile cfg.now dat.now }
+    ensures answer { (result ≡ DONE) ⊎ (result ≡ CFG_FAULT) ⊎ (result ≡ DAT_FAULT) ⊎ (result ≡ NO_MEMORY) }
+    ensures done { result ≡ DONE → Summarizes cfg.now dat.now summary.new }
+    ensures cfg_fault { result ≡ CFG_FAULT → IsPairFault cfg.now dat.now Cfg fault.new }
+    ensures dat_fault { result ≡ DAT_FAULT → IsPairFault cfg.now dat.now Dat fault.new }
 {
     match read(alloc, cfg, dat) {
         Ok(file) => {
             *summary = summary_of(&file);
             DONE
         }
-        Err((_, ReadFault::Memory)) => NO_MEMORY,
         Err((part, why)) => refuse_read(part, why, fault),
     }
 }

@@ -1,12 +1,19 @@
 //! Writing a pair.
 
-ghost use Rattle.std.specs.Prelude.{◌≡◌, take, IfOk};
+ghost use Rattle.std.specs.Prelude.{◌≡◌, ◌⊎◌, ◌+◌, List, length, map, take, drop, IfOk, IfErr};
+ghost use Rattle.comtrade_write.specs.Cfg.{cfg};
+ghost use Rattle.comtrade_write.specs.Data.{dat};
+ghost use Rattle.comtrade_write.specs.Refusals.{Fails};
 ghost use Rattle.comtrade_read.specs.Reads.{Reads};
-ghost use Rattle.comtrade_c.specs.Summaries.{IsFile};
+ghost use Rattle.comtrade_c.specs.Faults.{IsHeadFault, OfHead};
+ghost use Rattle.comtrade_c.specs.Writing as spec;
+ghost use Rattle.comtrade_c.specs.Writing.{IsRefused, IsWritten, LacksRoom, file_of_tables};
 
-use crate::answer::{DONE, Fault, NO_MEMORY, NO_ROOM, put, refuse_read, refuse_write};
+use crate::answer::{
+    CFG_FAULT, DONE, Fault, NO_MEMORY, NO_ROOM, WRITE_FAULT, put, refuse_head, refuse_write,
+};
 use crate::rows::{NO_SAMPLE, NO_STAMP};
-use comtrade_read::{Part, file_reads_back, read_cfg};
+use comtrade_read::{file_reads_back, read_cfg};
 use comtrade_write::{File, Head, Kind, Rate, Row, WriteFault, cfg_bytes, dat_bytes};
 use dfr_channels::{Items, Reading};
 use std::alloc::{AllocError, Global};
@@ -19,12 +26,40 @@ pub struct Sizes {
     pub dat: usize,
 }
 
-fn reading_of(sample: i32) -> Reading {
+fn reading_of(sample: i32) -> Reading
+    ensures { result ≡ spec.reading_of sample }
+{
     if sample == NO_SAMPLE {
         Reading::Missing
     } else {
         Reading::Value(sample)
     }
+}
+
+fn stamp_of(stamp: u64) -> Option<u64>
+    ensures { result ≡ spec.stamp_in stamp }
+{
+    if stamp == NO_STAMP { None } else { Some(stamp) }
+}
+
+fn readings_of(alloc: Global, samples: &[i32]) -> Result<Items<Reading>, AllocError>
+    ensures { IfOk result (λ list. list ≡ map spec.reading_of samples.now) }
+{
+    let mut list = Vec::with_capacity(alloc, samples.len())?;
+    for sample in samples {
+        list.push(reading_of(*sample))?;
+    }
+    Ok(Items::of(list))
+}
+
+fn flags_of(alloc: Global, bits: &[u8]) -> Result<Items<bool>, AllocError>
+    ensures { IfOk result (λ list. list ≡ map spec.flag_of bits.now) }
+{
+    let mut list = Vec::with_capacity(alloc, bits.len())?;
+    for bit in bits {
+        list.push(*bit != 0)?;
+    }
+    Ok(Items::of(list))
 }
 
 /// One row: its number, its stamp, its samples and its bits.
@@ -34,35 +69,36 @@ fn row_of(
     stamp: u64,
     samples: &[i32],
     bits: &[u8],
-) -> Result<Row, AllocError> {
-    let mut values = Vec::with_capacity(alloc, samples.len())?;
-    for sample in samples {
-        values.push(reading_of(*sample))?;
-    }
-    let mut flags = Vec::with_capacity(alloc, bits.len())?;
-    for bit in bits {
-        flags.push(*bit != 0)?;
-    }
+) -> Result<Row, AllocError>
+    ensures { IfOk result (λ r. r ≡ spec.row number stamp samples.now bits.now) }
+{
     Ok(Row {
         number,
-        stamp: if stamp == NO_STAMP { None } else { Some(stamp) },
-        values: Items::of(values),
-        bits: Items::of(flags),
+        stamp: stamp_of(stamp),
+        values: readings_of(alloc, samples)?,
+        bits: flags_of(alloc, bits)?,
     })
 }
 
 /// The first so many of a list, and the rest; fewer where it is shorter.
-fn cut<T>(list: &[T], count: usize) -> (&[T], &[T]) {
+fn cut<T>(list: &[T], count: usize) -> (&[T], &[T])
+    ensures front { result.0.now ≡ take count list.now }
+    ensures back { result.1.now ≡ drop count list.now }
+{
     list.split_at(count.min(list.len()))
 }
 
+#[tactic(auto, using(crate::proofs::Tables::next_row))]
 fn rows_of(
     alloc: Global,
     head: &Head,
     stamps: &[u64],
     samples: &[i32],
     bits: &[u8],
-) -> Result<Items<Row>, AllocError> {
+) -> Result<Items<Row>, AllocError>
+    ensures { IfOk result (λ rows. rows ≡ spec.rows_from (length head.now.analog)
+        (length head.now.status) 1 stamps.now samples.now bits.now) }
+{
     let (analog, status) = (head.analog.items().len(), head.status.items().len());
     let (mut samples, mut bits) = (samples, bits);
     let mut rows = Vec::with_capacity(alloc, stamps.len())?;
@@ -77,17 +113,29 @@ fn rows_of(
 }
 
 /// The rates, the last of which ends with the last row.
-fn rates_of(alloc: Global, rates: &[Rate], rows: usize) -> Result<Items<Rate>, AllocError> {
-    let mut list = Vec::from_slice(alloc, rates)?;
-    if let Some(rate) = list.last_mut() {
-        rate.endsamp = rows as u64;
-    }
+#[tactic(auto, using(crate::proofs::Tables::last_ends))]
+fn rates_of(alloc: Global, rates: &[Rate], rows: usize) -> Result<Items<Rate>, AllocError>
+    ensures { IfOk result (λ list. list ≡ spec.ending rows rates.now) }
+{
+    let mut list = Vec::with_capacity(alloc, rates.len())?;
+    let Some((last, before)) = rates.split_last() else {
+        return Ok(Items::of(list));
+    };
+    list.extend_from_slice(before)?;
+    list.push(Rate {
+        samp: last.samp,
+        endsamp: rows as u64,
+    })?;
     Ok(Items::of(list))
 }
 
 /// The two texts of a file, which read to it.
 fn texts_of(alloc: Global, file: &File) -> Result<(Vec<u8>, Vec<u8>), WriteFault>
-    ensures { IfOk result (λ texts. Reads texts.0.items texts.1.items file.now) }
+    ensures cfg { IfOk result (λ texts. texts.0.items ≡ cfg file.now.head) }
+    ensures dat { IfOk result (λ texts. texts.1.items ≡ dat file.now.head.kind file.now) }
+    ensures reads { IfOk result (λ texts. Reads texts.0.items texts.1.items file.now) }
+    ensures taken { IfOk result (λ texts. spec.refusal file.now ≡ None) }
+    ensures fault { IfErr result (λ why. Fails why (spec.refusal file.now)) }
 {
     file_reads_back(file);
     let cfg = cfg_bytes(alloc, file)?;
@@ -104,7 +152,10 @@ fn put_texts(
     sizes: &mut Sizes,
     fault: &mut Fault,
 ) -> i32
-    ensures { result ≡ DONE → IsFile (take sizes.new.cfg new_cfg.new) (take sizes.new.dat new_dat.new) }
+    ensures answer { (result ≡ DONE) ⊎ (result ≡ WRITE_FAULT) ⊎ (result ≡ NO_ROOM) ⊎ (result ≡ NO_MEMORY) }
+    ensures done { result ≡ DONE → IsWritten file.now new_cfg.old new_dat.old sizes.new new_cfg.new new_dat.new }
+    ensures room { result ≡ NO_ROOM → LacksRoom file.now new_cfg.old new_dat.old sizes.new }
+    ensures fault { result ≡ WRITE_FAULT → IsRefused file.now fault.new }
 {
     let (cfg, dat) = match texts_of(alloc, file) {
         Ok(texts) => texts,
@@ -123,6 +174,12 @@ fn put_texts(
     DONE
 }
 
+fn kind_of(binary: bool) -> Kind
+    ensures { result ≡ spec.kind_of binary }
+{
+    if binary { Kind::Binary } else { Kind::Ascii }
+}
+
 /// The file with this head and these rows.
 fn file_of(
     alloc: Global,
@@ -131,15 +188,17 @@ fn file_of(
     stamps: &[u64],
     samples: &[i32],
     bits: &[u8],
-) -> Result<File, AllocError> {
+) -> Result<File, AllocError>
+    ensures { IfOk result (λ file. file ≡ file_of_tables binary stamps.now samples.now bits.now head) }
+{
     let mut head = head;
     let rows = rows_of(alloc, &head, stamps, samples, bits)?;
     head.rates = rates_of(alloc, head.rates.items(), stamps.len())?;
-    head.kind = if binary { Kind::Binary } else { Kind::Ascii };
+    head.kind = kind_of(binary);
     Ok(File { head, rows })
 }
 
-/// Writes a pair with the head that a configuration file says and these rows: what is written reads to a file.
+/// Writes a pair with the head that a configuration file says and these rows: what is written reads to that very file.
 #[unsafe(no_mangle)]
 pub extern "C" fn comtrade_write(
     alloc: Global,
@@ -153,11 +212,18 @@ pub extern "C" fn comtrade_write(
     sizes: &mut Sizes,
     fault: &mut Fault,
 ) -> i32
-    ensures { result ≡ DONE → IsFile (take sizes.new.cfg new_cfg.new) (take sizes.new.dat new_dat.new) }
+    ensures answer { (result ≡ DONE) ⊎ (result ≡ CFG_FAULT) ⊎ (result ≡ WRITE_FAULT)
+        ⊎ (result ≡ NO_ROOM) ⊎ (result ≡ NO_MEMORY) }
+    ensures done { result ≡ DONE → OfHead cfg.now (λ h. let file = file_of_tables binary stamps.now samples.now bits.now h in
+        IsWritten file new_cfg.old new_dat.old sizes.new new_cfg.new new_dat.new) }
+    ensures room { result ≡ NO_ROOM → OfHead cfg.now (λ h. let file = file_of_tables binary stamps.now samples.now bits.now h in
+        LacksRoom file new_cfg.old new_dat.old sizes.new) }
+    ensures cfg_fault { result ≡ CFG_FAULT → IsHeadFault cfg.now fault.new }
+    ensures write_fault { result ≡ WRITE_FAULT → OfHead cfg.now (λ h. IsRefused (file_of_tables binary stamps.now samples.now bits.now h) fault.new) }
 {
     let head = match read_cfg(alloc, cfg) {
         Ok(head) => head,
-        Err(why) => return refuse_read(Part::Cfg, why, fault),
+        Err(why) => return refuse_head(why, fault),
     };
     match file_of(alloc, head, binary, stamps, samples, bits) {
         Ok(file) => put_texts(alloc, &file, new_cfg, new_dat, sizes, fault),
