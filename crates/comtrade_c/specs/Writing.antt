@@ -38,10 +38,12 @@ row number stamp samples bits = record {
   bits = map flag_of bits;
 }
 
--- a row for each stamp, numbered from n, with the next k samples and the next m bits; fewer where a table ends before
+-- a row for each stamp, numbered from n, with the next k samples and the next m bits; fewer of them
+-- where a table ends before that, and what is too much in one is in no row
 abbrev pub rows_from : ℕ → ℕ → ℕ → List ℕ → List ℤ → List ℕ → List RowParts
 rows_from k m n [] samples bits = []
-rows_from k m n (t ∷ ts) samples bits = row n t (take k samples) (take m bits) ∷ rows_from k m (n + 1) ts (drop k samples) (drop m bits)
+rows_from k m n (t ∷ ts) samples bits =
+    row n t (take k samples) (take m bits) ∷ rows_from k m (n + 1) ts (drop k samples) (drop m bits)
 
 -- the last rate ends with row n
 abbrev pub ending : ℕ → List Rate → List Rate

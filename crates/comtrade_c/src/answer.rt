@@ -1,6 +1,6 @@
 //! What a call answers.
 
-ghost use Rattle.std.specs.Prelude.{◌≡◌, ◌≢◌, ◌≤◌, ◌<◌, ◌⊎◌, IsTrue, IsFalse, length};
+ghost use Rattle.std.specs.Prelude.{◌≡◌, ◌≢◌, ◌<◌, ◌⊎◌, IsTrue, IsFalse, length};
 ghost use Rattle.comtrade_read.specs.declared.fault.ReadFault.TheVariants as reading;
 ghost use Rattle.comtrade_read.specs.declared.pair.Part.TheVariants as parts;
 ghost use Rattle.comtrade_write.specs.declared.fault.WriteFault.TheVariants as writing;

@@ -1,9 +1,10 @@
 //! The channels of a configuration file.
 
-ghost use Rattle.std.specs.Prelude.{◌≡◌, ◌≤◌, ◌<◌, ◌⊎◌, length};
+ghost use Rattle.std.specs.Prelude.{◌≡◌, ◌≤◌, ◌⊎◌, length};
 ghost use Rattle.comtrade_c.specs.Channels as spec;
-ghost use Rattle.comtrade_c.specs.Channels.{Has, IsAnalog, IsStatus};
-ghost use Rattle.comtrade_c.specs.Channels.{PutsAnalog, PutsStatus, AnalogLacksRoom, StatusLacksRoom};
+ghost use Rattle.comtrade_c.specs.Channels.{Has, IsAnalog};
+ghost use Rattle.comtrade_c.specs.Channels.{AnalogLacksRoom, PutsAnalog};
+ghost use Rattle.comtrade_c.specs.Channels.{PutsStatus, StatusLacksRoom};
 ghost use Rattle.comtrade_c.specs.Faults.{IsHeadFault, OfHead};
 ghost use Rattle.comtrade_values.specs.Floats.{IsScale};
 
@@ -91,7 +92,8 @@ fn analog_in(
     id: &mut [u8],
     unit: &mut [u8],
 ) -> i32
-    ensures answer { (result ≡ DONE) ⊎ (result ≡ NO_CHANNEL) ⊎ (result ≡ NO_ROOM) ⊎ (result ≡ NO_MEMORY) }
+    ensures answer { (result ≡ DONE) ⊎ (result ≡ NO_CHANNEL) ⊎ (result ≡ NO_ROOM)
+        ⊎ (result ≡ NO_MEMORY) }
     ensures done { result ≡ DONE → Has head.now.analog channel
         (λ c. PutsAnalog c said.new id.old id.new unit.old unit.new) }
     ensures room { result ≡ NO_ROOM → Has head.now.analog channel

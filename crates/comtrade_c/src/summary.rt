@@ -55,7 +55,8 @@ pub extern "C" fn comtrade_summary(
     summary: &mut Summary,
     fault: &mut Fault,
 ) -> i32
-    ensures answer { (result ≡ DONE) ⊎ (result ≡ CFG_FAULT) ⊎ (result ≡ DAT_FAULT) ⊎ (result ≡ NO_MEMORY) }
+    ensures answer { (result ≡ DONE) ⊎ (result ≡ CFG_FAULT) ⊎ (result ≡ DAT_FAULT)
+        ⊎ (result ≡ NO_MEMORY) }
     ensures done { result ≡ DONE → Summarizes cfg.now dat.now summary.new }
     ensures cfg_fault { result ≡ CFG_FAULT → IsPairFault cfg.now dat.now Cfg fault.new }
     ensures dat_fault { result ≡ DAT_FAULT → IsPairFault cfg.now dat.now Dat fault.new }

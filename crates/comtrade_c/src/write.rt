@@ -1,6 +1,6 @@
 //! Writing a pair.
 
-ghost use Rattle.std.specs.Prelude.{◌≡◌, ◌⊎◌, ◌+◌, List, length, map, take, drop, IfOk, IfErr};
+ghost use Rattle.std.specs.Prelude.{◌≡◌, ◌⊎◌, ◌+◌, length, map, take, drop, IfOk, IfErr};
 ghost use Rattle.comtrade_write.specs.Cfg.{cfg};
 ghost use Rattle.comtrade_write.specs.Data.{dat};
 ghost use Rattle.comtrade_write.specs.Refusals.{Fails};
@@ -152,8 +152,10 @@ fn put_texts(
     sizes: &mut Sizes,
     fault: &mut Fault,
 ) -> i32
-    ensures answer { (result ≡ DONE) ⊎ (result ≡ WRITE_FAULT) ⊎ (result ≡ NO_ROOM) ⊎ (result ≡ NO_MEMORY) }
-    ensures done { result ≡ DONE → IsWritten file.now new_cfg.old new_dat.old sizes.new new_cfg.new new_dat.new }
+    ensures answer { (result ≡ DONE) ⊎ (result ≡ WRITE_FAULT) ⊎ (result ≡ NO_ROOM)
+        ⊎ (result ≡ NO_MEMORY) }
+    ensures done { result ≡ DONE →
+        IsWritten file.now new_cfg.old new_dat.old sizes.new new_cfg.new new_dat.new }
     ensures room { result ≡ NO_ROOM → LacksRoom file.now new_cfg.old new_dat.old sizes.new }
     ensures fault { result ≡ WRITE_FAULT → IsRefused file.now fault.new }
 {
@@ -189,7 +191,8 @@ fn file_of(
     samples: &[i32],
     bits: &[u8],
 ) -> Result<File, AllocError>
-    ensures { IfOk result (λ file. file ≡ file_of_tables binary stamps.now samples.now bits.now head) }
+    ensures { IfOk result (λ file.
+        file ≡ file_of_tables binary stamps.now samples.now bits.now head) }
 {
     let mut head = head;
     let rows = rows_of(alloc, &head, stamps, samples, bits)?;
@@ -214,12 +217,15 @@ pub extern "C" fn comtrade_write(
 ) -> i32
     ensures answer { (result ≡ DONE) ⊎ (result ≡ CFG_FAULT) ⊎ (result ≡ WRITE_FAULT)
         ⊎ (result ≡ NO_ROOM) ⊎ (result ≡ NO_MEMORY) }
-    ensures done { result ≡ DONE → OfHead cfg.now (λ h. let file = file_of_tables binary stamps.now samples.now bits.now h in
+    ensures done { result ≡ DONE → OfHead cfg.now (λ h.
+        let file = file_of_tables binary stamps.now samples.now bits.now h in
         IsWritten file new_cfg.old new_dat.old sizes.new new_cfg.new new_dat.new) }
-    ensures room { result ≡ NO_ROOM → OfHead cfg.now (λ h. let file = file_of_tables binary stamps.now samples.now bits.now h in
+    ensures room { result ≡ NO_ROOM → OfHead cfg.now (λ h.
+        let file = file_of_tables binary stamps.now samples.now bits.now h in
         LacksRoom file new_cfg.old new_dat.old sizes.new) }
     ensures cfg_fault { result ≡ CFG_FAULT → IsHeadFault cfg.now fault.new }
-    ensures write_fault { result ≡ WRITE_FAULT → OfHead cfg.now (λ h. IsRefused (file_of_tables binary stamps.now samples.now bits.now h) fault.new) }
+    ensures write_fault { result ≡ WRITE_FAULT → OfHead cfg.now (λ h.
+        IsRefused (file_of_tables binary stamps.now samples.now bits.now h) fault.new) }
 {
     let head = match read_cfg(alloc, cfg) {
         Ok(head) => head,
