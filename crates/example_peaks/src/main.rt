@@ -11,19 +11,15 @@ use anyhow::{Context, Result, anyhow};
 use comtrade_read::read;
 use comtrade_values::{civil_of, scale_of};
 use comtrade_write::{File, Row};
-use dfr_channels::{AnalogChannel, Memory};
+use dfr_channels::AnalogChannel;
 use std::rt::Files;
 use std::{env, fs};
-
-fn memory(_fault: Memory) -> anyhow::Error {
-    anyhow!("out of memory")
-}
 
 /// Reads both files. A pair that isn't lawful has a first fault, and the part of the pair that has it.
 fn file_in<R: Files + AllocGlobal>(rt: &R, cfg: &str, dat: &str) -> Result<File> {
     let cfg = fs::read(rt, cfg).context("the configuration file")?;
     let dat = fs::read(rt, dat).context("the data file")?;
-    read(rt.alloc(), &cfg, &dat).map_err(|(part, fault)| anyhow!("{part:?}: {fault:?}"))
+    read(rt.alloc(), &cfg, &dat).map_err(|(part, fault)| anyhow!("{part}: {fault}"))
 }
 
 /// The instant of the first row, as a date and a time of day.
@@ -52,7 +48,7 @@ fn print_peaks<R: Print + AllocGlobal>(
 ) -> Result<()> {
     let id = str::from_utf8(channel.id.items()).unwrap_or("?");
     let unit = str::from_utf8(channel.unit.items()).unwrap_or("?");
-    let scale = scale_of(rt.alloc(), channel).map_err(memory)?;
+    let scale = scale_of(rt.alloc(), channel)?;
     match span_of(rows, number) {
         None => println!(rt; "{id:?}: no sample")?,
         Some(span) => {

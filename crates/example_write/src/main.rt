@@ -11,7 +11,7 @@ mod texts;
 
 use crate::record::record;
 use crate::texts::{Texts, texts_of};
-use anyhow::{Result, anyhow};
+use anyhow::{Context, Result};
 use std::io::Write;
 use std::rt::Files;
 use std::{env, fs, io};
@@ -34,7 +34,7 @@ fn print_all<R: Print>(rt: &R, texts: &Texts) -> io::Result<()> {
 
 fn main(rt: HostRuntime) -> Result<()> {
     let file = record(rt.alloc())?;
-    let texts = texts_of(rt.alloc(), &file).map_err(|fault| anyhow!("not written: {fault:?}"))?;
+    let texts = texts_of(rt.alloc(), &file).context("not written")?;
     match env::args(&rt)?.nth(1) {
         Some(name) => write_named(&rt, name.as_str(), &texts)?,
         None => print_all(&rt, &texts)?,
