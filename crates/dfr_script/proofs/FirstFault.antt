@@ -1,59 +1,65 @@
--- The first fault of lines, as a loop finds it, and the commands of lines.
-use Rattle.std.proofs.Common.{◌≡◌, ℕ, zero, suc, ◌+◌, ◌-◌, ◌<◌, List, [], ◌∷◌, ◌++◌, length, Option, Some, None, Bor, refl, sym, ap, ◌∙◌, arith, inl, inr}
-use Rattle.std.specs.Prelude.{option_to_list, position, not, Bool}
-use Rattle.std.specs.List.{filter_map, range_with_len, prefix_len}
+-- What lines say one behind the other, as a loop finds it, up to the first fault.
+use Rattle.std.proofs.Common.{◌≡◌, ℕ, zero, suc, ◌+◌, ◌-◌, ◌<◌, List, length, Some, None, Bor, refl, sym, ◌∙◌, arith, inl, inr, [], ◌∷◌}
+use Rattle.std.specs.Prelude.{position, not, Bool, Result, Ok, Err}
+use Rattle.std.specs.List.{prefix_len}
 use Rattle.std.proofs.lemmas.Bool.{cases_lt}
-use Rattle.std.proofs.lemmas.List.{length-map, map-id}
+use Rattle.std.proofs.lemmas.List.{length-map}
 use Rattle.dfr_channels.specs.Lines.{texts}
+use Rattle.dfr_script.specs.declared.fault.Word.{Word}
 use Rattle.dfr_script.specs.declared.fault.Word.TheVariants as word
+use Rattle.dfr_script.specs.declared.fault.LineRefusal.{LineRefusal}
+use Rattle.dfr_script.specs.declared.fault.LineRefusal.TheVariants as line_refusal
 use Rattle.dfr_script.specs.declared.fault.ScriptFault.{ScriptFault}
 use Rattle.dfr_script.specs.declared.fault.ScriptRefusal.{ScriptRefusal}
-use Rattle.dfr_script.specs.declared.fault.ScriptRefusal.TheVariants.{Fault, Memory}
-use Rattle.std.proofs.lemmas.List.FromFn.{map-range_with_len_more}
-use Rattle.std.proofs.lemmas.List.Elements.{filter_map-append}
-use Rattle.dfr_script.specs.Parts.{CommandParts}
-use Rattle.dfr_script.specs.Commands.{line_command}
-use Rattle.dfr_script.specs.Scripts.{Tells, first_in, line, commands_in, is_go, at_place, setting_fault, go_fault, command_fault, script_fault, script_value, value_with}
+use Rattle.dfr_script.specs.declared.fault.ScriptRefusal.TheVariants.{Fault}
+use Rattle.dfr_script.specs.Faults as of_line
+use Rattle.dfr_script.specs.Faults.{and_then}
+use Rattle.dfr_script.specs.Parts.{DraftParts, CommandParts, ScriptParts}
+use Rattle.dfr_script.specs.Drafts.{with_line}
+use Rattle.dfr_script.specs.Commands.{with_command}
+use Rattle.dfr_script.specs.Scripts.{Refuses, fault_at, at_place, refused_at, line, is_go, draft, commands, go, script}
 
-pub starts : (f : ℕ → Option ScriptFault) → first_in f 0 ≡ None
-unfolding first_in
-starts f = refl
+-- the fault of a line is the fault of the script at its place
+pub refuses_at : {X : Type 0} (place : ℕ) (said : Result X Word) (e : LineRefusal) → of_line.Refuses said e → Refuses (at_place place said) (refused_at place e)
+refuses_at place said (line_refusal.Fault w) h = λ f is. rw (h w refl) cc
+refuses_at place said line_refusal.Memory h = λ f is. absurd cc
 
-pub goes_on : (f : ℕ → Option ScriptFault) (i : ℕ) → first_in f i ≡ None → f i ≡ None → first_in f (i + 1) ≡ None
-unfolding first_in
-goes_on f i none here = let s : i + 1 ≡ suc i = omega arith in rw (s, none, here) refl
+-- ---- the draft of lines
 
-stops : (f : ℕ → Option ScriptFault) (e : ScriptFault) (i count : ℕ) → first_in f i ≡ None → f i ≡ Some e → i < count → first_in f count ≡ Some e
-unfolding first_in
-stops f e i zero none here lt = absurd (omega arith)
-stops f e i (suc n) none here lt = elim (cases_lt i n) [
-  | inl less ↦ rw (stops f e i n none here less) refl
-  | inr same ↦ let is : n ≡ i = omega arith in rw (is, none, here) refl
+pub draft_goes_on : (ls : List (List ℕ)) (n : ℕ) (d e : DraftParts) → draft ls n ≡ Ok d → with_line d (line ls n) ≡ Ok e → draft ls (n + 1) ≡ Ok e
+unfolding draft
+draft_goes_on ls n d e before here = let s : n + 1 ≡ suc n = omega arith in rw (s, before, here) refl
+
+draft_stops : (ls : List (List ℕ)) (n : ℕ) (d : DraftParts) (f : ScriptFault) (count : ℕ) → draft ls n ≡ Ok d → at_place n (with_line d (line ls n)) ≡ Err f → n < count → draft ls count ≡ Err f
+unfolding draft
+draft_stops ls n d f zero before here lt = absurd (omega arith)
+draft_stops ls n d f (suc m) before here lt = elim (cases_lt n m) [
+  | inl less ↦ rw (draft_stops ls n d f m before here less) refl
+  | inr same ↦ let is : m ≡ n = omega arith in rw (is, before) here
 ]
 
-pub tells_first : (f : ℕ → Option ScriptFault) (r : ScriptRefusal) (i count : ℕ) → first_in f i ≡ None → Tells (f i) r → i < count → Tells (first_in f count) r
-tells_first f (Fault e) i count none here lt = stops f e i count none here lt
-tells_first f Memory i count none here lt = tt
+pub draft_refuses : (ls : List (List ℕ)) (n : ℕ) (d : DraftParts) (e : LineRefusal) (count : ℕ) → draft ls n ≡ Ok d → of_line.Refuses (with_line d (line ls n)) e → n < count → Refuses (draft ls count) (refused_at n e)
+draft_refuses ls n d e count before here lt = λ f is. draft_stops ls n d f count before (refuses_at n (with_line d (line ls n)) e here f is) lt
 
-range_more : (a n : ℕ) → range_with_len a (n + 1) ≡ range_with_len a n ++ (a + n) ∷ []
-range_more a n = sym (map-id (range_with_len a (n + 1))) ∙ map-range_with_len_more (λ (x : ℕ). x) a n (a + n) refl ∙ ap (λ xs. xs ++ (a + n) ∷ []) (map-id (range_with_len a n))
+-- ---- the commands of lines
 
-pub commands_none : (ls : List (List ℕ)) (from : ℕ) → commands_in ls from 0 ≡ []
-unfolding commands_in
-commands_none ls from = refl
+pub commands_go_on : (ls : List (List ℕ)) (from n : ℕ) (cs ds : List CommandParts) → commands ls from n ≡ Ok cs → with_command cs (from + n + 1) (line ls (from + n)) ≡ Ok ds → commands ls from (n + 1) ≡ Ok ds
+unfolding commands
+commands_go_on ls from n cs ds before here = let s : n + 1 ≡ suc n = omega arith in rw (s, before, here) refl
 
-pub commands_more : (ls : List (List ℕ)) (from k : ℕ) → commands_in ls from (k + 1) ≡ commands_in ls from k ++ option_to_list (line_command (from + k + 1) (line ls (from + k)))
-unfolding commands_in
-commands_more ls from k =
-    let p : ℕ → Option CommandParts = λ i. line_command (i + 1) (line ls i) in
-    ap (filter_map p) (range_more from k) ∙ filter_map-append p (range_with_len from k) ((from + k) ∷ []) ∙ ap (λ xs. filter_map p (range_with_len from k) ++ xs) (one p (from + k))
-  where
-    one : (p : ℕ → Option CommandParts) (i : ℕ) → filter_map p (i ∷ []) ≡ option_to_list (p i)
-    one p i = with_value (p i) refl
-      where
-        with_value : (o : Option CommandParts) → p i ≡ o → filter_map p (i ∷ []) ≡ option_to_list (p i)
-        with_value None e = rw e refl
-        with_value (Some x) e = rw e refl
+commands_stop : (ls : List (List ℕ)) (from n : ℕ) (cs : List CommandParts) (f : ScriptFault) (count : ℕ) → commands ls from n ≡ Ok cs → at_place (from + n) (with_command cs (from + n + 1) (line ls (from + n))) ≡ Err f → n < count → commands ls from count ≡ Err f
+unfolding commands
+commands_stop ls from n cs f zero before here lt = absurd (omega arith)
+commands_stop ls from n cs f (suc m) before here lt = elim (cases_lt n m) [
+  | inl less ↦ rw (commands_stop ls from n cs f m before here less) refl
+  | inr same ↦ let is : m ≡ n = omega arith in rw (is, before) here
+]
+
+pub commands_refuse : (ls : List (List ℕ)) (from n : ℕ) (cs : List CommandParts) (e : LineRefusal) (count : ℕ) → commands ls from n ≡ Ok cs → of_line.Refuses (with_command cs (from + n + 1) (line ls (from + n))) e → n < count → Refuses (commands ls from count) (refused_at (from + n) e)
+commands_refuse ls from n cs e count before here lt =
+    λ f is. commands_stop ls from n cs f count before (refuses_at (from + n) (with_command cs (from + n + 1) (line ls (from + n))) e here f is) lt
+
+-- ---- the place of `go`
 
 -- the same test, of what references point to
 length_until : (p : List ℕ → Bool) (xs : List (Bor (List ℕ))) → prefix_len (λ l. not (p l.now)) xs ≡ prefix_len (λ l. not (p l)) (texts xs)
@@ -65,18 +71,10 @@ position_texts p xs = rw (length_until p xs, length-map xs (λ (x : Bor (List �
 
 -- ---- the parts of a script, one behind the other
 
-pub no_go : (ls : List (List ℕ)) (r : ScriptRefusal) → position is_go ls ≡ None → first_in (setting_fault ls) (length ls) ≡ None → Tells (at_place (length ls) (Some word.Setup)) r → Tells (script_fault ls) r
-unfolding script_fault
-no_go ls r none lines here = rw (none, lines) here
+pub no_go : (ls : List (List ℕ)) (n : ℕ) (d : DraftParts) (r : ScriptRefusal) → n ≡ length ls → position is_go ls ≡ None → draft ls n ≡ Ok d → r ≡ Fault (fault_at n word.Setup) → Refuses (script ls) r
+unfolding script
+no_go ls n d r long none lines is = λ f e. rw (none, ← long, lines) (let same = sym is ∙ e in cc)
 
-pub behind_go : (ls : List (List ℕ)) (p : ℕ) (r : ScriptRefusal) → position is_go ls ≡ Some p → first_in (setting_fault ls) p ≡ None → go_fault ls p ≡ None → Tells (first_in (command_fault ls (p + 1)) (length ls - (p + 1))) r → Tells (script_fault ls) r
-unfolding script_fault
-behind_go ls p r place lines go here = rw (place, lines, go) here
-
-pub without_fault : (ls : List (List ℕ)) (p : ℕ) → position is_go ls ≡ Some p → first_in (setting_fault ls) p ≡ None → go_fault ls p ≡ None → first_in (command_fault ls (p + 1)) (length ls - (p + 1)) ≡ None → script_fault ls ≡ None
-unfolding script_fault
-without_fault ls p place lines go here = rw (place, lines, go) here
-
-pub value_at : (ls : List (List ℕ)) (p : ℕ) → position is_go ls ≡ Some p → script_value ls ≡ value_with ls (Some p)
-unfolding script_value
-value_at ls p place = ap (value_with ls) place
+pub with_all : (ls : List (List ℕ)) (p n : ℕ) (d : DraftParts) (s : ScriptParts) (cs : List CommandParts) → n ≡ length ls → position is_go ls ≡ Some p → draft ls p ≡ Ok d → at_place p (go d (line ls p)) ≡ Ok s → commands ls (p + 1) (n - (p + 1)) ≡ Ok cs → script ls ≡ Ok (record s { commands = cs })
+unfolding script
+with_all ls p n d s cs long place lines made here = rw (place, lines, made, ← long, here) refl

@@ -3,4 +3,3 @@ pub mod FirstByte
 pub mod FirstFault
 pub mod PlainBits
 pub mod PlainNumbers
-pub mod SetUpLines

@@ -5,7 +5,8 @@ use Rattle.std.specs.List.{filter_map}
 use Rattle.std.proofs.lemmas.Bool.{lt-ltb, ltb-true, ltb-false}
 use Rattle.std.proofs.lemmas.List.{drop_more, drop_all, append_assoc, take_more_set}
 use Rattle.dfr_channels.specs.Fields.{bit}
-use Rattle.dfr_script.specs.ScanLines.{fields, reads_all}
+use Rattle.dfr_script.specs.Fields.{reads_all}
+use Rattle.dfr_script.specs.ScanLines.{fields}
 use Rattle.dfr_script.specs.PlainBits.{AreBits}
 
 pub bit_zero : bit (48 ∷ []) ≡ Some false

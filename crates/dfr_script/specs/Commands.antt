@@ -1,5 +1,5 @@
 -- The commands that stand behind `go`.
-use Rattle.std.specs.Prelude.{ℕ, ◌==◌, if◌then◌else◌, List, length, Option, Some, None, codes}
+use Rattle.std.specs.Prelude.{ℕ, ◌==◌, if◌then◌else◌, List, ◌++◌, length, Option, Some, None, option_to_list, Result, Ok, Err, codes}
 use Rattle.std.specs.Str.{bytes_eq}
 use Rattle.dfr_script.specs.declared.fault.Word.{Word}
 use Rattle.dfr_script.specs.declared.fault.Word.TheVariants as fault
@@ -7,9 +7,10 @@ use Rattle.dfr_script.specs.declared.command.Command.{Command}
 use Rattle.dfr_script.specs.declared.command.Command.TheVariants as command
 use Rattle.dfr_script.specs.declared.command.Verb.{Verb}
 use Rattle.dfr_script.specs.declared.command.Verb.TheVariants as verbs
+use Rattle.dfr_script.specs.Faults.{and_then}
 use Rattle.dfr_script.specs.Words.{word, rest, is_silent}
-use Rattle.dfr_script.specs.RuleLines.{rules_fault, rules_value}
-use Rattle.dfr_script.specs.ScanLines.{scan_fault, scan_value}
+use Rattle.dfr_script.specs.RuleLines.{rules}
+use Rattle.dfr_script.specs.ScanLines.{scan}
 use Rattle.dfr_script.specs.Parts.{CommandParts, Scan, Lost, Trigger, Take, Rules}
 
 -- a command, whatever its allocator is
@@ -31,29 +32,23 @@ verb w =
     else None
 
 -- nothing stands behind the word
-abbrev pub bare_fault : List ℕ → Option Word
-bare_fault rest = if length rest == 0 then None else Some fault.Word
+abbrev pub bare : {X : Type 0} → X → List ℕ → Result X Word
+bare x rest = if length rest == 0 then Ok x else Err fault.Word
 
-abbrev pub verb_fault : Option Verb → List ℕ → Option Word
-verb_fault None rest = Some fault.Word
-verb_fault (Some verbs.Scan) rest = scan_fault rest
-verb_fault (Some verbs.Lost) rest = bare_fault rest
-verb_fault (Some verbs.Trigger) rest = bare_fault rest
-verb_fault (Some verbs.Take) rest = bare_fault rest
-verb_fault (Some verbs.Rules) rest = rules_fault rest
+abbrev pub verb_says : ℕ → Option Verb → List ℕ → Result CommandParts Word
+verb_says n None rest = Err fault.Word
+verb_says n (Some verbs.Scan) rest = and_then (scan rest) (λ scan. Ok (Scan scan))
+verb_says n (Some verbs.Lost) rest = bare Lost rest
+verb_says n (Some verbs.Trigger) rest = bare Trigger rest
+verb_says n (Some verbs.Take) rest = bare Take rest
+verb_says n (Some verbs.Rules) rest = and_then (rules rest) (λ list. Ok (Rules n list))
 
-abbrev pub verb_value : ℕ → Option Verb → List ℕ → Option CommandParts
-verb_value n None rest = None
-verb_value n (Some verbs.Scan) rest = Some (Scan (scan_value rest))
-verb_value n (Some verbs.Lost) rest = Some Lost
-verb_value n (Some verbs.Trigger) rest = Some Trigger
-verb_value n (Some verbs.Take) rest = Some Take
-verb_value n (Some verbs.Rules) rest = Some (Rules n (rules_value rest))
+-- the command of line n behind `go`, where it isn't passed over
+unfoldable pub command_line : ℕ → List ℕ → Result (Option CommandParts) Word
+command_line n line =
+    if is_silent line then Ok None
+    else and_then (verb_says n (verb (word line)) (rest line)) (λ command. Ok (Some command))
 
--- what is wrong with a line behind `go`
-unfoldable pub line_fault : List ℕ → Option Word
-line_fault line = if is_silent line then None else verb_fault (verb (word line)) (rest line)
-
--- the command of line n, where it isn't passed over
-unfoldable pub line_command : ℕ → List ℕ → Option CommandParts
-line_command n line = if is_silent line then None else verb_value n (verb (word line)) (rest line)
+-- the commands with that of line n
+abbrev pub with_command : List CommandParts → ℕ → List ℕ → Result (List CommandParts) Word
+with_command cs n line = and_then (command_line n line) (λ command. Ok (cs ++ option_to_list command))

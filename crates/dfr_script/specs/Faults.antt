@@ -1,19 +1,23 @@
 -- What a function that reads a part of a line gives.
-use Rattle.std.specs.Prelude.{◌≡◌, ◌==◌, Bool, if◌then◌else◌, List, length, ℕ, Option, Some, None, Result, Ok, Err}
+use Rattle.std.specs.Prelude.{◌≡◌, Option, Some, None, Result, Ok, Err}
 use Rattle.dfr_script.specs.declared.fault.Word.{Word}
 use Rattle.dfr_script.specs.declared.fault.Word.TheVariants as word
 use Rattle.dfr_script.specs.declared.fault.LineRefusal.{LineRefusal}
 use Rattle.dfr_script.specs.declared.fault.LineRefusal.TheVariants.{Fault, Memory}
 
--- the refusal is want of memory, or names this fault
-abbrev pub Refuses : Option Word → LineRefusal → Type 0
-Refuses fault (Fault w) = fault ≡ Some w
-Refuses fault Memory = Unit {0}
+-- a refusal that names a fault names the one that was said; another is want of memory
+abbrev pub Refuses : {Y : Type 0} → Result Y Word → LineRefusal → Type 0
+Refuses said e = (w : Word) → e ≡ Fault w → said ≡ Err w
 
--- the value, seen by view, where there is no fault; else the fault, or want of memory
-abbrev pub Gives : {X Y : Type 0} → (X → Y) → Option Word → Y → Result X LineRefusal → Type 0
-Gives view fault value (Ok x) = (fault ≡ None) × (view x ≡ value)
-Gives view fault value (Err e) = Refuses fault e
+-- what was said, seen by view: the value, the fault, or want of memory
+abbrev pub Is : {X Y : Type 0} → (X → Y) → Result Y Word → Result X LineRefusal → Type 0
+Is view said (Ok x) = said ≡ Ok (view x)
+Is view said (Err e) = Refuses said e
+
+-- what is said, and what follows from it
+abbrev pub and_then : {A B F : Type 0} → Result A F → (A → Result B F) → Result B F
+and_then (Err fault) more = Err fault
+and_then (Ok x) more = more x
 
 -- what can be read, or the fault of what can't
 abbrev pub Field : {X : Type 0} → Option X → Result X LineRefusal → Type 0
@@ -22,7 +26,3 @@ Field read (Err e) = (read ≡ None) × (e ≡ Fault word.Number)
 
 abbrev pub OnlyMemory : LineRefusal → Type 0
 OnlyMemory e = e ≡ Memory
-
--- so many fields, each of which can be read; else the fault
-abbrev pub fields_fault : ℕ → (List (List ℕ) → Bool) → List (List ℕ) → Option Word
-fields_fault n reads fs = if length fs == n then (if reads fs then None else Some word.Number) else Some word.Fields

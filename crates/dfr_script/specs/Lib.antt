@@ -10,6 +10,5 @@ pub mod PlainBits
 pub mod Settings
 pub mod Parts
 pub mod Drafts
-pub mod Steps
 pub mod Commands
 pub mod Scripts

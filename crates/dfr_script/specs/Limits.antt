@@ -1,45 +1,32 @@
 -- The numbers of a line of limits, and its choice.
-use Rattle.std.specs.Prelude.{ℕ, Bool, ◌&&◌, ◌==◌, if◌then◌else◌, codes, List, length, Option, Some, None, is_some, unwrap_or}
+use Rattle.std.specs.Prelude.{ℕ, Bool, true, false, ◌==◌, if◌then◌else◌, codes, List, length, Result, Ok, Err}
 use Rattle.std.specs.Str.{bytes_eq}
 use Rattle.dfr_channels.specs.Lines.{field, fields}
+use Rattle.dfr_channels.specs.LineFields.{many, need}
 use Rattle.dfr_script.specs.declared.fault.Word.{Word}
-use Rattle.dfr_script.specs.declared.fault.Word.TheVariants as word
+use Rattle.dfr_script.specs.declared.fault.Word.TheVariants as fault
 use Rattle.dfr_script.specs.declared.limit_line.LimitNumbers.{LimitNumbers}
-use Rattle.dfr_script.specs.Faults.{fields_fault}
 use Rattle.dfr_script.specs.Fields.{natural}
 
-abbrev pub reads_limits : List (List ℕ) → Bool
-reads_limits fs =
-    is_some (natural (field fs 0)) && is_some (natural (field fs 1)) && is_some (natural (field fs 2)) && is_some (natural (field fs 3))
+-- the first four fields, with this choice
+abbrev pub numbers : Bool → List (List ℕ) → Result LimitNumbers Word
+numbers unshared fs =
+    need (natural (field fs 0)) fault.Number (λ pre.
+    need (natural (field fs 1)) fault.Number (λ post.
+    need (natural (field fs 2)) fault.Number (λ longest.
+    need (natural (field fs 3)) fault.Number (λ shelf.
+    Ok (record { pre = pre; post = post; longest = longest; shelf = shelf; unshared = unshared })))))
 
 -- the fifth field is the word of the choice
 abbrev pub chooses : List (List ℕ) → Bool
 chooses fs = bytes_eq (field fs 4) (codes "unshared")
 
-abbrev pub choice_fault : List (List ℕ) → Option Word
-choice_fault fs = if chooses fs then None else Some word.Number
-
 -- four fields, or five
-abbrev pub limits_fault : List (List ℕ) → Option Word
-limits_fault fs =
-    if length fs == 5 then fields_fault 5 (λ fs. chooses fs && reads_limits fs) fs
-    else fields_fault 4 reads_limits fs
-
-abbrev pub number_in : Option ℕ → ℕ
-number_in read = unwrap_or read 0
-
-abbrev pub limits_value : List (List ℕ) → LimitNumbers
-limits_value fs = record {
-  pre = number_in (natural (field fs 0));
-  post = number_in (natural (field fs 1));
-  longest = number_in (natural (field fs 2));
-  shelf = number_in (natural (field fs 3));
-  unshared = length fs == 5;
-}
+abbrev pub limits_fields : List (List ℕ) → Result LimitNumbers Word
+limits_fields fs =
+    if length fs == 5 then (if chooses fs then numbers true fs else Err fault.Number)
+    else many 4 fault.Fields fs (numbers false fs)
 
 -- the rest of a line `limits`
-abbrev pub limits_line_fault : List ℕ → Option Word
-limits_line_fault rest = limits_fault (fields rest)
-
-abbrev pub limits_line_value : List ℕ → LimitNumbers
-limits_line_value rest = limits_value (fields rest)
+abbrev pub limits_line : List ℕ → Result LimitNumbers Word
+limits_line rest = limits_fields (fields rest)

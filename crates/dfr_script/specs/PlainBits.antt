@@ -2,7 +2,8 @@
 use Rattle.std.specs.Prelude.{◌≡◌, ℕ, ◌+◌, ◌*◌, ◌<◌, ◌⊎◌, Bool, true, List, slice_index}
 use Rattle.std.specs.List.{filter_map}
 use Rattle.dfr_channels.specs.Fields.{bit}
-use Rattle.dfr_script.specs.ScanLines.{fields, reads_all}
+use Rattle.dfr_script.specs.Fields.{reads_all}
+use Rattle.dfr_script.specs.ScanLines.{fields}
 
 -- so many digits 0 or 1, with a comma between each two
 pub record AreBits (text : List ℕ) (count : ℕ) : Type 0 where

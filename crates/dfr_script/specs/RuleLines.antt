@@ -1,6 +1,6 @@
 -- The rules of a line.
-use Rattle.std.specs.Prelude.{ℕ, ◌==◌, Bool, true, false, ◌&&◌, not, if◌then◌else◌, List, [], length, filter, Option, Some, None, is_some, ℤ, codes}
-use Rattle.std.specs.List.{slice_split, list_all, filter_map}
+use Rattle.std.specs.Prelude.{ℕ, ◌==◌, Bool, true, false, ◌&&◌, not, if◌then◌else◌, List, [], length, filter, Option, Some, None, Result, Ok, Err, ℤ, codes}
+use Rattle.std.specs.List.{slice_split, list_all}
 use Rattle.std.specs.Str.{bytes_eq}
 use Rattle.dfr_channels.specs.Lines.{field}
 use Rattle.dfr_channels.specs.declared.rule.Rule.{Rule}
@@ -8,7 +8,7 @@ use Rattle.dfr_channels.specs.declared.rule.Rule.TheVariants.{Level, Edge}
 use Rattle.dfr_script.specs.declared.fault.Word.{Word}
 use Rattle.dfr_script.specs.declared.fault.Word.TheVariants as fault
 use Rattle.dfr_script.specs.Words.{is_blank}
-use Rattle.dfr_script.specs.Fields.{small, natural}
+use Rattle.dfr_script.specs.Fields.{small, natural, all_said}
 
 -- what stands between the semicolons
 abbrev pub parts : List ℕ → List (List ℕ)
@@ -54,21 +54,15 @@ rule ws =
     else None
 
 -- each rule has its number of words
-abbrev pub shapes_fault : List (List ℕ) → Option Word
-shapes_fault ps = if list_all (λ p. has_shape (words p)) ps then None else Some fault.Fields
+abbrev pub all_shaped : List (List ℕ) → Bool
+all_shaped ps = list_all (λ p. has_shape (words p)) ps
 
--- each rule can be read
-abbrev pub words_fault : List (List ℕ) → Option Word
-words_fault ps = if list_all (λ p. is_some (rule (words p))) ps then None else Some fault.Number
-
-abbrev pub rule_list : List (List ℕ) → List Rule
-rule_list ps = filter_map (λ p. rule (words p)) ps
+abbrev pub rule_list : List (List ℕ) → Result (List Rule) Word
+rule_list ps = all_said (λ p. rule (words p)) ps
 
 -- the rest of a line `rules`: nothing, or rules parted by `;`, every count of words tested before any word is read
-unfoldable pub rules_fault : List ℕ → Option Word
-rules_fault rest =
-    if length rest == 0 then None
-    else if is_some (shapes_fault (parts rest)) then shapes_fault (parts rest) else words_fault (parts rest)
-
-unfoldable pub rules_value : List ℕ → List Rule
-rules_value rest = if length rest == 0 then [] else rule_list (parts rest)
+unfoldable pub rules : List ℕ → Result (List Rule) Word
+rules rest =
+    if length rest == 0 then Ok []
+    else if all_shaped (parts rest) then rule_list (parts rest)
+    else Err fault.Fields

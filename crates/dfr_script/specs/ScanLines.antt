@@ -1,6 +1,6 @@
 -- The readings and bits of a scan's line.
-use Rattle.std.specs.Prelude.{ℕ, ◌==◌, Bool, ◌&&◌, not, if◌then◌else◌, List, [], length, Option, Some, None, is_some, position, codes, option_map}
-use Rattle.std.specs.List.{list_all, filter_map, before_first, after_first}
+use Rattle.std.specs.Prelude.{ℕ, ◌==◌, Bool, ◌&&◌, not, if◌then◌else◌, List, [], length, Option, Some, None, is_some, Result, Ok, Err, position, codes, option_map}
+use Rattle.std.specs.List.{before_first, after_first}
 use Rattle.std.specs.Str.{bytes_eq}
 use Rattle.dfr_channels.specs.Spelling.{trimmed}
 use Rattle.dfr_channels.specs.Lines as lines
@@ -10,7 +10,8 @@ use Rattle.dfr_channels.specs.declared.scan.Reading.TheVariants.{Value, Missing}
 use Rattle.dfr_script.specs.declared.fault.Word.{Word}
 use Rattle.dfr_script.specs.declared.fault.Word.TheVariants as fault
 use Rattle.dfr_channels.specs.Fields.{bit}
-use Rattle.dfr_script.specs.Fields.{small}
+use Rattle.dfr_script.specs.Faults.{and_then}
+use Rattle.dfr_script.specs.Fields.{small, all_said}
 
 abbrev pub is_stroke : ℕ → Bool
 is_stroke b = b == 47
@@ -39,35 +40,14 @@ reading f = if bytes_eq f (codes "*") then Some Missing else option_map Value (s
 unfoldable pub part_fields : List ℕ → List (List ℕ)
 part_fields part = if length (trimmed part) == 0 then [] else fields part
 
--- each field can be read
-abbrev pub reads_all : {X : Type 0} → (List ℕ → Option X) → List (List ℕ) → Bool
-reads_all read fs = list_all (λ f. is_some (read f)) fs
-
-abbrev pub part_fault : {X : Type 0} → (List ℕ → Option X) → List ℕ → Option Word
-part_fault read part = if reads_all read (part_fields part) then None else Some fault.Number
-
 -- what the fields of a part say
-abbrev pub part_value : {X : Type 0} → (List ℕ → Option X) → List ℕ → List X
-part_value read part = filter_map read (part_fields part)
-
-abbrev pub readings_fault : List ℕ → Option Word
-readings_fault part = part_fault reading part
-
-abbrev pub readings_value : List ℕ → List Reading
-readings_value part = part_value reading part
-
-abbrev pub bits_fault : List ℕ → Option Word
-bits_fault part = part_fault bit part
-
-abbrev pub bits_value : List ℕ → List Bool
-bits_value part = part_value bit part
+abbrev pub part : {X : Type 0} → (List ℕ → Option X) → List ℕ → Result (List X) Word
+part read text = all_said read (part_fields text)
 
 -- the rest of a line `scan`: readings, a stroke, bits
-unfoldable pub scan_fault : List ℕ → Option Word
-scan_fault rest =
+unfoldable pub scan : List ℕ → Result ScanParts Word
+scan rest =
     if has_one_stroke rest
-    then (if is_some (readings_fault (before_first is_stroke rest)) then readings_fault (before_first is_stroke rest) else bits_fault (after_first is_stroke rest))
-    else Some fault.Fields
-
-unfoldable pub scan_value : List ℕ → ScanParts
-scan_value rest = record { analog = readings_value (before_first is_stroke rest); status = bits_value (after_first is_stroke rest) }
+    then and_then (part reading (before_first is_stroke rest)) (λ readings.
+    and_then (part bit (after_first is_stroke rest)) (λ bits. Ok (record { analog = readings; status = bits })))
+    else Err fault.Fields

@@ -1,16 +1,19 @@
--- A script as a whole: its first fault by lines, or what it says.
-use Rattle.std.specs.Prelude.{◌≡◌, ℕ, zero, suc, ◌+◌, ◌-◌, ◌==◌, Bool, if◌then◌else◌, List, [], length, take, slice_index_or, position, Option, Some, None, option_map, codes}
-use Rattle.std.specs.List.{range_with_len, filter_map}
+-- A script as a whole: what it says, or its first fault by lines.
+use Rattle.std.specs.Prelude.{◌≡◌, ℕ, zero, suc, ◌+◌, ◌-◌, ◌==◌, Bool, false, if◌then◌else◌, List, [], length, slice_index_or, position, Option, Some, None, Result, Ok, Err, codes, pos}
+use Rattle.std.specs.Result.{result_err, result_unwrap_or}
 use Rattle.std.specs.Str.{bytes_eq}
-use Rattle.dfr_channels.specs.Faults.{◌or◌}
+use Rattle.dfr_channels.specs.Fields.{zero_number}
 use Rattle.dfr_script.specs.declared.fault.Word.{Word}
-use Rattle.dfr_script.specs.declared.fault.Word.TheVariants as fault
+use Rattle.dfr_script.specs.declared.fault.Word.TheVariants as word
+use Rattle.dfr_script.specs.declared.fault.LineRefusal.{LineRefusal}
+use Rattle.dfr_script.specs.declared.fault.LineRefusal.TheVariants as line_refusal
 use Rattle.dfr_script.specs.declared.fault.ScriptFault.{ScriptFault}
 use Rattle.dfr_script.specs.declared.fault.ScriptRefusal.{ScriptRefusal}
 use Rattle.dfr_script.specs.declared.fault.ScriptRefusal.TheVariants.{Fault, Memory}
-use Rattle.dfr_script.specs.Words.{word, rest}
-use Rattle.dfr_script.specs.Drafts as drafts
-use Rattle.dfr_script.specs.Commands as commands
+use Rattle.dfr_script.specs.Faults.{and_then}
+use Rattle.dfr_script.specs.Words as words
+use Rattle.dfr_script.specs.Drafts.{empty, with_line, whole}
+use Rattle.dfr_script.specs.Commands.{with_command}
 use Rattle.dfr_script.specs.Parts.{DraftParts, CommandParts, ScriptParts}
 
 -- the refusal is want of memory, or names this fault
@@ -18,53 +21,75 @@ abbrev pub Tells : Option ScriptFault → ScriptRefusal → Type 0
 Tells fault (Fault f) = fault ≡ Some f
 Tells fault Memory = Unit {0}
 
+-- the fault of the line at place i, from 0
+abbrev pub fault_at : ℕ → Word → ScriptFault
+fault_at i w = record { line = i + 1; word = w }
+
+-- what the line at place i says, or its fault with its number
+abbrev pub at_place : {X : Type 0} → ℕ → Result X Word → Result X ScriptFault
+at_place i (Ok x) = Ok x
+at_place i (Err w) = Err (fault_at i w)
+
+-- the refusal of the line at place i
+abbrev pub refused_at : ℕ → LineRefusal → ScriptRefusal
+refused_at i (line_refusal.Fault w) = Fault (fault_at i w)
+refused_at i line_refusal.Memory = Memory
+
+-- a refusal that names a fault names the one that was said; another is want of memory
+abbrev pub Refuses : {Y : Type 0} → Result Y ScriptFault → ScriptRefusal → Type 0
+Refuses said e = (f : ScriptFault) → e ≡ Fault f → said ≡ Err f
+
+-- what was said, seen by view: the value, the fault, or want of memory
+abbrev pub Is : {X Y : Type 0} → (X → Y) → Result Y ScriptFault → Result X ScriptRefusal → Type 0
+Is view said (Ok x) = said ≡ Ok (view x)
+Is view said (Err e) = Refuses said e
+
 abbrev pub line : List (List ℕ) → ℕ → List ℕ
 line ls i = slice_index_or ls i []
 
--- the fault of the line at place i, from 0
-abbrev pub at_place : ℕ → Option Word → Option ScriptFault
-at_place i w = option_map (λ word. record { line = i + 1; word = word }) w
-
--- the first fault of f 0, f 1 and so on to f (n - 1)
-unfoldable pub first_in : (ℕ → Option ScriptFault) → ℕ → Option ScriptFault
-first_in f zero = None
-first_in f (suc n) = first_in f n or f n
-
 unfoldable pub is_go : List ℕ → Bool
-is_go line = bytes_eq (word line) (codes "go")
+is_go line = bytes_eq (words.word line) (codes "go")
 
--- the fault of a line before `go`, behind the lines above it
-abbrev pub setting_fault : List (List ℕ) → ℕ → Option ScriptFault
-setting_fault ls i = at_place i (drafts.line_fault (drafts.draft_of (take i ls)) (line ls i))
+-- the draft of the first n lines
+unfoldable pub draft : List (List ℕ) → ℕ → Result DraftParts ScriptFault
+draft ls zero = Ok empty
+draft ls (suc n) = and_then (draft ls n) (λ d. at_place n (with_line d (line ls n)))
+
+-- the commands of n lines from this place on
+unfoldable pub commands : List (List ℕ) → ℕ → ℕ → Result (List CommandParts) ScriptFault
+commands ls from zero = Ok []
+commands ls from (suc n) =
+    and_then (commands ls from n) (λ cs. at_place (from + n) (with_command cs (from + n + 1) (line ls (from + n))))
 
 -- `go` has no rest, and each line that a set-up needs stands above it
-unfoldable pub go_word : DraftParts → List ℕ → Option Word
-go_word d line = if length (rest line) == 0 then (if drafts.is_complete d then None else Some fault.Setup) else Some fault.Word
+unfoldable pub go : DraftParts → List ℕ → Result ScriptParts Word
+go d line = if length (words.rest line) == 0 then whole d else Err word.Word
 
-abbrev pub go_fault : List (List ℕ) → ℕ → Option ScriptFault
-go_fault ls at = at_place at (go_word (drafts.draft_of (take at ls)) (line ls at))
+-- lines with `go` at this place: those before it, `go`, those behind it; a missing `go` is missed behind the last line
+abbrev pub with_go : List (List ℕ) → Option ℕ → Result ScriptParts ScriptFault
+with_go ls None = and_then (draft ls (length ls)) (λ d. Err (fault_at (length ls) word.Setup))
+with_go ls (Some at) =
+    and_then (draft ls at) (λ d.
+    and_then (at_place at (go d (line ls at))) (λ script.
+    and_then (commands ls (at + 1) (length ls - (at + 1))) (λ cs.
+    Ok (record script { commands = cs }))))
 
--- the fault of a line behind `go`
-abbrev pub command_fault : List (List ℕ) → ℕ → ℕ → Option ScriptFault
-command_fault ls from i = at_place (from + i) (commands.line_fault (line ls (from + i)))
+-- what the lines say, or their first fault
+unfoldable pub script : List (List ℕ) → Result ScriptParts ScriptFault
+script ls = with_go ls (position is_go ls)
 
--- the commands of so many lines from this place on
-unfoldable pub commands_in : List (List ℕ) → ℕ → ℕ → List CommandParts
-commands_in ls from n = filter_map (λ i. commands.line_command (i + 1) (line ls i)) (range_with_len from n)
-
-abbrev pub fault_with : List (List ℕ) → Option ℕ → Option ScriptFault
-fault_with ls None = first_in (setting_fault ls) (length ls) or at_place (length ls) (Some fault.Setup)
-fault_with ls (Some at) =
-    first_in (setting_fault ls) at or (go_fault ls at or first_in (command_fault ls (at + 1)) (length ls - (at + 1)))
-
--- the first fault of a script's lines: those before `go`, `go`, those behind it; a missing `go` is missed behind the last line
+-- the first fault of a script's lines
 unfoldable pub script_fault : List (List ℕ) → Option ScriptFault
-script_fault ls = fault_with ls (position is_go ls)
+script_fault ls = result_err (script ls)
 
-abbrev pub value_with : List (List ℕ) → Option ℕ → ScriptParts
-value_with ls None = drafts.script_in drafts.empty
-value_with ls (Some at) = record (drafts.script_in (drafts.draft_of (take at ls))) { commands = commands_in ls (at + 1) (length ls - (at + 1)) }
+abbrev pub nothing : ScriptParts
+nothing = record {
+  setup = record { station = []; device = []; analog = []; status = []; line_freq = zero_number; rate = 0; start = pos 0 };
+  limits = record { pre = 0; post = 0; longest = 0; shelf = 0; unshared = false };
+  rules = [];
+  commands = [];
+}
 
--- what the lines say
+-- what the lines say, where they have no fault
 unfoldable pub script_value : List (List ℕ) → ScriptParts
-script_value ls = value_with ls (position is_go ls)
+script_value ls = result_unwrap_or (script ls) nothing

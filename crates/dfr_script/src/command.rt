@@ -1,7 +1,7 @@
 //! The commands that stand behind `go`.
 
 ghost use Rattle.std.specs.Prelude.{◌≡◌, Some, option_map};
-ghost use Rattle.dfr_script.specs.Faults.{Gives};
+ghost use Rattle.dfr_script.specs.Faults.{Is};
 ghost use Rattle.dfr_script.specs.Commands as spec;
 
 use crate::fault::{LineRefusal, Word};
@@ -55,7 +55,7 @@ fn verb_of(word: &[u8]) -> Option<Verb>
 
 /// That no rest follows a word.
 fn bare(rest: &[u8]) -> Result<(), LineRefusal>
-    ensures { Gives (λ x. x) (spec.bare_fault rest.now) tt result }
+    ensures { Is (λ x. x) (spec.bare tt rest.now) result }
 {
     if rest.is_empty() {
         Ok(())
@@ -72,7 +72,7 @@ fn command_in<A: Allocator + Copy>(
     rest: &[u8],
     size: Size,
 ) -> Result<Command<A>, LineRefusal>
-    ensures { Gives (λ c. Some (spec.parts_of c)) (spec.verb_fault (Some verb) rest.now) (spec.verb_value line (Some verb) rest.now) result }
+    ensures { Is spec.parts_of (spec.verb_says line (Some verb) rest.now) result }
 {
     match verb {
         Verb::Scan => {
@@ -99,14 +99,14 @@ fn command_in<A: Allocator + Copy>(
 }
 
 /// The command of line number `line`; None where it is passed over.
-#[tactic(auto, unfolding(crate::specs::Commands::line_fault, crate::specs::Commands::line_command))]
+#[tactic(auto, unfolding(crate::specs::Commands::command_line))]
 pub(crate) fn command_of<A: Allocator + Copy>(
     alloc: A,
     line: u64,
     text: &[u8],
     size: Size,
 ) -> Result<Option<Command<A>>, LineRefusal>
-    ensures { Gives (option_map spec.parts_of) (spec.line_fault text.now) (spec.line_command line text.now) result }
+    ensures { Is (option_map spec.parts_of) (spec.command_line line text.now) result }
 {
     if is_silent(text) {
         return Ok(None);

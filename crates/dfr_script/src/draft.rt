@@ -1,8 +1,8 @@
 //! The lines of a set-up that came so far.
 
-ghost use Rattle.std.specs.Prelude.{◌≡◌, MatchResult, Some, None, [], option_map, unwrap_or};
-ghost use Rattle.dfr_script.specs.Faults.{Refuses};
-ghost use Rattle.dfr_script.specs.Drafts.{single_fault};
+ghost use Rattle.std.specs.Prelude.{◌≡◌, [], option_map, unwrap_or};
+ghost use Rattle.dfr_script.specs.Faults.{Is};
+ghost use Rattle.dfr_script.specs.Fields as fields;
 
 use crate::channel_line::{analog_of, status_of};
 use crate::fault::{LineRefusal, Word};
@@ -59,7 +59,7 @@ fn rules_or_none<A: Allocator>(alloc: A, rules: Option<Vec<Rule, A>>) -> Vec<Rul
 
 /// A rest of one field, and what was read of it.
 fn single<T: Drop>(rest: &[u8], read: Option<T>) -> Result<T, LineRefusal>
-    ensures { MatchResult result (λ x. (single_fault rest.now read ≡ None) × (read ≡ Some x)) (Refuses (single_fault rest.now read)) }
+    ensures { Is (λ x. x) (fields.single rest.now read) result }
 {
     if rest.contains(&b',') {
         return Err(LineRefusal::Fault(Word::Fields));
@@ -68,13 +68,13 @@ fn single<T: Drop>(rest: &[u8], read: Option<T>) -> Result<T, LineRefusal>
 }
 
 impl<A: Allocator + Copy> Draft<A> {
-    ghost use Rattle.std.specs.Prelude.{◌≡◌, MatchResult, MatchOption, true, false, None};
-    ghost use Rattle.dfr_script.specs.Faults.{Refuses};
-    ghost use Rattle.dfr_script.specs.Drafts.{empty, has, add_fault, rest_fault, is_complete, script_in};
-    ghost use Rattle.dfr_script.specs.Steps.{added};
+    ghost use Rattle.std.specs.Prelude.{◌≡◌, IfErr, MatchOption, Ok, Err};
+    ghost use Rattle.dfr_script.specs.declared.fault.Word.TheVariants as word;
+    ghost use Rattle.dfr_script.specs.Faults.{Is};
+    ghost use Rattle.dfr_script.specs.Drafts as spec;
 
     pub(crate) fn new(alloc: A) -> Draft<A>
-        ensures { result ≡ empty }
+        ensures { result ≡ spec.empty }
     {
         Draft {
             station: None,
@@ -92,7 +92,7 @@ impl<A: Allocator + Copy> Draft<A> {
     /// Whether the setting came and may not come again.
     #[tactic(auto, unfolding(crate::specs::Drafts::has))]
     fn has(&self, setting: Setting) -> bool
-        ensures { result ≡ has self.now setting }
+        ensures { result ≡ spec.has self.now setting }
     {
         match setting {
             Setting::Station => self.station.is_some(),
@@ -107,11 +107,10 @@ impl<A: Allocator + Copy> Draft<A> {
     }
 
     /// Puts what the rest of a line says in its place; a fault leaves the draft as it was.
-    #[tactic(auto, unfolding(crate::specs::Drafts::rest_fault, crate::specs::Steps::added))]
+    #[tactic(auto, unfolding(crate::specs::Drafts::put))]
     fn put(&mut self, alloc: A, setting: Setting, rest: &[u8]) -> Result<(), LineRefusal>
-        ensures { MatchResult result
-            (λ _. (rest_fault setting rest.now ≡ None) × (self.new ≡ added self.old setting rest.now))
-            (λ e. Refuses (rest_fault setting rest.now) e × (self.new ≡ self.old)) }
+        ensures says { Is (λ _. self.new) (spec.put self.old setting rest.now) result }
+        ensures kept { IfErr result (λ _. self.new ≡ self.old) }
     {
         match setting {
             Setting::Station => {
@@ -155,11 +154,10 @@ impl<A: Allocator + Copy> Draft<A> {
     }
 
     /// Adds a line; a fault leaves the draft as it was.
-    #[tactic(auto, unfolding(crate::specs::Drafts::add_fault))]
+    #[tactic(auto, unfolding(crate::specs::Drafts::add))]
     pub(crate) fn add(&mut self, alloc: A, setting: Setting, rest: &[u8]) -> Result<(), LineRefusal>
-        ensures { MatchResult result
-            (λ _. (add_fault self.old setting rest.now ≡ None) × (self.new ≡ added self.old setting rest.now))
-            (λ e. Refuses (add_fault self.old setting rest.now) e × (self.new ≡ self.old)) }
+        ensures says { Is (λ _. self.new) (spec.add self.old setting rest.now) result }
+        ensures kept { IfErr result (λ _. self.new ≡ self.old) }
     {
         if self.has(setting) {
             return Err(LineRefusal::Fault(Word::Word));
@@ -168,9 +166,10 @@ impl<A: Allocator + Copy> Draft<A> {
     }
 
     /// The script of the lines that came, without commands; None where a line is missing.
-    #[tactic(auto, unfolding(crate::specs::Drafts::is_complete, crate::specs::Drafts::script_in))]
+    #[tactic(auto, unfolding(crate::specs::Drafts::whole))]
     pub(crate) fn finish(self, alloc: A) -> Option<Script<A>>
-        ensures { MatchOption result (is_complete self ≡ false) (λ script. (is_complete self ≡ true) × (script ≡ script_in self)) }
+        ensures { MatchOption result (spec.whole self ≡ Err word.Setup)
+            (λ script. spec.whole self ≡ Ok script) }
     {
         let Draft {
             station,

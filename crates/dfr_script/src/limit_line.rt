@@ -1,7 +1,8 @@
 //! The numbers of a line of limits, and its choice.
 
-ghost use Rattle.std.specs.Prelude.{◌≡◌, length};
-ghost use Rattle.dfr_script.specs.Faults.{Gives};
+ghost use Rattle.std.specs.Prelude.{◌≡◌, if◌then◌else◌, length, Ok, Err};
+ghost use Rattle.dfr_script.specs.declared.fault.Word.TheVariants as word;
+ghost use Rattle.dfr_script.specs.Faults.{Is};
 ghost use Rattle.dfr_script.specs.Limits as spec;
 ghost use Rattle.dfr_channels.specs.Lines.{texts};
 
@@ -25,7 +26,7 @@ pub struct LimitNumbers {
 /// That the fifth of five fields is the choice.
 fn chosen(fields: &[&[u8]]) -> Result<(), LineRefusal>
     requires { length fields.now ≡ 5 }
-    ensures { Gives (λ x. x) (spec.choice_fault (texts fields.now)) tt result }
+    ensures { Is (λ x. x) (if spec.chooses (texts fields.now) then Ok tt else Err word.Number) result }
 {
     if is_word(fields[4], "unshared") {
         Ok(())
@@ -36,7 +37,7 @@ fn chosen(fields: &[&[u8]]) -> Result<(), LineRefusal>
 
 /// Four numbers, and the choice where there is a fifth field.
 fn limits_in(fields: &[&[u8]]) -> Result<LimitNumbers, LineRefusal>
-    ensures { Gives (λ x. x) (spec.limits_fault (texts fields.now)) (spec.limits_value (texts fields.now)) result }
+    ensures { Is (λ x. x) (spec.limits_fields (texts fields.now)) result }
 {
     let unshared = fields.len() == 5;
     if unshared {
@@ -59,7 +60,7 @@ fn limits_in(fields: &[&[u8]]) -> Result<LimitNumbers, LineRefusal>
 
 /// The numbers and the choice that the rest of a line of limits says.
 pub(crate) fn limits_of<A: Allocator>(alloc: A, rest: &[u8]) -> Result<LimitNumbers, LineRefusal>
-    ensures { Gives (λ x. x) (spec.limits_line_fault rest.now) (spec.limits_line_value rest.now) result }
+    ensures { Is (λ x. x) (spec.limits_line rest.now) result }
 {
     let fields = fields_of(alloc, rest)?;
     limits_in(&fields)

@@ -1,7 +1,8 @@
 //! The rules of a line.
 
-ghost use Rattle.std.specs.Prelude.{◌≡◌, IfOk, length};
-ghost use Rattle.dfr_script.specs.Faults.{Gives};
+ghost use Rattle.std.specs.Prelude.{◌≡◌, if◌then◌else◌, IfOk, length, Ok, Err};
+ghost use Rattle.dfr_script.specs.declared.fault.Word.TheVariants as word;
+ghost use Rattle.dfr_script.specs.Faults.{Is};
 ghost use Rattle.dfr_script.specs.RuleLines as spec;
 ghost use Rattle.dfr_channels.specs.Lines.{texts};
 
@@ -117,7 +118,7 @@ fn rule_of<A: Allocator>(alloc: A, part: &[u8]) -> Result<Option<Rule>, AllocErr
 
 /// That each rule has as many words as it needs.
 fn shapes_of<A: Allocator + Copy>(alloc: A, parts: &[&[u8]]) -> Result<(), LineRefusal>
-    ensures { Gives (λ x. x) (spec.shapes_fault (texts parts.now)) tt result }
+    ensures { Is (λ x. x) (if spec.all_shaped (texts parts.now) then Ok tt else Err word.Fields) result }
 {
     for part in parts {
         let shaped = is_shaped(alloc, part)?;
@@ -130,7 +131,7 @@ fn shapes_of<A: Allocator + Copy>(alloc: A, parts: &[&[u8]]) -> Result<(), LineR
 
 /// The rules of the parts.
 fn list_of<A: Allocator + Copy>(alloc: A, parts: &[&[u8]]) -> Result<Vec<Rule, A>, LineRefusal>
-    ensures { Gives (λ v. v.items) (spec.words_fault (texts parts.now)) (spec.rule_list (texts parts.now)) result }
+    ensures { Is (λ v. v.items) (spec.rule_list (texts parts.now)) result }
 {
     let mut list = Vec::new(alloc);
     for part in parts {
@@ -141,12 +142,12 @@ fn list_of<A: Allocator + Copy>(alloc: A, parts: &[&[u8]]) -> Result<Vec<Rule, A
 }
 
 /// The rules that the rest of a line says, parted by `;`.
-#[tactic(auto, unfolding(crate::specs::RuleLines::rules_fault, crate::specs::RuleLines::rules_value))]
+#[tactic(auto, unfolding(crate::specs::RuleLines::rules))]
 pub(crate) fn rules_of<A: Allocator + Copy>(
     alloc: A,
     rest: &[u8],
 ) -> Result<Vec<Rule, A>, LineRefusal>
-    ensures { Gives (λ v. v.items) (spec.rules_fault rest.now) (spec.rules_value rest.now) result }
+    ensures { Is (λ v. v.items) (spec.rules rest.now) result }
 {
     if rest.is_empty() {
         return Ok(Vec::new(alloc));

@@ -3,7 +3,8 @@
 ghost use Rattle.std.specs.Prelude.{◌≡◌, ◌<◌, ◌∷◌, ◌++◌, ◌&&◌, IfSome, is_some, length, position, option_copied, option_to_list};
 ghost use Rattle.std.specs.List.{filter_map};
 ghost use Rattle.dfr_channels.specs.Fields.{bit};
-ghost use Rattle.dfr_script.specs.Faults.{Gives};
+ghost use Rattle.dfr_script.specs.Faults.{Is};
+ghost use Rattle.dfr_script.specs.Fields.{reads_all};
 ghost use Rattle.dfr_script.specs.ScanLines as spec;
 
 use crate::fault::{LineRefusal, Word};
@@ -62,8 +63,10 @@ fn reading_of(text: &[u8]) -> Option<Reading>
 
 /// The reading that a text begins with, and what stands behind its comma if it has one.
 fn next_reading(text: &[u8]) -> (Option<Reading>, Option<&[u8]>)
-    ensures all { spec.reads_all spec.reading (spec.fields text.now) ≡ (is_some result.0 && spec.reads_all spec.reading (spec.fields_behind (option_copied result.1))) }
-    ensures values { filter_map spec.reading (spec.fields text.now) ≡ option_to_list result.0 ++ filter_map spec.reading (spec.fields_behind (option_copied result.1)) }
+    ensures all { reads_all spec.reading (spec.fields text.now)
+        ≡ (is_some result.0 && reads_all spec.reading (spec.fields_behind (option_copied result.1))) }
+    ensures values { filter_map spec.reading (spec.fields text.now)
+        ≡ option_to_list result.0 ++ filter_map spec.reading (spec.fields_behind (option_copied result.1)) }
     ensures shorter { IfSome result.1 (λ behind. length behind.now < length text.now) }
 {
     match plain_field(text) {
@@ -82,7 +85,7 @@ fn readings_of<A: Allocator>(
     part: &[u8],
     room: usize,
 ) -> Result<Vec<Reading, A>, LineRefusal>
-    ensures { Gives (λ v. v.items) (spec.readings_fault part.now) (spec.readings_value part.now) result }
+    ensures { Is (λ v. v.items) (spec.part spec.reading part.now) result }
 {
     if trim(part).is_empty() {
         return Ok(Vec::new(alloc));
@@ -100,8 +103,10 @@ fn readings_of<A: Allocator>(
 
 /// The bit that a text begins with, and what stands behind its comma if it has one.
 fn next_bit(text: &[u8]) -> (Option<bool>, Option<&[u8]>)
-    ensures all { spec.reads_all bit (spec.fields text.now) ≡ (is_some result.0 && spec.reads_all bit (spec.fields_behind (option_copied result.1))) }
-    ensures values { filter_map bit (spec.fields text.now) ≡ option_to_list result.0 ++ filter_map bit (spec.fields_behind (option_copied result.1)) }
+    ensures all { reads_all bit (spec.fields text.now)
+        ≡ (is_some result.0 && reads_all bit (spec.fields_behind (option_copied result.1))) }
+    ensures values { filter_map bit (spec.fields text.now)
+        ≡ option_to_list result.0 ++ filter_map bit (spec.fields_behind (option_copied result.1)) }
     ensures shorter { IfSome result.1 (λ behind. length behind.now < length text.now) }
 {
     let (field, behind) = at_comma(text);
@@ -115,7 +120,7 @@ fn bits_of<A: Allocator + Copy>(
     part: &[u8],
     room: usize,
 ) -> Result<Vec<bool, A>, LineRefusal>
-    ensures { Gives (λ v. v.items) (spec.bits_fault part.now) (spec.bits_value part.now) result }
+    ensures { Is (λ v. v.items) (spec.part bit part.now) result }
 {
     if trim(part).is_empty() {
         return Ok(Vec::new(alloc));
@@ -134,13 +139,13 @@ fn bits_of<A: Allocator + Copy>(
 }
 
 /// The scan that the rest of a line says: readings, one stroke, bits.
-#[tactic(auto, unfolding(crate::specs::ScanLines::scan_fault, crate::specs::ScanLines::scan_value))]
+#[tactic(auto, unfolding(crate::specs::ScanLines::scan))]
 pub(crate) fn scan_of<A: Allocator + Copy>(
     alloc: A,
     rest: &[u8],
     size: Size,
 ) -> Result<Scan<A>, LineRefusal>
-    ensures { Gives (λ x. x) (spec.scan_fault rest.now) (spec.scan_value rest.now) result }
+    ensures { Is (λ x. x) (spec.scan rest.now) result }
 {
     let Some(at) = place_of_stroke(rest) else {
         return Err(LineRefusal::Fault(Word::Fields));

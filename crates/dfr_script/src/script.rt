@@ -1,14 +1,10 @@
 //! A script as a whole.
 
-ghost use Rattle.std.specs.Prelude.{◌≡◌, ◌+◌, ◌-◌, ◌<◌, ◌≤◌, ◌^◌, ◌++◌, Option, option_to_list, MatchResult, IfSome, Some, None, length, map, position, take};
+ghost use Rattle.std.specs.Prelude.{◌≡◌, ◌+◌, ◌<◌, ◌≤◌, ◌^◌, MatchResult, IfSome, None, length, map, position};
 ghost use Rattle.dfr_channels.specs.Lines.{texts, lines};
-ghost use Rattle.dfr_script.specs.declared.fault.Word.{Word};
-ghost use Rattle.dfr_script.specs.Faults.{Refuses};
-ghost use Rattle.dfr_script.specs.Scripts.{Tells};
-ghost use Rattle.dfr_script.specs.Commands.{parts_of};
-ghost use Rattle.dfr_script.specs.Commands as commands;
-ghost use Rattle.dfr_script.specs.Drafts as drafts;
-ghost use Rattle.dfr_script.specs.Steps as steps;
+ghost use Rattle.dfr_script.specs.Faults as of_line;
+ghost use Rattle.dfr_script.specs.Commands.{parts_of, with_command};
+ghost use Rattle.dfr_script.specs.Drafts.{with_line};
 ghost use Rattle.dfr_script.specs.Scripts as spec;
 
 use crate::command::{Command, command_of};
@@ -49,7 +45,7 @@ impl<A: Allocator> Model for Script<A> {
 /// The refusal of the line at this place, from 0.
 fn at_place(place: usize, refusal: LineRefusal) -> ScriptRefusal
     requires { place + 1 < 2 ^ 64 }
-    ensures { (w : Option Word) → Refuses w refusal → Tells (spec.at_place place w) result }
+    ensures { result ≡ spec.refused_at place refusal }
 {
     match refusal {
         LineRefusal::Fault(word) => ScriptRefusal::Fault(ScriptFault {
@@ -61,15 +57,13 @@ fn at_place(place: usize, refusal: LineRefusal) -> ScriptRefusal
 }
 
 /// Adds a line before `go`; a fault leaves the draft as it was.
-#[tactic(auto, unfolding(crate::specs::Drafts::line_fault, crate::specs::Steps::with_line))]
+#[tactic(auto, unfolding(crate::specs::Drafts::with_line))]
 fn add_line<A: Allocator + Copy>(
     alloc: A,
     draft: &mut Draft<A>,
     text: &[u8],
 ) -> Result<(), LineRefusal>
-    ensures { MatchResult result
-        (λ _. (drafts.line_fault draft.old text.now ≡ None) × (draft.new ≡ steps.with_line draft.old text.now))
-        (Refuses (drafts.line_fault draft.old text.now)) }
+    ensures { of_line.Is (λ _. draft.new) (with_line draft.old text.now) result }
 {
     if is_silent(text) {
         return Ok(());
@@ -88,9 +82,7 @@ fn draft_of<A: Allocator + Copy>(
     count: usize,
 ) -> Result<Draft<A>, ScriptRefusal>
     requires { count ≤ length lines.now }
-    ensures { MatchResult result
-        (λ draft. (spec.first_in (spec.setting_fault (texts lines.now)) count ≡ None) × (draft ≡ drafts.draft_of (take count (texts lines.now))))
-        (Tells (spec.first_in (spec.setting_fault (texts lines.now)) count)) }
+    ensures { spec.Is (λ draft. draft) (spec.draft (texts lines.now) count) result }
 {
     let mut draft = Draft::new(alloc);
     for i in 0..count {
@@ -127,7 +119,7 @@ fn place_of_go(lines: &[&[u8]]) -> Option<usize>
 }
 
 /// The script of the lines before `go`, without commands; `go` stands at this place.
-#[tactic(auto, unfolding(crate::specs::Scripts::go_word))]
+#[tactic(auto, unfolding(crate::specs::Scripts::go))]
 fn set_up_of<A: Allocator + Copy>(
     alloc: A,
     draft: Draft<A>,
@@ -135,9 +127,7 @@ fn set_up_of<A: Allocator + Copy>(
     go: &[u8],
 ) -> Result<Script<A>, ScriptRefusal>
     requires { place + 1 < 2 ^ 64 }
-    ensures { MatchResult result
-        (λ script. (spec.go_word draft go.now ≡ None) × (script ≡ drafts.script_in draft))
-        (Tells (spec.at_place place (spec.go_word draft go.now))) }
+    ensures { spec.Is (λ script. script) (spec.at_place place (spec.go draft go.now)) result }
 {
     let (_, rest) = cut(go);
     if !rest.is_empty() {
@@ -157,9 +147,8 @@ fn add_command<A: Allocator + Copy>(
     text: &[u8],
     size: Size,
 ) -> Result<(), LineRefusal>
-    ensures { MatchResult result
-        (λ _. (commands.line_fault text.now ≡ None) × (map parts_of list.new.items ≡ map parts_of list.old.items ++ option_to_list (commands.line_command line text.now)))
-        (Refuses (commands.line_fault text.now)) }
+    ensures { of_line.Is (λ _. map parts_of list.new.items)
+        (with_command (map parts_of list.old.items) line text.now) result }
 {
     if let Some(command) = command_of(alloc, line, text, size)? {
         list.push(command)?;
@@ -176,9 +165,7 @@ fn commands_of<A: Allocator + Copy>(
     size: Size,
 ) -> Result<Vec<Command<A>, A>, ScriptRefusal>
     requires { from + count ≤ length lines.now }
-    ensures { MatchResult result
-        (λ list. (spec.first_in (spec.command_fault (texts lines.now) from) count ≡ None) × (map parts_of list.items ≡ spec.commands_in (texts lines.now) from count))
-        (Tells (spec.first_in (spec.command_fault (texts lines.now) from) count)) }
+    ensures { spec.Is (λ list. map parts_of list.items) (spec.commands (texts lines.now) from count) result }
 {
     let mut list = Vec::new(alloc);
     for k in 0..count {
@@ -219,11 +206,9 @@ fn with_commands<A: Allocator>(script: Script<A>, commands: Vec<Command<A>, A>) 
 }
 
 /// The script of these lines.
-#[tactic(auto, unfolding(crate::specs::Scripts::script_fault, crate::specs::Scripts::script_value))]
+#[tactic(auto, unfolding(crate::specs::Scripts::script))]
 fn script_in<A: Allocator + Copy>(alloc: A, lines: &[&[u8]]) -> Result<Script<A>, ScriptRefusal>
-    ensures { MatchResult result
-        (λ script. (spec.script_fault (texts lines.now) ≡ None) × (script ≡ spec.script_value (texts lines.now)))
-        (Tells (spec.script_fault (texts lines.now))) }
+    ensures { spec.Is (λ script. script) (spec.script (texts lines.now)) result }
 {
     let Some(go) = place_of_go(lines) else {
         draft_of(alloc, lines, lines.len())?;
@@ -242,7 +227,7 @@ fn script_in<A: Allocator + Copy>(alloc: A, lines: &[&[u8]]) -> Result<Script<A>
 pub fn script_of<A: Allocator + Copy>(alloc: A, text: &[u8]) -> Result<Script<A>, ScriptRefusal>
     ensures { MatchResult result
         (λ script. (spec.script_fault (lines text.now) ≡ None) × (script ≡ spec.script_value (lines text.now)))
-        (Tells (spec.script_fault (lines text.now))) }
+        (spec.Tells (spec.script_fault (lines text.now))) }
 {
     let Ok(lines) = lines_of(alloc, text) else {
         return Err(ScriptRefusal::Memory);

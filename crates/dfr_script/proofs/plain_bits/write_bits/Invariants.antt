@@ -1,7 +1,8 @@
 use Rattle.std.proofs.Common.{◌≡◌, ◌++◌, take, length}
 use Rattle.std.specs.List.{filter_map}
 use Rattle.dfr_channels.specs.Fields.{bit}
-use Rattle.dfr_script.specs.ScanLines.{fields, reads_all}
+use Rattle.dfr_script.specs.Fields.{reads_all}
+use Rattle.dfr_script.specs.ScanLines.{fields}
 use Rattle.dfr_script.proofs.PlainBits.{fields_from}
 use Rattle.dfr_script.proofs.plain_bits.write_bits.Given as goal
 

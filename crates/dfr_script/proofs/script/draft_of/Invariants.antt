@@ -1,11 +1,8 @@
-use Rattle.std.proofs.Common.{◌≡◌, None, take}
+use Rattle.std.proofs.Common.{◌≡◌}
+use Rattle.std.specs.Prelude.{Ok}
 use Rattle.dfr_channels.specs.Lines.{texts}
-use Rattle.dfr_script.specs.Drafts as drafts
-use Rattle.dfr_script.specs.Scripts.{first_in, setting_fault}
+use Rattle.dfr_script.specs.Scripts as spec
 use Rattle.dfr_script.proofs.script.draft_of.Given as goal
 
 abbrev pub invariant-loop-i : goal.invariant-loop-i
-invariant-loop-i g l = record {
-  sound : first_in (setting_fault (texts l.lines)) l.i ≡ None;
-  same : l.draft ≡ drafts.draft_of (take l.i (texts l.lines));
-}
+invariant-loop-i g l = spec.draft (texts l.lines) l.i ≡ Ok l.draft
