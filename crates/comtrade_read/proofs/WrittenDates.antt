@@ -1,103 +1,69 @@
 -- Dates and times that are written are read.
-use Rattle.std.proofs.Common.{◌≡◌, ℕ, zero, suc, ◌+◌, ◌*◌, ◌/◌, ◌%◌, ◌<◌, ◌≤◌, ◌^◌, Bool, true, false, ltb, leb, List, [], ◌∷◌, ◌++◌, length, Some, refl, sym, ap, ◌∙◌, arith, append_assoc, length-append, inl, inr}
-use Rattle.std.specs.Prelude.{ℤ, pos, negsuc, neg_ℤ, ◌≤ℤ◌, ◌+ℤ◌, position, is_some, unsigned_abs}
+use Rattle.std.proofs.Common.{◌≡◌, ℕ, zero, suc, ◌+◌, ◌*◌, ◌/◌, ◌%◌, ◌<◌, ◌≤◌, ◌^◌, Bool, true, false, leb, List, [], ◌∷◌, ◌++◌, length, Some, refl, ap, ◌∙◌, arith, append_assoc, inl, inr}
+use Rattle.std.specs.Prelude.{ℤ, pos, negsuc, neg_ℤ, ◌≤ℤ◌, ◌<ℤ◌, ◌+ℤ◌, ◌-ℤ◌, int_le, unsigned_abs}
 use Rattle.std.specs.Int.{int_div_euclid, int_rem_euclid}
-use Rattle.std.specs.List.{before_first, after_first, AllByRecursion}
-use Rattle.std.specs.Str.Parse.{AllDigits}
-use Rattle.std.proofs.lemmas.Str.Parse.{digit_from_value}
+use Rattle.std.specs.List.{AllByRecursion}
 use Rattle.std.proofs.lemmas.Int.{ints}
-use Rattle.std.proofs.lemmas.List.{take_at}
-use Rattle.std.proofs.lemmas.Bool.{le-leb, lt-ltb}
+use Rattle.std.proofs.lemmas.Bool.{le-leb, cases_lt, cond_both}
 use Rattle.std.proofs.lemmas.Bool.Decides.{nat_tests}
 use Rattle.jiff_core.specs.Calendar.{IsCivilDate, day_count, days_from_civil, days_in_month, days_in_year}
 use Rattle.jiff_core.proofs.CalendarLemmas.{days_from_civil-day_count, day_count-day, day_count-next_month, day_count-last_of_year, day_count-next_year, day_count-end, days_in_month_bounds}
 use Rattle.jiff_core.proofs.MarchLemmas.{day_count-early}
 use Rattle.jiff_core.proofs.SignedLemmas.{signed_arith}
 use Rattle.dfr_channels.specs.Written.{padded}
-use Rattle.comtrade_write.specs.Dates.{civil_of, day_number, time_of_day, date_text, time_text}
-use Rattle.comtrade_write.proofs.Civil.{civil_of-is}
+use Rattle.comtrade_write.specs.Dates.{last_that, year_of, month_of, civil_of, day_number, time_of_day, date_text, time_text}
 use Rattle.comtrade_read.specs.Instant.{digits, is_slash, is_colon, is_dot, day_at, date, micros, seconds, time_at, time, instant_at}
-use Rattle.comtrade_read.proofs.TextSpelled.{below}
-use Rattle.comtrade_read.proofs.AllOf.{All-append}
-use Rattle.comtrade_read.proofs.WrittenFields.{Printed, printed, printed_digits}
-use Rattle.comtrade_read.proofs.Numerals.{padded_is, place_at, past_mark, digits_tested}
+use Rattle.comtrade_read.proofs.AllOf.{All-append, All-digits}
+use Rattle.comtrade_read.proofs.Digits.{digits_tested}
+use Rattle.comtrade_read.proofs.WrittenFields.{Printed, printed}
+use Rattle.comtrade_read.proofs.Numerals.{Fails, padded_is, cut_at}
 
 -- ---- every day has its date
 
-pub record DateOf (n : ℕ) : Type 0 where
-  pub year : ℕ
-  pub month : ℕ
-  pub day : ℕ
-  pub civil : IsCivilDate (pos year) month day
-  pub some : 1 ≤ year
-  pub count : day_count (pos year) month day ≡ 3_652_791 + n
+-- the greatest number that passes
+record Last (test : ℕ → Bool) (top n : ℕ) : Type 0 where
+  low : 1 ≤ n
+  high : n ≤ top
+  passes : test n ≡ true
+  next : n < top → test (n + 1) ≡ false
 
-first_count : day_count (pos 1) 1 1 ≡ 3_652_791
-first_count = day_count-early (pos 1) 10000 1 1 refl (omega arith) (omega arith) (omega arith)
+last_is : (test : ℕ → Bool) (n : ℕ) → test 1 ≡ true → Last test (suc n) (last_that test (suc n))
+unfolding last_that
+last_is test zero one = rw one (record { low = omega arith; high = omega arith; passes = one; next = λ lt. absurd (omega arith) })
+last_is test (suc n) one = cond_both (test (suc (suc n))) (suc (suc n)) (last_that test (suc n)) (Last test (suc (suc n)))
+    (λ t. record { low = omega arith; high = omega arith; passes = t; next = λ lt. absurd (omega arith) })
+    (λ t.
+    let before = last_is test n one in
+    let last = last_that test (suc n) in
+    record {
+      low = before.low;
+      high = omega (arith, before.high);
+      passes = before.passes;
+      next = λ lt. elim (cases_lt last (suc n)) [
+        | inl less ↦ before.next less
+        | inr le ↦ (let top : last + 1 ≡ suc (suc n) = omega (arith, before.high) in rw top t)
+      ];
+    })
 
-december : (y : ℕ) (m d : ℕ) → IsCivilDate (pos y) m d → 12 ≤ m → days_in_month (pos y) m ≤ d → (m ≡ 12) × (d ≡ 31)
-december y m d h a b =
-    let month : m ≡ 12 = omega (arith, h.1.1) in
-    let b' : days_in_month (pos y) 12 ≤ d = rw month at b in
-    let top : d ≤ days_in_month (pos y) 12 = rw month at h.2.1 in
-    (month, omega arith)
+begun : (a b : ℤ) → int_le a b ≡ true → a ≤ℤ b
+begun a b t = omega (arith, signed_arith, t)
 
-last_year : (y : ℕ) → y ≤ 10000 → day_count (pos y) 1 1 ≤ 7_304_849 → y < 10000
-last_year y le h = elim (below y 10000) [
-  | inl lt ↦ lt
-  | inr ge ↦
-      let e : y ≡ 10000 = omega arith in
-      let g : day_count (pos 10000) 1 1 ≤ 7_304_849 = rw e at h in
-      absurd (omega (arith, day_count-end))
-]
+ahead : (a b : ℤ) → int_le a b ≡ false → b <ℤ a
+ahead a b t = omega (arith, signed_arith, t)
 
-next_date : (n : ℕ) → n < 3_652_058 → DateOf n → DateOf (n + 1)
-next_date n lt x =
-    let y = pos x.year in
-    let m = x.month in
-    let d = x.day in
-    let h = x.civil in
-    let count = x.count in
-    elim (below d (days_in_month y m)) [
-      | inl more ↦ record {
-        year = x.year;
-        month = m;
-        day = d + 1;
-        civil = (h.0, h.1, (omega arith, omega arith));
-        some = x.some;
-        count = omega (arith, day_count-day y m d (d + 1) h.2.0 (omega arith));
-      }
-      | inr last ↦
-          let end : d ≡ days_in_month y m = omega (arith, h.2.1) in
-          let first : day_count y m d + 1 ≡ day_count y m 1 + d = day_count-day y m d 1 h.2.0 (omega arith) in
-          elim (below m 12) [
-            | inl early ↦ record {
-              year = x.year;
-              month = m + 1;
-              day = 1;
-              civil = (h.0, (omega arith, omega arith), (omega arith, omega (arith, days_in_month_bounds y (m + 1))));
-              some = x.some;
-              count = omega (arith, day_count-next_month y m h.1.0);
-            }
-            | inr late ↦
-                let p = december x.year m d h late (omega arith) in
-                let last_day : day_count y 12 31 ≡ 3_652_791 + n = rw (p.0, p.1) at count in
-                let next : day_count (pos (x.year + 1)) 1 1 ≡ day_count y 1 1 + days_in_year y = day_count-next_year y (pos (x.year + 1)) (omega (arith, signed_arith)) (omega (arith, signed_arith)) in
-                let few : x.year + 1 < 10000 = last_year (x.year + 1) (omega (arith, signed_arith, h.0.1)) (omega (arith, day_count-last_of_year y)) in
-                record {
-                  year = x.year + 1;
-                  month = 1;
-                  day = 1;
-                  civil = ((omega (arith, signed_arith), omega (arith, signed_arith)), (omega arith, omega arith), (omega arith, omega (arith, days_in_month_bounds (pos (x.year + 1)) 1)));
-                  some = omega arith;
-                  count = omega (arith, day_count-last_of_year y);
-                }
-          ]
-    ]
+year_is : (day : ℤ) → neg_ℤ (pos 719_162) ≤ℤ day → Last (λ y. int_le (days_from_civil (pos y) 1 1) day) 9999 (year_of day)
+unfolding year_of
+year_is day low =
+    let first : day_count (pos 1) 1 1 ≡ 3_652_791 = day_count-early (pos 1) 10000 1 1 refl (omega arith) (omega arith) (omega arith) in
+    let reached : days_from_civil (pos 1) 1 1 ≤ℤ day = omega (arith, signed_arith, days_from_civil-day_count (pos 1) 1 1) in
+    last_is (λ y. int_le (days_from_civil (pos y) 1 1) day) 9998 (reaches (days_from_civil (pos 1) 1 1) day reached)
+  where
+    reaches : (a b : ℤ) → a ≤ℤ b → int_le a b ≡ true
+    reaches a b h = grind (arith, ints)
 
-pub date_of : (n : ℕ) → n ≤ 3_652_058 → DateOf n
-date_of zero le = record { year = 1; month = 1; day = 1; civil = ((omega (arith, signed_arith), omega (arith, signed_arith)), (omega arith, omega arith), (omega arith, omega (arith, days_in_month_bounds (pos 1) 1))); some = omega arith; count = first_count }
-date_of (suc n) le = let s : n + 1 ≡ suc n = omega arith in rw s at (next_date n (omega arith) (date_of n (omega arith)))
+month_is : (day : ℤ) → int_le (days_from_civil (pos (year_of day)) 1 1) day ≡ true → Last (λ m. int_le (days_from_civil (pos (year_of day)) m 1) day) 12 (month_of day)
+unfolding month_of
+month_is day t = last_is (λ m. int_le (days_from_civil (pos (year_of day)) m 1) day) 11 t
 
 -- the civil date of a day that files can say
 pub record Dated (day : ℤ) : Type 0 where
@@ -109,15 +75,43 @@ natural_of : (z : ℤ) → pos 0 ≤ℤ z → (n : ℕ) × (z ≡ pos n)
 natural_of (pos n) h = (n, refl)
 natural_of (negsuc n) h = absurd (omega (arith, ints))
 
+-- the day lies in the month that is found
+in_month : (day : ℤ) (y m : ℕ) → day ≤ℤ pos 2_932_896 → Last (λ n. int_le (days_from_civil (pos n) 1 1) day) 9999 y → Last (λ n. int_le (days_from_civil (pos y) n 1) day) 12 m
+    → day <ℤ (days_from_civil (pos y) m 1 +ℤ pos (days_in_month (pos y) m))
+in_month day y m high year month = elim (cases_lt m 12) [
+  | inl lt ↦
+      let next = ahead (days_from_civil (pos y) (m + 1) 1) day (month.next lt) in
+      omega (arith, signed_arith, next, days_from_civil-day_count (pos y) m 1, days_from_civil-day_count (pos y) (m + 1) 1, day_count-next_month (pos y) m month.low)
+  | inr le ↦
+      let last : m ≡ 12 = omega (arith, month.high) in
+      let next_year : day_count (pos (y + 1)) 1 1 ≡ day_count (pos y) 1 1 + days_in_year (pos y) = day_count-next_year (pos y) (pos (y + 1)) (omega (arith, signed_arith)) (omega (arith, signed_arith)) in
+      let before : day <ℤ days_from_civil (pos (y + 1)) 1 1 = elim (cases_lt y 9999) [
+        | inl lt ↦ ahead (days_from_civil (pos (y + 1)) 1 1) day (year.next lt)
+        | inr le ↦ (let top : y + 1 ≡ 10000 = omega (arith, year.high) in
+            rw top (omega (arith, signed_arith, day_count-end, days_from_civil-day_count (pos 10000) 1 1)))
+      ] in
+      rw last (omega (arith, signed_arith, before, next_year, day_count-last_of_year (pos y), day_count-day (pos y) 12 1 31 (omega arith) (omega arith), days_from_civil-day_count (pos y) 12 1, days_from_civil-day_count (pos (y + 1)) 1 1))
+]
+
 pub dated : (day : ℤ) → neg_ℤ (pos 719_162) ≤ℤ day → day ≤ℤ pos 2_932_896 → Dated day
+unfolding civil_of
 dated day low high =
-    let p = natural_of (day +ℤ pos 719_162) (omega (arith, signed_arith)) in
-    let n = p.0 in
-    let from_first : day +ℤ pos 719_162 ≡ pos n = p.1 in
-    let x = date_of n (omega (arith, signed_arith, from_first)) in
-    let e : days_from_civil (pos x.year) x.month x.day ≡ day = omega (arith, signed_arith, days_from_civil-day_count (pos x.year) x.month x.day, x.count, from_first) in
-    let c : civil_of day ≡ record { year = x.year; month = x.month; day = x.day } = ap civil_of (sym e) ∙ civil_of-is x.year x.month x.day x.civil in
-    record { civil = rw c x.civil; some = rw c x.some; is = rw c e }
+    let y = year_of day in
+    let m = month_of day in
+    let first = days_from_civil (pos y) m 1 in
+    let year = year_is day low in
+    let month = month_is day year.passes in
+    let start = begun first day month.passes in
+    let stop = in_month day y m high year month in
+    let p = natural_of (day -ℤ first) (omega (arith, signed_arith)) in
+    let from_first : day -ℤ first ≡ pos p.0 = p.1 in
+    let size : unsigned_abs (day -ℤ first) ≡ p.0 = ap unsigned_abs from_first in
+    let few : p.0 + 1 ≤ days_in_month (pos y) m = omega (arith, signed_arith, from_first, stop) in
+    record {
+      civil = rw size ((omega (arith, signed_arith, year.high), omega (arith, signed_arith, year.high)), (month.low, month.high), (omega arith, few));
+      some = year.low;
+      is = rw size (omega (arith, signed_arith, from_first, days_from_civil-day_count (pos y) m (p.0 + 1), days_from_civil-day_count (pos y) m 1, day_count-day (pos y) m 1 (p.0 + 1) (omega arith) (omega arith)));
+    }
 
 -- ---- digits in a field
 
@@ -129,37 +123,15 @@ digits_written low high n x some a b lt wide =
     let h : leb (length (padded n x)) high ≡ true = le-leb (length (padded n x)) high (omega (arith, p.long)) in
     rw (l, h, digits_tested (padded n x) p.digits) (ap (λ (v : ℕ). Some v) p.value)
 
-abbrev Fails : (ℕ → Bool) → List ℕ → Type 0
-Fails p xs = AllByRecursion (λ x. p x ≡ false) xs
+two_written : (x : ℕ) → x < 10 ^ 2 → digits 1 2 (padded 2 x) ≡ Some x
+two_written x lt = digits_written 1 2 2 x (omega arith) (omega arith) (omega arith) lt (omega arith)
 
-digits_fail : (p : ℕ → Bool) → ((c : ℕ) → 48 ≤ c → c ≤ 57 → p c ≡ false) → (ds : List ℕ) → AllDigits 10 ds → Fails p ds
-digits_fail p h [] d = tt
-digits_fail p h (c ∷ cs) d = let r = digit_from_value c d.0 in (h c r.0 r.1, digits_fail p h cs d.1)
+-- what holds of digits holds of each byte
+padded_all : (P : ℕ → Type 0) → ((c : ℕ) → 48 ≤ c → c ≤ 57 → P c) → (n x : ℕ) → 0 < n → x < 10 ^ n → x < 10 ^ 64 → AllByRecursion P (padded n x)
+padded_all P each n x some lt wide = All-digits P each (padded n x) (padded_is n x some lt wide).digits
 
-no_slash : (c : ℕ) → 48 ≤ c → c ≤ 57 → is_slash c ≡ false
-no_slash c a b = grind (arith, nat_tests)
-
-no_colon : (c : ℕ) → 48 ≤ c → c ≤ 57 → is_colon c ≡ false
-no_colon c a b = grind (arith, nat_tests)
-
-no_dot : (c : ℕ) → 48 ≤ c → c ≤ 57 → is_dot c ≡ false
-no_dot c a b = grind (arith, nat_tests)
-
--- a text cut at the first byte that passes
-pub record CutAt (p : ℕ → Bool) (xs : List ℕ) (c : ℕ) (ys : List ℕ) : Type 0 where
-  pub there : is_some (position p (xs ++ c ∷ ys)) ≡ true
-  pub front : before_first p (xs ++ c ∷ ys) ≡ xs
-  pub back : after_first p (xs ++ c ∷ ys) ≡ ys
-
-cut_at : (p : ℕ → Bool) (xs : List ℕ) (c : ℕ) (ys : List ℕ) → Fails p xs → p c ≡ true → CutAt p xs c ys
-cut_at p xs c ys f t =
-    let n = place_at p xs c ys f t in
-    let less : ltb (length xs) (length (xs ++ c ∷ ys)) ≡ true = lt-ltb (length xs) (length (xs ++ c ∷ ys)) (omega (arith, length-append xs (c ∷ ys))) in
-    record {
-      there = rw (n, less) refl;
-      front = rw n (take_at xs (c ∷ ys) (length xs) refl);
-      back = rw n (past_mark xs c ys);
-    }
+two_fail : (p : ℕ → Bool) → ((c : ℕ) → 48 ≤ c → c ≤ 57 → p c ≡ false) → (x : ℕ) → x < 10 ^ 2 → Fails p (padded 2 x)
+two_fail p each x lt = padded_all (λ c. p c ≡ false) each 2 x (omega arith) lt (omega arith)
 
 -- ---- dates
 
@@ -180,14 +152,10 @@ date_written day x =
     let y4 : y < 10 ^ 4 = omega (arith, signed_arith, x.civil.0.1) in
     let m2 : m < 10 ^ 2 = omega (arith, x.civil.1.1) in
     let d2 : d < 10 ^ 2 = omega (arith, x.civil.2.1, days_in_month_bounds (pos y) m) in
-    let da = padded_is 2 d (omega arith) d2 (omega arith) in
-    let ma = padded_is 2 m (omega arith) m2 (omega arith) in
     let at : day_at y m d ≡ Some day =
     rw (le-leb 1 y x.some, le-leb 1 m x.civil.1.0, le-leb m 12 x.civil.1.1, le-leb 1 d x.civil.2.0, le-leb d (days_in_month (pos y) m) x.civil.2.1) (ap (λ (z : ℤ). Some z) x.is) in
     ap date (append_assoc (padded 2 d) (47 ∷ padded 2 m) (47 ∷ padded 4 y))
-    ∙ date_read (padded 2 d) (padded 2 m) (padded 4 y) d m y day (digits_fail is_slash no_slash (padded 2 d) da.digits) (digits_fail is_slash no_slash (padded 2 m) ma.digits)
-    (digits_written 1 2 2 d (omega arith) (omega arith) (omega arith) d2 (omega arith))
-    (digits_written 1 2 2 m (omega arith) (omega arith) (omega arith) m2 (omega arith))
+    ∙ date_read (padded 2 d) (padded 2 m) (padded 4 y) d m y day (two_fail is_slash (λ c low high. grind (arith, nat_tests)) d d2) (two_fail is_slash (λ c low high. grind (arith, nat_tests)) m m2) (two_written d d2) (two_written m m2)
     (digits_written 4 4 4 y (omega arith) (omega arith) (omega arith) y4 (omega arith)) at
 
 -- ---- times
@@ -198,12 +166,11 @@ micros_written u lt =
     let p = padded_is 6 u (omega arith) (omega arith) (omega arith) in
     rw (digits_written 1 6 6 u (omega arith) (omega arith) (omega arith) (omega arith) (omega arith), p.long) (ap (λ (n : ℕ). Some n) (omega arith))
 
-seconds_written : (s u : ℕ) → s < 100 → u < 1000000 → seconds (padded 2 s ++ 46 ∷ padded 6 u) ≡ Some (s, u)
+seconds_written : (s u : ℕ) → s < 10 ^ 2 → u < 1000000 → seconds (padded 2 s ++ 46 ∷ padded 6 u) ≡ Some (s, u)
 unfolding seconds
 seconds_written s u ls lu =
-    let p = padded_is 2 s (omega arith) (omega arith) (omega arith) in
-    let c = cut_at is_dot (padded 2 s) 46 (padded 6 u) (digits_fail is_dot no_dot (padded 2 s) p.digits) refl in
-    rw (c.there, c.front, c.back, digits_written 1 2 2 s (omega arith) (omega arith) (omega arith) (omega arith) (omega arith), micros_written u lu) refl
+    let c = cut_at is_dot (padded 2 s) 46 (padded 6 u) (two_fail is_dot (λ c low high. grind (arith, nat_tests)) s ls) refl in
+    rw (c.there, c.front, c.back, two_written s ls, micros_written u lu) refl
 
 time_read : (a b c : List ℕ) (h m s u : ℕ) → Fails is_colon a → Fails is_colon b → digits 1 2 a ≡ Some h → digits 1 2 b ≡ Some m → seconds c ≡ Some (s, u) → h ≤ 23 → m ≤ 59 → s ≤ 59
     → time (a ++ 58 ∷ (b ++ 58 ∷ c)) ≡ Some (((h * 60 + m) * 60 + s) * 1000000 + u)
@@ -227,18 +194,15 @@ time_written us lt =
     let lm : m ≤ 59 = omega arith in
     let ls : s ≤ 59 = omega arith in
     let lu : u < 1000000 = omega arith in
-    let ha = padded_is 2 h (omega arith) (omega arith) (omega arith) in
-    let ma = padded_is 2 m (omega arith) (omega arith) (omega arith) in
+    let h2 : h < 10 ^ 2 = omega arith in
+    let m2 : m < 10 ^ 2 = omega arith in
     let a = padded 2 h in
     let b = padded 2 m in
     let c = padded 2 s in
     let d = padded 6 u in
     let group : ((a ++ 58 ∷ b) ++ 58 ∷ c) ++ 46 ∷ d ≡ a ++ 58 ∷ (b ++ 58 ∷ (c ++ 46 ∷ d)) = simp append_assoc in
     ap time group
-    ∙ time_read a b (c ++ 46 ∷ d) h m s u (digits_fail is_colon no_colon a ha.digits) (digits_fail is_colon no_colon b ma.digits)
-    (digits_written 1 2 2 h (omega arith) (omega arith) (omega arith) (omega arith) (omega arith))
-    (digits_written 1 2 2 m (omega arith) (omega arith) (omega arith) (omega arith) (omega arith))
-    (seconds_written s u (omega arith) lu) lh lm ls
+    ∙ time_read a b (c ++ 46 ∷ d) h m s u (two_fail is_colon (λ c low high. grind (arith, nat_tests)) h h2) (two_fail is_colon (λ c low high. grind (arith, nat_tests)) m m2) (two_written h h2) (two_written m m2) (seconds_written s u (omega arith) lu) lh lm ls
     ∙ ap (λ (n : ℕ). Some n) (whole_time us)
 
 -- ---- instants
@@ -266,7 +230,15 @@ instant_written t low high =
 -- ---- printed
 
 printed_padded : (n x : ℕ) → 0 < n → x < 10 ^ n → x < 10 ^ 64 → Printed (padded n x)
-printed_padded n x some lt wide = printed_digits (padded n x) (padded_is n x some lt wide).digits
+printed_padded n x some lt wide = padded_all (λ b. printed b ≡ true) (λ c low high. grind (arith, nat_tests)) n x some lt wide
+
+printed_two : (x : ℕ) → x < 10 ^ 2 → Printed (padded 2 x)
+printed_two x lt = printed_padded 2 x (omega arith) lt (omega arith)
+
+printed_three : (mark : ℕ) (a b c : List ℕ) → printed mark ≡ true → Printed a → Printed b → Printed c → Printed ((a ++ mark ∷ b) ++ mark ∷ c)
+printed_three mark a b c t pa pb pc =
+    let P : ℕ → Type 0 = λ b. printed b ≡ true in
+    All-append P (a ++ mark ∷ b) (mark ∷ c) (All-append P a (mark ∷ b) pa (t, pb)) (t, pc)
 
 pub date_printed : (day : ℤ) → Dated day → Printed (date_text (civil_of day))
 unfolding date_text
@@ -274,24 +246,16 @@ date_printed day x =
     let y = (civil_of day).year in
     let m = (civil_of day).month in
     let d = (civil_of day).day in
-    let P : ℕ → Type 0 = λ b. printed b ≡ true in
-    let y4 : y < 10 ^ 4 = omega (arith, signed_arith, x.civil.0.1) in
-    let m2 : m < 10 ^ 2 = omega (arith, x.civil.1.1) in
-    let d2 : d < 10 ^ 2 = omega (arith, x.civil.2.1, days_in_month_bounds (pos y) m) in
-    All-append P (padded 2 d ++ 47 ∷ padded 2 m) (47 ∷ padded 4 y)
-    (All-append P (padded 2 d) (47 ∷ padded 2 m) (printed_padded 2 d (omega arith) d2 (omega arith)) (refl, printed_padded 2 m (omega arith) m2 (omega arith)))
-    (refl, printed_padded 4 y (omega arith) y4 (omega arith))
+    printed_three 47 (padded 2 d) (padded 2 m) (padded 4 y) refl (printed_two d (omega (arith, x.civil.2.1, days_in_month_bounds (pos y) m))) (printed_two m (omega (arith, x.civil.1.1)))
+    (printed_padded 4 y (omega arith) (omega (arith, signed_arith, x.civil.0.1)) (omega (arith, signed_arith, x.civil.0.1)))
 
 pub time_printed : (us : ℕ) → us < 86_400_000_000 → Printed (time_text us)
 unfolding time_text
 time_printed us lt =
-    let P : ℕ → Type 0 = λ b. printed b ≡ true in
-    let a = padded 2 (us / 3_600_000_000) in
-    let b = padded 2 (us / 60_000_000 % 60) in
-    let c = padded 2 (us / 1_000_000 % 60) in
-    let d = padded 6 (us % 1_000_000) in
-    All-append P ((a ++ 58 ∷ b) ++ 58 ∷ c) (46 ∷ d)
-    (All-append P (a ++ 58 ∷ b) (58 ∷ c)
-    (All-append P a (58 ∷ b) (printed_padded 2 (us / 3_600_000_000) (omega arith) (omega arith) (omega arith)) (refl, printed_padded 2 (us / 60_000_000 % 60) (omega arith) (omega arith) (omega arith)))
-    (refl, printed_padded 2 (us / 1_000_000 % 60) (omega arith) (omega arith) (omega arith)))
-    (refl, printed_padded 6 (us % 1_000_000) (omega arith) (omega arith) (omega arith))
+    let a = us / 3_600_000_000 in
+    let b = us / 60_000_000 % 60 in
+    let c = us / 1_000_000 % 60 in
+    let d = us % 1_000_000 in
+    All-append (λ b. printed b ≡ true) ((padded 2 a ++ 58 ∷ padded 2 b) ++ 58 ∷ padded 2 c) (46 ∷ padded 6 d)
+    (printed_three 58 (padded 2 a) (padded 2 b) (padded 2 c) refl (printed_two a (omega arith)) (printed_two b (omega arith)) (printed_two c (omega arith)))
+    (refl, printed_padded 6 d (omega arith) (omega arith) (omega arith))

@@ -1,5 +1,5 @@
 -- Fields that are written are read.
-use Rattle.std.proofs.Common.{◌≡◌, ℕ, suc, ◌+◌, ◌-◌, ◌<◌, ◌≤◌, ◌^◌, Bool, true, false, cond, ltb, leb, eqb, List, [], ◌∷◌, ◌++◌, length, get_or, take, Some, None, refl, sym, ap, ◌∙◌, arith, length-append}
+use Rattle.std.proofs.Common.{◌≡◌, ℕ, suc, ◌+◌, ◌-◌, ◌<◌, ◌≤◌, ◌^◌, Bool, true, false, cond, ltb, leb, eqb, List, [], ◌∷◌, ◌++◌, length, get_or, take, Option, Some, None, refl, sym, ap, ◌∙◌, arith, length-append}
 use Rattle.std.specs.Prelude.{ℤ, pos, negsuc, ◌≤ℤ◌, int_le, unsigned_abs, ◌&&◌, ◌||◌, not, codes}
 use Rattle.std.specs.List.{AllByRecursion}
 use Rattle.std.specs.Ordering.{int_eq}
@@ -11,9 +11,9 @@ use Rattle.std.proofs.lemmas.List.{take_at, get_or_at, get_or_default}
 use Rattle.std.proofs.lemmas.List.Elements.{All-from_recursion, recursion_from_All}
 use Rattle.std.proofs.lemmas.List.Sums.{AllPass-from_list_all}
 use Rattle.std.proofs.lemmas.Int.{ints}
-use Rattle.std.proofs.lemmas.Bool.{lt-ltb, le-leb, eq-eqb, eqb-true, and_parts, or_parts, or_from, not-true}
+use Rattle.std.proofs.lemmas.Bool.{lt-ltb, le-leb, eq-eqb, eqb-true, and_parts, or_parts, or_from, not-true, cond_both}
 use Rattle.std.proofs.lemmas.Bool.Decides.{nat_tests, Decides-int_eq}
-use Rattle.dfr_channels.specs.Spelling.{is_blank, trimmed, Number, IsNumber}
+use Rattle.dfr_channels.specs.Spelling.{is_blank, trimmed, decimal_number, Number, IsNumber}
 use Rattle.dfr_channels.specs.Written.{decimal_text}
 use Rattle.dfr_channels.specs.Texts.{is_plain, is_printable, has_blank_end, has_length}
 use Rattle.dfr_channels.specs.declared.channel.Side.{Side}
@@ -32,7 +32,7 @@ use Rattle.comtrade_read.specs.Ascii.{stamp, value, reading}
 use Rattle.comtrade_read.specs.Joined.{HasNone}
 use Rattle.comtrade_read.proofs.AllOf.{All-append, All-digits, All-none, differs}
 use Rattle.comtrade_read.proofs.Blanks.{both_stay}
-use Rattle.comtrade_read.proofs.Numerals.{whole_again, decimal_again, pointed_is, sign_is, sign_text, point_text, abs_small}
+use Rattle.comtrade_read.proofs.Numerals.{whole_again, decimal_again, written_all}
 
 -- ---- numbers
 
@@ -71,36 +71,14 @@ pub scale_written : (d : Number) → IsNumber d → scale (decimal_text d) ≡ S
 unfolding scale
 scale_written d h = decimal_again d h
 
--- ---- a decimal's text
-
-pub record DecimalText (d : Number) : Type 0 where
-  pub sign : Bool
-  pub ws : List ℕ
-  pub fs : List ℕ
-  pub is : decimal_text d ≡ sign_text sign ++ (ws ++ point_text fs)
-  pub front : AllDigits 10 ws
-  pub back : AllDigits 10 fs
-  pub some : 0 < length ws
-
-pub decimal_parts : (d : Number) → IsNumber d → DecimalText d
-unfolding decimal_text
-decimal_parts d h =
-    let n = unsigned_abs d.units in
-    let small : n < 10 ^ 36 = abs_small d.units h.above h.below in
-    let m = decimal_is_IsNumeral_wide n (omega arith) in
-    let s = sign_is d.units in
-    let p = pointed_is d.places (decimal n) m.0.1 m.0.0 in
-    record { sign = s.0; ws = p.ws; fs = p.fs; is = rw (s.1.0, p.is) refl; front = p.front; back = p.back; some = p.some }
-
-not_empty : (xs : List ℕ) → 0 < length xs → eqb (length xs) 0 ≡ false
-not_empty xs h = grind (arith, nat_tests)
-
-decimal_some : (d : Number) → IsNumber d → 0 < length (decimal_text d)
-decimal_some d h = let p = decimal_parts d h in rw p.is (omega (arith, length-append (sign_text p.sign) (p.ws ++ point_text p.fs), length-append p.ws (point_text p.fs), p.some))
+-- what is read isn't empty, where nothing is read of an empty field
+full : {A : Type 0} (g : List ℕ → Option A) (f : List ℕ) (y : A) → g [] ≡ None → g f ≡ Some y → eqb (length f) 0 ≡ false
+full g [] y none e = absurd cc
+full g (x ∷ xs) y none e = grind (arith, nat_tests)
 
 pub free_scale_written : (d : Number) → IsNumber d → free_scale (decimal_text d) ≡ Some d
 unfolding free_scale
-free_scale_written d h = rw (not_empty (decimal_text d) (decimal_some d h)) (decimal_again d h)
+free_scale_written d h = let is = decimal_again d h in rw (full decimal_number (decimal_text d) d refl is) is
 
 -- ---- one letter, one digit, one word
 
@@ -128,33 +106,23 @@ pub revision_written : whole (codes "1999") ≡ Some (pos 1999)
 unfolding whole
 revision_written = refl
 
-signed_some : (z : ℤ) → unsigned_abs z < 10 ^ 64 → 0 < length (signed_decimal z)
-signed_some (pos n) lt = (decimal_is_IsNumeral_wide n lt).0.0
-signed_some (negsuc n) lt = omega arith
-
-not_missing : (x : ℤ) → x ≤ℤ pos 99998 → reading x ≡ Value x
-not_missing x le = with_test (int_eq x (pos 99999)) refl
-  where
-    with_test : (b : Bool) → int_eq x (pos 99999) ≡ b → cond b Missing (Value x) ≡ Value x
-    with_test true t = let same : x ≡ pos 99999 = (Decides-int_eq x (pos 99999)).0 t in absurd (omega (arith, ints))
-    with_test false t = refl
-
 pub value_written : (x : ℤ) → negsuc 99998 ≤ℤ x → x ≤ℤ pos 99998 → value (reading_text (Value x)) ≡ Some (Value x)
-unfolding value
+unfolding value small
 value_written x low high =
-    let top : x ≤ℤ pos 99999 = omega (arith, ints) in
-    let few = abs_few x low top in
-    rw (not_empty (signed_decimal x) (signed_some x (omega arith)), small_written x low top) (ap (λ (v : Reading). Some v) (not_missing x high))
+    let is = small_written x low (omega (arith, ints)) in
+    let there : reading x ≡ Value x = cond_both (int_eq x (pos 99999)) Missing (Value x) (λ v. v ≡ Value x)
+    (λ t. let same = (Decides-int_eq x (pos 99999)).0 t in absurd (omega (arith, ints))) (λ t. refl) in
+    rw (full small (signed_decimal x) x refl is, is) (ap (λ (v : Reading). Some v) there)
 
 pub missing_written : value (reading_text Missing) ≡ Some Missing
 unfolding value small
 missing_written = refl
 
 pub stamp_written : (t : ℕ) → t ≤ 9999999999 → stamp (stamp_text (Some t)) ≡ Some (Some t)
-unfolding stamp
+unfolding stamp natural
 stamp_written t le =
-    let some = (decimal_is_IsNumeral_wide t (omega arith)).0.0 in
-    rw (not_empty (decimal t) some, natural_written 9999999999 t le (omega arith)) refl
+    let is = natural_written 9999999999 t le (omega arith) in
+    rw (full (natural 9999999999) (decimal t) t refl is, is) refl
 
 pub no_stamp_written : stamp (stamp_text None) ≡ Some None
 unfolding stamp
@@ -178,7 +146,7 @@ Printed t = AllByRecursion (λ b. printed b ≡ true) t
 pub printed_no_end : (t : List ℕ) → Printed t → HasNone 26 t
 printed_no_end t h = All-none printed 26 refl t h
 
-pub printed_full : (x : ℕ) → printed x ≡ true → is_blank x ≡ false
+printed_full : (x : ℕ) → printed x ≡ true → is_blank x ≡ false
 printed_full x h = or_from _ _ (differs printed x 32 h refl) (differs printed x 9 h refl)
 
 -- no end of a printed text is blank
@@ -202,19 +170,8 @@ pub printed_signed : (z : ℤ) → unsigned_abs z < 10 ^ 64 → Printed (signed_
 printed_signed (pos n) lt = printed_decimal n lt
 printed_signed (negsuc n) lt = (refl, printed_decimal (suc n) lt)
 
-printed_point : (fs : List ℕ) → AllDigits 10 fs → Printed (point_text fs)
-printed_point [] h = tt
-printed_point (f ∷ fs) h = (refl, printed_digits (f ∷ fs) h)
-
-printed_sign : (s : Bool) → Printed (sign_text s)
-printed_sign true = (refl, tt)
-printed_sign false = tt
-
 pub printed_number : (d : Number) → IsNumber d → Printed (decimal_text d)
-printed_number d h =
-    let p = decimal_parts d h in
-    let P : ℕ → Type 0 = λ b. printed b ≡ true in
-    rw p.is (All-append P (sign_text p.sign) (p.ws ++ point_text p.fs) (printed_sign p.sign) (All-append P p.ws (point_text p.fs) (printed_digits p.ws p.front) (printed_point p.fs p.back)))
+printed_number d h = written_all (λ b. printed b ≡ true) (λ c low high. grind (arith, nat_tests)) refl refl d h
 
 pub printed_count : (n letter : ℕ) → n < 10 ^ 64 → printed letter ≡ true → Printed (decimal n ++ letter ∷ [])
 printed_count n letter lt e = All-append (λ b. printed b ≡ true) (decimal n) (letter ∷ []) (printed_decimal n lt) (e, tt)
@@ -236,9 +193,6 @@ printed_revision = (refl, (refl, (refl, (refl, tt))))
 
 pub printed_missing : Printed (reading_text Missing)
 printed_missing = (refl, (refl, (refl, (refl, (refl, tt)))))
-
-pub printed_stamp : (t : ℕ) → t < 10 ^ 64 → Printed (stamp_text (Some t))
-printed_stamp t h = printed_decimal t h
 
 -- ---- texts of a set-up
 
