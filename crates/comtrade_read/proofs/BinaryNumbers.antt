@@ -8,7 +8,8 @@ use Rattle.std.proofs.lemmas.Int.{ints, of_z-to_z, to_z-of_z, fits_signed_from_a
 use Rattle.std.proofs.Math.Facts.{sfits_to_z, Fits-of_lt, Fits-of_z, Fits-lt-pow}
 use Rattle.std.proofs.Math.Nat.{pow-suc}
 use Rattle.std.proofs.lemmas.Nat.{le_bytes_2, le_bytes_4}
-use Rattle.std.proofs.lemmas.Nat.Bits.{bit_at-zero, bit_at_lowest, bit_at-suc}
+use Rattle.std.proofs.lemmas.Nat.Bits.{bit_at-zero, bit_at_lowest, bit_at-suc, bit_at-lt, same_from_bits_below}
+use Rattle.std.proofs.lemmas.List.FromFn.{length-map-range_with_len, get_or-map-range_with_len}
 use Rattle.std.proofs.lemmas.Bool.Decides.{Decides-int_eq, nat_tests}
 use Rattle.std.proofs.lemmas.Bool.{eqb-true, eqb-false, cases_lt, cond_both, false_from_ne_true}
 use Rattle.std.proofs.lemmas.List.{get_or-take, get_or_past, length-take, length-take-le}
@@ -123,16 +124,15 @@ bit_is (false ∷ bs) (suc i) =
 
 -- the bits of a number make it
 pub bits_again : (g : ℕ → Bool) (c n i : ℕ) → ((j : ℕ) → j < c → g (i + j) ≡ eqb (bit_at n j) 1) → n < 2 ^ c → bits_number (map g (range_with_len i c)) ≡ n
-unfolding bits_number
-bits_again g zero n i h lt = omega arith
-bits_again g (suc c) n i h lt =
-    let z : i + 0 ≡ i = omega arith in
-    let first : g i ≡ eqb (n % 2) 1 = ap g (sym z) ∙ h 0 (omega arith) ∙ ap (λ (b : ℕ). eqb b 1) (bit_at_lowest n) in
-    let small : n / 2 < 2 ^ c = omega (arith, pow-suc 2 c) in
-    let rest : bits_number (map g (range_with_len (i + 1) c)) ≡ n / 2 =
-    bits_again g c (n / 2) (i + 1) (λ j jl. ap g (omega arith) ∙ h (suc j) (omega arith) ∙ ap (λ (b : ℕ). eqb b 1) (bit_at-suc n j)) small in
-    with_test (eqb (n % 2) 1) refl first rest
+bits_again g c n i h lt =
+    let bs = map g (range_with_len i c) in
+    let long : length bs ≡ c = length-map-range_with_len g i c in
+    let few : bits_number bs < 2 ^ c = rw long at (bits_fit bs) in
+    same_from_bits_below c (bits_number bs) n few lt (λ j jl. same_bit (bit_at (bits_number bs) j) (bit_at n j) (bit_at-lt (bits_number bs) j) (bit_at-lt n j)
+    (bit_is bs j ∙ get_or-map-range_with_len g i c j (i + j) false jl refl ∙ h j jl))
   where
-    with_test : (b : Bool) → eqb (n % 2) 1 ≡ b → g i ≡ b → bits_number (map g (range_with_len (i + 1) c)) ≡ n / 2 → bits_number (g i ∷ map g (range_with_len (i + 1) c)) ≡ n
-    with_test true t f r = let odd : n % 2 ≡ 1 = eqb-true (n % 2) 1 t in rw (f, r) (omega arith)
-    with_test false t f r = let even : n % 2 ≡ 0 = grind (arith, nat_tests) in rw (f, r) (omega arith)
+    same_bit : (a b : ℕ) → a < 2 → b < 2 → eqb a 1 ≡ eqb b 1 → a ≡ b
+    same_bit zero zero p q e = refl
+    same_bit zero (suc b) p q e = grind (arith, nat_tests)
+    same_bit (suc a) zero p q e = grind (arith, nat_tests)
+    same_bit (suc a) (suc b) p q e = omega arith

@@ -80,27 +80,20 @@ parts_none p xs not_it h k = elim (cases_lt (position_or_len p xs) (length xs)) 
 
 -- ---- numbers
 
-number_plain : (f : List ℕ) → Tells (HasNone 13 f) (whole_number f)
-number_plain f =
+pub whole_plain : (f : List ℕ) (z : ℤ) → whole f ≡ Some z → HasNone 13 f
+unfolding whole
+whole_plain f =
     let ds = without_leading_sign f in
     let small = ltb (digits_value 10 ds) (10 ^ 36) in
     tested (HasNone 13 f) (is_numeral ds && small) (Some (signed_digits_value 10 f)) None (λ t. sign_none f (numeral_none ds (and_parts (is_numeral ds) small t).0)) (nothing _)
 
-pub whole_plain : (f : List ℕ) (z : ℤ) → whole f ≡ Some z → HasNone 13 f
-unfolding whole
-whole_plain f = number_plain f
-
 pub natural_plain : (high : ℕ) (f : List ℕ) (n : ℕ) → natural high f ≡ Some n → HasNone 13 f
-unfolding natural
-natural_plain high f = made_of (HasNone 13 f) (up_to high) (whole_number f) refl (number_plain f)
-
-small_plain : (f : List ℕ) (z : ℤ) → small f ≡ Some z → HasNone 13 f
-unfolding small
-small_plain f = made_of (HasNone 13 f) (within (negsuc 99998) (pos 99999)) (whole_number f) refl (number_plain f)
+unfolding natural whole
+natural_plain high f = made_of (HasNone 13 f) (up_to high) (whole f) refl (whole_plain f)
 
 pub bit_plain : (f : List ℕ) (b : Bool) → bit f ≡ Some b → HasNone 13 f
-unfolding bit
-bit_plain f = made_of (HasNone 13 f) as_bit (whole_number f) refl (number_plain f)
+unfolding bit whole
+bit_plain f = made_of (HasNone 13 f) as_bit (whole f) refl (whole_plain f)
 
 pub free_bit_plain : (f : List ℕ) (b : Bool) → free_bit f ≡ Some b → HasNone 13 f
 unfolding free_bit
@@ -108,11 +101,11 @@ free_bit_plain f = free f (Some false) (bit f) (bit_plain f)
 
 pub stamp_plain : (f : List ℕ) (s : Option ℕ) → stamp f ≡ Some s → HasNone 13 f
 unfolding stamp
-stamp_plain f = free f (Some None) (option_map (λ n. Some n) (natural 9999999999 f)) (made_of (HasNone 13 f) (option_map (λ n. Some n)) (natural 9999999999 f) refl (natural_plain 9999999999 f))
+stamp_plain f = free f (Some None) _ (made_of (HasNone 13 f) (option_map (λ n. Some n)) (natural 9999999999 f) refl (natural_plain 9999999999 f))
 
 pub value_plain : (f : List ℕ) (v : Reading) → value f ≡ Some v → HasNone 13 f
-unfolding value
-value_plain f = free f (Some readings.Missing) (option_map reading (small f)) (made_of (HasNone 13 f) (option_map reading) (small f) refl (small_plain f))
+unfolding value small whole
+value_plain f = free f (Some readings.Missing) (option_map reading (small f)) (made_of (HasNone 13 f) (λ o. option_map reading (within (negsuc 99998) (pos 99999) o)) (whole f) refl (whole_plain f))
 
 -- ---- decimals
 
@@ -121,19 +114,19 @@ decimal_parts minus w fr None C h n e = absurd cc
 decimal_parts minus w fr (Some x) C h n e =
     (tested (HasNone 13 (w ++ fr)) (is_numeral (w ++ fr)) (number minus (shifted (digits_value 10 (w ++ fr)) (length fr) x)) None (numeral_none (w ++ fr)) (nothing _) n e, h x refl)
 
-exponent_plain : (bs : List ℕ) → Tells (HasNone 13 bs) (exponent (Some bs))
-exponent_plain bs =
-    let ds = without_leading_sign bs in tested (HasNone 13 bs) (is_numeral ds) (Some (starts_with_minus bs, digits_value 10 ds)) None (λ t. sign_none bs (numeral_none ds t)) (nothing _)
-
 behind_mark : (f : List ℕ) → Tells (HasNone 13 (after_first is_exponent_mark f)) (exponent (exponent_text f))
 behind_mark f = with_place (position is_exponent_mark f) refl
   where
     with_place : (o : Option ℕ) → position is_exponent_mark f ≡ o → Tells (HasNone 13 (after_first is_exponent_mark f)) (exponent (cond (is_some o) (Some (after_first is_exponent_mark f)) None))
     with_place None e x k = rw (after_none is_exponent_mark f e) tt
-    with_place (Some at) e x k = exponent_plain (after_first is_exponent_mark f) x k
+    with_place (Some at) e x k =
+        let bs = after_first is_exponent_mark f in
+        let ds = without_leading_sign bs in
+        tested (HasNone 13 bs) (is_numeral ds) (Some (starts_with_minus bs, digits_value 10 ds)) None (λ t. sign_none bs (numeral_none ds t)) (nothing _) x k
 
-decimal_plain : (f : List ℕ) → Tells (HasNone 13 f) (decimal_number f)
-decimal_plain f n e =
+pub scale_plain : (f : List ℕ) (n : Number) → scale f ≡ Some n → HasNone 13 f
+unfolding scale
+scale_plain f n e =
     let front = before_first is_exponent_mark f in
     let ds = without_leading_sign front in
     let w = before_first is_point ds in
@@ -142,13 +135,9 @@ decimal_plain f n e =
     let P : ℕ → Type 0 = λ b. eqb b 13 ≡ false in
     parts_none is_exponent_mark f refl (sign_none front (parts_none is_point ds refl (All-front P w fr p.0) (All-back P w fr p.0))) p.1
 
-pub scale_plain : (f : List ℕ) (n : Number) → scale f ≡ Some n → HasNone 13 f
-unfolding scale
-scale_plain f = decimal_plain f
-
 pub free_scale_plain : (f : List ℕ) (n : Number) → free_scale f ≡ Some n → HasNone 13 f
-unfolding free_scale
-free_scale_plain f = free f (Some zero_number) (decimal_number f) (decimal_plain f)
+unfolding free_scale scale
+free_scale_plain f = free f (Some zero_number) (scale f) (scale_plain f)
 
 -- ---- letters and words
 
@@ -193,22 +182,19 @@ digits_plain low high f =
     let long = leb low (length f) && leb (length f) high in
     tested (HasNone 13 f) (long && all_ascii_digits f) (Some (digits_value 10 f)) None (λ t. digits_none f (and_parts long (all_ascii_digits f) t).1) (nothing _)
 
-micros_plain : (f : List ℕ) (n : ℕ) → micros f ≡ Some n → HasNone 13 f
-unfolding micros
-micros_plain f = made_of (HasNone 13 f) (scaled (length f)) (digits 1 6 f) refl (digits_plain 1 6 f)
-
 both_tell : (C D : Type 0) (x y : Option ℕ) → Tells C x → Tells D y → Tells (C × D) (both x y)
 both_tell C D None y h k p e = absurd cc
 both_tell C D (Some a) None h k p e = absurd cc
 both_tell C D (Some a) (Some b) h k p e = (h a refl, k b refl)
 
 seconds_plain : (f : List ℕ) → Tells (HasNone 13 f) (seconds f)
-unfolding seconds
+unfolding seconds micros
 seconds_plain f =
     let s = before_first is_dot f in
     let u = after_first is_dot f in
+    let fraction : Tells (HasNone 13 u) (micros u) = made_of (HasNone 13 u) (scaled (length u)) (digits 1 6 u) refl (digits_plain 1 6 u) in
     cond_both (is_some (position is_dot f)) (both (digits 1 2 s) (micros u)) (both (digits 1 2 f) (Some 0)) (Tells (HasNone 13 f))
-    (λ t p e. let q = both_tell _ _ (digits 1 2 s) (micros u) (digits_plain 1 2 s) (micros_plain u) p e in parts_none is_dot f refl q.0 q.1)
+    (λ t p e. let q = both_tell _ _ (digits 1 2 s) (micros u) (digits_plain 1 2 s) fraction p e in parts_none is_dot f refl q.0 q.1)
     (λ t. made_of (HasNone 13 f) (λ o. both o (Some 0)) (digits 1 2 f) refl (digits_plain 1 2 f))
 
 times_tell : (C D E : Type 0) (h m : Option ℕ) (s : Option (ℕ × ℕ)) → Tells C h → Tells D m → Tells E s → Tells (C × D × E) (time_of h m s)

@@ -24,14 +24,11 @@ IsDigit c = digit_value c < 10
 numeral_tested : (ds : List ℕ) → IsNumeral 10 ds → is_numeral ds ≡ true
 numeral_tested ds h = and_from _ _ (lt-ltb 0 (length ds) h.0) (digits_tested ds h.1)
 
-not_equal : (a b : ℕ) → b < a → eqb a b ≡ false
-not_equal a b h = grind (arith, nat_tests)
-
 -- digits begin with no sign
 no_sign : (ds : List ℕ) → AllDigits 10 ds → 0 < length ds → (eqb (get_or ds 0 0) 45 ≡ false) × (eqb (get_or ds 0 0) 43 ≡ false)
 no_sign ds h some =
     let r = digit_at ds 0 h some in
-    (not_equal (get_or ds 0 0) 45 (omega arith), not_equal (get_or ds 0 0) 43 (omega arith))
+    (grind (arith, nat_tests), grind (arith, nat_tests))
 
 pub whole_again : (z : ℤ) → unsigned_abs z < 10 ^ 36 → whole_number (signed_decimal z) ≡ Some z
 whole_again (pos n) small =
@@ -145,42 +142,27 @@ plain_read minus ws fs h k some =
 
 -- ---- digits with zeros in front
 
-zeros_digits : (k : ℕ) → AllDigits 10 (repeat k (48 ∷ []))
-zeros_digits zero = tt
-zeros_digits (suc k) = (omega arith, zeros_digits k)
-
-zeros_long : (k : ℕ) → length {A = ℕ} (repeat k (48 ∷ [])) ≡ k
-zeros_long zero = refl
-zeros_long (suc k) = ap suc (zeros_long k)
-
-zeros_value : (k : ℕ) (ds : List ℕ) → digits_value 10 (repeat k (48 ∷ []) ++ ds) ≡ digits_value 10 ds
-zeros_value zero ds = refl
-zeros_value (suc k) ds = zeros_value k ds
-
-filled_digits : (n : ℕ) (ds : List ℕ) → AllDigits 10 ds → AllDigits 10 (filled n ds)
-unfolding filled
-filled_digits n ds h = All-append IsDigit (repeat (n - length ds) (48 ∷ [])) ds (zeros_digits (n - length ds)) h
-
-filled_long : (n : ℕ) (ds : List ℕ) → length (filled n ds) ≡ n - length ds + length ds
-unfolding filled
-filled_long n ds = length-append (repeat (n - length ds) (48 ∷ [])) ds ∙ ap (λ k. k + length ds) (zeros_long (n - length ds))
-
-filled_value : (n : ℕ) (ds : List ℕ) → digits_value 10 (filled n ds) ≡ digits_value 10 ds
-unfolding filled
-filled_value n ds = zeros_value (n - length ds) ds
-
 -- so many digits of this value
 pub record Filled (n x : ℕ) (ds : List ℕ) : Type 0 where
   pub digits : AllDigits 10 ds
   pub long : length ds ≡ n
   pub value : digits_value 10 ds ≡ x
 
+zeros : (k : ℕ) (ds : List ℕ) → AllDigits 10 ds → Filled (k + length ds) (digits_value 10 ds) (repeat k (48 ∷ []) ++ ds)
+zeros zero ds h = record { digits = h; long = omega arith; value = refl }
+zeros (suc k) ds h = let z = zeros k ds h in record { digits = (omega arith, z.digits); long = omega (arith, z.long); value = z.value }
+
+filled_is : (n : ℕ) (ds : List ℕ) → AllDigits 10 ds → Filled (n - length ds + length ds) (digits_value 10 ds) (filled n ds)
+unfolding filled
+filled_is n ds h = zeros (n - length ds) ds h
+
 pub padded_is : (n x : ℕ) → 0 < n → x < 10 ^ n → x < 10 ^ 64 → Filled n x (padded n x)
 unfolding padded
 padded_is n x some lt wide =
     let d = decimal_is_IsNumeral_wide x wide in
     let short = length-decimal-le_wide n x some lt wide in
-    record { digits = filled_digits n (decimal x) d.0.1; long = omega (arith, filled_long n (decimal x)); value = filled_value n (decimal x) ∙ d.1 }
+    let f = filled_is n (decimal x) d.0.1 in
+    record { digits = f.digits; long = omega (arith, f.long); value = f.value ∙ d.1 }
 
 -- ---- a decimal that was written
 
@@ -204,10 +186,11 @@ unfolding pointed with_point
 pointed_is zero ds h some = record { ws = ds; fs = []; is = sym (append-nil ds); front = h; back = tt; some = some; long = refl; value = ap (digits_value 10) (append-nil ds) }
 pointed_is (suc p) ds h some =
     let xs = filled (suc p + 1) ds in
-    let l = filled_long (suc p + 1) ds in
+    let f = filled_is (suc p + 1) ds h in
+    let l = f.long in
     let n = length xs - suc p in
     let whole : take n xs ++ drop n xs ≡ xs = take-append-drop n xs in
-    let all : AllDigits 10 (take n xs ++ drop n xs) = rw whole (filled_digits (suc p + 1) ds h) in
+    let all : AllDigits 10 (take n xs ++ drop n xs) = rw whole f.digits in
     let long : length (drop n xs) ≡ suc p = omega (arith, length-drop n xs) in
     record {
       ws = take n xs;
@@ -217,7 +200,7 @@ pointed_is (suc p) ds h some =
       back = All-back IsDigit (take n xs) (drop n xs) all;
       some = omega (arith, length-take n xs);
       long = long;
-      value = ap (digits_value 10) whole ∙ filled_value (suc p + 1) ds;
+      value = ap (digits_value 10) whole ∙ f.value;
     }
   where
     pointed_text : (fs : List ℕ) → length fs ≡ suc p → 46 ∷ fs ≡ point_text fs

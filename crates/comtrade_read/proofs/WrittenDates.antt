@@ -3,7 +3,6 @@ use Rattle.std.proofs.Common.{◌≡◌, ℕ, zero, suc, ◌+◌, ◌*◌, ◌/�
 use Rattle.std.specs.Prelude.{ℤ, pos, negsuc, neg_ℤ, ◌≤ℤ◌, ◌<ℤ◌, ◌+ℤ◌, ◌-ℤ◌, int_le, unsigned_abs}
 use Rattle.std.specs.Int.{int_div_euclid, int_rem_euclid}
 use Rattle.std.specs.List.{AllByRecursion}
-use Rattle.std.proofs.lemmas.Int.{ints}
 use Rattle.std.proofs.lemmas.Bool.{le-leb, cases_lt, cond_both}
 use Rattle.std.proofs.lemmas.Bool.Decides.{nat_tests}
 use Rattle.jiff_core.specs.Calendar.{IsCivilDate, day_count, days_from_civil, days_in_month, days_in_year}
@@ -20,50 +19,57 @@ use Rattle.comtrade_read.proofs.Numerals.{Fails, padded_is, cut_at}
 
 -- ---- every day has its date
 
--- the greatest number that passes
-record Last (test : ℕ → Bool) (top n : ℕ) : Type 0 where
+-- the last of the times f 1 to f top that have begun on this day
+record Last (f : ℕ → ℤ) (day : ℤ) (top n : ℕ) : Type 0 where
   low : 1 ≤ n
   high : n ≤ top
-  passes : test n ≡ true
-  next : n < top → test (n + 1) ≡ false
+  begun : f n ≤ℤ day
+  next : n < top → day <ℤ f (n + 1)
 
-last_is : (test : ℕ → Bool) (n : ℕ) → test 1 ≡ true → Last test (suc n) (last_that test (suc n))
+last_is : (f : ℕ → ℤ) (day : ℤ) (n : ℕ) → f 1 ≤ℤ day → Last f day (suc n) (last_that (λ k. int_le (f k) day) (suc n))
 unfolding last_that
-last_is test zero one = rw one (record { low = omega arith; high = omega arith; passes = one; next = λ lt. absurd (omega arith) })
-last_is test (suc n) one = cond_both (test (suc (suc n))) (suc (suc n)) (last_that test (suc n)) (Last test (suc (suc n)))
-    (λ t. record { low = omega arith; high = omega arith; passes = t; next = λ lt. absurd (omega arith) })
-    (λ t.
-    let before = last_is test n one in
-    let last = last_that test (suc n) in
-    record {
+last_is f day zero one = cond_both (int_le (f 1) day) 1 0 (Last f day 1)
+    (λ t. record { low = omega arith; high = omega arith; begun = one; next = λ lt. absurd (omega arith) })
+    (λ t. absurd (omega (arith, signed_arith, t)))
+last_is f day (suc n) one =
+    let before = last_is f day n one in
+    let last = last_that (λ k. int_le (f k) day) (suc n) in
+    cond_both (int_le (f (suc (suc n))) day) (suc (suc n)) last (Last f day (suc (suc n)))
+    (λ t. record { low = omega arith; high = omega arith; begun = omega (arith, signed_arith, t); next = λ lt. absurd (omega arith) })
+    (λ t. record {
       low = before.low;
       high = omega (arith, before.high);
-      passes = before.passes;
+      begun = before.begun;
       next = λ lt. elim (cases_lt last (suc n)) [
         | inl less ↦ before.next less
-        | inr le ↦ (let top : last + 1 ≡ suc (suc n) = omega (arith, before.high) in rw top t)
+        | inr le ↦ (let top : last + 1 ≡ suc (suc n) = omega (arith, before.high) in rw top (omega (arith, signed_arith, t)))
       ];
     })
 
-begun : (a b : ℤ) → int_le a b ≡ true → a ≤ℤ b
-begun a b t = omega (arith, signed_arith, t)
-
-ahead : (a b : ℤ) → int_le a b ≡ false → b <ℤ a
-ahead a b t = omega (arith, signed_arith, t)
-
-year_is : (day : ℤ) → neg_ℤ (pos 719_162) ≤ℤ day → Last (λ y. int_le (days_from_civil (pos y) 1 1) day) 9999 (year_of day)
+year_is : (day : ℤ) → neg_ℤ (pos 719_162) ≤ℤ day → Last (λ y. days_from_civil (pos y) 1 1) day 9999 (year_of day)
 unfolding year_of
 year_is day low =
     let first : day_count (pos 1) 1 1 ≡ 3_652_791 = day_count-early (pos 1) 10000 1 1 refl (omega arith) (omega arith) (omega arith) in
-    let reached : days_from_civil (pos 1) 1 1 ≤ℤ day = omega (arith, signed_arith, days_from_civil-day_count (pos 1) 1 1) in
-    last_is (λ y. int_le (days_from_civil (pos y) 1 1) day) 9998 (reaches (days_from_civil (pos 1) 1 1) day reached)
-  where
-    reaches : (a b : ℤ) → a ≤ℤ b → int_le a b ≡ true
-    reaches a b h = grind (arith, ints)
+    last_is (λ y. days_from_civil (pos y) 1 1) day 9998 (omega (arith, signed_arith, days_from_civil-day_count (pos 1) 1 1))
 
-month_is : (day : ℤ) → int_le (days_from_civil (pos (year_of day)) 1 1) day ≡ true → Last (λ m. int_le (days_from_civil (pos (year_of day)) m 1) day) 12 (month_of day)
+month_is : (day : ℤ) → days_from_civil (pos (year_of day)) 1 1 ≤ℤ day → Last (λ m. days_from_civil (pos (year_of day)) m 1) day 12 (month_of day)
 unfolding month_of
-month_is day t = last_is (λ m. int_le (days_from_civil (pos (year_of day)) m 1) day) 11 t
+month_is day begun = last_is (λ m. days_from_civil (pos (year_of day)) m 1) day 11 begun
+
+-- the day lies in the month that is found
+in_month : (day : ℤ) (y m : ℕ) → day ≤ℤ pos 2_932_896 → Last (λ n. days_from_civil (pos n) 1 1) day 9999 y → Last (λ n. days_from_civil (pos y) n 1) day 12 m
+    → day <ℤ (days_from_civil (pos y) m 1 +ℤ pos (days_in_month (pos y) m))
+in_month day y m high year month = elim (cases_lt m 12) [
+  | inl lt ↦ omega (arith, signed_arith, month.next lt, days_from_civil-day_count (pos y) m 1, days_from_civil-day_count (pos y) (m + 1) 1, day_count-next_month (pos y) m month.low)
+  | inr le ↦
+      let last : m ≡ 12 = omega (arith, month.high) in
+      let next_year : day_count (pos (y + 1)) 1 1 ≡ day_count (pos y) 1 1 + days_in_year (pos y) = day_count-next_year (pos y) (pos (y + 1)) (omega (arith, signed_arith)) (omega (arith, signed_arith)) in
+      let before : day <ℤ days_from_civil (pos (y + 1)) 1 1 = elim (cases_lt y 9999) [
+        | inl lt ↦ year.next lt
+        | inr le ↦ (let top : y + 1 ≡ 10000 = omega (arith, year.high) in rw top (omega (arith, signed_arith, day_count-end, days_from_civil-day_count (pos 10000) 1 1)))
+      ] in
+      rw last (omega (arith, signed_arith, before, next_year, day_count-last_of_year (pos y), day_count-day (pos y) 12 1 31 (omega arith) (omega arith), days_from_civil-day_count (pos y) 12 1, days_from_civil-day_count (pos (y + 1)) 1 1))
+]
 
 -- the civil date of a day that files can say
 pub record Dated (day : ℤ) : Type 0 where
@@ -73,45 +79,25 @@ pub record Dated (day : ℤ) : Type 0 where
 
 natural_of : (z : ℤ) → pos 0 ≤ℤ z → (n : ℕ) × (z ≡ pos n)
 natural_of (pos n) h = (n, refl)
-natural_of (negsuc n) h = absurd (omega (arith, ints))
-
--- the day lies in the month that is found
-in_month : (day : ℤ) (y m : ℕ) → day ≤ℤ pos 2_932_896 → Last (λ n. int_le (days_from_civil (pos n) 1 1) day) 9999 y → Last (λ n. int_le (days_from_civil (pos y) n 1) day) 12 m
-    → day <ℤ (days_from_civil (pos y) m 1 +ℤ pos (days_in_month (pos y) m))
-in_month day y m high year month = elim (cases_lt m 12) [
-  | inl lt ↦
-      let next = ahead (days_from_civil (pos y) (m + 1) 1) day (month.next lt) in
-      omega (arith, signed_arith, next, days_from_civil-day_count (pos y) m 1, days_from_civil-day_count (pos y) (m + 1) 1, day_count-next_month (pos y) m month.low)
-  | inr le ↦
-      let last : m ≡ 12 = omega (arith, month.high) in
-      let next_year : day_count (pos (y + 1)) 1 1 ≡ day_count (pos y) 1 1 + days_in_year (pos y) = day_count-next_year (pos y) (pos (y + 1)) (omega (arith, signed_arith)) (omega (arith, signed_arith)) in
-      let before : day <ℤ days_from_civil (pos (y + 1)) 1 1 = elim (cases_lt y 9999) [
-        | inl lt ↦ ahead (days_from_civil (pos (y + 1)) 1 1) day (year.next lt)
-        | inr le ↦ (let top : y + 1 ≡ 10000 = omega (arith, year.high) in
-            rw top (omega (arith, signed_arith, day_count-end, days_from_civil-day_count (pos 10000) 1 1)))
-      ] in
-      rw last (omega (arith, signed_arith, before, next_year, day_count-last_of_year (pos y), day_count-day (pos y) 12 1 31 (omega arith) (omega arith), days_from_civil-day_count (pos y) 12 1, days_from_civil-day_count (pos (y + 1)) 1 1))
-]
+natural_of (negsuc n) h = absurd (omega (arith, signed_arith))
 
 pub dated : (day : ℤ) → neg_ℤ (pos 719_162) ≤ℤ day → day ≤ℤ pos 2_932_896 → Dated day
 unfolding civil_of
 dated day low high =
     let y = year_of day in
     let m = month_of day in
-    let first = days_from_civil (pos y) m 1 in
     let year = year_is day low in
-    let month = month_is day year.passes in
-    let start = begun first day month.passes in
+    let month = month_is day year.begun in
     let stop = in_month day y m high year month in
-    let p = natural_of (day -ℤ first) (omega (arith, signed_arith)) in
-    let from_first : day -ℤ first ≡ pos p.0 = p.1 in
-    let size : unsigned_abs (day -ℤ first) ≡ p.0 = ap unsigned_abs from_first in
-    let few : p.0 + 1 ≤ days_in_month (pos y) m = omega (arith, signed_arith, from_first, stop) in
-    record {
-      civil = rw size ((omega (arith, signed_arith, year.high), omega (arith, signed_arith, year.high)), (month.low, month.high), (omega arith, few));
-      some = year.low;
-      is = rw size (omega (arith, signed_arith, from_first, days_from_civil-day_count (pos y) m (p.0 + 1), days_from_civil-day_count (pos y) m 1, day_count-day (pos y) m 1 (p.0 + 1) (omega arith) (omega arith)));
-    }
+    let first = days_from_civil (pos y) m 1 in
+    let from_first = natural_of (day -ℤ first) (omega (arith, signed_arith, month.begun)) in
+    let n = from_first.0 in
+    let n_is : day -ℤ first ≡ pos n = from_first.1 in
+    let inside : n + 1 ≤ days_in_month (pos y) m = omega (arith, signed_arith, n_is, stop) in
+    let same = day_count-day (pos y) m 1 (n + 1) (omega arith) (omega arith) in
+    let is : days_from_civil (pos y) m (n + 1) ≡ day = omega (arith, signed_arith, n_is, same, days_from_civil-day_count (pos y) m (n + 1), days_from_civil-day_count (pos y) m 1) in
+    let size : unsigned_abs (day -ℤ first) ≡ n = ap unsigned_abs n_is in
+    record { civil = rw size ((omega (arith, signed_arith, year.high), omega (arith, signed_arith, year.high)), (month.low, month.high), (omega arith, inside)); some = year.low; is = rw size is }
 
 -- ---- digits in a field
 
