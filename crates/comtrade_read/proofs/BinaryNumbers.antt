@@ -115,12 +115,8 @@ unfolding bits_number
 bit_is [] i = rw (bit_at-zero i) refl
 bit_is (true ∷ bs) zero = let e : bit_at (1 + 2 * bits_number bs) 0 ≡ 1 = bit_at_lowest (1 + 2 * bits_number bs) ∙ omega arith in rw e refl
 bit_is (false ∷ bs) zero = let e : bit_at (2 * bits_number bs) 0 ≡ 0 = bit_at_lowest (2 * bits_number bs) ∙ omega arith in rw e refl
-bit_is (true ∷ bs) (suc i) =
-    let h : (1 + 2 * bits_number bs) / 2 ≡ bits_number bs = omega arith in
-    rw (bit_at-suc (1 + 2 * bits_number bs) i, h) (bit_is bs i)
-bit_is (false ∷ bs) (suc i) =
-    let h : 2 * bits_number bs / 2 ≡ bits_number bs = omega arith in
-    rw (bit_at-suc (2 * bits_number bs) i, h) (bit_is bs i)
+bit_is (true ∷ bs) (suc i) = let h : (1 + 2 * bits_number bs) / 2 ≡ bits_number bs = omega arith in rw (bit_at-suc (1 + 2 * bits_number bs) i, h) (bit_is bs i)
+bit_is (false ∷ bs) (suc i) = let h : 2 * bits_number bs / 2 ≡ bits_number bs = omega arith in rw (bit_at-suc (2 * bits_number bs) i, h) (bit_is bs i)
 
 -- the bits of a number make it
 pub bits_again : (g : ℕ → Bool) (c n i : ℕ) → ((j : ℕ) → j < c → g (i + j) ≡ eqb (bit_at n j) 1) → n < 2 ^ c → bits_number (map g (range_with_len i c)) ≡ n
@@ -132,7 +128,4 @@ bits_again g c n i h lt =
     (bit_is bs j ∙ get_or-map-range_with_len g i c j (i + j) false jl refl ∙ h j jl))
   where
     same_bit : (a b : ℕ) → a < 2 → b < 2 → eqb a 1 ≡ eqb b 1 → a ≡ b
-    same_bit zero zero p q e = refl
-    same_bit zero (suc b) p q e = grind (arith, nat_tests)
-    same_bit (suc a) zero p q e = grind (arith, nat_tests)
-    same_bit (suc a) (suc b) p q e = omega arith
+    same_bit a b p q e = grind (arith, nat_tests)

@@ -25,7 +25,7 @@ use Rattle.comtrade_read.specs.Head.{kind}
 use Rattle.comtrade_read.specs.Ascii.{stamp, value, reading}
 use Rattle.comtrade_read.specs.Joined.{HasNone}
 use Rattle.comtrade_read.proofs.LineEnds.{HasNoReturn, EndsPlain, return_none}
-use Rattle.comtrade_read.proofs.AllOf.{All-append, All-front, All-back, All-digits, differs}
+use Rattle.comtrade_read.proofs.AllOf.{All-append, All-parts, All-digits, differs}
 use Rattle.comtrade_read.proofs.Digits.{digits_from_test}
 
 -- ---- what is told by a value that was read
@@ -132,8 +132,8 @@ scale_plain f n e =
     let w = before_first is_point ds in
     let fr = after_first is_point ds in
     let p = decimal_parts (starts_with_minus front) w fr (exponent (exponent_text f)) _ (behind_mark f) n e in
-    let P : ℕ → Type 0 = λ b. eqb b 13 ≡ false in
-    parts_none is_exponent_mark f refl (sign_none front (parts_none is_point ds refl (All-front P w fr p.0) (All-back P w fr p.0))) p.1
+    let both = All-parts (λ b. eqb b 13 ≡ false) w fr p.0 in
+    parts_none is_exponent_mark f refl (sign_none front (parts_none is_point ds refl both.0 both.1)) p.1
 
 pub free_scale_plain : (f : List ℕ) (n : Number) → free_scale f ≡ Some n → HasNone 13 f
 unfolding free_scale scale

@@ -10,12 +10,12 @@ use Rattle.std.proofs.lemmas.Str.Parse.{digit_at}
 use Rattle.std.proofs.lemmas.List.{take_all, take_at, drop_all, drop_at, drop-drop, append-nil, take-append-drop, length-take, get_or_at, get_or_append_left}
 use Rattle.std.proofs.lemmas.List.Elements.{All-from_recursion}
 use Rattle.std.proofs.lemmas.List.Sums.{position_or_len_is}
-use Rattle.std.proofs.lemmas.Int.{ints}
+use Rattle.jiff_core.proofs.SignedLemmas.{signed_arith, one_part}
 use Rattle.std.proofs.lemmas.Bool.{lt-ltb, le-ltb, le-leb, and_from}
 use Rattle.std.proofs.lemmas.Bool.Decides.{nat_tests}
 use Rattle.dfr_channels.specs.Spelling.{whole_number, decimal_number, decimal_of, number, exponent, exponent_text, is_numeral, is_point, is_exponent_mark, Number, IsNumber}
 use Rattle.dfr_channels.specs.Written.{filled, padded, with_point, pointed, minus, decimal_text}
-use Rattle.comtrade_read.proofs.AllOf.{All-append, All-front, All-back, All-digits}
+use Rattle.comtrade_read.proofs.AllOf.{All-append, All-parts, All-digits}
 use Rattle.comtrade_read.proofs.Digits.{digits_tested}
 
 abbrev IsDigit : ℕ → Type 0
@@ -51,8 +51,12 @@ place_at p xs c ys h t =
     (λ k lt. rw (get_or_append_left xs (c ∷ ys) 0 k lt) (before k lt))
     (λ lt. rw (get_or_at xs c ys 0 (length xs) refl) t)
 
-place_none : (p : ℕ → Bool) (xs : List ℕ) → Fails p xs → position_or_len p xs ≡ length xs
-place_none p xs h = position_or_len_is p xs (length xs) 0 (omega arith) (λ k lt. All-from_recursion (λ x. p x ≡ false) xs h k 0 lt) (λ lt. absurd (omega arith))
+-- a text in which none passes isn't cut
+uncut : (p : ℕ → Bool) (xs : List ℕ) → Fails p xs → (is_some (position p xs) ≡ false) × (before_first p xs ≡ xs) × (after_first p xs ≡ [])
+uncut p xs h =
+    let n = position_or_len_is p xs (length xs) 0 (omega arith) (λ k lt. All-from_recursion (λ x. p x ≡ false) xs h k 0 lt) (λ lt. absurd (omega arith)) in
+    let over : ltb (length xs) (length xs) ≡ false = le-ltb _ _ (omega arith) in
+    (rw (n, over) refl, rw n (take_all (length xs) xs (omega arith)), rw n (drop_all (length xs + 1) xs (omega arith)))
 
 pub record CutAt (p : ℕ → Bool) (xs : List ℕ) (c : ℕ) (ys : List ℕ) : Type 0 where
   pub there : is_some (position p (xs ++ c ∷ ys)) ≡ true
@@ -94,13 +98,6 @@ decimal_all P digit sign point s ws fs h k = All-append P (sign_text s) (ws ++ p
     back [] k = tt
     back (f ∷ fs) k = (point, All-digits P digit (f ∷ fs) k)
 
--- a text without a mark is all front
-whole_front : (t : List ℕ) → Fails is_exponent_mark t → (before_first is_exponent_mark t ≡ t) × (exponent_text t ≡ None)
-whole_front t h =
-    let n = place_none is_exponent_mark t h in
-    let over : ltb (position_or_len is_exponent_mark t) (length t) ≡ false = le-ltb _ _ (omega arith) in
-    (take_all (position_or_len is_exponent_mark t) t (omega arith), rw over refl)
-
 -- the sign is taken off
 sign_off : (minus : Bool) (ds ts : List ℕ) → AllDigits 10 ds → 0 < length ds → (starts_with_minus (sign_text minus ++ (ds ++ ts)) ≡ minus) × (without_leading_sign (sign_text minus ++ (ds ++ ts)) ≡ ds ++ ts)
 sign_off true ds ts h some = (refl, refl)
@@ -117,10 +114,7 @@ parts ws fs h = at_point fs
     fails = All-digits (λ c. is_point c ≡ false) (λ c low high. grind (arith, nat_tests)) ws h
 
     at_point : (fs : List ℕ) → (before_first is_point (ws ++ point_text fs) ≡ ws) × (after_first is_point (ws ++ point_text fs) ≡ fs)
-    at_point [] =
-        let e : ws ++ [] ≡ ws = append-nil ws in
-        let n = place_none is_point ws fails in
-        rw e (take_all (position_or_len is_point ws) ws (omega arith), drop_all (position_or_len is_point ws + 1) ws (omega arith))
+    at_point [] = let e : ws ++ [] ≡ ws = append-nil ws in let u = uncut is_point ws fails in rw e (u.1, u.2)
     at_point (f ∷ fs) = let c = cut_at is_point ws 46 (f ∷ fs) fails refl in (c.front, c.back)
 
 read_parts : (minus : Bool) (ws fs : List ℕ) → AllDigits 10 ws → AllDigits 10 fs → 0 < length ws → decimal_of minus ws fs (exponent None) ≡ number minus (digits_value 10 (ws ++ fs), length fs)
@@ -135,10 +129,10 @@ plain_read : (minus : Bool) (ws fs : List ℕ) → AllDigits 10 ws → AllDigits
     → decimal_number (sign_text minus ++ (ws ++ point_text fs)) ≡ number minus (digits_value 10 (ws ++ fs), length fs)
 plain_read minus ws fs h k some =
     let t = sign_text minus ++ (ws ++ point_text fs) in
-    let f = whole_front t (decimal_all (λ c. is_exponent_mark c ≡ false) (λ c low high. grind (arith, nat_tests)) refl refl minus ws fs h k) in
+    let f = uncut is_exponent_mark t (decimal_all (λ c. is_exponent_mark c ≡ false) (λ c low high. grind (arith, nat_tests)) refl refl minus ws fs h k) in
     let s = sign_off minus ws (point_text fs) h some in
     let p = parts ws fs h in
-    rw (f.1, f.0, s.1, s.0, p.0, p.1) (read_parts minus ws fs h k some)
+    rw (f.0, f.1, s.1, s.0, p.0, p.1) (read_parts minus ws fs h k some)
 
 -- ---- digits with zeros in front
 
@@ -190,14 +184,14 @@ pointed_is (suc p) ds h some =
     let l = f.long in
     let n = length xs - suc p in
     let whole : take n xs ++ drop n xs ≡ xs = take-append-drop n xs in
-    let all : AllDigits 10 (take n xs ++ drop n xs) = rw whole f.digits in
+    let all : AllDigits 10 (take n xs) × AllDigits 10 (drop n xs) = All-parts IsDigit (take n xs) (drop n xs) (rw whole f.digits) in
     let long : length (drop n xs) ≡ suc p = omega (arith, length-drop n xs) in
     record {
       ws = take n xs;
       fs = drop n xs;
       is = ap (λ (t : List ℕ). take n xs ++ t) (pointed_text (drop n xs) long);
-      front = All-front IsDigit (take n xs) (drop n xs) all;
-      back = All-back IsDigit (take n xs) (drop n xs) all;
+      front = all.0;
+      back = all.1;
       some = omega (arith, length-take n xs);
       long = long;
       value = ap (digits_value 10) whole ∙ f.value;
@@ -208,8 +202,7 @@ pointed_is (suc p) ds h some =
     pointed_text (f ∷ fs) e = refl
 
 abs_small : (u : ℤ) → negsuc (10 ^ 36 - 1) <ℤ u → u <ℤ pos (10 ^ 36) → unsigned_abs u < 10 ^ 36
-abs_small (pos n) a b = omega (arith, ints)
-abs_small (negsuc n) a b = omega (arith, ints)
+abs_small u a b = omega (arith, signed_arith, one_part u)
 
 units_digits : (d : Number) → IsNumber d → IsNumeral 10 (decimal (unsigned_abs d.units)) × (digits_value 10 (decimal (unsigned_abs d.units)) ≡ unsigned_abs d.units)
 units_digits d h = let small = abs_small d.units h.above h.below in decimal_is_IsNumeral_wide (unsigned_abs d.units) (omega arith)

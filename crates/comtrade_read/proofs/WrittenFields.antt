@@ -11,6 +11,7 @@ use Rattle.std.proofs.lemmas.List.{take_at, get_or_at, get_or_default}
 use Rattle.std.proofs.lemmas.List.Elements.{All-from_recursion, recursion_from_All}
 use Rattle.std.proofs.lemmas.List.Sums.{AllPass-from_list_all}
 use Rattle.std.proofs.lemmas.Int.{ints}
+use Rattle.jiff_core.proofs.SignedLemmas.{signed_arith, one_part}
 use Rattle.std.proofs.lemmas.Bool.{lt-ltb, le-leb, eq-eqb, eqb-true, and_parts, or_parts, or_from, not-true, cond_both}
 use Rattle.std.proofs.lemmas.Bool.Decides.{nat_tests, Decides-int_eq}
 use Rattle.dfr_channels.specs.Spelling.{is_blank, trimmed, decimal_number, Number, IsNumber}
@@ -47,14 +48,10 @@ natural_written high n le lt = rw (whole_again (pos n) lt, le-leb n high le) ref
 int_le-true : (a b : ℤ) → a ≤ℤ b → int_le a b ≡ true
 int_le-true a b h = grind (arith, ints)
 
-abs_few : (z : ℤ) → negsuc 99998 ≤ℤ z → z ≤ℤ pos 99999 → unsigned_abs z < 100000
-abs_few (pos n) a b = omega (arith, ints)
-abs_few (negsuc n) a b = omega (arith, ints)
-
 pub small_written : (z : ℤ) → negsuc 99998 ≤ℤ z → z ≤ℤ pos 99999 → small (signed_decimal z) ≡ Some z
 unfolding small
 small_written z low high =
-    let few = abs_few z low high in
+    let few : unsigned_abs z < 100000 = omega (arith, signed_arith, one_part z) in
     rw (whole_again z (omega arith), int_le-true (negsuc 99998) z low, int_le-true z (pos 99999) high) refl
 
 pub count_written : (letter n : ℕ) → n ≤ 999999 → count letter (decimal n ++ letter ∷ []) ≡ Some n
@@ -160,11 +157,8 @@ clean_printed t h = record {
   no_feed = All-none printed 10 refl t h;
 }
 
-pub printed_digits : (ds : List ℕ) → AllDigits 10 ds → Printed ds
-printed_digits ds h = All-digits (λ b. printed b ≡ true) (λ c low high. grind (arith, nat_tests)) ds h
-
 pub printed_decimal : (n : ℕ) → n < 10 ^ 64 → Printed (decimal n)
-printed_decimal n lt = printed_digits (decimal n) (decimal_is_IsNumeral_wide n lt).0.1
+printed_decimal n lt = All-digits (λ b. printed b ≡ true) (λ c low high. grind (arith, nat_tests)) (decimal n) (decimal_is_IsNumeral_wide n lt).0.1
 
 pub printed_signed : (z : ℤ) → unsigned_abs z < 10 ^ 64 → Printed (signed_decimal z)
 printed_signed (pos n) lt = printed_decimal n lt
