@@ -2,7 +2,7 @@
 use Rattle.std.proofs.Common.{◌≡◌, ℕ, zero, suc, ◌+◌, ◌*◌, ◌/◌, ◌%◌, ◌<◌, ◌≤◌, ◌^◌, Bool, true, false, leb, List, [], ◌∷◌, ◌++◌, length, Some, refl, ap, ◌∙◌, arith, append_assoc, inl, inr}
 use Rattle.std.specs.Prelude.{ℤ, pos, negsuc, neg_ℤ, ◌≤ℤ◌, ◌<ℤ◌, ◌+ℤ◌, ◌-ℤ◌, int_le, unsigned_abs}
 use Rattle.std.specs.Int.{int_div_euclid, int_rem_euclid}
-use Rattle.std.specs.List.{AllByRecursion}
+use Rattle.std.specs.Str.Parse.{AllDigits}
 use Rattle.std.proofs.lemmas.Bool.{le-leb, cases_lt, cond_both}
 use Rattle.std.proofs.lemmas.Bool.Decides.{nat_tests}
 use Rattle.jiff_core.specs.Calendar.{IsCivilDate, day_count, days_from_civil, days_in_month, days_in_year}
@@ -15,7 +15,7 @@ use Rattle.comtrade_read.specs.Instant.{digits, is_slash, is_colon, is_dot, day_
 use Rattle.comtrade_read.proofs.AllOf.{All-append, All-digits}
 use Rattle.comtrade_read.proofs.Digits.{digits_tested}
 use Rattle.comtrade_read.proofs.WrittenFields.{Printed, printed}
-use Rattle.comtrade_read.proofs.Numerals.{Fails, padded_is, cut_at}
+use Rattle.comtrade_read.proofs.Numerals.{Filled, padded_is, cut_at}
 
 -- ---- every day has its date
 
@@ -101,33 +101,38 @@ dated day low high =
 
 -- ---- digits in a field
 
-digits_written : (low high n x : ℕ) → 0 < n → low ≤ n → n ≤ high → x < 10 ^ n → x < 10 ^ 64 → digits low high (padded n x) ≡ Some x
+read : (low high n x : ℕ) (t : List ℕ) → low ≤ n → n ≤ high → Filled n x t → digits low high t ≡ Some x
 unfolding digits
-digits_written low high n x some a b lt wide =
-    let p = padded_is n x some lt wide in
-    let l : leb low (length (padded n x)) ≡ true = le-leb low (length (padded n x)) (omega (arith, p.long)) in
-    let h : leb (length (padded n x)) high ≡ true = le-leb (length (padded n x)) high (omega (arith, p.long)) in
-    rw (l, h, digits_tested (padded n x) p.digits) (ap (λ (v : ℕ). Some v) p.value)
+read low high n x t a b f =
+    rw (le-leb low (length t) (omega (arith, f.long)), le-leb (length t) high (omega (arith, f.long)), digits_tested t f.digits) (ap (λ (v : ℕ). Some v) f.value)
 
-two_written : (x : ℕ) → x < 10 ^ 2 → digits 1 2 (padded 2 x) ≡ Some x
-two_written x lt = digits_written 1 2 2 x (omega arith) (omega arith) (omega arith) lt (omega arith)
+two : (x : ℕ) → x < 10 ^ 2 → Filled 2 x (padded 2 x)
+two x lt = padded_is 2 x (omega arith) lt (omega arith)
 
--- what holds of digits holds of each byte
-padded_all : (P : ℕ → Type 0) → ((c : ℕ) → 48 ≤ c → c ≤ 57 → P c) → (n x : ℕ) → 0 < n → x < 10 ^ n → x < 10 ^ 64 → AllByRecursion P (padded n x)
-padded_all P each n x some lt wide = All-digits P each (padded n x) (padded_is n x some lt wide).digits
+printed_filled : (n x : ℕ) (t : List ℕ) → Filled n x t → Printed t
+printed_filled n x t f = All-digits (λ b. printed b ≡ true) (λ c low high. grind (arith, nat_tests)) t f.digits
 
-two_fail : (p : ℕ → Bool) → ((c : ℕ) → 48 ≤ c → c ≤ 57 → p c ≡ false) → (x : ℕ) → x < 10 ^ 2 → Fails p (padded 2 x)
-two_fail p each x lt = padded_all (λ c. p c ≡ false) each 2 x (omega arith) lt (omega arith)
+printed_three : (mark x y z n : ℕ) (a b c : List ℕ) → printed mark ≡ true → Filled 2 x a → Filled 2 y b → Filled n z c → Printed ((a ++ mark ∷ b) ++ mark ∷ c)
+printed_three mark x y z n a b c t fa fb fc =
+    let front = All-append _ a (mark ∷ b) (printed_filled 2 x a fa) (t, printed_filled 2 y b fb) in
+    All-append _ (a ++ mark ∷ b) (mark ∷ c) front (t, printed_filled n z c fc)
 
 -- ---- dates
 
-date_read : (a b c : List ℕ) (d m y : ℕ) (day : ℤ) → Fails is_slash a → Fails is_slash b → digits 1 2 a ≡ Some d → digits 1 2 b ≡ Some m → digits 4 4 c ≡ Some y → day_at y m d ≡ Some day
-    → date (a ++ 47 ∷ (b ++ 47 ∷ c)) ≡ Some day
+date_filled : (day : ℤ) → Dated day → (let c = civil_of day in Filled 2 c.day (padded 2 c.day) × Filled 2 c.month (padded 2 c.month) × Filled 4 c.year (padded 4 c.year))
+date_filled day x = (
+  two (civil_of day).day (omega (arith, x.civil.2.1, days_in_month_bounds (pos (civil_of day).year) (civil_of day).month)),
+  two (civil_of day).month (omega (arith, x.civil.1.1)),
+  padded_is 4 (civil_of day).year (omega arith) (omega (arith, signed_arith, x.civil.0.1)) (omega (arith, signed_arith, x.civil.0.1)),
+)
+
+date_read : (a b c : List ℕ) (d m y : ℕ) (day : ℤ) → Filled 2 d a → Filled 2 m b → Filled 4 y c → day_at y m d ≡ Some day → date (a ++ 47 ∷ (b ++ 47 ∷ c)) ≡ Some day
 unfolding date
-date_read a b c d m y day fa fb da db dc e =
-    let one = cut_at is_slash a 47 (b ++ 47 ∷ c) fa refl in
-    let two = cut_at is_slash b 47 c fb refl in
-    rw (one.there, one.front, one.back, two.there, two.front, two.back, da, db, dc) e
+date_read a b c d m y day fa fb fc e =
+    let fails = λ (t : List ℕ) (h : AllDigits 10 t). All-digits (λ c. is_slash c ≡ false) (λ c low high. grind (arith, nat_tests)) t h in
+    let one = cut_at is_slash a 47 (b ++ 47 ∷ c) (fails a fa.digits) refl in
+    let next = cut_at is_slash b 47 c (fails b fb.digits) refl in
+    rw (one.there, one.front, one.back, next.there, next.front, next.back, read 1 2 2 d a (omega arith) (omega arith) fa, read 1 2 2 m b (omega arith) (omega arith) fb, read 4 4 4 y c (omega arith) (omega arith) fc) e
 
 pub date_written : (day : ℤ) → Dated day → date (date_text (civil_of day)) ≡ Some day
 unfolding date_text day_at
@@ -135,36 +140,35 @@ date_written day x =
     let y = (civil_of day).year in
     let m = (civil_of day).month in
     let d = (civil_of day).day in
-    let y4 : y < 10 ^ 4 = omega (arith, signed_arith, x.civil.0.1) in
-    let m2 : m < 10 ^ 2 = omega (arith, x.civil.1.1) in
-    let d2 : d < 10 ^ 2 = omega (arith, x.civil.2.1, days_in_month_bounds (pos y) m) in
+    let f = date_filled day x in
     let at : day_at y m d ≡ Some day =
     rw (le-leb 1 y x.some, le-leb 1 m x.civil.1.0, le-leb m 12 x.civil.1.1, le-leb 1 d x.civil.2.0, le-leb d (days_in_month (pos y) m) x.civil.2.1) (ap (λ (z : ℤ). Some z) x.is) in
-    ap date (append_assoc (padded 2 d) (47 ∷ padded 2 m) (47 ∷ padded 4 y))
-    ∙ date_read (padded 2 d) (padded 2 m) (padded 4 y) d m y day (two_fail is_slash (λ c low high. grind (arith, nat_tests)) d d2) (two_fail is_slash (λ c low high. grind (arith, nat_tests)) m m2) (two_written d d2) (two_written m m2)
-    (digits_written 4 4 4 y (omega arith) (omega arith) (omega arith) y4 (omega arith)) at
+    ap date (append_assoc (padded 2 d) (47 ∷ padded 2 m) (47 ∷ padded 4 y)) ∙ date_read (padded 2 d) (padded 2 m) (padded 4 y) d m y day f.0 f.1 f.2 at
+
+pub date_printed : (day : ℤ) → Dated day → Printed (date_text (civil_of day))
+unfolding date_text
+date_printed day x = let f = date_filled day x in printed_three 47 _ _ _ 4 (padded 2 (civil_of day).day) (padded 2 (civil_of day).month) (padded 4 (civil_of day).year) refl f.0 f.1 f.2
 
 -- ---- times
 
-micros_written : (u : ℕ) → u < 1000000 → micros (padded 6 u) ≡ Some u
+micros_read : (u : ℕ) (t : List ℕ) → Filled 6 u t → micros t ≡ Some u
 unfolding micros
-micros_written u lt =
-    let p = padded_is 6 u (omega arith) (omega arith) (omega arith) in
-    rw (digits_written 1 6 6 u (omega arith) (omega arith) (omega arith) (omega arith) (omega arith), p.long) (ap (λ (n : ℕ). Some n) (omega arith))
+micros_read u t f = rw (read 1 6 6 u t (omega arith) (omega arith) f, f.long) (ap (λ (n : ℕ). Some n) (omega arith))
 
-seconds_written : (s u : ℕ) → s < 10 ^ 2 → u < 1000000 → seconds (padded 2 s ++ 46 ∷ padded 6 u) ≡ Some (s, u)
+seconds_read : (s u : ℕ) (a b : List ℕ) → Filled 2 s a → Filled 6 u b → seconds (a ++ 46 ∷ b) ≡ Some (s, u)
 unfolding seconds
-seconds_written s u ls lu =
-    let c = cut_at is_dot (padded 2 s) 46 (padded 6 u) (two_fail is_dot (λ c low high. grind (arith, nat_tests)) s ls) refl in
-    rw (c.there, c.front, c.back, two_written s ls, micros_written u lu) refl
+seconds_read s u a b fa fb =
+    let c = cut_at is_dot a 46 b (All-digits (λ c. is_dot c ≡ false) (λ c low high. grind (arith, nat_tests)) a fa.digits) refl in
+    rw (c.there, c.front, c.back, read 1 2 2 s a (omega arith) (omega arith) fa, micros_read u b fb) refl
 
-time_read : (a b c : List ℕ) (h m s u : ℕ) → Fails is_colon a → Fails is_colon b → digits 1 2 a ≡ Some h → digits 1 2 b ≡ Some m → seconds c ≡ Some (s, u) → h ≤ 23 → m ≤ 59 → s ≤ 59
+time_read : (a b c : List ℕ) (h m s u : ℕ) → Filled 2 h a → Filled 2 m b → seconds c ≡ Some (s, u) → h ≤ 23 → m ≤ 59 → s ≤ 59
     → time (a ++ 58 ∷ (b ++ 58 ∷ c)) ≡ Some (((h * 60 + m) * 60 + s) * 1000000 + u)
 unfolding time time_at
-time_read a b c h m s u fa fb da db dc lh lm ls =
-    let one = cut_at is_colon a 58 (b ++ 58 ∷ c) fa refl in
-    let two = cut_at is_colon b 58 c fb refl in
-    rw (one.there, one.front, one.back, two.there, two.front, two.back, da, db, dc, le-leb h 23 lh, le-leb m 59 lm, le-leb s 59 ls) refl
+time_read a b c h m s u fa fb e lh lm ls =
+    let fails = λ (t : List ℕ) (h : AllDigits 10 t). All-digits (λ c. is_colon c ≡ false) (λ c low high. grind (arith, nat_tests)) t h in
+    let one = cut_at is_colon a 58 (b ++ 58 ∷ c) (fails a fa.digits) refl in
+    let next = cut_at is_colon b 58 c (fails b fb.digits) refl in
+    rw (one.there, one.front, one.back, next.there, next.front, next.back, read 1 2 2 h a (omega arith) (omega arith) fa, read 1 2 2 m b (omega arith) (omega arith) fb, e, le-leb h 23 lh, le-leb m 59 lm, le-leb s 59 ls) refl
 
 whole_time : (us : ℕ) → ((us / 3_600_000_000 * 60 + us / 60_000_000 % 60) * 60 + us / 1_000_000 % 60) * 1000000 + us % 1_000_000 ≡ us
 whole_time us = omega arith
@@ -176,20 +180,21 @@ time_written us lt =
     let m = us / 60_000_000 % 60 in
     let s = us / 1_000_000 % 60 in
     let u = us % 1_000_000 in
-    let lh : h ≤ 23 = omega arith in
-    let lm : m ≤ 59 = omega arith in
-    let ls : s ≤ 59 = omega arith in
-    let lu : u < 1000000 = omega arith in
-    let h2 : h < 10 ^ 2 = omega arith in
-    let m2 : m < 10 ^ 2 = omega arith in
-    let a = padded 2 h in
-    let b = padded 2 m in
-    let c = padded 2 s in
-    let d = padded 6 u in
-    let group : ((a ++ 58 ∷ b) ++ 58 ∷ c) ++ 46 ∷ d ≡ a ++ 58 ∷ (b ++ 58 ∷ (c ++ 46 ∷ d)) = simp append_assoc in
-    ap time group
-    ∙ time_read a b (c ++ 46 ∷ d) h m s u (two_fail is_colon (λ c low high. grind (arith, nat_tests)) h h2) (two_fail is_colon (λ c low high. grind (arith, nat_tests)) m m2) (two_written h h2) (two_written m m2) (seconds_written s u (omega arith) lu) lh lm ls
-    ∙ ap (λ (n : ℕ). Some n) (whole_time us)
+    let c = padded 2 s ++ 46 ∷ padded 6 u in
+    let group : ((padded 2 h ++ 58 ∷ padded 2 m) ++ 58 ∷ padded 2 s) ++ 46 ∷ padded 6 u ≡ padded 2 h ++ 58 ∷ (padded 2 m ++ 58 ∷ c) = simp append_assoc in
+    let seconds_are = seconds_read s u (padded 2 s) (padded 6 u) (two s (omega arith)) (padded_is 6 u (omega arith) (omega arith) (omega arith)) in
+    ap time group ∙ time_read (padded 2 h) (padded 2 m) c h m s u (two h (omega arith)) (two m (omega arith)) seconds_are (omega arith) (omega arith) (omega arith) ∙ ap (λ (n : ℕ). Some n) (whole_time us)
+
+pub time_printed : (us : ℕ) → us < 86_400_000_000 → Printed (time_text us)
+unfolding time_text
+time_printed us lt =
+    let h = us / 3_600_000_000 in
+    let m = us / 60_000_000 % 60 in
+    let s = us / 1_000_000 % 60 in
+    let u = us % 1_000_000 in
+    All-append _ ((padded 2 h ++ 58 ∷ padded 2 m) ++ 58 ∷ padded 2 s) (46 ∷ padded 6 u)
+    (printed_three 58 h m s 2 (padded 2 h) (padded 2 m) (padded 2 s) refl (two h (omega arith)) (two m (omega arith)) (two s (omega arith)))
+    (refl, printed_filled 6 u (padded 6 u) (padded_is 6 u (omega arith) (omega arith) (omega arith)))
 
 -- ---- instants
 
@@ -212,36 +217,3 @@ instant_written t low high =
       small = omega (arith, signed_arith, r);
       is = omega (arith, signed_arith, r);
     }
-
--- ---- printed
-
-printed_padded : (n x : ℕ) → 0 < n → x < 10 ^ n → x < 10 ^ 64 → Printed (padded n x)
-printed_padded n x some lt wide = padded_all (λ b. printed b ≡ true) (λ c low high. grind (arith, nat_tests)) n x some lt wide
-
-printed_two : (x : ℕ) → x < 10 ^ 2 → Printed (padded 2 x)
-printed_two x lt = printed_padded 2 x (omega arith) lt (omega arith)
-
-printed_three : (mark : ℕ) (a b c : List ℕ) → printed mark ≡ true → Printed a → Printed b → Printed c → Printed ((a ++ mark ∷ b) ++ mark ∷ c)
-printed_three mark a b c t pa pb pc =
-    let P : ℕ → Type 0 = λ b. printed b ≡ true in
-    All-append P (a ++ mark ∷ b) (mark ∷ c) (All-append P a (mark ∷ b) pa (t, pb)) (t, pc)
-
-pub date_printed : (day : ℤ) → Dated day → Printed (date_text (civil_of day))
-unfolding date_text
-date_printed day x =
-    let y = (civil_of day).year in
-    let m = (civil_of day).month in
-    let d = (civil_of day).day in
-    printed_three 47 (padded 2 d) (padded 2 m) (padded 4 y) refl (printed_two d (omega (arith, x.civil.2.1, days_in_month_bounds (pos y) m))) (printed_two m (omega (arith, x.civil.1.1)))
-    (printed_padded 4 y (omega arith) (omega (arith, signed_arith, x.civil.0.1)) (omega (arith, signed_arith, x.civil.0.1)))
-
-pub time_printed : (us : ℕ) → us < 86_400_000_000 → Printed (time_text us)
-unfolding time_text
-time_printed us lt =
-    let a = us / 3_600_000_000 in
-    let b = us / 60_000_000 % 60 in
-    let c = us / 1_000_000 % 60 in
-    let d = us % 1_000_000 in
-    All-append (λ b. printed b ≡ true) ((padded 2 a ++ 58 ∷ padded 2 b) ++ 58 ∷ padded 2 c) (46 ∷ padded 6 d)
-    (printed_three 58 (padded 2 a) (padded 2 b) (padded 2 c) refl (printed_two a (omega arith)) (printed_two b (omega arith)) (printed_two c (omega arith)))
-    (refl, printed_padded 6 d (omega arith) (omega arith) (omega arith))
