@@ -4,6 +4,7 @@ use Rattle.std.specs.Prelude.{ℤ, pos, negsuc, ◌≢◌, FitsSigned}
 use Rattle.std.specs.Int.{w16, cast_signed, cast_unsigned, bit_at}
 use Rattle.std.specs.Ordering.{int_eq}
 use Rattle.std.specs.List.{range_with_len}
+use Rattle.jiff_core.proofs.SignedLemmas.{signed_arith}
 use Rattle.std.proofs.lemmas.Int.{ints, of_z-to_z, to_z-of_z, fits_signed_from_abs}
 use Rattle.std.proofs.Math.Facts.{sfits_to_z, Fits-of_lt, Fits-of_z, Fits-lt-pow}
 use Rattle.std.proofs.Math.Nat.{pow-suc}
@@ -57,10 +58,9 @@ number_again n lt =
     cond_both (int_eq z (negsuc 32767)) Missing (Value z) (λ v. reading_number v ≡ n) (λ t. ap (cast_unsigned w16) (sym ((Decides-int_eq z (negsuc 32767)).0 t)) ∙ back) (λ t. back)
 
 within : (z : ℤ) → FitsSigned w16 z → int_eq z (negsuc 32767) ≡ false → IsPresent (Value z)
-within (pos n) fits other = (omega (arith, ints), omega (arith, ints, fits))
-within (negsuc n) fits other =
-    let apart : n ≢ 32767 = λ e. let t : int_eq (negsuc n) (negsuc 32767) ≡ true = (Decides-int_eq (negsuc n) (negsuc 32767)).1 (ap negsuc e) in cc in
-    (omega (arith, ints, fits, apart), omega (arith, ints))
+within z fits other =
+    let apart : z ≡ negsuc 32767 → ⊥ = λ e. let t = (Decides-int_eq z (negsuc 32767)).1 e in cc in
+    (omega (arith, signed_arith, fits, apart), omega (arith, signed_arith, fits))
 
 pub present_number : (n : ℕ) → n < 65536 → IsPresent (reading (cast_signed w16 n))
 present_number n lt =

@@ -7,7 +7,7 @@ use Rattle.std.proofs.lemmas.List.{map-append}
 use Rattle.dfr_channels.specs.Spelling.{is_blank, trimmed}
 use Rattle.dfr_channels.specs.Lines.{lines, fields, without_cr, is_blank_line, drop_end}
 use Rattle.comtrade_read.specs.Joined.{AreBlank, HasNone, Field, field_bytes, IsField, Line, carriage_return, line_bytes, field_texts, IsLine, BlankLine, blank_bytes, IsJoined}
-use Rattle.comtrade_read.proofs.LineEnds.{HasNoReturn, EndsPlain, EndsFull, Bodies, return_none, return-append, return-cons, return-back, end_off}
+use Rattle.comtrade_read.proofs.LineEnds.{HasNoReturn, EndsPlain, EndsFull, Bodies, return_none, return-append, return-back, end_off}
 use Rattle.comtrade_read.proofs.AllOf.{All-append, All-map, map-map}
 use Rattle.comtrade_read.proofs.Parts.{split_again, join_none}
 use Rattle.comtrade_read.proofs.Blanks.{StopsFull, end_stays, past_end, blank_none, trim_again, line_blank, blank_fields}
@@ -16,8 +16,7 @@ use Rattle.comtrade_read.proofs.Blanks.{StopsFull, end_stays, past_end, blank_no
 
 field_none : (c : ℕ) → is_blank c ≡ false → (f : Field) → IsField f → HasNone c f.text → HasNone c (field_bytes f)
 field_none c none f h k =
-    let P : ℕ → Type 0 = λ b. eqb b c ≡ false in
-    All-append P f.before (f.text ++ f.after) (blank_none c none f.before h.before) (All-append P f.text f.after k (blank_none c none f.after h.after))
+    All-append _ f.before (f.text ++ f.after) (blank_none c none f.before h.before) (All-append _ f.text f.after k (blank_none c none f.after h.after))
 
 body_fields : (f : Field) (fs : List Field) → AllByRecursion IsField (f ∷ fs) → fields (join_with_byte 44 (map field_bytes (f ∷ fs))) ≡ map (λ f. f.text) (f ∷ fs)
 body_fields f fs h =
@@ -30,7 +29,7 @@ body_return f [] h e =
     (return-append f.text f.after e (return_none f.after (blank_none 13 refl f.after h.0.after)))
 body_return f (g ∷ gs) h e =
     let rest = join_with_byte 44 (map field_bytes (g ∷ gs)) in
-    return-back (field_bytes f) 44 rest (return-cons 44 rest refl (body_return g gs h.1 e))
+    return-back (field_bytes f) 44 rest (return-append (44 ∷ []) rest refl (body_return g gs h.1 e))
 
 -- ---- lines
 

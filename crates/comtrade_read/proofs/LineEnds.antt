@@ -40,9 +40,6 @@ pub return-append : (xs ys : List ℕ) → HasNoReturn xs → HasNoReturn ys →
 return-append xs [] h k = rw append-nil h
 return-append xs (y ∷ ys) h k = return-back xs y ys k
 
-pub return-cons : (c : ℕ) (xs : List ℕ) → eqb c 13 ≡ false → HasNoReturn xs → HasNoReturn (c ∷ xs)
-return-cons c xs e h = return-append (c ∷ []) xs e h
-
 pub end_off : (xs : List ℕ) (cr : Bool) → HasNoReturn xs → without_cr (xs ++ carriage_return cr) ≡ xs
 end_off xs true h =
     let at : length (xs ++ 13 ∷ []) - 1 ≡ length xs = omega (arith, length-append xs (13 ∷ [])) in

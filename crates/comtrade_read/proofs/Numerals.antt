@@ -106,16 +106,13 @@ sign_off false (d ∷ ds) ts h some =
     let s = no_sign (d ∷ ds) h (omega arith) in
     (s.0, rw (s.0, s.1) refl)
 
+no_point : (ds : List ℕ) → AllDigits 10 ds → Fails is_point ds
+no_point ds h = All-digits (λ c. is_point c ≡ false) (λ c low high. grind (arith, nat_tests)) ds h
+
 -- the point is found
 parts : (ws fs : List ℕ) → AllDigits 10 ws → (before_first is_point (ws ++ point_text fs) ≡ ws) × (after_first is_point (ws ++ point_text fs) ≡ fs)
-parts ws fs h = at_point fs
-  where
-    fails : Fails is_point ws
-    fails = All-digits (λ c. is_point c ≡ false) (λ c low high. grind (arith, nat_tests)) ws h
-
-    at_point : (fs : List ℕ) → (before_first is_point (ws ++ point_text fs) ≡ ws) × (after_first is_point (ws ++ point_text fs) ≡ fs)
-    at_point [] = let e : ws ++ [] ≡ ws = append-nil ws in let u = uncut is_point ws fails in rw e (u.1, u.2)
-    at_point (f ∷ fs) = let c = cut_at is_point ws 46 (f ∷ fs) fails refl in (c.front, c.back)
+parts ws [] h = let u = uncut is_point ws (no_point ws h) in rw (append-nil ws) (u.1, u.2)
+parts ws (f ∷ fs) h = let c = cut_at is_point ws 46 (f ∷ fs) (no_point ws h) refl in (c.front, c.back)
 
 read_parts : (minus : Bool) (ws fs : List ℕ) → AllDigits 10 ws → AllDigits 10 fs → 0 < length ws → decimal_of minus ws fs (exponent None) ≡ number minus (digits_value 10 (ws ++ fs), length fs)
 read_parts minus ws fs h k some =
