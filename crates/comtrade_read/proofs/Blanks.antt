@@ -17,34 +17,23 @@ use Rattle.comtrade_read.proofs.AllOf.{All-append, All-reverse, All-none}
 abbrev pub StartsFull : {X : Type 0} → (X → Bool) → List X → Type 0
 StartsFull {X = X} p xs = (d : X) → 0 < length xs → p (get_or xs 0 d) ≡ false
 
--- the same of the last
-abbrev pub StopsFull : {X : Type 0} → (X → Bool) → List X → Type 0
-StopsFull {X = X} p xs = (d : X) → 0 < length xs → p (get_or xs (length xs - 1) d) ≡ false
-
 front_stays : {X : Type 0} (p : X → Bool) (xs : List X) → StartsFull p xs → drop_front p xs ≡ xs
 front_stays p [] h = refl
 front_stays p (x ∷ xs) h = rw (h x (omega arith)) refl
 
-pub end_stays : {X : Type 0} (p : X → Bool) (xs : List X) → StopsFull p xs → drop_end p xs ≡ xs
-end_stays p xs h = ap reverse (front_stays p (reverse xs) full) ∙ reverse-reverse xs
-  where
-    full : StartsFull p (reverse xs)
-    full d lt =
-        let some : 0 < length xs = omega (arith, length-reverse xs) in
-        let last : length xs - 1 - 0 ≡ length xs - 1 = omega arith in
-        rw (get_or-reverse xs 0 d some, last) (h d some)
+pub end_stays : {X : Type 0} (p : X → Bool) (xs : List X) → StartsFull p (reverse xs) → drop_end p xs ≡ xs
+end_stays p xs h = ap reverse (front_stays p (reverse xs) h) ∙ reverse-reverse xs
+
+-- where the last element fails
+pub stops_full : {X : Type 0} (p : X → Bool) (xs : List X) → ((d : X) → 0 < length xs → p (get_or xs (length xs - 1) d) ≡ false) → StartsFull p (reverse xs)
+stops_full p xs h d lt =
+    let some : 0 < length xs = omega (arith, length-reverse xs) in
+    let last : length xs - 1 - 0 ≡ length xs - 1 = omega arith in
+    rw (get_or-reverse xs 0 d some, last) (h d some)
 
 front_full : {X : Type 0} (p : X → Bool) (xs : List X) → StartsFull p (drop_front p xs)
 front_full p [] d lt = absurd (omega arith)
 front_full p (x ∷ xs) d lt = cond_both (p x) (drop_front p xs) (x ∷ xs) (StartsFull p) (λ t. front_full p xs) (λ t e l. t) d lt
-
-end_full : {X : Type 0} (p : X → Bool) (xs : List X) → StopsFull p (drop_end p xs)
-end_full p xs d lt =
-    let ys = drop_front p (reverse xs) in
-    let long : length (reverse ys) ≡ length ys = length-reverse ys in
-    let some : 0 < length ys = omega arith in
-    let at : length ys - 1 - (length ys - 1) ≡ 0 = omega arith in
-    rw (long, get_or-reverse ys (length ys - 1) d (omega arith), at) (front_full p (reverse xs) d some)
 
 full_front : {X : Type 0} (p : X → Bool) (xs ys : List X) → StartsFull p (xs ++ ys) → StartsFull p xs
 full_front p xs ys h d some = rw (get_or_append_left xs ys d 0 some) at (h d (omega (arith, length-append xs ys)))
@@ -92,14 +81,16 @@ only_blanks : (ws : List ℕ) → AreBlank ws → trim_start ws ≡ []
 only_blanks [] h = refl
 only_blanks (w ∷ ws) h = rw h.0 (only_blanks ws h.1)
 
-pub both_stay : (t : List ℕ) → StartsFull is_blank t → StopsFull is_blank t → trimmed t ≡ t
+pub both_stay : (t : List ℕ) → StartsFull is_blank t → StartsFull is_blank (reverse t) → trimmed t ≡ t
 both_stay t a b = ap (drop_end is_blank) (front_stays is_blank t a) ∙ end_stays is_blank t b
 
 trimmed_full : (xs : List ℕ) → StartsFull is_blank (trimmed xs)
 trimmed_full xs = let b = back_of is_blank (trim_start xs) in full_front is_blank (trimmed xs) b.back (rw b.is at (front_full is_blank xs))
 
 pub trimmed_twice : (xs : List ℕ) → trimmed (trimmed xs) ≡ trimmed xs
-trimmed_twice xs = both_stay (trimmed xs) (trimmed_full xs) (end_full is_blank (trim_start xs))
+trimmed_twice xs =
+    let back = trim_start (reverse (trim_start xs)) in
+    both_stay (trimmed xs) (trimmed_full xs) (rw (reverse-reverse back) (front_full is_blank (reverse (trim_start xs))))
 
 pub trim_again : (before text after : List ℕ) → AreBlank before → AreBlank after → trimmed text ≡ text → trimmed (before ++ (text ++ after)) ≡ text
 trim_again before [] after p q e = rw (past_front is_blank before after p, only_blanks after q) refl
@@ -110,23 +101,18 @@ trim_again before (x ∷ xs) after p q e =
 
 -- ---- a text and the blanks round it
 
-pub before_text : List ℕ → List ℕ
-before_text xs = (front_of is_blank xs).front
+pub record Around (xs : List ℕ) : Type 0 where
+  pub before : List ℕ
+  pub after : List ℕ
+  pub is : before ++ (trimmed xs ++ after) ≡ xs
+  pub are_before : AreBlank before
+  pub are_after : AreBlank after
 
-pub after_text : List ℕ → List ℕ
-after_text xs = (back_of is_blank (trim_start xs)).back
-
-pub record AroundIs (xs : List ℕ) : Type 0 where
-  pub is : before_text xs ++ (trimmed xs ++ after_text xs) ≡ xs
-  pub before : AreBlank (before_text xs)
-  pub after : AreBlank (after_text xs)
-
-pub around : (xs : List ℕ) → AroundIs xs
-unfolding before_text after_text
+pub around : (xs : List ℕ) → Around xs
 around xs =
     let f = front_of is_blank xs in
     let b = back_of is_blank (trim_start xs) in
-    record { is = ap (λ ys. f.front ++ ys) (sym b.is) ∙ sym f.is; before = f.pass; after = b.pass }
+    record { before = f.front; after = b.back; is = ap (λ ys. f.front ++ ys) (sym b.is) ∙ sym f.is; are_before = f.pass; are_after = b.pass }
 
 -- ---- blank lines
 
@@ -134,8 +120,8 @@ pub blank_line : (xs : List ℕ) → is_blank_line xs ≡ true → AreBlank xs
 blank_line xs e =
     let a = around xs in
     let none : trimmed xs ≡ [] = nil_from_length (trimmed xs) (eqb-true _ 0 e) in
-    let is : before_text xs ++ after_text xs ≡ xs = rw none at a.is in
-    rw is at (All-append (λ b. is_blank b ≡ true) (before_text xs) (after_text xs) a.before a.after)
+    let is : a.before ++ a.after ≡ xs = rw none at a.is in
+    rw is at (All-append (λ b. is_blank b ≡ true) a.before a.after a.are_before a.are_after)
 
 pub line_blank : (xs : List ℕ) → AreBlank xs → is_blank_line xs ≡ true
 line_blank xs h = rw (only_blanks xs h) refl

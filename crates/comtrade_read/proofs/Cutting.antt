@@ -9,10 +9,10 @@ use Rattle.dfr_channels.specs.Lines.{lines, fields, without_cr, is_blank_line, d
 use Rattle.comtrade_read.specs.Joined.{AreBlank, HasNone, Field, field_bytes, IsField, Line, carriage_return, line_bytes, field_texts, IsLine, BlankLine, blank_bytes, IsJoined}
 use Rattle.comtrade_read.proofs.AllOf.{All-parts, All-map, map-map, map-back}
 use Rattle.comtrade_read.proofs.Parts.{parts_keep, parts_none}
-use Rattle.comtrade_read.proofs.Blanks.{back_of, before_text, after_text, around, trimmed_twice, blank_line}
+use Rattle.comtrade_read.proofs.Blanks.{back_of, around, trimmed_twice, blank_line}
 
 -- whether a carriage return stands at the end
-returns : List ℕ → Bool
+abbrev returns : List ℕ → Bool
 returns xs = eqb (get_or xs (length xs - 1) 0) 13
 
 put_back : (xs : List ℕ) → get_or xs (length xs - 1) 0 ≡ 13 → take (length xs - 1) xs ++ 13 ∷ [] ≡ xs
@@ -22,7 +22,6 @@ put_back (x ∷ xs) e =
     rw (← e) (sym (take_more (x ∷ xs) n 0 (omega arith)) ∙ take_all (n + 1) (x ∷ xs) (omega arith))
 
 return_is : (xs : List ℕ) → without_cr xs ++ carriage_return (returns xs) ≡ xs
-unfolding returns
 return_is xs = with_test (eqb (get_or xs (length xs - 1) 0) 13) refl
   where
     with_test : (b : Bool) → eqb (get_or xs (length xs - 1) 0) 13 ≡ b → cond b (take (length xs - 1) xs) xs ++ carriage_return b ≡ xs
@@ -31,18 +30,19 @@ return_is xs = with_test (eqb (get_or xs (length xs - 1) 0) 13) refl
 
 -- a field with the blanks round it
 abbrev field_of : List ℕ → Field
-field_of xs = record { before = before_text xs; text = trimmed xs; after = after_text xs }
+field_of xs = record { before = (around xs).before; text = trimmed xs; after = (around xs).after }
 
 inner_none : (c : ℕ) (xs : List ℕ) → HasNone c xs → HasNone c (trimmed xs)
 inner_none c xs h =
-    let all : HasNone c (before_text xs ++ (trimmed xs ++ after_text xs)) = rw (around xs).is h in
-    (All-parts _ (trimmed xs) (after_text xs) (All-parts _ (before_text xs) (trimmed xs ++ after_text xs) all).1).0
+    let a = around xs in
+    let all : HasNone c (a.before ++ (trimmed xs ++ a.after)) = rw a.is h in
+    (All-parts _ (trimmed xs) a.after (All-parts _ a.before (trimmed xs ++ a.after) all).1).0
 
 are_fields : (ps : List (List ℕ)) → AllByRecursion (HasNone 44) ps → AllByRecursion (HasNone 10) ps → AllByRecursion IsField (map field_of ps)
 are_fields [] h k = tt
 are_fields (p ∷ ps) h k =
     let a = around p in
-    (record { before = a.before; after = a.after; bare = trimmed_twice p; no_comma = inner_none 44 p h.0; no_feed = inner_none 10 p k.0 }, are_fields ps h.1 k.1)
+    (record { before = a.are_before; after = a.are_after; bare = trimmed_twice p; no_comma = inner_none 44 p h.0; no_feed = inner_none 10 p k.0 }, are_fields ps h.1 k.1)
 
 -- the line of the bytes between two line feeds
 parts : List ℕ → List (List ℕ)

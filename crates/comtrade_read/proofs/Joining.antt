@@ -1,5 +1,5 @@
 -- Lines and fields that were joined are cut again.
-use Rattle.std.proofs.Common.{◌≡◌, ℕ, suc, ◌-◌, Bool, true, false, eqb, List, [], ◌∷◌, ◌++◌, length, map, refl, sym, ap, ◌∙◌, arith}
+use Rattle.std.proofs.Common.{◌≡◌, ℕ, suc, ◌-◌, ◌<◌, get_or, Bool, true, false, eqb, List, [], ◌∷◌, ◌++◌, length, map, refl, sym, ap, ◌∙◌, arith}
 use Rattle.std.specs.Prelude.{◌≢◌}
 use Rattle.std.specs.List.{join_with_byte, AllByRecursion}
 use Rattle.std.proofs.lemmas.Bool.{false_from_ne_true}
@@ -10,7 +10,7 @@ use Rattle.comtrade_read.specs.Joined.{AreBlank, HasNone, Field, field_bytes, Is
 use Rattle.comtrade_read.proofs.LineEnds.{HasNoReturn, EndsPlain, EndsFull, Bodies, return_none, return-append, return-back, end_off}
 use Rattle.comtrade_read.proofs.AllOf.{All-append, All-map, map-map}
 use Rattle.comtrade_read.proofs.Parts.{split_again, join_none}
-use Rattle.comtrade_read.proofs.Blanks.{StopsFull, end_stays, past_end, blank_none, trim_again, line_blank, blank_fields}
+use Rattle.comtrade_read.proofs.Blanks.{end_stays, stops_full, past_end, blank_none, trim_again, line_blank, blank_fields}
 
 -- ---- fields
 
@@ -54,7 +54,7 @@ blanks_off ls h = map-map (λ l. AreBlank l.blanks) without_cr blank_bytes (λ l
 
 -- ---- what is dropped at the end
 
-full_end : (xs : List (List ℕ)) → EndsFull (map fields xs) → StopsFull is_blank_line xs
+full_end : (xs : List (List ℕ)) → EndsFull (map fields xs) → (d : List ℕ) → 0 < length xs → is_blank_line (get_or xs (length xs - 1) d) ≡ false
 full_end [] h d some = absurd (omega arith)
 full_end (x ∷ []) h d some = false_from_ne_true _ (λ e. h (blank_fields x e))
 full_end (x ∷ y ∷ ys) h d some =
@@ -78,5 +78,5 @@ cut_again text ls j plain full =
     let off : map without_cr (ps ++ bs) ≡ bodies ++ blanks = map-append without_cr ps bs ∙ rw (lines_off j.lines j.are_lines plain', blanks_off j.blank j.are_blank) refl in
     let blank : AllByRecursion (λ x. is_blank_line x ≡ true) blanks = All-map (λ l. AreBlank l.blanks) (λ x. is_blank_line x ≡ true) (λ l. l.blanks) (λ l are. line_blank l.blanks are) j.blank j.are_blank in
     let cut : lines text ≡ bodies =
-    ap lines j.bytes ∙ cut_is (ps ++ bs) feed ∙ ap (drop_end is_blank_line) off ∙ past_end is_blank_line bodies blanks blank ∙ end_stays is_blank_line bodies (full_end bodies full') in
+    ap lines j.bytes ∙ cut_is (ps ++ bs) feed ∙ ap (drop_end is_blank_line) off ∙ past_end is_blank_line bodies blanks blank ∙ end_stays is_blank_line bodies (stops_full is_blank_line bodies (full_end bodies full')) in
     ap (map fields) cut ∙ texts

@@ -114,14 +114,6 @@ parts : (ws fs : List ℕ) → AllDigits 10 ws → (before_first is_point (ws ++
 parts ws [] h = let u = uncut is_point ws (no_point ws h) in rw (append-nil ws) (u.1, u.2)
 parts ws (f ∷ fs) h = let c = cut_at is_point ws 46 (f ∷ fs) (no_point ws h) refl in (c.front, c.back)
 
-read_parts : (minus : Bool) (ws fs : List ℕ) → AllDigits 10 ws → AllDigits 10 fs → 0 < length ws → decimal_of minus ws fs (exponent None) ≡ number minus (digits_value 10 (ws ++ fs), length fs)
-read_parts minus ws fs h k some =
-    let d = numeral_tested (ws ++ fs) (omega (arith, length-append ws fs), All-append IsDigit ws fs h k) in
-    let z : 0 - length fs ≡ 0 = omega arith in
-    let one : digits_value 10 (ws ++ fs) * 1 ≡ digits_value 10 (ws ++ fs) = omega arith in
-    let all : length fs - 0 ≡ length fs = omega arith in
-    rw (d, z, one, all) refl
-
 plain_read : (minus : Bool) (ws fs : List ℕ) → AllDigits 10 ws → AllDigits 10 fs → 0 < length ws
     → decimal_number (sign_text minus ++ (ws ++ point_text fs)) ≡ number minus (digits_value 10 (ws ++ fs), length fs)
 plain_read minus ws fs h k some =
@@ -129,7 +121,11 @@ plain_read minus ws fs h k some =
     let f = uncut is_exponent_mark t (decimal_all (λ c. is_exponent_mark c ≡ false) (λ c low high. grind (arith, nat_tests)) refl refl minus ws fs h k) in
     let s = sign_off minus ws (point_text fs) h some in
     let p = parts ws fs h in
-    rw (f.0, f.1, s.1, s.0, p.0, p.1) (read_parts minus ws fs h k some)
+    let d = numeral_tested (ws ++ fs) (omega (arith, length-append ws fs), All-append IsDigit ws fs h k) in
+    let no_zeros : 0 - length fs ≡ 0 = omega arith in
+    let one : digits_value 10 (ws ++ fs) * 1 ≡ digits_value 10 (ws ++ fs) = omega arith in
+    let all : length fs - 0 ≡ length fs = omega arith in
+    rw (f.0, f.1, s.1, s.0, p.0, p.1, d, no_zeros, one, all) refl
 
 -- ---- digits with zeros in front
 

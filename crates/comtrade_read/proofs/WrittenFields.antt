@@ -1,6 +1,6 @@
 -- Fields that are written are read.
 use Rattle.std.proofs.Common.{◌≡◌, ℕ, suc, ◌+◌, ◌-◌, ◌<◌, ◌≤◌, ◌^◌, Bool, true, false, cond, ltb, leb, eqb, List, [], ◌∷◌, ◌++◌, length, get_or, take, Option, Some, None, refl, sym, ap, ◌∙◌, arith, length-append}
-use Rattle.std.specs.Prelude.{ℤ, pos, negsuc, ◌≤ℤ◌, int_le, unsigned_abs, ◌&&◌, ◌||◌, not, codes}
+use Rattle.std.specs.Prelude.{ℤ, pos, negsuc, ◌≤ℤ◌, int_le, unsigned_abs, ◌&&◌, ◌||◌, not, reverse, codes}
 use Rattle.std.specs.List.{AllByRecursion}
 use Rattle.std.specs.Ordering.{int_eq}
 use Rattle.std.specs.Str.Parse.{AllDigits}
@@ -31,8 +31,8 @@ use Rattle.comtrade_read.specs.Fields.{whole, natural, small, scale, count}
 use Rattle.comtrade_read.specs.Head.{kind}
 use Rattle.comtrade_read.specs.Ascii.{stamp, value, reading}
 use Rattle.comtrade_read.specs.Joined.{HasNone}
-use Rattle.comtrade_read.proofs.AllOf.{All-append, All-digits, All-none, differs}
-use Rattle.comtrade_read.proofs.Blanks.{both_stay}
+use Rattle.comtrade_read.proofs.AllOf.{All-append, All-reverse, All-digits, All-none, differs}
+use Rattle.comtrade_read.proofs.Blanks.{StartsFull, both_stay, stops_full}
 use Rattle.comtrade_read.proofs.Numerals.{whole_again, decimal_again, written_all}
 
 -- ---- numbers
@@ -146,13 +146,12 @@ printed_no_end t h = All-none printed 26 refl t h
 printed_full : (x : ℕ) → printed x ≡ true → is_blank x ≡ false
 printed_full x h = or_from _ _ (differs printed x 32 h refl) (differs printed x 9 h refl)
 
--- no end of a printed text is blank
-no_blank : (t : List ℕ) → Printed t → (i : ℕ) (d : ℕ) → i < length t → is_blank (get_or t i d) ≡ false
-no_blank t h i d lt = printed_full (get_or t i d) (All-from_recursion (λ b. printed b ≡ true) t h i d lt)
+starts : (t : List ℕ) → Printed t → StartsFull is_blank t
+starts t h d some = printed_full (get_or t 0 d) (All-from_recursion (λ b. printed b ≡ true) t h 0 d some)
 
 pub clean_printed : (t : List ℕ) → Printed t → IsClean t
 clean_printed t h = record {
-  bare = both_stay t (λ d some. no_blank t h 0 d some) (λ d some. no_blank t h (length t - 1) d (omega arith));
+  bare = both_stay t (starts t h) (starts (reverse t) (All-reverse _ t h));
   no_comma = All-none printed 44 refl t h;
   no_feed = All-none printed 10 refl t h;
 }
@@ -201,7 +200,7 @@ clean_plain low high t h =
     let all = recursion_from_All (λ b. printable b ≡ true) t (AllPass-from_list_all printable t is) in
     let ends = or_parts (is_blank (get_or t 0 0)) (is_blank (get_or t (length t - 1) 0)) (not-true (has_blank_end t) p.1) in
     record {
-      bare = both_stay t (λ d some. rw (get_or_default t 0 d 0 some) ends.0) (λ d some. rw (get_or_default t (length t - 1) d 0 (omega arith)) ends.1);
+      bare = both_stay t (λ d some. rw (get_or_default t 0 d 0 some) ends.0) (stops_full is_blank t (λ d some. rw (get_or_default t (length t - 1) d 0 (omega arith)) ends.1));
       no_comma = All-none printable 44 refl t all;
       no_feed = All-none printable 10 refl t all;
     }
