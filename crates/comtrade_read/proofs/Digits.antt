@@ -1,7 +1,6 @@
 -- A few digits spell a small number.
-use Rattle.std.proofs.Common.{◌≡◌, ℕ, ◌+◌, ◌-◌, ◌*◌, sym, ◌∙◌, ◌<◌, ◌≤◌, ◌^◌, Bool, true, false, cond, ltb, leb, min, List, [], ◌∷◌, length, Option, Some, None, w8, w16, to_z, refl, ap, arith}
+use Rattle.std.proofs.Common.{◌≡◌, ℕ, ◌+◌, ◌-◌, ◌*◌, sym, ◌∙◌, ◌<◌, ◌≤◌, ◌^◌, Bool, true, false, cond, ltb, leb, min, List, length, Option, Some, None, w8, w16, to_z, refl, ap, arith}
 use Rattle.std.specs.Prelude.{◌&&◌, ℤ, pos}
-use Rattle.std.specs.Char.{is_ascii_digit, digit_value}
 use Rattle.std.specs.Str.{all_ascii_digits}
 use Rattle.std.specs.Str.Parse.{AllDigits, digits_value}
 use Rattle.std.proofs.lemmas.Int.Digits.{digits_value-lt}

@@ -1,6 +1,6 @@
 -- What spells a number, a side, a bit, a kind or a time has no carriage return at its end.
-use Rattle.std.proofs.Common.{◌≡◌, ℕ, zero, suc, ◌+◌, ◌-◌, ◌^◌, Bool, true, false, cond, ltb, leb, eqb, get_or, take, drop, List, [], ◌∷◌, ◌++◌, length, Option, Some, None, refl, sym, ap, ◌∙◌, inl, inr, arith}
-use Rattle.std.specs.Prelude.{◌&&◌, ◌||◌, ℤ, pos, negsuc, is_some, position, codes, option_map, option_and_then}
+use Rattle.std.proofs.Common.{◌≡◌, ℕ, zero, suc, ◌-◌, ◌^◌, Bool, true, false, cond, ltb, leb, eqb, get_or, take, List, [], ◌∷◌, ◌++◌, length, Option, Some, None, refl, inl, inr, arith}
+use Rattle.std.specs.Prelude.{◌&&◌, ℤ, pos, negsuc, is_some, position, codes, option_map, option_and_then}
 use Rattle.std.specs.List.{position_or_len, before_first, after_first}
 use Rattle.std.specs.Str.{all_ascii_digits, str_eq_ignore_ascii_case, str_to_ascii_lowercase}
 use Rattle.std.specs.Str.Parse.{without_leading_sign, starts_with_minus, digits_value, signed_digits_value}
@@ -9,7 +9,7 @@ use Rattle.std.proofs.lemmas.Bool.Decides.{eqb_tells, nat_tests}
 use Rattle.std.proofs.lemmas.List.{nil_from_length, take_all}
 use Rattle.std.proofs.lemmas.List.Sums.{split_at_first, passes_at_first}
 use Rattle.std.proofs.lemmas.Slice.Eq.{bytes_eq-Decides}
-use Rattle.dfr_channels.specs.Spelling.{whole_number, decimal_number, decimal_of, number, shifted, exponent, exponent_text, is_numeral, is_point, is_exponent_mark, Number}
+use Rattle.dfr_channels.specs.Spelling.{whole_number, decimal_of, number, shifted, exponent, exponent_text, is_numeral, is_point, is_exponent_mark, Number}
 use Rattle.dfr_channels.specs.Lines.{field}
 use Rattle.dfr_channels.proofs.Cuts.{after_none}
 use Rattle.dfr_channels.specs.declared.channel.Side.{Side}

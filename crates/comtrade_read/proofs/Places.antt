@@ -1,8 +1,7 @@
 -- Lines by their places.
-use Rattle.std.proofs.Common.{◌≡◌, ℕ, ◌+◌, ◌<◌, ◌≤◌, Bool, true, false, cond, ltb, List, [], length, map, Some, None, inl, inr, refl, arith}
+use Rattle.std.proofs.Common.{◌≡◌, ℕ, ◌+◌, ◌<◌, ◌≤◌, List, [], length, map, None, inl, inr, refl, arith}
 use Rattle.std.proofs.lemmas.Bool.{lt-ltb, le-ltb, cases_lt}
 use Rattle.dfr_channels.specs.Lines.{fields, line_fields}
-use Rattle.comtrade_read.specs.declared.fault.ReadFault.TheVariants as faults
 use Rattle.comtrade_read.specs.Table.{Rule}
 use Rattle.comtrade_read.specs.Inner.LineFaults.{fields_fault, line_fault, extra_fault}
 use Rattle.comtrade_read.specs.Spells.{fields_at}
