@@ -1,9 +1,7 @@
 -- Lines by their places.
-use Rattle.std.proofs.Common.{◌≡◌, ℕ, ◌+◌, ◌<◌, ◌≤◌, Bool, true, false, cond, ltb, List, [], length, map, Some, None, refl, arith}
-use Rattle.std.proofs.lemmas.Bool.{lt-ltb, ltb-false}
-use Rattle.std.proofs.lemmas.Bool.Decides.{nat_tests}
+use Rattle.std.proofs.Common.{◌≡◌, ℕ, ◌+◌, ◌<◌, ◌≤◌, List, [], length, map, None, inl, inr, refl, arith}
+use Rattle.std.proofs.lemmas.Bool.{lt-ltb, le-ltb, cases_lt}
 use Rattle.dfr_channels.specs.Lines.{fields, line_fields}
-use Rattle.comtrade_read.specs.declared.fault.ReadFault.TheVariants as faults
 use Rattle.comtrade_read.specs.Table.{Rule}
 use Rattle.comtrade_read.specs.Inner.LineFaults.{fields_fault, line_fault, extra_fault}
 use Rattle.comtrade_read.specs.Spells.{fields_at}
@@ -19,12 +17,11 @@ line_again ls r n lt e = rw (lt-ltb n (length ls) lt) e
 
 pub end_is : (ls : List (List ℕ)) (n : ℕ) → extra_fault ls n ≡ None → length ls ≤ n
 unfolding extra_fault
-end_is ls n h = with_test (ltb n (length ls)) refl h
-  where
-    with_test : (b : Bool) → ltb n (length ls) ≡ b → cond b (Some (faults.Extra (n + 1))) None ≡ None → length ls ≤ n
-    with_test true t e = absurd cc
-    with_test false t e = ltb-false n (length ls) t
+end_is ls n h = elim (cases_lt n (length ls)) [
+  | inl lt ↦ (let e = rw (lt-ltb n (length ls) lt) at h in absurd cc)
+  | inr le ↦ le
+]
 
 pub end_again : (ls : List (List ℕ)) (n : ℕ) → length ls ≡ n → extra_fault ls n ≡ None
 unfolding extra_fault
-end_again ls n e = let t : ltb n (length ls) ≡ false = grind (arith, nat_tests) in rw t refl
+end_again ls n e = rw (le-ltb n (length ls) (omega arith)) refl
