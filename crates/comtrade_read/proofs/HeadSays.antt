@@ -22,18 +22,18 @@ use Rattle.comtrade_read.proofs.NoReturn.{ends_plain, no_return, whole_plain, na
 
 -- ---- fields
 
-many_said : {A : Type 0} (n : ℕ) (fs : List (List ℕ)) (r : Result A Fault) (x : A) → many n fs r ≡ Ok x → (length fs ≡ n) × (r ≡ Ok x)
+pub many_said : {A : Type 0} (n : ℕ) (fs : List (List ℕ)) (r : Result A Fault) (x : A) → many n fs r ≡ Ok x → (length fs ≡ n) × (r ≡ Ok x)
 many_said n fs r x e = with_test (eqb (length fs) n) refl e
   where
     with_test : (b : Bool) → eqb (length fs) n ≡ b → cond b r (Err faults.Fields) ≡ Ok x → (length fs ≡ n) × (r ≡ Ok x)
     with_test true t h = (eqb-true _ _ t, h)
     with_test false t h = absurd cc
 
-need_said : {A B : Type 0} (o : Option A) (fault : Fault) (more : A → Result B Fault) (y : B) → need o fault more ≡ Ok y → (x : A) × (o ≡ Some x) × (more x ≡ Ok y)
+pub need_said : {A B : Type 0} (o : Option A) (fault : Fault) (more : A → Result B Fault) (y : B) → need o fault more ≡ Ok y → (x : A) × (o ≡ Some x) × (more x ≡ Ok y)
 need_said None fault more y e = absurd cc
 need_said (Some x) fault more y e = (x, refl, e)
 
-test_said : {A : Type 0} (b : Bool) (x : A) (fault : Fault) (y : A) → cond b (Ok x) (Err fault) ≡ Ok y → (b ≡ true) × (x ≡ y)
+pub test_said : {A F : Type 0} (b : Bool) (x : A) (fault : F) (y : A) → cond b (Ok x) (Err fault) ≡ Ok y → (b ≡ true) × (x ≡ y)
 test_said true x fault y e = (refl, cc)
 test_said false x fault y e = absurd cc
 
@@ -162,7 +162,7 @@ natural_high : (high : ℕ) (f : List ℕ) (n : ℕ) → natural high f ≡ Some
 unfolding natural
 natural_high high f n e = up_high high n (whole_number f) e
 
-end_said : {A : Type 0} (x : A) (line : ℕ) (ls : List (List (List ℕ))) (y : A) → end x line ls ≡ Ok y → (ls ≡ []) × (x ≡ y)
+pub end_said : {A : Type 0} (x : A) (line : ℕ) (ls : List (List (List ℕ))) (y : A) → end x line ls ≡ Ok y → (ls ≡ []) × (x ≡ y)
 end_said x line [] y e = (refl, cc)
 end_said x line (fs ∷ ls) y e = absurd cc
 
@@ -171,7 +171,7 @@ next_to : {A B : Type 0} (says : List (List ℕ) → Result A Fault) (more : A �
     → ((fs : List (List ℕ)) (rest : List (List (List ℕ))) (x : A) → says fs ≡ Ok x → G rest → G (fs ∷ rest)) → ((x : A) (at : ℕ) (rest : List (List (List ℕ))) → more x at rest ≡ Ok y → G rest) → next says more line ls ≡ Ok y → G ls
 next_to says more line ls y G w h e = let a = next_said says more line ls y e in rw a.3 (w a.0 a.1 a.2 a.4 (h a.2 (line + 1) a.1 a.5))
 
-each_to : {A B : Type 0} (says : List A → List (List ℕ) → Result A Fault) (more : List A → Lines B) (n : ℕ) (before : List A) (line : ℕ) (ls : List (List (List ℕ))) (y : B) (G : List (List (List ℕ)) → Type 0)
+pub each_to : {A B : Type 0} (says : List A → List (List ℕ) → Result A Fault) (more : List A → Lines B) (n : ℕ) (before : List A) (line : ℕ) (ls : List (List (List ℕ))) (y : B) (G : List (List (List ℕ)) → Type 0)
     → ((xs : List A) (fs : List (List ℕ)) (rest : List (List (List ℕ))) (x : A) → says xs fs ≡ Ok x → G rest → G (fs ∷ rest))
     → ((xs : List A) (at : ℕ) (rest : List (List (List ℕ))) → length xs ≡ length before + n → more xs at rest ≡ Ok y → G rest) → each says n before more line ls ≡ Ok y → G ls
 each_to says more zero before line ls y G w h e = h before line ls (omega arith) e

@@ -17,7 +17,7 @@ use Rattle.dfr_channels.specs.Written.{padded}
 use Rattle.comtrade_write.specs.Dates.{civil_of, day_number, time_of_day, date_text, time_text}
 use Rattle.comtrade_write.proofs.Civil.{civil_of-is}
 use Rattle.comtrade_read.specs.Instant.{digits, is_slash, is_colon, is_dot, day_at, date, micros, seconds, time_at, time, instant_at}
-use Rattle.comtrade_read.proofs.TextSpelled.{below}
+use Rattle.std.proofs.lemmas.Bool.{cases_lt}
 use Rattle.comtrade_read.proofs.AllOf.{All-append}
 use Rattle.comtrade_read.proofs.WrittenFields.{Printed, printed, printed_digits}
 use Rattle.comtrade_read.proofs.Numerals.{padded_is, place_at, past_mark, digits_tested}
@@ -43,7 +43,7 @@ december y m d h a b =
     (month, omega arith)
 
 last_year : (y : ℕ) → y ≤ 10000 → day_count (pos y) 1 1 ≤ 7_304_849 → y < 10000
-last_year y le h = elim (below y 10000) [
+last_year y le h = elim (cases_lt y 10000) [
   | inl lt ↦ lt
   | inr ge ↦
       let e : y ≡ 10000 = omega arith in
@@ -58,7 +58,7 @@ next_date n lt x =
     let d = x.day in
     let h = x.civil in
     let count = x.count in
-    elim (below d (days_in_month y m)) [
+    elim (cases_lt d (days_in_month y m)) [
       | inl more ↦ record {
         year = x.year;
         month = m;
@@ -70,7 +70,7 @@ next_date n lt x =
       | inr last ↦
           let end : d ≡ days_in_month y m = omega (arith, h.2.1) in
           let first : day_count y m d + 1 ≡ day_count y m 1 + d = day_count-day y m d 1 h.2.0 (omega arith) in
-          elim (below m 12) [
+          elim (cases_lt m 12) [
             | inl early ↦ record {
               year = x.year;
               month = m + 1;

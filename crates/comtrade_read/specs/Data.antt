@@ -1,12 +1,12 @@
--- What a data file says under a head, and its fault.
-use Rattle.std.specs.Prelude.{◌≡◌, ◌≢◌, ℕ, ◌+◌, ◌-◌, ◌*◌, ◌/◌, List, length, slice_get, option_map, unwrap_or}
+-- The fault of a data file under its head.
+use Rattle.std.specs.Prelude.{◌≡◌, ◌≢◌, ℕ, ◌+◌, ◌-◌, ◌*◌, ◌/◌, List, length, map, Err, slice_get, option_map, unwrap_or}
 use Rattle.comtrade_write.specs.declared.file.Kind.{Kind}
 use Rattle.comtrade_write.specs.declared.file.Kind.TheVariants.{Ascii, Binary}
 use Rattle.comtrade_write.specs.declared.file.Rate.{Rate}
 use Rattle.comtrade_write.specs.Parts.{HeadParts}
 use Rattle.comtrade_read.specs.declared.fault.ReadFault.{ReadFault}
-use Rattle.comtrade_read.specs.Faulty.{Faulty}
-use Rattle.comtrade_read.specs.Ascii.{data_lines, row_rules}
+use Rattle.dfr_channels.specs.Lines.{fields}
+use Rattle.comtrade_read.specs.Ascii.{data_lines, rows}
 use Rattle.comtrade_read.specs.declared.fault.ReadFault.TheVariants as faults
 
 -- the last sample of the last rate, or 0 where there is no rate
@@ -22,7 +22,7 @@ abbrev pub row_size : ℕ → ℕ → ℕ
 row_size k m = 8 + 2 * k + 2 * ((m + 15) / 16)
 
 abbrev pub FaultyAs : Kind → ℕ → ℕ → ℕ → List ℕ → ReadFault → Type 0
-FaultyAs Ascii k m count dat e = Faulty (data_lines dat) (row_rules k m count) e
+FaultyAs Ascii k m count dat e = rows k m count (map fields (data_lines dat)) ≡ Err e
 FaultyAs Binary k m count dat e = (length dat ≢ count * row_size k m) × (e ≡ faults.Length)
 
 -- the first fault of the data under the head

@@ -23,6 +23,11 @@ abbrev pub need : {A B : Type 0} → Option A → Fault → (A → Result B Faul
 need None fault more = Err fault
 need (Some x) fault more = more x
 
+-- so many fields, from field i on, and what follows from what they say
+abbrev pub need_each : {A B : Type 0} → (List ℕ → Option A) → ℕ → ℕ → List A → List (List ℕ) → (List A → Result B Fault) → Result B Fault
+need_each read i zero before fs more = more before
+need_each read i (suc n) before fs more = need (read (field fs i)) (number (i + 1)) (λ x. need_each read (i + 1) n (before ++ x ∷ []) fs more)
+
 -- a line of one field
 abbrev pub one : {A : Type 0} → (List ℕ → Option A) → Fault → List (List ℕ) → Result A Fault
 one read fault fs = many 1 fs (need (read (field fs 0)) fault (λ x. Ok x))

@@ -8,9 +8,8 @@ use Rattle.comtrade_write.specs.declared.file.Kind.TheVariants.{Ascii, Binary}
 use Rattle.comtrade_write.specs.Parts.{HeadParts, RowParts, FileParts}
 use Rattle.comtrade_write.specs.Binary.{row_bytes}
 use Rattle.comtrade_read.specs.Joined.{IsJoined}
-use Rattle.comtrade_read.specs.Spells.{SpellsRow, EachFrom, fields_at}
 use Rattle.comtrade_read.specs.Head.{head}
-use Rattle.comtrade_read.specs.Ascii.{is_end_mark}
+use Rattle.comtrade_read.specs.Ascii.{is_end_mark, rows}
 use Rattle.comtrade_read.specs.Data.{row_count}
 
 -- a configuration file
@@ -20,11 +19,10 @@ pub record ReadsHead (cfg : List ℕ) (h : HeadParts) : Type 0 where
   pub head : head lines ≡ Ok h
 
 -- ASCII data: what stands before the first byte 1A is one line for each row
-pub record ReadsAscii (k m : ℕ) (dat : List ℕ) (rows : List RowParts) : Type 0 where
+pub record ReadsAscii (k m : ℕ) (dat : List ℕ) (rs : List RowParts) : Type 0 where
   pub lines : List (List (List ℕ))
   pub joined : IsJoined (before_first is_end_mark dat) lines
-  pub count : length lines ≡ length rows
-  pub each : EachFrom (λ i r. SpellsRow k m (fields_at lines i) r) 0 rows
+  pub rows : rows k m (length rs) lines ≡ Ok rs
 
 -- a value whose bytes aren't those of a missing one
 abbrev pub IsPresent : Reading → Type 0
