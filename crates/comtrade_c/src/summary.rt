@@ -1,7 +1,7 @@
 //! What a pair of files says as a whole.
 
 ghost use Rattle.std.specs.Prelude.{◌≡◌, ◌⊎◌};
-ghost use Rattle.comtrade_read.specs.Pair.{IsNoFile};
+ghost use Rattle.comtrade_read.specs.Reads.{IsNoFile};
 ghost use Rattle.comtrade_c.specs.Summaries.{Holds, Summarizes};
 
 use crate::answer::{CFG_FAULT, DAT_FAULT, DONE, Fault, NO_MEMORY, refuse_read};

@@ -10,11 +10,10 @@ use Rattle.comtrade_read.specs.declared.fault.ReadFault.{ReadFault}
 use Rattle.comtrade_read.specs.declared.fault.ReadFault.TheVariants as faults
 use Rattle.comtrade_read.specs.declared.pair.Part.{Part}
 use Rattle.comtrade_read.specs.declared.pair.Part.TheVariants.{Cfg, Dat}
-use Rattle.comtrade_read.specs.Data.{row_count, row_size, FaultyAs, FaultyData}
+use Rattle.comtrade_read.specs.Head.{last_sample}
 use Rattle.comtrade_read.specs.Inner.BinaryRows.{rows_at}
 use Rattle.comtrade_read.specs.Inner.RowValues.{rows_as, rows_under}
-use Rattle.comtrade_read.specs.Pair.{FaultyHead, FaultyPair, IsNoData, OneFileLaw}
-use Rattle.comtrade_read.specs.Reads.{ReadsHead, ReadsAs, ReadsRows, Reads}
+use Rattle.comtrade_read.specs.Reads.{ReadsHead, ReadsAs, ReadsRows, Reads, FaultyHead, row_size, FaultyAs, FaultyData, FaultyPair, Nothing, AtMostOne}
 use Rattle.comtrade_read.proofs.BinaryNumbers.{AllBytes}
 use Rattle.comtrade_read.proofs.HeadSays.{test_said}
 use Rattle.comtrade_read.proofs.RowBytes.{binary_spelled, binary_only}
@@ -55,19 +54,19 @@ said_fault Binary k m n dat e f = with_test (eqb (length dat) (n * row_size k m)
     with_test false t h = (λ same. let not : eqb (length dat) (n * row_size k m) ≡ true = grind (arith, nat_tests) in absurd cc, cc)
 
 pub rows_spelled : (h : HeadParts) (dat : List ℕ) (rows : List RowParts) → AllBytes dat → rows_under h dat ≡ Ok rows → ReadsRows h dat rows
-rows_spelled h dat rows b s = let p = as_spelled h.kind (length h.analog) (length h.status) (row_count h) dat rows b s in record { count = p.0; each = p.1 }
+rows_spelled h dat rows b s = let p = as_spelled h.kind (length h.analog) (length h.status) (last_sample h.rates) dat rows b s in record { count = p.0; each = p.1 }
 
 rows_only : (h : HeadParts) (dat : List ℕ) (rows : List RowParts) → ReadsRows h dat rows → rows_under h dat ≡ Ok rows
 rows_only h dat rows r = rw r.count at (as_only h.kind (length h.analog) (length h.status) dat rows r.each)
 
 no_rows : (h : HeadParts) (dat : List ℕ) (e : ReadFault) → FaultyData h dat e → (rows : List RowParts) → ReadsRows h dat rows → ⊥
 no_rows h dat e f rows r =
-    let a : rows_under h dat ≡ Err e = fault_said h.kind (length h.analog) (length h.status) (row_count h) dat e f in
+    let a : rows_under h dat ≡ Err e = fault_said h.kind (length h.analog) (length h.status) (last_sample h.rates) dat e f in
     let b = rows_only h dat rows r in
     absurd cc
 
-pub data_faulty : (h : HeadParts) (dat : List ℕ) (e : ReadFault) → rows_under h dat ≡ Err e → FaultyData h dat e × IsNoData h dat
-data_faulty h dat e s = let f = said_fault h.kind (length h.analog) (length h.status) (row_count h) dat e s in (f, no_rows h dat e f)
+pub data_faulty : (h : HeadParts) (dat : List ℕ) (e : ReadFault) → rows_under h dat ≡ Err e → FaultyData h dat e × Nothing (ReadsRows h dat)
+data_faulty h dat e s = let f = said_fault h.kind (length h.analog) (length h.status) (last_sample h.rates) dat e s in (f, no_rows h dat e f)
 
 -- ---- heads and files
 
@@ -80,7 +79,7 @@ one_head cfg g h r s = let a = cfg_only cfg g r in let b = cfg_only cfg h s in c
 pub rows_same : (h : HeadParts) (dat : List ℕ) (a b : List RowParts) → ReadsRows h dat a → ReadsRows h dat b → a ≡ b
 rows_same h dat a b r s = let x = rows_only h dat a r in let y = rows_only h dat b s in cc
 
-pub one_file : OneFileLaw
+pub one_file : (cfg dat : List ℕ) → AtMostOne (Reads cfg dat)
 one_file cfg dat f g r s =
     let heads : g.head ≡ f.head = one_head cfg g.head f.head s.head r.head in
     let rows : f.rows ≡ g.rows = rows_same f.head dat f.rows g.rows r.rows (rw heads at s.rows) in

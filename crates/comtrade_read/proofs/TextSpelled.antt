@@ -5,7 +5,8 @@ use Rattle.std.specs.List.{before_first, AllByRecursion}
 use Rattle.dfr_channels.specs.Lines.{fields, lines}
 use Rattle.comtrade_write.specs.Parts.{HeadParts, RowParts}
 use Rattle.comtrade_read.specs.Line.{end}
-use Rattle.comtrade_read.specs.Ascii.{data_lines, row_line, next_row, rows, is_end_mark}
+use Rattle.comtrade_read.specs.Ascii.{data_lines, row_line, rows, is_end_mark}
+use Rattle.comtrade_read.specs.Inner.HeadValues.{next_row}
 use Rattle.comtrade_read.specs.Head.{head}
 use Rattle.comtrade_read.specs.Reads.{ReadsHead, ReadsAscii}
 use Rattle.comtrade_read.proofs.LineEnds.{EndsPlain, EndsFull}

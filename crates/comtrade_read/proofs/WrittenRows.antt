@@ -19,7 +19,8 @@ use Rattle.comtrade_write.specs.Shape.{row_shaped}
 use Rattle.comtrade_write.specs.Refusals.{ascii_bounds, binary_bounds, takes_reading, takes_stamp, takes_times, values_from, rows_from, stamps_from}
 use Rattle.dfr_channels.specs.Fields.{bit}
 use Rattle.comtrade_read.specs.Line.{each, end}
-use Rattle.comtrade_read.specs.Ascii.{stamp, value, is_end_mark, row_line as read_line, next_row, rows}
+use Rattle.comtrade_read.specs.Ascii.{stamp, value, is_end_mark, row_line as read_line, rows}
+use Rattle.comtrade_read.specs.Inner.HeadValues.{next_row}
 use Rattle.comtrade_read.specs.Reads.{IsPresent, IsStamp, IsRowOf, ReadsBinary, ReadsAscii}
 use Rattle.comtrade_read.proofs.AllOf.{All-append}
 use Rattle.comtrade_read.proofs.Numerals.{place_at}

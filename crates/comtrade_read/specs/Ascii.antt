@@ -4,12 +4,14 @@ use Rattle.std.specs.List.{before_first}
 use Rattle.std.specs.Ordering.{int_eq}
 use Rattle.dfr_channels.specs.Lines.{lines, field}
 use Rattle.dfr_channels.specs.Fields.{bit}
+use Rattle.dfr_channels.specs.LineFields.{many, need}
 use Rattle.dfr_channels.specs.declared.scan.Reading.{Reading}
 use Rattle.dfr_channels.specs.declared.scan.Reading.TheVariants.{Value, Missing}
 use Rattle.comtrade_write.specs.Parts.{RowParts}
 use Rattle.comtrade_read.specs.declared.fault.ReadFault.{ReadFault}
-use Rattle.comtrade_read.specs.Line.{Fault, number, many, need, need_each, each, end}
-use Rattle.comtrade_read.specs.Fields.{natural, small}
+use Rattle.comtrade_read.specs.declared.fault.ReadFault.TheVariants as faults
+use Rattle.comtrade_read.specs.Line.{Fault, number, need_each, each, end}
+use Rattle.comtrade_read.specs.Fields.{natural, small, ten_digits}
 
 abbrev pub is_end_mark : ℕ → Bool
 is_end_mark b = b == 26
@@ -20,7 +22,7 @@ data_lines dat = lines (before_first is_end_mark dat)
 
 -- a stamp, or none where nothing stands
 unfoldable pub stamp : List ℕ → Option (Option ℕ)
-stamp f = if length f == 0 then Some None else option_map (λ n. Some n) (natural 9999999999 f)
+stamp f = if length f == 0 then Some None else option_map (λ n. Some n) (natural ten_digits f)
 
 abbrev pub reading : ℤ → Reading
 reading z = if int_eq z (pos 99999) then Missing else Value z
@@ -31,16 +33,13 @@ value f = if length f == 0 then Some Missing else option_map reading (small f)
 
 -- a row of k values and m bits
 unfoldable pub row_line : ℕ → ℕ → List (List ℕ) → Result RowParts Fault
-row_line k m fs = many (2 + k + m) fs (
-    need (natural 9999999999 (field fs 0)) (number 1) (λ n.
+row_line k m fs = many (2 + k + m) faults.Fields fs (
+    need (natural ten_digits (field fs 0)) (number 1) (λ n.
     need (stamp (field fs 1)) (number 2) (λ t.
     need_each value 2 k [] fs (λ values.
     need_each bit (2 + k) m [] fs (λ bits.
     Ok (record { number = n; stamp = t; values = values; bits = bits }))))))
 
-abbrev pub next_row : ℕ → ℕ → List RowParts → List (List ℕ) → Result RowParts Fault
-next_row k m before fs = row_line k m fs
-
 -- what so many lines say, or their first fault
 unfoldable pub rows : ℕ → ℕ → ℕ → List (List (List ℕ)) → Result (List RowParts) ReadFault
-rows k m n ls = each (next_row k m) n [] end 1 ls
+rows k m n ls = each (λ before. row_line k m) n [] end 1 ls

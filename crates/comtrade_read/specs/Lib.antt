@@ -3,9 +3,7 @@ pub mod Fields
 pub mod Instant
 pub mod Head
 pub mod Ascii
-pub mod Data
 pub mod Joined
 pub mod Reads
-pub mod Pair
 pub mod ReadBack
 pub mod Inner

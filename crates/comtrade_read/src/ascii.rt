@@ -6,7 +6,7 @@ ghost use Rattle.dfr_channels.specs.Lines.{texts, fields};
 ghost use Rattle.comtrade_read.specs.Line.{told};
 ghost use Rattle.comtrade_read.specs.Ascii as spec;
 ghost use Rattle.comtrade_read.specs.Inner.LineFaults.{Is};
-ghost use Rattle.comtrade_read.specs.Inner.HeadValues.{line_at, lines_at};
+ghost use Rattle.comtrade_read.specs.Inner.HeadValues.{line_at, lines_at, next_row};
 
 use crate::cells::{field_count, first_field};
 use crate::fault::ReadFault;
@@ -136,7 +136,7 @@ fn rows_of<A: Allocator + Copy>(
 ) -> Result<Vec<Row<A>, A>, ReadFault>
     requires k { k < 1000000 }
     requires m { m < 1000000 }
-    ensures { Is (λ v. v.items) (lines_at (spec.next_row k m) (texts lines.now) 0 count) result }
+    ensures { Is (λ v. v.items) (lines_at (next_row k m) (texts lines.now) 0 count) result }
 {
     // the head may claim more rows than there are lines
     let room = count.min(lines.len() as u64);

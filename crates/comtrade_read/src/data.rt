@@ -2,9 +2,8 @@
 
 ghost use Rattle.std.specs.Prelude.{◌≡◌, ◌≢◌, ◌+◌, ◌<◌, length, IfOk, IfErr};
 ghost use Rattle.comtrade_read.specs.declared.fault.ReadFault.TheVariants as faults;
-ghost use Rattle.comtrade_read.specs.Data.{FaultyData, last_sample};
-ghost use Rattle.comtrade_read.specs.Reads.{ReadsRows};
-ghost use Rattle.comtrade_read.specs.Pair.{IsNoData};
+ghost use Rattle.comtrade_read.specs.Head.{last_sample};
+ghost use Rattle.comtrade_read.specs.Reads.{ReadsRows, FaultyData, Nothing};
 ghost use Rattle.comtrade_read.specs.Inner.LineFaults.{Is};
 ghost use Rattle.comtrade_read.specs.Inner.RowValues.{rows_as, rows_under};
 
@@ -71,7 +70,7 @@ pub fn read_dat<A: Allocator + Copy>(
     ensures head { IfOk result (λ f. f.head ≡ head) }
     ensures rows { IfOk result (λ f. ReadsRows head dat.now f.rows) }
     ensures fault { IfErr result (λ x. x.0 ≢ faults.Memory → FaultyData head dat.now x.0) }
-    ensures unread { IfErr result (λ x. x.0 ≢ faults.Memory → IsNoData head dat.now) }
+    ensures unread { IfErr result (λ x. x.0 ≢ faults.Memory → Nothing (ReadsRows head dat.now)) }
     ensures back { IfErr result (λ x. x.1 ≡ head) }
 {
     match rows_of(alloc, &head, dat) {

@@ -4,7 +4,7 @@ ghost use Rattle.std.specs.Prelude.{◌≡◌, ◌<◌, ◌+◌, ◌*◌, [], If
 ghost use Rattle.dfr_channels.specs.Lines.{fields};
 ghost use Rattle.dfr_channels.specs.PlainNumbers.{fields_behind};
 ghost use Rattle.dfr_channels.specs.Fields.{within, up_to, bit as read_bit};
-ghost use Rattle.comtrade_read.specs.Fields.{natural};
+ghost use Rattle.comtrade_read.specs.Fields.{natural, ten_digits};
 ghost use Rattle.comtrade_read.specs.Ascii as spec;
 ghost use Rattle.comtrade_read.specs.Inner.PlainRows.{IsNext, AreNext, AreBits};
 
@@ -14,7 +14,7 @@ use std::alloc::{AllocError, Allocator};
 
 /// The number, where a row's number or stamp can be it.
 fn count(number: i64) -> Option<u64>
-    ensures { result ≡ up_to 9999999999 (Some number) }
+    ensures { result ≡ up_to ten_digits (Some number) }
 {
     if number < 0 {
         return None;
@@ -27,7 +27,7 @@ fn count(number: i64) -> Option<u64>
 
 /// The row's number that stands next, and what stands behind its comma if it has one.
 fn next_number(left: Option<&[u8]>) -> Option<(u64, Option<&[u8]>)>
-    ensures { IfSome result (λ r. IsNext (natural 9999999999) (fields_behind (option_copied left.entry)) r.0 (fields_behind (option_copied r.1))) }
+    ensures { IfSome result (λ r. IsNext (natural ten_digits) (fields_behind (option_copied left.entry)) r.0 (fields_behind (option_copied r.1))) }
 {
     let (number, behind) = plain_number(left?)?;
     let count = count(number)?;

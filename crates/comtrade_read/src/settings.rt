@@ -4,7 +4,7 @@ ghost use Rattle.std.specs.Prelude.{◌≡◌, ◌+◌, ◌<◌, ◌≤◌, ◌^
 ghost use Rattle.dfr_channels.specs.Lines.{texts};
 ghost use Rattle.comtrade_read.specs.Line.{told};
 ghost use Rattle.comtrade_read.specs.Head as spec;
-ghost use Rattle.comtrade_read.specs.Inner.HeadValues.{line_at, lines_at};
+ghost use Rattle.comtrade_read.specs.Inner.HeadValues.{line_at, lines_at, next_rate};
 ghost use Rattle.comtrade_read.specs.Inner.LineFaults.{Is};
 ghost use Rattle.comtrade_read.specs.Fields.{whole};
 
@@ -167,7 +167,7 @@ pub(crate) fn rates_of<A: Allocator + Copy>(
 ) -> Result<Vec<Rate, A>, ReadFault>
     requires start { start < 2 ^ 32 }
     requires count { count < 2 ^ 32 }
-    ensures { Is (λ v. v.items) (lines_at spec.next_rate (texts lines.now) start count) result }
+    ensures { Is (λ v. v.items) (lines_at next_rate (texts lines.now) start count) result }
 {
     let mut list = Vec::new(alloc);
     let mut before = 0;

@@ -2,14 +2,29 @@
 use Rattle.std.specs.Prelude.{ℕ, ◌+◌, zero, suc, max, nat_lt, if◌then◌else◌, List, [], ◌∷◌, ◌++◌, length, Option, Some, None, Result, Ok, Err, ℤ}
 use Rattle.dfr_channels.specs.Spelling.{Number}
 use Rattle.dfr_channels.specs.Lines.{line_fields}
+use Rattle.dfr_channels.specs.Parts.{AnalogParts, StatusParts}
 use Rattle.comtrade_write.specs.declared.file.Kind.{Kind}
 use Rattle.comtrade_write.specs.declared.file.Rate.{Rate}
-use Rattle.comtrade_write.specs.Parts.{HeadParts}
+use Rattle.comtrade_write.specs.Parts.{HeadParts, RowParts}
 use Rattle.comtrade_read.specs.declared.fault.ReadFault.{ReadFault}
 use Rattle.comtrade_read.specs.declared.fault.ReadFault.TheVariants as faults
 use Rattle.comtrade_read.specs.Line.{Fault, told, follow}
 use Rattle.comtrade_read.specs.Inner.LineFaults.{extra_fault}
-use Rattle.comtrade_read.specs.Head.{names_line, counts_line, frequency_line, nrates_line, instant_line, kind_line, timemult_line, next_analog, next_status, next_rate}
+use Rattle.comtrade_read.specs.Head.{names_line, counts_line, analog_line, status_line, frequency_line, nrates_line, rate_line, instant_line, kind_line, timemult_line, last_sample}
+use Rattle.comtrade_read.specs.Ascii.{row_line}
+
+-- a line behind those before it
+abbrev pub next_analog : List AnalogParts → List (List ℕ) → Result AnalogParts Fault
+next_analog before fs = analog_line (length before + 1) fs
+
+abbrev pub next_status : List StatusParts → List (List ℕ) → Result StatusParts Fault
+next_status before fs = status_line (length before + 1) fs
+
+abbrev pub next_rate : List Rate → List (List ℕ) → Result Rate Fault
+next_rate before fs = rate_line (last_sample before) fs
+
+abbrev pub next_row : ℕ → ℕ → List RowParts → List (List ℕ) → Result RowParts Fault
+next_row k m before fs = row_line k m fs
 
 -- the part of a head behind its rates
 pub record EndParts : Type 0 where

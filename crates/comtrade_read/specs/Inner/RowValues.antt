@@ -7,7 +7,8 @@ use Rattle.comtrade_write.specs.Parts.{HeadParts, RowParts}
 use Rattle.comtrade_read.specs.declared.fault.ReadFault.{ReadFault}
 use Rattle.comtrade_read.specs.declared.fault.ReadFault.TheVariants as faults
 use Rattle.comtrade_read.specs.Ascii.{data_lines, rows}
-use Rattle.comtrade_read.specs.Data.{row_count, row_size}
+use Rattle.comtrade_read.specs.Head.{last_sample}
+use Rattle.comtrade_read.specs.Reads.{row_size}
 use Rattle.comtrade_read.specs.Inner.BinaryRows.{rows_at}
 
 -- what data of this kind say, so many rows of k values and m bits
@@ -17,4 +18,4 @@ rows_as Binary k m count dat = if length dat == count * row_size k m then Ok (ro
 
 -- what the data say under the head
 abbrev pub rows_under : HeadParts → List ℕ → Result (List RowParts) ReadFault
-rows_under h dat = rows_as h.kind (length h.analog) (length h.status) (row_count h) dat
+rows_under h dat = rows_as h.kind (length h.analog) (length h.status) (last_sample h.rates) dat
