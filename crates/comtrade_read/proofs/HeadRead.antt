@@ -10,14 +10,11 @@ use Rattle.comtrade_write.specs.declared.file.Rate.{Rate}
 use Rattle.comtrade_write.specs.Parts.{HeadParts, RowParts}
 use Rattle.comtrade_read.specs.declared.fault.ReadFault.{ReadFault}
 use Rattle.comtrade_read.specs.declared.fault.ReadFault.TheVariants as faults
-use Rattle.comtrade_read.specs.Head.{last_sample}
+use Rattle.comtrade_read.specs.Head.{last_sample, names_line, counts_line, instant_line, head}
+use Rattle.comtrade_read.specs.Inner.HeadValues.{frequency_line, nrates_line, kind_line, timemult_line, next_analog, next_status, next_rate, next_row, EndParts, TailParts, line_at, lines_at, unless_fault, ends_at, tail_at, head_at}
 use Rattle.comtrade_read.specs.Line.{Fault, Lines, told, follow, next, each, end}
-use Rattle.comtrade_read.specs.Head.{names_line, counts_line, frequency_line, nrates_line, instant_line, kind_line, timemult_line, head}
-use Rattle.comtrade_read.specs.Inner.HeadValues.{next_analog, next_status, next_rate}
 use Rattle.comtrade_read.specs.Ascii.{rows}
-use Rattle.comtrade_read.specs.Inner.HeadValues.{next_row}
 use Rattle.comtrade_read.specs.Inner.LineFaults.{Is, extra_fault}
-use Rattle.comtrade_read.specs.Inner.HeadValues.{EndParts, TailParts, line_at, lines_at, unless_fault, ends_at, tail_at, head_at}
 use Rattle.comtrade_read.proofs.Stages.{made, after_timemult, after_kind, after_trigger, after_first, after_rates, after_nrates, after_frequency, after_status, after_analog, after_counts, after_names}
 
 line_is : (ls : List (List ℕ)) (n : ℕ) → n < length ls → get_or (map fields ls) n [] ≡ line_fields ls n

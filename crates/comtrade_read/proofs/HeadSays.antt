@@ -15,9 +15,8 @@ use Rattle.comtrade_read.specs.declared.fault.ReadFault.TheVariants as faults
 use Rattle.comtrade_read.specs.Fields.{whole, natural, small, ten_digits, scale, count}
 use Rattle.comtrade_read.specs.Instant.{date, time}
 use Rattle.comtrade_read.specs.Line.{Fault, number, Lines, told, follow, next, each, end}
-use Rattle.comtrade_read.specs.Head.{last_sample}
-use Rattle.comtrade_read.specs.Head.{kind, is_number, revision, names_line, counts_line, analog_line, status_line, frequency_line, nrates_line, rate_line, instant_line, kind_line, timemult_line, head}
-use Rattle.comtrade_read.specs.Inner.HeadValues.{next_analog, next_status, next_rate}
+use Rattle.comtrade_read.specs.Head.{last_sample, kind, is_number, revision, names_line, counts_line, analog_line, status_line, rate_line, instant_line, head}
+use Rattle.comtrade_read.specs.Inner.HeadValues.{frequency_line, nrates_line, kind_line, timemult_line, next_analog, next_status, next_rate}
 use Rattle.comtrade_read.proofs.LineEnds.{EndsPlain, EndsFull}
 use Rattle.comtrade_read.proofs.Stages.{made, after_timemult, after_kind, after_trigger, after_first, after_rates, after_nrates, after_frequency, after_status, after_analog, after_counts, after_names}
 use Rattle.comtrade_read.proofs.NoReturn.{ends_plain, no_return, whole_plain, natural_plain, free_bit_plain, scale_plain, free_scale_plain, side_plain, count_plain, time_plain, kind_plain}
@@ -108,11 +107,9 @@ status_plain n fs x e =
     no_return fs 4 a.0 (free_bit_plain (field fs 4) c.0 c.1)
 
 frequency_plain : (fs : List (List ℕ)) (x : Number) → frequency_line fs ≡ Ok x → EndsPlain fs
-unfolding frequency_line
 frequency_plain fs x e = let a = one_said (free_scale (field fs 0)) (number 1) fs x e in no_return fs 0 a.0 (free_scale_plain (field fs 0) a.1 a.2)
 
 nrates_plain : (fs : List (List ℕ)) (x : ℕ) → nrates_line fs ≡ Ok x → EndsPlain fs
-unfolding nrates_line
 nrates_plain fs x e = let a = one_said (natural 999 (field fs 0)) (number 1) fs x e in no_return fs 0 a.0 (natural_plain 999 (field fs 0) a.1 a.2)
 
 rate_plain : (before : ℕ) (fs : List (List ℕ)) (x : Rate) → rate_line before fs ≡ Ok x → EndsPlain fs
@@ -132,7 +129,6 @@ instant_plain fs x e =
     no_return fs 1 a.0 (time_plain (field fs 1) c.0 c.1)
 
 kind_ends : (fs : List (List ℕ)) (x : Kind) → kind_line fs ≡ Ok x → EndsPlain fs
-unfolding kind_line
 kind_ends fs x e = let a = one_said (kind (field fs 0)) (λ line. faults.Kind) fs x e in no_return fs 0 a.0 (kind_plain (field fs 0) a.1 a.2)
 
 no_scale : (fs : List (List ℕ)) (x : Number) → scale (field fs 0) ≡ Some x → fs ≢ [] ∷ []
@@ -140,7 +136,6 @@ unfolding scale
 no_scale fs x h e = let g : scale [] ≡ Some x = rw e at h in absurd cc
 
 timemult_plain : (fs : List (List ℕ)) (x : Number) → timemult_line fs ≡ Ok x → EndsPlain fs × (fs ≢ [] ∷ [])
-unfolding timemult_line
 timemult_plain fs x e =
     let a = one_said (scale (field fs 0)) (number 1) fs x e in
     (no_return fs 0 a.0 (scale_plain (field fs 0) a.1 a.2), no_scale fs a.1 a.2)

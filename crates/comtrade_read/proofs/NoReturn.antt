@@ -1,5 +1,5 @@
 -- What spells a number, a side, a bit, a kind or a time has no carriage return at its end.
-use Rattle.std.proofs.Common.{◌≡◌, ℕ, zero, suc, ◌+◌, ◌-◌, Bool, true, false, cond, ltb, leb, eqb, get_or, take, drop, List, [], ◌∷◌, ◌++◌, length, Option, Some, None, refl, sym, ap, ◌∙◌, arith}
+use Rattle.std.proofs.Common.{◌≡◌, ℕ, zero, suc, ◌+◌, ◌-◌, ◌*◌, ◌^◌, Bool, true, false, cond, ltb, leb, eqb, get_or, take, drop, List, [], ◌∷◌, ◌++◌, length, Option, Some, None, refl, sym, ap, ◌∙◌, arith}
 use Rattle.std.specs.Prelude.{◌&&◌, ℤ, pos, negsuc, is_some, not, position, codes, option_map, option_and_then}
 use Rattle.std.specs.List.{position_or_len, before_first, after_first}
 use Rattle.std.specs.Char.{is_ascii_digit}
@@ -18,7 +18,7 @@ use Rattle.comtrade_write.specs.declared.file.Kind.{Kind}
 use Rattle.comtrade_write.specs.declared.file.Kind.TheVariants.{Ascii, Binary}
 use Rattle.dfr_channels.specs.Fields.{zero_number, up_to, within, free_scale, side, is_letter, as_bit, bit, free_bit}
 use Rattle.comtrade_read.specs.Fields.{whole, natural, small, scale, count, before_letter}
-use Rattle.comtrade_read.specs.Instant.{digits, is_colon, is_dot, micros, scaled, both, seconds, time_of, time}
+use Rattle.comtrade_read.specs.Instant.{digits, is_colon, is_dot, given, micros, seconds, time}
 use Rattle.comtrade_read.specs.Head.{kind}
 use Rattle.comtrade_read.specs.Ascii.{stamp, value, reading}
 use Rattle.comtrade_read.specs.Joined.{HasNone}
@@ -227,32 +227,22 @@ digits_plain low high f n e = digits_none f (and_parts (leb low (length f) && le
 
 micros_plain : (f : List ℕ) (n : ℕ) → micros f ≡ Some n → HasNone 13 f
 unfolding micros
-micros_plain f n e = with_digits (digits 1 6 f) refl e
-  where
-    with_digits : (o : Option ℕ) → digits 1 6 f ≡ o → scaled (length f) o ≡ Some n → HasNone 13 f
-    with_digits None d h = absurd cc
-    with_digits (Some m) d h = digits_plain 1 6 f m d
+micros_plain f n e = let p = map_some (λ m. m * 10 ^ (6 - length f)) (digits 1 6 f) n e in digits_plain 1 6 f p.0 p.1
 
-both_some : (x y : Option ℕ) (p : ℕ × ℕ) → both x y ≡ Some p → (a : ℕ) × (b : ℕ) × (x ≡ Some a) × (y ≡ Some b)
-both_some None y p e = absurd cc
-both_some (Some a) None p e = absurd cc
-both_some (Some a) (Some b) p e = (a, b, refl, refl)
+given_some : {A B : Type 0} (o : Option A) (more : A → Option B) (y : B) → given o more ≡ Some y → (x : A) × (o ≡ Some x) × (more x ≡ Some y)
+given_some None more y e = absurd cc
+given_some (Some x) more y e = (x, refl, e)
 
 seconds_plain : (f : List ℕ) (p : ℕ × ℕ) → seconds f ≡ Some p → HasNone 13 f
 unfolding seconds
 seconds_plain f p e = with_test (is_some (position is_dot f)) e
   where
-    with_test : (t : Bool) → cond t (both (digits 1 2 (before_first is_dot f)) (micros (after_first is_dot f))) (both (digits 1 2 f) (Some 0)) ≡ Some p → HasNone 13 f
+    with_test : (t : Bool) → cond t (given (digits 1 2 (before_first is_dot f)) (λ s. option_map (λ us. (s, us)) (micros (after_first is_dot f)))) (option_map (λ s. (s, 0)) (digits 1 2 f)) ≡ Some p → HasNone 13 f
     with_test true h =
-        let q = both_some (digits 1 2 (before_first is_dot f)) (micros (after_first is_dot f)) p h in
-        parts_none is_dot f refl (digits_plain 1 2 (before_first is_dot f) q.0 q.2) (micros_plain (after_first is_dot f) q.1 q.3)
-    with_test false h = let q = both_some (digits 1 2 f) (Some 0) p h in digits_plain 1 2 f q.0 q.2
-
-time_parts : (h m : Option ℕ) (s : Option (ℕ × ℕ)) (n : ℕ) → time_of h m s ≡ Some n → (a : ℕ) × (b : ℕ) × (c : ℕ × ℕ) × (h ≡ Some a) × (m ≡ Some b) × (s ≡ Some c)
-time_parts None m s n e = absurd cc
-time_parts (Some a) None s n e = absurd cc
-time_parts (Some a) (Some b) None n e = absurd cc
-time_parts (Some a) (Some b) (Some c) n e = (a, b, c, refl, refl, refl)
+        let a = given_some (digits 1 2 (before_first is_dot f)) _ p h in
+        let b = map_some (λ us. (a.0, us)) (micros (after_first is_dot f)) p a.2 in
+        parts_none is_dot f refl (digits_plain 1 2 (before_first is_dot f) a.0 a.1) (micros_plain (after_first is_dot f) b.0 b.1)
+    with_test false h = let a = map_some (λ s. (s, 0)) (digits 1 2 f) p h in digits_plain 1 2 f a.0 a.1
 
 pub time_plain : (f : List ℕ) (n : ℕ) → time f ≡ Some n → HasNone 13 f
 unfolding time
@@ -261,9 +251,11 @@ time_plain f n e =
     let h = digits 1 2 (before_first is_colon f) in
     let m = digits 1 2 (before_first is_colon rest) in
     let s = seconds (after_first is_colon rest) in
-    let p = time_parts h m s n (inside (is_some (position is_colon f) && is_some (position is_colon rest)) (time_of h m s) e) in
-    parts_none is_colon f refl (digits_plain 1 2 (before_first is_colon f) p.0 p.3)
-    (parts_none is_colon rest refl (digits_plain 1 2 (before_first is_colon rest) p.1 p.4) (seconds_plain (after_first is_colon rest) p.2 p.5))
+    let a = given_some h _ n (inside (is_some (position is_colon f) && is_some (position is_colon rest)) _ e) in
+    let b = given_some m _ n a.2 in
+    let c = given_some s _ n b.2 in
+    parts_none is_colon f refl (digits_plain 1 2 (before_first is_colon f) a.0 a.1)
+    (parts_none is_colon rest refl (digits_plain 1 2 (before_first is_colon rest) b.0 b.1) (seconds_plain (after_first is_colon rest) c.0 c.1))
   where
     inside : (b : Bool) (o : Option ℕ) → cond b o None ≡ Some n → o ≡ Some n
     inside true o h = h

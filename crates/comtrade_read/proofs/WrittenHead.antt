@@ -19,9 +19,8 @@ use Rattle.comtrade_write.specs.Cfg.{kind_text, names_fields, counts_fields, ana
 use Rattle.comtrade_write.specs.Shape as shape
 use Rattle.comtrade_read.specs.Fields.{small, scale}
 use Rattle.comtrade_read.specs.Line.{Fault, Lines, each}
-use Rattle.comtrade_read.specs.Head.{last_sample}
-use Rattle.comtrade_read.specs.Head.{names_line, counts_line, analog_line, status_line, frequency_line, nrates_line, rate_line, instant_line, kind_line, timemult_line, head}
-use Rattle.comtrade_read.specs.Inner.HeadValues.{next_rate}
+use Rattle.comtrade_read.specs.Head.{last_sample, names_line, counts_line, analog_line, status_line, rate_line, instant_line, head}
+use Rattle.comtrade_read.specs.Inner.HeadValues.{frequency_line, nrates_line, kind_line, timemult_line, next_rate}
 use Rattle.comtrade_read.specs.Reads.{ReadsHead}
 use Rattle.comtrade_read.proofs.WrittenFields.{whole_written, natural_written, small_written, count_written, scale_written, free_scale_written, side_written, free_bit_written, kind_written, revision_written}
 use Rattle.comtrade_read.proofs.WrittenLines.{written_joined}
@@ -58,13 +57,13 @@ analog_written n c lt t =
     let b = and_parts (shape.in_bounds c.min) (shape.in_bounds c.max) t.bounds in
     rw (
       whole_written n lt,
-      scale_written c.a t.scale.a,
-      free_scale_written c.b t.scale.b,
-      free_scale_written c.skew t.scale.skew,
+      scale_written c.a t.scale.0,
+      free_scale_written c.b t.scale.1.0,
+      free_scale_written c.skew t.scale.1.1.0,
       small_taken c.min b.0,
       small_taken c.max b.1,
-      free_scale_written c.primary t.scale.primary,
-      free_scale_written c.secondary t.scale.secondary,
+      free_scale_written c.primary t.scale.1.1.1.0,
+      free_scale_written c.secondary t.scale.1.1.1.1.0,
       side_written c.side,
       eqb-same n,
     ) refl
@@ -82,19 +81,15 @@ unfolding instant_fields instant_line
 instant_said t i = rw (date_written (day_number t) i.dated_day, time_written (time_of_day t) i.small) (ap (λ (x : ℤ). Ok x) (sym i.is))
 
 frequency_written : (d : Number) → IsNumber d → frequency_line (decimal_text d ∷ []) ≡ Ok d
-unfolding frequency_line
 frequency_written d h = rw (free_scale_written d h) refl
 
 nrates_written : (n : ℕ) → n ≤ 999 → nrates_line (decimal n ∷ []) ≡ Ok n
-unfolding nrates_line
 nrates_written n le = rw (natural_written 999 n le (omega arith)) refl
 
 kind_said : (k : Kind) → kind_line (kind_text k ∷ []) ≡ Ok k
-unfolding kind_line
 kind_said k = rw (kind_written k) refl
 
 timemult_written : (d : Number) → IsNumber d → timemult_line (decimal_text d ∷ []) ≡ Ok d
-unfolding timemult_line
 timemult_written d h = rw (scale_written d h) refl
 
 -- ---- lines of one kind

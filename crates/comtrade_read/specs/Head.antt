@@ -1,7 +1,6 @@
 -- The kinds of line of a configuration file (C37.111-1999, clause 5), and where they stand.
 use Rattle.std.specs.Prelude.{ℕ, ◌+◌, ◌-◌, max, Bool, false, ◌&&◌, ◌==◌, nat_lt, nat_le, if◌then◌else◌, List, [], length, slice_get, Option, Some, None, option_map, unwrap_or, Result, Ok, Err, ℤ, pos, negsuc, codes}
 use Rattle.std.specs.Str.{str_eq_ignore_ascii_case}
-use Rattle.dfr_channels.specs.Spelling.{Number}
 use Rattle.dfr_channels.specs.Lines.{field}
 use Rattle.dfr_channels.specs.Fields.{free_scale}
 use Rattle.dfr_channels.specs.LineFields.{many, need, analog_from, status_from}
@@ -15,8 +14,6 @@ use Rattle.comtrade_read.specs.declared.fault.ReadFault.TheVariants as faults
 use Rattle.comtrade_read.specs.Line.{Fault, number, one, follow, next, each, end}
 use Rattle.comtrade_read.specs.Fields.{whole, natural, small, ten_digits, scale, count}
 use Rattle.comtrade_read.specs.Instant.{date, time, instant_at}
-
--- ---- what a line of each kind says, or its first fault
 
 -- the whole number n stands there
 abbrev pub is_number : ℕ → Option ℤ → Bool
@@ -53,12 +50,6 @@ status_line n fs = many 5 faults.Fields fs (
     need (whole (field fs 0)) (number 1) (λ found. follow (status_from 1 number fs) (λ channel.
     if is_number n (Some found) then Ok channel else Err faults.Counts)))
 
-unfoldable pub frequency_line : List (List ℕ) → Result Number Fault
-frequency_line fs = one free_scale (number 1) fs
-
-unfoldable pub nrates_line : List (List ℕ) → Result ℕ Fault
-nrates_line fs = one (natural 999) (number 1) fs
-
 -- the last sample of the last rate, or 0 where there is no rate
 abbrev pub last_sample : List Rate → ℕ
 last_sample rates = unwrap_or (option_map (λ r. r.endsamp) (slice_get rates (length rates - 1))) 0
@@ -80,32 +71,14 @@ instant_line fs = many 2 faults.Fields fs (
 unfoldable pub kind : List ℕ → Option Kind
 kind f = if str_eq_ignore_ascii_case f (codes "ASCII") then Some Ascii else if str_eq_ignore_ascii_case f (codes "BINARY") then Some Binary else None
 
-unfoldable pub kind_line : List (List ℕ) → Result Kind Fault
-kind_line fs = one kind (λ line. faults.Kind) fs
-
-unfoldable pub timemult_line : List (List ℕ) → Result Number Fault
-timemult_line fs = one scale (number 1) fs
-
--- ---- the lines in their order
-
 -- what the lines of a configuration file say, or their first fault; where there is no rate there is one rate line
 unfoldable pub head : List (List (List ℕ)) → Result HeadParts ReadFault
 head ls =
     next names_line (λ names. next counts_line (λ counts.
     each (λ before. analog_line (length before + 1)) counts.0 [] (λ analog.
     each (λ before. status_line (length before + 1)) counts.1 [] (λ status.
-    next frequency_line (λ line_freq. next nrates_line (λ nrates.
+    next (one free_scale (number 1)) (λ line_freq. next (one (natural 999) (number 1)) (λ nrates.
     each (λ before. rate_line (last_sample before)) (max 1 nrates) [] (λ rates.
-    next instant_line (λ first. next instant_line (λ trigger. next kind_line (λ kind. next timemult_line (λ timemult. end (record {
-      station = names.0;
-      device = names.1;
-      analog = analog;
-      status = status;
-      line_freq = line_freq;
-      nrates = nrates;
-      rates = rates;
-      first = first;
-      trigger = trigger;
-      kind = kind;
-      timemult = timemult;
-    })))))))))))) 1 ls
+    next instant_line (λ first. next instant_line (λ trigger.
+    next (one kind (λ line. faults.Kind)) (λ kind. next (one scale (number 1)) (λ timemult.
+    end (record { station = names.0; device = names.1; analog = analog; status = status; line_freq = line_freq; nrates = nrates; rates = rates; first = first; trigger = trigger; kind = kind; timemult = timemult })))))))))))) 1 ls

@@ -5,8 +5,6 @@ use Rattle.dfr_channels.specs.LineFields.{many, need}
 use Rattle.comtrade_read.specs.declared.fault.ReadFault.{ReadFault}
 use Rattle.comtrade_read.specs.declared.fault.ReadFault.TheVariants as faults
 
--- ---- the fields of a line
-
 -- the fault of a line, by the line's number
 abbrev pub Fault : Type 0
 Fault = ℕ → ReadFault
@@ -28,8 +26,6 @@ follow (Err e) more = Err e
 -- a line of one field
 abbrev pub one : {A : Type 0} → (List ℕ → Option A) → Fault → List (List ℕ) → Result A Fault
 one read fault fs = many 1 faults.Fields fs (need (read (field fs 0)) fault (λ x. Ok x))
-
--- ---- lines, each by its fields
 
 -- what the lines from the line of this number on say
 abbrev pub Lines : Type 0 → Type 0

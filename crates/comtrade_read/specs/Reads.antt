@@ -69,8 +69,6 @@ pub record Reads (cfg dat : List ℕ) (f : FileParts) : Type 0 where
   pub head : ReadsHead cfg f.head
   pub rows : ReadsRows f.head dat f.rows
 
--- ---- the first fault
-
 abbrev pub FaultyHead : List ℕ → ReadFault → Type 0
 FaultyHead cfg e = head (map fields (lines cfg)) ≡ Err e
 
