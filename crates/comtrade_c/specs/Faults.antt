@@ -6,8 +6,7 @@ use Rattle.comtrade_write.specs.Parts.{HeadParts}
 use Rattle.comtrade_read.specs.declared.fault.ReadFault.{ReadFault}
 use Rattle.comtrade_read.specs.declared.fault.ReadFault.TheVariants as reading
 use Rattle.comtrade_read.specs.declared.pair.Part.{Part}
-use Rattle.comtrade_read.specs.Pair.{FaultyPair, FaultyHead, IsNoFile, IsNoHead}
-use Rattle.comtrade_read.specs.Reads.{ReadsHead}
+use Rattle.comtrade_read.specs.Reads.{FaultyPair, FaultyHead, IsNoFile, IsNoHead, ReadsHead}
 use Rattle.comtrade_c.specs.declared.answer.Fault.{Fault}
 
 abbrev pub at : ℕ → ℕ → ℕ → Fault

@@ -2,7 +2,7 @@
 
 ghost use Rattle.std.specs.Prelude.{◌≡◌, IfOk, true, false};
 ghost use Rattle.comtrade_pairs.specs.Verdicts.{IsFile};
-ghost use Rattle.comtrade_read.specs.Pair.{IsNoFile};
+ghost use Rattle.comtrade_read.specs.Reads.{IsNoFile};
 
 use crate::describe::put_cfg_fault;
 use crate::describe_data::put_dat_fault;

@@ -3,8 +3,7 @@ use Rattle.std.specs.Prelude.{ℕ, List}
 use Rattle.comtrade_write.specs.Parts.{FileParts}
 use Rattle.comtrade_read.specs.declared.fault.ReadFault.{ReadFault}
 use Rattle.comtrade_read.specs.declared.pair.Part.{Part}
-use Rattle.comtrade_read.specs.Pair.{FaultyPair, IsNoFile}
-use Rattle.comtrade_read.specs.Reads.{Reads}
+use Rattle.comtrade_read.specs.Reads.{Reads, FaultyPair, IsNoFile}
 
 -- the pair reads to a file
 abbrev pub IsFile : List ℕ → List ℕ → Type 0

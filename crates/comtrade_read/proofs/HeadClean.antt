@@ -54,16 +54,16 @@ analog_clean n c lt t =
             (
               clean_plain 1 32 c.unit t.unit,
               (
-                decimal_clean c.a t.scale.a,
+                decimal_clean c.a t.scale.0,
                 (
-                  decimal_clean c.b t.scale.b,
+                  decimal_clean c.b t.scale.1.0,
                   (
-                    decimal_clean c.skew t.scale.skew,
+                    decimal_clean c.skew t.scale.1.1.0,
                     (
                       small_clean c.min b.0,
                       (
                         small_clean c.max b.1,
-                        (decimal_clean c.primary t.scale.primary, (decimal_clean c.secondary t.scale.secondary, (clean_printed (side_text c.side) (printed_side c.side), tt))),
+                        (decimal_clean c.primary t.scale.1.1.1.0, (decimal_clean c.secondary t.scale.1.1.1.1.0, (clean_printed (side_text c.side) (printed_side c.side), tt))),
                       ),
                     ),
                   ),

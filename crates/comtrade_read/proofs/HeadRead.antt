@@ -1,5 +1,5 @@
 -- The lines of a head by their places, as the reader takes them, say what they say one after the other.
-use Rattle.std.proofs.Common.{◌≡◌, ℕ, zero, suc, ◌+◌, ◌<◌, max, Bool, true, false, cond, ltb, List, [], ◌∷◌, ◌++◌, length, map, drop, Some, None, refl, sym, ◌∙◌, arith, inl, inr, ◌-◌, length-append}
+use Rattle.std.proofs.Common.{◌≡◌, ℕ, zero, suc, ◌+◌, ◌<◌, max, Bool, true, false, cond, ltb, List, [], ◌∷◌, ◌++◌, length, map, drop, get_or, Some, None, refl, sym, ◌∙◌, arith, inl, inr, ◌-◌, length-append}
 use Rattle.std.specs.Prelude.{◌≢◌, Result, Ok, Err, IfOk, IfErr, slice_get}
 use Rattle.std.proofs.lemmas.List.{length-map, drop_more, drop_all}
 use Rattle.std.proofs.lemmas.Bool.{ltb-true, ltb-false, cases_lt}
@@ -7,16 +7,21 @@ use Rattle.dfr_channels.specs.Spelling.{Number}
 use Rattle.dfr_channels.specs.Lines.{lines, fields, line_fields}
 use Rattle.dfr_channels.specs.Parts.{AnalogParts, StatusParts}
 use Rattle.comtrade_write.specs.declared.file.Rate.{Rate}
-use Rattle.comtrade_write.specs.Parts.{HeadParts}
+use Rattle.comtrade_write.specs.Parts.{HeadParts, RowParts}
 use Rattle.comtrade_read.specs.declared.fault.ReadFault.{ReadFault}
 use Rattle.comtrade_read.specs.declared.fault.ReadFault.TheVariants as faults
-use Rattle.comtrade_read.specs.Data.{last_sample}
+use Rattle.comtrade_read.specs.Head.{last_sample, names_line, counts_line, instant_line, head}
+use Rattle.comtrade_read.specs.Inner.HeadValues.{frequency_line, nrates_line, kind_line, timemult_line, next_analog, next_status, next_rate, next_row, EndParts, TailParts, line_at, lines_at, unless_fault, ends_at, tail_at, head_at}
 use Rattle.comtrade_read.specs.Line.{Fault, Lines, told, follow, next, each, end}
-use Rattle.comtrade_read.specs.Head.{names_line, counts_line, frequency_line, nrates_line, instant_line, kind_line, timemult_line, next_analog, next_status, next_rate, head}
+use Rattle.comtrade_read.specs.Ascii.{rows}
 use Rattle.comtrade_read.specs.Inner.LineFaults.{Is, extra_fault}
-use Rattle.comtrade_read.specs.Inner.HeadValues.{EndParts, TailParts, line_at, lines_at, unless_fault, ends_at, tail_at, head_at}
-use Rattle.comtrade_read.proofs.Places.{line_is}
 use Rattle.comtrade_read.proofs.Stages.{made, after_timemult, after_kind, after_trigger, after_first, after_rates, after_nrates, after_frequency, after_status, after_analog, after_counts, after_names}
+
+line_is : (ls : List (List ℕ)) (n : ℕ) → n < length ls → get_or (map fields ls) n [] ≡ line_fields ls n
+unfolding line_fields
+line_is [] n lt = absurd (omega arith)
+line_is (l ∷ ls) zero lt = refl
+line_is (l ∷ ls) (suc n) lt = line_is ls n (omega arith)
 
 -- the lines from place n on
 abbrev from : List (List ℕ) → ℕ → List (List (List ℕ))
@@ -80,6 +85,15 @@ ended x ls n y g h = with_test (ltb n (length ls)) refl
     with_test : (b : Bool) → ltb n (length ls) ≡ b → end x (n + 1) (from ls n) ≡ follow (unless_fault (cond b (Some (faults.Extra (n + 1))) None) y) g
     with_test true t = rw (drop_line ls n (ltb-true _ _ t)) refl
     with_test false t = rw (drop_all n (map fields ls) (omega (arith, length-map ls fields, ltb-false n (length ls) t))) (sym h)
+
+-- ---- rows of ASCII data
+
+pub rows_are : (k m n : ℕ) (ls : List (List ℕ)) → rows k m n (map fields ls) ≡ follow (lines_at (next_row k m) ls 0 n) (λ xs. unless_fault (extra_fault ls n) xs)
+unfolding rows
+rows_are k m n ls =
+    let f : List RowParts → Result (List RowParts) ReadFault = λ xs. unless_fault (extra_fault ls n) xs in
+    let z : 0 + n ≡ n = omega arith in
+    steps (next_row k m) end ls 0 n f (λ xs. Ok xs) (λ xs. rw z (ended xs ls n xs (λ xs. Ok xs) refl)) ∙ follow_ok (follow (lines_at (next_row k m) ls 0 n) f)
 
 -- ---- the parts of a head
 

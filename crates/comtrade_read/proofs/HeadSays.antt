@@ -3,37 +3,42 @@ use Rattle.std.proofs.Common.{◌≡◌, ℕ, zero, suc, ◌+◌, ◌<◌, ◌�
 use Rattle.std.specs.Prelude.{◌≢◌, ◌&&◌, Result, Ok, Err, ℤ, pos, negsuc}
 use Rattle.std.specs.List.{AllByRecursion}
 use Rattle.std.proofs.lemmas.Bool.{and_parts, eqb-true, leb-true}
-use Rattle.dfr_channels.specs.Spelling.{whole_number, Number}
+use Rattle.dfr_channels.specs.Spelling.{whole_number, decimal_number, Number}
 use Rattle.dfr_channels.specs.Lines.{field}
 use Rattle.dfr_channels.specs.Fields.{up_to, free_scale, side, free_bit}
+use Rattle.dfr_channels.specs.LineFields.{many, need, analog_from, status_from}
 use Rattle.dfr_channels.specs.Parts.{AnalogParts, StatusParts}
 use Rattle.comtrade_write.specs.declared.file.Kind.{Kind}
 use Rattle.comtrade_write.specs.declared.file.Rate.{Rate}
 use Rattle.comtrade_write.specs.Parts.{HeadParts}
 use Rattle.comtrade_read.specs.declared.fault.ReadFault.TheVariants as faults
-use Rattle.comtrade_read.specs.Fields.{whole, natural, small, scale, count}
+use Rattle.comtrade_read.specs.Fields.{whole, natural, small, ten_digits, scale, count}
 use Rattle.comtrade_read.specs.Instant.{date, time}
-use Rattle.comtrade_read.specs.Line.{Fault, number, Lines, many, need, told, follow, next, each, end}
-use Rattle.comtrade_read.specs.Data.{last_sample}
-use Rattle.comtrade_read.specs.Head.{kind, is_number, revision, names_line, counts_line, analog_line, status_line, frequency_line, nrates_line, rate_line, instant_line, kind_line, timemult_line, next_analog, next_status, next_rate, head}
+use Rattle.comtrade_read.specs.Line.{Fault, number, Lines, told, follow, next, each, end}
+use Rattle.comtrade_read.specs.Head.{last_sample, kind, is_number, revision, names_line, counts_line, analog_line, status_line, rate_line, instant_line, head}
+use Rattle.comtrade_read.specs.Inner.HeadValues.{frequency_line, nrates_line, kind_line, timemult_line, next_analog, next_status, next_rate}
 use Rattle.comtrade_read.proofs.LineEnds.{EndsPlain, EndsFull}
 use Rattle.comtrade_read.proofs.Stages.{made, after_timemult, after_kind, after_trigger, after_first, after_rates, after_nrates, after_frequency, after_status, after_analog, after_counts, after_names}
 use Rattle.comtrade_read.proofs.NoReturn.{ends_plain, no_return, whole_plain, natural_plain, free_bit_plain, scale_plain, free_scale_plain, side_plain, count_plain, time_plain, kind_plain}
 
 -- ---- fields
 
-many_said : {A : Type 0} (n : ℕ) (fs : List (List ℕ)) (r : Result A Fault) (x : A) → many n fs r ≡ Ok x → (length fs ≡ n) × (r ≡ Ok x)
+pub many_said : {A : Type 0} (n : ℕ) (fs : List (List ℕ)) (r : Result A Fault) (x : A) → many n faults.Fields fs r ≡ Ok x → (length fs ≡ n) × (r ≡ Ok x)
 many_said n fs r x e = with_test (eqb (length fs) n) refl e
   where
     with_test : (b : Bool) → eqb (length fs) n ≡ b → cond b r (Err faults.Fields) ≡ Ok x → (length fs ≡ n) × (r ≡ Ok x)
     with_test true t h = (eqb-true _ _ t, h)
     with_test false t h = absurd cc
 
-need_said : {A B : Type 0} (o : Option A) (fault : Fault) (more : A → Result B Fault) (y : B) → need o fault more ≡ Ok y → (x : A) × (o ≡ Some x) × (more x ≡ Ok y)
+pub need_said : {A B : Type 0} (o : Option A) (fault : Fault) (more : A → Result B Fault) (y : B) → need o fault more ≡ Ok y → (x : A) × (o ≡ Some x) × (more x ≡ Ok y)
 need_said None fault more y e = absurd cc
 need_said (Some x) fault more y e = (x, refl, e)
 
-test_said : {A : Type 0} (b : Bool) (x : A) (fault : Fault) (y : A) → cond b (Ok x) (Err fault) ≡ Ok y → (b ≡ true) × (x ≡ y)
+follow_said : {A B : Type 0} (r : Result A Fault) (more : A → Result B Fault) (y : B) → follow r more ≡ Ok y → (x : A) × (r ≡ Ok x) × (more x ≡ Ok y)
+follow_said (Ok x) more y e = (x, refl, e)
+follow_said (Err f) more y e = absurd cc
+
+pub test_said : {A F : Type 0} (b : Bool) (x : A) (fault : F) (y : A) → cond b (Ok x) (Err fault) ≡ Ok y → (b ≡ true) × (x ≡ y)
 test_said true x fault y e = (refl, cc)
 test_said false x fault y e = absurd cc
 
@@ -46,7 +51,7 @@ number_is n None e = absurd cc
 number_is n (Some (pos m)) e = ap (λ (x : ℕ). Some (pos x)) (eqb-true m n e)
 number_is n (Some (negsuc m)) e = absurd cc
 
-one_said : {A : Type 0} (o : Option A) (fault : Fault) (fs : List (List ℕ)) (x : A) → many 1 fs (need o fault (λ y. Ok y)) ≡ Ok x → (length fs ≡ 1) × (y : A) × (o ≡ Some y)
+one_said : {A : Type 0} (o : Option A) (fault : Fault) (fs : List (List ℕ)) (x : A) → many 1 faults.Fields fs (need o fault (λ y. Ok y)) ≡ Ok x → (length fs ≡ 1) × (y : A) × (o ≡ Some y)
 one_said o fault fs x e =
     let a = many_said 1 fs (need o fault (λ y. Ok y)) x e in
     let b = need_said o fault (λ y. Ok y) x a.1 in
@@ -77,34 +82,34 @@ counts_plain : (fs : List (List ℕ)) (x : ℕ × ℕ) → counts_line fs ≡ Ok
 counts_plain fs x e = let c = counts_said fs x e in ends_plain fs 2 c.0 (count_plain 68 (field fs 2) c.2 refl c.4)
 
 analog_plain : (n : ℕ) (fs : List (List ℕ)) (x : AnalogParts) → analog_line n fs ≡ Ok x → EndsPlain fs
-unfolding analog_line
+unfolding analog_line analog_from
 analog_plain n fs x e =
     let a = many_said 13 fs _ x e in
     let b = need_said (whole (field fs 0)) (number 1) _ x a.1 in
-    let c = need_said (scale (field fs 5)) (number 6) _ x b.2 in
-    let d = need_said (free_scale (field fs 6)) (number 7) _ x c.2 in
-    let f = need_said (free_scale (field fs 7)) (number 8) _ x d.2 in
-    let g = need_said (small (field fs 8)) (number 9) _ x f.2 in
-    let h = need_said (small (field fs 9)) (number 10) _ x g.2 in
-    let i = need_said (free_scale (field fs 10)) (number 11) _ x h.2 in
-    let j = need_said (free_scale (field fs 11)) (number 12) _ x i.2 in
-    let k = need_said (side (field fs 12)) (number 13) _ x j.2 in
-    no_return fs 12 a.0 (side_plain (field fs 12) k.0 k.1)
+    let f = follow_said (analog_from 1 number small fs) _ x b.2 in
+    let c = need_said (decimal_number (field fs 5)) (number 6) _ f.0 f.1 in
+    let d = need_said (free_scale (field fs 6)) (number 7) _ f.0 c.2 in
+    let g = need_said (free_scale (field fs 7)) (number 8) _ f.0 d.2 in
+    let h = need_said (small (field fs 8)) (number 9) _ f.0 g.2 in
+    let i = need_said (small (field fs 9)) (number 10) _ f.0 h.2 in
+    let j = need_said (free_scale (field fs 10)) (number 11) _ f.0 i.2 in
+    let k = need_said (free_scale (field fs 11)) (number 12) _ f.0 j.2 in
+    let l = need_said (side (field fs 12)) (number 13) _ f.0 k.2 in
+    no_return fs 12 a.0 (side_plain (field fs 12) l.0 l.1)
 
 status_plain : (n : ℕ) (fs : List (List ℕ)) (x : StatusParts) → status_line n fs ≡ Ok x → EndsPlain fs
-unfolding status_line
+unfolding status_line status_from
 status_plain n fs x e =
     let a = many_said 5 fs _ x e in
     let b = need_said (whole (field fs 0)) (number 1) _ x a.1 in
-    let c = need_said (free_bit (field fs 4)) (number 5) _ x b.2 in
+    let f = follow_said (status_from 1 number fs) _ x b.2 in
+    let c = need_said (free_bit (field fs 4)) (number 5) _ f.0 f.1 in
     no_return fs 4 a.0 (free_bit_plain (field fs 4) c.0 c.1)
 
 frequency_plain : (fs : List (List ℕ)) (x : Number) → frequency_line fs ≡ Ok x → EndsPlain fs
-unfolding frequency_line
 frequency_plain fs x e = let a = one_said (free_scale (field fs 0)) (number 1) fs x e in no_return fs 0 a.0 (free_scale_plain (field fs 0) a.1 a.2)
 
 nrates_plain : (fs : List (List ℕ)) (x : ℕ) → nrates_line fs ≡ Ok x → EndsPlain fs
-unfolding nrates_line
 nrates_plain fs x e = let a = one_said (natural 999 (field fs 0)) (number 1) fs x e in no_return fs 0 a.0 (natural_plain 999 (field fs 0) a.1 a.2)
 
 rate_plain : (before : ℕ) (fs : List (List ℕ)) (x : Rate) → rate_line before fs ≡ Ok x → EndsPlain fs
@@ -112,8 +117,8 @@ unfolding rate_line
 rate_plain before fs x e =
     let a = many_said 2 fs _ x e in
     let b = need_said (scale (field fs 0)) (number 1) _ x a.1 in
-    let c = need_said (natural 9999999999 (field fs 1)) (number 2) _ x b.2 in
-    no_return fs 1 a.0 (natural_plain 9999999999 (field fs 1) c.0 c.1)
+    let c = need_said (natural ten_digits (field fs 1)) (number 2) _ x b.2 in
+    no_return fs 1 a.0 (natural_plain ten_digits (field fs 1) c.0 c.1)
 
 instant_plain : (fs : List (List ℕ)) (x : ℤ) → instant_line fs ≡ Ok x → EndsPlain fs
 unfolding instant_line
@@ -124,7 +129,6 @@ instant_plain fs x e =
     no_return fs 1 a.0 (time_plain (field fs 1) c.0 c.1)
 
 kind_ends : (fs : List (List ℕ)) (x : Kind) → kind_line fs ≡ Ok x → EndsPlain fs
-unfolding kind_line
 kind_ends fs x e = let a = one_said (kind (field fs 0)) (λ line. faults.Kind) fs x e in no_return fs 0 a.0 (kind_plain (field fs 0) a.1 a.2)
 
 no_scale : (fs : List (List ℕ)) (x : Number) → scale (field fs 0) ≡ Some x → fs ≢ [] ∷ []
@@ -132,7 +136,6 @@ unfolding scale
 no_scale fs x h e = let g : scale [] ≡ Some x = rw e at h in absurd cc
 
 timemult_plain : (fs : List (List ℕ)) (x : Number) → timemult_line fs ≡ Ok x → EndsPlain fs × (fs ≢ [] ∷ [])
-unfolding timemult_line
 timemult_plain fs x e =
     let a = one_said (scale (field fs 0)) (number 1) fs x e in
     (no_return fs 0 a.0 (scale_plain (field fs 0) a.1 a.2), no_scale fs a.1 a.2)
@@ -162,7 +165,7 @@ natural_high : (high : ℕ) (f : List ℕ) (n : ℕ) → natural high f ≡ Some
 unfolding natural
 natural_high high f n e = up_high high n (whole_number f) e
 
-end_said : {A : Type 0} (x : A) (line : ℕ) (ls : List (List (List ℕ))) (y : A) → end x line ls ≡ Ok y → (ls ≡ []) × (x ≡ y)
+pub end_said : {A : Type 0} (x : A) (line : ℕ) (ls : List (List (List ℕ))) (y : A) → end x line ls ≡ Ok y → (ls ≡ []) × (x ≡ y)
 end_said x line [] y e = (refl, cc)
 end_said x line (fs ∷ ls) y e = absurd cc
 
@@ -171,7 +174,7 @@ next_to : {A B : Type 0} (says : List (List ℕ) → Result A Fault) (more : A �
     → ((fs : List (List ℕ)) (rest : List (List (List ℕ))) (x : A) → says fs ≡ Ok x → G rest → G (fs ∷ rest)) → ((x : A) (at : ℕ) (rest : List (List (List ℕ))) → more x at rest ≡ Ok y → G rest) → next says more line ls ≡ Ok y → G ls
 next_to says more line ls y G w h e = let a = next_said says more line ls y e in rw a.3 (w a.0 a.1 a.2 a.4 (h a.2 (line + 1) a.1 a.5))
 
-each_to : {A B : Type 0} (says : List A → List (List ℕ) → Result A Fault) (more : List A → Lines B) (n : ℕ) (before : List A) (line : ℕ) (ls : List (List (List ℕ))) (y : B) (G : List (List (List ℕ)) → Type 0)
+pub each_to : {A B : Type 0} (says : List A → List (List ℕ) → Result A Fault) (more : List A → Lines B) (n : ℕ) (before : List A) (line : ℕ) (ls : List (List (List ℕ))) (y : B) (G : List (List (List ℕ)) → Type 0)
     → ((xs : List A) (fs : List (List ℕ)) (rest : List (List (List ℕ))) (x : A) → says xs fs ≡ Ok x → G rest → G (fs ∷ rest))
     → ((xs : List A) (at : ℕ) (rest : List (List (List ℕ))) → length xs ≡ length before + n → more xs at rest ≡ Ok y → G rest) → each says n before more line ls ≡ Ok y → G ls
 each_to says more zero before line ls y G w h e = h before line ls (omega arith) e

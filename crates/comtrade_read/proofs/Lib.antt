@@ -1,7 +1,5 @@
 pub mod Signed
 pub mod Digits
-pub mod FirstFault
-pub mod Chain
 pub mod RowLine
 pub mod OneByOne
 pub mod Outcomes
@@ -11,11 +9,8 @@ pub mod Blanks
 pub mod LineEnds
 pub mod Joining
 pub mod Cutting
-pub mod Each
-pub mod Places
 pub mod Stages
 pub mod HeadRead
-pub mod Spelled
 pub mod NoReturn
 pub mod HeadSays
 pub mod TextSpelled

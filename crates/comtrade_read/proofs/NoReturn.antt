@@ -1,5 +1,5 @@
 -- What spells a number, a side, a bit, a kind or a time has no carriage return at its end.
-use Rattle.std.proofs.Common.{◌≡◌, ℕ, zero, suc, ◌-◌, ◌^◌, Bool, true, false, cond, ltb, leb, eqb, get_or, take, List, [], ◌∷◌, ◌++◌, length, Option, Some, None, refl, inl, inr, arith}
+use Rattle.std.proofs.Common.{◌≡◌, ℕ, zero, suc, ◌-◌, ◌*◌, ◌^◌, Bool, true, false, cond, ltb, leb, eqb, get_or, take, List, [], ◌∷◌, ◌++◌, length, Option, Some, None, refl, inl, inr, arith}
 use Rattle.std.specs.Prelude.{◌&&◌, ℤ, pos, negsuc, is_some, position, codes, option_map, option_and_then}
 use Rattle.std.specs.List.{position_or_len, before_first, after_first}
 use Rattle.std.specs.Str.{all_ascii_digits, str_eq_ignore_ascii_case, str_to_ascii_lowercase}
@@ -20,7 +20,7 @@ use Rattle.comtrade_write.specs.declared.file.Kind.{Kind}
 use Rattle.comtrade_write.specs.declared.file.Kind.TheVariants.{Ascii, Binary}
 use Rattle.dfr_channels.specs.Fields.{zero_number, up_to, within, free_scale, side, is_letter, as_bit, bit, free_bit}
 use Rattle.comtrade_read.specs.Fields.{whole, natural, small, scale, count, before_letter}
-use Rattle.comtrade_read.specs.Instant.{digits, is_colon, is_dot, micros, scaled, both, seconds, time_of, time}
+use Rattle.comtrade_read.specs.Instant.{digits, is_colon, is_dot, given, micros, seconds, time_at, time}
 use Rattle.comtrade_read.specs.Head.{kind}
 use Rattle.comtrade_read.specs.Ascii.{stamp, value, reading}
 use Rattle.comtrade_read.specs.Joined.{HasNone}
@@ -182,26 +182,21 @@ digits_plain low high f =
     let long = leb low (length f) && leb (length f) high in
     tested (HasNone 13 f) (long && all_ascii_digits f) (Some (digits_value 10 f)) None (λ t. digits_none f (and_parts long (all_ascii_digits f) t).1) (nothing _)
 
-both_tell : (C D : Type 0) (x y : Option ℕ) → Tells C x → Tells D y → Tells (C × D) (both x y)
-both_tell C D None y h k p e = absurd cc
-both_tell C D (Some a) None h k p e = absurd cc
-both_tell C D (Some a) (Some b) h k p e = (h a refl, k b refl)
+given_tells : {A B : Type 0} (C D : Type 0) (o : Option A) (more : A → Option B) → Tells C o → ((x : A) → Tells D (more x)) → Tells (C × D) (given o more)
+given_tells C D None more h k y e = absurd cc
+given_tells C D (Some x) more h k y e = (h x refl, k x y e)
 
 seconds_plain : (f : List ℕ) → Tells (HasNone 13 f) (seconds f)
 unfolding seconds micros
 seconds_plain f =
     let s = before_first is_dot f in
     let u = after_first is_dot f in
-    let fraction : Tells (HasNone 13 u) (micros u) = made_of (HasNone 13 u) (scaled (length u)) (digits 1 6 u) refl (digits_plain 1 6 u) in
-    cond_both (is_some (position is_dot f)) (both (digits 1 2 s) (micros u)) (both (digits 1 2 f) (Some 0)) (Tells (HasNone 13 f))
-    (λ t p e. let q = both_tell _ _ (digits 1 2 s) (micros u) (digits_plain 1 2 s) fraction p e in parts_none is_dot f refl q.0 q.1)
-    (λ t. made_of (HasNone 13 f) (λ o. both o (Some 0)) (digits 1 2 f) refl (digits_plain 1 2 f))
-
-times_tell : (C D E : Type 0) (h m : Option ℕ) (s : Option (ℕ × ℕ)) → Tells C h → Tells D m → Tells E s → Tells (C × D × E) (time_of h m s)
-times_tell C D E None m s p q r n e = absurd cc
-times_tell C D E (Some a) None s p q r n e = absurd cc
-times_tell C D E (Some a) (Some b) None p q r n e = absurd cc
-times_tell C D E (Some a) (Some b) (Some c) p q r n e = (p a refl, q b refl, r c refl)
+    let fraction : Tells (HasNone 13 u) (micros u) = made_of (HasNone 13 u) (option_map (λ n. n * 10 ^ (6 - length u))) (digits 1 6 u) refl (digits_plain 1 6 u) in
+    let more = λ (n : ℕ). option_map (λ us. (n, us)) (micros u) in
+    let parts = given_tells (HasNone 13 s) (HasNone 13 u) (digits 1 2 s) more (digits_plain 1 2 s) (λ n. made_of (HasNone 13 u) (option_map (λ us. (n, us))) (micros u) refl fraction) in
+    cond_both (is_some (position is_dot f)) (given (digits 1 2 s) more) (option_map (λ n. (n, 0)) (digits 1 2 f)) (Tells (HasNone 13 f))
+    (λ t p e. let q = parts p e in parts_none is_dot f refl q.0 q.1)
+    (λ t. made_of (HasNone 13 f) (option_map (λ n. (n, 0))) (digits 1 2 f) refl (digits_plain 1 2 f))
 
 pub time_plain : (f : List ℕ) (n : ℕ) → time f ≡ Some n → HasNone 13 f
 unfolding time
@@ -210,9 +205,11 @@ time_plain f =
     let h = before_first is_colon f in
     let m = before_first is_colon rest in
     let s = after_first is_colon rest in
-    let parts = times_tell _ _ _ (digits 1 2 h) (digits 1 2 m) (seconds s) (digits_plain 1 2 h) (digits_plain 1 2 m) (seconds_plain s) in
-    cond_both (is_some (position is_colon f) && is_some (position is_colon rest)) (time_of (digits 1 2 h) (digits 1 2 m) (seconds s)) None (Tells (HasNone 13 f))
-    (λ t n e. let p = parts n e in parts_none is_colon f refl p.0 (parts_none is_colon rest refl p.1 p.2)) (λ t. nothing _)
+    let at = λ (a b : ℕ) (o : Option (ℕ × ℕ)). given o (λ c. time_at a b c.0 c.1) in
+    let behind = λ (a : ℕ). given_tells (HasNone 13 m) (HasNone 13 s) (digits 1 2 m) (λ b. at a b (seconds s)) (digits_plain 1 2 m) (λ b. made_of (HasNone 13 s) (at a b) (seconds s) refl (seconds_plain s)) in
+    let parts = given_tells (HasNone 13 h) (HasNone 13 m × HasNone 13 s) (digits 1 2 h) (λ a. given (digits 1 2 m) (λ b. at a b (seconds s))) (digits_plain 1 2 h) behind in
+    cond_both (is_some (position is_colon f) && is_some (position is_colon rest)) (given (digits 1 2 h) (λ a. given (digits 1 2 m) (λ b. at a b (seconds s)))) None (Tells (HasNone 13 f))
+    (λ t n e. let p = parts n e in parts_none is_colon f refl p.0 (parts_none is_colon rest refl p.1.0 p.1.1)) (λ t. nothing _)
 
 -- ---- the end of a line
 

@@ -1,42 +1,30 @@
 -- Rows in the writers' spelling are rows by the full rule.
-use Rattle.std.proofs.Common.{◌≡◌, ℕ, suc, ◌+◌, ◌<◌, List, [], ◌∷◌, ◌++◌, length, get_or, take, drop, Bool, true, false, cond, eqb, ltb, Option, Some, refl, sym, ap, ◌∙◌, arith, length-drop, ◌*◌, ◌⊎◌, ⊎_elim, set, slice_index}
-use Rattle.std.specs.Prelude.{◌==◌, unwrap_or, ℤ, pos, negsuc, option_map}
+use Rattle.std.proofs.Common.{◌≡◌, ℕ, suc, ◌+◌, ◌<◌, List, [], ◌∷◌, ◌++◌, length, take, drop, Bool, true, false, cond, eqb, ltb, Option, Some, refl, sym, ap, ◌∙◌, arith, append_assoc, length-append, ◌*◌, ◌⊎◌, ⊎_elim, set, slice_index}
+use Rattle.std.specs.Prelude.{◌==◌, Ok, ℤ, pos, negsuc, option_map}
 use Rattle.std.proofs.lemmas.Bool.{lt-ltb, ltb-true, ltb-false}
-use Rattle.std.proofs.lemmas.List.{drop-drop, drop_more, drop_all, get_or-drop, take_all, take_more_set}
-use Rattle.std.proofs.lemmas.List.FromFn.{map-range_with_len_more}
+use Rattle.std.proofs.lemmas.List.{append-nil, map-append, drop_more, drop_all, take_all, take_more_set}
 use Rattle.std.proofs.lemmas.Bool.Decides.{nat_tests}
 use Rattle.dfr_channels.specs.Spelling.{whole_number}
-use Rattle.dfr_channels.specs.Lines.{field, fields}
+use Rattle.dfr_channels.specs.Lines.{fields}
 use Rattle.dfr_channels.specs.PlainNumbers.{Begins, fields_behind}
 use Rattle.dfr_channels.specs.declared.scan.Reading.{Reading}
-use Rattle.dfr_channels.specs.declared.scan.Reading.TheVariants.{Missing}
 use Rattle.dfr_channels.specs.Fields.{within, up_to, bit}
 use Rattle.comtrade_read.specs.Fields.{natural, small}
-use Rattle.comtrade_read.specs.Ascii.{stamp, value, reading}
-use Rattle.comtrade_read.specs.Inner.RowValues.{cell_faults}
-use Rattle.comtrade_read.specs.Inner.PlainRows.{IsNext, AreNext, AreBits, IsRow}
-use Rattle.comtrade_read.proofs.FirstFault.{starts, goes_on}
-use Rattle.comtrade_read.proofs.RowLine.{row_is}
-use Rattle.comtrade_read.proofs.OneByOne.{RowCells, row_read, row_made}
+use Rattle.comtrade_read.specs.Ascii.{stamp, value, reading, row_line}
+use Rattle.comtrade_read.specs.Inner.PlainRows.{IsNext, AreNext, AreBits}
+use Rattle.comtrade_read.proofs.RowLine.{row_made}
 
-pub none_yet : {A : Type 0} (read : List ℕ → Option A) (d : A) (fs : List (List ℕ)) → AreNext read d fs 0 [] fs
-none_yet read d fs = record { there = omega arith; sound = λ line at. starts (cell_faults read line at fs); same = refl; rest = refl }
+pub none_yet : {A : Type 0} (read : List ℕ → Option A) (fs : List (List ℕ)) → AreNext read fs 0 [] fs
+none_yet read fs = record { front = []; cut = refl; says = refl; many = refl }
 
-pub one_more : {A : Type 0} (read : List ℕ → Option A) (d : A) (fs : List (List ℕ)) (i : ℕ) (items : List A) (behind : List (List ℕ)) (x : A) (left : List (List ℕ))
-    → AreNext read d fs i items behind → IsNext read behind x left → AreNext read d fs (i + 1) (items ++ x ∷ []) left
-one_more read d fs i items behind x left a n =
-    let is : drop i fs ≡ n.first ∷ left = sym a.rest ∙ n.cut in
-    let many : suc (length left) ≡ length (drop i fs) = ap length (sym is) in
-    let z : i + 0 ≡ i = omega arith in
-    let here : field fs i ≡ n.first = ap (λ (j : ℕ). get_or fs j []) (sym z) ∙ sym (get_or-drop i fs 0 []) ∙ ap (λ (xs : List (List ℕ)). get_or xs 0 []) is in
-    let reads : read (field fs i) ≡ Some x = ap read here ∙ n.says in
-    let more = map-range_with_len_more (λ (j : ℕ). unwrap_or (read (field fs j)) d) 0 i i (omega arith) in
-    record {
-      there = omega (arith, length-drop i fs);
-      sound = λ line at. goes_on (cell_faults read line at fs) i (a.sound line at) (rw reads refl);
-      same = rw (more, reads, a.same) refl;
-      rest = sym (sym (drop-drop 1 i fs) ∙ ap (λ (xs : List (List ℕ)). drop 1 xs) is);
-    }
+pub one_more : {A : Type 0} (read : List ℕ → Option A) (fs : List (List ℕ)) (i : ℕ) (items : List A) (behind : List (List ℕ)) (x : A) (left : List (List ℕ)) → AreNext read fs i items behind → IsNext read behind x left
+    → AreNext read fs (i + 1) (items ++ x ∷ []) left
+one_more read fs i items behind x left a n = record {
+  front = a.front ++ n.first ∷ [];
+  cut = a.cut ∙ ap (λ (l : List (List ℕ)). a.front ++ l) n.cut ∙ sym (append_assoc a.front (n.first ∷ []) left);
+  says = map-append read a.front (n.first ∷ []) ∙ rw (a.says, n.says) (sym (map-append (λ y. Some y) items (x ∷ [])));
+  many = omega (arith, length-append items (x ∷ []), a.many);
+}
 
 some : (n : ℕ) → eqb (suc n) 0 ≡ false
 some n = grind (arith, nat_tests)
@@ -98,40 +86,27 @@ module _ (text : List ℕ) (n : ℕ) (are : AreBits text n) (exact : length text
       with_test true t = rw (lt-ltb i n less, t) (inner i (ltb-true (i + 1) n t))
       with_test false t = let is : i + 1 ≡ n = omega (arith, ltb-false (i + 1) n t) in rw (lt-ltb i n less, t) (final i is)
 
-  pub first_bit : (slot : List Bool) → AreNext bit false (fields text) 0 (take 0 slot) (bits_from text n 0)
-  first_bit slot = rw (lt-ltb 0 n (omega arith)) (none_yet bit false (fields text))
+  pub first_bit : (slot : List Bool) → AreNext bit (fields text) 0 (take 0 slot) (bits_from text n 0)
+  first_bit slot = rw (lt-ltb 0 n (omega arith)) (none_yet bit (fields text))
 
   -- one bit more is written
-  pub written : (slot : List Bool) (i : ℕ) → i < length slot → i < n → AreNext bit false (fields text) i (take i slot) (bits_from text n i)
-      → AreNext bit false (fields text) (i + 1) (take (i + 1) (set slot i (slice_index text (2 * i) == 49))) (bits_from text n (i + 1))
+  pub written : (slot : List Bool) (i : ℕ) → i < length slot → i < n → AreNext bit (fields text) i (take i slot) (bits_from text n i)
+      → AreNext bit (fields text) (i + 1) (take (i + 1) (set slot i (slice_index text (2 * i) == 49))) (bits_from text n (i + 1))
   written slot i room less before =
       let b : Bool = slice_index text (2 * i) == 49 in
       let next : IsNext bit (bits_from text n i) b (bits_from text n (i + 1)) = record { first = slice_index text (2 * i) ∷ []; cut = next_bit i less; says = bit_digit (slice_index text (2 * i)) (are.digits i less) } in
-      rw (take_more_set slot i b room) (one_more bit false (fields text) i (take i slot) (bits_from text n i) b (bits_from text n (i + 1)) before next)
+      rw (take_more_set slot i b room) (one_more bit (fields text) i (take i slot) (bits_from text n i) b (bits_from text n (i + 1)) before next)
 
-  pub last_bit : (slot : List Bool) → length slot ≡ n → AreNext bit false (fields text) n (take n slot) (bits_from text n n) → AreNext bit false (fields text) n slot []
+  pub last_bit : (slot : List Bool) → length slot ≡ n → AreNext bit (fields text) n (take n slot) (bits_from text n n) → AreNext bit (fields text) n slot []
   last_bit slot len read = rw (lt-leb-no n, take_all n slot (omega (arith, len))) at read
     where
       lt-leb-no : (k : ℕ) → ltb k k ≡ false
       lt-leb-no k = grind (arith, nat_tests)
 
-pub row_of_fields : (fs gs hs ks : List (List ℕ)) (k m number stamped : ℕ) (values vs : List Reading) (bits bs : List Bool)
-    → vs ≡ values → bs ≡ bits → IsNext (natural 9999999999) fs number gs → IsNext stamp gs (Some stamped) hs → AreNext value Missing hs k values ks → AreNext bit false ks m bits []
-    → IsRow k m fs (record { number = number; stamp = Some stamped; values = vs; bits = bs })
-row_of_fields fs gs hs ks k m number stamped values vs bits bs p q a b v c =
-    let one : gs ≡ drop 1 fs = rw a.cut refl in
-    let two : hs ≡ drop 1 gs = rw b.cut refl in
-    let end : length (drop m ks) ≡ 0 = ap length (sym c.rest) in
-    let many : length fs ≡ 2 + k + m = omega (arith, ap length a.cut, ap length b.cut, ap length v.rest, end, length-drop k hs, length-drop m ks) in
-    let r : RowCells fs gs hs ks k m number (Some stamped) = record {
-      many = many;
-      one = λ lt. one;
-      two = λ lt. two;
-      three = λ lt. v.rest;
-      number_is = rw a.cut a.says;
-      stamp_is = rw b.cut b.says;
-    } in
-    record {
-      sound = λ line. row_is k m line fs many ∙ row_read fs gs hs ks k m number line (Some stamped) r (v.sound line 2) (c.sound line (2 + k));
-      same = row_made fs gs hs ks k m number (Some stamped) vs bs r (p ∙ v.same) (q ∙ c.same);
-    }
+pub row_of_fields : (fs gs hs ks : List (List ℕ)) (k m number stamped : ℕ) (values : List Reading) (bits : List Bool)
+    → IsNext (natural 9999999999) fs number gs → IsNext stamp gs (Some stamped) hs → AreNext value hs k values ks → AreNext bit ks m bits []
+    → row_line k m fs ≡ Ok (record { number = number; stamp = Some stamped; values = values; bits = bits })
+row_of_fields fs gs hs ks k m number stamped values bits a b v c =
+    let rest : hs ≡ v.front ++ c.front = v.cut ∙ ap (λ (l : List (List ℕ)). v.front ++ l) (c.cut ∙ append-nil c.front) in
+    let is : fs ≡ a.first ∷ b.first ∷ (v.front ++ c.front) = a.cut ∙ ap (λ (l : List (List ℕ)). a.first ∷ l) (b.cut ∙ ap (λ (l : List (List ℕ)). b.first ∷ l) rest) in
+    rw (is, ← v.many, ← c.many) (row_made a.first b.first v.front c.front (record { number = number; stamp = Some stamped; values = values; bits = bits }) a.says b.says v.says c.says)

@@ -4,7 +4,6 @@ use Rattle.std.specs.Prelude.{option_to_list}
 use Rattle.std.specs.List.{filter_map}
 use Rattle.std.proofs.lemmas.List.{take_more, map-append}
 use Rattle.std.proofs.lemmas.List.Elements.{filter_map-append}
-use Rattle.dfr_channels.specs.Faults.{◌or◌}
 use Rattle.dfr_channels.specs.Parts.{SetupParts}
 use Rattle.dfr_recorder.specs.Parts.{RecordParts}
 use Rattle.dfr_recorder.specs.declared.step.Step.{Step}
@@ -13,15 +12,11 @@ use Rattle.dfr_recorder.specs.Steps.{step_of}
 use Rattle.dfr_recorder.specs.Answers.{answer_of}
 use Rattle.dfr_recorder.specs.Kept.{Kept}
 use Rattle.dfr_recorder.specs.Run.{IsRun}
-use Rattle.comtrade_write.specs.declared.fault.WriteFault.{WriteFault}
-use Rattle.comtrade_write.specs.declared.fault.WriteFault.TheVariants as faults
 use Rattle.comtrade_write.specs.declared.file.Kind.{Kind}
-use Rattle.comtrade_write.specs.declared.file.Kind.TheVariants.{Ascii, Binary}
 use Rattle.comtrade_write.specs.Parts.{FileParts}
 use Rattle.comtrade_write.specs.Cfg.{cfg}
-use Rattle.comtrade_write.specs.Data.{dat, dat_refusal}
-use Rattle.comtrade_write.specs.Refusals.{Fails, cfg_refusal}
-use Rattle.comtrade_write.specs.OfRecord.{file, IsWritable}
+use Rattle.comtrade_write.specs.Data.{dat}
+use Rattle.comtrade_write.specs.OfRecord.{file}
 use Rattle.comtrade_read.specs.Reads.{Reads}
 use Rattle.comtrade_read.proofs.OneFile.{one_file}
 

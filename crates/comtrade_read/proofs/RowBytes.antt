@@ -13,10 +13,8 @@ use Rattle.dfr_channels.specs.declared.scan.Reading.{Reading}
 use Rattle.comtrade_write.specs.Parts.{RowParts}
 use Rattle.comtrade_write.specs.Binary.{reading_number, stamp_number, bits_number, group_bytes, status_bytes, row_bytes}
 use Rattle.comtrade_read.specs.Inner.BinaryRows.{value_at, stamp_at, values_at, bit_of, bits_at, row_at, rows_at}
-use Rattle.comtrade_read.specs.Data.{row_size}
-use Rattle.comtrade_read.specs.Spells.{EachFrom}
+use Rattle.comtrade_read.specs.Reads.{row_size}
 use Rattle.comtrade_read.specs.Reads.{IsPresent, IsRowOf, ReadsBinary}
-use Rattle.comtrade_read.proofs.Each.{each_same}
 use Rattle.comtrade_read.proofs.BinaryNumbers.{AllBytes, two_bytes, four_bytes, two_fit, four_fit, number_again, present_number, reading_again, small_number, stamp_again, small_stamp, stamp_back, stamp_is, bits_fit, bit_is, bits_again}
 
 abbrev value_bytes : Reading → List ℕ
@@ -41,14 +39,16 @@ values_long : (vs : List Reading) → length (flat_map value_bytes vs) ≡ 2 * l
 values_long [] = refl
 values_long (v ∷ vs) = omega (arith, length-append (value_bytes v) (flat_map value_bytes vs), two_long (reading_number v), values_long vs)
 
-values_each : (xs : List ℕ) (n : ℕ) (vs : List Reading) (rest : List ℕ) → drop (2 * n) xs ≡ flat_map value_bytes vs ++ rest → AllByRecursion IsPresent vs → EachFrom (λ j v. v ≡ value_at (drop (2 * j) xs)) n vs
-values_each xs n [] rest e h = tt
+values_each : (xs : List ℕ) (n : ℕ) (vs : List Reading) (rest : List ℕ) → drop (2 * n) xs ≡ flat_map value_bytes vs ++ rest → AllByRecursion IsPresent vs
+    → vs ≡ map (λ j. value_at (drop (2 * j) xs)) (range_with_len n (length vs))
+values_each xs n [] rest e h = refl
 values_each xs n (v ∷ vs) rest e h =
     let more = flat_map value_bytes vs ++ rest in
     let here : drop (2 * n) xs ≡ value_bytes v ++ more = e ∙ append_assoc (value_bytes v) (flat_map value_bytes vs) rest in
     let number : little_number 2 (drop (2 * n) xs) ≡ reading_number v = ap (little_number 2) here ∙ little_number-reads_back 2 (reading_number v) more (small_number v h.0) in
     let next : drop (2 * (n + 1)) xs ≡ more = ap (λ (k : ℕ). drop k xs) (omega arith) ∙ further (2 * n) 2 (value_bytes v) more xs here (two_long (reading_number v)) in
-    (rw number (sym (reading_again v h.0)), values_each xs (n + 1) vs rest next h.1)
+    let first : v ≡ value_at (drop (2 * n) xs) = rw number (sym (reading_again v h.0)) in
+    ap (λ (y : Reading). y ∷ vs) first ∙ ap (λ (ys : List Reading). value_at (drop (2 * n) xs) ∷ ys) (values_each xs (n + 1) vs rest next h.1)
 
 -- ---- groups of sixteen bits
 
@@ -99,14 +99,14 @@ bit_read bs c j rest lt =
     ∙ get_or-drop (16 * (0 + g)) bs (j % 16) false
     ∙ ap (λ (i : ℕ). get_or bs i false) whole
 
-each_by_index : (f : ℕ → Bool) (n : ℕ) (xs : List Bool) → ((j : ℕ) → j < length xs → f (n + j) ≡ get_or xs j false) → EachFrom (λ j b. b ≡ f j) n xs
-each_by_index f n [] h = tt
+each_by_index : (f : ℕ → Bool) (n : ℕ) (xs : List Bool) → ((j : ℕ) → j < length xs → f (n + j) ≡ get_or xs j false) → xs ≡ map f (range_with_len n (length xs))
+each_by_index f n [] h = refl
 each_by_index f n (x ∷ xs) h =
     let z : n + 0 ≡ n = omega arith in
     let here : f n ≡ x = ap f (sym z) ∙ h 0 (omega arith) in
-    (sym here, each_by_index f (n + 1) xs (λ j lt. ap f (omega arith) ∙ h (suc j) (omega arith)))
+    ap (λ (b : Bool). b ∷ xs) (sym here) ∙ ap (λ (bs : List Bool). f n ∷ bs) (each_by_index f (n + 1) xs (λ j lt. ap f (omega arith) ∙ h (suc j) (omega arith)))
 
-bits_each : (bits spare : List Bool) (c : ℕ) (rest : List ℕ) → length bits ≤ 16 * c → EachFrom (λ j b. b ≡ bit_of (flat_map (group_bytes (bits ++ spare)) (range_with_len 0 c) ++ rest) j) 0 bits
+bits_each : (bits spare : List Bool) (c : ℕ) (rest : List ℕ) → length bits ≤ 16 * c → bits ≡ bits_at (length bits) (flat_map (group_bytes (bits ++ spare)) (range_with_len 0 c) ++ rest)
 bits_each bits spare c rest le =
     each_by_index (bit_of (flat_map (group_bytes (bits ++ spare)) (range_with_len 0 c) ++ rest)) 0 bits (λ j lt.
     let z : 0 + j ≡ j = omega arith in
@@ -152,12 +152,10 @@ row_read k m bytes r x =
           let stamp : stamp_at (drop 4 xs) ≡ r.stamp = rw stamp_number_is (stamp_again r.stamp x.stamp) in
           let z : drop (2 * 0) (drop 8 xs) ≡ v ++ (s ++ rest) = e2 in
           let values : r.values ≡ values_at k (drop 8 xs) =
-          each_same (λ j y. y ≡ value_at (drop (2 * j) (drop 8 xs))) (λ (j : ℕ). value_at (drop (2 * j) (drop 8 xs))) 0 r.values (values_each (drop 8 xs) 0 r.values (s ++ rest) z x.values) (λ j y le lt h. h)
-          ∙ ap (λ (n : ℕ). values_at n (drop 8 xs)) x.value_count in
+          values_each (drop 8 xs) 0 r.values (s ++ rest) z x.values ∙ ap (λ (n : ℕ). values_at n (drop 8 xs)) x.value_count in
           let fits : length r.bits ≤ 16 * groups m = omega (arith, x.bit_count) in
           let bits : r.bits ≡ bits_at m (s ++ rest) =
-          each_same (λ j y. y ≡ bit_of (s ++ rest) j) (bit_of (s ++ rest)) 0 r.bits (bits_each r.bits x.spare (groups m) rest fits) (λ j y le lt h. h)
-          ∙ ap (λ (n : ℕ). bits_at n (s ++ rest)) x.bit_count in
+          bits_each r.bits x.spare (groups m) rest fits ∙ ap (λ (n : ℕ). bits_at n (s ++ rest)) x.bit_count in
           rw (number, stamp, ← values, e3, ← bits) refl;
     }
 
@@ -174,8 +172,8 @@ rows_long k m (p ∷ ps) (r ∷ rs) h =
     omega (arith, length-append p (concat ps), one.long)
 
 rows_each : (k m : ℕ) (dat : List ℕ) (n : ℕ) (parts : List (List ℕ)) (rows : List RowParts) → drop (n * row_size k m) dat ≡ concat parts → AllZip (IsRowOf k m) parts rows
-    → EachFrom (λ i r. r ≡ row_at k m (drop (i * row_size k m) dat)) n rows
-rows_each k m dat n [] [] e h = tt
+    → rows ≡ map (λ i. row_at k m (drop (i * row_size k m) dat)) (range_with_len n (length rows))
+rows_each k m dat n [] [] e h = refl
 rows_each k m dat n [] (r ∷ rs) e h = absurd h
 rows_each k m dat n (p ∷ ps) [] e h = absurd h
 rows_each k m dat n (p ∷ ps) (r ∷ rs) e h =
@@ -183,14 +181,13 @@ rows_each k m dat n (p ∷ ps) (r ∷ rs) e h =
     let one = row_read k m p r h.0 in
     let place : (n + 1) * size ≡ n * size + size = add-mul n 1 size ∙ omega arith in
     let next : drop ((n + 1) * size) dat ≡ concat ps = ap (λ (o : ℕ). drop o dat) place ∙ further (n * size) size p (concat ps) dat e one.long in
-    (rw e (sym (one.reads (concat ps))), rows_each k m dat (n + 1) ps rs next h.1)
+    let first : r ≡ row_at k m (drop (n * size) dat) = rw e (sym (one.reads (concat ps))) in
+    ap (λ (y : RowParts). y ∷ rs) first ∙ ap (λ (ys : List RowParts). row_at k m (drop (n * size) dat) ∷ ys) (rows_each k m dat (n + 1) ps rs next h.1)
 
 pub binary_only : (k m : ℕ) (dat : List ℕ) (rows : List RowParts) → ReadsBinary k m dat rows → (length dat ≡ length rows * row_size k m) × (rows ≡ rows_at k m dat (length rows))
 binary_only k m dat rows r =
-    let z : drop (0 * row_size k m) dat ≡ concat r.parts = ap (λ (o : ℕ). drop o dat) (zero-mul (row_size k m)) ∙ r.bytes in (
-      ap length r.bytes ∙ rows_long k m r.parts rows r.each,
-      each_same (λ i x. x ≡ row_at k m (drop (i * row_size k m) dat)) (λ (i : ℕ). row_at k m (drop (i * row_size k m) dat)) 0 rows (rows_each k m dat 0 r.parts rows z r.each) (λ i x le lt h. h),
-    )
+    let z : drop (0 * row_size k m) dat ≡ concat r.parts = ap (λ (o : ℕ). drop o dat) (zero-mul (row_size k m)) ∙ r.bytes in
+    (ap length r.bytes ∙ rows_long k m r.parts rows r.each, rows_each k m dat 0 r.parts rows z r.each)
 
 -- ---- a row that was read was written
 

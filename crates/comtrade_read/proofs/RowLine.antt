@@ -1,118 +1,123 @@
--- The fault of a line with lists of fields of one kind.
-use Rattle.std.proofs.Common.{◌≡◌, ℕ, zero, suc, ◌+◌, Bool, true, false, cond, eqb, List, [], ◌∷◌, ◌++◌, length, replicate, Option, Some, None, refl, sym, ap, ◌∙◌, arith, length-append}
-use Rattle.comtrade_read.specs.declared.fault.ReadFault.{ReadFault}
-use Rattle.comtrade_read.specs.declared.fault.ReadFault.TheVariants as faults
+-- A row of ASCII data: what its fields say, how it ends, and how a loop reads it.
+use Rattle.std.proofs.Common.{◌≡◌, ℕ, zero, suc, ◌+◌, true, eqb, List, [], ◌∷◌, ◌++◌, length, map, get_or, drop, Option, Some, None, refl, sym, ap, ◌∙◌, arith, append_assoc, length-append}
+use Rattle.std.specs.Prelude.{◌≢◌, Bool, Result, Ok, Err}
+use Rattle.std.proofs.Math.Seq.{drop-append_seam}
+use Rattle.std.proofs.lemmas.Bool.Decides.{nat_tests}
+use Rattle.std.proofs.lemmas.List.{append-nil, drop-drop, get_or-drop, length-map}
 use Rattle.dfr_channels.specs.Lines.{field}
 use Rattle.dfr_channels.specs.Fields.{bit}
+use Rattle.dfr_channels.specs.declared.scan.Reading.{Reading}
+use Rattle.comtrade_write.specs.Parts.{RowParts}
+use Rattle.comtrade_read.specs.Line.{Fault, number, need_each}
 use Rattle.comtrade_read.specs.Fields.{natural}
-use Rattle.dfr_channels.specs.Faults.{◌or◌}
-use Rattle.std.proofs.lemmas.List.FromFn.{length-map-range_with_len}
-use Rattle.comtrade_read.specs.Table.{Rule, first_bad, reads}
-use Rattle.comtrade_read.specs.Inner.LineFaults.{fields_fault, line_fault, extra_fault, file_fault, first_in}
-use Rattle.comtrade_read.proofs.Chain.{lines_map}
-use Rattle.comtrade_read.specs.Ascii.{stamp, value, row_rule, row_rules}
-use Rattle.comtrade_read.specs.Inner.RowValues.{row_faults, value_faults, bit_faults, field_fault, row_chain}
-use Rattle.std.proofs.lemmas.List.{append-nil, length-replicate}
-use Rattle.std.proofs.lemmas.Bool.{eqb-true}
-use Rattle.std.proofs.lemmas.Bool.Decides.{nat_tests}
-use Rattle.std.specs.Prelude.{◌≢◌}
+use Rattle.comtrade_read.specs.Ascii.{stamp, value, row_line}
+use Rattle.comtrade_read.proofs.LineEnds.{EndsPlain}
+use Rattle.comtrade_read.proofs.HeadSays.{many_said, need_said}
+use Rattle.comtrade_read.proofs.NoReturn.{no_return, bit_plain, stamp_plain, value_plain}
 
-or_assoc : (a b c : Option ReadFault) → ((a or b) or c) ≡ (a or (b or c))
-or_assoc None b c = refl
-or_assoc (Some e) b c = refl
+-- what follows in a row from its bits, and from its values
+abbrev pub with_bits : ℕ → Option ℕ → List Reading → List Bool → Result RowParts Fault
+with_bits n t values bits = Ok (record { number = n; stamp = t; values = values; bits = bits })
 
-or_nothing : (a : Option ReadFault) → (a or None) ≡ a
-or_nothing None = refl
-or_nothing (Some e) = refl
+abbrev pub with_values : ℕ → ℕ → List (List ℕ) → ℕ → Option ℕ → List Reading → Result RowParts Fault
+with_values k m fs n t values = need_each bit (2 + k) m [] fs (with_bits n t values)
 
--- the first of a list is its first, or else the first of the others
-first_front : (f : ℕ → Option ReadFault) (n : ℕ) → first_in f (suc n) ≡ (f 0 or first_in (λ j. f (j + 1)) n)
-unfolding first_in
-first_front f zero = sym (or_nothing (f 0))
-first_front f (suc n) =
-    let s : suc n ≡ n + 1 = omega arith in
-    ap (λ (x : Option ReadFault). x or f (suc n)) (first_front f n)
-    ∙ or_assoc (f 0) (first_in (λ j. f (j + 1)) n) (f (suc n))
-    ∙ ap (λ (m : ℕ). f 0 or (first_in (λ j. f (j + 1)) n or f m)) s
+-- ---- fields of one kind
 
-test_or : (b : Bool) (x : Option ReadFault) (e : ReadFault) → cond b x (Some e) ≡ (cond b None (Some e) or x)
-test_or true x e = refl
-test_or false x e = refl
+pub starts : (k m : ℕ) (fs : List (List ℕ)) (n : ℕ) (t : Option ℕ) → length fs ≡ 2 + k + m → natural 9999999999 (field fs 0) ≡ Some n → stamp (field fs 1) ≡ Some t
+    → row_line k m fs ≡ need_each value 2 k [] fs (with_values k m fs n t)
+unfolding row_line
+starts k m fs n t len h s =
+    let many : eqb (length fs) (2 + k + m) ≡ true = grind (arith, nat_tests) in
+    rw (many, h, s) refl
 
-pub same_first : (f g : ℕ → Option ReadFault) (n : ℕ) → ((j : ℕ) → f j ≡ g j) → first_in f n ≡ first_in g n
-unfolding first_in
-same_first f g zero h = refl
-same_first f g (suc n) h = ap (λ (x : Option ReadFault). x or f n) (same_first f g n h) ∙ ap (λ (x : Option ReadFault). first_in g n or x) (h n)
+pub no_number : (k m : ℕ) (fs : List (List ℕ)) → length fs ≡ 2 + k + m → natural 9999999999 (field fs 0) ≡ None → row_line k m fs ≡ Err (number 1)
+unfolding row_line
+no_number k m fs len h =
+    let many : eqb (length fs) (2 + k + m) ≡ true = grind (arith, nat_tests) in
+    rw (many, h) refl
 
-abbrev test_fault : ℕ → (List ℕ → Bool) → List (List ℕ) → ℕ → Option ReadFault
-test_fault line t fs i = cond (t (field fs i)) None (Some (faults.Number line (i + 1)))
+pub no_stamp : (k m : ℕ) (fs : List (List ℕ)) (n : ℕ) → length fs ≡ 2 + k + m → natural 9999999999 (field fs 0) ≡ Some n → stamp (field fs 1) ≡ None → row_line k m fs ≡ Err (number 2)
+unfolding row_line
+no_stamp k m fs n len h s =
+    let many : eqb (length fs) (2 + k + m) ≡ true = grind (arith, nat_tests) in
+    rw (many, h, s) refl
 
--- so many fields of one kind, and then others
-pub tests_repeat : (line count : ℕ) (t : List ℕ → Bool) (us : List (List ℕ → Bool)) (i : ℕ) (fs : List (List ℕ))
-    → first_bad (replicate count t ++ us) i line fs ≡ (first_in (λ j. test_fault line t fs (i + j)) count or first_bad us (i + count) line fs)
-unfolding first_in
-tests_repeat line zero t us i fs = let z : i + 0 ≡ i = omega arith in rw z refl
-tests_repeat line (suc n) t us i fs =
-    let s : i + 1 + n ≡ i + suc n = omega arith in
+pub goes_on : {A B : Type 0} (read : List ℕ → Option A) (fs : List (List ℕ)) (i n n' : ℕ) (before : List A) (more : List A → Result B Fault) (x : A) → n ≡ suc n' → read (field fs i) ≡ Some x
+    → need_each read i n before fs more ≡ need_each read (i + 1) n' (before ++ x ∷ []) fs more
+goes_on read fs i n n' before more x e h = rw (e, h) refl
+
+pub stops : {A B : Type 0} (read : List ℕ → Option A) (fs : List (List ℕ)) (i n n' : ℕ) (before : List A) (more : List A → Result B Fault) → n ≡ suc n' → read (field fs i) ≡ None
+    → need_each read i n before fs more ≡ Err (number (i + 1))
+stops read fs i n n' before more e h = rw (e, h) refl
+
+-- ---- a row by its fields
+
+head_at : (fs : List (List ℕ)) (i : ℕ) (f : List ℕ) (rest : List (List ℕ)) → drop i fs ≡ f ∷ rest → (field fs i ≡ f) × (drop (i + 1) fs ≡ rest)
+head_at fs i f rest e =
+    let z : i + 0 ≡ i = omega arith in (
+      ap (λ (j : ℕ). get_or fs j []) (sym z) ∙ sym (get_or-drop i fs 0 []) ∙ ap (λ (xs : List (List ℕ)). get_or xs 0 []) e,
+      sym (drop-drop 1 i fs) ∙ ap (λ (xs : List (List ℕ)). drop 1 xs) e,
+    )
+
+each_read : {A B : Type 0} (read : List ℕ → Option A) (fs front behind : List (List ℕ)) (items before : List A) (i : ℕ) (more : List A → Result B Fault) → drop i fs ≡ front ++ behind
+    → map read front ≡ map (λ x. Some x) items → need_each read i (length items) before fs more ≡ more (before ++ items)
+each_read read fs [] behind [] before i more e s = ap more (sym (append-nil before))
+each_read read fs [] behind (x ∷ items) before i more e s = absurd cc
+each_read read fs (f ∷ front) behind [] before i more e s = absurd cc
+each_read read fs (f ∷ front) behind (x ∷ items) before i more e s =
+    let h = head_at fs i f (front ++ behind) e in
+    let here : read f ≡ Some x = cc in
+    let says : read (field fs i) ≡ Some x = ap read h.0 ∙ here in
+    let rest : map read front ≡ map (λ x. Some x) items = cc in
+    rw says (each_read read fs front behind items (before ++ x ∷ []) (i + 1) more h.1 rest ∙ ap more (append_assoc before (x ∷ []) items))
+
+pub row_made : (a b : List ℕ) (vf bf : List (List ℕ)) (r : RowParts) → natural 9999999999 a ≡ Some r.number → stamp b ≡ Some r.stamp → map value vf ≡ map (λ x. Some x) r.values → map bit bf ≡ map (λ x. Some x) r.bits
+    → row_line (length r.values) (length r.bits) (a ∷ b ∷ (vf ++ bf)) ≡ Ok r
+row_made a b vf bf r n s v w =
+    let fs = a ∷ b ∷ (vf ++ bf) in
+    let k = length r.values in
+    let m = length r.bits in
+    let values : length vf ≡ k = sym (length-map vf value) ∙ ap length v ∙ length-map r.values (λ x. Some x) in
+    let bits : length bf ≡ m = sym (length-map bf bit) ∙ ap length w ∙ length-map r.bits (λ x. Some x) in
+    let behind : drop (2 + k) fs ≡ bf ++ [] = rw (← values) (sym (drop-drop (length vf) 2 fs) ∙ drop-append_seam vf bf ∙ sym (append-nil bf)) in
+    starts k m fs r.number r.stamp (omega (arith, length-append vf bf)) n s
+    ∙ each_read value fs vf bf r.values [] 2 (with_values k m fs r.number r.stamp) refl v
+    ∙ each_read bit fs bf [] r.bits [] (2 + k) (with_bits r.number r.stamp r.values) behind w
+
+-- ---- how a row ends
+
+each_through : {A B : Type 0} (read : List ℕ → Option A) (fs : List (List ℕ)) (n i : ℕ) (before : List A) (more : List A → Result B Fault) (y : B) → need_each read i n before fs more ≡ Ok y → (xs : List A) × (more xs ≡ Ok y)
+each_through read fs zero i before more y e = (before, e)
+each_through read fs (suc n) i before more y e =
+    let a = need_said (read (field fs i)) (number (i + 1)) _ y e in
+    each_through read fs n (i + 1) (before ++ a.0 ∷ []) more y a.2
+
+each_last : {A B : Type 0} (read : List ℕ → Option A) (fs : List (List ℕ)) (n i : ℕ) (before : List A) (more : List A → Result B Fault) (y : B) → need_each read i (suc n) before fs more ≡ Ok y
+    → (x : A) × (read (field fs (i + n)) ≡ Some x)
+each_last read fs zero i before more y e =
+    let a = need_said (read (field fs i)) (number (i + 1)) _ y e in
     let z : i + 0 ≡ i = omega arith in
-    let f : ℕ → Option ReadFault = λ j. test_fault line t fs (i + j) in
-    let g : ℕ → Option ReadFault = λ j. test_fault line t fs (i + 1 + j) in
-    let x : Option ReadFault = first_bad us (i + suc n) line fs in
-    let moved : first_in g n ≡ first_in (λ j. f (j + 1)) n = same_first g (λ j. f (j + 1)) n (λ j. ap (λ (k : ℕ). test_fault line t fs k) (omega arith)) in
-    test_or (t (field fs i)) (first_bad (replicate n t ++ us) (i + 1) line fs) (faults.Number line (i + 1))
-    ∙ ap (λ (y : Option ReadFault). test_fault line t fs i or y) (tests_repeat line n t us (i + 1) fs
-    ∙ ap (λ (k : ℕ). first_in g n or first_bad us k line fs) s
-    ∙ ap (λ (y : Option ReadFault). y or x) moved)
-    ∙ ap (λ (k : ℕ). test_fault line t fs k or (first_in (λ j. f (j + 1)) n or x)) (sym z)
-    ∙ sym (or_assoc (f 0) (first_in (λ j. f (j + 1)) n) x)
-    ∙ ap (λ (y : Option ReadFault). y or x) (sym (first_front f n))
+    rw z (a.0, a.1)
+each_last read fs (suc n) i before more y e =
+    let a = need_said (read (field fs i)) (number (i + 1)) _ y e in
+    let s : i + suc n ≡ i + 1 + n = omega arith in
+    rw s (each_last read fs n (i + 1) (before ++ a.0 ∷ []) more y a.2)
 
-abbrev lists : ℕ → ℕ → List (List ℕ → Bool)
-lists k m = replicate k (reads value) ++ replicate m (reads bit)
+plain : (k m : ℕ) (fs : List (List ℕ)) (n : ℕ) (t : Option ℕ) (r : RowParts) → length fs ≡ 2 + k + m → stamp (field fs 1) ≡ Some t → need_each value 2 k [] fs (with_values k m fs n t) ≡ Ok r → EndsPlain fs
+plain k (suc m) fs n t r len s e =
+    let v = each_through value fs k 2 [] (with_values k (suc m) fs n t) r e in
+    let b = each_last bit fs m (2 + k) [] (with_bits n t v.0) r v.1 in
+    no_return fs (2 + k + m) (len ∙ omega arith) (bit_plain (field fs (2 + k + m)) b.0 b.1)
+plain (suc k) zero fs n t r len s e =
+    let v = each_last value fs k 2 [] (with_values (suc k) zero fs n t) r e in
+    no_return fs (2 + k) (len ∙ omega arith) (value_plain (field fs (2 + k)) v.0 v.1)
+plain zero zero fs n t r len s e = no_return fs 1 len (stamp_plain (field fs 1) t s)
 
-many : (k m : ℕ) → length (lists k m) ≡ k + m
-many k m = omega (arith, length-append (replicate k (reads value)) (replicate m (reads bit)), length-replicate k (reads value), length-replicate m (reads bit))
-
-row_tests : (k m line : ℕ) (fs : List (List ℕ)) → first_bad (lists k m) 2 line fs ≡ (first_in (value_faults line fs) k or first_in (bit_faults line k fs) m)
-row_tests k m line fs =
-    let bits : first_bad (replicate m (reads bit)) (2 + k) line fs ≡ first_in (bit_faults line k fs) m =
-    ap (λ (us : List (List ℕ → Bool)). first_bad us (2 + k) line fs) (sym (append-nil (replicate m (reads bit))))
-    ∙ tests_repeat line m (reads bit) [] (2 + k) fs ∙ or_nothing (first_in (bit_faults line k fs) m) in
-    tests_repeat line k (reads value) (replicate m (reads bit)) 2 fs ∙ ap (λ (x : Option ReadFault). first_in (value_faults line fs) k or x) bits
-
-eqb-same : (n : ℕ) → eqb n n ≡ true
-eqb-same n = grind (arith, nat_tests)
-
-eqb-not : (m n : ℕ) → m ≢ n → eqb m n ≡ false
-eqb-not m n h = grind (arith, nat_tests)
-
-pub row_length : (k m line : ℕ) (fs : List (List ℕ)) → fields_fault (row_rule k m) line fs ≡ None → length fs ≡ 2 + k + m
-row_length k m line fs e = with_test (eqb (length fs) (suc (suc (length (lists k m))))) refl e
-  where
-    with_test : (b : Bool) → eqb (length fs) (suc (suc (length (lists k m)))) ≡ b → cond b (first_bad (reads (natural 9999999999) ∷ reads stamp ∷ lists k m) 0 line fs) (Some (faults.Fields line)) ≡ None → length fs ≡ 2 + k + m
-    with_test true t h = let n : length fs ≡ suc (suc (length (lists k m))) = eqb-true _ _ t in omega (arith, many k m)
-    with_test false t h = absurd cc
-
-pub row_is : (k m line : ℕ) (fs : List (List ℕ)) → length fs ≡ 2 + k + m → fields_fault (row_rule k m) line fs ≡ row_chain k m line fs
-row_is k m line fs len =
-    let n : suc (suc (length (lists k m))) ≡ 2 + k + m = omega (arith, many k m) in
-    let rest = first_bad (lists k m) 2 line fs in
-    let x : Option ReadFault = cond (reads stamp (field fs 1)) rest (Some (faults.Number line 2)) in
-    rw (len, n, eqb-same (2 + k + m)) (
-    test_or (reads (natural 9999999999) (field fs 0)) x (faults.Number line 1)
-    ∙ ap (λ (y : Option ReadFault). field_fault (natural 9999999999) line fs 0 or y) (test_or (reads stamp (field fs 1)) rest (faults.Number line 2)
-    ∙ ap (λ (y : Option ReadFault). field_fault stamp line fs 1 or y) (row_tests k m line fs)))
-
-pub row_few : (k m line : ℕ) (fs : List (List ℕ)) → length fs ≢ 2 + k + m → fields_fault (row_rule k m) line fs ≡ Some (faults.Fields line)
-row_few k m line fs len =
-    let n : suc (suc (length (lists k m))) ≡ 2 + k + m = omega (arith, many k m) in
-    rw (n, eqb-not (length fs) (2 + k + m) len) refl
-
--- ---- the lines of a file whose lines are all rows
-
-pub rows_are : (ls : List (List ℕ)) (k m n : ℕ) → file_fault ls (row_rules k m n) ≡ (first_in (row_faults k m ls) n or extra_fault ls n)
-unfolding file_fault row_rules
-rows_are ls k m n =
-    let g : ℕ → Rule = λ i. row_rule k m in
-    ap (λ (x : Option ReadFault). x or extra_fault ls (length (row_rules k m n))) (lines_map ls g 0 n ∙ same_first (λ j. line_fault ls (g j) (0 + j)) (row_faults k m ls) n (λ j. ap (λ (i : ℕ). line_fault ls (row_rule k m) i) (omega arith)))
-    ∙ ap (λ (l : ℕ). first_in (row_faults k m ls) n or extra_fault ls l) (length-map-range_with_len g 0 n)
+pub row_ends : (k m : ℕ) (fs : List (List ℕ)) (r : RowParts) → row_line k m fs ≡ Ok r → EndsPlain fs × (fs ≢ [] ∷ [])
+unfolding row_line
+row_ends k m fs r e =
+    let a = many_said (2 + k + m) fs _ r e in
+    let b = need_said (natural 9999999999 (field fs 0)) (number 1) _ r a.1 in
+    let c = need_said (stamp (field fs 1)) (number 2) _ r b.2 in
+    (plain k m fs b.0 c.0 r a.0 c.1 c.2, λ is. let one : length fs ≡ 1 = ap length is in absurd (omega (arith, a.0)))

@@ -7,7 +7,8 @@ use Rattle.comtrade_write.specs.declared.file.Kind.{Kind}
 use Rattle.comtrade_write.specs.declared.file.Rate.{Rate}
 use Rattle.comtrade_write.specs.Parts.{HeadParts}
 use Rattle.comtrade_read.specs.Line.{Lines, next, each, end}
-use Rattle.comtrade_read.specs.Head.{counts_line, frequency_line, nrates_line, instant_line, kind_line, timemult_line, next_analog, next_status, next_rate}
+use Rattle.comtrade_read.specs.Head.{counts_line, instant_line}
+use Rattle.comtrade_read.specs.Inner.HeadValues.{frequency_line, nrates_line, kind_line, timemult_line, next_analog, next_status, next_rate}
 
 abbrev pub made : (List ℕ × List ℕ) → List AnalogParts → List StatusParts → Number → ℕ → List Rate → ℤ → ℤ → Kind → Number → HeadParts
 made names analog status line_freq nrates rates first trigger kind timemult = record {

@@ -8,6 +8,7 @@ use Rattle.std.proofs.lemmas.Bool.{and_parts, le-leb, lt-ltb}
 use Rattle.std.proofs.lemmas.Bool.Decides.{nat_tests}
 use Rattle.dfr_channels.specs.Spelling.{IsNumber, Number}
 use Rattle.dfr_channels.specs.Written.{decimal_text}
+use Rattle.dfr_channels.specs.LineFields.{analog_from, status_from}
 use Rattle.dfr_channels.specs.Parts.{AnalogParts, StatusParts}
 use Rattle.comtrade_write.specs.declared.file.Kind.{Kind}
 use Rattle.comtrade_write.specs.declared.file.Rate.{Rate}
@@ -16,10 +17,10 @@ use Rattle.comtrade_write.specs.Numbered.{numbered}
 use Rattle.comtrade_write.specs.Dates.{day_number, time_of_day, instant_fields}
 use Rattle.comtrade_write.specs.Cfg.{kind_text, names_fields, counts_fields, analog_fields, status_fields, rate_fields, cfg}
 use Rattle.comtrade_write.specs.Shape as shape
-use Rattle.comtrade_read.specs.Fields.{small}
+use Rattle.comtrade_read.specs.Fields.{small, scale}
 use Rattle.comtrade_read.specs.Line.{Fault, Lines, each}
-use Rattle.comtrade_read.specs.Data.{last_sample}
-use Rattle.comtrade_read.specs.Head.{names_line, counts_line, analog_line, status_line, frequency_line, nrates_line, rate_line, instant_line, kind_line, timemult_line, next_rate, head}
+use Rattle.comtrade_read.specs.Head.{last_sample, names_line, counts_line, analog_line, status_line, rate_line, instant_line, head}
+use Rattle.comtrade_read.specs.Inner.HeadValues.{frequency_line, nrates_line, kind_line, timemult_line, next_rate}
 use Rattle.comtrade_read.specs.Reads.{ReadsHead}
 use Rattle.comtrade_read.proofs.WrittenFields.{whole_written, natural_written, small_written, count_written, scale_written, free_scale_written, side_written, free_bit_written, kind_written, revision_written}
 use Rattle.comtrade_read.proofs.WrittenLines.{written_joined}
@@ -51,24 +52,24 @@ small_taken z e =
     small_written z (int_le-is (neg_ℤ (pos 99_999)) z p.0) (int_le-is z (pos 99_999) p.1)
 
 analog_written : (n : ℕ) (c : AnalogParts) → n < 10 ^ 36 → AnalogTaken c → analog_line n (analog_fields n c) ≡ Ok c
-unfolding analog_fields analog_line
+unfolding analog_fields analog_line analog_from scale
 analog_written n c lt t =
     let b = and_parts (shape.in_bounds c.min) (shape.in_bounds c.max) t.bounds in
     rw (
       whole_written n lt,
-      scale_written c.a t.scale.a,
-      free_scale_written c.b t.scale.b,
-      free_scale_written c.skew t.scale.skew,
+      scale_written c.a t.scale.0,
+      free_scale_written c.b t.scale.1.0,
+      free_scale_written c.skew t.scale.1.1.0,
       small_taken c.min b.0,
       small_taken c.max b.1,
-      free_scale_written c.primary t.scale.primary,
-      free_scale_written c.secondary t.scale.secondary,
+      free_scale_written c.primary t.scale.1.1.1.0,
+      free_scale_written c.secondary t.scale.1.1.1.1.0,
       side_written c.side,
       eqb-same n,
     ) refl
 
 status_written : (n : ℕ) (c : StatusParts) → n < 10 ^ 36 → status_line n (status_fields n c) ≡ Ok c
-unfolding status_fields status_line
+unfolding status_fields status_line status_from
 status_written n c lt = rw (whole_written n lt, free_bit_written c.normal, eqb-same n) refl
 
 rate_written : (before : ℕ) (r : Rate) → IsNumber r.samp → before ≤ r.endsamp → r.endsamp ≤ 9999999999 → rate_line before (rate_fields r) ≡ Ok r
@@ -80,19 +81,15 @@ unfolding instant_fields instant_line
 instant_said t i = rw (date_written (day_number t) i.dated_day, time_written (time_of_day t) i.small) (ap (λ (x : ℤ). Ok x) (sym i.is))
 
 frequency_written : (d : Number) → IsNumber d → frequency_line (decimal_text d ∷ []) ≡ Ok d
-unfolding frequency_line
 frequency_written d h = rw (free_scale_written d h) refl
 
 nrates_written : (n : ℕ) → n ≤ 999 → nrates_line (decimal n ∷ []) ≡ Ok n
-unfolding nrates_line
 nrates_written n le = rw (natural_written 999 n le (omega arith)) refl
 
 kind_said : (k : Kind) → kind_line (kind_text k ∷ []) ≡ Ok k
-unfolding kind_line
 kind_said k = rw (kind_written k) refl
 
 timemult_written : (d : Number) → IsNumber d → timemult_line (decimal_text d ∷ []) ≡ Ok d
-unfolding timemult_line
 timemult_written d h = rw (scale_written d h) refl
 
 -- ---- lines of one kind

@@ -1,15 +1,13 @@
 -- Rows that are written are read.
-use Rattle.std.proofs.Common.{◌≡◌, ℕ, zero, suc, ◌+◌, ◌-◌, ◌*◌, ◌/◌, ◌<◌, ◌≤◌, ◌^◌, Bool, true, false, cond, ltb, leb, eqb, List, [], ◌∷◌, ◌++◌, length, map, get_or, take, drop, replicate, Option, Some, None, refl, sym, ap, ◌∙◌, arith, length-append}
-use Rattle.std.specs.Prelude.{ℤ, pos, negsuc, neg_ℤ, ◌≤ℤ◌, int_le, slice_get, slice_index_or, unsigned_abs}
+use Rattle.std.proofs.Common.{◌≡◌, ℕ, zero, suc, ◌+◌, ◌-◌, ◌*◌, ◌/◌, ◌<◌, ◌≤◌, ◌^◌, Bool, true, false, cond, ltb, leb, eqb, List, [], ◌∷◌, ◌++◌, length, map, get_or, take, drop, replicate, Option, Some, None, refl, sym, ap, ◌∙◌, arith, append_assoc, length-append}
+use Rattle.std.specs.Prelude.{ℤ, pos, negsuc, neg_ℤ, ◌≤ℤ◌, int_le, unsigned_abs, Ok}
 use Rattle.std.specs.List.{range_with_len, flat_map, concat, list_all, before_first, AllByRecursion, AllZip}
 use Rattle.std.specs.Fmt.{decimal}
-use Rattle.std.proofs.lemmas.List.{get_or-take, get_or-drop, get_or-append-add, length-take, length-map, length-replicate, take_at}
-use Rattle.std.proofs.Math.ListN.{get_or-append}
+use Rattle.std.proofs.lemmas.List.{append-nil, get_or-take, get_or-drop, length-take, length-replicate, take_at}
 use Rattle.std.proofs.lemmas.Int.{ints}
 use Rattle.std.proofs.lemmas.Bool.{leb-true, eqb-true, and_parts}
 use Rattle.std.proofs.lemmas.Bool.Decides.{nat_tests}
 use Rattle.byteorder.specs.Endian.{little_bytes}
-use Rattle.dfr_channels.specs.Lines.{field}
 use Rattle.dfr_channels.specs.declared.scan.Reading.{Reading}
 use Rattle.dfr_channels.specs.declared.scan.Reading.TheVariants.{Value, Missing}
 use Rattle.comtrade_write.specs.declared.bounds.Bounds.{Bounds}
@@ -20,11 +18,13 @@ use Rattle.comtrade_write.specs.Binary.{reading_number, stamp_number, bits_numbe
 use Rattle.comtrade_write.specs.Shape.{row_shaped}
 use Rattle.comtrade_write.specs.Refusals.{ascii_bounds, binary_bounds, takes_reading, takes_stamp, takes_times, values_from, rows_from, stamps_from}
 use Rattle.dfr_channels.specs.Fields.{bit}
-use Rattle.comtrade_read.specs.Ascii.{stamp, value, is_end_mark}
-use Rattle.comtrade_read.specs.Spells.{EachFrom, SpellsRow}
+use Rattle.comtrade_read.specs.Line.{each, end}
+use Rattle.comtrade_read.specs.Ascii.{stamp, value, is_end_mark, row_line as read_line, rows}
+use Rattle.comtrade_read.specs.Inner.HeadValues.{next_row}
 use Rattle.comtrade_read.specs.Reads.{IsPresent, IsStamp, IsRowOf, ReadsBinary, ReadsAscii}
 use Rattle.comtrade_read.proofs.AllOf.{All-append}
 use Rattle.comtrade_read.proofs.Numerals.{place_at}
+use Rattle.comtrade_read.proofs.RowLine.{row_made}
 use Rattle.comtrade_read.proofs.WrittenFields.{IsClean, Printed, clean_printed, natural_written, value_written, missing_written, stamp_written, no_stamp_written, bit_written, printed_decimal, printed_signed, printed_missing, printed_bit}
 use Rattle.comtrade_read.proofs.WrittenLines.{IsCleanLine, written_joined, lines_no_end}
 use Rattle.dfr_channels.proofs.Lawful.{or-none, unless-none}
@@ -162,29 +162,6 @@ pub binary_written : (k m : ℕ) (rows : List RowParts) → AllByRecursion (RowT
 unfolding binary
 binary_written k m rows h = record { parts = map row_bytes rows; bytes = sym (concat_rows rows); each = each_row k m rows h }
 
--- ---- by index
-
-pub each_by : {X : Type 0} (P : ℕ → X → Type 0) (n : ℕ) (xs : List X) → ((j : ℕ) (x : X) → slice_get xs j ≡ Some x → P (n + j) x) → EachFrom P n xs
-each_by P n [] h = tt
-each_by P n (x ∷ xs) h =
-    let z : n + 0 ≡ n = omega arith in
-    (rw z at (h 0 x refl), each_by P (n + 1) xs (λ j y e. let s : n + suc j ≡ n + 1 + j = omega arith in rw s at (h (suc j) y e)))
-
-pub got_map : {X Y : Type 0} (f : X → Y) (xs : List X) (j : ℕ) (d : Y) (x : X) → slice_get xs j ≡ Some x → get_or (map f xs) j d ≡ f x
-got_map f [] j d x e = absurd cc
-got_map f (y ∷ ys) zero d x e = let same : y ≡ x = cc in ap f same
-got_map f (y ∷ ys) (suc j) d x e = got_map f ys j d x e
-
-pub got_below : {X : Type 0} (xs : List X) (j : ℕ) (x : X) → slice_get xs j ≡ Some x → j < length xs
-got_below [] j x e = absurd cc
-got_below (y ∷ ys) zero x e = omega arith
-got_below (y ∷ ys) (suc j) x e = let h = got_below ys j x e in omega arith
-
-pub all_got : {X : Type 0} (P : X → Type 0) (xs : List X) (j : ℕ) (x : X) → AllByRecursion P xs → slice_get xs j ≡ Some x → P x
-all_got P [] j x h e = absurd cc
-all_got P (y ∷ ys) zero x h e = let same : y ≡ x = cc in rw same at h.0
-all_got P (y ∷ ys) (suc j) x h e = all_got P ys j x h.1 e
-
 -- ---- ASCII rows
 
 row_fields : RowParts → List (List ℕ)
@@ -198,30 +175,25 @@ stamp_again : (s : Option ℕ) → takes_stamp ascii_bounds s ≡ true → stamp
 stamp_again None h = no_stamp_written
 stamp_again (Some t) h = stamp_written t (leb-true t 9999999999 h)
 
-row_spelled : (k m : ℕ) (r : RowParts) → RowTaken ascii_bounds k m r → SpellsRow k m (row_fields r) r
+values_again : (vs : List Reading) → AllByRecursion (λ v. takes_reading ascii_bounds v ≡ true) vs → map value (map reading_text vs) ≡ map (λ v. Some v) vs
+values_again [] h = refl
+values_again (v ∷ vs) h = rw (value_again v h.0, values_again vs h.1) refl
+
+bits_again : (bs : List Bool) → map bit (map bit_text bs) ≡ map (λ b. Some b) bs
+bits_again [] = refl
+bits_again (b ∷ bs) = rw (bit_written b, bits_again bs) refl
+
+row_again : (k m : ℕ) (r : RowParts) → RowTaken ascii_bounds k m r → read_line k m (row_fields r) ≡ Ok r
 unfolding row_fields
-row_spelled k m r t =
-    let vs = map reading_text r.values in
-    let bs = map bit_text r.bits in
+row_again k m r t =
     let le : r.number ≤ 9999999999 = leb-true r.number 9999999999 t.number in
-    let vlen : length vs ≡ k = length-map r.values reading_text ∙ t.value_count in
-    let blen : length bs ≡ m = length-map r.bits bit_text ∙ t.bit_count in
-    record {
-      many = omega (arith, length-append vs bs);
-      number = natural_written 9999999999 r.number le (omega arith);
-      stamp = stamp_again r.stamp t.stamp;
-      value_count = t.value_count;
-      values = each_by (λ j v. value (field (decimal r.number ∷ stamp_text r.stamp ∷ (vs ++ bs)) (2 + j)) ≡ Some v) 0 r.values (λ j v e.
-          let s : 2 + (0 + j) ≡ suc (suc j) = omega arith in
-          let lt = got_below r.values j v e in
-          let f : get_or (vs ++ bs) j [] ≡ reading_text v = get_or-append vs bs [] j (omega (arith, vlen, t.value_count)) ∙ got_map reading_text r.values j [] v e in
-          rw (s, f) (value_again v (all_got (λ y. takes_reading ascii_bounds y ≡ true) r.values j v t.values e)));
-      bit_count = t.bit_count;
-      bits = each_by (λ j b. bit (field (decimal r.number ∷ stamp_text r.stamp ∷ (vs ++ bs)) (2 + k + j)) ≡ Some b) 0 r.bits (λ j b e.
-          let s : 2 + k + (0 + j) ≡ suc (suc (length vs + j)) = omega (arith, vlen) in
-          let f : get_or (vs ++ bs) (length vs + j) [] ≡ bit_text b = get_or-append-add vs bs j [] ∙ got_map bit_text r.bits j [] b e in
-          rw (s, f) (bit_written b));
-    }
+    rw (← t.value_count, ← t.bit_count)
+    (row_made (decimal r.number) (stamp_text r.stamp) (map reading_text r.values) (map bit_text r.bits) r (natural_written 9999999999 r.number le (omega arith)) (stamp_again r.stamp t.stamp) (values_again r.values t.values) (bits_again r.bits))
+
+rows_again : (k m : ℕ) (before rs : List RowParts) (line : ℕ) → AllByRecursion (RowTaken ascii_bounds k m) rs → each (next_row k m) (length rs) before end line (map row_fields rs) ≡ Ok (before ++ rs)
+rows_again k m before [] line h = ap (λ (xs : List RowParts). Ok xs) (sym (append-nil before))
+rows_again k m before (r ∷ rs) line h =
+    rw (row_again k m r h.0) (rows_again k m (before ++ r ∷ []) rs (line + 1) h.1 ∙ ap (λ (xs : List RowParts). Ok xs) (append_assoc before (r ∷ []) rs))
 
 printed_values : (vs : List Reading) → AllByRecursion (λ v. takes_reading ascii_bounds v ≡ true) vs → AllByRecursion Printed (map reading_text vs)
 printed_values [] h = tt
@@ -269,19 +241,12 @@ unfolding fields_line row_fields
 rows_lines [] = refl
 rows_lines (r ∷ rs) = ap (λ (ys : List ℕ). row_line r ++ ys) (rows_lines rs)
 
-pub ascii_written : (k m : ℕ) (rows : List RowParts) → AllByRecursion (RowTaken ascii_bounds k m) rows → ReadsAscii k m (ascii rows) rows
-unfolding ascii
-ascii_written k m rows h =
-    let ls = map row_fields rows in
+pub ascii_written : (k m : ℕ) (rs : List RowParts) → AllByRecursion (RowTaken ascii_bounds k m) rs → ReadsAscii k m (ascii rs) rs
+unfolding ascii rows
+ascii_written k m rs h =
+    let ls = map row_fields rs in
     let text = flat_map line ls in
-    let n = place_at is_end_mark text 26 [] (lines_no_end ls (printed_rows k m rows h)) refl in
+    let n = place_at is_end_mark text 26 [] (lines_no_end ls (printed_rows k m rs h)) refl in
     let front : before_first is_end_mark (text ++ 26 ∷ []) ≡ text = rw n (take_at text (26 ∷ []) (length text) refl) in
-    let whole : before_first is_end_mark (ascii rows) ≡ text = ap (λ (t : List ℕ). before_first is_end_mark (t ++ 26 ∷ [])) (rows_lines rows) ∙ front in
-    record {
-      lines = ls;
-      joined = rw whole (written_joined ls (clean_rows k m rows h));
-      count = length-map rows row_fields;
-      each = each_by (λ i r. SpellsRow k m (slice_index_or ls i []) r) 0 rows (λ j r e.
-          let z : 0 + j ≡ j = omega arith in
-          rw (z, got_map row_fields rows j [] r e) (row_spelled k m r (all_got (RowTaken ascii_bounds k m) rows j r h e)));
-    }
+    let whole : before_first is_end_mark (ascii rs) ≡ text = ap (λ (t : List ℕ). before_first is_end_mark (t ++ 26 ∷ [])) (rows_lines rs) ∙ front in
+    record { lines = ls; joined = rw whole (written_joined ls (clean_rows k m rs h)); rows = rows_again k m [] rs 1 h }

@@ -11,6 +11,10 @@ whole f = whole_number f
 unfoldable pub natural : ℕ → List ℕ → Option ℕ
 natural high f = up_to high (whole_number f)
 
+-- the greatest number of a row, and the greatest stamp
+abbrev pub ten_digits : ℕ
+ten_digits = 9999999999
+
 -- a whole number from -99,999 to 99,999
 unfoldable pub small : List ℕ → Option ℤ
 small f = within (negsuc 99998) (pos 99999) (whole_number f)

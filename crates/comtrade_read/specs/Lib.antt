@@ -1,14 +1,9 @@
-pub mod Table
 pub mod Line
 pub mod Fields
 pub mod Instant
 pub mod Head
-pub mod Faulty
 pub mod Ascii
-pub mod Data
 pub mod Joined
-pub mod Spells
 pub mod Reads
-pub mod Pair
 pub mod ReadBack
 pub mod Inner

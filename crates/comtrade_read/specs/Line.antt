@@ -1,10 +1,9 @@
 -- What the fields of a line say, and what the lines of a file say, or their first fault.
-use Rattle.std.specs.Prelude.{ℕ, ◌+◌, zero, suc, ◌==◌, if◌then◌else◌, List, [], ◌∷◌, ◌++◌, length, Option, Some, None, Result, Ok, Err}
+use Rattle.std.specs.Prelude.{ℕ, ◌+◌, zero, suc, List, [], ◌∷◌, ◌++◌, Option, Result, Ok, Err}
 use Rattle.dfr_channels.specs.Lines.{field}
+use Rattle.dfr_channels.specs.LineFields.{many, need}
 use Rattle.comtrade_read.specs.declared.fault.ReadFault.{ReadFault}
 use Rattle.comtrade_read.specs.declared.fault.ReadFault.TheVariants as faults
-
--- ---- the fields of a line
 
 -- the fault of a line, by the line's number
 abbrev pub Fault : Type 0
@@ -14,20 +13,19 @@ Fault = ℕ → ReadFault
 abbrev pub number : ℕ → Fault
 number i line = faults.Number line i
 
--- fields that are so many
-abbrev pub many : {A : Type 0} → ℕ → List (List ℕ) → Result A Fault → Result A Fault
-many n fs says = if length fs == n then says else Err faults.Fields
+-- so many fields, from field i on, and what follows from what they say
+abbrev pub need_each : {A B : Type 0} → (List ℕ → Option A) → ℕ → ℕ → List A → List (List ℕ) → (List A → Result B Fault) → Result B Fault
+need_each read i zero before fs more = more before
+need_each read i (suc n) before fs more = need (read (field fs i)) (number (i + 1)) (λ x. need_each read (i + 1) n (before ++ x ∷ []) fs more)
 
--- a field that can be read, and what follows from what it says
-abbrev pub need : {A B : Type 0} → Option A → Fault → (A → Result B Fault) → Result B Fault
-need None fault more = Err fault
-need (Some x) fault more = more x
+-- what follows from what is said
+abbrev pub follow : {A B F : Type 0} → Result A F → (A → Result B F) → Result B F
+follow (Ok x) more = more x
+follow (Err e) more = Err e
 
 -- a line of one field
 abbrev pub one : {A : Type 0} → (List ℕ → Option A) → Fault → List (List ℕ) → Result A Fault
-one read fault fs = many 1 fs (need (read (field fs 0)) fault (λ x. Ok x))
-
--- ---- lines, each by its fields
+one read fault fs = many 1 faults.Fields fs (need (read (field fs 0)) fault (λ x. Ok x))
 
 -- what the lines from the line of this number on say
 abbrev pub Lines : Type 0 → Type 0
@@ -36,10 +34,6 @@ Lines A = ℕ → List (List (List ℕ)) → Result A ReadFault
 abbrev pub told : {A : Type 0} → ℕ → Result A Fault → Result A ReadFault
 told line (Ok x) = Ok x
 told line (Err fault) = Err (fault line)
-
-abbrev pub follow : {A B : Type 0} → Result A ReadFault → (A → Result B ReadFault) → Result B ReadFault
-follow (Ok x) more = more x
-follow (Err e) more = Err e
 
 -- a line of this kind, and what follows from what it says
 abbrev pub next : {A B : Type 0} → (List (List ℕ) → Result A Fault) → (A → Lines B) → Lines B

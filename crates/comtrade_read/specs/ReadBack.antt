@@ -1,12 +1,10 @@
 -- What is written is read.
-use Rattle.std.specs.Prelude.{◌≡◌, List, Option, Some, None}
-use Rattle.std.specs.List.{AllByRecursion, filter_map}
+use Rattle.std.specs.Prelude.{◌≡◌, List, [], ◌∷◌, Option, Some, None}
+use Rattle.std.specs.List.{AllByRecursion}
 use Rattle.dfr_channels.specs.Spelling.{IsNumber}
 use Rattle.dfr_channels.specs.Parts.{AnalogParts, SetupParts}
 use Rattle.dfr_recorder.specs.Parts.{RecordParts}
-use Rattle.dfr_recorder.specs.Steps.{StepParts}
 use Rattle.dfr_recorder.specs.Steps as step
-use Rattle.dfr_recorder.specs.Answers.{AnswerParts}
 use Rattle.dfr_recorder.specs.Answers as answer
 use Rattle.dfr_recorder.specs.History.{Opening}
 use Rattle.dfr_recorder.specs.Kept.{reply}
@@ -19,12 +17,8 @@ use Rattle.comtrade_write.specs.OfRecord.{file}
 use Rattle.comtrade_read.specs.Reads.{Reads}
 
 -- each number of a channel is one that a Decimal holds
-pub record HasDecimals (c : AnalogParts) : Type 0 where
-  pub a : IsNumber c.a
-  pub b : IsNumber c.b
-  pub skew : IsNumber c.skew
-  pub primary : IsNumber c.primary
-  pub secondary : IsNumber c.secondary
+abbrev pub HasDecimals : AnalogParts → Type 0
+HasDecimals c = AllByRecursion IsNumber (c.a ∷ c.b ∷ c.skew ∷ c.primary ∷ c.secondary ∷ [])
 
 -- the same of a head, as every value of the type Head has it
 pub record HasNumbers (h : HeadParts) : Type 0 where
@@ -38,7 +32,7 @@ abbrev pub ReadBackLaw : Type 0
 ReadBackLaw = (f : FileParts) → HasNumbers f.head → cfg_refusal f ≡ None → dat_refusal f.head.kind f ≡ None → Reads (cfg f.head) (dat f.head.kind f) f
 
 -- the file of the record that an answer took, where it took one
-abbrev pub file_taken : SetupParts → Kind → AnswerParts → Option FileParts
+abbrev pub file_taken : SetupParts → Kind → answer.AnswerParts → Option FileParts
 file_taken layout kind (answer.Take (Some r)) = Some (file layout r kind)
 file_taken layout kind (answer.Take None) = None
 file_taken layout kind (answer.Scan result) = None
@@ -46,11 +40,7 @@ file_taken layout kind (answer.Lost result) = None
 file_taken layout kind (answer.Trigger result) = None
 file_taken layout kind (answer.SetRules done) = None
 
--- the files of the records that answers took, in order
-abbrev pub files_taken : SetupParts → Kind → List AnswerParts → List FileParts
-files_taken layout kind answers = filter_map (file_taken layout kind) answers
-
 -- every record that a recorder of this opening gives, after whatever history, is read from its own two files, of either kind
 abbrev pub RecordsReadBack : Opening → Type 0
-RecordsReadBack o = (h : List StepParts) (r : RecordParts) (kind : Kind) → reply o h step.Take ≡ answer.Take (Some r)
+RecordsReadBack o = (h : List step.StepParts) (r : RecordParts) (kind : Kind) → reply o h step.Take ≡ answer.Take (Some r)
     → (let f = file o.layout r kind in Reads (cfg f.head) (dat f.head.kind f) f)

@@ -1,17 +1,20 @@
--- Which texts read to which files: the grammar of both files, apart from how a reader cuts them and in what order it looks.
-use Rattle.std.specs.Prelude.{◌≡◌, ℕ, ◌+◌, ◌-◌, ◌*◌, ◌/◌, ◌<◌, ◌^◌, ◌≤ℤ◌, Bool, List, ◌++◌, length, Option, Some, None, Ok, pos, neg_ℤ}
+-- Which texts read to which files, and the first fault of those that read to none: the grammar of both files.
+use Rattle.std.specs.Prelude.{◌≡◌, ◌≢◌, ℕ, ◌+◌, ◌-◌, ◌*◌, ◌/◌, ◌<◌, ◌^◌, ◌≤ℤ◌, Bool, List, ◌++◌, length, map, Option, Some, None, Ok, Err, pos, neg_ℤ}
 use Rattle.std.specs.List.{before_first, concat, AllByRecursion, AllZip}
+use Rattle.dfr_channels.specs.Lines.{lines, fields}
 use Rattle.dfr_channels.specs.declared.scan.Reading.{Reading}
 use Rattle.dfr_channels.specs.declared.scan.Reading.TheVariants.{Value, Missing}
 use Rattle.comtrade_write.specs.declared.file.Kind.{Kind}
 use Rattle.comtrade_write.specs.declared.file.Kind.TheVariants.{Ascii, Binary}
 use Rattle.comtrade_write.specs.Parts.{HeadParts, RowParts, FileParts}
 use Rattle.comtrade_write.specs.Binary.{row_bytes}
+use Rattle.comtrade_read.specs.declared.fault.ReadFault.{ReadFault}
+use Rattle.comtrade_read.specs.declared.fault.ReadFault.TheVariants as faults
+use Rattle.comtrade_read.specs.declared.pair.Part.{Part}
+use Rattle.comtrade_read.specs.declared.pair.Part.TheVariants.{Cfg, Dat}
 use Rattle.comtrade_read.specs.Joined.{IsJoined}
-use Rattle.comtrade_read.specs.Spells.{SpellsRow, EachFrom, fields_at}
-use Rattle.comtrade_read.specs.Head.{head}
-use Rattle.comtrade_read.specs.Ascii.{is_end_mark}
-use Rattle.comtrade_read.specs.Data.{row_count}
+use Rattle.comtrade_read.specs.Head.{last_sample, head}
+use Rattle.comtrade_read.specs.Ascii.{is_end_mark, data_lines, rows}
 
 -- a configuration file
 pub record ReadsHead (cfg : List ℕ) (h : HeadParts) : Type 0 where
@@ -20,11 +23,10 @@ pub record ReadsHead (cfg : List ℕ) (h : HeadParts) : Type 0 where
   pub head : head lines ≡ Ok h
 
 -- ASCII data: what stands before the first byte 1A is one line for each row
-pub record ReadsAscii (k m : ℕ) (dat : List ℕ) (rows : List RowParts) : Type 0 where
+pub record ReadsAscii (k m : ℕ) (dat : List ℕ) (rs : List RowParts) : Type 0 where
   pub lines : List (List (List ℕ))
   pub joined : IsJoined (before_first is_end_mark dat) lines
-  pub count : length lines ≡ length rows
-  pub each : EachFrom (λ i r. SpellsRow k m (fields_at lines i) r) 0 rows
+  pub rows : rows k m (length rs) lines ≡ Ok rs
 
 -- a value whose bytes aren't those of a missing one
 abbrev pub IsPresent : Reading → Type 0
@@ -59,10 +61,40 @@ ReadsAs Binary k m dat rows = ReadsBinary k m dat rows
 
 -- a data file under its head
 pub record ReadsRows (h : HeadParts) (dat : List ℕ) (rows : List RowParts) : Type 0 where
-  pub count : length rows ≡ row_count h
+  pub count : length rows ≡ last_sample h.rates
   pub each : ReadsAs h.kind (length h.analog) (length h.status) dat rows
 
 -- a pair of files
 pub record Reads (cfg dat : List ℕ) (f : FileParts) : Type 0 where
   pub head : ReadsHead cfg f.head
   pub rows : ReadsRows f.head dat f.rows
+
+abbrev pub FaultyHead : List ℕ → ReadFault → Type 0
+FaultyHead cfg e = head (map fields (lines cfg)) ≡ Err e
+
+-- the bytes of a binary row: number and stamp, two for each value, two for each sixteen bits begun
+abbrev pub row_size : ℕ → ℕ → ℕ
+row_size k m = 8 + 2 * k + 2 * ((m + 15) / 16)
+
+abbrev pub FaultyAs : Kind → ℕ → ℕ → ℕ → List ℕ → ReadFault → Type 0
+FaultyAs Ascii k m count dat e = rows k m count (map fields (data_lines dat)) ≡ Err e
+FaultyAs Binary k m count dat e = (length dat ≢ count * row_size k m) × (e ≡ faults.Length)
+
+abbrev pub FaultyData : HeadParts → List ℕ → ReadFault → Type 0
+FaultyData h dat e = FaultyAs h.kind (length h.analog) (length h.status) (last_sample h.rates) dat e
+
+-- the data are judged under the head that the configuration file reads to
+abbrev pub FaultyPair : List ℕ → List ℕ → Part → ReadFault → Type 0
+FaultyPair cfg dat Cfg e = FaultyHead cfg e
+FaultyPair cfg dat Dat e = (h : HeadParts) × (ReadsHead cfg h × FaultyData h dat e)
+
+-- nothing has the property
+abbrev pub Nothing : {A : Type 0} → (A → Type 0) → Type 0
+Nothing {A = A} P = (x : A) → P x → ⊥
+
+-- no two things have it
+abbrev pub AtMostOne : {A : Type 0} → (A → Type 0) → Type 0
+AtMostOne {A = A} P = (x y : A) → P x → P y → x ≡ y
+
+abbrev pub IsNoFile : List ℕ → List ℕ → Type 0
+IsNoFile cfg dat = Nothing (Reads cfg dat)

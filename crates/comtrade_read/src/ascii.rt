@@ -1,15 +1,12 @@
 //! The lines of an ASCII data file.
 
-ghost use Rattle.std.specs.Prelude.{◌≡◌, ◌≢◌, ◌+◌, ◌<◌, ◌≤◌, ◌^◌, length, drop, IfOk, IfErr, false};
+ghost use Rattle.std.specs.Prelude.{◌≡◌, ◌+◌, ◌<◌, ◌^◌, length, map};
 ghost use Rattle.std.specs.List.{before_first};
-ghost use Rattle.comtrade_read.specs.declared.fault.ReadFault.TheVariants as faults;
-ghost use Rattle.dfr_channels.specs.Lines.{texts, fields, line_fields};
-ghost use Rattle.dfr_channels.specs.declared.scan.Reading.TheVariants as readings;
-ghost use Rattle.dfr_channels.specs.Fields.{bit as read_bit};
-ghost use Rattle.comtrade_read.specs.Inner.LineFaults.{Gives, first_in, fields_fault, line_fault, file_fault};
-ghost use Rattle.comtrade_read.specs.Faulty.{AllObey, Faulty};
+ghost use Rattle.dfr_channels.specs.Lines.{texts, fields};
+ghost use Rattle.comtrade_read.specs.Line.{told};
 ghost use Rattle.comtrade_read.specs.Ascii as spec;
-ghost use Rattle.comtrade_read.specs.Inner.RowValues as steps;
+ghost use Rattle.comtrade_read.specs.Inner.LineFaults.{Is};
+ghost use Rattle.comtrade_read.specs.Inner.HeadValues.{line_at, lines_at, next_row};
 
 use crate::cells::{field_count, first_field};
 use crate::fault::ReadFault;
@@ -50,51 +47,6 @@ fn value_of(text: &[u8]) -> Option<Reading>
     }
 }
 
-/// The first values of the text, whose first field has this number, and what stands behind them.
-fn values_of<'a, A: Allocator + Copy>(
-    alloc: A,
-    line: u64,
-    text: &'a [u8],
-    count: u32,
-) -> Result<(Vec<Reading, A>, &'a [u8]), ReadFault>
-    requires few { count < 1000000 }
-    requires there { count ≤ length (fields text.now) }
-    ensures values { Gives (λ x. x.0.items) (first_in (steps.cell_faults spec.value line 2 (fields text.now)) count) (steps.cells spec.value readings.Missing (fields text.now) count) result }
-    ensures rest { IfOk result (λ x. count < length (fields text.now) → fields x.1.now ≡ drop count (fields text.now)) }
-{
-    let mut list = Vec::with_capacity(alloc, count as usize)?;
-    let mut left = text;
-    for i in 0..count {
-        let (field, rest) = first_field(left);
-        list.push(needed(value_of(field), line, 2 + i)?)?;
-        left = rest;
-    }
-    Ok((list, left))
-}
-
-/// The first bits of the text, behind k values.
-fn bits_of<A: Allocator + Copy>(
-    alloc: A,
-    line: u64,
-    text: &[u8],
-    k: u32,
-    count: u32,
-) -> Result<Vec<bool, A>, ReadFault>
-    requires k { k < 1000000 }
-    requires few { count < 1000000 }
-    requires there { count ≤ length (fields text.now) }
-    ensures { Gives (λ v. v.items) (first_in (steps.cell_faults read_bit line (2 + k) (fields text.now)) count) (steps.cells read_bit false (fields text.now) count) result }
-{
-    let mut list = Vec::with_capacity(alloc, count as usize)?;
-    let mut left = text;
-    for i in 0..count {
-        let (field, rest) = first_field(left);
-        list.push(needed(bit_of(field), line, 2 + k + i)?)?;
-        left = rest;
-    }
-    Ok(list)
-}
-
 /// A row of k values and m bits whose fields are as many.
 fn parts_of<A: Allocator + Copy>(
     alloc: A,
@@ -106,14 +58,24 @@ fn parts_of<A: Allocator + Copy>(
     requires k { k < 1000000 }
     requires m { m < 1000000 }
     requires many { length (fields text.now) ≡ 2 + k + m }
-    ensures { Gives (λ x. x) (steps.row_chain k m line (fields text.now)) (steps.row_value k m (fields text.now)) result }
+    ensures { Is (λ x. x) (told line (spec.row_line k m (fields text.now))) result }
 {
-    let (field, rest) = first_field(text);
+    let (field, left) = first_field(text);
     let number = needed(natural(field, 9_999_999_999), line, 0)?;
-    let (field, rest) = first_field(rest);
+    let (field, mut left) = first_field(left);
     let stamp = needed(stamp_of(field), line, 1)?;
-    let (values, rest) = values_of(alloc, line, rest, k)?;
-    let bits = bits_of(alloc, line, rest, k, m)?;
+    let mut values = Vec::with_capacity(alloc, k as usize)?;
+    for i in 0..k {
+        let (field, rest) = first_field(left);
+        values.push(needed(value_of(field), line, 2 + i)?)?;
+        left = rest;
+    }
+    let mut bits = Vec::with_capacity(alloc, m as usize)?;
+    for j in 0..m {
+        let (field, rest) = first_field(left);
+        bits.push(needed(bit_of(field), line, 2 + k + j)?)?;
+        left = rest;
+    }
     Ok(Row {
         number,
         stamp,
@@ -123,6 +85,7 @@ fn parts_of<A: Allocator + Copy>(
 }
 
 /// A row of k values and m bits.
+#[tactic(auto, unfolding(crate::specs::Ascii::row_line))]
 fn row_of<A: Allocator + Copy>(
     alloc: A,
     line: u64,
@@ -132,7 +95,7 @@ fn row_of<A: Allocator + Copy>(
 ) -> Result<Row<A>, ReadFault>
     requires k { k < 1000000 }
     requires m { m < 1000000 }
-    ensures { Gives (λ x. x) (fields_fault (spec.row_rule k m) line (fields text.now)) (steps.row_value k m (fields text.now)) result }
+    ensures { Is (λ x. x) (told line (spec.row_line k m (fields text.now))) result }
 {
     if let Some(row) = plain_row(alloc, text, k, m)? {
         return Ok(row);
@@ -144,7 +107,7 @@ fn row_of<A: Allocator + Copy>(
 }
 
 /// The row on the line at this place.
-#[tactic(auto, unfolding(crate::specs::Inner::LineFaults::line_fault, dfr_channels::specs::Lines::line_fields))]
+#[tactic(auto, unfolding(crate::specs::Inner::HeadValues::line_at, dfr_channels::specs::Lines::line_fields))]
 fn row_at<A: Allocator + Copy>(
     alloc: A,
     lines: &[&[u8]],
@@ -155,7 +118,7 @@ fn row_at<A: Allocator + Copy>(
     requires place { place + 1 < 2 ^ 64 }
     requires k { k < 1000000 }
     requires m { m < 1000000 }
-    ensures { Gives (λ x. x) (line_fault (texts lines.now) (spec.row_rule k m) place) (steps.row_value k m (line_fields (texts lines.now) place)) result }
+    ensures { Is (λ x. x) (line_at (spec.row_line k m) (texts lines.now) place) result }
 {
     match lines.get(place) {
         Some(text) => row_of(alloc, place as u64 + 1, k, m, text),
@@ -173,7 +136,7 @@ fn rows_of<A: Allocator + Copy>(
 ) -> Result<Vec<Row<A>, A>, ReadFault>
     requires k { k < 1000000 }
     requires m { m < 1000000 }
-    ensures { Gives (λ v. v.items) (first_in (steps.row_faults k m (texts lines.now)) count) (steps.row_items k m (texts lines.now) count) result }
+    ensures { Is (λ v. v.items) (lines_at (next_row k m) (texts lines.now) 0 count) result }
 {
     // the head may claim more rows than there are lines
     let room = count.min(lines.len() as u64);
@@ -194,7 +157,7 @@ fn all_rows<A: Allocator + Copy>(
 ) -> Result<Vec<Row<A>, A>, ReadFault>
     requires k { k < 1000000 }
     requires m { m < 1000000 }
-    ensures { Gives (λ v. v.items) (file_fault (texts lines.now) (spec.row_rules k m count)) (steps.row_items k m (texts lines.now) count) result }
+    ensures { Is (λ v. v.items) (spec.rows k m count (map fields (texts lines.now))) result }
 {
     let rows = rows_of(alloc, lines, k, m, count)?;
     end_at(lines, count as usize)?;
@@ -221,8 +184,7 @@ pub(crate) fn ascii_rows<A: Allocator + Copy>(
 ) -> Result<Vec<Row<A>, A>, ReadFault>
     requires k { k < 1000000 }
     requires m { m < 1000000 }
-    ensures rows { IfOk result (λ v. AllObey (spec.data_lines dat.now) (spec.row_rules k m count) × (v.items ≡ steps.row_items k m (spec.data_lines dat.now) count)) }
-    ensures fault { IfErr result (λ e. e ≢ faults.Memory → Faulty (spec.data_lines dat.now) (spec.row_rules k m count) e) }
+    ensures { Is (λ v. v.items) (spec.rows k m count (map fields (spec.data_lines dat.now))) result }
 {
     let lines = lines_of(alloc, before_end_mark(dat))?;
     all_rows(alloc, without_blank_end(&lines), k, m, count)

@@ -4,7 +4,7 @@ ghost use Rattle.std.specs.Prelude.{◌≡◌, ◌≢◌, ◌≤◌, ◌<◌, �
 ghost use Rattle.std.specs.Vec.{vec_len, vec_capacity};
 ghost use Rattle.comtrade_read.specs.declared.fault.ReadFault.TheVariants as faults;
 ghost use Rattle.comtrade_read.specs.Inner.BinaryRows as spec;
-ghost use Rattle.comtrade_read.specs.Data.{row_size};
+ghost use Rattle.comtrade_read.specs.Reads.{row_size};
 
 use crate::fault::ReadFault;
 use byteorder::{ByteOrder, LittleEndian};

@@ -3,8 +3,8 @@
 ghost use Rattle.std.specs.Prelude.{◌≡◌, ◌+◌, ◌<◌, ◌^◌};
 ghost use Rattle.dfr_channels.specs.Lines.{texts};
 ghost use Rattle.comtrade_read.specs.Line.{told};
-ghost use Rattle.comtrade_read.specs.Head.{analog_line, status_line, next_analog, next_status};
-ghost use Rattle.comtrade_read.specs.Inner.HeadValues.{line_at, lines_at};
+ghost use Rattle.comtrade_read.specs.Head.{analog_line, status_line};
+ghost use Rattle.comtrade_read.specs.Inner.HeadValues.{line_at, lines_at, next_analog, next_status};
 ghost use Rattle.comtrade_read.specs.Inner.LineFaults.{Is};
 
 use crate::fault::ReadFault;
@@ -14,7 +14,7 @@ use dfr_channels::{AnalogChannel, StatusChannel};
 use std::alloc::Allocator;
 
 /// The analogue channel n, counted from 1.
-#[tactic(auto, unfolding(crate::specs::Head::analog_line))]
+#[tactic(auto, unfolding(crate::specs::Head::analog_line, crate::specs::Fields::scale, dfr_channels::specs::LineFields::analog_from))]
 fn analog_of<A: Allocator + Copy>(
     alloc: A,
     line: u64,
@@ -59,7 +59,7 @@ fn analog_of<A: Allocator + Copy>(
 }
 
 /// The status channel n, counted from 1.
-#[tactic(auto, unfolding(crate::specs::Head::status_line))]
+#[tactic(auto, unfolding(crate::specs::Head::status_line, dfr_channels::specs::LineFields::status_from))]
 fn status_of<A: Allocator + Copy>(
     alloc: A,
     line: u64,

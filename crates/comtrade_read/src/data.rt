@@ -1,10 +1,11 @@
 //! Reads a data file under its head.
 
-ghost use Rattle.std.specs.Prelude.{◌≡◌, ◌≢◌, ◌+◌, ◌<◌, ◌≤◌, length, IfOk, IfErr};
+ghost use Rattle.std.specs.Prelude.{◌≡◌, ◌≢◌, ◌+◌, ◌<◌, length, IfOk, IfErr};
 ghost use Rattle.comtrade_read.specs.declared.fault.ReadFault.TheVariants as faults;
-ghost use Rattle.comtrade_read.specs.Data.{FaultyData, last_sample};
-ghost use Rattle.comtrade_read.specs.Reads.{ReadsRows};
-ghost use Rattle.comtrade_read.specs.Pair.{IsNoData};
+ghost use Rattle.comtrade_read.specs.Head.{last_sample};
+ghost use Rattle.comtrade_read.specs.Reads.{ReadsRows, FaultyData, Nothing};
+ghost use Rattle.comtrade_read.specs.Inner.LineFaults.{Is};
+ghost use Rattle.comtrade_read.specs.Inner.RowValues.{rows_as, rows_under};
 
 use crate::ascii::ascii_rows;
 use crate::binary::binary_rows;
@@ -23,6 +24,25 @@ fn last_sample(rates: &[Rate]) -> u64
     }
 }
 
+/// The rows that data of this kind say.
+fn rows_as<A: Allocator + Copy>(
+    alloc: A,
+    kind: Kind,
+    dat: &[u8],
+    k: usize,
+    m: usize,
+    count: u64,
+) -> Result<Vec<Row<A>, A>, ReadFault>
+    requires k { k < 1000000 }
+    requires m { m < 1000000 }
+    ensures { Is (λ v. v.items) (rows_as kind k m count dat.now) result }
+{
+    match kind {
+        Kind::Ascii => ascii_rows(alloc, dat, k as u32, m as u32, count),
+        Kind::Binary => binary_rows(alloc, dat, k, m, count),
+    }
+}
+
 /// The rows that the data say under the head.
 fn rows_of<A: Allocator + Copy>(
     alloc: A,
@@ -30,17 +50,12 @@ fn rows_of<A: Allocator + Copy>(
     dat: &[u8],
 ) -> Result<Vec<Row<A>, A>, ReadFault>
     requires { length head.now.analog + length head.now.status < 1000000 }
-    ensures rows { IfOk result (λ v. ReadsRows head.now dat.now v.items) }
-    ensures fault { IfErr result (λ e. e ≢ faults.Memory → FaultyData head.now dat.now e) }
-    ensures unread { IfErr result (λ e. e ≢ faults.Memory → IsNoData head.now dat.now) }
+    ensures { Is (λ v. v.items) (rows_under head.now dat.now) result }
 {
     let k = head.analog.items().len();
     let m = head.status.items().len();
     let count = last_sample(head.rates.items());
-    match head.kind {
-        Kind::Ascii => ascii_rows(alloc, dat, k as u32, m as u32, count),
-        Kind::Binary => binary_rows(alloc, dat, k, m, count),
-    }
+    rows_as(alloc, head.kind, dat, k, m, count)
 }
 
 /// The file of this head and of the rows that the data say, in the head's kind (C37.111-1999, clause 6). As many rows are
@@ -55,7 +70,7 @@ pub fn read_dat<A: Allocator + Copy>(
     ensures head { IfOk result (λ f. f.head ≡ head) }
     ensures rows { IfOk result (λ f. ReadsRows head dat.now f.rows) }
     ensures fault { IfErr result (λ x. x.0 ≢ faults.Memory → FaultyData head dat.now x.0) }
-    ensures unread { IfErr result (λ x. x.0 ≢ faults.Memory → IsNoData head dat.now) }
+    ensures unread { IfErr result (λ x. x.0 ≢ faults.Memory → Nothing (ReadsRows head dat.now)) }
     ensures back { IfErr result (λ x. x.1 ≡ head) }
 {
     match rows_of(alloc, &head, dat) {

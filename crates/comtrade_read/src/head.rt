@@ -4,8 +4,7 @@ ghost use Rattle.std.specs.Prelude.{◌≡◌, ◌≢◌, ◌+◌, ◌<◌, leng
 ghost use Rattle.comtrade_read.specs.declared.fault.ReadFault.TheVariants as faults;
 ghost use Rattle.dfr_channels.specs.Lines.{texts};
 ghost use Rattle.comtrade_read.specs.Inner.LineFaults.{Is};
-ghost use Rattle.comtrade_read.specs.Pair.{FaultyHead, IsNoHead};
-ghost use Rattle.comtrade_read.specs.Reads.{ReadsHead};
+ghost use Rattle.comtrade_read.specs.Reads.{ReadsHead, FaultyHead, Nothing};
 ghost use Rattle.comtrade_read.specs.Inner.HeadValues.{head_at};
 
 use crate::channels::{analogs_of, statuses_of};
@@ -54,7 +53,7 @@ pub fn read_cfg<A: Allocator + Copy>(alloc: A, text: &[u8]) -> Result<Head<A>, R
     ensures found { IfOk result (ReadsHead text.now) }
     ensures few { IfOk result (λ h. length h.analog + length h.status < 1000000) }
     ensures fault { IfErr result (λ e. e ≢ faults.Memory → FaultyHead text.now e) }
-    ensures unread { IfErr result (λ e. e ≢ faults.Memory → IsNoHead text.now) }
+    ensures unread { IfErr result (λ e. e ≢ faults.Memory → Nothing (ReadsHead text.now)) }
 {
     let lines = lines_of(alloc, text)?;
     head_of(alloc, without_blank_end(&lines))

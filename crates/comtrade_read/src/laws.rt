@@ -1,14 +1,14 @@
 //! Laws of the grammar.
 
-ghost use Rattle.std.specs.Prelude.{◌≡◌, None, List};
+ghost use Rattle.std.specs.Prelude.{◌≡◌, ℕ, None, List};
 ghost use Rattle.dfr_channels.specs.declared.rule.Rule.{Rule};
 ghost use Rattle.dfr_recorder.specs.History.{opening};
+ghost use Rattle.comtrade_write.specs.Parts.{HeadParts};
 ghost use Rattle.comtrade_write.specs.Cfg.{cfg};
 ghost use Rattle.comtrade_write.specs.Data.{dat, dat_refusal};
 ghost use Rattle.comtrade_write.specs.Refusals.{cfg_refusal};
-ghost use Rattle.comtrade_read.specs.Pair.{OneHeadLaw, OneRowsLaw, OneFileLaw};
 ghost use Rattle.comtrade_read.specs.ReadBack.{ReadBackLaw, RecordsReadBack};
-ghost use Rattle.comtrade_read.specs.Reads.{Reads};
+ghost use Rattle.comtrade_read.specs.Reads.{ReadsHead, ReadsRows, Reads, AtMostOne};
 
 use crate::numbers::{layout_numbers, numbers};
 use comtrade_write::File;
@@ -17,9 +17,9 @@ use std::alloc::Allocator;
 
 /// No configuration file reads to two heads, no data to two lists of rows under one head, and no pair of texts to two files.
 pub fn one_file()
-    ensures head { OneHeadLaw }
-    ensures rows { OneRowsLaw }
-    ensures file { OneFileLaw }
+    ensures head { (cfg : List ℕ) → AtMostOne (ReadsHead cfg) }
+    ensures rows { (head : HeadParts) (dat : List ℕ) → AtMostOne (ReadsRows head dat) }
+    ensures file { (cfg dat : List ℕ) → AtMostOne (Reads cfg dat) }
 {}
 
 /// A file that the writers don't refuse is read from its own texts.

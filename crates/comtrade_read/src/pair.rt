@@ -2,8 +2,7 @@
 
 ghost use Rattle.std.specs.Prelude.{◌≢◌, IfOk, IfErr};
 ghost use Rattle.comtrade_read.specs.declared.fault.ReadFault.TheVariants as faults;
-ghost use Rattle.comtrade_read.specs.Pair.{FaultyPair, IsNoFile};
-ghost use Rattle.comtrade_read.specs.Reads.{Reads};
+ghost use Rattle.comtrade_read.specs.Reads.{Reads, FaultyPair, IsNoFile};
 
 use crate::data::read_dat;
 use crate::fault::ReadFault;

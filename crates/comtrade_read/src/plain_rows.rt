@@ -1,13 +1,12 @@
 //! Rows with a stamp, in the writers' spelling, read in one pass.
 
-ghost use Rattle.std.specs.Prelude.{◌≡◌, ◌<◌, ◌+◌, ◌*◌, [], IfOk, IfSome, option_copied, option_map, Some, true, false, pos, negsuc, length};
-ghost use Rattle.dfr_channels.specs.declared.scan.Reading.TheVariants as readings;
+ghost use Rattle.std.specs.Prelude.{◌≡◌, ◌<◌, ◌+◌, ◌*◌, [], IfOk, IfSome, option_copied, option_map, Some, Ok, true, pos, negsuc, length};
 ghost use Rattle.dfr_channels.specs.Lines.{fields};
 ghost use Rattle.dfr_channels.specs.PlainNumbers.{fields_behind};
 ghost use Rattle.dfr_channels.specs.Fields.{within, up_to, bit as read_bit};
-ghost use Rattle.comtrade_read.specs.Fields.{natural};
+ghost use Rattle.comtrade_read.specs.Fields.{natural, ten_digits};
 ghost use Rattle.comtrade_read.specs.Ascii as spec;
-ghost use Rattle.comtrade_read.specs.Inner.PlainRows.{IsNext, AreNext, AreBits, IsRow};
+ghost use Rattle.comtrade_read.specs.Inner.PlainRows.{IsNext, AreNext, AreBits};
 
 use comtrade_write::Row;
 use dfr_channels::{Items, Reading, plain_number};
@@ -15,7 +14,7 @@ use std::alloc::{AllocError, Allocator};
 
 /// The number, where a row's number or stamp can be it.
 fn count(number: i64) -> Option<u64>
-    ensures { result ≡ up_to 9999999999 (Some number) }
+    ensures { result ≡ up_to ten_digits (Some number) }
 {
     if number < 0 {
         return None;
@@ -28,7 +27,7 @@ fn count(number: i64) -> Option<u64>
 
 /// The row's number that stands next, and what stands behind its comma if it has one.
 fn next_number(left: Option<&[u8]>) -> Option<(u64, Option<&[u8]>)>
-    ensures { IfSome result (λ r. IsNext (natural 9999999999) (fields_behind (option_copied left.entry)) r.0 (fields_behind (option_copied r.1))) }
+    ensures { IfSome result (λ r. IsNext (natural ten_digits) (fields_behind (option_copied left.entry)) r.0 (fields_behind (option_copied r.1))) }
 {
     let (number, behind) = plain_number(left?)?;
     let count = count(number)?;
@@ -74,7 +73,7 @@ fn next_values<A: Allocator>(
     text: Option<&[u8]>,
     count: u32,
 ) -> Result<Option<(Vec<Reading, A>, Option<&[u8]>)>, AllocError>
-    ensures { IfOk result (λ r. IfSome r (λ x. AreNext spec.value readings.Missing (fields_behind (option_copied text.entry)) count x.0.items (fields_behind (option_copied x.1)))) }
+    ensures { IfOk result (λ r. IfSome r (λ x. AreNext spec.value (fields_behind (option_copied text.entry)) count x.0.items (fields_behind (option_copied x.1)))) }
 {
     let mut list = Vec::with_capacity(alloc, count as usize)?;
     let mut left = text;
@@ -107,7 +106,7 @@ fn write_bits(slot: &mut [bool], text: &[u8], count: usize)
     requires many { length slot.old ≡ count }
     requires bits { AreBits text.now count }
     requires room { length text.now + 1 ≡ 2 * count }
-    ensures { AreNext read_bit false (fields text.now) count slot.new [] }
+    ensures { AreNext read_bit (fields text.now) count slot.new [] }
 {
     for i in 0..count {
         slot[i] = text[2 * i] == b'1';
@@ -121,7 +120,7 @@ fn plain_bits<A: Allocator>(
     count: usize,
 ) -> Result<Option<Vec<bool, A>>, AllocError>
     requires { count < 1000000 }
-    ensures { IfOk result (λ r. IfSome r (λ bits. AreNext read_bit false (fields text.now) count bits.items [])) }
+    ensures { IfOk result (λ r. IfSome r (λ bits. AreNext read_bit (fields text.now) count bits.items [])) }
 {
     if text.len() % 2 == 0 || text.len() / 2 + 1 != count || !are_bits(text, count) {
         return Ok(None);
@@ -138,7 +137,7 @@ fn last_bits<A: Allocator>(
     count: u32,
 ) -> Result<Option<Vec<bool, A>>, AllocError>
     requires { count < 1000000 }
-    ensures { IfOk result (λ r. IfSome r (λ bits. AreNext read_bit false (fields_behind (option_copied left.entry)) count bits.items [])) }
+    ensures { IfOk result (λ r. IfSome r (λ bits. AreNext read_bit (fields_behind (option_copied left.entry)) count bits.items [])) }
 {
     match left {
         Some(text) => plain_bits(alloc, text, count as usize),
@@ -161,7 +160,7 @@ pub(crate) fn plain_row<A: Allocator + Copy>(
 ) -> Result<Option<Row<A>>, AllocError>
     requires k { k < 1000000 }
     requires m { m < 1000000 }
-    ensures { IfOk result (λ r. IfSome r (λ row. IsRow k m (fields text.now) row)) }
+    ensures { IfOk result (λ r. IfSome r (λ row. spec.row_line k m (fields text.now) ≡ Ok row)) }
 {
     // room is made for no more values and bits than the text has
     if text.len() / 2 < 1 + k as usize + m as usize {

@@ -1,7 +1,7 @@
 //! Files and records that are written and read back.
 
 ghost use Rattle.std.specs.Prelude.{◌≡◌, ◌≢◌, ◌≤◌, ◌++◌, vec_capacity, IfOk, IfErr, IfSome, IsTrue, length, map, take, option_to_list, false, None, []};
-ghost use Rattle.std.specs.List.{All};
+ghost use Rattle.std.specs.List.{All, filter_map};
 ghost use Rattle.dfr_channels.specs.Faults.{◌or◌};
 ghost use Rattle.dfr_recorder.specs.Own.{is_own};
 ghost use Rattle.dfr_recorder.specs.Steps.{step_of};
@@ -13,7 +13,7 @@ ghost use Rattle.comtrade_write.specs.Data.{dat, dat_refusal};
 ghost use Rattle.comtrade_write.specs.Refusals.{Fails, cfg_refusal};
 ghost use Rattle.comtrade_write.specs.OfRecord as spec;
 ghost use Rattle.comtrade_read.specs.Reads.{Reads};
-ghost use Rattle.comtrade_read.specs.ReadBack.{file_taken, files_taken};
+ghost use Rattle.comtrade_read.specs.ReadBack.{file_taken};
 
 use crate::fault::ReadFault;
 use crate::laws::file_reads_back;
@@ -104,7 +104,7 @@ fn read_of_answers<A: Allocator + Copy>(
     kind: Kind,
 ) -> Result<Vec<File<A>, A>, Memory>
     requires { All (λ answer. IsOwnAnswer layout.now (answer_of answer)) answers.now }
-    ensures files { IfOk result (λ files. files.items ≡ files_taken layout.now kind (map answer_of answers.now)) }
+    ensures files { IfOk result (λ files. files.items ≡ filter_map (file_taken layout.now kind) (map answer_of answers.now)) }
     ensures reads { IfOk result (λ files. All (λ f. Reads (cfg f.head) (dat kind f) f) files.items) }
 {
     let mut files = Vec::new(alloc);
@@ -125,7 +125,7 @@ pub fn read_of_run<A: Allocator + Copy>(
     kind: Kind,
 ) -> Result<Vec<File<A>, A>, Memory>
     requires { All (λ answer. IsOwnAnswer ran.now.recorder.layout (answer_of answer)) ran.now.answers.items }
-    ensures files { IfOk result (λ files. files.items ≡ files_taken ran.now.recorder.layout kind (map answer_of ran.now.answers.items)) }
+    ensures files { IfOk result (λ files. files.items ≡ filter_map (file_taken ran.now.recorder.layout kind) (map answer_of ran.now.answers.items)) }
     ensures reads { IfOk result (λ files. All (λ f. Reads (cfg f.head) (dat kind f) f) files.items) }
 {
     read_of_answers(alloc, ran.recorder.layout(), ran.answers.as_slice(), kind)
@@ -151,7 +151,7 @@ pub fn run_and_read<A: Allocator + Copy>(
         → IfSome result.0.stopped (λ step. WantsMemory result.0.recorder (step_of step)) }
     ensures room { length steps.items ≤ vec_capacity result.0.answers
         → IfSome result.0.stopped (λ step. WantsMemory result.0.recorder (step_of step)) }
-    ensures files { IfOk result.1 (λ files. files.items ≡ files_taken recorder.layout kind (map answer_of result.0.answers.items)) }
+    ensures files { IfOk result.1 (λ files. files.items ≡ filter_map (file_taken recorder.layout kind) (map answer_of result.0.answers.items)) }
     ensures reads { IfOk result.1 (λ files. All (λ f. Reads (cfg f.head) (dat kind f) f) files.items) }
 {
     let ran = run(alloc, recorder, steps);

@@ -4,7 +4,7 @@ ghost use Rattle.std.specs.Prelude.{◌≡◌, ◌+◌, ◌<◌, ◌≤◌, ◌^
 ghost use Rattle.dfr_channels.specs.Lines.{texts};
 ghost use Rattle.comtrade_read.specs.Line.{told};
 ghost use Rattle.comtrade_read.specs.Head as spec;
-ghost use Rattle.comtrade_read.specs.Inner.HeadValues.{line_at, lines_at};
+ghost use Rattle.comtrade_read.specs.Inner.HeadValues.{frequency_line, nrates_line, kind_line, timemult_line, line_at, lines_at, next_rate};
 ghost use Rattle.comtrade_read.specs.Inner.LineFaults.{Is};
 ghost use Rattle.comtrade_read.specs.Fields.{whole};
 
@@ -99,9 +99,8 @@ fn instant_of(line: u64, fields: &[&[u8]]) -> Result<i64, ReadFault>
 }
 
 /// The kind of the data file.
-#[tactic(auto, unfolding(crate::specs::Head::kind_line))]
 fn kind_in(line: u64, fields: &[&[u8]]) -> Result<Kind, ReadFault>
-    ensures { Is (λ x. x) (told line (spec.kind_line (texts fields.now))) result }
+    ensures { Is (λ x. x) (told line (kind_line (texts fields.now))) result }
 {
     if fields.len() != 1 {
         return Err(ReadFault::Fields(line));
@@ -110,9 +109,8 @@ fn kind_in(line: u64, fields: &[&[u8]]) -> Result<Kind, ReadFault>
 }
 
 /// The time multiplier.
-#[tactic(auto, unfolding(crate::specs::Head::timemult_line))]
 fn timemult_of(line: u64, fields: &[&[u8]]) -> Result<Decimal, ReadFault>
-    ensures { Is (λ x. x) (told line (spec.timemult_line (texts fields.now))) result }
+    ensures { Is (λ x. x) (told line (timemult_line (texts fields.now))) result }
 {
     if fields.len() != 1 {
         return Err(ReadFault::Fields(line));
@@ -121,9 +119,8 @@ fn timemult_of(line: u64, fields: &[&[u8]]) -> Result<Decimal, ReadFault>
 }
 
 /// The line frequency.
-#[tactic(auto, unfolding(crate::specs::Head::frequency_line))]
 fn frequency_of(line: u64, fields: &[&[u8]]) -> Result<Decimal, ReadFault>
-    ensures { Is (λ x. x) (told line (spec.frequency_line (texts fields.now))) result }
+    ensures { Is (λ x. x) (told line (frequency_line (texts fields.now))) result }
 {
     if fields.len() != 1 {
         return Err(ReadFault::Fields(line));
@@ -132,9 +129,8 @@ fn frequency_of(line: u64, fields: &[&[u8]]) -> Result<Decimal, ReadFault>
 }
 
 /// The number of rates.
-#[tactic(auto, unfolding(crate::specs::Head::nrates_line))]
 fn nrates_of(line: u64, fields: &[&[u8]]) -> Result<u64, ReadFault>
-    ensures value { Is (λ x. x) (told line (spec.nrates_line (texts fields.now))) result }
+    ensures value { Is (λ x. x) (told line (nrates_line (texts fields.now))) result }
     ensures bound { IfOk result (λ n. n ≤ 999) }
 {
     if fields.len() != 1 {
@@ -167,7 +163,7 @@ pub(crate) fn rates_of<A: Allocator + Copy>(
 ) -> Result<Vec<Rate, A>, ReadFault>
     requires start { start < 2 ^ 32 }
     requires count { count < 2 ^ 32 }
-    ensures { Is (λ v. v.items) (lines_at spec.next_rate (texts lines.now) start count) result }
+    ensures { Is (λ v. v.items) (lines_at next_rate (texts lines.now) start count) result }
 {
     let mut list = Vec::new(alloc);
     let mut before = 0;
@@ -212,7 +208,7 @@ pub(crate) fn frequency_at<A: Allocator + Copy>(
     place: usize,
 ) -> Result<Decimal, ReadFault>
     requires { place < 2 ^ 63 }
-    ensures { Is (λ x. x) (line_at spec.frequency_line (texts lines.now) place) result }
+    ensures { Is (λ x. x) (line_at frequency_line (texts lines.now) place) result }
 {
     let fields = fields_at(alloc, lines, place)?;
     frequency_of(place as u64 + 1, &fields)
@@ -226,7 +222,7 @@ pub(crate) fn nrates_at<A: Allocator + Copy>(
     place: usize,
 ) -> Result<u64, ReadFault>
     requires { place < 2 ^ 63 }
-    ensures value { Is (λ x. x) (line_at spec.nrates_line (texts lines.now) place) result }
+    ensures value { Is (λ x. x) (line_at nrates_line (texts lines.now) place) result }
     ensures bound { IfOk result (λ n. n ≤ 999) }
 {
     let fields = fields_at(alloc, lines, place)?;
@@ -255,7 +251,7 @@ pub(crate) fn kind_at<A: Allocator + Copy>(
     place: usize,
 ) -> Result<Kind, ReadFault>
     requires { place < 2 ^ 63 }
-    ensures { Is (λ x. x) (line_at spec.kind_line (texts lines.now) place) result }
+    ensures { Is (λ x. x) (line_at kind_line (texts lines.now) place) result }
 {
     let fields = fields_at(alloc, lines, place)?;
     kind_in(place as u64 + 1, &fields)
@@ -269,7 +265,7 @@ pub(crate) fn timemult_at<A: Allocator + Copy>(
     place: usize,
 ) -> Result<Decimal, ReadFault>
     requires { place < 2 ^ 63 }
-    ensures { Is (λ x. x) (line_at spec.timemult_line (texts lines.now) place) result }
+    ensures { Is (λ x. x) (line_at timemult_line (texts lines.now) place) result }
 {
     let fields = fields_at(alloc, lines, place)?;
     timemult_of(place as u64 + 1, &fields)

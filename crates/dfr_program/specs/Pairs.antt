@@ -4,8 +4,7 @@ use Rattle.std.specs.Io.KnownBytes.{Appends}
 use Rattle.comtrade_read.specs.declared.fault.ReadFault.{ReadFault}
 use Rattle.comtrade_read.specs.declared.fault.ReadFault.TheVariants.{Memory}
 use Rattle.comtrade_read.specs.declared.pair.Part.{Part}
-use Rattle.comtrade_read.specs.Pair.{FaultyPair, IsNoFile}
-use Rattle.comtrade_read.specs.Reads.{Reads}
+use Rattle.comtrade_read.specs.Reads.{Reads, FaultyPair, IsNoFile}
 use Rattle.comtrade_write.specs.Parts.{FileParts}
 use Rattle.dfr_program.specs.ReadTexts.{file_text, read_fault_text}
 

@@ -7,7 +7,7 @@ use Rattle.byteorder.specs.Endian.{little_number}
 use Rattle.dfr_channels.specs.declared.scan.Reading.{Reading}
 use Rattle.dfr_channels.specs.declared.scan.Reading.TheVariants.{Value, Missing}
 use Rattle.comtrade_write.specs.Parts.{RowParts}
-use Rattle.comtrade_read.specs.Data.{row_size}
+use Rattle.comtrade_read.specs.Reads.{row_size}
 
 abbrev pub reading : ℤ → Reading
 reading z = if int_eq z (negsuc 32767) then Missing else Value z

@@ -2,14 +2,44 @@
 use Rattle.std.specs.Prelude.{ℕ, ◌+◌, zero, suc, max, nat_lt, if◌then◌else◌, List, [], ◌∷◌, ◌++◌, length, Option, Some, None, Result, Ok, Err, ℤ}
 use Rattle.dfr_channels.specs.Spelling.{Number}
 use Rattle.dfr_channels.specs.Lines.{line_fields}
+use Rattle.dfr_channels.specs.Fields.{free_scale}
+use Rattle.dfr_channels.specs.Parts.{AnalogParts, StatusParts}
 use Rattle.comtrade_write.specs.declared.file.Kind.{Kind}
 use Rattle.comtrade_write.specs.declared.file.Rate.{Rate}
-use Rattle.comtrade_write.specs.Parts.{HeadParts}
+use Rattle.comtrade_write.specs.Parts.{HeadParts, RowParts}
 use Rattle.comtrade_read.specs.declared.fault.ReadFault.{ReadFault}
 use Rattle.comtrade_read.specs.declared.fault.ReadFault.TheVariants as faults
-use Rattle.comtrade_read.specs.Line.{Fault, told, follow}
+use Rattle.comtrade_read.specs.Line.{Fault, number, one, told, follow}
+use Rattle.comtrade_read.specs.Fields.{natural, scale}
 use Rattle.comtrade_read.specs.Inner.LineFaults.{extra_fault}
-use Rattle.comtrade_read.specs.Head.{names_line, counts_line, frequency_line, nrates_line, instant_line, kind_line, timemult_line, next_analog, next_status, next_rate}
+use Rattle.comtrade_read.specs.Head.{kind, names_line, counts_line, analog_line, status_line, rate_line, instant_line, last_sample}
+use Rattle.comtrade_read.specs.Ascii.{row_line}
+
+-- lines of one field
+abbrev pub frequency_line : List (List ℕ) → Result Number Fault
+frequency_line fs = one free_scale (number 1) fs
+
+abbrev pub nrates_line : List (List ℕ) → Result ℕ Fault
+nrates_line fs = one (natural 999) (number 1) fs
+
+abbrev pub kind_line : List (List ℕ) → Result Kind Fault
+kind_line fs = one kind (λ line. faults.Kind) fs
+
+abbrev pub timemult_line : List (List ℕ) → Result Number Fault
+timemult_line fs = one scale (number 1) fs
+
+-- a line behind those before it
+abbrev pub next_analog : List AnalogParts → List (List ℕ) → Result AnalogParts Fault
+next_analog before fs = analog_line (length before + 1) fs
+
+abbrev pub next_status : List StatusParts → List (List ℕ) → Result StatusParts Fault
+next_status before fs = status_line (length before + 1) fs
+
+abbrev pub next_rate : List Rate → List (List ℕ) → Result Rate Fault
+next_rate before fs = rate_line (last_sample before) fs
+
+abbrev pub next_row : ℕ → ℕ → List RowParts → List (List ℕ) → Result RowParts Fault
+next_row k m before fs = row_line k m fs
 
 -- the part of a head behind its rates
 pub record EndParts : Type 0 where

@@ -1,7 +1,7 @@
 use Rattle.std.proofs.Common.{ℕ, ◌*◌, drop, refl, arith}
 use Rattle.std.proofs.lemmas.List.FromFn.{map-range_with_len_more}
 use Rattle.comtrade_read.specs.Inner.BinaryRows.{row_at}
-use Rattle.comtrade_read.specs.Data.{row_size}
+use Rattle.comtrade_read.specs.Reads.{row_size}
 use Rattle.comtrade_read.proofs.Outcomes.{part_there, part_is}
 use Rattle.comtrade_read.proofs.binary.rows_of.Goals as goal
 

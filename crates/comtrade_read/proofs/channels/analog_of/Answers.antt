@@ -3,12 +3,14 @@ use Rattle.std.specs.Prelude.{Some}
 use Rattle.std.proofs.lemmas.List.{length-map}
 use Rattle.std.proofs.lemmas.Int.{to_z-of_z}
 use Rattle.dfr_channels.specs.Lines.{texts}
+use Rattle.dfr_channels.specs.LineFields.{analog_from}
+use Rattle.comtrade_read.specs.Fields.{scale}
 use Rattle.comtrade_read.specs.Head.{analog_line}
 use Rattle.comtrade_read.proofs.Signed.{signed, other, same}
 use Rattle.comtrade_read.proofs.channels.analog_of.Goals as goal
 
 pub returns-then-number-n : goal.returns-then-number-n
-unfolding analog_line
+unfolding analog_line analog_from scale
 returns-then-number-n g c =
     let many : length (texts c.args.fields.now) ≡ 13 = length-map c.args.fields.now (λ y. y.now) ∙ c.if-fields-ne13.false in
     λ n. rw (
@@ -26,7 +28,7 @@ returns-then-number-n g c =
     ) refl
 
 pub returns : goal.returns
-unfolding analog_line
+unfolding analog_line analog_from scale
 returns g c =
     let many : length (texts c.args.fields.now) ≡ 13 = length-map c.args.fields.now (λ y. y.now) ∙ c.if-fields-ne13.false in
     let number = c.in_ok-number.ensures ∙ ap (λ z. Some z) (signed c.in_ok-number.number c.args.n (search rules) (search rules) c.if-number-n.false) in

@@ -2,8 +2,8 @@ use Rattle.std.proofs.Common.{◌≡◌, ℕ, ◌+◌, ◌∷◌, [], length, sy
 use Rattle.std.specs.Prelude.{Ok, Err}
 use Rattle.std.proofs.lemmas.Result.{err_from_is_err_and}
 use Rattle.dfr_channels.specs.Lines.{texts}
-use Rattle.comtrade_read.specs.Head.{status_line, next_status}
-use Rattle.comtrade_read.specs.Inner.HeadValues.{line_at}
+use Rattle.comtrade_read.specs.Head.{status_line}
+use Rattle.comtrade_read.specs.Inner.HeadValues.{next_status, line_at}
 use Rattle.comtrade_read.proofs.HeadRead.{starts, goes_on, stops}
 use Rattle.comtrade_read.proofs.channels.statuses_of.Goals as goal
 

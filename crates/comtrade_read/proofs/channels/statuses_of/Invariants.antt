@@ -1,8 +1,7 @@
 use Rattle.std.proofs.Common.{◌≡◌, ◌+◌, length}
 use Rattle.std.specs.Prelude.{Ok}
 use Rattle.dfr_channels.specs.Lines.{texts}
-use Rattle.comtrade_read.specs.Head.{next_status}
-use Rattle.comtrade_read.specs.Inner.HeadValues.{lines_at}
+use Rattle.comtrade_read.specs.Inner.HeadValues.{next_status, lines_at}
 use Rattle.comtrade_read.proofs.channels.statuses_of.Given as goal
 
 abbrev pub invariant-loop-i : goal.invariant-loop-i

@@ -1,4 +1,4 @@
-use Rattle.std.proofs.Common.{false, take}
+use Rattle.std.proofs.Common.{take}
 use Rattle.dfr_channels.specs.Lines.{fields}
 use Rattle.dfr_channels.specs.Fields.{bit}
 use Rattle.comtrade_read.specs.Inner.PlainRows.{AreNext}
@@ -6,4 +6,4 @@ use Rattle.comtrade_read.proofs.PlainRows.{bits_from}
 use Rattle.comtrade_read.proofs.plain_rows.write_bits.Given as goal
 
 abbrev pub invariant-loop-i : goal.invariant-loop-i
-invariant-loop-i l = AreNext bit false (fields l.text) l.i (take l.i l.slot) (bits_from l.text l.count l.i)
+invariant-loop-i l = AreNext bit (fields l.text) l.i (take l.i l.slot) (bits_from l.text l.count l.i)

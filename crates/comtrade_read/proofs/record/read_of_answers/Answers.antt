@@ -1,5 +1,6 @@
 use Rattle.std.proofs.Common.{◌≡◌, ◌++◌, [], ◌∷◌, Option, List, map, take, sym, ap, subst, refl, ◌∙◌, append-nil}
 use Rattle.std.specs.Prelude.{IfSome}
+use Rattle.std.specs.List.{filter_map}
 use Rattle.std.proofs.lemmas.List.{take_all}
 use Rattle.std.proofs.lemmas.List.Elements.{All-same, All-push, All-get_or}
 use Rattle.dfr_recorder.specs.declared.step.Answer.{Answer}
@@ -10,7 +11,7 @@ use Rattle.comtrade_write.specs.Parts.{FileParts}
 use Rattle.comtrade_write.specs.Cfg.{cfg}
 use Rattle.comtrade_write.specs.Data.{dat}
 use Rattle.comtrade_read.specs.Reads.{Reads}
-use Rattle.comtrade_read.specs.ReadBack.{file_taken, files_taken}
+use Rattle.comtrade_read.specs.ReadBack.{file_taken}
 use Rattle.comtrade_read.proofs.ReadAgain.{made_more}
 use Rattle.comtrade_read.proofs.record.read_of_answers.Goals.{in-Some+in_ok-push-in-Some, in-None}
 use Rattle.comtrade_read.proofs.record.read_of_answers.Goals as goal
@@ -36,7 +37,7 @@ loop-answer-preserved g c =
           }
       | in-None w ↦
           let same : c.match-branch-2.files.items ≡ c.loop-answer.files.items = rw w.files-is refl in
-          let made : List FileParts = files_taken c.args.layout.now c.args.kind (map answer_of (take c.loop-answer.answer-index c.args.answers.now)) in
+          let made : List FileParts = filter_map (file_taken c.args.layout.now c.args.kind) (map answer_of (take c.loop-answer.answer-index c.args.answers.now)) in
           record {
             files = same ∙ c.loop-answer.invariant.files ∙ sym (append-nil made) ∙ (rw w.in-None.is at more);
             reads = All-same (IsReadBack c.args.kind) c.match-branch-2.files.items c.loop-answer.files.items same c.loop-answer.invariant.reads;
@@ -46,4 +47,4 @@ loop-answer-preserved g c =
 pub returns-clause-files : goal.returns-clause-files
 returns-clause-files g c =
     let all : take c.loop-answer.answer-index c.args.answers.now ≡ c.args.answers.now = take_all c.loop-answer.answer-index c.args.answers.now c.loop-answer-test.false in
-    subst (λ (l : List (Answer g.row.A.Denot)). c.loop-answer.files.items ≡ files_taken c.args.layout.now c.args.kind (map answer_of l)) all c.loop-answer.invariant.files
+    subst (λ (l : List (Answer g.row.A.Denot)). c.loop-answer.files.items ≡ filter_map (file_taken c.args.layout.now c.args.kind) (map answer_of l)) all c.loop-answer.invariant.files

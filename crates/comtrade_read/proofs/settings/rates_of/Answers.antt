@@ -2,7 +2,7 @@ use Rattle.std.proofs.Common.{◌≡◌, refl, sym, ap, ◌∙◌, arith}
 use Rattle.std.specs.Prelude.{Ok}
 use Rattle.std.proofs.lemmas.Result.{err_from_is_err_and}
 use Rattle.dfr_channels.specs.Lines.{texts}
-use Rattle.comtrade_read.specs.Head.{next_rate}
+use Rattle.comtrade_read.specs.Inner.HeadValues.{next_rate}
 use Rattle.comtrade_read.proofs.HeadRead.{starts, goes_on, stops, last_added}
 use Rattle.comtrade_read.proofs.settings.rates_of.Goals as goal
 

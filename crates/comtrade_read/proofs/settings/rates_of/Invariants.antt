@@ -1,9 +1,8 @@
 use Rattle.std.proofs.Common.{◌≡◌}
 use Rattle.std.specs.Prelude.{Ok}
 use Rattle.dfr_channels.specs.Lines.{texts}
-use Rattle.comtrade_read.specs.Data.{last_sample}
-use Rattle.comtrade_read.specs.Head.{next_rate}
-use Rattle.comtrade_read.specs.Inner.HeadValues.{lines_at}
+use Rattle.comtrade_read.specs.Head.{last_sample}
+use Rattle.comtrade_read.specs.Inner.HeadValues.{next_rate, lines_at}
 use Rattle.comtrade_read.proofs.settings.rates_of.Given as goal
 
 abbrev pub invariant-loop-i : goal.invariant-loop-i
