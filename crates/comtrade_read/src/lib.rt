@@ -1,5 +1,5 @@
-//! Reads COMTRADE files of C37.111-1999. `specs/Reads` says which texts read to which files; `specs/Head` says what each line of
-//! a configuration file says or which fault is its first, `specs/Faulty` which is the first of a data file.
+//! Reads COMTRADE files of C37.111-1999. `specs/Reads` says which texts read to which files, and which fault is the first of
+//! those that read to none; `specs/Head` says what each line of a configuration file says, `specs/Ascii` a row of ASCII data.
 #![tactic(auto)]
 
 mod ascii;
