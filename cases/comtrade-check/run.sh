@@ -15,6 +15,14 @@ rows() {
 }
 . <(grep '^tried' read-cfg-faults/run.sh)
 tried 1 'Bay\0033[31m,DFR,\0033[2J'
+# counts that don't agree with the lines: a rate too many, a channel too few, one too many, one of the other kind, no frequency
+tried 5 '1\r\n500,3'
+tried 3 "$(sed -n '3{s/\r//;p}' files/first.cfg)\r\n2,IB,B,,A,1,0,0,-32767,32767,1,1,P"
+tried 2 '2,2A,0D'
+sed '2s/1,1A/2,2A/; 4s/.*/1,Trip,,,0\r\n&/' files/first.cfg > "$folder/cfg"
+checked "$folder/cfg" files/first.dat
+sed 4d files/first.cfg > "$folder/cfg"
+checked "$folder/cfg" files/first.dat
 checked files/first.cfg files/first.dat
 checked files/lenient.cfg files/binary.dat
 checked files/counts.cfg files/first.dat

@@ -32,3 +32,17 @@ printf '1,0,1,2,3,4,5,6\r\n2,1000,2,3,4,5,6,7\r\n' > "$folder/dat"
 sed 's/^1000,2/1000,8401/' "$folder/cfg" > "$folder/long"
 seq 8401 | sed 's/.*/&,,1,2,3,4,5,6/' > "$folder/dat"
 "$comtrade" plot "$folder/long" "$folder/dat" | grep -c 'kV, primary'
+# many panels share 3,200 pixels: 64 have 50 each, 8 of them between; 250 have 20 each, as much as a name needs
+wide() {
+    printf 's,d,1999\r\n%s,%sA,0D\r\n' "$1" "$1"
+    for n in $(seq "$1"); do printf '%s,U%s,A,,kV,1,0,0,-32767,32767,1,1,P\r\n' "$n" "$n"; done
+    printf '50\r\n1\r\n1000,2\r\n01/07/2024,10:30:00.000000\r\n01/07/2024,10:30:00.001000\r\nASCII\r\n1\r\n'
+}
+for count in 23 24 64 250; do
+    wide $count > "$folder/cfg"
+    for n in 1 2; do printf '%s,' $n; printf ',%.0s7' $(seq $count); echo; done > "$folder/dat"
+    "$comtrade" plot "$folder/cfg" "$folder/dat" > "$folder/svg"
+    head -n 1 "$folder/svg" | grep -o 'height="[0-9.]*"'
+    grep -o 'd="M80.0 [^"]*"/>$' "$folder/svg" | grep h0 | sed -n '1p;2p;$p'
+    grep -E '(>U1 |kV, primary)' "$folder/svg" | head -n 2
+done

@@ -1,5 +1,6 @@
 //! A fault of a pair of files in words: the line, the field's name, what stood there, what is wanted.
 
+use crate::forms::put_other_form;
 use crate::names::{Counts, Place, field_at, fields_wanted, place_at, place_name, type_line};
 use comtrade_read::ReadFault;
 use comtrade_text::{put, put_count, put_number, put_quoted, put_with};
@@ -72,7 +73,11 @@ pub(crate) fn put_place<A: Allocator>(
 }
 
 /// `line 3 (analogue channel 1)`.
-fn put_line<A: Allocator>(out: &mut Vec<u8, A>, line: u64, place: Place) -> Result<(), AllocError> {
+pub(crate) fn put_line<A: Allocator>(
+    out: &mut Vec<u8, A>,
+    line: u64,
+    place: Place,
+) -> Result<(), AllocError> {
     put_with(out, "line ", line)?;
     put(out, " (")?;
     put_place(out, place)?;
@@ -240,7 +245,8 @@ pub(crate) fn put_cfg_fault<A: Allocator + Copy>(
         line,
         place_at(counts, line),
         fault,
-    )
+    )?;
+    put_other_form(alloc, out, lines, counts, line)
 }
 
 /// `line 3 (analogue channel 1), field 2 (id): "IA" stands there`, of the lines of a configuration file.

@@ -4,6 +4,7 @@
 mod check;
 mod describe;
 mod describe_data;
+mod forms;
 mod names;
 mod refuse;
 

@@ -1,12 +1,10 @@
 //! Instants as dates, and spans of time.
 
-use comtrade_text::put_number;
+use comtrade_text::{put, put_number};
+use comtrade_values::civil_of;
 use itoa::Buffer;
-use jiff_core::civil::Date;
+use jiff_core::civil::DateTime;
 use std::alloc::{AllocError, Allocator};
-
-/// Microseconds.
-const DAY: i64 = 86_400_000_000;
 
 /// A number with zeros in front, `width` digits at least.
 pub(crate) fn put_padded<A: Allocator>(
@@ -22,26 +20,21 @@ pub(crate) fn put_padded<A: Allocator>(
     out.extend_from_slice(digits)
 }
 
-fn put_date<A: Allocator>(out: &mut Vec<u8, A>, day: i64) -> Result<(), AllocError> {
-    let Ok(date) = Date::from_unix_epoch_day(day) else {
-        return out.extend_from_slice(b"?");
-    };
-    put_padded(out, date.year.unsigned_abs() as u64, 4)?;
-    out.extend_from_slice(b"-")?;
-    put_padded(out, date.month as u64, 2)?;
-    out.extend_from_slice(b"-")?;
-    put_padded(out, date.day as u64, 2)
+/// A number of two digits after a separator.
+fn put_two<A: Allocator>(out: &mut Vec<u8, A>, before: &str, n: u8) -> Result<(), AllocError> {
+    put(out, before)?;
+    put_padded(out, n as u64, 2)
 }
 
-/// The time of day of so many microseconds since midnight.
-fn put_time<A: Allocator>(out: &mut Vec<u8, A>, us: u64) -> Result<(), AllocError> {
-    put_padded(out, us / 3_600_000_000, 2)?;
-    out.extend_from_slice(b":")?;
-    put_padded(out, us / 60_000_000 % 60, 2)?;
-    out.extend_from_slice(b":")?;
-    put_padded(out, us / 1_000_000 % 60, 2)?;
-    out.extend_from_slice(b".")?;
-    put_padded(out, us % 1_000_000, 6)
+fn put_civil<A: Allocator>(out: &mut Vec<u8, A>, civil: DateTime) -> Result<(), AllocError> {
+    put_padded(out, civil.date.year.unsigned_abs() as u64, 4)?;
+    put_two(out, "-", civil.date.month)?;
+    put_two(out, "-", civil.date.day)?;
+    put_two(out, " ", civil.time.hour)?;
+    put_two(out, ":", civil.time.minute)?;
+    put_two(out, ":", civil.time.second)?;
+    put(out, ".")?;
+    put_padded(out, (civil.time.subsec_nanosecond / 1000) as u64, 6)
 }
 
 /// Microseconds since 1970-01-01 00:00:00 as `yyyy-mm-dd hh:mm:ss.ssssss`.
@@ -49,9 +42,10 @@ pub(crate) fn put_instant<A: Allocator>(
     out: &mut Vec<u8, A>,
     instant: i64,
 ) -> Result<(), AllocError> {
-    put_date(out, instant.div_euclid(DAY))?;
-    out.extend_from_slice(b" ")?;
-    put_time(out, instant.rem_euclid(DAY).unsigned_abs())
+    match civil_of(instant) {
+        Some(civil) => put_civil(out, civil),
+        None => put(out, "?"),
+    }
 }
 
 /// Nanoseconds as milliseconds with three places.

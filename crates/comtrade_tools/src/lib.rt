@@ -3,10 +3,12 @@
 #![tactic(auto)]
 
 mod csv;
+mod groups;
 mod instant;
 mod number;
 mod panels;
 mod peaks;
+mod phases;
 mod plot;
 mod records;
 mod show;

@@ -1,9 +1,8 @@
-//! Numbers of a pair: a decimal and a scaled sample, as text and as a float near to it.
+//! Numbers of a pair as decimals: what stands in the file, and a scaled sample, exact where floats would round.
 
 use dfr_channels::{AnalogChannel, Decimal};
 use itoa::Buffer;
 use std::alloc::{AllocError, Allocator};
-use std::num::nearest_i64_to_f64;
 
 /// The number units * 10^exponent.
 #[derive(Clone, Copy, Debug)]
@@ -190,27 +189,4 @@ pub(crate) fn put_decimal<A: Allocator>(
         exponent: -(decimal.places() as i32),
     };
     put_value(out, exact)
-}
-
-fn power_of_ten(exponent: u32) -> f64 {
-    let mut power = 1.0;
-    for _ in 0..exponent {
-        power *= 10.0;
-    }
-    power
-}
-
-/// The number as a float, from its first 18 digits.
-pub(crate) fn float_of(number: Number) -> f64 {
-    let short = cut(number, 1_000_000_000_000_000_000);
-    let units = match i64::try_from(short.units) {
-        Ok(units) => nearest_i64_to_f64(units),
-        Err(_) => 0.0,
-    };
-    let power = power_of_ten(short.exponent.unsigned_abs().min(400));
-    if short.exponent < 0 {
-        units / power
-    } else {
-        units * power
-    }
 }

@@ -1,14 +1,16 @@
 //! A picture of a pair of files, as SVG.
 
+use crate::groups::{FIRST, groups_of, height_of};
 use crate::instant::put_instant;
-use crate::panels::{GAP, NAME, Scene, panels_in, put_panels, spread};
+use crate::panels::{NAME, Scene, put_panels, spread};
 use crate::svg::{end_text, put_rule, put_text_at, put_xml};
 use crate::ticks::{is_long, put_times};
 use crate::times::{since_trigger, times_of, trigger_nanos};
-use crate::trace::{Frame, LEFT, PANEL, RIGHT, TOP, across, put_bar, put_tenths};
+use crate::trace::{Frame, LEFT, RIGHT, TOP, across, put_bar, put_tenths};
 use comtrade_text::{ToolFault, flush_if_full, put, put_count, write_out};
+use comtrade_values::{Scale, scale_of};
 use comtrade_write::{File, Head};
-use dfr_channels::StatusChannel;
+use dfr_channels::{AnalogChannel, StatusChannel};
 use std::alloc::{AllocError, Allocator};
 use std::io::Write;
 use std::num::{nearest_i64_to_f64, nearest_usize_to_f64};
@@ -151,6 +153,38 @@ fn put_mark<A: Allocator>(
     Ok(())
 }
 
+/// What turns each channel's samples into values.
+fn scales_of<A: Allocator + Copy>(
+    alloc: A,
+    channels: &[AnalogChannel<A>],
+) -> Result<Vec<Scale, A>, ToolFault> {
+    let mut scales = Vec::new(alloc);
+    for channel in channels {
+        scales.push(scale_of(alloc, channel)?)?;
+    }
+    Ok(scales)
+}
+
+/// The picture of a scene, written as it is made.
+fn put_scene<A: Allocator + Copy, W: Write>(
+    alloc: A,
+    scene: &Scene<'_, A>,
+    w: &mut W,
+) -> Result<(), ToolFault> {
+    let file = scene.file;
+    let contacts = FIRST + height_of(scene.groups);
+    let count = file.head.status.items().len();
+    let bottom = contacts + CONTACT * nearest_usize_to_f64(count);
+    let mut out = Vec::new(alloc);
+    put_top(&mut out, file, bottom + 50.0)?;
+    put_times(&mut out, scene.frame, bottom)?;
+    put_panels(&mut out, w, scene)?;
+    put_contacts(&mut out, w, scene, contacts)?;
+    put_mark(&mut out, scene.frame, bottom)?;
+    put(&mut out, "</svg>\n")?;
+    write_out(w, &out)
+}
+
 /// Prints a picture of a file.
 pub fn plot_over<A: Allocator + Copy, W: Write>(
     alloc: A,
@@ -158,23 +192,16 @@ pub fn plot_over<A: Allocator + Copy, W: Write>(
     w: &mut W,
 ) -> Result<(), ToolFault> {
     let times = times_of(alloc, file)?;
+    let scales = scales_of(alloc, file.head.analog.items())?;
+    let groups = groups_of(alloc, file)?;
     let trigger = trigger_nanos(file);
-    let frame = frame_of(&times, trigger);
-    let panels = nearest_usize_to_f64(panels_in(file));
-    let contacts = TOP + GAP + panels * (PANEL + GAP);
-    let bottom = contacts + CONTACT * nearest_usize_to_f64(file.head.status.items().len());
-    let mut out = Vec::new(alloc);
-    put_top(&mut out, file, bottom + 50.0)?;
-    put_times(&mut out, frame, bottom)?;
     let scene = Scene {
         file,
+        groups: &groups,
+        scales: &scales,
         times: &times,
         trigger,
-        frame,
+        frame: frame_of(&times, trigger),
     };
-    put_panels(&mut out, w, &scene)?;
-    put_contacts(&mut out, w, &scene, contacts)?;
-    put_mark(&mut out, frame, bottom)?;
-    put(&mut out, "</svg>\n")?;
-    write_out(w, &out)
+    put_scene(alloc, &scene, w)
 }

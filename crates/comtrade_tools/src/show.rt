@@ -148,9 +148,13 @@ fn put_gaps_of<A: Allocator>(
         }
     }
     if let Some(first) = begun {
-        put_gap(out, clock, first, rows.len().saturating_sub(1))?;
+        if count < LISTED {
+            put_gap(out, clock, first, rows.len().saturating_sub(1))?;
+        }
+        count = count.saturating_add(1);
     }
     if LISTED < count {
+        put(out, " ")?;
         put_more(out, count)?;
         put(out, "\n")?;
     }
@@ -165,7 +169,9 @@ fn put_gaps<A: Allocator>(
 ) -> Result<(), AllocError> {
     for (i, channel) in file.head.analog.items().iter().enumerate() {
         if peaks_of(file.rows.items(), i).missing != 0 {
-            put(out, "\nmissing readings of ")?;
+            let n = (i as u64).saturating_add(1);
+            put_with(out, "\nmissing readings of analogue channel ", n)?;
+            put(out, ", ")?;
             put_safe(out, channel.id.items())?;
             put(out, ", ms since the trigger\n")?;
             put_gaps_of(out, file.rows.items(), clock, i)?;

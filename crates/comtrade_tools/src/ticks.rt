@@ -2,7 +2,7 @@
 
 use crate::number::{Number, put_value};
 use crate::svg::{end_text, put_rule, put_text_at};
-use crate::trace::{Frame, LEFT, PANEL, Panel, RIGHT, TOP, across};
+use crate::trace::{Frame, LEFT, Panel, RIGHT, TOP, across};
 use std::alloc::{AllocError, Allocator};
 use std::num::{nearest_i64_to_f64, saturating_f64_to_i64};
 
@@ -68,12 +68,18 @@ fn put_tick<A: Allocator>(out: &mut Vec<u8, A>, step: Step, tick: i64) -> Result
     )
 }
 
+/// How many levels a panel has: five, or as many as leave each 10.5 pixels, as a digit needs.
+fn levels_in(panel: Panel) -> f64 {
+    let count = panel.height / 10.5;
+    if count < 5.0 { count } else { 5.0 }
+}
+
 /// The values on the left of a panel, and its level lines.
 pub(crate) fn put_levels<A: Allocator>(
     out: &mut Vec<u8, A>,
     panel: Panel,
 ) -> Result<(), AllocError> {
-    let step = step_of(panel.high - panel.low, 5.0);
+    let step = step_of(panel.high - panel.low, levels_in(panel));
     let first = first_tick(step, panel.low);
     for i in 0..6i64 {
         let tick = first.saturating_add(i);
@@ -81,7 +87,7 @@ pub(crate) fn put_levels<A: Allocator>(
         if panel.high < value {
             break;
         }
-        let y = panel.top + PANEL * (panel.high - value) / (panel.high - panel.low);
+        let y = panel.level(value);
         put_rule(out, (LEFT, y), (RIGHT, y), "stroke=\"#e4e4e4\"")?;
         put_text_at(out, LEFT - 6.0, y + 4.0, " text-anchor=\"end\"")?;
         put_tick(out, step, tick)?;

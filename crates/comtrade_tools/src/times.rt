@@ -1,8 +1,10 @@
 //! When each row was taken.
 
-use crate::number::{Number, cut, float_of, number_of};
+use crate::number::{Number, number_of};
+use comtrade_text::ToolFault;
+use comtrade_values::nearest_f64;
 use comtrade_write::{File, Rate, Row};
-use std::alloc::{AllocError, Allocator};
+use std::alloc::Allocator;
 use std::num::{nearest_u64_to_f64, saturating_f64_to_i64};
 
 /// The whole part of a number, at most what 64 bits hold.
@@ -29,23 +31,48 @@ fn stamp_nanos(stamp: u64, timemult: Number) -> i64 {
     })
 }
 
+/// A rate in scans a second, and the number of its last row.
+#[derive(Clone, Copy)]
+struct Pace {
+    samp: f64,
+    endsamp: u64,
+}
+
+fn paces_of<A: Allocator + Copy>(alloc: A, rates: &[Rate]) -> Result<Vec<Pace, A>, ToolFault> {
+    let mut paces = Vec::new(alloc);
+    for rate in rates {
+        let samp = nearest_f64(alloc, rate.samp)?;
+        paces.push(Pace {
+            samp,
+            endsamp: rate.endsamp,
+        })?;
+    }
+    Ok(paces)
+}
+
 /// When a row of this index, from 0, was taken by the rates alone, in nanoseconds since the first.
-fn nanos_by_rates(rates: &[Rate], row: u64) -> Option<i64> {
+fn nanos_by_rates(paces: &[Pace], row: u64) -> Option<i64> {
     let mut nanos = 0.0;
     let mut from = 0;
-    for rate in rates {
-        let samp = float_of(number_of(rate.samp));
-        if samp <= 0.0 {
+    for pace in paces {
+        if pace.samp <= 0.0 {
             return None;
         }
-        let to = row.min(rate.endsamp);
-        nanos += nearest_u64_to_f64(to.saturating_sub(from)) * 1e9 / samp;
-        if row < rate.endsamp {
+        let to = row.min(pace.endsamp);
+        nanos += nearest_u64_to_f64(to.saturating_sub(from)) * 1e9 / pace.samp;
+        if row < pace.endsamp {
             return Some(saturating_f64_to_i64(nanos));
         }
-        from = rate.endsamp;
+        from = pace.endsamp;
     }
     None
+}
+
+fn time_of<A: Allocator>(paces: &[Pace], timemult: Number, i: u64, row: &Row<A>) -> Option<i64> {
+    match row.stamp {
+        Some(stamp) => Some(stamp_nanos(stamp, timemult)),
+        None => nanos_by_rates(paces, i),
+    }
 }
 
 /// When each row was taken, in nanoseconds since the instant of the first: by its stamp, or by the rates where it has none;
@@ -53,23 +80,14 @@ fn nanos_by_rates(rates: &[Rate], row: u64) -> Option<i64> {
 pub(crate) fn times_of<A: Allocator + Copy>(
     alloc: A,
     file: &File<A>,
-) -> Result<Vec<Option<i64>, A>, AllocError> {
-    let timemult = cut(
-        number_of(file.head.timemult),
-        1_000_000_000_000_000_000_000_000_000,
-    );
+) -> Result<Vec<Option<i64>, A>, ToolFault> {
+    let timemult = number_of(file.head.timemult);
+    let paces = paces_of(alloc, file.head.rates.items())?;
     let mut times = Vec::new(alloc);
     for (i, row) in file.rows.items().iter().enumerate() {
-        times.push(time_of(file.head.rates.items(), timemult, i as u64, row))?;
+        times.push(time_of(&paces, timemult, i as u64, row))?;
     }
     Ok(times)
-}
-
-fn time_of<A: Allocator>(rates: &[Rate], timemult: Number, i: u64, row: &Row<A>) -> Option<i64> {
-    match row.stamp {
-        Some(stamp) => Some(stamp_nanos(stamp, timemult)),
-        None => nanos_by_rates(rates, i),
-    }
 }
 
 /// When the trigger was, in nanoseconds since the instant of the first row.

@@ -3,19 +3,18 @@
 use crate::peaks::{bit_at, reading_at};
 use crate::times::since_trigger;
 use comtrade_text::{put, put_number};
+use comtrade_values::Scale;
 use comtrade_write::Row;
 use dfr_channels::Reading;
 use std::alloc::{AllocError, Allocator};
 use std::num::{nearest_i64_to_f64, saturating_f64_to_i64};
 
-/// Where panels begin and end, and how high each is, in pixels.
+/// Where panels begin and end, in pixels.
 pub(crate) const LEFT: f64 = 80.0;
 
 pub(crate) const RIGHT: f64 = 920.0;
 
 pub(crate) const TOP: f64 = 64.0;
-
-pub(crate) const PANEL: f64 = 110.0;
 
 /// The times that are drawn, in milliseconds since the trigger.
 #[derive(Clone, Copy)]
@@ -24,24 +23,20 @@ pub(crate) struct Frame {
     pub(crate) last: f64,
 }
 
-/// A panel's upper edge in pixels, and the values that are drawn in it.
+/// A panel's upper edge and height in pixels, whether its title stands beside it, and the values that are drawn in it.
 #[derive(Clone, Copy)]
 pub(crate) struct Panel {
     pub(crate) top: f64,
+    pub(crate) height: f64,
+    pub(crate) is_thin: bool,
     pub(crate) low: f64,
     pub(crate) high: f64,
 }
 
-/// What a channel makes of its samples: a * x + b.
-#[derive(Clone, Copy)]
-pub(crate) struct Line {
-    pub(crate) a: f64,
-    pub(crate) b: f64,
-}
-
-impl Line {
-    pub(crate) fn at(&self, sample: i32) -> f64 {
-        self.a * (sample as f64) + self.b
+impl Panel {
+    /// Where a value stands.
+    pub(crate) fn level(&self, value: f64) -> f64 {
+        self.top + self.height * (self.high - value) / (self.high - self.low)
     }
 }
 
@@ -84,8 +79,7 @@ fn put_point<A: Allocator>(
 ) -> Result<(), AllocError> {
     put_tenths(out, x)?;
     put(out, " ")?;
-    let y = panel.top + PANEL * (panel.high - value) / (panel.high - panel.low);
-    put_tenths(out, y)
+    put_tenths(out, panel.level(value))
 }
 
 /// Draws what the pen has.
@@ -160,14 +154,14 @@ pub(crate) fn put_trace<A: Allocator>(
     trigger: i64,
     frame: Frame,
     panel: Panel,
-    line: Line,
+    scale: Scale,
     channel: usize,
 ) -> Result<(), AllocError> {
     let mut pen = new_pen();
     for (i, row) in rows.iter().enumerate() {
         match (place_of(times, i, trigger, frame), reading_at(row, channel)) {
             (Some(x), Reading::Value(sample)) => {
-                pen = moved(out, panel, pen, x, line.at(sample))?;
+                pen = moved(out, panel, pen, x, scale.value(sample))?;
             }
             _ => {
                 put_pen(out, panel, pen)?;

@@ -1,5 +1,9 @@
 //! What words ask for.
 
+ghost use Rattle.std.specs.Prelude.{◌≡◌, ◌↔◌, IfOk, IfSome, Some, codes, map};
+ghost use Rattle.clap.specs.Words.{first_value, found_of, subcommand_rows_of};
+ghost use Rattle.comtrade_words.specs.Asking.{AnswersTo, AreNames, Asks, AsksAs, Does, IsText};
+
 use crate::commands::comtrade;
 use clap::{ArgMatches, Error};
 use comtrade_write::Kind;
@@ -41,7 +45,9 @@ pub enum Answer<'a> {
 }
 
 /// Both names of a pair; none where both are standard input.
-fn names_of<'a>(found: &ArgMatches<'a>) -> Option<Names<'a>> {
+fn names_of<'a>(found: &ArgMatches<'a>) -> Option<Names<'a>>
+    ensures { IfSome result (AreNames (first_value (found_of found.now))) }
+{
     let cfg = found.get_str("CFG")?;
     let dat = found.get_str("DAT")?;
     if cfg == "-" && dat == "-" {
@@ -51,15 +57,19 @@ fn names_of<'a>(found: &ArgMatches<'a>) -> Option<Names<'a>> {
 }
 
 /// The kind that is asked for; the parse lets no other word through.
-fn kind_of(found: &ArgMatches<'_>) -> Kind {
+fn kind_of(found: &ArgMatches<'_>) -> Kind
+    ensures { (result ≡ Kind.Binary) ↔ (first_value (found_of found.now) (codes "KIND") ≡ Some (codes "binary")) }
+{
     match found.get_str("KIND") {
-        Some("binary") => Kind::Binary,
+        Some(word) if word == "binary" => Kind::Binary,
         _ => Kind::Ascii,
     }
 }
 
 /// What a command's matches ask for.
-fn asked_of<'a>(verb: &str, found: &ArgMatches<'a>) -> Option<Asked<'a>> {
+fn asked_of<'a>(verb: &str, found: &ArgMatches<'a>) -> Option<Asked<'a>>
+    ensures { IfSome result (Asks (first_value (found_of found.now)) verb.now) }
+{
     if verb == "extract" {
         return Some(Asked::Extract(found.get_str("DIR")?));
     }
@@ -76,16 +86,28 @@ fn asked_of<'a>(verb: &str, found: &ArgMatches<'a>) -> Option<Asked<'a>> {
     if verb == "plot" {
         return Some(Asked::Plot(names));
     }
-    Some(Asked::Show(names))
+    if verb == "show" {
+        return Some(Asked::Show(names));
+    }
+    None
+}
+
+/// What matches ask for; none where both files are standard input.
+#[tactic(auto, using(crate::proofs::MetCommands::asks_met))]
+fn asked_in<'a>(matches: &ArgMatches<'a>) -> Option<Asked<'a>>
+    ensures { IfSome result (AsksAs (subcommand_rows_of matches.now)) }
+{
+    match matches.subcommand() {
+        Some((verb, found)) => asked_of(verb, found),
+        None => None,
+    }
 }
 
 /// What is to be done with matches: all that the parse lets through are asked for, but for a pair of which both are standard input.
-fn answer_to<'a>(alloc: Global, matches: &ArgMatches<'a>) -> Result<Answer<'a>, AllocError> {
-    let asked = match matches.subcommand() {
-        Some((verb, found)) => asked_of(verb, found),
-        None => None,
-    };
-    match asked {
+fn answer_to<'a>(alloc: Global, matches: &ArgMatches<'a>) -> Result<Answer<'a>, AllocError>
+    ensures { IfOk result (Does (subcommand_rows_of matches.now)) }
+{
+    match asked_in(matches) {
         Some(asked) => Ok(Answer::Do(asked)),
         None => Ok(Answer::Refuse(String::from_str(
             alloc,
@@ -94,8 +116,10 @@ fn answer_to<'a>(alloc: Global, matches: &ArgMatches<'a>) -> Result<Answer<'a>, 
     }
 }
 
-/// The text of a parse that found nothing to do.
-fn told<'a>(alloc: Global, error: &Error) -> Result<Answer<'a>, AllocError> {
+/// The text of a parse that found nothing to do: help or the version, else why.
+fn told<'a>(alloc: Global, error: &Error) -> Result<Answer<'a>, AllocError>
+    ensures { IfOk result IsText }
+{
     let text = format!(in alloc; "{error}")?;
     if error.use_stderr() {
         Ok(Answer::Refuse(text))
@@ -104,8 +128,10 @@ fn told<'a>(alloc: Global, error: &Error) -> Result<Answer<'a>, AllocError> {
     }
 }
 
-/// What is to be done with the words after the program's name.
-pub fn answer_of<'a>(alloc: Global, words: &'a [&'a str]) -> Result<Answer<'a>, AllocError> {
+/// What is to be done with the words after the program's name. What is done is what they ask for.
+pub fn answer_of<'a>(alloc: Global, words: &'a [&'a str]) -> Result<Answer<'a>, AllocError>
+    ensures { IfOk result (AnswersTo (map (λ s. s.now) words.entry.now)) }
+{
     match comtrade(alloc)?.try_get_matches_from(words) {
         Ok(matches) => answer_to(alloc, &matches),
         Err(error) => told(alloc, &error),
