@@ -3,12 +3,11 @@
 ghost use Rattle.std.specs.Prelude.{◌≡◌};
 
 use crate::acts::{Act, are_entries};
+use crate::ends::opened;
 use crate::station::{edge, recorder, recorder_at_the_end, value};
 use dfr_channels::Rules;
-use dfr_live::{
-    EndFault, Inner, One, Opened, RulesRefusal, Session, Shared, Source, Token, end, open,
-};
-use dfr_recorder::{Hit, Recorder, ScanRefusal, Scanned};
+use dfr_live::{EndFault, Inner, One, Opened, RulesRefusal, Session, Shared, Source, Token, end};
+use dfr_recorder::{Hit, ScanRefusal, Scanned};
 use std::alloc::Global;
 use std::marker::Brand;
 use std::sync::Wait;
@@ -100,18 +99,12 @@ fn lends<N: Session<Global>, R: Wait>(rt: &R, alloc: Global, opened: Opened) -> 
         && offers(alloc, &mut source, 10)
         && offers(alloc, &mut source, 11);
     let mut inner = shared.unlock();
-    begun && is_lent(alloc, &mut inner, &mut tokens) && is_mismatch(alloc, inner, source, tokens)
-}
-
-fn opened(alloc: Global, recorder: Option<Recorder>) -> Option<Opened> {
-    match recorder {
-        Some(recorder) => open(alloc, recorder, 8, 1).ok(),
-        None => None,
-    }
+    let lent = begun && is_lent(alloc, &mut inner, &mut tokens);
+    is_mismatch(alloc, inner, source, tokens) && lent
 }
 
 fn is_right<R: Wait>(rt: &R, alloc: Global) -> bool {
-    match opened(alloc, recorder(alloc, 1)) {
+    match opened(alloc, recorder(alloc, 1), 8, 1) {
         Some(opened) => lends::<Brand, R>(rt, alloc, opened),
         None => false,
     }
@@ -143,7 +136,7 @@ fn loses_at_the_end<N: Session<Global>>(alloc: Global, opened: Opened) -> bool
 }
 
 fn is_refused(alloc: Global) -> bool {
-    match opened(alloc, recorder_at_the_end(alloc)) {
+    match opened(alloc, recorder_at_the_end(alloc), 8, 1) {
         Some(opened) => loses_at_the_end::<Brand>(alloc, opened),
         None => false,
     }

@@ -4,7 +4,11 @@
 #[cfg(test)]
 mod acts;
 #[cfg(test)]
+mod ends;
+#[cfg(test)]
 mod gate;
+#[cfg(test)]
+mod handed;
 #[cfg(test)]
 mod lent;
 #[cfg(test)]
@@ -15,6 +19,8 @@ mod losses;
 mod one_thread;
 #[cfg(test)]
 mod opening;
+#[cfg(test)]
+mod play;
 #[cfg(test)]
 mod runs;
 #[cfg(test)]

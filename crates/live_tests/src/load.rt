@@ -2,9 +2,9 @@
 
 ghost use Rattle.std.specs.Prelude.{◌≡◌};
 
+use crate::ends::{ended, opened};
 use crate::station::{is_in_order, recorder, value};
-use dfr_live::{Ended, Full, Opened, Session, Shared, Source, Token, end, open};
-use dfr_recorder::Recorder;
+use dfr_live::{Ended, Full, Opened, Session, Shared, Source, Token};
 use std::alloc::Global;
 use std::marker::Brand;
 use std::sync::atomic::{AtomicBool, AtomicU64, Ordering};
@@ -195,6 +195,13 @@ fn is_whole(ended: &Ended, scans: u64, calls: u64) -> bool {
     ended.left.is_empty() && ended.recorder.scans() == scans && ended.log.len() as u64 == calls
 }
 
+fn is_whole_end(ended: Option<Ended>, scans: u64, calls: u64) -> bool {
+    match ended {
+        Some(ended) => is_whole(&ended, scans, calls),
+        None => false,
+    }
+}
+
 /// How many records were taken, where the end is Ok, nothing is left in the lane, and the log has an entry of each call.
 fn ends<N: Session<Global>>(desk: Desk<N>) -> Option<u64> {
     let Desk {
@@ -208,10 +215,8 @@ fn ends<N: Session<Global>>(desk: Desk<N>) -> Option<u64> {
         ..
     } = desk;
     let tokens = from_locks(alloc, tokens);
-    match end(alloc, shared.unlock(), source.into_inner(), tokens) {
-        Ok(ended) => is_whole(&ended, scans, calls.into_inner()).then_some(records.into_inner()),
-        Err(_) => None,
-    }
+    let ended = ended(alloc, shared.unlock(), source.into_inner(), tokens);
+    is_whole_end(ended, scans, calls.into_inner()).then_some(records.into_inner())
 }
 
 fn works<N: Session<Global> + Send + Sync, R: Threads + Wait + Sync>(
@@ -240,15 +245,8 @@ fn works<N: Session<Global> + Send + Sync, R: Threads + Wait + Sync>(
     None
 }
 
-fn opened(alloc: Global, recorder: Option<Recorder>, load: Load) -> Option<Opened> {
-    match recorder {
-        Some(recorder) => open(alloc, recorder, load.lane, load.seats).ok(),
-        None => None,
-    }
-}
-
 fn records<R: Threads + Wait + Sync>(rt: &R, alloc: Global, load: Load) -> Option<u64> {
-    match opened(alloc, recorder(alloc, 4), load) {
+    match opened(alloc, recorder(alloc, 4), load.lane, load.seats) {
         Some(opened) => works::<Brand, R>(rt, alloc, opened, load.scans),
         None => None,
     }

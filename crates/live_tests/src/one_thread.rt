@@ -1,91 +1,9 @@
 //! The calls of one thread, from opening to end.
 
-ghost use Rattle.std.specs.Prelude.{◌≡◌};
-
-use crate::acts::{Act, are_entries, are_made};
-use crate::station::{is_value, recorder};
-use dfr_live::{End, Ended, Left, Opened, Session, Shared, Source, Token, end, open};
-use dfr_recorder::{Hit, Recorder, TriggerFault};
-use std::alloc::Global;
-use std::marker::Brand;
-use std::sync::Wait;
-
-/// A lane, a shelf, the calls of the one token and of the source, the entries that they leave, the scans that are left in the lane
-/// by their losses and values, and how many scans were accepted.
-#[derive(Clone, Copy)]
-struct Play<'a> {
-    lane: usize,
-    shelf: u32,
-    acts: &'a [Act],
-    entries: &'a [(u64, Act)],
-    left: &'a [(u32, i32)],
-    scans: u64,
-}
-
-fn are_left(left: &[Left], wanted: &[(u32, i32)]) -> bool {
-    left.len() == wanted.len()
-        && left.iter().zip(wanted).all(|(item, (lost, x))| item.lost == *lost
-            && is_value(&item.scan, *x))
-}
-
-fn is_ended(ended: &Ended, play: Play) -> bool {
-    are_entries(&ended.log, 0, play.entries)
-        && are_left(&ended.left, play.left)
-        && ended.recorder.scans() == play.scans
-}
-
-fn ends<N: Session<Global>>(
-    alloc: Global,
-    shared: Shared<N>,
-    source: Source<N>,
-    tokens: Vec<Token>,
-    play: Play,
-) -> bool {
-    match end(alloc, shared.unlock(), source, tokens) {
-        Ok(ended) => is_ended(&ended, play),
-        Err(_) => false,
-    }
-}
-
-/// The one token makes the calls, and keeps their entries.
-fn is_called<N: Session<Global>>(
-    rt: &impl Wait,
-    alloc: Global,
-    shared: &Shared<N>,
-    source: &mut Source<N>,
-    tokens: &mut [Token],
-    play: Play,
-) -> bool {
-    match tokens {
-        [token] => {
-            are_made(rt, alloc, shared, source, token, play.acts)
-                && are_entries(token.made(), 0, play.entries)
-        }
-        _ => false,
-    }
-}
-
-fn plays<N: Session<Global>, R: Wait>(rt: &R, alloc: Global, opened: Opened, play: Play) -> bool
-    requires { (opened.opening ≡ N.opening) × (opened.lane ≡ N.lane) }
-{
-    let (shared, mut source, mut tokens) = opened.share::<N>();
-    is_called(rt, alloc, &shared, &mut source, &mut tokens, play)
-        && ends(alloc, shared, source, tokens, play)
-}
-
-fn opened(alloc: Global, recorder: Option<Recorder>, lane: usize, seats: u32) -> Option<Opened> {
-    match recorder {
-        Some(recorder) => open(alloc, recorder, lane, seats).ok(),
-        None => None,
-    }
-}
-
-fn is_played<R: Wait>(rt: &R, alloc: Global, play: Play) -> bool {
-    match opened(alloc, recorder(alloc, play.shelf), play.lane, 1) {
-        Some(opened) => plays::<Brand, R>(rt, alloc, opened, play),
-        None => false,
-    }
-}
+use crate::acts::Act;
+use crate::play::{Play, is_played};
+use dfr_live::End;
+use dfr_recorder::{Hit, TriggerFault};
 
 const OPENS: Act = Act::Trigger(Ok(Hit::Opened(1)));
 
@@ -93,6 +11,7 @@ const OPENS: Act = Act::Trigger(Ok(Hit::Opened(1)));
 const RECORD: Play = Play {
     lane: 8,
     shelf: 1,
+    is_shared: true,
     acts: &[
         Act::Trigger(Err(TriggerFault::NoScan)),
         Act::Offer(10),
@@ -126,6 +45,7 @@ fn a_record(rt: HostRuntime) {
 const FULL_SHELF: Play = Play {
     lane: 8,
     shelf: 1,
+    is_shared: true,
     acts: &[
         Act::Offer(10),
         Act::Offer(11),
@@ -159,6 +79,7 @@ fn a_full_shelf(rt: HostRuntime) {
 const FULL_LANE: Play = Play {
     lane: 1,
     shelf: 1,
+    is_shared: true,
     acts: &[Act::Offer(10), Act::Full(11)],
     entries: &[],
     left: &[(0, 10)],
@@ -174,6 +95,7 @@ fn a_full_lane(rt: HostRuntime) {
 const PUMPS: Play = Play {
     lane: 8,
     shelf: 1,
+    is_shared: true,
     acts: &[
         Act::Pump(0, 0, End::Most),
         Act::Pump(3, 0, End::Empty),
@@ -203,6 +125,7 @@ fn pumps(rt: HostRuntime) {
 const RULES: Play = Play {
     lane: 2,
     shelf: 1,
+    is_shared: true,
     acts: &[
         Act::Edge,
         Act::Offer(10),
@@ -235,6 +158,7 @@ fn rules(rt: HostRuntime) {
 const LOSSES: Play = Play {
     lane: 1,
     shelf: 1,
+    is_shared: true,
     acts: &[
         Act::Lost(0),
         Act::Offer(10),
@@ -287,6 +211,7 @@ fn a_pump_between_two_losses(rt: HostRuntime) {
 const LAST_LOSSES: Play = Play {
     lane: 8,
     shelf: 1,
+    is_shared: true,
     acts: &[
         Act::Lose(1),
         Act::Offer(11),

@@ -1,9 +1,23 @@
 //! Openings that are refused.
 
+use crate::ends::opened;
 use crate::station::{recorder, value};
 use dfr_live::{OpenFault, open};
 use dfr_recorder::Recorder;
 use std::alloc::Global;
+
+/// The fault and the recorder that come back.
+fn given_back(
+    alloc: Global,
+    recorder: Option<Recorder>,
+    lane: usize,
+    seats: u32,
+) -> Option<(OpenFault, Recorder)> {
+    match recorder {
+        Some(recorder) => open(alloc, recorder, lane, seats).err(),
+        None => None,
+    }
+}
 
 /// Why the recorder isn't opened so, and how many scans the recorder has that comes back.
 fn refused(
@@ -12,9 +26,9 @@ fn refused(
     lane: usize,
     seats: u32,
 ) -> Option<(OpenFault, u64)> {
-    match open(alloc, recorder?, lane, seats) {
-        Ok(_) => None,
-        Err((fault, back)) => Some((fault, back.scans())),
+    match given_back(alloc, recorder, lane, seats) {
+        Some((fault, back)) => Some((fault, back.scans())),
+        None => None,
     }
 }
 
@@ -52,10 +66,7 @@ fn refusals_in_order(rt: HostRuntime) {
 }
 
 fn opens(alloc: Global, lane: usize, seats: u32) -> bool {
-    match recorder(alloc, 1) {
-        Some(recorder) => open(alloc, recorder, lane, seats).is_ok(),
-        None => false,
-    }
+    opened(alloc, recorder(alloc, 1), lane, seats).is_some()
 }
 
 /// The bounds themselves are lawful.

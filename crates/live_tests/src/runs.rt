@@ -229,6 +229,13 @@ pub fn outcome<R: Threads + Wait + Sync>(rt: &R, alloc: Global, run: Run) -> Opt
     }
 }
 
+fn fault_of(came: &Came) -> Option<(LiveFault, u64)> {
+    match came.report {
+        Err(fault) if came.whole => Some((fault, came.got)),
+        _ => None,
+    }
+}
+
 /// The run's fault, and how many records the sink had got before; each of them was whole.
 pub fn fault<R: Threads + Wait + Sync>(
     rt: &R,
@@ -236,10 +243,7 @@ pub fn fault<R: Threads + Wait + Sync>(
     run: Run,
 ) -> Option<(LiveFault, u64)> {
     match outcome(rt, alloc, run) {
-        Some(came) => match came.report {
-            Err(fault) => came.whole.then_some((fault, came.got)),
-            Ok(_) => None,
-        },
+        Some(came) => fault_of(&came),
         None => None,
     }
 }

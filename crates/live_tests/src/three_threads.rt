@@ -58,19 +58,21 @@ fn no_lane(rt: HostRuntime) {
     );
 }
 
-/// The sink fails at the record of this number, and had those before it; the first is of scans 1 to 5.
+/// The sink failed at the record of this number, and had those before it; the first is of scans 1 to 5.
+fn is_cut(came: &Came, fails_at: u64) -> bool {
+    matches!(came.report, Err(LiveFault::Sink(9)))
+        && came.whole
+        && came.got == fails_at.saturating_sub(1)
+        && (came.got == 0 || came.newest == (1, 5))
+}
+
 fn sink_fails<R: Threads + Wait + Sync>(rt: &R, alloc: Global, fails_at: u64) -> bool {
     let run = Run {
         fails_at,
         ..TWO_RECORDS
     };
     match outcome(rt, alloc, run) {
-        Some(came) => {
-            matches!(came.report, Err(LiveFault::Sink(9)))
-                && came.whole
-                && came.got == fails_at.saturating_sub(1)
-                && (came.got == 0 || came.newest == (1, 5))
-        }
+        Some(came) => is_cut(&came, fails_at),
         None => false,
     }
 }
@@ -129,7 +131,11 @@ fn is_recording(came: &Came) -> bool {
     }
 }
 
-/// A run in which no record closes.
+/// No record closed.
+fn is_open(came: &Came, scans: u64, wanted: Told) -> bool {
+    is_told(came, scans, wanted) && is_recording(came) && came.got == 0
+}
+
 fn opens<R: Threads + Wait + Sync>(
     rt: &R,
     alloc: Global,
@@ -138,7 +144,7 @@ fn opens<R: Threads + Wait + Sync>(
     wanted: Told,
 ) -> bool {
     match outcome(rt, alloc, run) {
-        Some(came) => is_told(&came, scans, wanted) && is_recording(&came) && came.got == 0,
+        Some(came) => is_open(&came, scans, wanted),
         None => false,
     }
 }
@@ -171,6 +177,10 @@ fn orders_before_any_scan_and_for_a_place_passed(rt: HostRuntime) {
 }
 
 /// One record, of scans 1 to 5.
+fn is_one(came: &Came) -> bool {
+    is_whole(came, 32) && came.got == 1 && came.newest == (1, 5)
+}
+
 fn records<R: Threads + Wait + Sync>(rt: &R, alloc: Global, kind: Kind) -> bool {
     let run = Run {
         kind,
@@ -179,7 +189,7 @@ fn records<R: Threads + Wait + Sync>(rt: &R, alloc: Global, kind: Kind) -> bool 
         ..RUN
     };
     match outcome(rt, alloc, run) {
-        Some(came) => is_whole(&came, 32) && came.got == 1 && came.newest == (1, 5),
+        Some(came) => is_one(&came),
         None => false,
     }
 }

@@ -2,22 +2,17 @@
 
 ghost use Rattle.std.specs.Prelude.{◌≡◌};
 
+use crate::ends;
+use crate::handed::{Handed, and, backwards, idle, mended, missing, right, twice};
 use crate::station::{recorder, value};
-use dfr_live::{EndFault, Inner, Opened, Session, Shared, Source, Token, end, open};
-use dfr_recorder::{Recorder, TriggerFault};
+use dfr_live::{EndFault, Inner, Opened, Session, Shared, Source, Token, end};
+use dfr_recorder::TriggerFault;
 use std::alloc::Global;
 use std::marker::Brand;
 use std::sync::Wait;
 
-fn opened_from(alloc: Global, recorder: Option<Recorder>, seats: u32) -> Option<Opened> {
-    match recorder {
-        Some(recorder) => open(alloc, recorder, 8, seats).ok(),
-        None => None,
-    }
-}
-
 fn opened(alloc: Global, seats: u32) -> Option<Opened> {
-    opened_from(alloc, recorder(alloc, 1), seats)
+    ends::opened(alloc, recorder(alloc, 1), 8, seats)
 }
 
 fn tokens_named<N: Session<Global>>(opened: Opened) -> Vec<Token>
@@ -44,21 +39,6 @@ fn stranger(alloc: Global, seats: u32) -> Option<Token> {
     }
 }
 
-/// The tokens with one more at their end.
-fn and(tokens: Vec<Token>, token: Option<Token>) -> Vec<Token> {
-    let mut tokens = tokens;
-    if let Some(token) = token {
-        let _pushed = tokens.push(token).is_ok();
-    }
-    tokens
-}
-
-fn backwards(tokens: Vec<Token>) -> Vec<Token> {
-    let mut tokens = tokens;
-    tokens.reverse();
-    tokens
-}
-
 /// The end is Ok, and its log has so many entries.
 fn ends<N: Session<Global>>(
     alloc: Global,
@@ -67,89 +47,49 @@ fn ends<N: Session<Global>>(
     tokens: Vec<Token>,
     entries: usize,
 ) -> bool {
-    match end(alloc, inner, source, tokens) {
-        Ok(ended) => ended.log.len() == entries,
-        Err(_) => false,
+    match ends::ended(alloc, inner, source, tokens) {
+        Some(ended) => ended.log.len() == entries,
+        None => false,
     }
 }
 
-/// What is handed in, why that is refused, and what is handed in then: the same with its last token replaced or not.
-#[derive(Drop)]
-struct Wrong {
-    tokens: Vec<Token>,
+/// The end is refused so, and is Ok with what is handed in then.
+fn ends_then<N: Session<Global>>(
+    refused: Option<(EndFault, Inner<N>, Source<N>, Vec<Token>)>,
+    alloc: Global,
     fault: EndFault,
     is_replaced: bool,
     then: Option<Token>,
-}
-
-fn mended(back: Vec<Token>, is_replaced: bool, then: Option<Token>) -> Vec<Token> {
-    let mut back = back;
-    if is_replaced {
-        let _last = back.pop();
+    entries: usize,
+) -> bool {
+    match refused {
+        Some((met, inner, source, back)) => {
+            let back = mended(back, is_replaced, then);
+            ends(alloc, inner, source, back, entries) && met == fault
+        }
+        None => false,
     }
-    backwards(and(back, then))
 }
 
-/// The end is refused so with these tokens, and is Ok with the others.
-fn ends_then<N: Session<Global>>(
+fn ends_as<N: Session<Global>>(
     alloc: Global,
     inner: Inner<N>,
     source: Source<N>,
-    wrong: Wrong,
-    entries: usize,
+    handed: Handed,
 ) -> bool {
-    let Wrong {
+    let Handed {
         tokens,
         fault,
         is_replaced,
         then,
-    } = wrong;
-    match end(alloc, inner, source, tokens) {
-        Err((met, inner, source, back)) => {
-            met == fault
-                && ends(
-                    alloc,
-                    inner,
-                    source,
-                    mended(back, is_replaced, then),
-                    entries,
-                )
+        entries,
+    } = handed;
+    match fault {
+        None => ends(alloc, inner, source, tokens, entries),
+        Some(fault) => {
+            let refused = end(alloc, inner, source, tokens).err();
+            ends_then(refused, alloc, fault, is_replaced, then, entries)
         }
-        Ok(_) => false,
-    }
-}
-
-/// The first of two tokens alone.
-fn missing(tokens: Vec<Token>) -> Wrong {
-    let mut tokens = tokens;
-    let then = tokens.pop();
-    Wrong {
-        tokens,
-        fault: EndFault::Tokens,
-        is_replaced: false,
-        then,
-    }
-}
-
-/// The first of two tokens, and a stranger of the same seat.
-fn twice(tokens: Vec<Token>, stranger: Option<Token>) -> Wrong {
-    let mut tokens = tokens;
-    let then = tokens.pop();
-    Wrong {
-        tokens: and(tokens, stranger),
-        fault: EndFault::Tokens,
-        is_replaced: true,
-        then,
-    }
-}
-
-/// The one token that made nothing, and then the stranger that made the calls.
-fn idle(tokens: Vec<Token>, stranger: Option<Token>) -> Wrong {
-    Wrong {
-        tokens,
-        fault: EndFault::Mismatch,
-        is_replaced: true,
-        then: stranger,
     }
 }
 
@@ -208,6 +148,35 @@ enum Case {
     Pump,
 }
 
+/// The calls of the case are answered as they must be.
+fn are_called<N: Session<Global>>(
+    rt: &impl Wait,
+    alloc: Global,
+    shared: &Shared<N>,
+    source: &mut Source<N>,
+    tokens: &mut [Token],
+    stranger: &mut Option<Token>,
+    case: Case,
+) -> bool {
+    match case {
+        Case::Many(_) => all_take(rt, shared, tokens),
+        Case::Missing | Case::Twice | Case::Exchanged => true,
+        Case::Trigger => triggers(rt, shared, stranger),
+        Case::Pump => offers(alloc, source) && pumps(rt, shared, stranger),
+    }
+}
+
+fn handed(alloc: Global, tokens: Vec<Token>, stranger: Option<Token>, case: Case) -> Handed {
+    match case {
+        Case::Many(n) => right(backwards(tokens), n),
+        Case::Missing => missing(tokens),
+        Case::Twice => twice(tokens, stranger),
+        Case::Exchanged => right(and(Vec::new(alloc), stranger), 0),
+        Case::Trigger => idle(tokens, stranger, 1),
+        Case::Pump => idle(tokens, stranger, 0),
+    }
+}
+
 fn ends_in<N: Session<Global>, R: Wait>(
     rt: &R,
     alloc: Global,
@@ -219,30 +188,17 @@ fn ends_in<N: Session<Global>, R: Wait>(
 {
     let (shared, mut source, mut tokens) = opened.share::<N>();
     let mut stranger = stranger;
-    match case {
-        Case::Many(n) => {
-            all_take(rt, &shared, &mut tokens)
-                && ends(alloc, shared.unlock(), source, backwards(tokens), n)
-        }
-        Case::Missing => ends_then(alloc, shared.unlock(), source, missing(tokens), 0),
-        Case::Twice => ends_then(alloc, shared.unlock(), source, twice(tokens, stranger), 0),
-        Case::Exchanged => ends(
-            alloc,
-            shared.unlock(),
-            source,
-            and(Vec::new(alloc), stranger),
-            0,
-        ),
-        Case::Trigger => {
-            triggers(rt, &shared, &mut stranger)
-                && ends_then(alloc, shared.unlock(), source, idle(tokens, stranger), 1)
-        }
-        Case::Pump => {
-            offers(alloc, &mut source)
-                && pumps(rt, &shared, &mut stranger)
-                && ends_then(alloc, shared.unlock(), source, idle(tokens, stranger), 0)
-        }
-    }
+    let called = are_called(
+        rt,
+        alloc,
+        &shared,
+        &mut source,
+        &mut tokens,
+        &mut stranger,
+        case,
+    );
+    let handed = handed(alloc, tokens, stranger, case);
+    ends_as(alloc, shared.unlock(), source, handed) && called
 }
 
 fn is_ended<R: Wait>(rt: &R, alloc: Global, seats: u32, case: Case) -> bool {
