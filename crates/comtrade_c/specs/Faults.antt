@@ -6,7 +6,7 @@ use Rattle.comtrade_write.specs.Parts.{HeadParts}
 use Rattle.comtrade_read.specs.declared.fault.ReadFault.{ReadFault}
 use Rattle.comtrade_read.specs.declared.fault.ReadFault.TheVariants as reading
 use Rattle.comtrade_read.specs.declared.pair.Part.{Part}
-use Rattle.comtrade_read.specs.Reads.{FaultyPair, FaultyHead, IsNoFile, IsNoHead, ReadsHead}
+use Rattle.comtrade_read.specs.Reads.{ReadsHead, FaultyHead, FaultyPair, Nothing, IsNoFile}
 use Rattle.comtrade_c.specs.declared.answer.Fault.{Fault}
 
 abbrev pub at : ℕ → ℕ → ℕ → Fault
@@ -43,7 +43,7 @@ pub record IsHeadFault (cfg : List ℕ) (said : Fault) : Type 0 where
   pub why : ReadFault
   pub faulty : FaultyHead cfg why
   pub numbers : said ≡ of_read why
-  pub unread : IsNoHead cfg
+  pub unread : Nothing (ReadsHead cfg)
 
 -- the configuration file reads to a head of which this holds
 abbrev pub OfHead : List ℕ → (HeadParts → Type 0) → Type 0
