@@ -1,4 +1,4 @@
-use Rattle.std.proofs.Common.{◌≡◌, sym, ◌∙◌, w32}
+use Rattle.std.proofs.Common.{sym, ◌∙◌, w32}
 use Rattle.std.proofs.Common.{rules}
 use Rattle.std.proofs.lemmas.Int.{to_z-of_z}
 use Rattle.comtrade_c.proofs.channels.comtrade_analog.Goals as goal

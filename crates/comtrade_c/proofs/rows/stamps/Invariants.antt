@@ -1,6 +1,5 @@
-use Rattle.std.proofs.Common.{◌≡◌, ◌++◌, take}
+use Rattle.std.proofs.Common.{◌≡◌, take}
 use Rattle.std.specs.Prelude.{map}
-use Rattle.std.specs.List.{flat_map}
 use Rattle.comtrade_c.specs.Tables.{stamp_of}
 use Rattle.comtrade_c.proofs.rows.stamps.Given as goal
 
