@@ -70,13 +70,11 @@ present_number n lt =
 value_fits : (x : ℤ) → IsPresent (Value x) → FitsSigned w16 x
 value_fits x h = fits_signed_from_abs w16 x (omega (arith, ints, h.0, h.1))
 
-not_lowest : (x : ℤ) → IsPresent (Value x) → int_eq x (negsuc 32767) ≡ false
-not_lowest x h = false_from_ne_true _ (λ t. let same : x ≡ negsuc 32767 = (Decides-int_eq x (negsuc 32767)).0 t in omega (arith, ints, h.0, h.1))
-
 pub reading_again : (v : Reading) → IsPresent v → reading (cast_signed w16 (reading_number v)) ≡ v
 reading_again Missing h = refl
 reading_again (Value x) h =
-    rw (to_z-of_z w16 x (value_fits x h), not_lowest x h) refl
+    let other = false_from_ne_true (int_eq x (negsuc 32767)) (λ t. let same : x ≡ negsuc 32767 = (Decides-int_eq x (negsuc 32767)).0 t in omega (arith, ints, h.0, h.1)) in
+    rw (to_z-of_z w16 x (value_fits x h), other) refl
 
 pub small_number : (v : Reading) → IsPresent v → reading_number v < 65536
 small_number Missing h = omega arith

@@ -2,13 +2,13 @@
 use Rattle.std.proofs.Common.{◌≡◌, ℕ, ◌-◌, ◌<◌, Bool, true, false, eqb, get_or, List, [], ◌∷◌, ◌++◌, length, map, refl, sym, ap, ◌∙◌, arith, length-append}
 use Rattle.std.specs.Prelude.{reverse}
 use Rattle.std.specs.List.{AllByRecursion}
-use Rattle.std.proofs.lemmas.List.{reverse-append, reverse-reverse, length-reverse, get_or-reverse, get_or_append_left, nil_from_length}
+use Rattle.std.proofs.lemmas.List.{append-nil, reverse-append, reverse-reverse, length-reverse, get_or-reverse, get_or_append_left, nil_from_length}
 use Rattle.std.proofs.lemmas.List.Elements.{All-from_recursion}
 use Rattle.std.proofs.lemmas.List.Splits.{slice_split_none}
 use Rattle.std.proofs.lemmas.Bool.{eqb-true, cond_both}
 use Rattle.dfr_channels.specs.Spelling.{is_blank, trim_start, trimmed}
 use Rattle.dfr_channels.specs.Lines.{fields, is_blank_line, drop_front, drop_end}
-use Rattle.comtrade_read.specs.Joined.{AreBlank, HasNone}
+use Rattle.comtrade_read.specs.Joined.{AreBlank}
 use Rattle.comtrade_read.proofs.AllOf.{All-append, All-reverse, All-none}
 
 -- ---- any elements
@@ -74,12 +74,8 @@ past_end p xs ys h = ap (λ zs. reverse (drop_front p zs)) (reverse-append xs ys
 
 -- ---- blanks
 
-pub blank_none : (c : ℕ) → is_blank c ≡ false → (xs : List ℕ) → AreBlank xs → HasNone c xs
-blank_none c none xs h = All-none is_blank c none xs h
-
 only_blanks : (ws : List ℕ) → AreBlank ws → trim_start ws ≡ []
-only_blanks [] h = refl
-only_blanks (w ∷ ws) h = rw h.0 (only_blanks ws h.1)
+only_blanks ws h = ap trim_start (sym (append-nil ws)) ∙ past_front is_blank ws [] h
 
 pub both_stay : (t : List ℕ) → StartsFull is_blank t → StartsFull is_blank (reverse t) → trimmed t ≡ t
 both_stay t a b = ap (drop_end is_blank) (front_stays is_blank t a) ∙ end_stays is_blank t b
@@ -129,5 +125,5 @@ line_blank xs h = rw (only_blanks xs h) refl
 -- a blank line is one empty field
 pub blank_fields : (xs : List ℕ) → is_blank_line xs ≡ true → fields xs ≡ [] ∷ []
 blank_fields xs e =
-    ap (map trimmed) (slice_split_none (λ b. eqb b 44) xs (All-from_recursion (λ b. eqb b 44 ≡ false) xs (blank_none 44 refl xs (blank_line xs e))))
+    ap (map trimmed) (slice_split_none (λ b. eqb b 44) xs (All-from_recursion (λ b. eqb b 44 ≡ false) xs (All-none is_blank 44 refl xs (blank_line xs e))))
     ∙ ap (λ (t : List ℕ). t ∷ []) (nil_from_length (trimmed xs) (eqb-true _ 0 e))

@@ -7,15 +7,15 @@ use Rattle.dfr_channels.specs.Spelling.{is_blank, trimmed}
 use Rattle.dfr_channels.specs.Lines.{lines, fields, without_cr, is_blank_line, drop_end}
 use Rattle.comtrade_read.specs.Joined.{AreBlank, HasNone, Field, field_bytes, IsField, Line, carriage_return, line_bytes, field_texts, IsLine, BlankLine, blank_bytes, IsJoined}
 use Rattle.comtrade_read.proofs.LineEnds.{HasNoReturn, EndsPlain, EndsFull, Bodies, return_none, return-append, return-back, end_off}
-use Rattle.comtrade_read.proofs.AllOf.{All-append, All-map, map-map}
+use Rattle.comtrade_read.proofs.AllOf.{All-append, All-map, All-none, map-map}
 use Rattle.comtrade_read.proofs.Parts.{split_again, join_none}
-use Rattle.comtrade_read.proofs.Blanks.{end_stays, stops_full, past_end, blank_none, trim_again, line_blank, blank_fields}
+use Rattle.comtrade_read.proofs.Blanks.{end_stays, stops_full, past_end, trim_again, line_blank, blank_fields}
 
 -- ---- fields
 
 field_none : (c : ℕ) → is_blank c ≡ false → (f : Field) → IsField f → HasNone c f.text → HasNone c (field_bytes f)
 field_none c none f h k =
-    All-append _ f.before (f.text ++ f.after) (blank_none c none f.before h.before) (All-append _ f.text f.after k (blank_none c none f.after h.after))
+    All-append _ f.before (f.text ++ f.after) (All-none is_blank c none f.before h.before) (All-append _ f.text f.after k (All-none is_blank c none f.after h.after))
 
 body_fields : (f : Field) (fs : List Field) → AllByRecursion IsField (f ∷ fs) → fields (join_with_byte 44 (map field_bytes (f ∷ fs))) ≡ map (λ f. f.text) (f ∷ fs)
 body_fields f fs h =
@@ -24,8 +24,8 @@ body_fields f fs h =
 
 body_return : (f : Field) (fs : List Field) → AllByRecursion IsField (f ∷ fs) → EndsPlain (map (λ f. f.text) (f ∷ fs)) → HasNoReturn (join_with_byte 44 (map field_bytes (f ∷ fs)))
 body_return f [] h e =
-    return-append f.before (f.text ++ f.after) (return_none f.before (blank_none 13 refl f.before h.0.before))
-    (return-append f.text f.after e (return_none f.after (blank_none 13 refl f.after h.0.after)))
+    return-append f.before (f.text ++ f.after) (return_none f.before (All-none is_blank 13 refl f.before h.0.before))
+    (return-append f.text f.after e (return_none f.after (All-none is_blank 13 refl f.after h.0.after)))
 body_return f (g ∷ gs) h e =
     let rest = join_with_byte 44 (map field_bytes (g ∷ gs)) in
     return-back (field_bytes f) 44 rest (return-append (44 ∷ []) rest refl (body_return g gs h.1 e))
@@ -42,14 +42,14 @@ line_feed l h =
     All-append (λ b. eqb b 10 ≡ false) (join_with_byte 44 (map field_bytes (l.first ∷ l.rest))) (carriage_return l.cr) (join_none 44 10 (field_bytes l.first) (map field_bytes l.rest) refl none) (return_feed l.cr)
 
 blank_feed : (l : BlankLine) → AreBlank l.blanks → HasNone 10 (blank_bytes l)
-blank_feed l h = All-append (λ b. eqb b 10 ≡ false) l.blanks (carriage_return l.cr) (blank_none 10 refl l.blanks h) (return_feed l.cr)
+blank_feed l h = All-append (λ b. eqb b 10 ≡ false) l.blanks (carriage_return l.cr) (All-none is_blank 10 refl l.blanks h) (return_feed l.cr)
 
 lines_off : (ls : List Line) → AllByRecursion IsLine ls → AllByRecursion EndsPlain (map field_texts ls) → map without_cr (map line_bytes ls) ≡ Bodies ls
 lines_off [] h e = refl
 lines_off (l ∷ ls) h e = rw (end_off (join_with_byte 44 (map field_bytes (l.first ∷ l.rest))) l.cr (body_return l.first l.rest h.0 e.0), lines_off ls h.1 e.1) refl
 
 blanks_off : (ls : List BlankLine) → AllByRecursion (λ l. AreBlank l.blanks) ls → map without_cr (map blank_bytes ls) ≡ map (λ l. l.blanks) ls
-blanks_off ls h = map-map (λ l. AreBlank l.blanks) without_cr blank_bytes (λ l. l.blanks) (λ l blank. end_off l.blanks l.cr (return_none l.blanks (blank_none 13 refl l.blanks blank))) ls h
+blanks_off ls h = map-map (λ l. AreBlank l.blanks) without_cr blank_bytes (λ l. l.blanks) (λ l blank. end_off l.blanks l.cr (return_none l.blanks (All-none is_blank 13 refl l.blanks blank))) ls h
 
 -- ---- what is dropped at the end
 

@@ -1,6 +1,6 @@
 -- Dates and times that are written are read.
 use Rattle.std.proofs.Common.{◌≡◌, ℕ, zero, suc, ◌+◌, ◌*◌, ◌/◌, ◌%◌, ◌<◌, ◌≤◌, ◌^◌, true, false, List, ◌∷◌, ◌++◌, length, Some, refl, ap, ◌∙◌, arith, append_assoc, inl, inr}
-use Rattle.std.specs.Prelude.{ℤ, pos, negsuc, neg_ℤ, ◌≤ℤ◌, ◌<ℤ◌, ◌+ℤ◌, ◌-ℤ◌, int_le, unsigned_abs}
+use Rattle.std.specs.Prelude.{ℤ, pos, neg_ℤ, ◌≤ℤ◌, ◌<ℤ◌, ◌+ℤ◌, ◌-ℤ◌, int_le, unsigned_abs}
 use Rattle.std.specs.Int.{int_div_euclid, int_rem_euclid}
 use Rattle.std.specs.Str.Parse.{AllDigits}
 use Rattle.std.proofs.lemmas.Bool.{le-leb, cases_lt, cond_both}
@@ -8,7 +8,7 @@ use Rattle.std.proofs.lemmas.Bool.Decides.{nat_tests}
 use Rattle.jiff_core.specs.Calendar.{IsCivilDate, day_count, days_from_civil, days_in_month, days_in_year}
 use Rattle.jiff_core.proofs.CalendarLemmas.{days_from_civil-day_count, day_count-day, day_count-next_month, day_count-last_of_year, day_count-next_year, day_count-end, days_in_month_bounds}
 use Rattle.jiff_core.proofs.MarchLemmas.{day_count-early}
-use Rattle.jiff_core.proofs.SignedLemmas.{signed_arith}
+use Rattle.jiff_core.proofs.SignedLemmas.{signed_arith, one_part}
 use Rattle.dfr_channels.specs.Written.{padded}
 use Rattle.comtrade_write.specs.Dates.{last_that, year_of, month_of, civil_of, day_number, time_of_day, date_text, time_text}
 use Rattle.comtrade_read.specs.Instant.{digits, is_slash, is_colon, is_dot, day_at, date, micros, seconds, time_at, time, instant_at}
@@ -77,10 +77,6 @@ pub record Dated (day : ℤ) : Type 0 where
   pub some : 1 ≤ (civil_of day).year
   pub is : days_from_civil (pos (civil_of day).year) (civil_of day).month (civil_of day).day ≡ day
 
-natural_of : (z : ℤ) → pos 0 ≤ℤ z → (n : ℕ) × (z ≡ pos n)
-natural_of (pos n) h = (n, refl)
-natural_of (negsuc n) h = absurd (omega (arith, signed_arith))
-
 pub dated : (day : ℤ) → neg_ℤ (pos 719_162) ≤ℤ day → day ≤ℤ pos 2_932_896 → Dated day
 unfolding civil_of
 dated day low high =
@@ -90,14 +86,12 @@ dated day low high =
     let month = month_is day year.begun in
     let stop = in_month day y m high year month in
     let first = days_from_civil (pos y) m 1 in
-    let from_first = natural_of (day -ℤ first) (omega (arith, signed_arith, month.begun)) in
-    let n = from_first.0 in
-    let n_is : day -ℤ first ≡ pos n = from_first.1 in
+    let n = unsigned_abs (day -ℤ first) in
+    let n_is : day -ℤ first ≡ pos n = omega (arith, signed_arith, month.begun, one_part (day -ℤ first)) in
     let inside : n + 1 ≤ days_in_month (pos y) m = omega (arith, signed_arith, n_is, stop) in
     let same = day_count-day (pos y) m 1 (n + 1) (omega arith) (omega arith) in
     let is : days_from_civil (pos y) m (n + 1) ≡ day = omega (arith, signed_arith, n_is, same, days_from_civil-day_count (pos y) m (n + 1), days_from_civil-day_count (pos y) m 1) in
-    let size : unsigned_abs (day -ℤ first) ≡ n = ap unsigned_abs n_is in
-    record { civil = rw size ((omega (arith, signed_arith, year.high), omega (arith, signed_arith, year.high)), (month.low, month.high), (omega arith, inside)); some = year.low; is = rw size is }
+    record { civil = ((omega (arith, signed_arith, year.high), omega (arith, signed_arith, year.high)), (month.low, month.high), (omega arith, inside)); some = year.low; is = is }
 
 -- ---- digits in a field
 
@@ -198,10 +192,6 @@ time_printed us lt =
 
 -- ---- instants
 
-rem_pos : (t : ℤ) (k : ℕ) → int_rem_euclid t (pos k) ≡ pos (unsigned_abs (int_rem_euclid t (pos k)))
-rem_pos (pos a) k = refl
-rem_pos (negsuc a) k = refl
-
 -- what an instant of the years 1 to 9999 is made of
 pub record Instant (t : ℤ) : Type 0 where
   pub dated_day : Dated (day_number t)
@@ -210,10 +200,8 @@ pub record Instant (t : ℤ) : Type 0 where
 
 pub instant_written : (t : ℤ) → neg_ℤ (pos 62_135_596_800_000_000) ≤ℤ t → t ≤ℤ pos 253_402_300_799_999_999 → Instant t
 unfolding day_number time_of_day instant_at
-instant_written t low high =
-    let r = rem_pos t 86_400_000_000 in
-    record {
-      dated_day = dated (int_div_euclid t (pos 86_400_000_000)) (omega (arith, signed_arith)) (omega (arith, signed_arith));
-      small = omega (arith, signed_arith, r);
-      is = omega (arith, signed_arith, r);
-    }
+instant_written t low high = record {
+  dated_day = dated (int_div_euclid t (pos 86_400_000_000)) (omega (arith, signed_arith)) (omega (arith, signed_arith));
+  small = omega (arith, signed_arith);
+  is = omega (arith, signed_arith, one_part (int_rem_euclid t (pos 86_400_000_000)));
+}
