@@ -1,16 +1,19 @@
 -- The numbers of a binary row: what is written is read, and what is read is written.
-use Rattle.std.proofs.Common.{◌≡◌, ℕ, zero, suc, ◌+◌, ◌*◌, ◌/◌, ◌%◌, ◌^◌, ◌<◌, ◌≤◌, Bool, true, false, cond, eqb, get_or, take, List, [], ◌∷◌, length, map, Option, Some, None, refl, sym, ap, ◌∙◌, arith}
-use Rattle.std.specs.Prelude.{ℤ, pos, negsuc, ◌≢◌, FitsSigned}
+use Rattle.std.proofs.Common.{◌≡◌, ℕ, zero, suc, ◌+◌, ◌*◌, ◌/◌, ◌^◌, ◌<◌, ◌≤◌, Bool, true, false, cond, eqb, get_or, take, List, [], ◌∷◌, length, map, Option, Some, None, refl, sym, ap, ◌∙◌, arith, inl, inr}
+use Rattle.std.specs.Prelude.{ℤ, negsuc, FitsSigned}
 use Rattle.std.specs.Int.{w16, cast_signed, cast_unsigned, bit_at}
 use Rattle.std.specs.Ordering.{int_eq}
 use Rattle.std.specs.List.{range_with_len}
+use Rattle.jiff_core.proofs.SignedLemmas.{signed_arith}
 use Rattle.std.proofs.lemmas.Int.{ints, of_z-to_z, to_z-of_z, fits_signed_from_abs}
 use Rattle.std.proofs.Math.Facts.{sfits_to_z, Fits-of_lt, Fits-of_z, Fits-lt-pow}
 use Rattle.std.proofs.Math.Nat.{pow-suc}
 use Rattle.std.proofs.lemmas.Nat.{le_bytes_2, le_bytes_4}
-use Rattle.std.proofs.lemmas.Nat.Bits.{bit_at-zero, bit_at_lowest, bit_at-suc}
+use Rattle.std.proofs.lemmas.Nat.Bits.{bit_at-zero, bit_at_lowest, bit_at-suc, bit_at-lt, same_from_bits_below}
+use Rattle.std.proofs.lemmas.List.FromFn.{length-map-range_with_len, get_or-map-range_with_len}
 use Rattle.std.proofs.lemmas.Bool.Decides.{Decides-int_eq, nat_tests}
-use Rattle.std.proofs.lemmas.Bool.{eqb-true}
+use Rattle.std.proofs.lemmas.Bool.{eqb-true, eqb-false, cases_lt, cond_both, false_from_ne_true}
+use Rattle.std.proofs.lemmas.List.{get_or-take, get_or_past, length-take, length-take-le}
 use Rattle.byteorder.specs.Endian.{little_number, little_bytes}
 use Rattle.byteorder.specs.Numbers.{little_from-lt}
 use Rattle.dfr_channels.specs.declared.scan.Reading.{Reading}
@@ -24,29 +27,21 @@ AllBytes xs = (i : ℕ) → get_or xs i 0 < 256
 
 -- ---- bytes of a number
 
+take_fits : (n : ℕ) (xs : List ℕ) → AllBytes xs → AllBytes (take n xs)
+take_fits n xs h i = elim (cases_lt i n) [
+  | inl lt ↦ rw (get_or-take n xs i 0 lt) (h i)
+  | inr le ↦ rw (get_or_past (take n xs) i 0 (omega (arith, length-take n xs))) (omega arith)
+]
+
 pub two_bytes : (xs : List ℕ) → 2 ≤ length xs → AllBytes xs → little_bytes 2 (little_number 2 xs) ≡ take 2 xs
-two_bytes [] le h = absurd (omega arith)
-two_bytes (a ∷ []) le h = absurd (omega arith)
-two_bytes (a ∷ b ∷ xs) le h = le_bytes_2 (a ∷ b ∷ []) (little_number 2 (a ∷ b ∷ xs)) refl fits (omega arith)
-  where
-    fits : (i : ℕ) → get_or (a ∷ b ∷ []) i 0 < 256
-    fits zero = h 0
-    fits (suc zero) = h 1
-    fits (suc (suc i)) = omega arith
+two_bytes xs le h =
+    let at = λ (i : ℕ) (lt : i < 2). get_or-take 2 xs i 0 lt in
+    le_bytes_2 (take 2 xs) (little_number 2 xs) (length-take-le 2 xs le) (take_fits 2 xs h) (omega (arith, at 0 (omega arith), at 1 (omega arith)))
 
 pub four_bytes : (xs : List ℕ) → 4 ≤ length xs → AllBytes xs → little_bytes 4 (little_number 4 xs) ≡ take 4 xs
-four_bytes [] le h = absurd (omega arith)
-four_bytes (a ∷ []) le h = absurd (omega arith)
-four_bytes (a ∷ b ∷ []) le h = absurd (omega arith)
-four_bytes (a ∷ b ∷ c ∷ []) le h = absurd (omega arith)
-four_bytes (a ∷ b ∷ c ∷ d ∷ xs) le h = le_bytes_4 (a ∷ b ∷ c ∷ d ∷ []) (little_number 4 (a ∷ b ∷ c ∷ d ∷ xs)) refl fits (omega arith)
-  where
-    fits : (i : ℕ) → get_or (a ∷ b ∷ c ∷ d ∷ []) i 0 < 256
-    fits zero = h 0
-    fits (suc zero) = h 1
-    fits (suc (suc zero)) = h 2
-    fits (suc (suc (suc zero))) = h 3
-    fits (suc (suc (suc (suc i)))) = omega arith
+four_bytes xs le h =
+    let at = λ (i : ℕ) (lt : i < 4). get_or-take 4 xs i 0 lt in
+    le_bytes_4 (take 4 xs) (little_number 4 xs) (length-take-le 4 xs le) (take_fits 4 xs h) (omega (arith, at 0 (omega arith), at 1 (omega arith), at 2 (omega arith), at 3 (omega arith)))
 
 pub two_fit : (xs : List ℕ) → AllBytes xs → little_number 2 xs < 65536
 two_fit xs h = little_from-lt 0 2 xs h
@@ -57,40 +52,26 @@ four_fit xs h = little_from-lt 0 4 xs h
 -- ---- values
 
 pub number_again : (n : ℕ) → n < 65536 → reading_number (reading (cast_signed w16 n)) ≡ n
-number_again n lt = with_test (int_eq (cast_signed w16 n) (negsuc 32767)) refl
-  where
-    back : cast_unsigned w16 (cast_signed w16 n) ≡ n
-    back = of_z-to_z w16 n lt
-
-    with_test : (b : Bool) → int_eq (cast_signed w16 n) (negsuc 32767) ≡ b → reading_number (cond b Missing (Value (cast_signed w16 n))) ≡ n
-    with_test true t = ap (cast_unsigned w16) (sym ((Decides-int_eq (cast_signed w16 n) (negsuc 32767)).0 t)) ∙ back
-    with_test false t = back
+number_again n lt =
+    let z = cast_signed w16 n in
+    let back : cast_unsigned w16 z ≡ n = of_z-to_z w16 n lt in
+    cond_both (int_eq z (negsuc 32767)) Missing (Value z) (λ v. reading_number v ≡ n) (λ t. ap (cast_unsigned w16) (sym ((Decides-int_eq z (negsuc 32767)).0 t)) ∙ back) (λ t. back)
 
 within : (z : ℤ) → FitsSigned w16 z → int_eq z (negsuc 32767) ≡ false → IsPresent (Value z)
-within (pos n) fits other = (omega (arith, ints), omega (arith, ints, fits))
-within (negsuc n) fits other =
-    let apart : n ≢ 32767 = λ e. let t : int_eq (negsuc n) (negsuc 32767) ≡ true = (Decides-int_eq (negsuc n) (negsuc 32767)).1 (ap negsuc e) in cc in
-    (omega (arith, ints, fits, apart), omega (arith, ints))
+within z fits other =
+    let apart : z ≡ negsuc 32767 → ⊥ = λ e. let t = (Decides-int_eq z (negsuc 32767)).1 e in cc in
+    (omega (arith, signed_arith, fits, apart), omega (arith, signed_arith, fits))
 
 pub present_number : (n : ℕ) → n < 65536 → IsPresent (reading (cast_signed w16 n))
-present_number n lt = with_test (int_eq (cast_signed w16 n) (negsuc 32767)) refl
-  where
-    fits : FitsSigned w16 (cast_signed w16 n)
-    fits = sfits_to_z {w = w16} {n = n} (Fits-of_lt {w = w16} {n = n} lt)
-
-    with_test : (b : Bool) → int_eq (cast_signed w16 n) (negsuc 32767) ≡ b → IsPresent (cond b Missing (Value (cast_signed w16 n)))
-    with_test true t = tt
-    with_test false t = let other : int_eq (cast_signed w16 n) (negsuc 32767) ≡ false = t in within (cast_signed w16 n) fits t
+present_number n lt =
+    let z = cast_signed w16 n in
+    cond_both (int_eq z (negsuc 32767)) Missing (Value z) IsPresent (λ t. tt) (λ t. within z (sfits_to_z {w = w16} {n = n} (Fits-of_lt {w = w16} {n = n} lt)) t)
 
 value_fits : (x : ℤ) → IsPresent (Value x) → FitsSigned w16 x
 value_fits x h = fits_signed_from_abs w16 x (omega (arith, ints, h.0, h.1))
 
 not_lowest : (x : ℤ) → IsPresent (Value x) → int_eq x (negsuc 32767) ≡ false
-not_lowest x h = with_test (int_eq x (negsuc 32767)) refl
-  where
-    with_test : (b : Bool) → int_eq x (negsuc 32767) ≡ b → b ≡ false
-    with_test true t = let same : x ≡ negsuc 32767 = (Decides-int_eq x (negsuc 32767)).0 t in absurd (omega (arith, ints, h.0, h.1))
-    with_test false t = refl
+not_lowest x h = false_from_ne_true _ (λ t. let same : x ≡ negsuc 32767 = (Decides-int_eq x (negsuc 32767)).0 t in omega (arith, ints, h.0, h.1))
 
 pub reading_again : (v : Reading) → IsPresent v → reading (cast_signed w16 (reading_number v)) ≡ v
 reading_again Missing h = refl
@@ -112,18 +93,14 @@ small_stamp None h = omega arith
 small_stamp (Some t) h = omega arith
 
 pub stamp_back : (xs : List ℕ) → stamp_number (stamp_at xs) ≡ little_number 4 xs
-stamp_back xs = with_test (little_number 4 xs) (eqb (little_number 4 xs) 4294967295) refl
-  where
-    with_test : (n : ℕ) (b : Bool) → eqb n 4294967295 ≡ b → stamp_number (cond b None (Some n)) ≡ n
-    with_test n true e = sym (eqb-true n 4294967295 e)
-    with_test n false e = refl
+stamp_back xs =
+    let n = little_number 4 xs in
+    cond_both (eqb n 4294967295) None (Some n) (λ s. stamp_number s ≡ n) (λ t. sym (eqb-true n 4294967295 t)) (λ t. refl)
 
 pub stamp_is : (xs : List ℕ) → little_number 4 xs < 4294967296 → IsStamp (stamp_at xs)
-stamp_is xs lt = with_test (little_number 4 xs) (eqb (little_number 4 xs) 4294967295) refl lt
-  where
-    with_test : (n : ℕ) (b : Bool) → eqb n 4294967295 ≡ b → n < 4294967296 → IsStamp (cond b None (Some n))
-    with_test n true e lt = tt
-    with_test n false e lt = grind (arith, nat_tests)
+stamp_is xs lt =
+    let n = little_number 4 xs in
+    cond_both (eqb n 4294967295) None (Some n) IsStamp (λ t. tt) (λ t. let other = eqb-false n 4294967295 t in omega arith)
 
 -- ---- bits
 
@@ -138,25 +115,17 @@ unfolding bits_number
 bit_is [] i = rw (bit_at-zero i) refl
 bit_is (true ∷ bs) zero = let e : bit_at (1 + 2 * bits_number bs) 0 ≡ 1 = bit_at_lowest (1 + 2 * bits_number bs) ∙ omega arith in rw e refl
 bit_is (false ∷ bs) zero = let e : bit_at (2 * bits_number bs) 0 ≡ 0 = bit_at_lowest (2 * bits_number bs) ∙ omega arith in rw e refl
-bit_is (true ∷ bs) (suc i) =
-    let h : (1 + 2 * bits_number bs) / 2 ≡ bits_number bs = omega arith in
-    rw (bit_at-suc (1 + 2 * bits_number bs) i, h) (bit_is bs i)
-bit_is (false ∷ bs) (suc i) =
-    let h : 2 * bits_number bs / 2 ≡ bits_number bs = omega arith in
-    rw (bit_at-suc (2 * bits_number bs) i, h) (bit_is bs i)
+bit_is (true ∷ bs) (suc i) = let h : (1 + 2 * bits_number bs) / 2 ≡ bits_number bs = omega arith in rw (bit_at-suc (1 + 2 * bits_number bs) i, h) (bit_is bs i)
+bit_is (false ∷ bs) (suc i) = let h : 2 * bits_number bs / 2 ≡ bits_number bs = omega arith in rw (bit_at-suc (2 * bits_number bs) i, h) (bit_is bs i)
 
 -- the bits of a number make it
 pub bits_again : (g : ℕ → Bool) (c n i : ℕ) → ((j : ℕ) → j < c → g (i + j) ≡ eqb (bit_at n j) 1) → n < 2 ^ c → bits_number (map g (range_with_len i c)) ≡ n
-unfolding bits_number
-bits_again g zero n i h lt = omega arith
-bits_again g (suc c) n i h lt =
-    let z : i + 0 ≡ i = omega arith in
-    let first : g i ≡ eqb (n % 2) 1 = ap g (sym z) ∙ h 0 (omega arith) ∙ ap (λ (b : ℕ). eqb b 1) (bit_at_lowest n) in
-    let small : n / 2 < 2 ^ c = omega (arith, pow-suc 2 c) in
-    let rest : bits_number (map g (range_with_len (i + 1) c)) ≡ n / 2 =
-    bits_again g c (n / 2) (i + 1) (λ j jl. ap g (omega arith) ∙ h (suc j) (omega arith) ∙ ap (λ (b : ℕ). eqb b 1) (bit_at-suc n j)) small in
-    with_test (eqb (n % 2) 1) refl first rest
+bits_again g c n i h lt =
+    let bs = map g (range_with_len i c) in
+    let long : length bs ≡ c = length-map-range_with_len g i c in
+    let few : bits_number bs < 2 ^ c = rw long at (bits_fit bs) in
+    same_from_bits_below c (bits_number bs) n few lt (λ j jl. same_bit (bit_at (bits_number bs) j) (bit_at n j) (bit_at-lt (bits_number bs) j) (bit_at-lt n j)
+    (bit_is bs j ∙ get_or-map-range_with_len g i c j (i + j) false jl refl ∙ h j jl))
   where
-    with_test : (b : Bool) → eqb (n % 2) 1 ≡ b → g i ≡ b → bits_number (map g (range_with_len (i + 1) c)) ≡ n / 2 → bits_number (g i ∷ map g (range_with_len (i + 1) c)) ≡ n
-    with_test true t f r = let odd : n % 2 ≡ 1 = eqb-true (n % 2) 1 t in rw (f, r) (omega arith)
-    with_test false t f r = let even : n % 2 ≡ 0 = grind (arith, nat_tests) in rw (f, r) (omega arith)
+    same_bit : (a b : ℕ) → a < 2 → b < 2 → eqb a 1 ≡ eqb b 1 → a ≡ b
+    same_bit a b p q e = grind (arith, nat_tests)

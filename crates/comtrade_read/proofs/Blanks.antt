@@ -1,135 +1,127 @@
--- Blanks round a text, and lines of nothing else.
-use Rattle.std.proofs.Common.{◌≡◌, ℕ, suc, Bool, true, false, cond, eqb, List, [], ◌∷◌, ◌++◌, length, map, refl, sym, ap, ◌∙◌, arith}
+-- What is dropped at the ends of a list: blanks round a text, and blank lines behind a file.
+use Rattle.std.proofs.Common.{◌≡◌, ℕ, ◌-◌, ◌<◌, Bool, true, false, eqb, get_or, List, [], ◌∷◌, ◌++◌, length, map, refl, sym, ap, ◌∙◌, arith, length-append}
 use Rattle.std.specs.Prelude.{reverse}
-use Rattle.std.proofs.lemmas.List.{reverse-append, reverse-reverse}
+use Rattle.std.specs.List.{AllByRecursion}
+use Rattle.std.proofs.lemmas.List.{reverse-append, reverse-reverse, length-reverse, get_or-reverse, get_or_append_left, nil_from_length}
 use Rattle.std.proofs.lemmas.List.Elements.{All-from_recursion}
 use Rattle.std.proofs.lemmas.List.Splits.{slice_split_none}
-use Rattle.std.proofs.lemmas.Bool.{eqb-true}
+use Rattle.std.proofs.lemmas.Bool.{eqb-true, cond_both}
 use Rattle.dfr_channels.specs.Spelling.{is_blank, trim_start, trimmed}
-use Rattle.dfr_channels.specs.Lines.{fields, is_blank_line}
+use Rattle.dfr_channels.specs.Lines.{fields, is_blank_line, drop_front, drop_end}
 use Rattle.comtrade_read.specs.Joined.{AreBlank, HasNone}
-use Rattle.comtrade_read.proofs.AllOf.{All-append, All-reverse}
+use Rattle.comtrade_read.proofs.AllOf.{All-append, All-reverse, All-none}
+
+-- ---- any elements
+
+-- the first element, if there is one, fails, and so stays
+abbrev pub StartsFull : {X : Type 0} → (X → Bool) → List X → Type 0
+StartsFull {X = X} p xs = (d : X) → 0 < length xs → p (get_or xs 0 d) ≡ false
+
+front_stays : {X : Type 0} (p : X → Bool) (xs : List X) → StartsFull p xs → drop_front p xs ≡ xs
+front_stays p [] h = refl
+front_stays p (x ∷ xs) h = rw (h x (omega arith)) refl
+
+pub end_stays : {X : Type 0} (p : X → Bool) (xs : List X) → StartsFull p (reverse xs) → drop_end p xs ≡ xs
+end_stays p xs h = ap reverse (front_stays p (reverse xs) h) ∙ reverse-reverse xs
+
+-- where the last element fails
+pub stops_full : {X : Type 0} (p : X → Bool) (xs : List X) → ((d : X) → 0 < length xs → p (get_or xs (length xs - 1) d) ≡ false) → StartsFull p (reverse xs)
+stops_full p xs h d lt =
+    let some : 0 < length xs = omega (arith, length-reverse xs) in
+    let last : length xs - 1 - 0 ≡ length xs - 1 = omega arith in
+    rw (get_or-reverse xs 0 d some, last) (h d some)
+
+front_full : {X : Type 0} (p : X → Bool) (xs : List X) → StartsFull p (drop_front p xs)
+front_full p [] d lt = absurd (omega arith)
+front_full p (x ∷ xs) d lt = cond_both (p x) (drop_front p xs) (x ∷ xs) (StartsFull p) (λ t. front_full p xs) (λ t e l. t) d lt
+
+full_front : {X : Type 0} (p : X → Bool) (xs ys : List X) → StartsFull p (xs ++ ys) → StartsFull p xs
+full_front p xs ys h d some = rw (get_or_append_left xs ys d 0 some) at (h d (omega (arith, length-append xs ys)))
+
+-- a list as elements that pass, and the others
+pub record Front {X : Type 0} (p : X → Bool) (xs ys : List X) : Type 0 where
+  pub front : List X
+  pub is : xs ≡ front ++ ys
+  pub pass : AllByRecursion (λ x. p x ≡ true) front
+
+pub front_of : {X : Type 0} (p : X → Bool) (xs : List X) → Front p xs (drop_front p xs)
+front_of p [] = record { front = []; is = refl; pass = tt }
+front_of p (x ∷ xs) =
+    let f = front_of p xs in
+    cond_both (p x) (drop_front p xs) (x ∷ xs) (Front p (x ∷ xs)) (λ t. record { front = x ∷ f.front; is = ap (λ ys. x ∷ ys) f.is; pass = (t, f.pass) }) (λ t. record { front = []; is = refl; pass = tt })
+
+-- the same from the end
+pub record Back {X : Type 0} (p : X → Bool) (xs ys : List X) : Type 0 where
+  pub back : List X
+  pub is : xs ≡ ys ++ back
+  pub pass : AllByRecursion (λ x. p x ≡ true) back
+
+pub back_of : {X : Type 0} (p : X → Bool) (xs : List X) → Back p xs (drop_end p xs)
+back_of p xs =
+    let f = front_of p (reverse xs) in
+    record {
+      back = reverse f.front;
+      is = sym (reverse-reverse xs) ∙ ap reverse f.is ∙ reverse-append f.front (drop_front p (reverse xs));
+      pass = All-reverse _ f.front f.pass;
+    }
+
+past_front : {X : Type 0} (p : X → Bool) (ws xs : List X) → AllByRecursion (λ x. p x ≡ true) ws → drop_front p (ws ++ xs) ≡ drop_front p xs
+past_front p [] xs h = refl
+past_front p (w ∷ ws) xs h = rw h.0 (past_front p ws xs h.1)
+
+pub past_end : {X : Type 0} (p : X → Bool) (xs ys : List X) → AllByRecursion (λ x. p x ≡ true) ys → drop_end p (xs ++ ys) ≡ drop_end p xs
+past_end p xs ys h = ap (λ zs. reverse (drop_front p zs)) (reverse-append xs ys) ∙ ap reverse (past_front p (reverse ys) (reverse xs) (All-reverse _ ys h))
 
 -- ---- blanks
 
 pub blank_none : (c : ℕ) → is_blank c ≡ false → (xs : List ℕ) → AreBlank xs → HasNone c xs
-blank_none c none [] h = tt
-blank_none c none (x ∷ xs) h = (not_it (eqb x c) refl, blank_none c none xs h.1)
-  where
-    not_it : (b : Bool) → eqb x c ≡ b → b ≡ false
-    not_it true e = let same : x ≡ c = eqb-true x c e in sym h.0 ∙ ap is_blank same ∙ none
-    not_it false e = refl
-
-past_blanks : (ws xs : List ℕ) → AreBlank ws → trim_start (ws ++ xs) ≡ trim_start xs
-past_blanks [] xs h = refl
-past_blanks (w ∷ ws) xs h = rw h.0 (past_blanks ws xs h.1)
+blank_none c none xs h = All-none is_blank c none xs h
 
 only_blanks : (ws : List ℕ) → AreBlank ws → trim_start ws ≡ []
 only_blanks [] h = refl
 only_blanks (w ∷ ws) h = rw h.0 (only_blanks ws h.1)
 
--- the first byte, if there is one, is no blank
-abbrev pub StartsFull : List ℕ → Type 0
-StartsFull [] = Unit {0}
-StartsFull (b ∷ bs) = is_blank b ≡ false
+pub both_stay : (t : List ℕ) → StartsFull is_blank t → StartsFull is_blank (reverse t) → trimmed t ≡ t
+both_stay t a b = ap (drop_end is_blank) (front_stays is_blank t a) ∙ end_stays is_blank t b
 
-pub full_stays : (xs : List ℕ) → StartsFull xs → trim_start xs ≡ xs
-full_stays [] h = refl
-full_stays (x ∷ xs) h = rw h refl
-
-trim_full : (xs : List ℕ) → StartsFull (trim_start xs)
-trim_full [] = tt
-trim_full (x ∷ xs) = with_test (trim_full xs) (is_blank x) refl
-  where
-    with_test : StartsFull (trim_start xs) → (b : Bool) → is_blank x ≡ b → StartsFull (cond b (trim_start xs) (x ∷ xs))
-    with_test rest true e = rest
-    with_test rest false e = e
-
-full_front : (xs ys : List ℕ) → StartsFull (xs ++ ys) → StartsFull xs
-full_front [] ys h = tt
-full_front (x ∷ xs) ys h = h
-
--- the blanks before what is left
-pub leading : List ℕ → List ℕ
-leading [] = []
-leading (b ∷ bs) = cond (is_blank b) (b ∷ leading bs) []
-
-leading_is : (xs : List ℕ) → leading xs ++ trim_start xs ≡ xs
-unfolding leading
-leading_is [] = refl
-leading_is (x ∷ xs) = with_test (leading_is xs) (is_blank x)
-  where
-    with_test : leading xs ++ trim_start xs ≡ xs → (b : Bool) → cond b (x ∷ leading xs) [] ++ cond b (trim_start xs) (x ∷ xs) ≡ x ∷ xs
-    with_test rest true = ap (λ (ys : List ℕ). x ∷ ys) rest
-    with_test rest false = refl
-
-pub leading_blank : (xs : List ℕ) → AreBlank (leading xs)
-unfolding leading
-leading_blank [] = tt
-leading_blank (x ∷ xs) = with_test (leading_blank xs) (is_blank x) refl
-  where
-    with_test : AreBlank (leading xs) → (b : Bool) → is_blank x ≡ b → AreBlank (cond b (x ∷ leading xs) [])
-    with_test rest true e = (e, rest)
-    with_test rest false e = tt
-
--- a text as blanks, what trim leaves, and blanks
-pub trailing : List ℕ → List ℕ
-trailing xs = reverse (leading (reverse (trim_start xs)))
-
-pub trimmed_is : (xs : List ℕ) → leading xs ++ (trimmed xs ++ trailing xs) ≡ xs
-unfolding trailing
-trimmed_is xs =
-    let ys = trim_start xs in
-    let back : trimmed xs ++ reverse (leading (reverse ys)) ≡ ys =
-    sym (reverse-append (leading (reverse ys)) (trim_start (reverse ys))) ∙ ap reverse (leading_is (reverse ys)) ∙ reverse-reverse ys in
-    ap (λ (zs : List ℕ). leading xs ++ zs) back ∙ leading_is xs
-
-pub trailing_blank : (xs : List ℕ) → AreBlank (trailing xs)
-unfolding trailing
-trailing_blank xs = All-reverse (λ b. is_blank b ≡ true) (leading (reverse (trim_start xs))) (leading_blank (reverse (trim_start xs)))
-
-trimmed_full : (xs : List ℕ) → StartsFull (trimmed xs)
-unfolding trailing
-trimmed_full xs =
-    let ys = trim_start xs in
-    let back : trimmed xs ++ reverse (leading (reverse ys)) ≡ ys =
-    sym (reverse-append (leading (reverse ys)) (trim_start (reverse ys))) ∙ ap reverse (leading_is (reverse ys)) ∙ reverse-reverse ys in
-    full_front (trimmed xs) (reverse (leading (reverse ys))) (rw back (trim_full xs))
+trimmed_full : (xs : List ℕ) → StartsFull is_blank (trimmed xs)
+trimmed_full xs = let b = back_of is_blank (trim_start xs) in full_front is_blank (trimmed xs) b.back (rw b.is at (front_full is_blank xs))
 
 pub trimmed_twice : (xs : List ℕ) → trimmed (trimmed xs) ≡ trimmed xs
 trimmed_twice xs =
-    let ys = reverse (trim_start xs) in
-    ap (λ (zs : List ℕ). reverse (trim_start (reverse zs))) (full_stays (trimmed xs) (trimmed_full xs))
-    ∙ ap (λ (zs : List ℕ). reverse (trim_start zs)) (reverse-reverse (trim_start ys))
-    ∙ ap reverse (full_stays (trim_start ys) (trim_full ys))
-
--- a text that trim leaves begins with no blank
-bare_full : (xs : List ℕ) → trimmed xs ≡ xs → StartsFull xs
-bare_full xs e = rw e at (trimmed_full xs)
+    let back = trim_start (reverse (trim_start xs)) in
+    both_stay (trimmed xs) (trimmed_full xs) (rw (reverse-reverse back) (front_full is_blank (reverse (trim_start xs))))
 
 pub trim_again : (before text after : List ℕ) → AreBlank before → AreBlank after → trimmed text ≡ text → trimmed (before ++ (text ++ after)) ≡ text
-trim_again before [] after p q e = rw (past_blanks before after p, only_blanks after q) refl
+trim_again before [] after p q e = rw (past_front is_blank before after p, only_blanks after q) refl
 trim_again before (x ∷ xs) after p q e =
-    let full : is_blank x ≡ false = bare_full (x ∷ xs) e in
-    let front : trim_start (before ++ ((x ∷ xs) ++ after)) ≡ (x ∷ xs) ++ after = past_blanks before ((x ∷ xs) ++ after) p ∙ rw full refl in
-    let same : trim_start (x ∷ xs) ≡ x ∷ xs = rw full refl in
-    let back : reverse (trim_start (reverse (x ∷ xs))) ≡ x ∷ xs = ap (λ (t : List ℕ). reverse (trim_start (reverse t))) (sym same) ∙ e in
-    ap (λ (t : List ℕ). reverse (trim_start (reverse t))) front
-    ∙ ap (λ (t : List ℕ). reverse (trim_start t)) (reverse-append (x ∷ xs) after)
-    ∙ ap reverse (past_blanks (reverse after) (reverse (x ∷ xs)) (All-reverse _ after q))
-    ∙ back
+    let full : StartsFull is_blank (x ∷ xs) = rw e at (trimmed_full (x ∷ xs)) in
+    let front : trim_start (before ++ ((x ∷ xs) ++ after)) ≡ (x ∷ xs) ++ after = past_front is_blank before ((x ∷ xs) ++ after) p ∙ front_stays is_blank ((x ∷ xs) ++ after) (λ d lt. full d (omega arith)) in
+    ap (drop_end is_blank) front ∙ past_end is_blank (x ∷ xs) after q ∙ ap (drop_end is_blank) (sym (front_stays is_blank (x ∷ xs) full)) ∙ e
+
+-- ---- a text and the blanks round it
+
+pub record Around (xs : List ℕ) : Type 0 where
+  pub before : List ℕ
+  pub after : List ℕ
+  pub is : before ++ (trimmed xs ++ after) ≡ xs
+  pub are_before : AreBlank before
+  pub are_after : AreBlank after
+
+pub around : (xs : List ℕ) → Around xs
+around xs =
+    let f = front_of is_blank xs in
+    let b = back_of is_blank (trim_start xs) in
+    record { before = f.front; after = b.back; is = ap (λ ys. f.front ++ ys) (sym b.is) ∙ sym f.is; are_before = f.pass; are_after = b.pass }
 
 -- ---- blank lines
 
-length_none : (xs : List ℕ) → eqb (length xs) 0 ≡ true → xs ≡ []
-length_none [] e = refl
-length_none (x ∷ xs) e = let z : suc (length xs) ≡ 0 = eqb-true (suc (length xs)) 0 e in absurd (omega arith)
-
 pub blank_line : (xs : List ℕ) → is_blank_line xs ≡ true → AreBlank xs
 blank_line xs e =
-    let none : trimmed xs ≡ [] = length_none (trimmed xs) e in
-    let is : leading xs ++ trailing xs ≡ xs = ap (λ (t : List ℕ). leading xs ++ (t ++ trailing xs)) (sym none) ∙ trimmed_is xs in
-    rw is at (All-append (λ b. is_blank b ≡ true) (leading xs) (trailing xs) (leading_blank xs) (trailing_blank xs))
+    let a = around xs in
+    let none : trimmed xs ≡ [] = nil_from_length (trimmed xs) (eqb-true _ 0 e) in
+    let is : a.before ++ a.after ≡ xs = rw none at a.is in
+    rw is at (All-append (λ b. is_blank b ≡ true) a.before a.after a.are_before a.are_after)
 
 pub line_blank : (xs : List ℕ) → AreBlank xs → is_blank_line xs ≡ true
 line_blank xs h = rw (only_blanks xs h) refl
@@ -138,4 +130,4 @@ line_blank xs h = rw (only_blanks xs h) refl
 pub blank_fields : (xs : List ℕ) → is_blank_line xs ≡ true → fields xs ≡ [] ∷ []
 blank_fields xs e =
     ap (map trimmed) (slice_split_none (λ b. eqb b 44) xs (All-from_recursion (λ b. eqb b 44 ≡ false) xs (blank_none 44 refl xs (blank_line xs e))))
-    ∙ ap (λ (t : List ℕ). t ∷ []) (length_none (trimmed xs) e)
+    ∙ ap (λ (t : List ℕ). t ∷ []) (nil_from_length (trimmed xs) (eqb-true _ 0 e))

@@ -1,79 +1,27 @@
 -- A text that is cut was joined.
-use Rattle.std.proofs.Common.{◌≡◌, ℕ, suc, ◌-◌, Bool, true, false, cond, eqb, get_or, take, List, [], ◌∷◌, ◌++◌, length, map, refl, sym, ap, ◌∙◌, arith}
-use Rattle.std.specs.Prelude.{reverse}
+use Rattle.std.proofs.Common.{◌≡◌, ℕ, ◌+◌, ◌-◌, Bool, true, false, cond, eqb, get_or, take, drop, List, [], ◌∷◌, ◌++◌, length, map, refl, sym, ap, ◌∙◌, arith}
 use Rattle.std.specs.List.{slice_split, join_with_byte, AllByRecursion}
-use Rattle.std.proofs.lemmas.List.{reverse-append, reverse-reverse, append-nil, map-append}
-use Rattle.std.proofs.lemmas.List.Splits.{join_with_byte-slice_split}
+use Rattle.std.proofs.lemmas.List.{append-nil, take_at, drop_at, take_all, take_more, drop_more, take-map, drop-map, take-append-drop}
+use Rattle.std.proofs.lemmas.List.Splits.{join_with_byte-slice_split, length-slice_split}
 use Rattle.std.proofs.lemmas.Bool.{eqb-true}
 use Rattle.dfr_channels.specs.Spelling.{trimmed}
-use Rattle.dfr_channels.specs.Lines.{lines, fields, without_cr, is_blank_line, drop_front, drop_end}
+use Rattle.dfr_channels.specs.Lines.{lines, fields, without_cr, is_blank_line, drop_end}
 use Rattle.comtrade_read.specs.Joined.{AreBlank, HasNone, Field, field_bytes, IsField, Line, carriage_return, line_bytes, field_texts, IsLine, BlankLine, blank_bytes, IsJoined}
-use Rattle.comtrade_read.proofs.AllOf.{All-front, All-back, All-reverse}
-use Rattle.comtrade_read.proofs.Parts.{parts_keep, parts_none, parts_of}
-use Rattle.comtrade_read.proofs.Blanks.{leading, leading_blank, trailing, trimmed_is, trailing_blank, trimmed_twice, blank_line}
-
--- the items before the last ones that pass, and those
-record Ends {X : Type 0} (p : X → Bool) (xs : List X) : Type 0 where
-  back : List X
-  is : xs ≡ drop_end p xs ++ back
-  pass : AllByRecursion (λ x. p x ≡ true) back
-
-record Fronts {X : Type 0} (p : X → Bool) (xs : List X) : Type 0 where
-  front : List X
-  is : xs ≡ front ++ drop_front p xs
-  pass : AllByRecursion (λ x. p x ≡ true) front
-
-fronts_of : {X : Type 0} (p : X → Bool) (xs : List X) → Fronts p xs
-fronts_of {X = X} p [] = record { front = []; is = refl; pass = tt }
-fronts_of {X = X} p (x ∷ xs) = with_test (fronts_of p xs) (p x) refl
-  where
-    made : (b : Bool) → p x ≡ b → (ys : List X) → x ∷ xs ≡ ys ++ cond b (drop_front p xs) (x ∷ xs) → AllByRecursion (λ y. p y ≡ true) ys → Fronts p (x ∷ xs)
-    made b e ys is pass = record { front = ys; is = rw e is; pass = pass }
-
-    with_test : Fronts p xs → (b : Bool) → p x ≡ b → Fronts p (x ∷ xs)
-    with_test f true e = made true e (x ∷ f.front) (ap (λ ys. x ∷ ys) f.is) (e, f.pass)
-    with_test f false e = made false e [] refl tt
-
-ends_of : {X : Type 0} (p : X → Bool) (xs : List X) → Ends p xs
-ends_of p xs =
-    let f = fronts_of p (reverse xs) in
-    record {
-      back = reverse f.front;
-      is = sym (reverse-reverse xs) ∙ ap reverse f.is ∙ reverse-append f.front (drop_front p (reverse xs));
-      pass = All-reverse _ f.front f.pass;
-    }
-
-reverse-map : {X Y : Type 0} (f : X → Y) (xs : List X) → reverse (map f xs) ≡ map f (reverse xs)
-reverse-map f [] = refl
-reverse-map f (x ∷ xs) =
-    reverse-append (f x ∷ []) (map f xs) ∙ ap (λ ys. ys ++ f x ∷ []) (reverse-map f xs) ∙ sym (map-append f (reverse xs) (x ∷ [])) ∙ ap (map f) (sym (reverse-append (x ∷ []) xs))
-
-drop_front-map : {X Y : Type 0} (p : Y → Bool) (f : X → Y) (xs : List X) → drop_front p (map f xs) ≡ map f (drop_front (λ x. p (f x)) xs)
-drop_front-map p f [] = refl
-drop_front-map p f (x ∷ xs) = with_test (drop_front-map p f xs) (p (f x))
-  where
-    with_test : drop_front p (map f xs) ≡ map f (drop_front (λ y. p (f y)) xs) → (b : Bool) → cond b (drop_front p (map f xs)) (f x ∷ map f xs) ≡ map f (cond b (drop_front (λ y. p (f y)) xs) (x ∷ xs))
-    with_test rest true = rest
-    with_test rest false = refl
-
-drop_end-map : {X Y : Type 0} (p : Y → Bool) (f : X → Y) (xs : List X) → drop_end p (map f xs) ≡ map f (drop_end (λ x. p (f x)) xs)
-drop_end-map p f xs =
-    ap (λ ys. reverse (drop_front p ys)) (reverse-map f xs) ∙ ap reverse (drop_front-map p f (reverse xs)) ∙ reverse-map f (drop_front (λ x. p (f x)) (reverse xs))
+use Rattle.comtrade_read.proofs.AllOf.{All-parts, All-map, map-map, map-back}
+use Rattle.comtrade_read.proofs.Parts.{parts_keep, parts_none}
+use Rattle.comtrade_read.proofs.Blanks.{back_of, around, trimmed_twice, blank_line}
 
 -- whether a carriage return stands at the end
-returns : List ℕ → Bool
+abbrev returns : List ℕ → Bool
 returns xs = eqb (get_or xs (length xs - 1) 0) 13
 
 put_back : (xs : List ℕ) → get_or xs (length xs - 1) 0 ≡ 13 → take (length xs - 1) xs ++ 13 ∷ [] ≡ xs
 put_back [] e = absurd (omega arith)
-put_back (x ∷ []) e = ap (λ y. y ∷ []) (sym e)
-put_back (x ∷ y ∷ ys) e =
-    let n : suc (suc (length ys)) - 1 ≡ suc (suc (length ys) - 1) = omega arith in
-    let here : get_or (y ∷ ys) (length (y ∷ ys) - 1) 0 ≡ 13 = rw n at e in
-    rw n (ap (λ zs. x ∷ zs) (put_back (y ∷ ys) here))
+put_back (x ∷ xs) e =
+    let n = length (x ∷ xs) - 1 in
+    rw (← e) (sym (take_more (x ∷ xs) n 0 (omega arith)) ∙ take_all (n + 1) (x ∷ xs) (omega arith))
 
 return_is : (xs : List ℕ) → without_cr xs ++ carriage_return (returns xs) ≡ xs
-unfolding returns
 return_is xs = with_test (eqb (get_or xs (length xs - 1) 0) 13) refl
   where
     with_test : (b : Bool) → eqb (get_or xs (length xs - 1) 0) 13 ≡ b → cond b (take (length xs - 1) xs) xs ++ carriage_return b ≡ xs
@@ -81,108 +29,79 @@ return_is xs = with_test (eqb (get_or xs (length xs - 1) 0) 13) refl
     with_test false e = append-nil xs
 
 -- a field with the blanks round it
-made_field : List ℕ → Field
-made_field xs = record { before = leading xs; text = trimmed xs; after = trailing xs }
-
-made_text : (xs : List ℕ) → (made_field xs).text ≡ trimmed xs
-unfolding made_field
-made_text xs = refl
-
-made_bytes : (xs : List ℕ) → field_bytes (made_field xs) ≡ xs
-unfolding made_field
-made_bytes xs = trimmed_is xs
+abbrev field_of : List ℕ → Field
+field_of xs = record { before = (around xs).before; text = trimmed xs; after = (around xs).after }
 
 inner_none : (c : ℕ) (xs : List ℕ) → HasNone c xs → HasNone c (trimmed xs)
 inner_none c xs h =
-    let P : ℕ → Type 0 = λ b. eqb b c ≡ false in
-    let all : HasNone c (leading xs ++ (trimmed xs ++ trailing xs)) = rw (trimmed_is xs) h in
-    All-front P (trimmed xs) (trailing xs) (All-back P (leading xs) (trimmed xs ++ trailing xs) all)
+    let a = around xs in
+    let all : HasNone c (a.before ++ (trimmed xs ++ a.after)) = rw a.is h in
+    (All-parts _ (trimmed xs) a.after (All-parts _ a.before (trimmed xs ++ a.after) all).1).0
 
-made_is_field : (xs : List ℕ) → HasNone 44 xs → HasNone 10 xs → IsField (made_field xs)
-unfolding made_field
-made_is_field xs h k =
-    record { before = leading_blank xs; after = trailing_blank xs; bare = trimmed_twice xs; no_comma = inner_none 44 xs h; no_feed = inner_none 10 xs k }
+are_fields : (ps : List (List ℕ)) → AllByRecursion (HasNone 44) ps → AllByRecursion (HasNone 10) ps → AllByRecursion IsField (map field_of ps)
+are_fields [] h k = tt
+are_fields (p ∷ ps) h k =
+    let a = around p in
+    (record { before = a.are_before; after = a.are_after; bare = trimmed_twice p; no_comma = inner_none 44 p h.0; no_feed = inner_none 10 p k.0 }, are_fields ps h.1 k.1)
 
-made_fields_bytes : (ps : List (List ℕ)) → map field_bytes (map made_field ps) ≡ ps
-made_fields_bytes [] = refl
-made_fields_bytes (p ∷ ps) = rw (made_bytes p, made_fields_bytes ps) refl
+-- the line of the bytes between two line feeds
+parts : List ℕ → List (List ℕ)
+parts bytes = slice_split (λ b. eqb b 44) (without_cr bytes)
 
-made_fields_texts : (ps : List (List ℕ)) → map (λ f. f.text) (map made_field ps) ≡ map trimmed ps
-made_fields_texts [] = refl
-made_fields_texts (p ∷ ps) = rw (made_text p, made_fields_texts ps) refl
+abbrev line_of : List ℕ → Line
+line_of bytes = record { first = field_of (get_or (parts bytes) 0 []); rest = map field_of (drop 1 (parts bytes)); cr = returns bytes }
 
-made_are_fields : (ps : List (List ℕ)) → AllByRecursion (HasNone 44) ps → AllByRecursion (HasNone 10) ps → AllByRecursion IsField (map made_field ps)
-made_are_fields [] h k = tt
-made_are_fields (p ∷ ps) h k = (made_is_field p h.0 k.0, made_are_fields ps h.1 k.1)
+parts_are : (bytes : List ℕ) → get_or (parts bytes) 0 [] ∷ drop 1 (parts bytes) ≡ parts bytes
+unfolding parts
+parts_are bytes = let ps = parts bytes in sym (drop_more ps 0 [] (omega (arith, length-slice_split (λ b. eqb b 44) (without_cr bytes))))
 
--- a line of the bytes between two line feeds
-pub record Made (bytes : List ℕ) : Type 0 where
-  pub line : Line
-  pub is_line : IsLine line
-  pub bytes_are : line_bytes line ≡ bytes
-  pub texts_are : field_texts line ≡ fields (without_cr bytes)
-
-made_line : (bytes : List ℕ) → HasNone 10 bytes → Made bytes
-made_line bytes h =
-    let P : ℕ → Type 0 = λ b. eqb b 10 ≡ false in
+line_is : (bytes : List ℕ) → HasNone 10 bytes → IsLine (line_of bytes)
+unfolding parts
+line_is bytes h =
     let body = without_cr bytes in
-    let ps = slice_split (λ b. eqb b 44) body in
-    let s = parts_of (λ b. eqb b 44) body in
-    let whole : HasNone 10 (without_cr bytes ++ carriage_return (returns bytes)) = rw (return_is bytes) h in
-    let feed : HasNone 10 body = All-front P body (carriage_return (returns bytes)) whole in
-    let all : AllByRecursion IsField (map made_field ps) = made_are_fields ps (parts_none 44 body) (parts_keep P (λ b. eqb b 44) body feed) in
-    let joined : join_with_byte 44 (map field_bytes (map made_field ps)) ≡ body = ap (join_with_byte 44) (made_fields_bytes ps) ∙ join_with_byte-slice_split 44 body in
-    let texts : map (λ f. f.text) (map made_field ps) ≡ fields body = made_fields_texts ps in
-    record {
-      line = record { first = made_field s.first; rest = map made_field s.rest; cr = returns bytes };
-      is_line = rw s.is at all;
-      bytes_are = ap (λ (xs : List ℕ). xs ++ carriage_return (returns bytes)) (sym (ap (λ xs. join_with_byte 44 (map field_bytes (map made_field xs))) s.is) ∙ joined) ∙ return_is bytes;
-      texts_are = sym (ap (λ xs. map (λ f. f.text) (map made_field xs)) s.is) ∙ texts;
-    }
+    let whole : HasNone 10 (body ++ carriage_return (returns bytes)) = rw (return_is bytes) h in
+    let feed : HasNone 10 body = (All-parts _ body (carriage_return (returns bytes)) whole).0 in
+    let all = are_fields (parts bytes) (parts_none 44 body) (parts_keep (λ b. eqb b 10 ≡ false) (λ b. eqb b 44) body feed) in
+    rw (← parts_are bytes) at all
 
--- lines of such bytes
-pub record MadeAll (ps : List (List ℕ)) : Type 0 where
-  pub lines : List Line
-  pub are_lines : AllByRecursion IsLine lines
-  pub bytes_are : map line_bytes lines ≡ ps
-  pub texts_are : map field_texts lines ≡ map fields (map without_cr ps)
+line_back : (bytes : List ℕ) → line_bytes (line_of bytes) ≡ bytes
+unfolding parts
+line_back bytes =
+    let ps = get_or (parts bytes) 0 [] ∷ drop 1 (parts bytes) in
+    ap (λ xs. join_with_byte 44 xs ++ carriage_return (returns bytes)) (map-back field_bytes field_of (λ xs. (around xs).is) ps ∙ parts_are bytes)
+    ∙ ap (λ xs. xs ++ carriage_return (returns bytes)) (join_with_byte-slice_split 44 (without_cr bytes)) ∙ return_is bytes
 
-made_lines : (ps : List (List ℕ)) → AllByRecursion (HasNone 10) ps → MadeAll ps
-made_lines [] h = record { lines = []; are_lines = tt; bytes_are = refl; texts_are = refl }
-made_lines (p ∷ ps) h =
-    let one = made_line p h.0 in
-    let more = made_lines ps h.1 in
-    record { lines = one.line ∷ more.lines; are_lines = (one.is_line, more.are_lines); bytes_are = rw (one.bytes_are, more.bytes_are) refl; texts_are = rw (one.texts_are, more.texts_are) refl }
+line_texts : (bytes : List ℕ) → HasNone 10 bytes → field_texts (line_of bytes) ≡ fields (without_cr bytes)
+unfolding parts
+line_texts bytes h =
+    let comma = rw (← parts_are bytes) at (parts_none 44 (without_cr bytes)) in
+    map-map (HasNone 44) (λ f. f.text) field_of trimmed (λ xs none. refl) (get_or (parts bytes) 0 [] ∷ drop 1 (parts bytes)) comma ∙ ap (map trimmed) (parts_are bytes)
 
-pub record MadeBlank (ps : List (List ℕ)) : Type 0 where
-  pub lines : List BlankLine
-  pub are_blank : AllByRecursion (λ l. AreBlank l.blanks) lines
-  pub bytes_are : map blank_bytes lines ≡ ps
+-- blank lines
+abbrev blank_of : List ℕ → BlankLine
+blank_of p = record { blanks = without_cr p; cr = returns p }
 
-made_blanks : (ps : List (List ℕ)) → AllByRecursion (λ p. is_blank_line (without_cr p) ≡ true) ps → MadeBlank ps
-made_blanks [] h = record { lines = []; are_blank = tt; bytes_are = refl }
-made_blanks (p ∷ ps) h =
-    let more = made_blanks ps h.1 in
-    record {
-      lines = record { blanks = without_cr p; cr = returns p } ∷ more.lines;
-      are_blank = (blank_line (without_cr p) h.0, more.are_blank);
-      bytes_are = rw (return_is p, more.bytes_are) refl;
-    }
+are_blank : (ps : List (List ℕ)) → AllByRecursion (λ x. is_blank_line x ≡ true) (map without_cr ps) → AllByRecursion (λ l. AreBlank l.blanks) (map blank_of ps)
+are_blank [] h = tt
+are_blank (p ∷ ps) h = (blank_line (without_cr p) h.0, are_blank ps h.1)
 
 pub joined_of : (text : List ℕ) → IsJoined text (map fields (lines text))
 joined_of text =
     let ps = slice_split (λ b. eqb b 10) text in
-    let q : List ℕ → Bool = λ p. is_blank_line (without_cr p) in
-    let e = ends_of q ps in
-    let front = drop_end q ps in
-    let none : AllByRecursion (HasNone 10) (front ++ e.back) = rw (← e.is) (parts_none 10 text) in
-    let ls = made_lines front (All-front (HasNone 10) front e.back none) in
-    let bs = made_blanks e.back e.pass in
+    let b = back_of is_blank_line (map without_cr ps) in
+    let front = drop_end is_blank_line (map without_cr ps) in
+    let n = length front in
+    let none : AllByRecursion (HasNone 10) (take n ps) = (All-parts (HasNone 10) (take n ps) (drop n ps) (rw (take-append-drop n ps) (parts_none 10 text))).0 in
+    let read : map without_cr (take n ps) ≡ front = sym (take-map without_cr n ps) ∙ ap (take n) b.is ∙ take_at front b.back n refl in
+    let past : map without_cr (drop n ps) ≡ b.back = sym (drop-map without_cr n ps) ∙ ap (drop n) b.is ∙ drop_at front b.back n refl in
+    let ls = map line_of (take n ps) in
+    let blank = map blank_of (drop n ps) in
+    let all : ps ≡ map line_bytes ls ++ map blank_bytes blank = rw (map-back line_bytes line_of line_back (take n ps), map-back blank_bytes blank_of return_is (drop n ps)) (sym (take-append-drop n ps)) in
     record {
-      lines = ls.lines;
-      blank = bs.lines;
-      are_lines = ls.are_lines;
-      are_blank = bs.are_blank;
-      fields = ls.texts_are ∙ ap (map fields) (sym (drop_end-map is_blank_line without_cr ps));
-      bytes = sym (join_with_byte-slice_split 10 text) ∙ ap (join_with_byte 10) (e.is ∙ ap (λ xs. xs ++ e.back) (sym ls.bytes_are) ∙ ap (λ xs. map line_bytes ls.lines ++ xs) (sym bs.bytes_are));
+      lines = ls;
+      blank = blank;
+      are_lines = All-map (HasNone 10) IsLine line_of line_is (take n ps) none;
+      are_blank = are_blank (drop n ps) (rw past b.pass);
+      fields = map-map (HasNone 10) field_texts line_of (λ p. fields (without_cr p)) line_texts (take n ps) none ∙ sym (map-map (HasNone 10) fields without_cr (λ p. fields (without_cr p)) (λ p h. refl) (take n ps) none) ∙ ap (map fields) read;
+      bytes = sym (join_with_byte-slice_split 10 text) ∙ ap (join_with_byte 10) all;
     }

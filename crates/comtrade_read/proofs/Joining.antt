@@ -1,137 +1,64 @@
 -- Lines and fields that were joined are cut again.
-use Rattle.std.proofs.Common.{◌≡◌, ℕ, suc, ◌≤◌, Bool, true, false, cond, eqb, List, [], ◌∷◌, ◌++◌, length, map, refl, sym, ap, ◌∙◌, arith}
-use Rattle.std.specs.Prelude.{reverse, ◌≢◌}
+use Rattle.std.proofs.Common.{◌≡◌, ℕ, suc, ◌-◌, ◌<◌, get_or, Bool, true, false, eqb, List, [], ◌∷◌, ◌++◌, length, map, refl, ap, ◌∙◌, arith}
 use Rattle.std.specs.List.{join_with_byte, AllByRecursion}
-use Rattle.std.proofs.lemmas.List.{reverse-append, reverse-reverse, map-append}
+use Rattle.std.proofs.lemmas.Bool.{false_from_ne_true}
+use Rattle.std.proofs.lemmas.List.{map-append}
 use Rattle.dfr_channels.specs.Spelling.{is_blank, trimmed}
-use Rattle.dfr_channels.specs.Lines.{lines, fields, without_cr, is_blank_line, drop_front, drop_end}
+use Rattle.dfr_channels.specs.Lines.{lines, fields, without_cr, is_blank_line, drop_end}
 use Rattle.comtrade_read.specs.Joined.{AreBlank, HasNone, Field, field_bytes, IsField, Line, carriage_return, line_bytes, field_texts, IsLine, BlankLine, blank_bytes, IsJoined}
-use Rattle.comtrade_read.proofs.LineEnds.{HasNoReturn, EndsPlain, EndsFull, Bodies, return_none, return-append, return-cons, return-back, end_off}
-use Rattle.comtrade_read.proofs.AllOf.{All-append, All-reverse}
+use Rattle.comtrade_read.proofs.LineEnds.{HasNoReturn, EndsPlain, EndsFull, Bodies, return_none, return-append, return-back, end_off}
+use Rattle.comtrade_read.proofs.AllOf.{All-append, All-map, map-map}
 use Rattle.comtrade_read.proofs.Parts.{split_again, join_none}
-use Rattle.comtrade_read.proofs.Blanks.{blank_none, trim_again, line_blank, blank_fields}
+use Rattle.comtrade_read.proofs.Blanks.{end_stays, stops_full, past_end, blank_none, trim_again, line_blank, blank_fields}
 
--- ---- from joined to cut
+-- ---- fields
 
 field_none : (c : ℕ) → is_blank c ≡ false → (f : Field) → IsField f → HasNone c f.text → HasNone c (field_bytes f)
 field_none c none f h k =
-    let P : ℕ → Type 0 = λ b. eqb b c ≡ false in
-    All-append P f.before (f.text ++ f.after) (blank_none c none f.before h.before) (All-append P f.text f.after k (blank_none c none f.after h.after))
-
-fields_none_comma : (fs : List Field) → AllByRecursion IsField fs → AllByRecursion (HasNone 44) (map field_bytes fs)
-fields_none_comma [] h = tt
-fields_none_comma (f ∷ fs) h = (field_none 44 refl f h.0 h.0.no_comma, fields_none_comma fs h.1)
-
-fields_none_feed : (fs : List Field) → AllByRecursion IsField fs → AllByRecursion (HasNone 10) (map field_bytes fs)
-fields_none_feed [] h = tt
-fields_none_feed (f ∷ fs) h = (field_none 10 refl f h.0 h.0.no_feed, fields_none_feed fs h.1)
-
-fields_trimmed : (fs : List Field) → AllByRecursion IsField fs → map trimmed (map field_bytes fs) ≡ map (λ f. f.text) fs
-fields_trimmed [] h = refl
-fields_trimmed (f ∷ fs) h = rw (trim_again f.before f.text f.after h.0.before h.0.after h.0.bare, fields_trimmed fs h.1) refl
+    All-append _ f.before (f.text ++ f.after) (blank_none c none f.before h.before) (All-append _ f.text f.after k (blank_none c none f.after h.after))
 
 body_fields : (f : Field) (fs : List Field) → AllByRecursion IsField (f ∷ fs) → fields (join_with_byte 44 (map field_bytes (f ∷ fs))) ≡ map (λ f. f.text) (f ∷ fs)
-body_fields f fs h = ap (map trimmed) (split_again 44 (field_bytes f) (map field_bytes fs) (fields_none_comma (f ∷ fs) h)) ∙ fields_trimmed (f ∷ fs) h
+body_fields f fs h =
+    ap (map trimmed) (split_again 44 (field_bytes f) (map field_bytes fs) (All-map IsField (HasNone 44) field_bytes (λ x is. field_none 44 refl x is is.no_comma) (f ∷ fs) h))
+    ∙ map-map IsField trimmed field_bytes (λ x. x.text) (λ x is. trim_again x.before x.text x.after is.before is.after is.bare) (f ∷ fs) h
 
 body_return : (f : Field) (fs : List Field) → AllByRecursion IsField (f ∷ fs) → EndsPlain (map (λ f. f.text) (f ∷ fs)) → HasNoReturn (join_with_byte 44 (map field_bytes (f ∷ fs)))
 body_return f [] h e =
     return-append f.before (f.text ++ f.after) (return_none f.before (blank_none 13 refl f.before h.0.before))
     (return-append f.text f.after e (return_none f.after (blank_none 13 refl f.after h.0.after)))
 body_return f (g ∷ gs) h e =
-    return-back (field_bytes f) 44 (join_with_byte 44 (map field_bytes (g ∷ gs))) (return-cons 44 (join_with_byte 44 (map field_bytes (g ∷ gs))) refl (body_return g gs h.1 e))
+    let rest = join_with_byte 44 (map field_bytes (g ∷ gs)) in
+    return-back (field_bytes f) 44 rest (return-append (44 ∷ []) rest refl (body_return g gs h.1 e))
+
+-- ---- lines
 
 return_feed : (cr : Bool) → HasNone 10 (carriage_return cr)
 return_feed true = (refl, tt)
 return_feed false = tt
 
-lines_feed : (ls : List Line) → AllByRecursion IsLine ls → AllByRecursion (HasNone 10) (map line_bytes ls)
-lines_feed [] h = tt
-lines_feed (l ∷ ls) h =
-    let body = join_with_byte 44 (map field_bytes (l.first ∷ l.rest)) in
-    let P : ℕ → Type 0 = λ b. eqb b 10 ≡ false in
-    (All-append P body (carriage_return l.cr) (join_none 44 10 (field_bytes l.first) (map field_bytes l.rest) refl (fields_none_feed (l.first ∷ l.rest) h.0)) (return_feed l.cr), lines_feed ls h.1)
+line_feed : (l : Line) → IsLine l → HasNone 10 (line_bytes l)
+line_feed l h =
+    let none = All-map IsField (HasNone 10) field_bytes (λ f is. field_none 10 refl f is is.no_feed) (l.first ∷ l.rest) h in
+    All-append (λ b. eqb b 10 ≡ false) (join_with_byte 44 (map field_bytes (l.first ∷ l.rest))) (carriage_return l.cr) (join_none 44 10 (field_bytes l.first) (map field_bytes l.rest) refl none) (return_feed l.cr)
 
-blanks_feed : (ls : List BlankLine) → AllByRecursion (λ l. AreBlank l.blanks) ls → AllByRecursion (HasNone 10) (map blank_bytes ls)
-blanks_feed [] h = tt
-blanks_feed (l ∷ ls) h =
-    let P : ℕ → Type 0 = λ b. eqb b 10 ≡ false in
-    (All-append P l.blanks (carriage_return l.cr) (blank_none 10 refl l.blanks h.0) (return_feed l.cr), blanks_feed ls h.1)
+blank_feed : (l : BlankLine) → AreBlank l.blanks → HasNone 10 (blank_bytes l)
+blank_feed l h = All-append (λ b. eqb b 10 ≡ false) l.blanks (carriage_return l.cr) (blank_none 10 refl l.blanks h) (return_feed l.cr)
 
 lines_off : (ls : List Line) → AllByRecursion IsLine ls → AllByRecursion EndsPlain (map field_texts ls) → map without_cr (map line_bytes ls) ≡ Bodies ls
 lines_off [] h e = refl
 lines_off (l ∷ ls) h e = rw (end_off (join_with_byte 44 (map field_bytes (l.first ∷ l.rest))) l.cr (body_return l.first l.rest h.0 e.0), lines_off ls h.1 e.1) refl
 
 blanks_off : (ls : List BlankLine) → AllByRecursion (λ l. AreBlank l.blanks) ls → map without_cr (map blank_bytes ls) ≡ map (λ l. l.blanks) ls
-blanks_off [] h = refl
-blanks_off (l ∷ ls) h = rw (end_off l.blanks l.cr (return_none l.blanks (blank_none 13 refl l.blanks h.0)), blanks_off ls h.1) refl
-
-bodies_fields : (ls : List Line) → AllByRecursion IsLine ls → map fields (Bodies ls) ≡ map field_texts ls
-bodies_fields [] h = refl
-bodies_fields (l ∷ ls) h = rw (body_fields l.first l.rest h.0, bodies_fields ls h.1) refl
-
-are_blank_lines : (ls : List BlankLine) → AllByRecursion (λ l. AreBlank l.blanks) ls → AllByRecursion (λ x. is_blank_line x ≡ true) (map (λ l. l.blanks) ls)
-are_blank_lines [] h = tt
-are_blank_lines (l ∷ ls) h = (line_blank l.blanks h.0, are_blank_lines ls h.1)
+blanks_off ls h = map-map (λ l. AreBlank l.blanks) without_cr blank_bytes (λ l. l.blanks) (λ l blank. end_off l.blanks l.cr (return_none l.blanks (blank_none 13 refl l.blanks blank))) ls h
 
 -- ---- what is dropped at the end
 
-drop_blanks : {X : Type 0} (p : X → Bool) (bs xs : List X) → AllByRecursion (λ l. p l ≡ true) bs → drop_front p (bs ++ xs) ≡ drop_front p xs
-drop_blanks p [] xs h = refl
-drop_blanks p (b ∷ bs) xs h = rw h.0 (drop_blanks p bs xs h.1)
-
-drop_end_blank : {X : Type 0} (p : X → Bool) (xs ys : List X) → AllByRecursion (λ l. p l ≡ true) ys → drop_end p (xs ++ ys) ≡ drop_end p xs
-drop_end_blank p xs ys h =
-    ap (λ zs. reverse (drop_front p zs)) (reverse-append xs ys) ∙ ap reverse (drop_blanks p (reverse ys) (reverse xs) (All-reverse _ ys h))
-
-drop_shorter : {X : Type 0} (p : X → Bool) (xs : List X) → length (drop_front p xs) ≤ length xs
-drop_shorter p [] = omega arith
-drop_shorter p (x ∷ xs) = with_test (drop_shorter p xs) (p x)
-  where
-    with_test : length (drop_front p xs) ≤ length xs → (b : Bool) → length (cond b (drop_front p xs) (x ∷ xs)) ≤ suc (length xs)
-    with_test rest true = omega arith
-    with_test rest false = omega arith
-
-stays : {X : Type 0} (p : X → Bool) (y : X) (ys zs : List X) → drop_front p (y ∷ ys) ≡ y ∷ ys → drop_front p ((y ∷ ys) ++ zs) ≡ (y ∷ ys) ++ zs
-stays p y ys zs h = with_test (p y) refl
-  where
-    with_test : (b : Bool) → p y ≡ b → cond b (drop_front p (ys ++ zs)) (y ∷ (ys ++ zs)) ≡ y ∷ (ys ++ zs)
-    with_test true e =
-        let g : drop_front p ys ≡ y ∷ ys = rw e at h in
-        let n : length (drop_front p ys) ≡ suc (length ys) = ap length g in
-        absurd (omega (arith, drop_shorter p ys))
-    with_test false e = refl
-
-pub record Some1 {X : Type 0} (xs : List X) : Type 0 where
-  pub first : X
-  pub rest : List X
-  pub is : xs ≡ first ∷ rest
-
-append_some : {X : Type 0} (xs : List X) (y : X) → Some1 (xs ++ y ∷ [])
-append_some [] y = record { first = y; rest = []; is = refl }
-append_some (x ∷ xs) y = record { first = x; rest = xs ++ y ∷ []; is = refl }
-
-pub reverse_some : {X : Type 0} (x : X) (xs : List X) → Some1 (reverse (x ∷ xs))
-reverse_some x xs = let s = append_some (reverse xs) x in record { first = s.first; rest = s.rest; is = reverse-append (x ∷ []) xs ∙ s.is }
-
-not_blank : (x : List ℕ) → fields x ≢ [] ∷ [] → is_blank_line x ≡ false
-not_blank x h = with_test (is_blank_line x) refl
-  where
-    with_test : (b : Bool) → is_blank_line x ≡ b → b ≡ false
-    with_test true e = absurd (h (blank_fields x e))
-    with_test false e = refl
-
-front_stays : (xs : List (List ℕ)) → EndsFull (map fields xs) → drop_front is_blank_line (reverse xs) ≡ reverse xs
-front_stays [] h = refl
-front_stays (x ∷ []) h = rw (not_blank x h) refl
-front_stays (x ∷ y ∷ ys) h =
-    let s = reverse_some y ys in
-    let rest = front_stays (y ∷ ys) h in
-    let here : drop_front is_blank_line (s.first ∷ s.rest) ≡ s.first ∷ s.rest = rw s.is at rest in
-    let r : reverse (x ∷ y ∷ ys) ≡ (s.first ∷ s.rest) ++ x ∷ [] = reverse-append (x ∷ []) (y ∷ ys) ∙ ap (λ zs. zs ++ x ∷ []) s.is in
-    ap (drop_front is_blank_line) r ∙ stays is_blank_line s.first s.rest (x ∷ []) here ∙ sym r
-
-end_stays : (xs : List (List ℕ)) → EndsFull (map fields xs) → drop_end is_blank_line xs ≡ xs
-end_stays xs h = ap reverse (front_stays xs h) ∙ reverse-reverse xs
+full_end : (xs : List (List ℕ)) → EndsFull (map fields xs) → (d : List ℕ) → 0 < length xs → is_blank_line (get_or xs (length xs - 1) d) ≡ false
+full_end [] h d some = absurd (omega arith)
+full_end (x ∷ []) h d some = false_from_ne_true _ (λ e. h (blank_fields x e))
+full_end (x ∷ y ∷ ys) h d some =
+    let last : suc (suc (length ys)) - 1 ≡ suc (suc (length ys) - 1) = omega arith in
+    rw last (full_end (y ∷ ys) h d (omega arith))
 
 cut_is : (ps : List (List ℕ)) → AllByRecursion (HasNone 10) ps → lines (join_with_byte 10 ps) ≡ drop_end is_blank_line (map without_cr ps)
 cut_is [] h = refl
@@ -141,13 +68,14 @@ pub cut_again : (text : List ℕ) (ls : List (List (List ℕ))) → IsJoined tex
 cut_again text ls j plain full =
     let ps = map line_bytes j.lines in
     let bs = map blank_bytes j.blank in
+    let bodies = Bodies j.lines in
+    let blanks = map (λ l. l.blanks) j.blank in
     let plain' : AllByRecursion EndsPlain (map field_texts j.lines) = rw j.fields plain in
-    let texts : map fields (Bodies j.lines) ≡ ls = bodies_fields j.lines j.are_lines ∙ j.fields in
-    let full' : EndsFull (map fields (Bodies j.lines)) = rw texts full in
-    let cut : lines text ≡ Bodies j.lines =
-    ap lines j.bytes
-    ∙ cut_is (ps ++ bs) (All-append (HasNone 10) ps bs (lines_feed j.lines j.are_lines) (blanks_feed j.blank j.are_blank))
-    ∙ ap (drop_end is_blank_line) (map-append without_cr ps bs ∙ ap (λ xs. xs ++ map without_cr bs) (lines_off j.lines j.are_lines plain') ∙ ap (λ xs. Bodies j.lines ++ xs) (blanks_off j.blank j.are_blank))
-    ∙ drop_end_blank is_blank_line (Bodies j.lines) (map (λ l. l.blanks) j.blank) (are_blank_lines j.blank j.are_blank)
-    ∙ end_stays (Bodies j.lines) full' in
+    let texts : map fields bodies ≡ ls = map-map IsLine fields _ field_texts (λ l is. body_fields l.first l.rest is) j.lines j.are_lines ∙ j.fields in
+    let full' : EndsFull (map fields bodies) = rw texts full in
+    let feed : AllByRecursion (HasNone 10) (ps ++ bs) = All-append (HasNone 10) ps bs (All-map IsLine (HasNone 10) line_bytes line_feed j.lines j.are_lines) (All-map _ (HasNone 10) blank_bytes blank_feed j.blank j.are_blank) in
+    let off : map without_cr (ps ++ bs) ≡ bodies ++ blanks = map-append without_cr ps bs ∙ rw (lines_off j.lines j.are_lines plain', blanks_off j.blank j.are_blank) refl in
+    let blank : AllByRecursion (λ x. is_blank_line x ≡ true) blanks = All-map (λ l. AreBlank l.blanks) (λ x. is_blank_line x ≡ true) (λ l. l.blanks) (λ l are. line_blank l.blanks are) j.blank j.are_blank in
+    let cut : lines text ≡ bodies =
+    ap lines j.bytes ∙ cut_is (ps ++ bs) feed ∙ ap (drop_end is_blank_line) off ∙ past_end is_blank_line bodies blanks blank ∙ end_stays is_blank_line bodies (stops_full is_blank_line bodies (full_end bodies full')) in
     ap (map fields) cut ∙ texts

@@ -1,16 +1,15 @@
 -- The carriage return at the end of a line.
-use Rattle.std.proofs.Common.{◌≡◌, ℕ, suc, ◌-◌, Bool, true, false, eqb, get_or, length-append, List, [], ◌∷◌, ◌++◌, length, map, refl, ap, ◌∙◌, arith}
+use Rattle.std.proofs.Common.{◌≡◌, ℕ, ◌+◌, ◌-◌, Bool, true, false, eqb, get_or, length-append, List, [], ◌∷◌, ◌++◌, length, map, refl, ap, ◌∙◌, arith}
 use Rattle.std.specs.Prelude.{◌≢◌}
 use Rattle.std.specs.List.{join_with_byte}
-use Rattle.std.proofs.lemmas.List.{take_at, append-nil}
+use Rattle.std.proofs.lemmas.List.{take_at, append-nil, get_or_at, get_or-append-add}
+use Rattle.std.proofs.lemmas.List.Elements.{All-from_recursion}
 use Rattle.dfr_channels.specs.Lines.{without_cr}
 use Rattle.comtrade_read.specs.Joined.{HasNone, field_bytes, Line, carriage_return}
 
 -- the last byte, if there is one, isn't a carriage return
 abbrev pub HasNoReturn : List ℕ → Type 0
-HasNoReturn [] = Unit {0}
-HasNoReturn (b ∷ []) = eqb b 13 ≡ false
-HasNoReturn (b ∷ c ∷ bs) = HasNoReturn (c ∷ bs)
+HasNoReturn xs = eqb (get_or xs (length xs - 1) 0) 13 ≡ false
 
 -- the same of the last field
 abbrev pub EndsPlain : List (List ℕ) → Type 0
@@ -24,50 +23,25 @@ EndsFull [] = Unit {0}
 EndsFull (l ∷ []) = l ≢ [] ∷ []
 EndsFull (l ∷ k ∷ ls) = EndsFull (k ∷ ls)
 
--- ---- the end of a line
-
 abbrev pub Bodies : List Line → List (List ℕ)
 Bodies ls = map (λ l. join_with_byte 44 (map field_bytes (l.first ∷ l.rest))) ls
 
 pub return_none : (xs : List ℕ) → HasNone 13 xs → HasNoReturn xs
-return_none [] h = tt
-return_none (x ∷ []) h = h.0
-return_none (x ∷ y ∷ ys) h = return_none (y ∷ ys) h.1
+return_none [] h = refl
+return_none (x ∷ xs) h = All-from_recursion (λ b. eqb b 13 ≡ false) (x ∷ xs) h (length (x ∷ xs) - 1) 0 (omega arith)
+
+-- the last byte of ys, where it has one, is that of xs ++ ys
+pub return-back : (xs : List ℕ) (c : ℕ) (ys : List ℕ) → HasNoReturn (c ∷ ys) → HasNoReturn (xs ++ c ∷ ys)
+return-back xs c ys h =
+    let at : length (xs ++ c ∷ ys) - 1 ≡ length xs + (length (c ∷ ys) - 1) = omega (arith, length-append xs (c ∷ ys)) in
+    rw (at, get_or-append-add xs (c ∷ ys) (length (c ∷ ys) - 1) 0) h
 
 pub return-append : (xs ys : List ℕ) → HasNoReturn xs → HasNoReturn ys → HasNoReturn (xs ++ ys)
-return-append [] ys h k = k
-return-append (x ∷ []) [] h k = h
-return-append (x ∷ []) (y ∷ ys) h k = k
-return-append (x ∷ y ∷ xs) ys h k = return-append (y ∷ xs) ys h k
-
-pub return-cons : (c : ℕ) (xs : List ℕ) → eqb c 13 ≡ false → HasNoReturn xs → HasNoReturn (c ∷ xs)
-return-cons c [] e h = e
-return-cons c (x ∷ xs) e h = h
-
-pub return-back : (xs : List ℕ) (c : ℕ) (ys : List ℕ) → HasNoReturn (c ∷ ys) → HasNoReturn (xs ++ c ∷ ys)
-return-back [] c ys h = h
-return-back (x ∷ []) c ys h = h
-return-back (x ∷ y ∷ xs) c ys h = return-back (y ∷ xs) c ys h
-
-last_is : (xs : List ℕ) → HasNoReturn xs → eqb (get_or xs (length xs - 1) 0) 13 ≡ false
-last_is [] h = refl
-last_is (x ∷ []) h = h
-last_is (x ∷ y ∷ ys) h =
-    let e : suc (suc (length ys)) - 1 ≡ suc (suc (length ys) - 1) = omega arith in
-    rw e (last_is (y ∷ ys) h)
-
-return_bare : (xs : List ℕ) → HasNoReturn xs → without_cr xs ≡ xs
-return_bare xs h = rw (last_is xs h) refl
-
-at_end : (line : List ℕ) (c d : ℕ) → get_or (line ++ c ∷ []) (length line) d ≡ c
-at_end [] c d = refl
-at_end (x ∷ xs) c d = at_end xs c d
-
-strip_cr : (line : List ℕ) → without_cr (line ++ 13 ∷ []) ≡ line
-strip_cr line =
-    let n : length (line ++ 13 ∷ []) - 1 ≡ length line = omega (arith, length-append line (13 ∷ [])) in
-    rw (n, at_end line 13 0) (take_at line (13 ∷ []) (length line) refl)
+return-append xs [] h k = rw append-nil h
+return-append xs (y ∷ ys) h k = return-back xs y ys k
 
 pub end_off : (xs : List ℕ) (cr : Bool) → HasNoReturn xs → without_cr (xs ++ carriage_return cr) ≡ xs
-end_off xs true h = strip_cr xs
-end_off xs false h = ap without_cr (append-nil xs) ∙ return_bare xs h
+end_off xs true h =
+    let at : length (xs ++ 13 ∷ []) - 1 ≡ length xs = omega (arith, length-append xs (13 ∷ [])) in
+    rw (at, get_or_at xs 13 [] 0 (length xs) refl) (take_at xs (13 ∷ []) (length xs) refl)
+end_off xs false h = ap without_cr (append-nil xs) ∙ rw h refl

@@ -1,17 +1,18 @@
 -- Fields that are written are read.
-use Rattle.std.proofs.Common.{◌≡◌, ℕ, suc, ◌+◌, ◌-◌, ◌<◌, ◌≤◌, ◌^◌, Bool, true, false, cond, ltb, leb, eqb, List, [], ◌∷◌, ◌++◌, length, get_or, take, Some, None, refl, sym, ap, ◌∙◌, arith, length-append}
-use Rattle.std.specs.Prelude.{ℤ, pos, negsuc, ◌≤ℤ◌, int_le, unsigned_abs, ◌&&◌, ◌||◌, not, reverse, codes}
+use Rattle.std.proofs.Common.{◌≡◌, ℕ, suc, ◌+◌, ◌-◌, ◌<◌, ◌≤◌, ◌^◌, Bool, true, false, ltb, leb, eqb, List, [], ◌∷◌, ◌++◌, length, get_or, take, Option, Some, None, refl, ap, arith, length-append}
+use Rattle.std.specs.Prelude.{ℤ, pos, negsuc, ◌≤ℤ◌, int_le, unsigned_abs, ◌&&◌, not, reverse, codes}
 use Rattle.std.specs.List.{AllByRecursion}
 use Rattle.std.specs.Ordering.{int_eq}
-use Rattle.std.specs.Str.Parse.{AllDigits}
 use Rattle.std.specs.Fmt.{signed_decimal, decimal}
 use Rattle.std.proofs.lemmas.Fmt.{decimal_is_IsNumeral_wide}
-use Rattle.std.proofs.lemmas.Str.Parse.{digit_from_value}
-use Rattle.std.proofs.lemmas.List.{reverse-append, reverse-reverse, take_at}
+use Rattle.std.proofs.lemmas.List.{take_at, get_or_at, get_or_default}
+use Rattle.std.proofs.lemmas.List.Elements.{All-from_recursion, recursion_from_All}
+use Rattle.std.proofs.lemmas.List.Sums.{AllPass-from_list_all}
 use Rattle.std.proofs.lemmas.Int.{ints}
-use Rattle.std.proofs.lemmas.Bool.{lt-ltb, le-leb, eqb-true, and_parts}
+use Rattle.jiff_core.proofs.SignedLemmas.{signed_arith, one_part}
+use Rattle.std.proofs.lemmas.Bool.{lt-ltb, le-leb, eq-eqb, and_parts, or_parts, or_from, not-true, cond_both}
 use Rattle.std.proofs.lemmas.Bool.Decides.{nat_tests, Decides-int_eq}
-use Rattle.dfr_channels.specs.Spelling.{is_blank, trim_start, trimmed, Number, IsNumber}
+use Rattle.dfr_channels.specs.Spelling.{is_blank, trimmed, decimal_number, Number, IsNumber}
 use Rattle.dfr_channels.specs.Written.{decimal_text}
 use Rattle.dfr_channels.specs.Texts.{is_plain, is_printable, has_blank_end, has_length}
 use Rattle.dfr_channels.specs.declared.channel.Side.{Side}
@@ -28,10 +29,9 @@ use Rattle.comtrade_read.specs.Fields.{whole, natural, small, scale, count}
 use Rattle.comtrade_read.specs.Head.{kind}
 use Rattle.comtrade_read.specs.Ascii.{stamp, value, reading}
 use Rattle.comtrade_read.specs.Joined.{HasNone}
-use Rattle.comtrade_read.proofs.AllOf.{All-append}
-use Rattle.comtrade_read.proofs.Blanks.{StartsFull, full_stays}
-use Rattle.comtrade_read.proofs.Joining.{reverse_some}
-use Rattle.comtrade_read.proofs.Numerals.{whole_again, decimal_again, pointed_is, sign_is, sign_text, point_text, abs_small}
+use Rattle.comtrade_read.proofs.AllOf.{All-append, All-reverse, All-digits, All-none, differs}
+use Rattle.comtrade_read.proofs.Blanks.{StartsFull, both_stay, stops_full}
+use Rattle.comtrade_read.proofs.Numerals.{whole_again, decimal_again, written_all}
 
 -- ---- numbers
 
@@ -46,22 +46,11 @@ natural_written high n le lt = rw (whole_again (pos n) lt, le-leb n high le) ref
 int_le-true : (a b : ℤ) → a ≤ℤ b → int_le a b ≡ true
 int_le-true a b h = grind (arith, ints)
 
-abs_few : (z : ℤ) → negsuc 99998 ≤ℤ z → z ≤ℤ pos 99999 → unsigned_abs z < 100000
-abs_few (pos n) a b = omega (arith, ints)
-abs_few (negsuc n) a b = omega (arith, ints)
-
 pub small_written : (z : ℤ) → negsuc 99998 ≤ℤ z → z ≤ℤ pos 99999 → small (signed_decimal z) ≡ Some z
 unfolding small
 small_written z low high =
-    let few = abs_few z low high in
+    let few : unsigned_abs z < 100000 = omega (arith, signed_arith, one_part z) in
     rw (whole_again z (omega arith), int_le-true (negsuc 99998) z low, int_le-true z (pos 99999) high) refl
-
-last_put : (xs : List ℕ) (c d : ℕ) → get_or (xs ++ c ∷ []) (length xs) d ≡ c
-last_put [] c d = refl
-last_put (x ∷ xs) c d = last_put xs c d
-
-eqb-same : (n : ℕ) → eqb n n ≡ true
-eqb-same n = grind (arith, nat_tests)
 
 pub count_written : (letter n : ℕ) → n ≤ 999999 → count letter (decimal n ++ letter ∷ []) ≡ Some n
 unfolding count
@@ -71,42 +60,20 @@ count_written letter n le =
     let some : ltb 0 (length (ds ++ letter ∷ [])) ≡ true = lt-ltb 0 (length (ds ++ letter ∷ [])) (omega arith) in
     let n1 : length (ds ++ letter ∷ []) - 1 ≡ length ds = omega arith in
     let front : take (length ds) (ds ++ letter ∷ []) ≡ ds = take_at ds (letter ∷ []) (length ds) refl in
-    rw (some, n1, last_put ds letter 0, eqb-same letter, front) (rw (whole_again (pos n) (omega arith), le-leb n 999999 le) refl)
+    rw (some, n1, get_or_at ds letter [] 0 (length ds) refl, eq-eqb letter letter refl, front) (rw (whole_again (pos n) (omega arith), le-leb n 999999 le) refl)
 
 pub scale_written : (d : Number) → IsNumber d → scale (decimal_text d) ≡ Some d
 unfolding scale
 scale_written d h = decimal_again d h
 
--- ---- a decimal's text
-
-pub record DecimalText (d : Number) : Type 0 where
-  pub sign : Bool
-  pub ws : List ℕ
-  pub fs : List ℕ
-  pub is : decimal_text d ≡ sign_text sign ++ (ws ++ point_text fs)
-  pub front : AllDigits 10 ws
-  pub back : AllDigits 10 fs
-  pub some : 0 < length ws
-
-pub decimal_parts : (d : Number) → IsNumber d → DecimalText d
-unfolding decimal_text
-decimal_parts d h =
-    let n = unsigned_abs d.units in
-    let small : n < 10 ^ 36 = abs_small d.units h.above h.below in
-    let m = decimal_is_IsNumeral_wide n (omega arith) in
-    let s = sign_is d.units in
-    let p = pointed_is d.places (decimal n) m.0.1 m.0.0 in
-    record { sign = s.0; ws = p.ws; fs = p.fs; is = rw (s.1.0, p.is) refl; front = p.front; back = p.back; some = p.some }
-
-not_empty : (xs : List ℕ) → 0 < length xs → eqb (length xs) 0 ≡ false
-not_empty xs h = grind (arith, nat_tests)
-
-decimal_some : (d : Number) → IsNumber d → 0 < length (decimal_text d)
-decimal_some d h = let p = decimal_parts d h in rw p.is (omega (arith, length-append (sign_text p.sign) (p.ws ++ point_text p.fs), length-append p.ws (point_text p.fs), p.some))
+-- what is read isn't empty, where nothing is read of an empty field
+full : {A : Type 0} (g : List ℕ → Option A) (f : List ℕ) (y : A) → g [] ≡ None → g f ≡ Some y → eqb (length f) 0 ≡ false
+full g [] y none e = absurd cc
+full g (x ∷ xs) y none e = grind (arith, nat_tests)
 
 pub free_scale_written : (d : Number) → IsNumber d → free_scale (decimal_text d) ≡ Some d
 unfolding free_scale
-free_scale_written d h = rw (not_empty (decimal_text d) (decimal_some d h)) (decimal_again d h)
+free_scale_written d h = let is = decimal_again d h in rw (full decimal_number (decimal_text d) d refl is) is
 
 -- ---- one letter, one digit, one word
 
@@ -134,33 +101,23 @@ pub revision_written : whole (codes "1999") ≡ Some (pos 1999)
 unfolding whole
 revision_written = refl
 
-signed_some : (z : ℤ) → unsigned_abs z < 10 ^ 64 → 0 < length (signed_decimal z)
-signed_some (pos n) lt = (decimal_is_IsNumeral_wide n lt).0.0
-signed_some (negsuc n) lt = omega arith
-
-not_missing : (x : ℤ) → x ≤ℤ pos 99998 → reading x ≡ Value x
-not_missing x le = with_test (int_eq x (pos 99999)) refl
-  where
-    with_test : (b : Bool) → int_eq x (pos 99999) ≡ b → cond b Missing (Value x) ≡ Value x
-    with_test true t = let same : x ≡ pos 99999 = (Decides-int_eq x (pos 99999)).0 t in absurd (omega (arith, ints))
-    with_test false t = refl
-
 pub value_written : (x : ℤ) → negsuc 99998 ≤ℤ x → x ≤ℤ pos 99998 → value (reading_text (Value x)) ≡ Some (Value x)
-unfolding value
+unfolding value small
 value_written x low high =
-    let top : x ≤ℤ pos 99999 = omega (arith, ints) in
-    let few = abs_few x low top in
-    rw (not_empty (signed_decimal x) (signed_some x (omega arith)), small_written x low top) (ap (λ (v : Reading). Some v) (not_missing x high))
+    let is = small_written x low (omega (arith, ints)) in
+    let there : reading x ≡ Value x = cond_both (int_eq x (pos 99999)) Missing (Value x) (λ v. v ≡ Value x)
+    (λ t. let same = (Decides-int_eq x (pos 99999)).0 t in absurd (omega (arith, ints))) (λ t. refl) in
+    rw (full small (signed_decimal x) x refl is, is) (ap (λ (v : Reading). Some v) there)
 
 pub missing_written : value (reading_text Missing) ≡ Some Missing
 unfolding value small
 missing_written = refl
 
 pub stamp_written : (t : ℕ) → t ≤ 9999999999 → stamp (stamp_text (Some t)) ≡ Some (Some t)
-unfolding stamp
+unfolding stamp natural
 stamp_written t le =
-    let some = (decimal_is_IsNumeral_wide t (omega arith)).0.0 in
-    rw (not_empty (decimal t) some, natural_written 9999999999 t le (omega arith)) refl
+    let is = natural_written 9999999999 t le (omega arith) in
+    rw (full (natural 9999999999) (decimal t) t refl is, is) refl
 
 pub no_stamp_written : stamp (stamp_text None) ≡ Some None
 unfolding stamp
@@ -181,70 +138,31 @@ printed b = ltb 32 b && not (eqb b 44)
 abbrev pub Printed : List ℕ → Type 0
 Printed t = AllByRecursion (λ b. printed b ≡ true) t
 
-printed_none : (c : ℕ) → printed c ≡ false → (t : List ℕ) → Printed t → HasNone c t
-printed_none c none [] h = tt
-printed_none c none (x ∷ xs) h = (with_test (eqb x c) refl, printed_none c none xs h.1)
-  where
-    with_test : (b : Bool) → eqb x c ≡ b → b ≡ false
-    with_test true e = let same : x ≡ c = eqb-true x c e in sym h.0 ∙ ap printed same ∙ none
-    with_test false e = refl
-
 pub printed_no_end : (t : List ℕ) → Printed t → HasNone 26 t
-printed_no_end t h = printed_none 26 refl t h
+printed_no_end t h = All-none printed 26 refl t h
 
 printed_full : (x : ℕ) → printed x ≡ true → is_blank x ≡ false
-printed_full x h = with_space (eqb x 32) refl (eqb x 9) refl
-  where
-    no_byte : (c : ℕ) → printed c ≡ false → x ≡ c → ⊥
-    no_byte c none e = let t : true ≡ false = sym h ∙ ap printed e ∙ none in cc
+printed_full x h = or_from _ _ (differs printed x 32 h refl) (differs printed x 9 h refl)
 
-    with_space : (a : Bool) → eqb x 32 ≡ a → (b : Bool) → eqb x 9 ≡ b → (a || b) ≡ false
-    with_space true e b f = absurd (no_byte 32 refl (eqb-true x 32 e))
-    with_space false e true f = absurd (no_byte 9 refl (eqb-true x 9 f))
-    with_space false e false f = refl
-
-starts : (t : List ℕ) → Printed t → StartsFull t
-starts [] h = tt
-starts (x ∷ xs) h = printed_full x h.0
-
-Printed-reverse : (t : List ℕ) → Printed t → Printed (reverse t)
-Printed-reverse [] h = tt
-Printed-reverse (x ∷ xs) h = rw (reverse-append (x ∷ []) xs) (All-append (λ b. printed b ≡ true) (reverse xs) (x ∷ []) (Printed-reverse xs h.1) (h.0, tt))
-
-both_ends : (t : List ℕ) → StartsFull t → StartsFull (reverse t) → trimmed t ≡ t
-both_ends t a b = ap (λ (s : List ℕ). reverse (trim_start (reverse s))) (full_stays t a) ∙ ap reverse (full_stays (reverse t) b) ∙ reverse-reverse t
+starts : (t : List ℕ) → Printed t → StartsFull is_blank t
+starts t h d some = printed_full (get_or t 0 d) (All-from_recursion (λ b. printed b ≡ true) t h 0 d some)
 
 pub clean_printed : (t : List ℕ) → Printed t → IsClean t
 clean_printed t h = record {
-  bare = both_ends t (starts t h) (starts (reverse t) (Printed-reverse t h));
-  no_comma = printed_none 44 refl t h;
-  no_feed = printed_none 10 refl t h;
+  bare = both_stay t (starts t h) (starts (reverse t) (All-reverse _ t h));
+  no_comma = All-none printed 44 refl t h;
+  no_feed = All-none printed 10 refl t h;
 }
 
-pub printed_digits : (ds : List ℕ) → AllDigits 10 ds → Printed ds
-printed_digits [] h = tt
-printed_digits (c ∷ cs) h = let r = digit_from_value c h.0 in (grind (arith, nat_tests), printed_digits cs h.1)
-
 pub printed_decimal : (n : ℕ) → n < 10 ^ 64 → Printed (decimal n)
-printed_decimal n lt = printed_digits (decimal n) (decimal_is_IsNumeral_wide n lt).0.1
+printed_decimal n lt = All-digits (λ b. printed b ≡ true) (λ c low high. grind (arith, nat_tests)) (decimal n) (decimal_is_IsNumeral_wide n lt).0.1
 
 pub printed_signed : (z : ℤ) → unsigned_abs z < 10 ^ 64 → Printed (signed_decimal z)
 printed_signed (pos n) lt = printed_decimal n lt
 printed_signed (negsuc n) lt = (refl, printed_decimal (suc n) lt)
 
-printed_point : (fs : List ℕ) → AllDigits 10 fs → Printed (point_text fs)
-printed_point [] h = tt
-printed_point (f ∷ fs) h = (refl, printed_digits (f ∷ fs) h)
-
-printed_sign : (s : Bool) → Printed (sign_text s)
-printed_sign true = (refl, tt)
-printed_sign false = tt
-
 pub printed_number : (d : Number) → IsNumber d → Printed (decimal_text d)
-printed_number d h =
-    let p = decimal_parts d h in
-    let P : ℕ → Type 0 = λ b. printed b ≡ true in
-    rw p.is (All-append P (sign_text p.sign) (p.ws ++ point_text p.fs) (printed_sign p.sign) (All-append P p.ws (point_text p.fs) (printed_digits p.ws p.front) (printed_point p.fs p.back)))
+printed_number d h = written_all (λ b. printed b ≡ true) (λ c low high. grind (arith, nat_tests)) refl refl d h
 
 pub printed_count : (n letter : ℕ) → n < 10 ^ 64 → printed letter ≡ true → Printed (decimal n ++ letter ∷ [])
 printed_count n letter lt e = All-append (λ b. printed b ≡ true) (decimal n) (letter ∷ []) (printed_decimal n lt) (e, tt)
@@ -267,54 +185,20 @@ printed_revision = (refl, (refl, (refl, (refl, tt))))
 pub printed_missing : Printed (reading_text Missing)
 printed_missing = (refl, (refl, (refl, (refl, (refl, tt)))))
 
-pub printed_stamp : (t : ℕ) → t < 10 ^ 64 → Printed (stamp_text (Some t))
-printed_stamp t h = printed_decimal t h
-
 -- ---- texts of a set-up
 
-nots : (a : Bool) → not a ≡ true → a ≡ false
-nots true e = absurd cc
-nots false e = refl
-
-ors : (a b : Bool) → (a || b) ≡ false → (a ≡ false) × (b ≡ false)
-ors true b e = absurd cc
-ors false b e = (refl, e)
-
-printable_none : (c : ℕ) → (leb 32 c && leb c 126 && not (eqb c 44)) ≡ false → (t : List ℕ) → is_printable t ≡ true → HasNone c t
-printable_none c none [] h = tt
-printable_none c none (x ∷ xs) h =
-    let p = and_parts (leb 32 x && leb x 126 && not (eqb x 44)) (is_printable xs) h in
-    (with_test p.0 (eqb x c) refl, printable_none c none xs p.1)
-  where
-    with_test : (leb 32 x && leb x 126 && not (eqb x 44)) ≡ true → (b : Bool) → eqb x c ≡ b → b ≡ false
-    with_test here true e = let same : x ≡ c = eqb-true x c e in sym here ∙ ap (λ (y : ℕ). leb 32 y && leb y 126 && not (eqb y 44)) same ∙ none
-    with_test here false e = refl
-
-front_full : (t : List ℕ) → is_blank (get_or t 0 0) ≡ false → StartsFull t
-front_full [] h = tt
-front_full (x ∷ xs) h = h
-
-full-append : (y : ℕ) (ys zs : List ℕ) → StartsFull (y ∷ ys) → StartsFull ((y ∷ ys) ++ zs)
-full-append y ys zs h = h
-
-back_full : (t : List ℕ) → is_blank (get_or t (length t - 1) 0) ≡ false → StartsFull (reverse t)
-back_full [] h = tt
-back_full (x ∷ []) h = h
-back_full (x ∷ y ∷ ys) h =
-    let e : suc (suc (length ys)) - 1 ≡ suc (suc (length ys) - 1) = omega arith in
-    let rest : StartsFull (reverse (y ∷ ys)) = back_full (y ∷ ys) (rw e at h) in
-    let s = reverse_some y ys in
-    let here : StartsFull (s.first ∷ s.rest) = rw s.is at rest in
-    rw (reverse-append (x ∷ []) (y ∷ ys), s.is) (full-append s.first s.rest (x ∷ []) here)
+abbrev printable : ℕ → Bool
+printable b = leb 32 b && leb b 126 && not (eqb b 44)
 
 pub clean_plain : (low high : ℕ) (t : List ℕ) → is_plain low high t ≡ true → IsClean t
 unfolding is_plain
 clean_plain low high t h =
     let p = and_parts (has_length low high t && is_printable t) (not (has_blank_end t)) h in
-    let printable = (and_parts (has_length low high t) (is_printable t) p.0).1 in
-    let ends = ors (is_blank (get_or t 0 0)) (is_blank (get_or t (length t - 1) 0)) (nots (has_blank_end t) p.1) in
+    let is = (and_parts (has_length low high t) (is_printable t) p.0).1 in
+    let all = recursion_from_All (λ b. printable b ≡ true) t (AllPass-from_list_all printable t is) in
+    let ends = or_parts (is_blank (get_or t 0 0)) (is_blank (get_or t (length t - 1) 0)) (not-true (has_blank_end t) p.1) in
     record {
-      bare = both_ends t (front_full t ends.0) (back_full t ends.1);
-      no_comma = printable_none 44 refl t printable;
-      no_feed = printable_none 10 refl t printable;
+      bare = both_stay t (λ d some. rw (get_or_default t 0 d 0 some) ends.0) (stops_full is_blank t (λ d some. rw (get_or_default t (length t - 1) d 0 (omega arith)) ends.1));
+      no_comma = All-none printable 44 refl t all;
+      no_feed = All-none printable 10 refl t all;
     }
