@@ -46,3 +46,7 @@ for count in 23 24 64 250; do
     grep -o 'd="M80.0 [^"]*"/>$' "$folder/svg" | grep h0 | sed -n '1p;2p;$p'
     grep -E '(>U1 |kV, primary)' "$folder/svg" | head -n 2
 done
+# a contact that changes in each of 8,401 rows, ten a pixel, is one bar
+sed '2s/1,1A,0D/2,1A,1D/; 3s/$/\n1,C,,,0\r/; s/^1000,5/1000,8401/' files/first.cfg > "$folder/cfg"
+seq 8401 | awk '{ print $1 ",,7," $1 % 2 }' > "$folder/dat"
+"$comtrade" plot "$folder/cfg" "$folder/dat" | grep '#2e6b38'

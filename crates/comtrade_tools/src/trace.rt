@@ -189,15 +189,40 @@ fn put_box<A: Allocator>(
     put(out, "z")
 }
 
-/// Where a bar begins: where it began, else here.
-fn first_of(begun: Option<f64>, x: f64) -> f64 {
-    match begun {
-        Some(from) => from,
-        None => x,
+/// A bar of a contact that isn't drawn yet: where it begins, and where it ends unless it goes on.
+#[derive(Clone, Copy)]
+struct Bar {
+    from: f64,
+    to: Option<f64>,
+}
+
+/// The bar with a row more, whose bit is 1: it goes on where no half pixel is between, else it is drawn, and one begins here.
+fn with_one<A: Allocator>(
+    out: &mut Vec<u8, A>,
+    top: f64,
+    bar: Option<Bar>,
+    x: f64,
+) -> Result<Bar, AllocError> {
+    match bar {
+        Some(Bar { from, to: Some(to) }) if to + 0.5 < x => {
+            put_box(out, top, from, to)?;
+            Ok(Bar { from: x, to: None })
+        }
+        Some(Bar { from, to: _ }) => Ok(Bar { from, to: None }),
+        None => Ok(Bar { from: x, to: None }),
     }
 }
 
-/// The bars of a contact, from each row in which its bit is 1 to the next in which it is 0.
+/// The bar with a row more, whose bit is 0: it ends here, unless it has ended.
+fn with_zero(bar: Option<Bar>, x: f64) -> Option<Bar> {
+    match bar {
+        Some(Bar { from, to: None }) => Some(Bar { from, to: Some(x) }),
+        _ => bar,
+    }
+}
+
+/// The bars of a contact, from each row in which its bit is 1 to the next in which it is 0. Those that are no half pixel apart
+/// are one.
 pub(crate) fn put_bar<A: Allocator>(
     out: &mut Vec<u8, A>,
     rows: &[Row<A>],
@@ -207,21 +232,21 @@ pub(crate) fn put_bar<A: Allocator>(
     top: f64,
     channel: usize,
 ) -> Result<(), AllocError> {
-    let mut begun = None;
+    let mut bar = None;
     let mut last = RIGHT;
     for (i, row) in rows.iter().enumerate() {
         if let Some(x) = place_of(times, i, trigger, frame) {
             last = x;
-            if bit_at(row, channel) {
-                begun = Some(first_of(begun, x));
-            } else if let Some(from) = begun {
-                put_box(out, top, from, x)?;
-                begun = None;
-            }
+            bar = if bit_at(row, channel) {
+                Some(with_one(out, top, bar, x)?)
+            } else {
+                with_zero(bar, x)
+            };
         }
     }
-    match begun {
-        Some(from) => put_box(out, top, from, last),
+    match bar {
+        Some(Bar { from, to: Some(to) }) => put_box(out, top, from, to),
+        Some(Bar { from, to: None }) => put_box(out, top, from, last),
         None => Ok(()),
     }
 }
