@@ -18,19 +18,24 @@ fn without_minus(text: &[u8]) -> (bool, &[u8])
     }
 }
 
-/// The digits at the front of a text, ten at most: how many, and the number that they make.
+/// The digits at the front of a text, so many at most, of which the first `start` are read already: how many, and the number that
+/// they make.
 #[inline(always)]
-fn digits_within(text: &[u8], most: usize) -> (usize, u64)
-    requires { most ≡ min (length text.now) 10 }
-    ensures within { result.0 ≤ length text.now }
-    ensures few { result.0 ≤ 10 }
+fn digits_from(text: &[u8], start: usize, begun: u64, most: usize) -> (usize, u64)
+    requires order { start ≤ most }
+    requires room { most ≤ length text.now }
+    requires ten { most ≤ 10 }
+    requires digits { all_ascii_digits (take start text.now) ≡ true }
+    requires value { begun ≡ digits_value 10 (take start text.now) }
+    requires small { begun < 10 ^ start }
+    ensures few { result.0 ≤ most }
     ensures digits { all_ascii_digits (take result.0 text.now) ≡ true }
     ensures value { result.1 ≡ digits_value 10 (take result.0 text.now) }
-    ensures small { result.1 < 10 ^ 10 }
-    ensures all { (nat_lt result.0 10 && is_ascii_digit (get_or text.now result.0 0)) ≡ false }
+    ensures small { result.1 < 10 ^ result.0 }
+    ensures all { (nat_lt result.0 most && is_ascii_digit (get_or text.now result.0 0)) ≡ false }
 {
-    let mut count = 0;
-    let mut number: u64 = 0;
+    let mut count = start;
+    let mut number = begun;
     while count < most {
         let digit = text[count];
         if !digit.is_ascii_digit() {
@@ -42,7 +47,48 @@ fn digits_within(text: &[u8], most: usize) -> (usize, u64)
     (count, number)
 }
 
-/// The same, where the compiler knows that ten bytes are there, and has no loop for them.
+/// The number of four digits with the fifth, where one stands there, and how many they are. It takes no branch, since whether a
+/// number has four digits or five can't be foreseen.
+#[inline(always)]
+fn with_fifth(text: &[u8], four: u64) -> (usize, u64)
+    requires long { 5 ≤ length text.now }
+    requires digits { all_ascii_digits (take 4 text.now) ≡ true }
+    requires value { four ≡ digits_value 10 (take 4 text.now) }
+    requires small { four < 10 ^ 4 }
+    ensures few { result.0 ≤ 5 }
+    ensures digits { all_ascii_digits (take result.0 text.now) ≡ true }
+    ensures value { result.1 ≡ digits_value 10 (take result.0 text.now) }
+    ensures small { result.1 < 10 ^ result.0 }
+    ensures all { (nat_lt result.0 5 && is_ascii_digit (get_or text.now result.0 0)) ≡ false }
+{
+    let fifth = text[4];
+    let longer = four * 10 + fifth as u64;
+    if fifth.is_ascii_digit() {
+        (5, longer - 48)
+    } else {
+        (4, four)
+    }
+}
+
+/// The digits at the front of a text of ten bytes or more, ten at most.
+#[inline(always)]
+fn digits_of_ten(text: &[u8]) -> (usize, u64)
+    requires { 10 ≤ length text.now }
+    ensures few { result.0 ≤ 10 }
+    ensures digits { all_ascii_digits (take result.0 text.now) ≡ true }
+    ensures value { result.1 ≡ digits_value 10 (take result.0 text.now) }
+    ensures small { result.1 < 10 ^ result.0 }
+    ensures all { (nat_lt result.0 10 && is_ascii_digit (get_or text.now result.0 0)) ≡ false }
+{
+    let (count, number) = digits_from(text, 0, 0, 4);
+    if count < 4 {
+        return (count, number);
+    }
+    let (count, number) = with_fifth(text, number);
+    digits_from(text, count, number, 10)
+}
+
+/// The digits at the front of a text, ten at most. Where the compiler knows that ten bytes are there, it has no loop for them.
 #[inline(always)]
 fn digits_at(text: &[u8]) -> (usize, u64)
     ensures within { result.0 ≤ length text.now }
@@ -53,9 +99,9 @@ fn digits_at(text: &[u8]) -> (usize, u64)
     ensures all { (nat_lt result.0 10 && is_ascii_digit (get_or text.now result.0 0)) ≡ false }
 {
     if text.len() < 10 {
-        digits_within(text, text.len())
+        digits_from(text, 0, 0, text.len())
     } else {
-        digits_within(text, 10)
+        digits_of_ten(text)
     }
 }
 
