@@ -1,6 +1,6 @@
 //! The bytes of a configuration file and of its data file.
 
-ghost use Rattle.std.specs.Prelude.{◌≡◌, None, true, IfOk};
+ghost use Rattle.std.specs.Prelude.{◌≡◌, ◌<◌, None, true, IfOk};
 ghost use Rattle.comtrade_write.specs.Refusals as refusals;
 ghost use Rattle.comtrade_write.specs.Refusals.{Answers, GivesText, cfg_refusal, data_refusal, rows_refusal};
 ghost use Rattle.comtrade_write.specs.Shape as shapes;
@@ -100,6 +100,14 @@ pub fn ascii_bytes<A: Allocator + Copy>(alloc: A, file: &File<A>) -> Result<Vec<
     }
 }
 
+/// How many bytes so many rows of k values and n bits take.
+fn binary_size(k: usize, n: usize, rows: usize) -> usize
+    requires many { k < 1000000 }
+    requires few { n < 1000000 }
+{
+    (8 + 2 * k + 2 * ((n + 15) / 16)).saturating_mul(rows)
+}
+
 /// The rows in BINARY form, or `None` where one of them isn't taken.
 fn binary_text<A: Allocator + Copy>(
     alloc: A,
@@ -108,14 +116,10 @@ fn binary_text<A: Allocator + Copy>(
     requires { shapes.is_shaped file.now ≡ true }
     ensures { IfOk result (λ text. GivesText (λ v. v.items) text (rows_refusal refusals.binary_bounds file.now.rows) (binary file.now.rows)) }
 {
-    let mut out = Vec::new(alloc);
     let head = head_of(file);
-    let all = rows_binary::put_rows(
-        &mut out,
-        analog_of(head).len(),
-        status_of(head).len(),
-        rows_of(file),
-    )?;
+    let (k, n) = (analog_of(head).len(), status_of(head).len());
+    let mut out = Vec::with_capacity(alloc, binary_size(k, n, rows_of(file).len()))?;
+    let all = rows_binary::put_rows(&mut out, k, n, rows_of(file))?;
     if all { Ok(Some(out)) } else { Ok(None) }
 }
 

@@ -91,19 +91,20 @@ fn scan_fault<A: Allocator>(setup: &Setup<A>, scan: &Scan<A>) -> Result<(), Scan
     }
 }
 
-/// The instant of scan k of a recorder that starts then and makes so many scans a second.
+/// The instant of scan k of a recorder that starts then and makes so many scans a second. Whether there is one takes no division,
+/// which is the longest part where that alone is asked.
 fn instant_at(rate: u32, start: i64, k: u64) -> Option<i64>
     requires rate { (1 ≤ rate) × (rate ≤ 1000000) }
     requires start { (pos 0 ≤ℤ start) × (start ≤ℤ pos end_of_time) }
     ensures value { result ≡ spec.within_time (start +ℤ pos (spec.micros rate k)) }
     ensures early { IfSome result (λ _. k ≤ end_of_time) }
 {
-    let at = start as i128 + (k as u128 * 1_000_000 / rate as u128) as i128;
-    if at <= LAST as i128 {
-        Some(at as i64)
-    } else {
-        None
+    let micros = k as u128 * 1_000_000;
+    let places = (LAST - start) as u128 + 1;
+    if places * rate as u128 <= micros {
+        return None;
     }
+    Some(start + (micros / rate as u128) as i64)
 }
 
 impl<A: Allocator> Layout<A> {

@@ -3,7 +3,7 @@ use Rattle.std.proofs.lemmas.List.{take_more}
 use Rattle.dfr_channels.proofs.Capped.{digit_is}
 use Rattle.dfr_channels.proofs.PlainNumbers.{digits_more, value_more, room}
 use Rattle.dfr_channels.proofs.Short.{digit_few}
-use Rattle.dfr_channels.proofs.plain_numbers.digits_within.Goals as goal
+use Rattle.dfr_channels.proofs.plain_numbers.digits_from.Goals as goal
 
 pub overflow_mul-number : goal.overflow_mul-number
 overflow_mul-number c =
