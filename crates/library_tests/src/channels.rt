@@ -1,5 +1,6 @@
 //! Set-ups, scans, rules and spellings.
 
+mod contacts;
 mod copies;
 mod rules;
 mod setups;

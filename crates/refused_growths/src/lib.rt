@@ -37,6 +37,8 @@ mod script;
 #[cfg(test)]
 mod texts;
 #[cfg(test)]
+mod token_calls;
+#[cfg(test)]
 mod unshared;
 #[cfg(test)]
 mod writers;

@@ -4,9 +4,9 @@
 ghost use Rattle.std.specs.Prelude.{◌≡◌};
 
 use crate::common::{Heap, scan};
-use crate::live_calls::{Call, Calls, go_on, is_offered};
 use crate::live_ends::{Leaving, ends};
 use crate::recorder::recorder;
+use crate::token_calls::{Call, Calls, go_on, is_offered};
 use dfr_channels::Scan;
 use dfr_live::{Full, Opened, Session, Shared, Source, Token, open};
 use dfr_recorder::{Hit, Recorder};

@@ -4,9 +4,9 @@
 ghost use Rattle.std.specs.Prelude.{◌≡◌};
 
 use crate::common::{Heap, layout, rules, scan};
-use crate::live_calls::{Call, Calls, go_on, is_offered};
 use crate::recorder::is_the_record;
 use crate::refusing::{Outcome, Trial, memory_if, refusals, right_if};
+use crate::token_calls::{Call, Calls, go_on, is_offered};
 use dfr_channels::{Layout, Rules, Scan};
 use dfr_live::{Opened, Session, Shared, Source, Token, open};
 use dfr_recorder::{Hit, Limits, Recorder, TriggerFault};

@@ -1,6 +1,7 @@
 //! A copy is as its source, part by part.
 
-use super::setups::{contact_of, one_of, scan, setup, with_analog, with_status};
+use super::contacts::contact_of;
+use super::setups::{one_of, scan, setup, with_analog, with_status};
 use crate::reader::same::{are_analogs, are_statuses};
 use crate::writer::fixture::{analog, number, text};
 use dfr_channels::{AnalogChannel, Items, Layout, Reading, Scan, Side, StatusChannel};

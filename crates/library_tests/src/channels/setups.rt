@@ -1,6 +1,7 @@
 //! Set-ups and their refusals, and which scans fit.
 
-use crate::writer::fixture::{analog, head, one, status, text};
+use super::contacts::contacts;
+use crate::writer::fixture::{analog, head, one, text};
 use comtrade_write::Head;
 use dfr_channels::{
     AnalogChannel, Items, Layout, Place, Reading, Scan, ScanFault, Setup, SetupFault, StatusChannel,
@@ -144,35 +145,6 @@ fn refused_analog_channels(rt: HostRuntime) {
     assert!(rt; is_refused(crossed, SetupFault::Span(0)));
     let bare = setup_with_channel(alloc, b"", 0, 1);
     assert!(rt; is_refused(bare, SetupFault::Text(Place::Analog(0))));
-}
-
-/// A contact of this phase.
-pub fn contact_of(alloc: Global, phase: Option<Items<u8>>) -> Option<StatusChannel> {
-    match (status(alloc), phase) {
-        (Some(mut contact), Some(phase)) => {
-            contact.phase = phase;
-            Some(contact)
-        }
-        _ => None,
-    }
-}
-
-fn add(list: &mut Vec<StatusChannel>, contact: Option<StatusChannel>) -> bool {
-    match contact {
-        Some(contact) => list.push(contact).is_ok(),
-        None => false,
-    }
-}
-
-/// So many contacts, and one more of this phase.
-fn contacts(alloc: Global, count: usize, last: &[u8]) -> Option<Items<StatusChannel>> {
-    let mut list = Vec::new(alloc);
-    for _ in 0..count {
-        if !add(&mut list, status(alloc)) {
-            return None;
-        }
-    }
-    add(&mut list, contact_of(alloc, text(alloc, last))).then_some(Items::of(list))
 }
 
 pub fn with_status(setup: Option<Setup>, contacts: Option<Items<StatusChannel>>) -> Option<Setup> {
