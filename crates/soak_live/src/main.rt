@@ -14,6 +14,7 @@ mod plan;
 mod shared_run;
 mod station;
 mod threads;
+mod told;
 
 use crate::given::given_of;
 use crate::out::Out;

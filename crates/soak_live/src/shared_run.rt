@@ -4,11 +4,12 @@ ghost use Rattle.std.specs.Prelude.{◌≡◌};
 
 use crate::chance::Chance;
 use crate::desk::{Acquiring, Desk, Heap, Held};
-use crate::ending::{Trouble, end_desk, put_callers, put_ends};
+use crate::ending::{Trouble, end_desk, put_ends};
 use crate::given::{Given, Lists};
 use crate::out::Out;
 use crate::plan::{Plan, Way};
 use crate::threads::{at_once, in_order};
+use crate::told::put_callers;
 use dfr_live::{Opened, Session, Token, open};
 use std::alloc::{AllocGlobal, Allocator, Global};
 use std::marker::Brand;

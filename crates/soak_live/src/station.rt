@@ -2,11 +2,11 @@
 
 use crate::chance::Chance;
 use crate::desk::Heap;
-use crate::ending::put_ended;
 use crate::given::{Given, Lists, Sample, Work};
 use crate::notes::text_sum;
 use crate::out::Out;
 use crate::plan::Plan;
+use crate::told::put_ended;
 use comtrade_write::Kind;
 use dfr_live::{
     EndFault, Fed, Feed, LiveFault, LiveReport, OpenFault, Order, Orders, Sink, run_live,
