@@ -9,7 +9,7 @@ returns-in-Ok-clause-rows g c =
     subst (λ rows. ReadsRows c.args.head c.args.dat.now rows) (sym c.of.ensures) (rows_spelled c.args.head c.args.dat.now _ (λ i. Fits-lt-pow (c.type_inv.dat i)) c.in-Ok.ensures)
 
 pub returns-in-Err-clause-fault : goal.returns-in-Err-clause-fault
-returns-in-Err-clause-fault g c = λ n. (data_faulty c.args.head c.args.dat.now c.in-Err.fault (c.in-Err.ensures n)).0
+returns-in-Err-clause-fault g c = λ n. (data_faulty c.args.head c.args.dat.now _ (c.in-Err.ensures n)).0
 
 pub returns-in-Err-clause-unread : goal.returns-in-Err-clause-unread
-returns-in-Err-clause-unread g c = λ n. (data_faulty c.args.head c.args.dat.now c.in-Err.fault (c.in-Err.ensures n)).1
+returns-in-Err-clause-unread g c = λ n. (data_faulty c.args.head c.args.dat.now _ (c.in-Err.ensures n)).1
