@@ -69,6 +69,7 @@ pub record Reads (cfg dat : List ℕ) (f : FileParts) : Type 0 where
   pub head : ReadsHead cfg f.head
   pub rows : ReadsRows f.head dat f.rows
 
+-- the first fault of a configuration file
 abbrev pub FaultyHead : List ℕ → ReadFault → Type 0
 FaultyHead cfg e = head (map fields (lines cfg)) ≡ Err e
 
@@ -80,10 +81,11 @@ abbrev pub FaultyAs : Kind → ℕ → ℕ → ℕ → List ℕ → ReadFault �
 FaultyAs Ascii k m count dat e = rows k m count (map fields (data_lines dat)) ≡ Err e
 FaultyAs Binary k m count dat e = (length dat ≢ count * row_size k m) × (e ≡ faults.Length)
 
+-- the first fault of a data file under its head
 abbrev pub FaultyData : HeadParts → List ℕ → ReadFault → Type 0
 FaultyData h dat e = FaultyAs h.kind (length h.analog) (length h.status) (last_sample h.rates) dat e
 
--- the data are judged under the head that the configuration file reads to
+-- the first fault of a pair: the data are judged under the head that the configuration file reads to
 abbrev pub FaultyPair : List ℕ → List ℕ → Part → ReadFault → Type 0
 FaultyPair cfg dat Cfg e = FaultyHead cfg e
 FaultyPair cfg dat Dat e = (h : HeadParts) × (ReadsHead cfg h × FaultyData h dat e)
@@ -96,5 +98,6 @@ Nothing {A = A} P = (x : A) → P x → ⊥
 abbrev pub AtMostOne : {A : Type 0} → (A → Type 0) → Type 0
 AtMostOne {A = A} P = (x y : A) → P x → P y → x ≡ y
 
+-- the pair reads to no file
 abbrev pub IsNoFile : List ℕ → List ℕ → Type 0
 IsNoFile cfg dat = Nothing (Reads cfg dat)
