@@ -2,7 +2,7 @@
 //! replay.
 #![tactic(auto)]
 
-mod csv;
+mod comma_separated;
 mod groups;
 mod instant;
 mod number;
@@ -20,7 +20,7 @@ mod ticks;
 mod times;
 mod trace;
 
-pub use csv::csv_over;
+pub use comma_separated::csv_over;
 pub use plot::plot_over;
 pub use records::{Next, Printed, next_record};
 pub use show::show_over;
