@@ -1,5 +1,5 @@
 -- How a text is cut into lines, and a line into fields.
-use Rattle.std.specs.Prelude.{ℕ, Bool, ◌==◌, if◌then◌else◌, List, [], ◌∷◌, length, map, reverse, slice_index_or}
+use Rattle.std.specs.Prelude.{ℕ, Bool, ◌==◌, if◌then◌else◌, List, [], ◌∷◌, Option, Some, None, length, map, reverse, slice_index_or}
 use Rattle.std.specs.List.{slice_split}
 use Rattle.std.specs.Str.Lines.{strip_carriage_return}
 use Rattle.std.specs.Borrow.{Bor}
@@ -27,6 +27,11 @@ drop_end p xs = reverse (drop_front p (reverse xs))
 -- the text is cut at each line feed, and one carriage return at a line's end is dropped
 abbrev pub cut_lines : List ℕ → List (List ℕ)
 cut_lines text = map without_cr (slice_split (λ b. b == 10) text)
+
+-- the lines of what is left of a text: none where it was cut to its end
+abbrev pub lines_left : Option (List ℕ) → List (List ℕ)
+lines_left None = []
+lines_left (Some text) = cut_lines text
 
 -- the lines that are read: blank lines at the end are dropped
 abbrev pub lines : List ℕ → List (List ℕ)

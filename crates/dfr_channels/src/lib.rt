@@ -22,7 +22,7 @@ pub use decimal::{Decimal, numeral_of};
 pub use fields::{bit_of, free_bit_of, free_scale_of, side_of};
 pub use items::{Items, TryClone, copies_of};
 pub use layout::{Layout, ScanFault};
-pub use lines::{fields_of, lines_of, without_blank_end};
+pub use lines::{Lines, fields_of, lines_of, without_blank_end};
 pub use memory::Memory;
 pub use number::integer_of;
 pub use plain::is_plain;

@@ -1,11 +1,12 @@
 //! The lines of a text, and the fields of a line.
 
-ghost use Rattle.std.specs.Prelude.{◌≡◌, ◌≤◌, ◌-◌, IfOk, length, take, drop};
-ghost use Rattle.dfr_channels.specs.Lines.{without_cr, cut_lines, drop_end, fields, texts, is_blank_line};
+ghost use Rattle.std.specs.Prelude.{◌≡◌, ◌+◌, ◌≤◌, ℕ, List, [], ◌∷◌, ◌++◌, IfOk, length, option_copied};
+ghost use Rattle.dfr_channels.specs.Lines.{without_cr, cut_lines, lines_left, drop_end, fields, texts, is_blank_line};
 
 use crate::trim;
-use memchr::memchr_iter;
+use memchr::{memchr, memrchr};
 use std::alloc::{AllocError, Allocator};
+use std::marker::Model;
 
 /// The line without one carriage return at its end.
 fn without_carriage_return(line: &[u8]) -> &[u8]
@@ -17,29 +18,96 @@ fn without_carriage_return(line: &[u8]) -> &[u8]
     }
 }
 
-/// The line that the text has from `start` up to `end`.
-fn line_between(text: &[u8], start: usize, end: usize) -> &[u8]
-    requires ordered { start ≤ end }
-    requires within { end ≤ length text.now }
-    ensures { result.now ≡ without_cr (take (end - start) (drop start text.now)) }
+fn is_blank(line: &[u8]) -> bool
+    ensures { result ≡ is_blank_line line.now }
 {
-    without_carriage_return(&text[start..end])
+    trim(line).is_empty()
 }
 
-/// What stands between the line feeds of a text, each without one carriage return at its end. `AllocError` is a growth that was
-/// refused.
+/// A text's first line, and what stands after its line feed, if it has one.
+#[tactic(auto, using(crate::proofs::LineCuts::line_cuts))]
+fn first_line(text: &[u8]) -> (&[u8], Option<&[u8]>)
+    ensures { cut_lines text.now ≡ result.0.now ∷ lines_left (option_copied result.1) }
+{
+    match memchr(b'\n', text) {
+        Some(at) => (without_carriage_return(&text[..at]), Some(&text[at + 1..])),
+        None => (without_carriage_return(text), None),
+    }
+}
+
+/// What stands before a text's last line feed, if it has one, and its last line.
+#[tactic(auto, using(crate::proofs::LineCuts::line_cuts))]
+fn last_line(text: &[u8]) -> (Option<&[u8]>, &[u8])
+    ensures { cut_lines text.now ≡ lines_left (option_copied result.0) ++ result.1.now ∷ [] }
+{
+    match memrchr(b'\n', text) {
+        Some(at) => (Some(&text[..at]), without_carriage_return(&text[at + 1..])),
+        None => (None, without_carriage_return(text)),
+    }
+}
+
+/// The lines of a text, cut one after the other: what stands between its line feeds, each without one carriage return at its
+/// end.
+#[derive(Debug, Drop)]
+pub struct Lines<'a> {
+    left: Option<&'a [u8]>,
+}
+
+impl<'a> Model for Lines<'a> {
+    ghost Value = { List (List ℕ) };
+
+    ghost view = { λ it. lines_left (option_copied it.left) };
+}
+
+impl<'a> Lines<'a> {
+    /// All lines of a text.
+    #[tactic(auto, using(crate::proofs::LineCuts::few_lines))]
+    pub fn of(text: &'a [u8]) -> Lines<'a>
+        ensures lines { result ≡ cut_lines text.now }
+        ensures few { length result ≤ length text.now + 1 }
+    {
+        Lines { left: Some(text) }
+    }
+
+    /// The same lines without the blank ones at the end.
+    pub fn without_blank_end(self) -> Lines<'a>
+        ensures lines { result ≡ drop_end is_blank_line self.entry }
+        ensures few { length result ≤ length self.entry }
+    {
+        let mut lines = self;
+        while let Some(text) = lines.left {
+            let (front, last) = last_line(text);
+            if !is_blank(last) {
+                break;
+            }
+            lines.left = front;
+        }
+        lines
+    }
+}
+
+impl<'a> Iterator for Lines<'a> {
+    ghost use Rattle.std.specs.Iterator.{YieldsFirstRef, item_count};
+
+    type Item = &'a [u8];
+
+    ghost next_gives = { YieldsFirstRef (λ left. left) };
+
+    ghost remaining = { item_count (λ left. left) };
+
+    #[inline]
+    fn next(&mut self) -> Option<&'a [u8]> {
+        let (line, left) = first_line(self.left?);
+        self.left = left;
+        Some(line)
+    }
+}
+
+/// All lines of a text. `AllocError` is an allocation that failed.
 pub fn lines_of<'a, A: Allocator>(alloc: A, text: &'a [u8]) -> Result<Vec<&'a [u8], A>, AllocError>
     ensures { IfOk result (λ v. texts v.items ≡ cut_lines text.now) }
 {
-    let mut lines = Vec::new(alloc);
-    let mut start = 0;
-    let mut ends = memchr_iter(b'\n', text);
-    while let Some(end) = ends.next() {
-        lines.push(line_between(text, start, end))?;
-        start = end + 1;
-    }
-    lines.push(line_between(text, start, text.len()))?;
-    Ok(lines)
+    Lines::of(text).collect(alloc)
 }
 
 /// The lines without the blank ones at their end.
@@ -48,7 +116,7 @@ pub fn without_blank_end<'s, 'a>(lines: &'s [&'a [u8]]) -> &'s [&'a [u8]]
 {
     let mut left = lines;
     while let [front @ .., last] = left {
-        if !trim(last).is_empty() {
+        if !is_blank(last) {
             break;
         }
         left = front;

@@ -1,23 +1,19 @@
 -- What lines say one behind the other, as a loop finds it, up to the first fault.
-use Rattle.std.proofs.Common.{◌≡◌, ℕ, zero, suc, ◌+◌, ◌-◌, ◌<◌, List, length, Some, None, Bor, refl, sym, ◌∙◌, arith, inl, inr, [], ◌∷◌}
-use Rattle.std.specs.Prelude.{position, not, Bool, Result, Ok, Err}
-use Rattle.std.specs.List.{prefix_len}
+use Rattle.std.proofs.Common.{◌≡◌, ℕ, zero, suc, ◌+◌, ◌<◌, List, length, drop, refl, sym, ◌∙◌, arith, inl, inr, [], ◌∷◌}
+use Rattle.std.specs.Prelude.{Bool, false, Result, Ok, Err}
+use Rattle.std.specs.List.{position_or_len}
 use Rattle.std.proofs.lemmas.Bool.{cases_lt}
-use Rattle.std.proofs.lemmas.List.{length-map}
-use Rattle.dfr_channels.specs.Lines.{texts}
+use Rattle.std.proofs.lemmas.List.{drop_all}
 use Rattle.dfr_script.specs.declared.fault.Word.{Word}
-use Rattle.dfr_script.specs.declared.fault.Word.TheVariants as word
 use Rattle.dfr_script.specs.declared.fault.LineRefusal.{LineRefusal}
 use Rattle.dfr_script.specs.declared.fault.LineRefusal.TheVariants as line_refusal
 use Rattle.dfr_script.specs.declared.fault.ScriptFault.{ScriptFault}
-use Rattle.dfr_script.specs.declared.fault.ScriptRefusal.{ScriptRefusal}
-use Rattle.dfr_script.specs.declared.fault.ScriptRefusal.TheVariants.{Fault}
 use Rattle.dfr_script.specs.Faults as of_line
 use Rattle.dfr_script.specs.Faults.{and_then}
-use Rattle.dfr_script.specs.Parts.{DraftParts, CommandParts, ScriptParts}
+use Rattle.dfr_script.specs.Parts.{DraftParts, CommandParts}
 use Rattle.dfr_script.specs.Drafts.{with_line}
 use Rattle.dfr_script.specs.Commands.{with_command}
-use Rattle.dfr_script.specs.Scripts.{Refuses, fault_at, at_place, refused_at, line, is_go, draft, commands, go, script}
+use Rattle.dfr_script.specs.Scripts.{Refuses, at_place, refused_at, line, draft, commands}
 
 -- the fault of a line is the fault of the script at its place
 pub refuses_at : {X : Type 0} (place : ℕ) (said : Result X Word) (e : LineRefusal) → of_line.Refuses said e → Refuses (at_place place said) (refused_at place e)
@@ -43,38 +39,35 @@ draft_refuses ls n d e count before here lt = λ f is. draft_stops ls n d f coun
 
 -- ---- the commands of lines
 
-pub commands_go_on : (ls : List (List ℕ)) (from n : ℕ) (cs ds : List CommandParts) → commands ls from n ≡ Ok cs → with_command cs (from + n + 1) (line ls (from + n)) ≡ Ok ds → commands ls from (n + 1) ≡ Ok ds
+pub commands_go_on : (from : ℕ) (ls : List (List ℕ)) (n : ℕ) (cs ds : List CommandParts) → commands from ls n ≡ Ok cs → with_command cs (from + n + 1) (line ls n) ≡ Ok ds → commands from ls (n + 1) ≡ Ok ds
 unfolding commands
-commands_go_on ls from n cs ds before here = let s : n + 1 ≡ suc n = omega arith in rw (s, before, here) refl
+commands_go_on from ls n cs ds before here = let s : n + 1 ≡ suc n = omega arith in rw (s, before, here) refl
 
-commands_stop : (ls : List (List ℕ)) (from n : ℕ) (cs : List CommandParts) (f : ScriptFault) (count : ℕ) → commands ls from n ≡ Ok cs → at_place (from + n) (with_command cs (from + n + 1) (line ls (from + n))) ≡ Err f → n < count → commands ls from count ≡ Err f
+commands_stop : (from : ℕ) (ls : List (List ℕ)) (n : ℕ) (cs : List CommandParts) (f : ScriptFault) (count : ℕ) → commands from ls n ≡ Ok cs → at_place (from + n) (with_command cs (from + n + 1) (line ls n)) ≡ Err f → n < count → commands from ls count ≡ Err f
 unfolding commands
-commands_stop ls from n cs f zero before here lt = absurd (omega arith)
-commands_stop ls from n cs f (suc m) before here lt = elim (cases_lt n m) [
-  | inl less ↦ rw (commands_stop ls from n cs f m before here less) refl
+commands_stop from ls n cs f zero before here lt = absurd (omega arith)
+commands_stop from ls n cs f (suc m) before here lt = elim (cases_lt n m) [
+  | inl less ↦ rw (commands_stop from ls n cs f m before here less) refl
   | inr same ↦ let is : m ≡ n = omega arith in rw (is, before) here
 ]
 
-pub commands_refuse : (ls : List (List ℕ)) (from n : ℕ) (cs : List CommandParts) (e : LineRefusal) (count : ℕ) → commands ls from n ≡ Ok cs → of_line.Refuses (with_command cs (from + n + 1) (line ls (from + n))) e → n < count → Refuses (commands ls from count) (refused_at (from + n) e)
-commands_refuse ls from n cs e count before here lt =
-    λ f is. commands_stop ls from n cs f count before (refuses_at (from + n) (with_command cs (from + n + 1) (line ls (from + n))) e here f is) lt
+pub commands_refuse : (from : ℕ) (ls : List (List ℕ)) (n : ℕ) (cs : List CommandParts) (e : LineRefusal) (count : ℕ) → commands from ls n ≡ Ok cs → of_line.Refuses (with_command cs (from + n + 1) (line ls n)) e → n < count → Refuses (commands from ls count) (refused_at (from + n) e)
+commands_refuse from ls n cs e count before here lt =
+    λ f is. commands_stop from ls n cs f count before (refuses_at (from + n) (with_command cs (from + n + 1) (line ls n)) e here f is) lt
 
--- ---- the place of `go`
+-- ---- lines, one after the other
 
--- the same test, of what references point to
-length_until : (p : List ℕ → Bool) (xs : List (Bor (List ℕ))) → prefix_len (λ l. not (p l.now)) xs ≡ prefix_len (λ l. not (p l)) (texts xs)
-length_until p [] = refl
-length_until p (x ∷ xs) = rw (length_until p xs) refl
+-- the line that comes next, and those after it
+pub record Next (ls : List (List ℕ)) (n : ℕ) (l : List ℕ) (rest : List (List ℕ)) : Type 0 where
+  pub within : n < length ls
+  pub is : line ls n ≡ l
+  pub behind : rest ≡ drop (n + 1) ls
 
-pub position_texts : (p : List ℕ → Bool) (xs : List (Bor (List ℕ))) → position (λ l. p l.now) xs ≡ position p (texts xs)
-position_texts p xs = rw (length_until p xs, length-map xs (λ (x : Bor (List ℕ)). x.now)) refl
+pub next_of : (ls : List (List ℕ)) (n : ℕ) (l : List ℕ) (rest : List (List ℕ)) → drop n ls ≡ l ∷ rest → Next ls n l rest
+next_of [] n l rest e = absurd (let is : [] ≡ l ∷ rest = sym (drop_all n [] (omega arith)) ∙ e in cc)
+next_of (x ∷ xs) zero l rest e = record { within = omega arith; is = cc; behind = cc }
+next_of (x ∷ xs) (suc n) l rest e = let later = next_of xs n l rest e in record { within = omega (arith, later.within); is = later.is; behind = let s : suc n + 1 ≡ suc (n + 1) = omega arith in rw s later.behind }
 
--- ---- the parts of a script, one behind the other
-
-pub no_go : (ls : List (List ℕ)) (n : ℕ) (d : DraftParts) (r : ScriptRefusal) → n ≡ length ls → position is_go ls ≡ None → draft ls n ≡ Ok d → r ≡ Fault (fault_at n word.Setup) → Refuses (script ls) r
-unfolding script
-no_go ls n d r long none lines is = λ f e. rw (none, ← long, lines) (let same = sym is ∙ e in cc)
-
-pub with_all : (ls : List (List ℕ)) (p n : ℕ) (d : DraftParts) (s : ScriptParts) (cs : List CommandParts) → n ≡ length ls → position is_go ls ≡ Some p → draft ls p ≡ Ok d → at_place p (go d (line ls p)) ≡ Ok s → commands ls (p + 1) (n - (p + 1)) ≡ Ok cs → script ls ≡ Ok (record s { commands = cs })
-unfolding script
-with_all ls p n d s cs long place lines made here = rw (place, lines, made, ← long, here) refl
+-- an element that fails the test stands before the first that passes
+pub ahead_more : {X : Type 0} (p : X → Bool) (x : X) (xs : List X) → p x ≡ false → position_or_len p (x ∷ xs) ≡ 1 + position_or_len p xs
+ahead_more p x xs e = rw e refl

@@ -1,5 +1,6 @@
 -- A script as a whole: what it says, or its first fault by lines.
-use Rattle.std.specs.Prelude.{◌≡◌, ℕ, zero, suc, ◌+◌, ◌-◌, ◌==◌, Bool, false, if◌then◌else◌, List, [], length, slice_index_or, position, Option, Some, None, Result, Ok, Err, codes, pos}
+use Rattle.std.specs.Prelude.{◌≡◌, ℕ, zero, suc, ◌+◌, ◌==◌, Bool, false, if◌then◌else◌, List, [], ◌∷◌, length, drop, slice_index_or, Option, Some, Result, Ok, Err, codes, pos}
+use Rattle.std.specs.List.{position_or_len}
 use Rattle.std.specs.Result.{result_err, result_unwrap_or}
 use Rattle.std.specs.Str.{bytes_eq}
 use Rattle.dfr_channels.specs.Fields.{zero_number}
@@ -55,28 +56,29 @@ unfoldable pub draft : List (List ℕ) → ℕ → Result DraftParts ScriptFault
 draft ls zero = Ok empty
 draft ls (suc n) = and_then (draft ls n) (λ d. at_place n (with_line d (line ls n)))
 
--- the commands of n lines from this place on
-unfoldable pub commands : List (List ℕ) → ℕ → ℕ → Result (List CommandParts) ScriptFault
-commands ls from zero = Ok []
-commands ls from (suc n) =
-    and_then (commands ls from n) (λ cs. at_place (from + n) (with_command cs (from + n + 1) (line ls (from + n))))
+-- the commands of the first n of these lines, which stand from this place on
+unfoldable pub commands : ℕ → List (List ℕ) → ℕ → Result (List CommandParts) ScriptFault
+commands from ls zero = Ok []
+commands from ls (suc n) =
+    and_then (commands from ls n) (λ cs. at_place (from + n) (with_command cs (from + n + 1) (line ls n)))
 
 -- `go` has no rest, and each line that a set-up needs stands above it
 unfoldable pub go : DraftParts → List ℕ → Result ScriptParts Word
 go d line = if length (words.rest line) == 0 then whole d else Err word.Word
 
--- lines with `go` at this place: those before it, `go`, those behind it; a missing `go` is missed behind the last line
-abbrev pub with_go : List (List ℕ) → Option ℕ → Result ScriptParts ScriptFault
-with_go ls None = and_then (draft ls (length ls)) (λ d. Err (fault_at (length ls) word.Setup))
-with_go ls (Some at) =
-    and_then (draft ls at) (λ d.
-    and_then (at_place at (go d (line ls at))) (λ script.
-    and_then (commands ls (at + 1) (length ls - (at + 1))) (λ cs.
-    Ok (record script { commands = cs }))))
+-- the lines from `go` on, which stands at this place: `go`, and those behind it; a missing `go` is missed behind the last line
+abbrev pub from_go : ℕ → DraftParts → List (List ℕ) → Result ScriptParts ScriptFault
+from_go at d [] = Err (fault_at at word.Setup)
+from_go at d (line ∷ behind) =
+    and_then (at_place at (go d line)) (λ script.
+    and_then (commands (at + 1) behind (length behind)) (λ cs.
+    Ok (record script { commands = cs })))
 
--- what the lines say, or their first fault
+-- what the lines say, or their first fault: those before the first `go`, and those from it on
 unfoldable pub script : List (List ℕ) → Result ScriptParts ScriptFault
-script ls = with_go ls (position is_go ls)
+script ls =
+    let at = position_or_len is_go ls in
+    and_then (draft ls at) (λ d. from_go at d (drop at ls))
 
 -- the first fault of a script's lines
 unfoldable pub script_fault : List (List ℕ) → Option ScriptFault

@@ -1,7 +1,8 @@
 //! A script as a whole.
 
-ghost use Rattle.std.specs.Prelude.{◌≡◌, ◌+◌, ◌<◌, ◌≤◌, ◌^◌, MatchResult, IfSome, None, length, map, position};
-ghost use Rattle.dfr_channels.specs.Lines.{texts, lines};
+ghost use Rattle.std.specs.Prelude.{◌≡◌, ◌+◌, ◌<◌, ◌^◌, [], ◌∷◌, MatchOption, MatchResult, IfOk, None, length, map, drop};
+ghost use Rattle.std.specs.List.{position_or_len};
+ghost use Rattle.dfr_channels.specs.Lines.{lines};
 ghost use Rattle.dfr_script.specs.Faults as of_line;
 ghost use Rattle.dfr_script.specs.Commands.{parts_of, with_command};
 ghost use Rattle.dfr_script.specs.Drafts.{with_line};
@@ -14,7 +15,7 @@ use crate::limit_line::LimitNumbers;
 use crate::line::{cut, is_silent, is_word};
 use crate::scan_line::Size;
 use crate::setting::setting_of;
-use dfr_channels::{Rule, Setup, lines_of, without_blank_end};
+use dfr_channels::{Lines, Rule, Setup};
 use std::alloc::{Allocator, Global};
 use std::marker::Model;
 
@@ -75,25 +76,6 @@ fn add_line<A: Allocator + Copy>(
     }
 }
 
-/// The first `count` lines, which stand before `go`.
-fn draft_of<A: Allocator + Copy>(
-    alloc: A,
-    lines: &[&[u8]],
-    count: usize,
-) -> Result<Draft<A>, ScriptRefusal>
-    requires { count ≤ length lines.now }
-    ensures { spec.Is (λ draft. draft) (spec.draft (texts lines.now) count) result }
-{
-    let mut draft = Draft::new(alloc);
-    for i in 0..count {
-        match add_line(alloc, &mut draft, lines[i]) {
-            Ok(()) => {}
-            Err(refusal) => return Err(at_place(i, refusal)),
-        }
-    }
-    Ok(draft)
-}
-
 /// Whether the line's word is `go`.
 #[tactic(auto, unfolding(crate::specs::Scripts::is_go))]
 fn is_go(line: &[u8]) -> bool
@@ -103,19 +85,44 @@ fn is_go(line: &[u8]) -> bool
     is_word(word, "go")
 }
 
-fn first_go(lines: &[&[u8]]) -> Option<usize>
-    ensures place { result ≡ position (λ line. spec.is_go line.now) lines.now }
-    ensures within { IfSome result (λ at. at < length lines.now) }
-{
-    lines.iter().position(|line| is_go(line))
+/// What the lines up to `go` say.
+#[derive(Drop)]
+struct Opening<'a, A: Allocator> {
+    draft: Draft<A>,
+    /// How many lines stand before `go`, or in all where it is missing.
+    count: usize,
+    go: Option<&'a [u8]>,
 }
 
-/// Where the first line of `go` stands.
-fn place_of_go(lines: &[&[u8]]) -> Option<usize>
-    ensures place { result ≡ position spec.is_go (texts lines.now) }
-    ensures within { IfSome result (λ at. at < length lines.now) }
+/// Reads the lines up to `go`.
+fn opening_of<'a, A: Allocator + Copy>(
+    alloc: A,
+    lines: &mut Lines<'a>,
+) -> Result<Opening<'a, A>, ScriptRefusal>
+    requires { length lines.old + 1 < 2 ^ 64 }
+    ensures draft { spec.Is (λ o. o.draft)
+        (spec.draft lines.old (position_or_len spec.is_go lines.old)) result }
+    ensures place { IfOk result (λ o. o.count ≡ position_or_len spec.is_go lines.old) }
+    ensures left { IfOk result (λ o. MatchOption o.go (drop o.count lines.old ≡ [])
+        (λ go. drop o.count lines.old ≡ go.now ∷ lines.new)) }
 {
-    first_go(lines)
+    let mut draft = Draft::new(alloc);
+    let mut count = 0;
+    while let Some(line) = lines.next() {
+        if is_go(line) {
+            let go = Some(line);
+            return Ok(Opening { draft, count, go });
+        }
+        match add_line(alloc, &mut draft, line) {
+            Ok(()) => count += 1,
+            Err(refusal) => return Err(at_place(count, refusal)),
+        }
+    }
+    Ok(Opening {
+        draft,
+        count,
+        go: None,
+    })
 }
 
 /// The script of the lines before `go`, without commands; `go` stands at this place.
@@ -156,23 +163,25 @@ fn add_command<A: Allocator + Copy>(
     Ok(())
 }
 
-/// The commands of `count` lines from place `from` on.
+/// The commands of the lines that are left, the first of which stands at place `from`.
 fn commands_of<A: Allocator + Copy>(
     alloc: A,
-    lines: &[&[u8]],
+    lines: Lines,
     from: usize,
-    count: usize,
     size: Size,
 ) -> Result<Vec<Command<A>, A>, ScriptRefusal>
-    requires { from + count ≤ length lines.now }
-    ensures { spec.Is (λ list. map parts_of list.items) (spec.commands (texts lines.now) from count) result }
+    requires { from + length lines < 2 ^ 64 }
+    ensures { spec.Is (λ list. map parts_of list.items)
+        (spec.commands from lines.entry (length lines.entry)) result }
 {
     let mut list = Vec::new(alloc);
-    for k in 0..count {
-        let i = from + k;
-        match add_command(alloc, &mut list, i as u64 + 1, lines[i], size) {
-            Ok(()) => {}
-            Err(refusal) => return Err(at_place(i, refusal)),
+    let mut lines = lines;
+    let mut count = 0;
+    while let Some(line) = lines.next() {
+        let place = from + count;
+        match add_command(alloc, &mut list, place as u64 + 1, line, size) {
+            Ok(()) => count += 1,
+            Err(refusal) => return Err(at_place(place, refusal)),
         }
     }
     Ok(list)
@@ -207,17 +216,18 @@ fn with_commands<A: Allocator>(script: Script<A>, commands: Vec<Command<A>, A>) 
 
 /// The script of these lines.
 #[tactic(auto, unfolding(crate::specs::Scripts::script))]
-fn script_in<A: Allocator + Copy>(alloc: A, lines: &[&[u8]]) -> Result<Script<A>, ScriptRefusal>
-    ensures { spec.Is (λ script. script) (spec.script (texts lines.now)) result }
+fn script_in<A: Allocator + Copy>(alloc: A, lines: Lines) -> Result<Script<A>, ScriptRefusal>
+    requires { length lines + 1 < 2 ^ 64 }
+    ensures { spec.Is (λ script. script) (spec.script lines.entry) result }
 {
-    let Some(go) = place_of_go(lines) else {
-        draft_of(alloc, lines, lines.len())?;
-        return Err(at_place(lines.len(), LineRefusal::Fault(Word::Setup)));
+    let mut lines = lines;
+    let Opening { draft, count, go } = opening_of(alloc, &mut lines)?;
+    let Some(go) = go else {
+        return Err(at_place(count, LineRefusal::Fault(Word::Setup)));
     };
-    let draft = draft_of(alloc, lines, go)?;
-    let script = set_up_of(alloc, draft, go, lines[go])?;
+    let script = set_up_of(alloc, draft, count, go)?;
     let size = size_of(&script);
-    let commands = commands_of(alloc, lines, go + 1, lines.len() - (go + 1), size)?;
+    let commands = commands_of(alloc, lines, count + 1, size)?;
     Ok(with_commands(script, commands))
 }
 
@@ -229,8 +239,5 @@ pub fn script_of<A: Allocator + Copy>(alloc: A, text: &[u8]) -> Result<Script<A>
         (λ script. (spec.script_fault (lines text.now) ≡ None) × (script ≡ spec.script_value (lines text.now)))
         (spec.Tells (spec.script_fault (lines text.now))) }
 {
-    let Ok(lines) = lines_of(alloc, text) else {
-        return Err(ScriptRefusal::Memory);
-    };
-    script_in(alloc, without_blank_end(&lines))
+    script_in(alloc, Lines::of(text).without_blank_end())
 }

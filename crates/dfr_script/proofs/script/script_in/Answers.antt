@@ -1,18 +1,15 @@
-use Rattle.std.proofs.Common.{sym, length, map, List, ℕ, []}
-use Rattle.std.proofs.lemmas.List.{length-map}
-use Rattle.dfr_channels.specs.Lines.{texts}
-use Rattle.dfr_script.specs.Commands.{parts_of}
-use Rattle.dfr_script.proofs.CutFields.{text_at}
-use Rattle.dfr_script.proofs.FirstFault.{no_go, with_all}
+use Rattle.std.proofs.Common.{◌≡◌, ◌∷◌, drop, length, ap, arith}
+use Rattle.std.specs.Prelude.{not}
+use Rattle.std.proofs.lemmas.List.{length-drop}
+use Rattle.std.proofs.lemmas.List.Sums.{prefix_len-le-length}
+use Rattle.dfr_script.specs.Scripts.{is_go}
 use Rattle.dfr_script.proofs.script.script_in.Goals as goal
 
-pub returns-in_default : goal.returns-in_default
-returns-in_default g c =
-    no_go (texts c.args.lines.now) (length c.args.lines.now) _ c.at_place.result (sym (length-map c.args.lines.now (λ x. x.now))) (sym c.in_default.ensures.place) c.in_ok-draft_of.ensures c.at_place.ensures
+pub at_place-requires : goal.at_place-requires
+at_place-requires g c =
+    omega (arith, c.requires, c.in_ok-draft.ensures.place, prefix_len-le-length (λ l. not (is_go l)) c.args.lines)
 
-pub returns : goal.returns
-returns g c =
-    let ls : List (List ℕ) = texts c.args.lines.now in
-    let p : ℕ = c.in-Some.go in
-    let t = text_at c.args.lines.now p record { ref_ptr = (0, 0); now = [] } c.in-Some.ensures.within in
-    rw c.with_commands.ensures (with_all ls p (length c.args.lines.now) c.in_ok-draft.draft c.in_ok-script.script (map parts_of c.in_ok-commands.commands.items) (sym (length-map c.args.lines.now (λ x. x.now))) (sym c.in-Some.ensures.place) c.in_ok-draft.ensures (rw t c.in_ok-script.ensures) c.in_ok-commands.ensures)
+pub commands_of-requires : goal.commands_of-requires
+commands_of-requires g c =
+    let left : drop c.in_ok-draft.field-0.count c.args.lines ≡ c.in-Some.go.now ∷ c.opening_of.new.lines = rw c.in-Some.is at c.in_ok-draft.ensures.left in
+    omega (arith, c.requires, ap length left, length-drop c.in_ok-draft.field-0.count c.args.lines)

@@ -1,5 +1,6 @@
-use Rattle.std.proofs.Common.{◌≡◌, ℕ, List, None, refl, subst}
+use Rattle.std.proofs.Common.{◌≡◌, ℕ, List, None, refl, subst, ap, ◌∙◌}
 use Rattle.std.specs.Prelude.{Result, Ok, Err, MatchResult}
+use Rattle.dfr_channels.specs.Lines.{drop_end, is_blank_line}
 use Rattle.dfr_script.specs.declared.fault.ScriptRefusal.{ScriptRefusal}
 use Rattle.dfr_script.specs.declared.fault.ScriptRefusal.TheVariants.{Fault, Memory}
 use Rattle.dfr_script.specs.Parts.{ScriptParts}
@@ -19,4 +20,4 @@ of_lines : (r : Result ScriptParts ScriptRefusal) (ls ms : List (List ℕ)) → 
 of_lines r ls ms e h = subst (Reads r) e h
 
 pub returns : goal.returns
-returns g c = of_lines _ _ _ (cc c.in-Ok.ensures) (reads _ _ c.script_in.ensures)
+returns g c = of_lines _ _ _ (c.without_blank_end.ensures.lines ∙ ap (drop_end is_blank_line) c.of.ensures.lines) (reads _ _ c.script_in.ensures)
