@@ -1,4 +1,4 @@
--- What is dropped at the ends of a list: blanks round a text, and blank lines behind a file.
+-- What is dropped at the ends of a list: blanks round a text, and blank lines after a file.
 use Rattle.std.proofs.Common.{◌≡◌, ℕ, ◌-◌, ◌<◌, Bool, true, false, eqb, get_or, List, [], ◌∷◌, ◌++◌, length, map, refl, sym, ap, ◌∙◌, arith, length-append}
 use Rattle.std.specs.Prelude.{reverse}
 use Rattle.std.specs.List.{AllByRecursion}

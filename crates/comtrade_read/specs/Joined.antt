@@ -30,7 +30,7 @@ pub record IsField (f : Field) : Type 0 where
 pub record Line : Type 0 where
   pub first : Field
   pub rest : List Field
-  -- whether a carriage return stands behind it
+  -- whether a carriage return stands after it
   pub cr : Bool
 
 abbrev pub carriage_return : Bool → List ℕ

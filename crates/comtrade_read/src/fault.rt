@@ -34,7 +34,7 @@ pub enum ReadFault {
     /// The file ends before this line; blank lines at its end don't count.
     #[error("line {0} is missing")]
     Missing(u64),
-    /// Behind the last line stands something that isn't blank. The number is that of the first line behind the last.
+    /// After the last line stands something that isn't blank. The number is that of the first line after the last.
     #[error("line {0} stands behind the last line")]
     Extra(u64),
     /// Binary data aren't as long as their rows (clause 6).

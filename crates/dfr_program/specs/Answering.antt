@@ -11,7 +11,7 @@ use Rattle.dfr_program.specs.declared.fault.RunFault.TheVariants as fault
 use Rattle.dfr_program.specs.Transcript.{followed, step_text, transcript}
 use Rattle.dfr_program.specs.Writing.{Wrote, Cut, Printed}
 
--- after every history of which `old` is kept: the text of the step is put behind `before`, and `new` is kept then
+-- after every history of which `old` is kept: the text of the step is put after `before`, and `new` is kept then
 pub record PutsStep (old : Kept) (s : Result StepParts RuleFault) (new : Kept) (before buffered : List ℕ) : Type 0 where
   pub text : (kind : Kind) (o : Opening) (h : List StepParts) → kept o h ≡ old → buffered ≡ before ++ step_text kind o h s
   pub after : (o : Opening) (h : List StepParts) → kept o h ≡ old → kept o (followed h s) ≡ new

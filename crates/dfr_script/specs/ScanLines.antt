@@ -23,12 +23,12 @@ is_comma b = b == 44
 unfoldable pub fields : List ℕ → List (List ℕ)
 fields text = lines.fields text
 
--- the fields behind a comma, where there is one
+-- the fields after a comma, where there is one
 abbrev pub fields_behind : Option (List ℕ) → List (List ℕ)
 fields_behind None = []
 fields_behind (Some text) = fields text
 
--- one stroke, and none behind it
+-- one stroke, and none after it
 abbrev pub has_one_stroke : List ℕ → Bool
 has_one_stroke rest = is_some (position is_stroke rest) && not (is_some (position is_stroke (after_first is_stroke rest)))
 

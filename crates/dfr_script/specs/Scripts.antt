@@ -66,7 +66,7 @@ commands from ls (suc n) =
 unfoldable pub go : DraftParts → List ℕ → Result ScriptParts Word
 go d line = if length (words.rest line) == 0 then whole d else Err word.Word
 
--- the lines from `go` on, which stands at this place: `go`, and those behind it; a missing `go` is missed behind the last line
+-- the lines from `go` on, which stands at this place: `go`, and those after it; a missing `go` is missed after the last line
 abbrev pub from_go : ℕ → DraftParts → List (List ℕ) → Result ScriptParts ScriptFault
 from_go at d [] = Err (fault_at at word.Setup)
 from_go at d (line ∷ behind) =

@@ -35,7 +35,7 @@ fn place_of_comma(text: &[u8]) -> Option<usize>
     text.iter().position(|b| *b == b',')
 }
 
-/// The first field of a text, and what stands behind its comma if it has one.
+/// The first field of a text, and what stands after its comma if it has one.
 #[tactic(auto, using(crate::proofs::CutFields::comma_fields))]
 fn at_comma(text: &[u8]) -> (&[u8], Option<&[u8]>)
     ensures fields { spec.fields text.now ≡ result.0.now ∷ spec.fields_behind (option_copied result.1) }
@@ -61,7 +61,7 @@ fn reading_of(text: &[u8]) -> Option<Reading>
     }
 }
 
-/// The reading that a text begins with, and what stands behind its comma if it has one.
+/// The reading that a text begins with, and what stands after its comma if it has one.
 fn next_reading(text: &[u8]) -> (Option<Reading>, Option<&[u8]>)
     ensures all { reads_all spec.reading (spec.fields text.now)
         ≡ (is_some result.0 && reads_all spec.reading (spec.fields_behind (option_copied result.1))) }
@@ -101,7 +101,7 @@ fn readings_of<A: Allocator>(
     Ok(list)
 }
 
-/// The bit that a text begins with, and what stands behind its comma if it has one.
+/// The bit that a text begins with, and what stands after its comma if it has one.
 fn next_bit(text: &[u8]) -> (Option<bool>, Option<&[u8]>)
     ensures all { reads_all bit (spec.fields text.now)
         ≡ (is_some result.0 && reads_all bit (spec.fields_behind (option_copied result.1))) }

@@ -232,7 +232,7 @@ fn script_in<A: Allocator + Copy>(alloc: A, lines: Lines) -> Result<Script<A>, S
 }
 
 /// The script that a text says, or its first fault: by lines, and in a line in the order word, fields, number. Where `go`
-/// is missing the fault is `Setup` behind the last line. Lines are cut as those of a configuration file; blank lines and
+/// is missing the fault is `Setup` after the last line. Lines are cut as those of a configuration file; blank lines and
 /// comments are passed over.
 pub fn script_of<A: Allocator + Copy>(alloc: A, text: &[u8]) -> Result<Script<A>, ScriptRefusal>
     ensures { MatchResult result
