@@ -112,7 +112,7 @@ impl<A: Allocator> Layout<A> {
     ghost use Rattle.dfr_channels.specs.Setups.{setup_fault, IsLawful, end_of_time};
     ghost use Rattle.dfr_channels.specs.Scans.{instant_of, scan_fault, Fits};
 
-    /// The layout of a lawful set-up; one with a fault is handed back with its first fault. Takes no memory.
+    /// The layout of a lawful set-up; one with a fault is handed back with its first fault. Doesn't allocate.
     pub fn new(setup: Setup<A>) -> Result<Layout<A>, (SetupFault, Setup<A>)>
         ensures made { IfOk result (λ layout. (setup_fault setup ≡ None) × (layout ≡ setup)) }
         ensures fault { IfErr result (λ refused. setup_fault setup ≡ Some refused.0) }
@@ -182,7 +182,7 @@ impl<A: Allocator> Layout<A> {
         instant_at(self.rate(), self.start(), k)
     }
 
-    /// Whether a scan has the layout's channels, each value in its channel's range. Takes no memory, and looks at each
+    /// Whether a scan has the layout's channels, each value in its channel's range. Doesn't allocate, and looks at each
     /// reading at most once.
     pub fn check(&self, scan: &Scan<A>) -> Result<(), ScanFault>
         ensures fault { MatchResult result (λ _. scan_fault self.now scan.now ≡ None) (λ fault. scan_fault self.now scan.now ≡ Some fault) }

@@ -38,7 +38,7 @@ set_up_fault s =
 unfoldable pub script_fault : List ℕ → Option Fault
 script_fault text = option_map faults.Script (scripts.script_fault (lines text)) or set_up_fault (scripts.script_value (lines text))
 
--- want of memory, or this fault
+-- out of memory, or this fault
 abbrev pub Refuses : Option Fault → Refusal → Type 0
 Refuses fault (refusal.Fault f) = fault ≡ Some f
 Refuses fault refusal.Memory = Unit {0}

@@ -35,7 +35,7 @@ pub enum ScanRefusal {
     Range(u32),
     /// Its instant would be past the year 9999.
     ClockEnd,
-    /// A growth was refused.
+    /// An allocation failed.
     Memory,
 }
 
@@ -57,7 +57,7 @@ pub enum TriggerFault {
     /// No record is open, and as many wait on the shelf as may.
     #[error("the shelf is full of records")]
     ShelfFull,
-    /// A growth was refused.
+    /// An allocation failed.
     #[error("out of memory")]
     Memory,
     /// Under unshared limits: no record is open, and the newest one has the last scan already.

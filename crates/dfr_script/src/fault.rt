@@ -30,7 +30,7 @@ pub struct ScriptFault {
 pub enum ScriptRefusal {
     /// The script's first fault.
     Fault(ScriptFault),
-    /// A growth was refused.
+    /// An allocation failed.
     Memory,
 }
 

@@ -232,7 +232,7 @@ fn recorder_idles(heap: Heap) -> bool {
     }
 }
 
-/// Scans that meet no open record and open none, and what takes no memory, while every allocation is refused.
+/// Scans that meet no open record and open none, and what doesn't allocate, while every allocation is refused.
 #[test]
 fn idle_scans_take_none(rt: HostRuntime) {
     let heap = Refusing::new(rt.alloc());

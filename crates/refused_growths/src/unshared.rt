@@ -147,7 +147,7 @@ fn are_offered<N: Session<A>, A: Allocator + Copy>(
     true
 }
 
-/// Six scans of the lane, five of which are a record, and covered triggers, which want room for their entries alone.
+/// Six scans of the lane, five of which are a record, and covered triggers, which need room for their entries alone.
 const RECORD: Calls = &[
     (Call::Pump, Some(false)),
     (Call::Pump, Some(false)),
