@@ -34,7 +34,7 @@ pub enum ReadFault {
     /// The file ends before this line; blank lines at its end don't count.
     #[error("line {0} is missing")]
     Missing(u64),
-    /// After the last line stands something that isn't blank. The number is that of the first line after the last.
+    /// Something that isn't blank stands after the last line. The number is that of the first line after the last.
     #[error("line {0} stands behind the last line")]
     Extra(u64),
     /// Binary data aren't as long as their rows (clause 6).

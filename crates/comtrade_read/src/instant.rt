@@ -19,7 +19,7 @@ pub(crate) fn place_of(text: &[u8], byte: u8) -> Option<usize>
     text.iter().position(|b| *b == byte)
 }
 
-/// What stands before the byte, and what after it, where it stands there.
+/// What stands before the byte and what stands after it, where the text has one.
 #[tactic(auto, using(dfr_channels::proofs::Cuts::cuts))]
 fn cut_at(text: &[u8], byte: u8) -> Option<(&[u8], &[u8])>
     ensures found { IsSome result ↔ IsSome (position (λ b. b == byte) text.now) }

@@ -49,7 +49,7 @@ pub fn read_of_file<A: Allocator + Copy>(alloc: A, file: &File<A>) -> Result<Fil
     }
 }
 
-/// Writes the two texts of a record that is the layout's own, as every record is that a recorder of this layout gives, and
+/// Writes the two texts of a record that matches the layout, as every record does that a recorder of this layout gives, and
 /// reads them back. What is read is the record's file: it is never foreign, and neither the writers nor the reader refuse it
 /// unless out of memory.
 pub fn read_of_record<A: Allocator + Copy>(

@@ -19,7 +19,7 @@ use thiserror::Error;
 /// Why a record has no File.
 #[derive(Clone, Copy, Debug, PartialEq, Eq, Error)]
 pub enum FileFault {
-    /// The record is not the layout's own: a scan of it doesn't pass the layout's check, its last scan has no instant in
+    /// The record doesn't match the layout: a scan of it doesn't pass the layout's check, its last scan has no instant in
     /// this layout, or its last row's stamp is over 4,294,967,294 microseconds.
     #[error("the record isn't of this layout")]
     Foreign,

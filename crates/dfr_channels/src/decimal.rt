@@ -46,7 +46,7 @@ impl PartialEq for Decimal {
 }
 
 impl Decimal {
-    /// The units of the number units / 10^places. The contract also tells what any decimal has.
+    /// The units of the number units / 10^places, strictly between -10^36 and 10^36; there are at most 80 places.
     pub fn units(&self) -> i128
         ensures value { result ≡ self.now.units }
         ensures lawful { IsNumber self.now }
@@ -76,7 +76,7 @@ fn place_of_point(text: &[u8]) -> Option<usize>
     text.iter().position(|b| *b == b'.')
 }
 
-/// What stands before the exponent mark, and what after it.
+/// What stands before the exponent mark, and what stands after it.
 #[tactic(auto, using(crate::proofs::Cuts::cuts))]
 fn at_exponent(text: &[u8]) -> (&[u8], Option<&[u8]>)
     ensures front { result.0.now ≡ before_first is_exponent_mark text.now }
@@ -88,7 +88,7 @@ fn at_exponent(text: &[u8]) -> (&[u8], Option<&[u8]>)
     }
 }
 
-/// What stands before the point, and what after it.
+/// What stands before the point, and what stands after it.
 #[tactic(auto, using(crate::proofs::Cuts::cuts))]
 fn at_point(text: &[u8]) -> (&[u8], &[u8])
     ensures front { result.0.now ≡ before_first is_point text.now }

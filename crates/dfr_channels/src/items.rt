@@ -61,7 +61,7 @@ impl<T, A: Allocator> Items<T, A> {
 }
 
 impl<T: Copy, A: Allocator + Copy> Items<T, A> {
-    /// A copy of its own, on the same allocator. `Memory`: an allocation failed.
+    /// A deep copy, on the same allocator. `Memory`: an allocation failed.
     pub fn try_clone(&self) -> Result<Items<T, A>, Memory>
         ensures { IfOk result (λ copy. copy ≡ self.now) }
     {
@@ -72,7 +72,7 @@ impl<T: Copy, A: Allocator + Copy> Items<T, A> {
 
 /// What can be copied where there is memory for it.
 pub trait TryClone: Drop {
-    /// A copy of its own, on the same allocator. `Memory`: an allocation failed.
+    /// A deep copy, on the same allocator. `Memory`: an allocation failed.
     fn try_clone(&self) -> Result<Self, Memory>
         ensures { IfOk result (λ copy. copy ≡ self.now) };
 }

@@ -117,7 +117,7 @@ impl<A: Allocator> Rules<A> {
 impl<A: Allocator + Copy> Rules<A> {
     ghost use Rattle.std.specs.Prelude.{◌≡◌, IfOk};
 
-    /// A copy of its own, on the same allocator.
+    /// A deep copy, on the same allocator.
     pub fn try_clone(&self) -> Result<Rules<A>, Memory>
         ensures { IfOk result (λ copy. copy ≡ self.now) }
     {

@@ -55,7 +55,7 @@ impl<A: Allocator> Scan<A> {
 }
 
 impl<A: Allocator + Copy> Scan<A> {
-    /// A copy of its own, on the same allocator. `Memory`: an allocation failed.
+    /// A deep copy, on the same allocator. `Memory`: an allocation failed.
     pub fn try_clone(&self) -> Result<Scan<A>, Memory>
         ensures { IfOk result (λ copy. copy ≡ self.now) }
     {

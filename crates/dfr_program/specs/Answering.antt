@@ -21,14 +21,14 @@ pub record PrintsStep {U : Type 0} (r : Result U RunFault) (kind : Kind) (old : 
   pub text : (o : Opening) (h : List StepParts) → kept o h ≡ old → Printed r held before holds buffered (step_text kind o h s)
   pub after : OnOk r ((o : Opening) (h : List StepParts) → kept o h ≡ old → kept o (followed h s) ≡ new)
 
--- the answers to the first commands, up to the one at which memory was refused, are printed
+-- the answers to the first commands, up to the one at which an allocation failed, are printed
 pub record PrintsSome (kind : Kind) (o : Opening) (h : List StepParts) (commands : List CommandParts) (held : Option (List ℕ)) (before : List ℕ) (holds : Option (List ℕ)) (buffered : List ℕ) : Type 0 where
   pub done : List CommandParts
   pub left : List CommandParts
   pub list : done ++ left ≡ commands
   pub wrote : Wrote held holds buffered (before ++ transcript kind o h done)
 
--- all answers are printed; where memory was refused, those to the first commands; where a write failed, a front of them all
+-- all answers are printed; where an allocation failed, those to the first commands; where a write failed, a front of them all
 abbrev pub AllPrinted : {U : Type 0} → Result U RunFault → Kind → Opening → List StepParts → List CommandParts → Option (List ℕ) → List ℕ → Option (List ℕ) → List ℕ → Type 0
 AllPrinted (Ok u) kind o h commands held before holds buffered = Wrote held holds buffered (before ++ transcript kind o h commands)
 AllPrinted (Err fault.Memory) kind o h commands held before holds buffered = PrintsSome kind o h commands held before holds buffered

@@ -58,7 +58,7 @@ pub record IsRecorderOf (over : SetupParts) (numbers : LimitNumbers) (list : Lis
   pub rules : k.rules ≡ list
   pub fresh : k ≡ kept (opening k.layout k.limits k.rules) []
 
--- a recorder without a past, over the set-up, the limits and the rules that a script says
+-- a new recorder, over the set-up, the limits and the rules that a script says
 pub record IsMadeOf (s : ScriptParts) (k : Kept) : Type 0 where
   pub layout : k.layout ≡ s.setup
   pub limits : HasNumbers s.limits k.limits

@@ -147,7 +147,7 @@ impl<A: Allocator + Copy> Recorder<A> {
     ghost use Rattle.dfr_recorder.specs.Memory.{GrowsRecord, AddsLost, OpensRecord};
     ghost use Rattle.dfr_recorder.specs.Recording.{fired_mark, IsAccepted};
 
-    /// A recorder without a past. The limits and the rules have to fit the layout. The room of ring and shelf is made here; where
+    /// A new recorder. The limits and the rules have to fit the layout. The room of ring and shelf is made here; where
     /// that fails, layout and rules are handed back.
     pub fn new(
         alloc: A,

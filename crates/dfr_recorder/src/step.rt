@@ -33,7 +33,7 @@ pub enum ScanRefusal {
     Shape,
     /// The lowest channel, from 0, whose value is out of its range.
     Range(u32),
-    /// Its instant would be past the year 9999.
+    /// Its instant would be after the year 9999.
     ClockEnd,
     /// An allocation failed.
     Memory,

@@ -43,7 +43,7 @@ verb_says n (Some verbs.Trigger) rest = bare Trigger rest
 verb_says n (Some verbs.Take) rest = bare Take rest
 verb_says n (Some verbs.Rules) rest = and_then (rules rest) (λ list. Ok (Rules n list))
 
--- the command of line n after `go`, where it isn't passed over
+-- the command of line n after `go`, where it isn't skipped
 unfoldable pub command_line : ℕ → List ℕ → Result (Option CommandParts) Word
 command_line n line =
     if is_silent line then Ok None

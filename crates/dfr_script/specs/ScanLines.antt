@@ -28,7 +28,7 @@ abbrev pub fields_behind : Option (List ℕ) → List (List ℕ)
 fields_behind None = []
 fields_behind (Some text) = fields text
 
--- one stroke, and none after it
+-- one slash, and none after it
 abbrev pub has_one_stroke : List ℕ → Bool
 has_one_stroke rest = is_some (position is_stroke rest) && not (is_some (position is_stroke (after_first is_stroke rest)))
 
@@ -44,7 +44,7 @@ part_fields part = if length (trimmed part) == 0 then [] else fields part
 abbrev pub part : {X : Type 0} → (List ℕ → Option X) → List ℕ → Result (List X) Word
 part read text = all_said read (part_fields text)
 
--- the rest of a line `scan`: readings, a stroke, bits
+-- the rest of a line `scan`: readings, a slash, bits
 unfoldable pub scan : List ℕ → Result ScanParts Word
 scan rest =
     if has_one_stroke rest

@@ -20,6 +20,6 @@ abbrev pub is_comment : List ℕ → Bool
 is_comment [] = false
 is_comment (b ∷ bs) = b == 35
 
--- blank lines and comments are passed over
+-- blank lines and comments are skipped
 unfoldable pub is_silent : List ℕ → Bool
 is_silent line = is_comment line || is_blank_line line

@@ -98,7 +98,7 @@ fn command_in<A: Allocator + Copy>(
     }
 }
 
-/// The command of line number `line`; None where it is passed over.
+/// The command of line number `line`; None where it is skipped.
 #[tactic(auto, unfolding(crate::specs::Commands::command_line))]
 pub(crate) fn command_of<A: Allocator + Copy>(
     alloc: A,

@@ -38,7 +38,7 @@ pub(crate) fn cut(line: &[u8]) -> (&[u8], &[u8])
     }
 }
 
-/// Whether the line is blank or a comment, which is passed over.
+/// Whether the line is blank or a comment, which is skipped.
 #[tactic(auto, unfolding(crate::specs::Words::is_silent))]
 pub(crate) fn is_silent(line: &[u8]) -> bool
     ensures { result ≡ spec.is_silent line.now }

@@ -138,7 +138,7 @@ fn bits_of<A: Allocator + Copy>(
     Ok(list)
 }
 
-/// The scan that the rest of a line says: readings, one stroke, bits.
+/// The scan that the rest of a line says: readings, one slash, bits.
 #[tactic(auto, unfolding(crate::specs::ScanLines::scan))]
 pub(crate) fn scan_of<A: Allocator + Copy>(
     alloc: A,

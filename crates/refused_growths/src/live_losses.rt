@@ -1,5 +1,5 @@
-//! Lost scans of a recorder that threads share, over a lane of one: counting them doesn't allocate, and the step of each goes on after
-//! a refusal as if nothing had happened.
+//! Lost scans of a recorder that threads share, over a lane of one: counting them doesn't allocate, and the step of each goes on
+//! after a refusal as if nothing had happened.
 
 ghost use Rattle.std.specs.Prelude.{◌≡◌};
 
