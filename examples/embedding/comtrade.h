@@ -1,8 +1,9 @@
 /* Reads and writes COMTRADE files of 1999 (IEEE Std C37.111-1999): the library crates/comtrade_c.
  *
  * Each call takes a pair of files as bytes, and puts what it says into numbers and buffers of the caller; nothing stays in memory
- * after a call. No pointer may be NULL, also where its length is 0, no two buffers that a call writes may overlap, and none may overlap what it
- * reads. No call may be made from a signal handler, or from the forked child of a process with threads. Channels count from 0.
+ * after a call. No pointer may be NULL, also where its length is 0, no two buffers that a call writes may overlap, and none may
+ * overlap what it reads. No call may be made from a signal handler, or from the forked child of a process with threads. Channels
+ * count from 0.
  */
 #ifndef COMTRADE_H
 #define COMTRADE_H
