@@ -23,8 +23,8 @@ pub(crate) struct Size {
     pub(crate) status: usize,
 }
 
-fn place_of_stroke(rest: &[u8]) -> Option<usize>
-    ensures { result ≡ position spec.is_stroke rest.now }
+fn place_of_slash(rest: &[u8]) -> Option<usize>
+    ensures { result ≡ position spec.is_slash rest.now }
 {
     memchr(b'/', rest)
 }
@@ -147,12 +147,12 @@ pub(crate) fn scan_of<A: Allocator + Copy>(
 ) -> Result<Scan<A>, LineRefusal>
     ensures { Is (λ x. x) (spec.scan rest.now) result }
 {
-    let Some(at) = place_of_stroke(rest) else {
+    let Some(at) = place_of_slash(rest) else {
         return Err(LineRefusal::Fault(Word::Fields));
     };
     let front = &rest[..at];
     let back = &rest[at + 1..];
-    if place_of_stroke(back).is_some() {
+    if place_of_slash(back).is_some() {
         return Err(LineRefusal::Fault(Word::Fields));
     }
     let readings = readings_of(alloc, front, size.analog)?;

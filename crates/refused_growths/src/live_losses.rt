@@ -26,7 +26,7 @@ fn comes_back<N: Session<A>, A: Allocator>(
         Some(scan) => matches!(source.offer(scan), Err(Full(_))),
         None => false,
     };
-    heap.ample();
+    heap.refuse_none();
     came
 }
 
@@ -34,7 +34,7 @@ fn comes_back<N: Session<A>, A: Allocator>(
 fn is_lost<N: Session<A>, A: Allocator>(heap: Heap, source: &mut Source<N, A>, n: u32) -> bool {
     heap.refuse_all();
     let counted = source.lose() == Ok(n) && source.lost() == n;
-    heap.ample();
+    heap.refuse_none();
     counted
 }
 

@@ -221,7 +221,7 @@ fn is_idle<'a>(
 
 fn idles<'a>(heap: Heap<'a>, recorder: &mut Recorder<Heap<'a>>) -> bool {
     let idle = is_idle(heap, recorder, scan(heap, 1, false), scan(heap, 2, false));
-    heap.ample();
+    heap.refuse_none();
     idle && recorder.trigger().ok() == Some(Hit::Opened(1))
 }
 

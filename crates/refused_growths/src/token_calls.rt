@@ -110,7 +110,7 @@ pub fn is_offered<N: Session<A>, A: Allocator + Copy>(
         Some(scan) => source.offer(scan).is_ok(),
         None => false,
     };
-    heap.ample();
+    heap.refuse_none();
     offered
 }
 

@@ -76,7 +76,7 @@ fn are_scanned<'a>(heap: Heap<'a>, recorder: &mut Recorder<Heap<'a>>, values: &[
 fn is_covered<'a>(heap: Heap<'a>, recorder: &mut Recorder<Heap<'a>>) -> bool {
     heap.refuse_all();
     let answer = recorder.trigger();
-    heap.ample();
+    heap.refuse_none();
     answer == Err(TriggerFault::Covered)
 }
 

@@ -147,7 +147,7 @@ fn end_with<N: Session<A>, A: Allocator + Copy>(
             last: Ok(ended),
         },
         Err((fault, inner, source, tokens)) => {
-            heap.ample();
+            heap.refuse_none();
             let parts = (inner, source, tokens);
             Ends {
                 seat,
