@@ -342,7 +342,7 @@ class Seen:
 
 
 def offered_steps(script, line, lane):
-    """The steps of what the source offered: the lost ones before each scan that the lane took. And how many are lost behind."""
+    """The steps of what the source offered: the lost ones before each scan that the lane took. And the number lost after the last."""
     words = line.split()
     full = int(words[0].rstrip(":"))
     steps, at, lost, taken, seen_full = [], 0, 0, 0, 0

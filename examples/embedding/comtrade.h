@@ -1,8 +1,9 @@
 /* Reads and writes COMTRADE files of 1999 (IEEE Std C37.111-1999): the library crates/comtrade_c.
  *
- * Each call takes a pair of files as bytes, and puts what it says into numbers and buffers of the caller; nothing stays in memory behind
- * a call. No pointer may be NULL, also where its length is 0, no two buffers that a call writes may overlap, and none may overlap what it
- * reads. No call may be made from a signal handler, or from the forked child of a process with threads. Channels count from 0.
+ * Each call takes a pair of files as bytes, and puts what it says into numbers and buffers of the caller; nothing stays in memory
+ * after a call. No pointer may be NULL, also where its length is 0, no two buffers that a call writes may overlap, and none may
+ * overlap what it reads. No call may be made from a signal handler, or from the forked child of a process with threads. Channels
+ * count from 0.
  */
 #ifndef COMTRADE_H
 #define COMTRADE_H
@@ -29,13 +30,13 @@ enum {
 /* Kinds of faults; specs/Faults of the library has the same table. Of a pair that is read: */
 enum {
     COMTRADE_REVISION = 1, /* place 1: the first line isn't of the year 1999 (5.3.1) */
-    COMTRADE_FIELDS = 2,   /* place: the line that has another number of fields than its kind wants */
+    COMTRADE_FIELDS = 2,   /* place: the line that has another number of fields than its kind has */
     COMTRADE_NUMBER = 3,   /* place, field: the field that can't be read or is out of its range */
     COMTRADE_COUNTS = 4,   /* place: the line whose counts don't add up (5.3.2), whose number isn't its own, or whose rate ends too soon */
     COMTRADE_INSTANT = 5,  /* place: the line that is no date and time of day (5.3.7) */
     COMTRADE_KIND = 6,     /* the data file's type is neither ASCII nor BINARY (5.3.8) */
     COMTRADE_MISSING = 7,  /* place: the line before which the file ends */
-    COMTRADE_EXTRA = 8,    /* place: the first line behind the last */
+    COMTRADE_EXTRA = 8,    /* place: the first line after the last */
     COMTRADE_LENGTH = 9,   /* binary data aren't as long as their rows (clause 6) */
     /* and of one that is written: */
     COMTRADE_SHAPE = 10,   /* counts or instants that no file has */
@@ -75,7 +76,7 @@ struct comtrade_analog {
     size_t unit;
 };
 
-/* The texts are put into the front of the buffers, with no zero behind them. After COMTRADE_NO_ROOM `said` is set too. */
+/* The texts are put into the front of the buffers, with no zero after them. After COMTRADE_NO_ROOM `said` is set too. */
 int32_t comtrade_analog(const uint8_t *cfg, size_t cfg_length, size_t channel, struct comtrade_analog *said,
                         uint8_t *id, size_t id_room, uint8_t *unit, size_t unit_room, struct comtrade_fault *fault);
 

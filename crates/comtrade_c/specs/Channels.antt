@@ -25,7 +25,7 @@ pub record IsStatus (c : StatusParts) (s : Status) : Type 0 where
   pub normal : s.normal ≡ c.normal
   pub id : s.id ≡ length c.id
 
--- the text in front of what stood behind it in the buffer
+-- the text in front of what stood after it in the buffer
 abbrev pub put : List ℕ → List ℕ → List ℕ
 put text before = text ++ drop (length text) before
 

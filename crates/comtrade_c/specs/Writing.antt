@@ -69,7 +69,7 @@ sizes_of f = record { cfg = length (cfg f.head); dat = length (dat f.head.kind f
 abbrev pub refusal : FileParts → Option WriteFault
 refusal f = cfg_refusal f or dat_refusal f.head.kind f
 
--- the file's two texts stand in front of what was behind them in the buffers, and read to the file
+-- the file's two texts stand in front of what was after them in the buffers, and read to the file
 pub record IsWritten (f : FileParts) (cfg_before dat_before : List ℕ) (sizes : Sizes) (cfg_after dat_after : List ℕ) : Type 0 where
   pub lengths : sizes ≡ sizes_of f
   pub cfg_text : cfg_after ≡ put (cfg f.head) cfg_before

@@ -17,7 +17,7 @@ pub(crate) const CFG_FAULT: i32 = 1;
 pub(crate) const DAT_FAULT: i32 = 2;
 /// A file can't hold what is to be written.
 pub(crate) const WRITE_FAULT: i32 = 3;
-/// A growth was refused.
+/// An allocation failed.
 pub(crate) const NO_MEMORY: i32 = 4;
 /// A buffer is too short, or of another length than it must be.
 pub(crate) const NO_ROOM: i32 = 5;

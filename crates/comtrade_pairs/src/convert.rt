@@ -29,7 +29,7 @@ pub enum ConvertFault {
     /// A file of this kind can't hold what it says.
     #[error("{0}")]
     Write(WriteFault),
-    /// A growth was refused.
+    /// An allocation failed.
     #[error("out of memory")]
     Memory,
 }

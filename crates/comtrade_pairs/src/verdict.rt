@@ -16,7 +16,7 @@ pub struct Fault {
     pub fault: ReadFault,
 }
 
-/// The first fault of a pair, in reading order; None where the pair can be read. `Memory` is a growth that was refused.
+/// The first fault of a pair, in reading order; None where the pair can be read. `Memory`: an allocation failed.
 pub fn verdict_of<A: Allocator + Copy>(
     alloc: A,
     cfg: &[u8],

@@ -7,7 +7,7 @@ use Rattle.std.proofs.lemmas.List.FromFn.{fill_by_all, length-map-range_with_len
 use Rattle.byteorder.specs.Endian.{little_number}
 use Rattle.comtrade_read.specs.Inner.BinaryRows.{bit_of, bits_at, group_bits}
 
--- the bits before a group, and bits of the group behind them
+-- the bits before a group, and bits of the group after them
 pub group_behind : (bytes : List ℕ) (g d : ℕ) → d ≤ 16 → bits_at (16 * g) bytes ++ group_bits d (little_number 2 (drop (2 * g) bytes)) ≡ bits_at (16 * g + d) bytes
 group_behind bytes g d le =
     let before = bits_at (16 * g) bytes in

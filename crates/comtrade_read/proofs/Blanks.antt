@@ -1,4 +1,4 @@
--- What is dropped at the ends of a list: blanks round a text, and blank lines behind a file.
+-- What is dropped at the ends of a list: blanks around a text, and blank lines after a file.
 use Rattle.std.proofs.Common.{◌≡◌, ℕ, ◌-◌, ◌<◌, Bool, true, false, eqb, get_or, List, [], ◌∷◌, ◌++◌, length, map, refl, sym, ap, ◌∙◌, arith, length-append}
 use Rattle.std.specs.Prelude.{reverse}
 use Rattle.std.specs.List.{AllByRecursion}
@@ -95,7 +95,7 @@ trim_again before (x ∷ xs) after p q e =
     let front : trim_start (before ++ ((x ∷ xs) ++ after)) ≡ (x ∷ xs) ++ after = past_front is_blank before ((x ∷ xs) ++ after) p ∙ front_stays is_blank ((x ∷ xs) ++ after) (λ d lt. full d (omega arith)) in
     ap (drop_end is_blank) front ∙ past_end is_blank (x ∷ xs) after q ∙ ap (drop_end is_blank) (sym (front_stays is_blank (x ∷ xs) full)) ∙ e
 
--- ---- a text and the blanks round it
+-- ---- a text and the blanks around it
 
 pub record Around (xs : List ℕ) : Type 0 where
   pub before : List ℕ

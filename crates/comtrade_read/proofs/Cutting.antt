@@ -28,7 +28,7 @@ return_is xs = with_test (eqb (get_or xs (length xs - 1) 0) 13) refl
     with_test true e = put_back xs (eqb-true _ 13 e)
     with_test false e = append-nil xs
 
--- a field with the blanks round it
+-- a field with the blanks around it
 abbrev field_of : List ℕ → Field
 field_of xs = record { before = (around xs).before; text = trimmed xs; after = (around xs).after }
 

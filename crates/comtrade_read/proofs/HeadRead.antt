@@ -97,7 +97,7 @@ rows_are k m n ls =
 
 -- ---- the parts of a head
 
--- the lines behind the rates
+-- the lines after the rates
 ends_is : (ls : List (List ℕ)) (at : ℕ) (names : List ℕ × List ℕ) (analog : List AnalogParts) (status : List StatusParts) (line_freq : Number) (nrates : ℕ) (rates : List Rate)
     → after_rates names analog status line_freq nrates rates (at + 1) (from ls at) ≡ follow (ends_at ls at) (λ e. Ok (made names analog status line_freq nrates rates e.first e.trigger e.kind e.timemult))
 unfolding ends_at
@@ -112,7 +112,7 @@ ends_is ls at names analog status line_freq nrates rates =
     step timemult_line (after_timemult names analog status line_freq nrates rates first trigger kind) ls (at + 3) _ g (λ timemult. rw c (
     ended (made names analog status line_freq nrates rates first trigger kind timemult) ls (at + 4) (record { first = first; trigger = trigger; kind = kind; timemult = timemult }) g refl)))))))
 
--- the lines behind the channels
+-- the lines after the channels
 tail_is : (ls : List (List ℕ)) (at : ℕ) (names : List ℕ × List ℕ) (analog : List AnalogParts) (status : List StatusParts)
     → after_status names analog status (at + 1) (from ls at) ≡ follow (tail_at ls at) (λ t. Ok (made names analog status t.line_freq t.nrates t.rates t.first t.trigger t.kind t.timemult))
 unfolding tail_at

@@ -182,7 +182,7 @@ each_to says more (suc n) before line ls y G w h e =
     next_to (says before) (λ x. each says n (before ++ x ∷ []) more) line ls y G (w before)
     (λ x at rest k. each_to says more n (before ++ x ∷ []) at rest y G w (λ xs to left len m. h xs to left (omega (arith, len, length-append before (x ∷ []))) m) k) e
 
--- what holds of the lines of a head, and of those behind some of them
+-- what holds of the lines of a head, and of those after some of them
 pub record Said (h : HeadParts) (ls : List (List (List ℕ))) : Type 0 where
   pub some : 0 < length ls
   pub plain : AllByRecursion EndsPlain ls
@@ -193,7 +193,7 @@ add : (h : HeadParts) (fs : List (List ℕ)) (ls : List (List (List ℕ))) → E
 add h fs [] p s = absurd (omega (arith, s.some))
 add h fs (l ∷ ls) p s = record { some = omega arith; plain = (p, s.plain); full = s.full; few = s.few }
 
--- the lines behind the channels
+-- the lines after the channels
 module _ (h : HeadParts) (names : List ℕ × List ℕ) (analog : List AnalogParts) (status : List StatusParts) (few : length analog + length status < 1000000) where
   last_said : (line_freq : Number) (nrates : ℕ) (rates : List Rate) (first trigger : ℤ) (kind : Kind) (line : ℕ) (ls : List (List (List ℕ))) → after_kind names analog status line_freq nrates rates first trigger kind line ls ≡ Ok h → Said h ls
   last_said line_freq nrates rates first trigger kind line ls e =

@@ -65,7 +65,7 @@ status_taken n (c ∷ cs) e =
       status_taken (n + 1) cs p.1,
     )
 
--- the first of the rates, and those behind it
+-- the first of the rates, and those after it
 pub rate_taken : (before last : ℕ) (r : Rate) (rs : List Rate) → shape.rates_end before (r ∷ rs) ≡ Some last → (before ≤ r.endsamp) × (r.endsamp ≤ 9999999999) × (shape.rates_end r.endsamp rs ≡ Some last)
 rate_taken before last r rs e = with_test (shape.endsamp_fits before r.endsamp) refl e
   where

@@ -28,7 +28,7 @@ use Rattle.comtrade_read.proofs.LineEnds.{HasNoReturn, EndsPlain, return_none}
 use Rattle.comtrade_read.proofs.AllOf.{All-append, All-parts, All-digits, differs}
 use Rattle.comtrade_read.proofs.Digits.{digits_from_test}
 
--- ---- what is told by a value that was read
+-- ---- what a value that was read shows
 
 -- C, if there is a value
 abbrev Tells : {A : Type 0} → Type 0 → Option A → Type 0

@@ -81,7 +81,7 @@ abbrev pub sign_text : Bool → List ℕ
 sign_text true = 45 ∷ []
 sign_text false = []
 
--- the fraction behind its point, or nothing
+-- the fraction after its point, or nothing
 abbrev pub point_text : List ℕ → List ℕ
 point_text [] = []
 point_text (d ∷ ds) = 46 ∷ d ∷ ds
@@ -157,7 +157,7 @@ sign_is : (u : ℤ) → (s : Bool) × ((minus u ≡ sign_text s) × (cond s (neg
 sign_is (pos n) = (false, (refl, refl))
 sign_is (negsuc n) = (true, (refl, refl))
 
--- digits before the point and behind it
+-- digits before the point and after it
 record Pointed (places : ℕ) (ds text : List ℕ) : Type 0 where
   ws : List ℕ
   fs : List ℕ

@@ -1,4 +1,4 @@
--- A file that is written is read again, or memory was wanted.
+-- A file that is written is read again, or an allocation failed.
 use Rattle.std.proofs.Common.{◌≡◌, ◌+◌, ◌<◌, sym, ap, subst, refl, ◌∙◌, List, [], ◌∷◌, ◌++◌, length, map, take, get_or, ℕ, Option, Some, None}
 use Rattle.std.specs.Prelude.{option_to_list}
 use Rattle.std.specs.List.{filter_map}

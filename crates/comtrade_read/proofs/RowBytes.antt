@@ -22,7 +22,7 @@ value_bytes v = little_bytes 2 (reading_number v)
 
 -- ---- a row that was written is read
 
--- behind a part
+-- after a part
 past : (n : ℕ) (xs ys zs : List ℕ) → length xs ≡ n → zs ≡ xs ++ ys → drop n zs ≡ ys
 past n xs ys zs e is = rw (is, ← e) (drop-append_seam xs ys)
 
@@ -194,7 +194,7 @@ binary_only k m dat rows r =
 drop_bytes : (n : ℕ) (xs : List ℕ) → AllBytes xs → AllBytes (drop n xs)
 drop_bytes n xs h i = rw (get_or-drop n xs i 0) (h (n + i))
 
--- one part behind the other
+-- one part after the other
 parts_joined : (size : ℕ) (xs : List ℕ) (f : ℕ → List ℕ) (a c : ℕ) → ((g : ℕ) → a ≤ g → g < a + c → f g ≡ take size (drop (size * g) xs)) → flat_map f (range_with_len a c) ≡ take (size * c) (drop (size * a) xs)
 parts_joined size xs f a zero h = ap (λ (n : ℕ). take n (drop (size * a) xs)) (sym (mul-zero size))
 parts_joined size xs f a (suc c) h =
@@ -293,7 +293,7 @@ row_written k m xs le h =
       bit_count = length-map-range_with_len (bit_of zs) 0 m;
     }
 
--- the bytes of row i and of those behind it
+-- the bytes of row i and of those after it
 rows_written : (k m : ℕ) (dat : List ℕ) (a n : ℕ) → length dat ≡ (a + n) * row_size k m → AllBytes dat
     → AllZip (IsRowOf k m) (map (λ i. take (row_size k m) (drop (i * row_size k m) dat)) (range_with_len a n)) (map (λ i. row_at k m (drop (i * row_size k m) dat)) (range_with_len a n))
 rows_written k m dat a zero e h = tt

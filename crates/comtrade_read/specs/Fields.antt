@@ -23,7 +23,7 @@ small f = within (negsuc 99998) (pos 99999) (whole_number f)
 unfoldable pub scale : List ℕ → Option Number
 scale f = decimal_number f
 
--- what stands before this letter, large or small, at the end
+-- what stands before this letter, in upper or lower case, at the end
 abbrev pub before_letter : ℕ → List ℕ → Option (List ℕ)
 before_letter letter f =
     if nat_lt 0 (length f) && ((slice_index_or f (length f - 1) 0 == letter) || (slice_index_or f (length f - 1) 0 == letter + 32)) then Some (take (length f - 1) f) else None

@@ -1,4 +1,4 @@
--- A text as lines with their ends, and a line as fields with blanks round them and commas between.
+-- A text as lines with their ends, and a line as fields with blanks around them and commas between.
 use Rattle.std.specs.Prelude.{◌≡◌, ℕ, Bool, true, false, ◌==◌, List, [], ◌∷◌, ◌++◌, map}
 use Rattle.std.specs.List.{join_with_byte, AllByRecursion}
 use Rattle.dfr_channels.specs.Spelling.{is_blank, trimmed}
@@ -9,7 +9,7 @@ AreBlank bytes = AllByRecursion (λ b. is_blank b ≡ true) bytes
 abbrev pub HasNone : ℕ → List ℕ → Type 0
 HasNone c bytes = AllByRecursion (λ b. (b == c) ≡ false) bytes
 
--- a field: its text, and the blanks round it
+-- a field: its text, and the blanks around it
 pub record Field : Type 0 where
   pub before : List ℕ
   pub text : List ℕ
@@ -30,7 +30,7 @@ pub record IsField (f : Field) : Type 0 where
 pub record Line : Type 0 where
   pub first : Field
   pub rest : List Field
-  -- whether a carriage return stands behind it
+  -- whether a carriage return stands after it
   pub cr : Bool
 
 abbrev pub carriage_return : Bool → List ℕ

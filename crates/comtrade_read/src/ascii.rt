@@ -147,7 +147,7 @@ fn rows_of<A: Allocator + Copy>(
     Ok(list)
 }
 
-/// The rows that the lines say, and no line behind them.
+/// The rows that the lines say, and no line after them.
 fn all_rows<A: Allocator + Copy>(
     alloc: A,
     lines: &[&[u8]],

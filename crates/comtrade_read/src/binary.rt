@@ -129,7 +129,7 @@ fn row_size(k: usize, m: usize) -> usize
     8 + 2 * k + 2 * ((m + 15) / 16)
 }
 
-/// So many rows, one behind the other.
+/// So many rows, one after the other.
 fn rows_of<A: Allocator + Copy>(
     alloc: A,
     dat: &[u8],

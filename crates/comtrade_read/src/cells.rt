@@ -22,7 +22,7 @@ pub(crate) fn field_count(line: &[u8]) -> usize
     comma_count(line) + 1
 }
 
-/// The first field, and what stands behind its comma.
+/// The first field, and what stands after its comma.
 pub(crate) fn first_field(line: &[u8]) -> (&[u8], &[u8])
     ensures first { result.0.now ≡ field (fields line.now) 0 }
     ensures rest { 1 < length (fields line.now) → fields result.1.now ≡ drop 1 (fields line.now) }

@@ -133,7 +133,7 @@ fn status_at<A: Allocator + Copy>(
     status_of(alloc, place as u64 + 1, n, &fields)
 }
 
-/// The status channels, behind the analogue ones.
+/// The status channels, after the analogue ones.
 pub(crate) fn statuses_of<A: Allocator + Copy>(
     alloc: A,
     lines: &[&[u8]],

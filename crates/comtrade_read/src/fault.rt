@@ -14,7 +14,7 @@ pub enum ReadFault {
     /// The first line has two fields, or a third that isn't the year 1999 (5.3.1).
     #[error("the first line isn't that of the revision of 1999")]
     Revision,
-    /// The line has another number of fields than its kind wants.
+    /// The line has another number of fields than its kind has.
     #[error("line {0} has another number of fields than its kind wants")]
     Fields(u64),
     /// The line, and the field that can't be read or is out of its range. In the first line, in an instant and in the type it
@@ -34,13 +34,13 @@ pub enum ReadFault {
     /// The file ends before this line; blank lines at its end don't count.
     #[error("line {0} is missing")]
     Missing(u64),
-    /// Behind the last line stands something that isn't blank. The number is that of the first line behind the last.
+    /// Something that isn't blank stands after the last line. The number is that of the first line after the last.
     #[error("line {0} stands behind the last line")]
     Extra(u64),
     /// Binary data aren't as long as their rows (clause 6).
     #[error("the binary data aren't as long as their rows")]
     Length,
-    /// A growth was refused; the texts may have a fault besides.
+    /// An allocation failed; the texts may have a fault besides.
     #[error("out of memory")]
     Memory,
 }

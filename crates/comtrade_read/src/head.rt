@@ -46,9 +46,9 @@ fn head_of<A: Allocator + Copy>(alloc: A, lines: &[&[u8]]) -> Result<Head<A>, Re
 
 /// The head that a configuration file says (C37.111-1999, clause 5), or its first fault.
 ///
-/// Lines end with LF or CR LF, blanks round fields and blank lines at the end are free, and numbers, dates and letters may be
+/// Lines end with LF or CR LF, blanks around fields and blank lines at the end are optional, and numbers, dates and letters may be
 /// spelled as other programs spell them. Any bytes without a comma, a line feed or a blank at either end are a station, a device or a
-/// channel's text. A head that is read has at most 999,999 channels, as `read_dat` wants it.
+/// channel's text. A head that is read has at most 999,999 channels, as `read_dat` requires.
 pub fn read_cfg<A: Allocator + Copy>(alloc: A, text: &[u8]) -> Result<Head<A>, ReadFault>
     ensures found { IfOk result (ReadsHead text.now) }
     ensures few { IfOk result (λ h. length h.analog + length h.status < 1000000) }

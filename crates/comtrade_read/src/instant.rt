@@ -19,7 +19,7 @@ pub(crate) fn place_of(text: &[u8], byte: u8) -> Option<usize>
     text.iter().position(|b| *b == byte)
 }
 
-/// What stands before the byte, and what behind it, where it stands there.
+/// What stands before the byte and what stands after it, where the text has one.
 #[tactic(auto, using(dfr_channels::proofs::Cuts::cuts))]
 fn cut_at(text: &[u8], byte: u8) -> Option<(&[u8], &[u8])>
     ensures found { IsSome result ↔ IsSome (position (λ b. b == byte) text.now) }
@@ -92,7 +92,7 @@ fn date(text: &[u8]) -> Option<i32>
     )
 }
 
-/// The microseconds that the digits behind a point say.
+/// The microseconds that the digits after a point say.
 #[tactic(auto, unfolding(crate::specs::Instant::micros))]
 fn micros(text: &[u8]) -> Option<u32>
     ensures value { result ≡ spec.micros text.now }
@@ -102,7 +102,7 @@ fn micros(text: &[u8]) -> Option<u32>
     Some(number * 10u32.pow(6 - text.len() as u32))
 }
 
-/// The seconds, and the microseconds behind them.
+/// The seconds, and the microseconds after them.
 #[tactic(auto, unfolding(crate::specs::Instant::seconds), using(dfr_channels::proofs::Cuts::cuts))]
 fn seconds(text: &[u8]) -> Option<(u32, u32)>
     ensures value { result ≡ spec.seconds text.now }

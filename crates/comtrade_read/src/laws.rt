@@ -27,7 +27,7 @@ pub fn read_back()
     ensures { ReadBackLaw }
 {}
 
-/// The law of reading back for a given file: its type keeps what the law wants of its numbers. Where the writers don't refuse
+/// The law of reading back for a given file: its type keeps what the law needs of its numbers. Where the writers don't refuse
 /// the file, it is read from its own texts.
 pub fn file_reads_back<A: Allocator>(file: &File<A>)
     ensures { cfg_refusal file.now ≡ None → dat_refusal file.now.head.kind file.now ≡ None
@@ -38,7 +38,7 @@ pub fn file_reads_back<A: Allocator>(file: &File<A>)
 
 /// The law of reading back for the records of a given recorder: every record that a recorder with its layout and its limits
 /// gives, whatever rules and whatever history it has, is read from its own two files, of either kind. It does nothing; the types
-/// keep what the law wants of layout and limits.
+/// keep what the law needs of layout and limits.
 pub fn records_read_back<A: Allocator>(recorder: &Recorder<A>)
     ensures { (rules : List Rule)
         → RecordsReadBack (opening recorder.now.layout recorder.now.limits rules) }

@@ -8,7 +8,7 @@ use comtrade_write::{Head, Rate};
 use dfr_channels::{AnalogChannel, Decimal, Layout};
 use std::alloc::Allocator;
 
-/// Each function here only tells, by its contract, what the type of its argument keeps.
+/// Each function here only states, by its contract, what the type of its argument keeps.
 fn number(decimal: Decimal)
     ensures { IsNumber decimal }
 {

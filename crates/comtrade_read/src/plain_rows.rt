@@ -25,7 +25,7 @@ fn count(number: i64) -> Option<u64>
     Some(number as u64)
 }
 
-/// The row's number that stands next, and what stands behind its comma if it has one.
+/// The row's number that stands next, and what stands after its comma if it has one.
 fn next_number(left: Option<&[u8]>) -> Option<(u64, Option<&[u8]>)>
     ensures { IfSome result (λ r. IsNext (natural ten_digits) (fields_behind (option_copied left.entry)) r.0 (fields_behind (option_copied r.1))) }
 {
@@ -34,7 +34,7 @@ fn next_number(left: Option<&[u8]>) -> Option<(u64, Option<&[u8]>)>
     Some((count, behind))
 }
 
-/// The stamp that stands next, and what stands behind its comma if it has one.
+/// The stamp that stands next, and what stands after its comma if it has one.
 fn next_stamp(left: Option<&[u8]>) -> Option<(u64, Option<&[u8]>)>
     ensures { IfSome result (λ r. IsNext spec.stamp (fields_behind (option_copied left.entry)) (Some r.0) (fields_behind (option_copied r.1))) }
 {
@@ -58,7 +58,7 @@ fn reading(number: i64) -> Option<Reading>
     Some(Reading::Value(number as i32))
 }
 
-/// The value that stands next, and what stands behind its comma if it has one.
+/// The value that stands next, and what stands after its comma if it has one.
 fn next_value(left: Option<&[u8]>) -> Option<(Reading, Option<&[u8]>)>
     ensures { IfSome result (λ r. IsNext spec.value (fields_behind (option_copied left.entry)) r.0 (fields_behind (option_copied r.1))) }
 {
@@ -67,7 +67,7 @@ fn next_value(left: Option<&[u8]>) -> Option<(Reading, Option<&[u8]>)>
     Some((value, behind))
 }
 
-/// The values that stand next, so many, and what stands behind them.
+/// The values that stand next, so many, and what stands after them.
 fn next_values<A: Allocator>(
     alloc: A,
     text: Option<&[u8]>,
@@ -113,7 +113,7 @@ fn write_bits(slot: &mut [bool], text: &[u8], count: usize)
     }
 }
 
-/// The bits of a text, where it is so many and nothing stands behind them.
+/// The bits of a text, where it is so many and nothing stands after them.
 fn plain_bits<A: Allocator>(
     alloc: A,
     text: &[u8],

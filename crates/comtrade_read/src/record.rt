@@ -25,7 +25,7 @@ use std::alloc::Allocator;
 use std::collections::VecDeque;
 
 /// Writes a file's two texts and reads them back, as a host does that checks what it stores. What is read is the file. A file
-/// that isn't written is refused as `cfg_bytes` refuses it, else as `dat_bytes` does; want of memory may come in place of both.
+/// that isn't written is refused as `cfg_bytes` refuses it, else as `dat_bytes` does; `Memory` may come in place of both.
 pub fn read_of_file<A: Allocator + Copy>(alloc: A, file: &File<A>) -> Result<File<A>, WriteFault>
     ensures same { IfOk result (λ f. f ≡ file.now) }
     ensures reads { IfOk result (λ f. Reads (cfg f.head) (dat f.head.kind f) f) }
@@ -49,9 +49,9 @@ pub fn read_of_file<A: Allocator + Copy>(alloc: A, file: &File<A>) -> Result<Fil
     }
 }
 
-/// Writes the two texts of a record that is the layout's own, as every record is that a recorder of this layout gives, and
+/// Writes the two texts of a record that matches the layout, as every record does that a recorder of this layout gives, and
 /// reads them back. What is read is the record's file: it is never foreign, and neither the writers nor the reader refuse it
-/// but for want of memory.
+/// unless out of memory.
 pub fn read_of_record<A: Allocator + Copy>(
     alloc: A,
     layout: &Layout<A>,

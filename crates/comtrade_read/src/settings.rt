@@ -1,4 +1,4 @@
-//! The lines that are no channel's, one by one.
+//! The lines other than the channels, one by one.
 
 ghost use Rattle.std.specs.Prelude.{◌≡◌, ◌+◌, ◌<◌, ◌≤◌, ◌^◌, length, IfOk, List, ℕ};
 ghost use Rattle.dfr_channels.specs.Lines.{texts};

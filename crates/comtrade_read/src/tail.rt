@@ -1,4 +1,4 @@
-//! The lines behind the channels.
+//! The lines after the channels.
 
 ghost use Rattle.std.specs.Prelude.{◌≡◌, ◌+◌, ◌<◌, ◌≤◌, ◌^◌, IfOk};
 ghost use Rattle.dfr_channels.specs.Lines.{texts};
@@ -12,7 +12,7 @@ use comtrade_write::{Kind, Rate};
 use dfr_channels::Decimal;
 use std::alloc::Allocator;
 
-/// The part of a head behind its rates.
+/// The part of a head after its rates.
 #[derive(Clone, Copy)]
 struct End {
     first: i64,
@@ -21,7 +21,7 @@ struct End {
     timemult: Decimal,
 }
 
-/// The lines behind the rates, from this place on, and no line behind them.
+/// The lines after the rates, from this place on, and no line after them.
 #[tactic(auto, unfolding(crate::specs::Inner::HeadValues::ends_at))]
 fn end_of<A: Allocator + Copy>(alloc: A, lines: &[&[u8]], at: usize) -> Result<End, ReadFault>
     requires { at < 2 ^ 32 }
@@ -42,7 +42,7 @@ fn end_of<A: Allocator + Copy>(alloc: A, lines: &[&[u8]], at: usize) -> Result<E
     })
 }
 
-/// The part of a head behind its channels.
+/// The part of a head after its channels.
 #[derive(Drop)]
 pub(crate) struct Tail<A: Allocator> {
     pub(crate) line_freq: Decimal,
@@ -54,7 +54,7 @@ pub(crate) struct Tail<A: Allocator> {
     pub(crate) timemult: Decimal,
 }
 
-/// The lines behind the channels, from this place on.
+/// The lines after the channels, from this place on.
 #[tactic(auto, unfolding(crate::specs::Inner::HeadValues::tail_at))]
 pub(crate) fn tail_of<A: Allocator + Copy>(
     alloc: A,

@@ -35,7 +35,7 @@ pub enum ToolFault {
     /// Who reads what is written has gone away.
     #[error("is closed")]
     Closed,
-    /// A growth was refused.
+    /// An allocation failed.
     #[error("out of memory")]
     Memory,
 }

@@ -11,7 +11,7 @@ pub(crate) struct Number {
     pub(crate) exponent: i32,
 }
 
-/// The number with so few digits that its units are below `most`; the digits behind are left out.
+/// The number with so few digits that its units are below `most`; the digits after them are left out.
 pub(crate) fn cut(number: Number, most: u128) -> Number {
     let mut cut = number;
     for _ in 0..40 {
@@ -35,7 +35,7 @@ pub(crate) fn number_of(decimal: Decimal) -> Number {
     cut(exact, 1_000_000_000_000_000_000_000_000_000)
 }
 
-/// With zeros put behind the units until the exponent is the lower one, as long as they fit.
+/// With zeros added after the units until the exponent is the lower one, as long as they fit.
 fn lowered(number: Number, exponent: i32) -> Number {
     let mut low = number;
     for _ in 0..80 {

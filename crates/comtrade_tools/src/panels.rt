@@ -84,7 +84,7 @@ fn put_title<A: Allocator>(
     end_text(out)
 }
 
-/// A channel's name beside its panel, at this height, in its colour; behind it the title, where it stands there.
+/// A channel's name beside its panel, at this height, in its colour; after it the title, where it stands there.
 fn put_legend<A: Allocator>(
     out: &mut Vec<u8, A>,
     y: f64,

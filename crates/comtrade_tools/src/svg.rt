@@ -41,7 +41,7 @@ pub(crate) fn put_xml<A: Allocator>(
     }
 }
 
-/// `<text x=.. y=..` and what stands behind it, up to the text.
+/// `<text x=.. y=..` and what stands after it, up to the text.
 pub(crate) fn put_text_at<A: Allocator>(
     out: &mut Vec<u8, A>,
     x: f64,

@@ -18,7 +18,7 @@ digit c h = let r = digit_from_value c h in grind (arith, nat_tests)
 not_equal : (a b : ℕ) → b < a → eqb a b ≡ false
 not_equal a b h = grind (arith, nat_tests)
 
--- a digit at the start, in the whole part, behind the exponent's sign and in the exponent
+-- a digit at the start, in the whole part, after the exponent's sign and in the exponent
 steps : (c : ℕ) → is_ascii_digit c ≡ true → (float_scan_step 0 c ≡ 1) × (float_scan_step 1 c ≡ 1) × (float_scan_step 5 c ≡ 6) × (float_scan_step 6 c ≡ 6)
 steps c e = (rw e refl, rw e refl, rw e refl, rw e refl)
 

@@ -18,7 +18,7 @@ fn spelled_of<A: Allocator>(alloc: A, decimal: Decimal) -> Result<Vec<u8, A>, Me
     Ok(text)
 }
 
-/// The float nearest to a decimal. `Memory` is a growth that was refused.
+/// The float nearest to a decimal. `Memory`: an allocation failed.
 pub fn nearest_f64<A: Allocator>(alloc: A, decimal: Decimal) -> Result<f64, Memory>
     ensures { IfOk result (λ x. IsNearest decimal x) }
 {

@@ -14,7 +14,7 @@ pub struct Scale {
     pub b: f64,
 }
 
-/// The floats nearest to a channel's a and b. `Memory` is a growth that was refused.
+/// The floats nearest to a channel's a and b. `Memory`: an allocation failed.
 pub fn scale_of<A: Allocator + Copy>(alloc: A, channel: &AnalogChannel<A>) -> Result<Scale, Memory>
     ensures { IfOk result (λ scale. IsScale channel.now scale) }
 {

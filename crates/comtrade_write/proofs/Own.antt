@@ -1,4 +1,4 @@
--- No writer refuses the File of a record that is the layout's own.
+-- No writer refuses the File of a record that matches the layout.
 use Rattle.std.proofs.Common.{◌≡◌, ℕ, zero, suc, ◌+◌, ◌-◌, ◌*◌, ◌/◌, ◌<◌, ◌≤◌, Bool, true, false, ◌&&◌, Option, Some, None, List, [], ◌∷◌, length, refl, ap, arith, ℤ, pos, negsuc, ◌≤ℤ◌, ◌+ℤ◌, nat_le, ◌==◌, if◌then◌else◌, is_some, is_none}
 use Rattle.std.specs.Prelude.{int_le}
 use Rattle.std.proofs.Math.Nat.{div-mul-le_self}
@@ -58,7 +58,7 @@ mul_le (suc a) b c h = let ih = mul_le a b c h in omega (arith, ih)
 place_le : (rate a : ℕ) → 1 ≤ rate → rate ≤ 1_000_000 → a ≤ micros rate a
 place_le rate a low high = le-div a (a * 1_000_000) rate low (mul_le a rate 1_000_000 high)
 
--- a record that is the layout's own has few scans, and low stamps
+-- a record that matches the layout has few scans, and low stamps
 pub scans_few : (l : SetupParts) (r : RecordParts) → IsLawful l → Own l r → length r.scans ≤ 4_294_967_295
 scans_few l r p o = omega (arith, o.stamps, place_le l.rate (length r.scans - 1) p.rate_low p.rate_high)
 

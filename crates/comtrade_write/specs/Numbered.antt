@@ -1,4 +1,4 @@
--- Lists whose items are numbered on.
+-- Lists whose items are numbered from n.
 use Rattle.std.specs.Prelude.{ℕ, ◌+◌, Option, None, List, [], ◌∷◌}
 use Rattle.dfr_channels.specs.Faults.{◌or◌}
 

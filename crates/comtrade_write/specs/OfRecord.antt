@@ -41,13 +41,13 @@ row_of rate i scan = record { number = i; stamp = Some (micros rate (i - 1)); va
 unfoldable pub file : SetupParts → RecordParts → Kind → FileParts
 file layout r kind = record { head = head_of layout r kind; rows = numbered (row_of layout.rate) 1 r.scans }
 
--- this File where the record is the layout's own, Foreign exactly where it isn't, and want of memory only where it is
+-- this File where the record matches the layout, Foreign exactly where it doesn't, and out of memory only where it does
 abbrev pub FileAnswers : Result FileParts FileFault → Bool → FileParts → Type 0
 FileAnswers (Ok f) own made = (own ≡ true) × (f ≡ made)
 FileAnswers (Err Foreign) own made = own ≡ false
 FileAnswers (Err Memory) own made = own ≡ true
 
--- no writer refuses the file, of whatever kind, but for want of memory
+-- no writer refuses the file, of whatever kind, unless out of memory
 pub record IsWritable (f : FileParts) : Type 0 where
   pub cfg : cfg_refusal f ≡ None
   pub ascii : data_refusal ascii_bounds f ≡ None

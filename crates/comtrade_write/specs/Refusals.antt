@@ -91,7 +91,7 @@ text_refusal h =
 unfoldable pub cfg_refusal : FileParts → Option WriteFault
 cfg_refusal f = fault_unless (is_shaped f) faults.Shape or text_refusal f.head
 
--- how a refusal is answered; want of memory may be answered in its place
+-- how a refusal is answered; out of memory may be answered in its place
 abbrev pub Fails : WriteFault → Option WriteFault → Type 0
 Fails faults.Memory refusal = Unit {0}
 Fails faults.Shape refusal = refusal ≡ Some faults.Shape
@@ -109,7 +109,7 @@ abbrev pub GivesText : {V : Type 0} → (V → List ℕ) → Option V → Option
 GivesText view (Some v) refusal text = (refusal ≡ None) × (view v ≡ text)
 GivesText view None refusal text = ¬ (refusal ≡ None)
 
--- a writer's answer: the text where nothing is refused, else the refusal, or want of memory
+-- a writer's answer: the text where nothing is refused, else the refusal, or out of memory
 abbrev pub Answers : {V : Type 0} → (V → List ℕ) → Result V WriteFault → Option WriteFault → List ℕ → Type 0
 Answers view (Ok v) refusal text = (refusal ≡ None) × (view v ≡ text)
 Answers view (Err e) refusal text = Fails e refusal

@@ -10,7 +10,7 @@ use thiserror::Error;
 /// then channel. All of them are counted from 1.
 #[derive(Clone, Copy, Debug, PartialEq, Eq, Error)]
 pub enum WriteFault {
-    /// Not 1 to 999,999 channels; over 999 rates, or another number of them than `nrates` says, where 0 wants one (5.3.6);
+    /// Not 1 to 999,999 channels; over 999 rates, or another number of them than `nrates` says, where 0 needs one (5.3.6);
     /// an `endsamp` below the one before or over 9,999,999,999; another number of rows than the last `endsamp`; a row
     /// whose numbers of values and bits aren't those of the analogue and the status channels; an instant outside the years 1 to 9999; a `min` or `max` outside
     /// -99,999 to 99,999 (5.3.3).
@@ -27,7 +27,7 @@ pub enum WriteFault {
     /// over 4,294,967,294 (BINARY) (clause 6).
     #[error("row {0} has a number or a time stamp that the data file can't hold")]
     Stamp(u64),
-    /// A growth was refused.
+    /// An allocation failed.
     #[error("out of memory")]
     Memory,
 }

@@ -19,11 +19,11 @@ use thiserror::Error;
 /// Why a record has no File.
 #[derive(Clone, Copy, Debug, PartialEq, Eq, Error)]
 pub enum FileFault {
-    /// The record is not the layout's own: a scan of it doesn't pass the layout's check, its last scan has no instant in
+    /// The record doesn't match the layout: a scan of it doesn't pass the layout's check, its last scan has no instant in
     /// this layout, or its last row's stamp is over 4,294,967,294 microseconds.
     #[error("the record isn't of this layout")]
     Foreign,
-    /// A growth was refused.
+    /// An allocation failed.
     #[error("out of memory")]
     Memory,
 }
@@ -194,7 +194,7 @@ fn rows<A: Allocator + Copy>(
 
 /// The File of a record, for data of this kind: the layout's texts, channels and line frequency, one rate, the instants of
 /// the first scan and of the trigger, and a row for each scan with its stamp in microseconds since the first. The writers
-/// refuse it for want of memory alone.
+/// refuse it only when out of memory.
 pub fn file_of<A: Allocator + Copy>(
     alloc: A,
     layout: &Layout<A>,

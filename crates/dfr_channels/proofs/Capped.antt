@@ -60,7 +60,7 @@ test_some true true n v w limit ys r e h =
 test_some true false n v w limit ys r e h = h
 test_some false b n v w limit ys r e h = absurd cc
 
--- two runs of digits, one behind the other
+-- two runs of digits, one after the other
 pub size_some : (xs ys : List ℕ) (n : ℕ) (r : Option ℕ) → 0 < length xs + length ys → cond (all_ascii_digits xs) (Some (min (digits_value_after 10 0 xs) (10 ^ 36))) None ≡ Some n
     → r ≡ cond (all_ascii_digits ys) (Some (min (digits_value_after 10 n ys) (10 ^ 36))) None → r ≡ capped_size (xs ++ ys)
 size_some xs ys n r some e h = test_some (all_ascii_digits xs) (all_ascii_digits ys) n (digits_value_after 10 0 xs) 0 (10 ^ 36) ys r e h ∙ sym (size_is xs ys some)

@@ -171,11 +171,11 @@ not_digits : (ds : List ℕ) (y : ℕ) (ys : List ℕ) → is_ascii_digit y ≡ 
 not_digits [] y ys h = rw h refl
 not_digits (d ∷ ds) y ys h = rw (not_digits ds y ys h, and-false (is_ascii_digit d)) refl
 
--- the text ends behind its digits
+-- the text ends after its digits
 pub short_end : (text : List ℕ) (n : ℕ) → n ≤ length text → length text ≤ n → (n ≡ 0 → ⊥) → n ≤ 10 → all_ascii_digits (take n text) ≡ true → begins_short text ≡ true
 short_end text n within past some few all = short_digits text n within (omega arith) few all (rw (drop_all n text past) refl)
 
--- a comma stands behind them
+-- a comma stands after them
 pub short_comma : (text : List ℕ) (n : ℕ) → n < length text → (n ≡ 0 → ⊥) → n ≤ 10 → all_ascii_digits (take n text) ≡ true → get_or text n 0 ≡ 44 → begins_short text ≡ true
 short_comma text n inside some few all comma = short_digits text n (omega arith) (omega arith) few all (rw (drop_more text n 0 inside, comma) refl)
 
@@ -204,7 +204,7 @@ ends_short false ds y ys e h =
     let long : leb (length (ds ++ y ∷ ys)) 10 ≡ false = rw (length-append ds (y ∷ ys)) (lt-leb (length ds + suc (length ys)) 10 (omega arith)) in
     rw long (no_second (ltb 0 (length (ds ++ y ∷ ys))) (all_ascii_digits (ds ++ y ∷ ys)))
 
--- something else stands behind ten digits, or no digit behind fewer
+-- something else stands after ten digits, or no digit after fewer
 pub short_stops : (text : List ℕ) (n : ℕ) → n < length text → all_ascii_digits (take n text) ≡ true → (ltb n 10 && is_ascii_digit (get_or text n 0)) ≡ false → (get_or text n 0 ≡ 44 → ⊥) → begins_short text ≡ false
 unfolding begins_short
 short_stops text n inside all stops no_comma =

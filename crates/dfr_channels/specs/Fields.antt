@@ -35,7 +35,7 @@ bit f = as_bit (whole_number f)
 unfoldable pub free_bit : List ℕ → Option Bool
 free_bit f = if length f == 0 then Some false else bit f
 
--- this letter alone, large or small
+-- this letter alone, in upper or lower case
 abbrev pub is_letter : ℕ → List ℕ → Bool
 is_letter letter [] = false
 is_letter letter (b ∷ []) = (b == letter) || (b == letter + 32)

@@ -16,7 +16,7 @@ without_cr line = strip_carriage_return line
 abbrev pub is_blank_line : List ℕ → Bool
 is_blank_line line = length (trimmed line) == 0
 
--- what is left behind the first elements that pass
+-- what is left after the first elements that pass
 abbrev pub drop_front : {A : Type 0} → (A → Bool) → List A → List A
 drop_front p [] = []
 drop_front p (x ∷ xs) = if p x then drop_front p xs else (x ∷ xs)

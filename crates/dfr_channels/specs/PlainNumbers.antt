@@ -6,12 +6,12 @@ use Rattle.std.specs.Str.Parse.{digits_value}
 use Rattle.dfr_channels.specs.Spelling.{whole_number}
 use Rattle.dfr_channels.specs.Lines.{fields}
 
--- a comma and what stands behind it, or the end
+-- a comma and what stands after it, or the end
 abbrev pub tail : Option (List ℕ) → List ℕ
 tail None = []
 tail (Some behind) = 44 ∷ behind
 
--- the fields behind a comma, where there is one
+-- the fields after a comma, where there is one
 abbrev pub fields_behind : Option (List ℕ) → List (List ℕ)
 fields_behind None = []
 fields_behind (Some text) = fields text
@@ -20,7 +20,7 @@ fields_behind (Some text) = fields text
 abbrev pub before_comma : List ℕ → List ℕ
 before_comma text = before_first (λ b. b == 44) text
 
--- what stands behind a minus, or all
+-- what stands after a minus, or all
 abbrev pub behind_minus : List ℕ → List ℕ
 behind_minus [] = []
 behind_minus (b ∷ bs) = if b == 45 then bs else (b ∷ bs)
@@ -33,7 +33,7 @@ is_short ds = nat_lt 0 (length ds) && nat_le (length ds) 10 && all_ascii_digits 
 unfoldable pub begins_short : List ℕ → Bool
 begins_short text = is_short (before_comma text)
 
--- the same behind a minus or nothing: the text begins with a number in its plain spelling
+-- the same after a minus or nothing: the text begins with a number in its plain spelling
 abbrev pub begins_plain : List ℕ → Bool
 begins_plain text = begins_short (behind_minus text)
 

@@ -12,7 +12,7 @@ use Rattle.dfr_channels.specs.declared.layout.ScanFault.TheVariants.{Shape, Rang
 abbrev pub micros : ℕ → ℕ → ℕ
 micros rate k = k * 1_000_000 / rate
 
--- the time, where it isn't past the year 9999
+-- the time, where it isn't after the year 9999
 abbrev pub within_time : ℤ → Option ℤ
 within_time t = if int_le t (pos end_of_time) then Some t else None
 

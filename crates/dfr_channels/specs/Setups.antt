@@ -1,4 +1,4 @@
--- Which set-ups are lawful.
+-- Which set-ups are valid.
 use Rattle.std.specs.Prelude.{◌≡◌, ℕ, ◌≤◌, ◌+◌, ℤ, pos, neg_ℤ, ◌≤ℤ◌, int_le, Bool, true, ◌&&◌, not, nat_le, Option, length, take, position, option_map}
 use Rattle.std.specs.List.{list_all}
 use Rattle.dfr_channels.specs.Faults.{◌or◌, fault_unless}

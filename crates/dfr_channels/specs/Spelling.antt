@@ -42,7 +42,7 @@ is_point b = b == 46
 abbrev pub is_exponent_mark : ℕ → Bool
 is_exponent_mark b = (b == 101) || (b == 69)
 
--- what stands behind the exponent mark, if there is one
+-- what stands after the exponent mark, if there is one
 abbrev pub exponent_text : List ℕ → Option (List ℕ)
 exponent_text bs = if is_some (position is_exponent_mark bs) then Some (after_first is_exponent_mark bs) else None
 
@@ -61,7 +61,7 @@ abbrev pub number : Bool → ℕ × ℕ → Option Number
 number minus (units, places) =
     if nat_lt units (10 ^ 36) && nat_le places 80 then Some (record { units = if minus then neg_ℤ (pos units) else pos units; places = places }) else None
 
--- a decimal by its parts: the digits before and behind the point
+-- a decimal by its parts: the digits before and after the point
 abbrev pub decimal_of : Bool → List ℕ → List ℕ → Option (Bool × ℕ) → Option Number
 decimal_of minus whole fraction None = None
 decimal_of minus whole fraction (Some e) =

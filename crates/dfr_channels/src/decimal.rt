@@ -46,7 +46,7 @@ impl PartialEq for Decimal {
 }
 
 impl Decimal {
-    /// The units of the number units / 10^places. The contract also tells what any decimal has.
+    /// The units of the number units / 10^places, strictly between -10^36 and 10^36; there are at most 80 places.
     pub fn units(&self) -> i128
         ensures value { result ≡ self.now.units }
         ensures lawful { IsNumber self.now }
@@ -76,7 +76,7 @@ fn place_of_point(text: &[u8]) -> Option<usize>
     text.iter().position(|b| *b == b'.')
 }
 
-/// What stands before the exponent mark, and what behind it.
+/// What stands before the exponent mark, and what stands after it.
 #[tactic(auto, using(crate::proofs::Cuts::cuts))]
 fn at_exponent(text: &[u8]) -> (&[u8], Option<&[u8]>)
     ensures front { result.0.now ≡ before_first is_exponent_mark text.now }
@@ -88,7 +88,7 @@ fn at_exponent(text: &[u8]) -> (&[u8], Option<&[u8]>)
     }
 }
 
-/// What stands before the point, and what behind it.
+/// What stands before the point, and what stands after it.
 #[tactic(auto, using(crate::proofs::Cuts::cuts))]
 fn at_point(text: &[u8]) -> (&[u8], &[u8])
     ensures front { result.0.now ≡ before_first is_point text.now }
@@ -100,7 +100,7 @@ fn at_point(text: &[u8]) -> (&[u8], &[u8])
     }
 }
 
-/// The number that the digits before and behind the point make, but at most the limit.
+/// The number that the digits before and after the point make, but at most the limit.
 fn number_at(whole: &[u8], fraction: &[u8]) -> Option<u128>
     ensures { result ≡ capped_size (whole.now ++ fraction.now) }
 {
@@ -121,7 +121,7 @@ pub fn numeral_of(digits: &[u8]) -> Option<u128>
     capped_number(0, digits)
 }
 
-/// The exponent that stands behind the mark, its size capped.
+/// The exponent that stands after the mark, its size capped.
 fn exponent_of(text: Option<&[u8]>) -> Option<(bool, u128)>
     ensures { result ≡ option_map capped (exponent (option_copied text.entry)) }
 {
@@ -160,7 +160,7 @@ fn number_of(minus: bool, digits: u128, places: usize, exponent: (bool, u128)) -
     })
 }
 
-/// The number with this many zeros behind it, where it is below 10^36.
+/// The number with this many zeros after it, where it is below 10^36.
 fn with_zeros(number: u128, zeros: u128) -> Option<u128>
     ensures { SomeIff result (number * 10 ^ zeros < 10 ^ 36) (number * 10 ^ zeros) }
 {

@@ -50,7 +50,7 @@ pub fn free_bit_of(text: &[u8]) -> Option<bool>
     }
 }
 
-/// The side that the text names: P or S, large or small; None otherwise.
+/// The side that the text names: P or S, in upper or lower case; None otherwise.
 #[tactic(auto, unfolding(crate::specs::Fields::side))]
 pub fn side_of(text: &[u8]) -> Option<Side>
     ensures { result ≡ spec.side text.now }

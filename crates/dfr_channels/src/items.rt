@@ -1,4 +1,4 @@
-//! A list that contracts see as the list, and copies that want of memory may refuse.
+//! A list that contracts see as the list, and copies that fail when out of memory.
 
 ghost use Rattle.std.specs.Prelude.{◌≡◌, IfOk};
 
@@ -33,7 +33,7 @@ impl<T: PartialEq, A: Allocator> PartialEq for Items<T, A> {
 }
 
 impl<T, A: Allocator> Items<T, A> {
-    /// The list of these items. Takes no memory.
+    /// The list of these items. Doesn't allocate.
     pub fn of(list: Vec<T, A>) -> Items<T, A>
         ensures { result ≡ list.items }
     {
@@ -47,7 +47,7 @@ impl<T, A: Allocator> Items<T, A> {
         self.list.as_slice()
     }
 
-    /// The list of the items. Takes no memory.
+    /// The list of the items. Doesn't allocate.
     pub fn into_vec(self) -> Vec<T, A>
         ensures { result.items ≡ self }
     {
@@ -61,7 +61,7 @@ impl<T, A: Allocator> Items<T, A> {
 }
 
 impl<T: Copy, A: Allocator + Copy> Items<T, A> {
-    /// A copy of its own, on the same allocator. `Memory` is a growth that was refused.
+    /// A deep copy, on the same allocator. `Memory`: an allocation failed.
     pub fn try_clone(&self) -> Result<Items<T, A>, Memory>
         ensures { IfOk result (λ copy. copy ≡ self.now) }
     {
@@ -72,12 +72,12 @@ impl<T: Copy, A: Allocator + Copy> Items<T, A> {
 
 /// What can be copied where there is memory for it.
 pub trait TryClone: Drop {
-    /// A copy of its own, on the same allocator. `Memory` is a growth that was refused.
+    /// A deep copy, on the same allocator. `Memory`: an allocation failed.
     fn try_clone(&self) -> Result<Self, Memory>
         ensures { IfOk result (λ copy. copy ≡ self.now) };
 }
 
-/// A copy of each item, in order, in a list on `alloc`. `Memory` is a growth that was refused.
+/// A copy of each item, in order, in a list on `alloc`. `Memory`: an allocation failed.
 pub fn copies_of<T: TryClone, A: Allocator + Copy>(
     alloc: A,
     list: &[T],

@@ -1,4 +1,4 @@
-//! A set-up that was found lawful.
+//! A set-up that was found valid.
 
 ghost use Rattle.std.specs.Prelude.{◌≡◌, ◌<◌, ◌≤◌, ◌≤ℤ◌, ◌+ℤ◌, pos, length, Some, None, IfSome, OnOk, MatchResult, true};
 ghost use Rattle.std.specs.Bool.{OnTrue};
@@ -112,7 +112,7 @@ impl<A: Allocator> Layout<A> {
     ghost use Rattle.dfr_channels.specs.Setups.{setup_fault, IsLawful, end_of_time};
     ghost use Rattle.dfr_channels.specs.Scans.{instant_of, scan_fault, Fits};
 
-    /// The layout of a lawful set-up; one with a fault is handed back with its first fault. Takes no memory.
+    /// The layout of a valid set-up; one with a fault is handed back with its first fault. Doesn't allocate.
     pub fn new(setup: Setup<A>) -> Result<Layout<A>, (SetupFault, Setup<A>)>
         ensures made { IfOk result (λ layout. (setup_fault setup ≡ None) × (layout ≡ setup)) }
         ensures fault { IfErr result (λ refused. setup_fault setup ≡ Some refused.0) }
@@ -159,7 +159,7 @@ impl<A: Allocator> Layout<A> {
         self.setup.line_freq
     }
 
-    /// In scans a second. Its contract also tells what any layout has.
+    /// In scans a second. Any layout is valid (clause `lawful`).
     pub fn rate(&self) -> u32
         ensures value { result ≡ self.now.rate }
         ensures lawful { IsLawful self.now }
@@ -174,7 +174,7 @@ impl<A: Allocator> Layout<A> {
         self.setup.start
     }
 
-    /// The instant of scan k, in microseconds since 1970-01-01 00:00:00; None past the year 9999.
+    /// The instant of scan k, in microseconds since 1970-01-01 00:00:00; None after the year 9999.
     pub fn instant(&self, k: u64) -> Option<i64>
         ensures value { result ≡ instant_of self.now k }
         ensures early { IfSome result (λ _. k ≤ end_of_time) }
@@ -182,7 +182,7 @@ impl<A: Allocator> Layout<A> {
         instant_at(self.rate(), self.start(), k)
     }
 
-    /// Whether a scan has the layout's channels, each value in its channel's range. Takes no memory, and looks at each
+    /// Whether a scan has the layout's channels, each value in its channel's range. Doesn't allocate, and looks at each
     /// reading at most once.
     pub fn check(&self, scan: &Scan<A>) -> Result<(), ScanFault>
         ensures fault { MatchResult result (λ _. scan_fault self.now scan.now ≡ None) (λ fault. scan_fault self.now scan.now ≡ Some fault) }
@@ -195,7 +195,7 @@ impl<A: Allocator> Layout<A> {
 impl<A: Allocator + Copy> Layout<A> {
     ghost use Rattle.std.specs.Prelude.{◌≡◌, IfOk};
 
-    /// A copy of its own, on the same allocator.
+    /// A deep copy, on the same allocator.
     pub fn try_clone(&self) -> Result<Layout<A>, Memory>
         ensures { IfOk result (λ copy. copy ≡ self.now) }
     {

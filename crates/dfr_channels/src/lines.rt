@@ -124,7 +124,7 @@ pub fn without_blank_end<'s, 'a>(lines: &'s [&'a [u8]]) -> &'s [&'a [u8]]
     left
 }
 
-/// The fields of a line, without the blanks around them. `AllocError` is a growth that was refused.
+/// The fields of a line, without the blanks around them. `AllocError`: an allocation failed.
 pub fn fields_of<'a, A: Allocator>(alloc: A, line: &'a [u8]) -> Result<Vec<&'a [u8], A>, AllocError>
     ensures { IfOk result (λ v. texts v.items ≡ fields line.now) }
 {

@@ -136,7 +136,7 @@ fn digits_of_long(text: &[u8]) -> Option<(u64, Option<&[u8]>)>
     behind_digits(text, count, number)
 }
 
-/// The number of the one to ten digits that a text begins with, and what stands behind its comma if it has one.
+/// The number of the one to ten digits that a text begins with, and what stands after its comma if it has one.
 #[inline(always)]
 fn plain_digits(text: &[u8]) -> Option<(u64, Option<&[u8]>)>
     ensures plain { is_some result ≡ begins_short text.now }
@@ -163,7 +163,7 @@ fn signed(minus: bool, number: u64) -> i64
     if minus { -number } else { number }
 }
 
-/// The number that a text begins with, and what stands behind its comma if it has one, where the field is a minus or nothing
+/// The number that a text begins with, and what stands after its comma if it has one, where the field is a minus or nothing
 /// and one to ten digits; None exactly where it is spelled otherwise.
 #[inline(always)]
 pub fn plain_number(text: &[u8]) -> Option<(i64, Option<&[u8]>)>

@@ -61,7 +61,7 @@ impl<A: Allocator> Rules<A> {
     ghost use Rattle.std.specs.Prelude.{◌≡◌, ◌≤◌, true, Some, None, IfOk, IfErr, length, option_copied};
     ghost use Rattle.dfr_channels.specs.Firing.{lowest_holding, rules_fit, rules_fault};
 
-    /// The rules of a list, which may be empty; one with a fault is handed back with its first fault. Takes no memory.
+    /// The rules of a list, which may be empty; one with a fault is handed back with its first fault. Doesn't allocate.
     #[tactic(auto, unfolding(crate::specs::Firing::rules_fault))]
     pub fn new(
         layout: &Layout<A>,
@@ -103,7 +103,7 @@ impl<A: Allocator> Rules<A> {
     }
 
     /// The lowest rule, from 0, that holds at a scan, after the scan accepted before it. A channel that a scan lacks fires
-    /// nothing. Takes no memory, and looks at each rule at most once.
+    /// nothing. Doesn't allocate, and looks at each rule at most once.
     pub fn fires(&self, before: Option<&Scan<A>>, now: &Scan<A>) -> Option<u32>
         ensures { result ≡ lowest_holding (option_copied before.entry) now.now self.now }
     {
@@ -117,7 +117,7 @@ impl<A: Allocator> Rules<A> {
 impl<A: Allocator + Copy> Rules<A> {
     ghost use Rattle.std.specs.Prelude.{◌≡◌, IfOk};
 
-    /// A copy of its own, on the same allocator.
+    /// A deep copy, on the same allocator.
     pub fn try_clone(&self) -> Result<Rules<A>, Memory>
         ensures { IfOk result (λ copy. copy ≡ self.now) }
     {

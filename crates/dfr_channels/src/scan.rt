@@ -29,7 +29,7 @@ impl<A: Allocator> Model for Scan<A> {
 }
 
 impl<A: Allocator> Scan<A> {
-    /// The scan of these readings and bits. Takes no memory.
+    /// The scan of these readings and bits. Doesn't allocate.
     pub fn new(analog: Vec<Reading, A>, status: Vec<bool, A>) -> Scan<A>
         ensures { result ≡ record { analog = analog.items; status = status.items } }
     {
@@ -55,7 +55,7 @@ impl<A: Allocator> Scan<A> {
 }
 
 impl<A: Allocator + Copy> Scan<A> {
-    /// A copy of its own, on the same allocator. `Memory` is a growth that was refused.
+    /// A deep copy, on the same allocator. `Memory`: an allocation failed.
     pub fn try_clone(&self) -> Result<Scan<A>, Memory>
         ensures { IfOk result (λ copy. copy ≡ self.now) }
     {

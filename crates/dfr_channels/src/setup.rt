@@ -74,7 +74,7 @@ pub enum SetupFault {
     /// Not 1 to 1,000,000 scans a second.
     #[error("not 1 to 1000000 scans a second")]
     Rate,
-    /// Before 1970 or past the year 9999.
+    /// Before 1970 or after the year 9999.
     #[error("a start before 1970 or past the year 9999")]
     Start,
 }
@@ -222,7 +222,7 @@ impl<A: Allocator + Copy> Setup<A> {
         }
     }
 
-    /// A copy of its own, on the same allocator.
+    /// A deep copy, on the same allocator.
     pub fn try_clone(&self) -> Result<Setup<A>, Memory>
         ensures { IfOk result (λ copy. copy ≡ self.now) }
     {

@@ -50,7 +50,7 @@ printed_cut U Memory a b x y t q h k = absurd (cc)
 printed_cut U Output a b x y t q h k = (h, k)
 printed_cut U Input a b x y t q h k = absurd (cc)
 
--- text behind text that was printed, where what fails then is a write
+-- text after text that was printed, where what fails then is a write
 pub printed_then : {U : Type 0} (r : Result U RunFault) (a b c : Option (List ℕ)) (x y z s t : List ℕ) → Wrote a b y (x ++ s) → Printed r b y c z t → IfErr r (λ e. e ≡ Output) → Printed r a x c z (s ++ t)
 printed_then (Ok u) a b c x y z s t v p f = subst (λ l. Wrote a c z l) (append_assoc x s t) (wrote_then a b c y z (x ++ s) t v p)
 printed_then (Err Output) a b c x y z s t v p f = (subst (λ l. Cut a c l) (append_assoc x s t) (cut_then a b c y (x ++ s) t v p.0), p.1)

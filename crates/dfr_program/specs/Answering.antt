@@ -11,7 +11,7 @@ use Rattle.dfr_program.specs.declared.fault.RunFault.TheVariants as fault
 use Rattle.dfr_program.specs.Transcript.{followed, step_text, transcript}
 use Rattle.dfr_program.specs.Writing.{Wrote, Cut, Printed}
 
--- after every history of which `old` is kept: the text of the step is put behind `before`, and `new` is kept then
+-- after every history of which `old` is kept: the text of the step is put after `before`, and `new` is kept then
 pub record PutsStep (old : Kept) (s : Result StepParts RuleFault) (new : Kept) (before buffered : List ℕ) : Type 0 where
   pub text : (kind : Kind) (o : Opening) (h : List StepParts) → kept o h ≡ old → buffered ≡ before ++ step_text kind o h s
   pub after : (o : Opening) (h : List StepParts) → kept o h ≡ old → kept o (followed h s) ≡ new
@@ -21,14 +21,14 @@ pub record PrintsStep {U : Type 0} (r : Result U RunFault) (kind : Kind) (old : 
   pub text : (o : Opening) (h : List StepParts) → kept o h ≡ old → Printed r held before holds buffered (step_text kind o h s)
   pub after : OnOk r ((o : Opening) (h : List StepParts) → kept o h ≡ old → kept o (followed h s) ≡ new)
 
--- the answers to the first commands, up to the one at which memory was refused, are printed
+-- the answers to the first commands, up to the one at which an allocation failed, are printed
 pub record PrintsSome (kind : Kind) (o : Opening) (h : List StepParts) (commands : List CommandParts) (held : Option (List ℕ)) (before : List ℕ) (holds : Option (List ℕ)) (buffered : List ℕ) : Type 0 where
   pub done : List CommandParts
   pub left : List CommandParts
   pub list : done ++ left ≡ commands
   pub wrote : Wrote held holds buffered (before ++ transcript kind o h done)
 
--- all answers are printed; where memory was refused, those to the first commands; where a write failed, a front of them all
+-- all answers are printed; where an allocation failed, those to the first commands; where a write failed, a front of them all
 abbrev pub AllPrinted : {U : Type 0} → Result U RunFault → Kind → Opening → List StepParts → List CommandParts → Option (List ℕ) → List ℕ → Option (List ℕ) → List ℕ → Type 0
 AllPrinted (Ok u) kind o h commands held before holds buffered = Wrote held holds buffered (before ++ transcript kind o h commands)
 AllPrinted (Err fault.Memory) kind o h commands held before holds buffered = PrintsSome kind o h commands held before holds buffered

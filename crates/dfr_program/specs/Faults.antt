@@ -38,7 +38,7 @@ set_up_fault s =
 unfoldable pub script_fault : List ℕ → Option Fault
 script_fault text = option_map faults.Script (scripts.script_fault (lines text)) or set_up_fault (scripts.script_value (lines text))
 
--- want of memory, or this fault
+-- out of memory, or this fault
 abbrev pub Refuses : Option Fault → Refusal → Type 0
 Refuses fault (refusal.Fault f) = fault ≡ Some f
 Refuses fault refusal.Memory = Unit {0}
@@ -58,7 +58,7 @@ pub record IsRecorderOf (over : SetupParts) (numbers : LimitNumbers) (list : Lis
   pub rules : k.rules ≡ list
   pub fresh : k ≡ kept (opening k.layout k.limits k.rules) []
 
--- a recorder without a past, over the set-up, the limits and the rules that a script says
+-- a new recorder, over the set-up, the limits and the rules that a script says
 pub record IsMadeOf (s : ScriptParts) (k : Kept) : Type 0 where
   pub layout : k.layout ≡ s.setup
   pub limits : HasNumbers s.limits k.limits

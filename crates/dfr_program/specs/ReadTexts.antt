@@ -11,7 +11,7 @@ abbrev pub part_text : Part → List ℕ
 part_text Cfg = codes "cfg fault "
 part_text Dat = codes "dat fault "
 
--- want of memory isn't printed
+-- out of memory isn't printed
 abbrev pub word_text : ReadFault → List ℕ
 word_text faults.Revision = codes "revision"
 word_text (faults.Fields line) = codes "fields " ++ decimal line

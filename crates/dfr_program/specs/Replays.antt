@@ -19,7 +19,7 @@ pub record WritesFirst (kind : Kind) (o : Opening) (commands : List CommandParts
   pub list : done ++ left ≡ commands
   pub written : Appends old new (transcript kind o [] done)
 
--- all answers are written; where memory was refused, those to the first commands; where a write failed, a front of them all
+-- all answers are written; where an allocation failed, those to the first commands; where a write failed, a front of them all
 abbrev pub Written : {U : Type 0} → Result U RunFault → Kind → Opening → List CommandParts → Option (List ℕ) → Option (List ℕ) → Type 0
 Written (Ok u) kind o commands old new = Appends old new (transcript kind o [] commands)
 Written (Err run.Memory) kind o commands old new = WritesFirst kind o commands old new

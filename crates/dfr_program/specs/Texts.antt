@@ -32,14 +32,14 @@ closed_text None = []
 unfoldable pub scanned_text : Scanned → List ℕ
 scanned_text s = codes "scan " ++ decimal s.number ++ fired_text s.trigger ++ closed_text s.closed ++ codes "\n"
 
--- want of memory isn't printed
+-- out of memory isn't printed
 unfoldable pub scan_refusal_text : ScanRefusal → List ℕ
 scan_refusal_text scan_refused.Shape = codes "scan refused shape\n"
 scan_refusal_text (scan_refused.Range i) = codes "scan refused range " ++ decimal i ++ codes "\n"
 scan_refusal_text scan_refused.ClockEnd = codes "scan refused clock-end\n"
 scan_refusal_text scan_refused.Memory = []
 
--- a lost scan fires no rule, so no hit is printed; nor is want of memory
+-- a lost scan fires no rule, so no hit is printed; nor is out of memory
 unfoldable pub lost_text : Result Scanned LostRefusal → List ℕ
 lost_text (Ok s) = codes "lost " ++ decimal s.number ++ closed_text s.closed ++ codes "\n"
 lost_text (Err lost_refused.ClockEnd) = codes "lost refused clock-end\n"

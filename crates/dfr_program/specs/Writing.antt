@@ -20,7 +20,7 @@ pub record Cut (old new : Option (List ℕ)) (text : List ℕ) : Type 0 where
   pub rest : List ℕ
   pub wrote : Wrote old new rest text
 
--- a text is printed behind `before`, which was buffered: what isn't written is buffered then. Where memory was refused nothing
+-- a text is printed after `before`, which was buffered: what isn't written is buffered then. Where an allocation failed nothing
 -- changed; where a write failed, the front of it all was written, and nothing is buffered
 abbrev pub Printed : {U : Type 0} → Result U RunFault → Option (List ℕ) → List ℕ → Option (List ℕ) → List ℕ → List ℕ → Type 0
 Printed (Ok u) old before new buffered text = Wrote old new buffered (before ++ text)

@@ -79,7 +79,7 @@ fn answer_trigger<A: Allocator + Copy>(
     put_trigger(line, recorder.trigger())
 }
 
-/// Makes the step of a command, and prints its answer: all of it or, where memory was refused,
+/// Makes the step of a command, and prints its answer: all of it or, where an allocation failed,
 /// nothing. `line` is empty.
 fn answer<A: Allocator + Copy, W: Write>(
     alloc: A,
@@ -137,7 +137,7 @@ fn answer_one<A: Allocator + Copy, W: Write>(
     flush_if_full(w, out)
 }
 
-/// Answers the commands in order. Where memory was refused the answers before are printed; where
+/// Answers the commands in order. Where an allocation failed the answers before are printed; where
 /// the writer failed nothing is left to be written.
 pub(crate) fn answer_all<A: Allocator + Copy, W: Write>(
     alloc: A,

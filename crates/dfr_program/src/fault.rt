@@ -16,7 +16,7 @@ pub enum RunFault {
     /// A write failed.
     #[error("dfr: output")]
     Output,
-    /// A growth was refused.
+    /// An allocation failed.
     #[error("dfr: memory")]
     Memory,
 }

@@ -45,7 +45,7 @@ pub(crate) fn read_up_to<A: Allocator, R: Read>(
 }
 
 /// All that the reader has, where it is at most 16,777,216 bytes; more is `Input`, and so is a read
-/// that failed, for whatever cause: none is tried again. `Memory` is a growth that was refused
+/// that failed, for whatever cause: none is tried again. `Memory`: an allocation failed
 /// here.
 pub fn read_all<A: Allocator, R: Read>(alloc: A, r: &mut R) -> Result<Vec<u8, A>, RunFault>
     ensures bytes { IfOk result (λ v. IfSome (R.remaining r.old) (λ bytes. v.items ≡ bytes)) }

@@ -154,8 +154,8 @@ fn print_read_fault<A: Allocator, W: Write>(
 }
 
 /// Reads a configuration file and its data file: true where they were read and what is in them was
-/// printed, false where the line of a fault was. `Output` is a write that failed, `Memory` a growth
-/// that was refused; it is never `Input`.
+/// printed, false where the line of a fault was. `Output`: a write failed. `Memory`: an
+/// allocation failed. It is never `Input`.
 pub fn read_over<A: Allocator + Copy, W: Write>(
     alloc: A,
     cfg: &[u8],

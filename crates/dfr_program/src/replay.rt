@@ -24,7 +24,7 @@ use comtrade_write::Kind;
 use std::alloc::Allocator;
 use std::io::{Read, Write};
 
-/// Answers the commands, and writes all that was answered, also where memory was refused in
+/// Answers the commands, and writes all that was answered, also where an allocation failed in
 /// between. After a write that failed nothing is left, so nothing more is written.
 fn run_commands<A: Allocator + Copy, W: Write>(
     alloc: A,

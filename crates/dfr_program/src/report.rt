@@ -116,7 +116,7 @@ pub(crate) fn put_report<A: Allocator>(
     )
 }
 
-/// The word of a run's fault; None where memory was refused.
+/// The word of a run's fault; None where an allocation failed.
 pub(crate) fn run_word(fault: LiveFault) -> Option<&'static str>
     ensures { option_map (λ word. word.now) result ≡ spec.run_word fault }
 {

@@ -1,4 +1,4 @@
-//! Printed text, gathered before it is written.
+//! Printed text, buffered before it is written.
 
 ghost use Rattle.std.specs.Prelude.{◌≡◌, ◌++◌, OnOk, decimal};
 ghost use Rattle.std.specs.Fmt.{signed_decimal};
@@ -31,7 +31,7 @@ pub(crate) fn put_signed<A: Allocator>(out: &mut Vec<u8, A>, n: i64) -> Result<(
     out.extend_from_slice(Buffer::new().format(n).as_bytes())
 }
 
-/// The text, and a number behind it.
+/// The text, and a number after it.
 pub(crate) fn put_with<A: Allocator>(
     out: &mut Vec<u8, A>,
     text: &str,
@@ -43,7 +43,7 @@ pub(crate) fn put_with<A: Allocator>(
     put_number(out, n)
 }
 
-/// The one text, and the other behind it.
+/// One text, and the other after it.
 pub(crate) fn put_both<A: Allocator>(
     out: &mut Vec<u8, A>,
     front: &str,

@@ -23,7 +23,7 @@ use Rattle.dfr_recorder.proofs.Next.{next_scan, next_lost, next_trigger, told_of
 use Rattle.dfr_recorder.proofs.Slices.{newest_get}
 use Rattle.dfr_recorder.proofs.Told.{IsMade}
 
--- the front of a queue, and what is behind it
+-- the front of a queue, and what is after it
 front_is : {X : Type 0} (r : Option X) (xs ys : List X) → xs ≡ option_to_list r ++ ys → ys ≡ drop 1 xs → slice_get xs 0 ≡ r
 front_is None [] ys e f = refl
 front_is None (x ∷ xs) ys e f = absurd (omega (arith, ap length e, ap length f))

@@ -89,7 +89,7 @@ pub record IsMarked (limits : Limits) (scans : List ScanParts) (o : Option Exten
   pub going : IfSome extent (IsGoing limits (length scans))
   pub placed : option_map (record_of scans) extent ≡ placed_if extent (length scans) (latest (limits.pre + 1) scans) (option_map (record_of scans) o)
 
--- a trigger at place k with none open is after the newest record, where limits want that
+-- a trigger at place k with none open is after the newest record, where limits require that
 abbrev pub IsFree : Limits → ℕ → Option Extent → ℕ → Type 0
 IsFree limits k o end = IfNone o (limits.unshared ≡ true → end ≤ k)
 

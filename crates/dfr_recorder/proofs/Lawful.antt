@@ -35,7 +35,7 @@ no_scans = []
 abbrev pub none_opened : Newest
 none_opened = record { number = 0; end = 0 }
 
--- a recorder without a past
+-- a new recorder
 pub kept_new : (layout : SetupParts) (limits : Limits) (rules : List Rule) → kept (opening layout limits rules) [] ≡ kept_by layout limits rules 0 [] none_opened None []
 kept_new layout limits rules =
     let none : latest (limits.pre + 1) no_scans ≡ [] = drop_all (0 - (limits.pre + 1)) no_scans (omega arith) in
@@ -63,7 +63,7 @@ front-closed layout limits (x ∷ xs) r h e = let same : x ≡ r = cc in subst (
 some-of : (a b : Option RecordParts) → answers.Take a ≡ answers.Take b → a ≡ b
 some-of a b e = cc
 
--- every record that is handed out has all its scans, is not too long, and is its layout's own
+-- every record that is handed out has all its scans, is not too long, and matches its layout
 pub closed_law : (o : Opening) (h : List StepParts) (r : RecordParts) → IsTrue (has_stamps o.layout.rate o.limits.longest) → reply o h step.Take ≡ answers.Take (Some r) → IsClosed o.layout o.limits r
 closed_law o h r fit e =
     front-closed o.layout o.limits (kept o h).shelf r (sound_kept o h fit).shelf (some-of (slice_get (kept o h).shelf 0) (Some r) (sym (told-law o h step.Take) ∙ e))

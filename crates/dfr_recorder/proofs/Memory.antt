@@ -1,4 +1,4 @@
--- Where memory is wanted, a record is open or opens.
+-- Where memory is needed, a record is open or opens.
 use Rattle.std.proofs.Common.{ℕ, suc, ◌≡◌, ◌+◌, sym, ap, subst, ◌∙◌, refl, Bool, true, false, cond, eqb, ltb, ◌∷◌, length, Option, Some, None, arith}
 use Rattle.std.specs.Prelude.{◌-◌, ◌||◌, IsTrue, is_some, slice_get}
 use Rattle.std.proofs.lemmas.Bool.{lt-ltb, and_from}

@@ -1,4 +1,4 @@
--- Why a record is its layout's own.
+-- Why a record matches its layout.
 use Rattle.std.proofs.Common.{ℕ, zero, suc, ◌≡◌, ◌-◌, ◌*◌, ◌/◌, ◌≤◌, refl, Bool, true, false, All, List, [], ◌∷◌, length, Option, Some, None, arith}
 use Rattle.std.specs.Prelude.{◌+◌, IsTrue, IfSome, option_map, is_none, replicate, eqb}
 use Rattle.std.specs.List.{list_all}

@@ -119,7 +119,7 @@ first_answers = idle 0 ∷ idle 1 ∷ idle 2 ∷ idle 3 ∷ opened_by_hand 1 ∷
 abbrev first_record : AnswerParts
 first_record = taken 1 1 3 5 cause.Manual (11 ∷ 12 ∷ 13 ∷ 14 ∷ 15 ∷ [])
 
--- a trigger by hand, with the scans before and after it
+-- a manual trigger, with the scans before and after it
 pub one_record : replies first_opening [] (first_steps ++ step.Take ∷ []) ≡ first_answers ++ first_record ∷ []
 unfolding scan_fault lowest_holding holds
 one_record = refl
@@ -172,7 +172,7 @@ pub shared_scans : replies (opening one_channel limits_2_2_6_2 no_rules) [] (fir
 unfolding scan_fault lowest_holding holds
 shared_scans = refl
 
--- a full shelf refuses a trigger by hand, until a record is taken
+-- a full shelf refuses a manual trigger, until a record is taken
 pub taken_first : replies first_opening [] (first_steps ++ step.Trigger ∷ step.Take ∷ step.Trigger ∷ [])
     ≡ first_answers ++ answer.Trigger (Err fault.ShelfFull) ∷ first_record ∷ opened_by_hand 2 ∷ []
 unfolding scan_fault lowest_holding holds

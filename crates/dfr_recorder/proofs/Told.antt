@@ -1,4 +1,4 @@
--- The answers: what is told from what is kept is what the history has answered.
+-- The answers: what is answered from what is kept is what the history has answered.
 use Rattle.std.proofs.Common.{ℕ, zero, suc, ◌≡◌, refl, sym, ap, ◌∙◌, cond, List, [], ◌∷◌, drop, Option, Some, None, Ok, Err}
 use Rattle.std.specs.Prelude.{slice_get}
 use Rattle.dfr_channels.specs.Parts.{SetupParts, ScanParts}

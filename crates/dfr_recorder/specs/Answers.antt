@@ -26,7 +26,7 @@ answer_of (answer.Trigger result) = Trigger result
 answer_of (answer.Take taken) = Take taken
 answer_of (answer.SetRules done) = SetRules done
 
--- whether an answer says that memory was wanted
+-- whether an answer says that an allocation failed
 abbrev pub is_memory : AnswerParts → Bool
 is_memory (Scan (Err scan_refused.Memory)) = true
 is_memory (Scan (Err scan_refused.Shape)) = false

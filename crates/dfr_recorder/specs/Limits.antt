@@ -1,4 +1,4 @@
--- Which limits are lawful.
+-- Which limits are valid.
 use Rattle.std.specs.Prelude.{ℕ, ◌+◌, ◌-◌, Bool, ◌&&◌, nat_le, Option}
 use Rattle.dfr_channels.specs.Faults.{◌or◌, fault_unless}
 use Rattle.dfr_channels.specs.Scans.{micros}

@@ -1,4 +1,4 @@
--- Where a step may want memory.
+-- Where a step may need memory.
 use Rattle.std.specs.Prelude.{◌≡◌, Bool, ◌&&◌, ◌||◌, nat_lt, List, ◌∷◌, length, IsTrue}
 use Rattle.dfr_channels.specs.Parts.{ScanParts}
 use Rattle.dfr_recorder.specs.Steps.{StepParts}
@@ -27,7 +27,7 @@ AddsLost old = (o : Opening) (h : List StepParts) → kept o h ≡ old → IsTru
 abbrev pub OpensRecord : Kept → Type 0
 OpensRecord old = (o : Opening) (h : List StepParts) → kept o h ≡ old → IsTrue (opens o h step.Trigger)
 
--- where a step may want memory: a scan that grows a record, a lost scan that is added and a trigger that opens a record; a take and
+-- where a step may need memory: a scan that grows a record, a lost scan that is added and a trigger that opens a record; a take and
 -- rules never do
 abbrev pub WantsMemory : Kept → StepParts → Type 0
 WantsMemory old (step.Scan scan) = GrowsRecord old scan

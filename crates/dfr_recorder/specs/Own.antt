@@ -1,4 +1,4 @@
--- Which records are a layout's own.
+-- Which records match a layout.
 use Rattle.std.specs.Prelude.{ℕ, Bool, ◌&&◌, length, is_some, is_none}
 use Rattle.std.specs.List.{list_all}
 use Rattle.dfr_channels.specs.Parts.{SetupParts, ScanParts}

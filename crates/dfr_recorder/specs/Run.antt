@@ -22,7 +22,7 @@ replies o h (s ∷ ss) = reply o h s ∷ replies o (s ∷ h) ss
 abbrev pub IsRun : Kept → List StepParts → List AnswerParts → Kept → Type 0
 IsRun old steps answers new = (o : Opening) (h : List StepParts) → kept o h ≡ old → (replies o h steps ≡ answers) × (kept o (followed_by h steps) ≡ new)
 
--- an answer that takes a record has one that is the layout's own
+-- an answer that takes a record has one that matches the layout
 abbrev pub IsOwnAnswer : SetupParts → AnswerParts → Type 0
 IsOwnAnswer layout (answer.Take taken) = IfSome taken (λ r. IsTrue (is_own layout r))
 IsOwnAnswer layout (answer.Scan result) = Unit {0}

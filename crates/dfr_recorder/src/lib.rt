@@ -1,4 +1,4 @@
-//! A recorder with pre-trigger memory: the scans round each trigger, within limits of length and of records that wait.
+//! A recorder with pre-trigger memory: the scans around each trigger, within limits of length and of records that wait.
 #![tactic(auto)]
 
 mod laws;

@@ -64,7 +64,7 @@ impl Limits {
         (longest as u64 - 1) * 1_000_000 / rate as u64 <= LAST_STAMP
     }
 
-    /// Limits for records of this layout, which may share scans, or the first test that fails. Takes no memory.
+    /// Limits for records of this layout, which may share scans, or the first test that fails. Doesn't allocate.
     pub fn new<A: Allocator>(
         layout: &Layout<A>,
         pre: u32,

@@ -126,7 +126,7 @@ pub(crate) fn is_covered(limits: Limits, k: u64, met: Met) -> bool
     limits.is_unshared() && met.extent.is_none() && k < met.newest.end
 }
 
-/// A full shelf refuses a trigger by hand.
+/// A full shelf refuses a manual trigger.
 pub(crate) fn refused_when_full(hit: Hit) -> Result<Hit, TriggerFault>
     ensures { result ≡ refused_when_full hit }
 {

@@ -87,7 +87,7 @@ pub(crate) fn place<A: Allocator + Copy>(
     }
 }
 
-/// The same, and adds a copy of the scan at place `n`. Without a record it takes no memory.
+/// The same, and adds a copy of the scan at place `n`. Without a record it doesn't allocate.
 pub(crate) fn grow<A: Allocator + Copy>(
     recording: &mut Option<Recording<A>>,
     extent: Option<Extent>,

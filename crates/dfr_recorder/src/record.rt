@@ -1,10 +1,10 @@
-//! A record of the scans round a trigger.
+//! A record of the scans around a trigger.
 
 use dfr_channels::{Items, Scan};
 use std::alloc::{Allocator, Global};
 use std::marker::Model;
 
-/// What opened a record: a trigger by hand, or the rule of this number, from 0.
+/// What opened a record: a manual trigger, or the rule of this number, from 0.
 #[derive(Clone, Copy, Debug, PartialEq, Eq)]
 pub enum Cause {
     Manual,
@@ -54,7 +54,7 @@ impl<A: Allocator> Record<A> {
         }
     }
 
-    /// Its contract also tells what any record has: its trigger lies in it, and it has every scan from its first to its last.
+    /// Which scans it has. Any record has its trigger among them, and every scan from its first to its last.
     pub fn extent(&self) -> Extent
         ensures value { result ≡ self.now.extent }
         ensures whole { IsWhole self.now }

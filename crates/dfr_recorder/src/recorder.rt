@@ -109,7 +109,7 @@ impl<A: Allocator> Recorder<A> {
     }
 
     /// Takes the oldest closed record off the shelf; None where none waits. Its scans pass the layout's check, the last has an
-    /// instant and its row's time stamp can be written. Takes no memory.
+    /// instant and its row's time stamp can be written. Doesn't allocate.
     pub fn take(&mut self) -> Option<Record<A>>
         ensures step { IsStep self.old step.Take (answer.Take result) self.new }
         ensures opening { (self.new.layout ≡ self.old.layout) × (self.new.limits ≡ self.old.limits) }
@@ -119,7 +119,7 @@ impl<A: Allocator> Recorder<A> {
     }
 
     /// Sets the rules that hold from the next scan on. Rules that don't fit the layout are handed back, and change nothing.
-    /// Takes no memory.
+    /// Doesn't allocate.
     pub fn set_rules(&mut self, rules: Rules<A>) -> Result<(), Rules<A>>
         ensures ok { OnOk result (IsStep self.old (step.SetRules rules) (answer.SetRules true) self.new) }
         ensures opening { (self.new.layout ≡ self.old.layout) × (self.new.limits ≡ self.old.limits) }
@@ -147,8 +147,8 @@ impl<A: Allocator + Copy> Recorder<A> {
     ghost use Rattle.dfr_recorder.specs.Memory.{GrowsRecord, AddsLost, OpensRecord};
     ghost use Rattle.dfr_recorder.specs.Recording.{fired_mark, IsAccepted};
 
-    /// A recorder without a past. The limits and the rules have to fit the layout. The room of ring and shelf is made here; where
-    /// memory is wanted for it, layout and rules are handed back.
+    /// A new recorder. The limits and the rules have to fit the layout. The room of ring and shelf is made here; where
+    /// that fails, layout and rules are handed back.
     pub fn new(
         alloc: A,
         layout: Layout<A>,
@@ -178,8 +178,8 @@ impl<A: Allocator + Copy> Recorder<A> {
         })
     }
 
-    /// Makes a scan's step. A refused scan is handed back and changes nothing. Memory is wanted only for an open record, or to
-    /// open one.
+    /// Processes a scan. A refused scan is handed back and changes nothing. Memory is needed only for an open record, or to open
+    /// one.
     pub fn scan(&mut self, scan: Scan<A>) -> Result<Scanned, (ScanRefusal, Scan<A>)>
         ensures ok { IfOk result (λ scanned. IsStep self.old (step.Scan scan) (answer.Scan (Ok scanned)) self.new) }
         ensures refused { IfErr result (λ refused. refused.0 ≢ ScanRefusal.Memory → IsStep self.old (step.Scan scan) (answer.Scan (Err refused.0)) self.new) }

@@ -12,7 +12,7 @@ use crate::{Answer, LostRefusal, Recorder, ScanRefusal, Step, TriggerFault};
 use std::alloc::{Allocator, Global};
 use std::collections::VecDeque;
 
-/// What a run left: the recorder, an answer to each step that was made, the step at which want of memory stopped it, which
+/// What a run left: the recorder, an answer to each step that was made, the step at which it ran out of memory, which
 /// wasn't made, and the steps after that one.
 #[derive(Drop)]
 pub struct Ran<A: Allocator = Global> {
@@ -22,7 +22,7 @@ pub struct Ran<A: Allocator = Global> {
     pub rest: VecDeque<Step<A>, A>,
 }
 
-/// Makes one step, or hands it back for want of memory.
+/// Makes one step, or hands it back when out of memory.
 fn make<A: Allocator + Copy>(
     recorder: &mut Recorder<A>,
     step: Step<A>,
@@ -64,9 +64,9 @@ fn make<A: Allocator + Copy>(
     }
 }
 
-/// Makes the steps in order, after room was made for all their answers. Where a growth is refused it stops before that step: where
-/// it is the answers' room, before the first; later only at a step that wants memory, which a take and rules never do. The
-/// recorder keeps its layout and its limits, and each record that a step takes is the layout's own.
+/// Makes the steps in order, after room was made for all their answers. Where an allocation fails it stops before that step:
+/// where it is the answers' room, before the first; later only at a step that needs memory, which a take and rules never do.
+/// The recorder keeps its layout and its limits, and each record that a step takes matches the layout.
 pub fn run<A: Allocator + Copy>(
     alloc: A,
     recorder: Recorder<A>,

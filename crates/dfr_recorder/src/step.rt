@@ -33,9 +33,9 @@ pub enum ScanRefusal {
     Shape,
     /// The lowest channel, from 0, whose value is out of its range.
     Range(u32),
-    /// Its instant would be past the year 9999.
+    /// Its instant would be after the year 9999.
     ClockEnd,
-    /// A growth was refused.
+    /// An allocation failed.
     Memory,
 }
 
@@ -57,7 +57,7 @@ pub enum TriggerFault {
     /// No record is open, and as many wait on the shelf as may.
     #[error("the shelf is full of records")]
     ShelfFull,
-    /// A growth was refused.
+    /// An allocation failed.
     #[error("out of memory")]
     Memory,
     /// Under unshared limits: no record is open, and the newest one has the last scan already.

@@ -1,4 +1,4 @@
--- What lines say one behind the other, as a loop finds it, up to the first fault.
+-- What lines say one after the other, as a loop finds it, up to the first fault.
 use Rattle.std.proofs.Common.{◌≡◌, ℕ, zero, suc, ◌+◌, ◌<◌, List, length, drop, refl, sym, ◌∙◌, arith, inl, inr, [], ◌∷◌}
 use Rattle.std.specs.Prelude.{Bool, false, Result, Ok, Err}
 use Rattle.std.specs.List.{position_or_len}

@@ -1,4 +1,4 @@
--- The commands that stand behind `go`.
+-- The commands that stand after `go`.
 use Rattle.std.specs.Prelude.{ℕ, ◌==◌, if◌then◌else◌, List, ◌++◌, length, Option, Some, None, option_to_list, Result, Ok, Err, codes}
 use Rattle.std.specs.Str.{bytes_eq}
 use Rattle.dfr_script.specs.declared.fault.Word.{Word}
@@ -31,7 +31,7 @@ verb w =
     else if bytes_eq w (codes "rules") then Some verbs.Rules
     else None
 
--- nothing stands behind the word
+-- nothing stands after the word
 abbrev pub bare : {X : Type 0} → X → List ℕ → Result X Word
 bare x rest = if length rest == 0 then Ok x else Err fault.Word
 
@@ -43,7 +43,7 @@ verb_says n (Some verbs.Trigger) rest = bare Trigger rest
 verb_says n (Some verbs.Take) rest = bare Take rest
 verb_says n (Some verbs.Rules) rest = and_then (rules rest) (λ list. Ok (Rules n list))
 
--- the command of line n behind `go`, where it isn't passed over
+-- the command of line n after `go`, where it isn't skipped
 unfoldable pub command_line : ℕ → List ℕ → Result (Option CommandParts) Word
 command_line n line =
     if is_silent line then Ok None

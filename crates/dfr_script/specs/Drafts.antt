@@ -1,4 +1,4 @@
--- What the lines of a set-up say, one behind the other.
+-- What the lines of a set-up say, one after the other.
 use Rattle.std.specs.Prelude.{ℕ, Bool, false, if◌then◌else◌, List, [], ◌∷◌, ◌++◌, Option, Some, None, is_some, unwrap_or, Result, Ok, Err}
 use Rattle.dfr_channels.specs.LineFields.{need}
 use Rattle.dfr_channels.specs.Spelling.{decimal_number}

@@ -5,11 +5,11 @@ use Rattle.dfr_script.specs.declared.fault.Word.TheVariants as word
 use Rattle.dfr_script.specs.declared.fault.LineRefusal.{LineRefusal}
 use Rattle.dfr_script.specs.declared.fault.LineRefusal.TheVariants.{Fault, Memory}
 
--- a refusal that names a fault names the one that was said; another is want of memory
+-- a refusal that names a fault names the one that was said; another is out of memory
 abbrev pub Refuses : {Y : Type 0} → Result Y Word → LineRefusal → Type 0
 Refuses said e = (w : Word) → e ≡ Fault w → said ≡ Err w
 
--- what was said, seen by view: the value, the fault, or want of memory
+-- what was said, seen by view: the value, the fault, or out of memory
 abbrev pub Is : {X Y : Type 0} → (X → Y) → Result Y Word → Result X LineRefusal → Type 0
 Is view said (Ok x) = said ≡ Ok (view x)
 Is view said (Err e) = Refuses said e

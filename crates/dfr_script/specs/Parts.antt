@@ -17,7 +17,7 @@ pub record DraftParts : Type 0 where
   pub limits : Option LimitNumbers
   pub rules : Option (List Rule)
 
--- what a line behind `go` asks for; rules with the number of their line
+-- what a line after `go` asks for; rules with the number of their line
 pub data CommandParts : Type 0 where
   Scan : ScanParts → CommandParts
   Lost : CommandParts

@@ -60,7 +60,7 @@ all_shaped ps = list_all (λ p. has_shape (words p)) ps
 abbrev pub rule_list : List (List ℕ) → Result (List Rule) Word
 rule_list ps = all_said (λ p. rule (words p)) ps
 
--- the rest of a line `rules`: nothing, or rules parted by `;`, every count of words tested before any word is read
+-- the rest of a line `rules`: nothing, or rules separated by `;`, every count of words tested before any word is read
 unfoldable pub rules : List ℕ → Result (List Rule) Word
 rules rest =
     if length rest == 0 then Ok []

@@ -13,8 +13,8 @@ use Rattle.dfr_channels.specs.Fields.{bit}
 use Rattle.dfr_script.specs.Faults.{and_then}
 use Rattle.dfr_script.specs.Fields.{small, all_said}
 
-abbrev pub is_stroke : ℕ → Bool
-is_stroke b = b == 47
+abbrev pub is_slash : ℕ → Bool
+is_slash b = b == 47
 
 abbrev pub is_comma : ℕ → Bool
 is_comma b = b == 44
@@ -23,14 +23,14 @@ is_comma b = b == 44
 unfoldable pub fields : List ℕ → List (List ℕ)
 fields text = lines.fields text
 
--- the fields behind a comma, where there is one
+-- the fields after a comma, where there is one
 abbrev pub fields_behind : Option (List ℕ) → List (List ℕ)
 fields_behind None = []
 fields_behind (Some text) = fields text
 
--- one stroke, and none behind it
-abbrev pub has_one_stroke : List ℕ → Bool
-has_one_stroke rest = is_some (position is_stroke rest) && not (is_some (position is_stroke (after_first is_stroke rest)))
+-- one slash, and none after it
+abbrev pub has_one_slash : List ℕ → Bool
+has_one_slash rest = is_some (position is_slash rest) && not (is_some (position is_slash (after_first is_slash rest)))
 
 -- a whole number, or a star for a missing one
 unfoldable pub reading : List ℕ → Option Reading
@@ -44,10 +44,10 @@ part_fields part = if length (trimmed part) == 0 then [] else fields part
 abbrev pub part : {X : Type 0} → (List ℕ → Option X) → List ℕ → Result (List X) Word
 part read text = all_said read (part_fields text)
 
--- the rest of a line `scan`: readings, a stroke, bits
+-- the rest of a line `scan`: readings, a slash, bits
 unfoldable pub scan : List ℕ → Result ScanParts Word
 scan rest =
-    if has_one_stroke rest
-    then and_then (part reading (before_first is_stroke rest)) (λ readings.
-    and_then (part bit (after_first is_stroke rest)) (λ bits. Ok (record { analog = readings; status = bits })))
+    if has_one_slash rest
+    then and_then (part reading (before_first is_slash rest)) (λ readings.
+    and_then (part bit (after_first is_slash rest)) (λ bits. Ok (record { analog = readings; status = bits })))
     else Err fault.Fields

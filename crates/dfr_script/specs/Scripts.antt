@@ -17,7 +17,7 @@ use Rattle.dfr_script.specs.Drafts.{empty, with_line, whole}
 use Rattle.dfr_script.specs.Commands.{with_command}
 use Rattle.dfr_script.specs.Parts.{DraftParts, CommandParts, ScriptParts}
 
--- the refusal is want of memory, or names this fault
+-- the refusal is out of memory, or names this fault
 abbrev pub Tells : Option ScriptFault → ScriptRefusal → Type 0
 Tells fault (Fault f) = fault ≡ Some f
 Tells fault Memory = Unit {0}
@@ -36,11 +36,11 @@ abbrev pub refused_at : ℕ → LineRefusal → ScriptRefusal
 refused_at i (line_refusal.Fault w) = Fault (fault_at i w)
 refused_at i line_refusal.Memory = Memory
 
--- a refusal that names a fault names the one that was said; another is want of memory
+-- a refusal that names a fault names the one that was said; another is out of memory
 abbrev pub Refuses : {Y : Type 0} → Result Y ScriptFault → ScriptRefusal → Type 0
 Refuses said e = (f : ScriptFault) → e ≡ Fault f → said ≡ Err f
 
--- what was said, seen by view: the value, the fault, or want of memory
+-- what was said, seen by view: the value, the fault, or out of memory
 abbrev pub Is : {X Y : Type 0} → (X → Y) → Result Y ScriptFault → Result X ScriptRefusal → Type 0
 Is view said (Ok x) = said ≡ Ok (view x)
 Is view said (Err e) = Refuses said e
@@ -66,7 +66,7 @@ commands from ls (suc n) =
 unfoldable pub go : DraftParts → List ℕ → Result ScriptParts Word
 go d line = if length (words.rest line) == 0 then whole d else Err word.Word
 
--- the lines from `go` on, which stands at this place: `go`, and those behind it; a missing `go` is missed behind the last line
+-- the lines from `go` on, which stands at this place: `go`, and those after it; a missing `go` is missed after the last line
 abbrev pub from_go : ℕ → DraftParts → List (List ℕ) → Result ScriptParts ScriptFault
 from_go at d [] = Err (fault_at at word.Setup)
 from_go at d (line ∷ behind) =

@@ -1,4 +1,4 @@
-//! The commands that stand behind `go`.
+//! The commands that stand after `go`.
 
 ghost use Rattle.std.specs.Prelude.{◌≡◌, Some, option_map};
 ghost use Rattle.dfr_script.specs.Faults.{Is};
@@ -11,7 +11,7 @@ use crate::scan_line::{Size, scan_of};
 use dfr_channels::{Rule, Scan};
 use std::alloc::{Allocator, Global};
 
-/// What a line behind `go` asks for.
+/// What a line after `go` asks for.
 #[derive(Drop, Debug)]
 pub enum Command<A: Allocator = Global> {
     Scan(Scan<A>),
@@ -98,7 +98,7 @@ fn command_in<A: Allocator + Copy>(
     }
 }
 
-/// The command of line number `line`; None where it is passed over.
+/// The command of line number `line`; None where it is skipped.
 #[tactic(auto, unfolding(crate::specs::Commands::command_line))]
 pub(crate) fn command_of<A: Allocator + Copy>(
     alloc: A,

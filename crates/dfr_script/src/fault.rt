@@ -8,9 +8,9 @@ use std::alloc::{AllocError, AllocFailed};
 /// What is wrong with a line, in the order of the tests.
 #[derive(Clone, Copy, Debug, PartialEq, Eq)]
 pub enum Word {
-    /// An unknown or misplaced word, a second line where one is lawful, or a rest where none may stand.
+    /// An unknown or misplaced word, a second line where one is allowed, or a rest where none may stand.
     Word,
-    /// A wrong number of fields, of words of a rule, or of strokes of a scan.
+    /// A wrong number of fields, of words of a rule, or of slashes of a scan.
     Fields,
     /// A field or a word of a rule that can't be read, or a number that doesn't fit its type.
     Number,
@@ -30,7 +30,7 @@ pub struct ScriptFault {
 pub enum ScriptRefusal {
     /// The script's first fault.
     Fault(ScriptFault),
-    /// A growth was refused.
+    /// An allocation failed.
     Memory,
 }
 

@@ -1,4 +1,4 @@
-//! The word of a line, and what stands behind it.
+//! The word of a line, and what stands after it.
 
 ghost use Rattle.std.specs.Prelude.{◌≡◌, position};
 ghost use Rattle.std.specs.Str.{bytes_eq};
@@ -26,7 +26,7 @@ pub(crate) fn is_word(word: &[u8], text: &str) -> bool
     word == text.as_bytes()
 }
 
-/// What stands before the first blank, and what stands behind it without the blanks around it.
+/// What stands before the first blank, and what stands after it without the blanks around it.
 #[tactic(auto, using(dfr_channels::proofs::Cuts::cuts), unfolding(crate::specs::Words::word, crate::specs::Words::rest))]
 pub(crate) fn cut(line: &[u8]) -> (&[u8], &[u8])
     ensures word { result.0.now ≡ spec.word line.now }
@@ -38,7 +38,7 @@ pub(crate) fn cut(line: &[u8]) -> (&[u8], &[u8])
     }
 }
 
-/// Whether the line is blank or a comment, which is passed over.
+/// Whether the line is blank or a comment, which is skipped.
 #[tactic(auto, unfolding(crate::specs::Words::is_silent))]
 pub(crate) fn is_silent(line: &[u8]) -> bool
     ensures { result ≡ spec.is_silent line.now }

@@ -5,7 +5,7 @@ ghost use Rattle.dfr_script.specs.Plain.{Begins};
 
 use dfr_channels::plain_number;
 
-/// The reading that a text begins with, and what stands behind its comma if it has one, where the field is a minus or nothing
+/// The reading that a text begins with, and what stands after its comma if it has one, where the field is a minus or nothing
 /// and one to ten digits. None says no more than that the field is spelled otherwise or doesn't fit.
 pub(crate) fn plain_field(text: &[u8]) -> Option<(i32, Option<&[u8]>)>
     ensures first { IfSome result (λ r. Begins text.now r.0 (option_copied r.1)) }

@@ -141,7 +141,7 @@ fn list_of<A: Allocator + Copy>(alloc: A, parts: &[&[u8]]) -> Result<Vec<Rule, A
     Ok(list)
 }
 
-/// The rules that the rest of a line says, parted by `;`.
+/// The rules that the rest of a line says, separated by `;`.
 #[tactic(auto, unfolding(crate::specs::RuleLines::rules))]
 pub(crate) fn rules_of<A: Allocator + Copy>(
     alloc: A,

@@ -23,8 +23,8 @@ pub(crate) struct Size {
     pub(crate) status: usize,
 }
 
-fn place_of_stroke(rest: &[u8]) -> Option<usize>
-    ensures { result ≡ position spec.is_stroke rest.now }
+fn place_of_slash(rest: &[u8]) -> Option<usize>
+    ensures { result ≡ position spec.is_slash rest.now }
 {
     memchr(b'/', rest)
 }
@@ -35,7 +35,7 @@ fn place_of_comma(text: &[u8]) -> Option<usize>
     text.iter().position(|b| *b == b',')
 }
 
-/// The first field of a text, and what stands behind its comma if it has one.
+/// The first field of a text, and what stands after its comma if it has one.
 #[tactic(auto, using(crate::proofs::CutFields::comma_fields))]
 fn at_comma(text: &[u8]) -> (&[u8], Option<&[u8]>)
     ensures fields { spec.fields text.now ≡ result.0.now ∷ spec.fields_behind (option_copied result.1) }
@@ -61,7 +61,7 @@ fn reading_of(text: &[u8]) -> Option<Reading>
     }
 }
 
-/// The reading that a text begins with, and what stands behind its comma if it has one.
+/// The reading that a text begins with, and what stands after its comma if it has one.
 fn next_reading(text: &[u8]) -> (Option<Reading>, Option<&[u8]>)
     ensures all { reads_all spec.reading (spec.fields text.now)
         ≡ (is_some result.0 && reads_all spec.reading (spec.fields_behind (option_copied result.1))) }
@@ -101,7 +101,7 @@ fn readings_of<A: Allocator>(
     Ok(list)
 }
 
-/// The bit that a text begins with, and what stands behind its comma if it has one.
+/// The bit that a text begins with, and what stands after its comma if it has one.
 fn next_bit(text: &[u8]) -> (Option<bool>, Option<&[u8]>)
     ensures all { reads_all bit (spec.fields text.now)
         ≡ (is_some result.0 && reads_all bit (spec.fields_behind (option_copied result.1))) }
@@ -138,7 +138,7 @@ fn bits_of<A: Allocator + Copy>(
     Ok(list)
 }
 
-/// The scan that the rest of a line says: readings, one stroke, bits.
+/// The scan that the rest of a line says: readings, one slash, bits.
 #[tactic(auto, unfolding(crate::specs::ScanLines::scan))]
 pub(crate) fn scan_of<A: Allocator + Copy>(
     alloc: A,
@@ -147,12 +147,12 @@ pub(crate) fn scan_of<A: Allocator + Copy>(
 ) -> Result<Scan<A>, LineRefusal>
     ensures { Is (λ x. x) (spec.scan rest.now) result }
 {
-    let Some(at) = place_of_stroke(rest) else {
+    let Some(at) = place_of_slash(rest) else {
         return Err(LineRefusal::Fault(Word::Fields));
     };
     let front = &rest[..at];
     let back = &rest[at + 1..];
-    if place_of_stroke(back).is_some() {
+    if place_of_slash(back).is_some() {
         return Err(LineRefusal::Fault(Word::Fields));
     }
     let readings = readings_of(alloc, front, size.analog)?;

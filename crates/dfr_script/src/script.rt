@@ -146,7 +146,7 @@ fn set_up_of<A: Allocator + Copy>(
     }
 }
 
-/// Adds the command of line number `line`, where it isn't passed over.
+/// Adds the command of line number `line`, where it isn't skipped.
 fn add_command<A: Allocator + Copy>(
     alloc: A,
     list: &mut Vec<Command<A>, A>,
@@ -232,8 +232,8 @@ fn script_in<A: Allocator + Copy>(alloc: A, lines: Lines) -> Result<Script<A>, S
 }
 
 /// The script that a text says, or its first fault: by lines, and in a line in the order word, fields, number. Where `go`
-/// is missing the fault is `Setup` behind the last line. Lines are cut as those of a configuration file; blank lines and
-/// comments are passed over.
+/// is missing the fault is `Setup` after the last line. Lines are cut as those of a configuration file; blank lines and
+/// comments are skipped.
 pub fn script_of<A: Allocator + Copy>(alloc: A, text: &[u8]) -> Result<Script<A>, ScriptRefusal>
     ensures { MatchResult result
         (λ script. (spec.script_fault (lines text.now) ≡ None) × (script ≡ spec.script_value (lines text.now)))

@@ -15,7 +15,7 @@ use dfr_channels::AnalogChannel;
 use std::rt::Files;
 use std::{env, fs};
 
-/// Reads both files. A pair that isn't lawful has a first fault, and the part of the pair that has it.
+/// Reads both files. A pair that isn't valid has a first fault, and the part of the pair that has it.
 fn file_in<R: Files + AllocGlobal>(rt: &R, cfg: &str, dat: &str) -> Result<File> {
     let cfg = fs::read(rt, cfg).context("the configuration file")?;
     let dat = fs::read(rt, dat).context("the data file")?;

@@ -24,7 +24,7 @@ fn write_named<R: Files + AllocGlobal>(rt: &R, name: &str, texts: &Texts) -> io:
     fs::write(rt, dat.as_str(), texts.dat.as_slice())
 }
 
-/// Prints both files, one behind the other.
+/// Prints both files, one after the other.
 fn print_all<R: Print>(rt: &R, texts: &Texts) -> io::Result<()> {
     let mut out = io::writer(rt);
     out.write_all(&texts.cfg)?;

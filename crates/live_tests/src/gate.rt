@@ -53,7 +53,7 @@ struct GateFeed<'a> {
     has_waited: bool,
 }
 
-/// The call for this scan is entered, and held where it is one that is held. False past the limit of looks.
+/// The call for this scan is entered, and held where it is one that is held. False after the limit of looks.
 fn is_let_in(gate: &Gate, k: u32) -> bool {
     match k {
         2 => {

@@ -115,7 +115,7 @@ fn calls_without_the_lock(rt: HostRuntime) {
     assert!(rt; is_right(&rt, rt.alloc()));
 }
 
-/// The answer to a scan, and to a lost one, whose instant is past the year 9999.
+/// The answer to a scan, and to a lost one, whose instant is after the year 9999.
 const PAST: One = One::Stepped(Err(ScanRefusal::ClockEnd));
 
 /// Of two losses and a scan the first loss is the last that has an instant.

@@ -69,7 +69,7 @@ fn opens(alloc: Global, lane: usize, seats: u32) -> bool {
     opened(alloc, recorder(alloc, 1), lane, seats).is_some()
 }
 
-/// The bounds themselves are lawful.
+/// The bounds themselves are valid.
 #[test]
 fn bounds(rt: HostRuntime) {
     assert!(rt; opens(rt.alloc(), 1, 1));

@@ -68,7 +68,7 @@ impl Feed<Global> for Pausing {
     }
 }
 
-/// Triggers, and rules that fire from some value on. Most places lie behind the one before, some before it.
+/// Triggers, and rules that fire from some value on. Most places lie after the one before, some before it.
 #[derive(Drop)]
 struct Chosen {
     alloc: Global,
@@ -224,7 +224,7 @@ fn number(word: Option<String>, otherwise: u64) -> u64 {
     }
 }
 
-/// The first seed and how many runs: the words behind the test's name, or 1 and 5.
+/// The first seed and how many runs: the words after the test's name, or 1 and 5.
 #[test]
 fn runs_by_chance(rt: HostRuntime) -> io::Result<()> {
     let mut words = env::args(&rt)?;

@@ -82,7 +82,7 @@ pub fn recorder(alloc: Global, shelf: u32) -> Option<Recorder> {
 /// The last instant of the year 9999 at 1,000 scans a second.
 const LAST: i64 = 253_402_300_799_999_000;
 
-/// A recorder whose second scan would be past the year 9999.
+/// A recorder whose second scan would be after the year 9999.
 pub fn recorder_at_the_end(alloc: Global) -> Option<Recorder> {
     match read_cfg(alloc, ONE) {
         Ok(head) => recorder_over(alloc, layout_from(head, LAST), 1),

@@ -90,7 +90,7 @@ fn is_trigger(entry: &Entry, at: u64, answer: Result<Hit, TriggerFault>) -> bool
     entry.caller == 0 && entry.at == at && entry.reply == Reply::Trigger(answer)
 }
 
-/// The log has these triggers first; the takes of the export thread, which has seat 1, come behind them.
+/// The log has these triggers first; the takes of the export thread, which has seat 1, come after them.
 fn has_triggers(log: &[Entry], wanted: Told) -> bool {
     let front = log.get(..wanted.len()).unwrap_or(&[]);
     front.len() == wanted.len()
@@ -228,7 +228,7 @@ fn no_orders(rt: HostRuntime) {
     assert_eq!(rt; load(&rt, rt.alloc(), RUN, 5), Some(0));
 }
 
-/// Thousands of orders for one place: one opens a record, and all behind it extend it.
+/// Thousands of orders for one place: one opens a record, and all after it extend it.
 #[test]
 fn a_flood_of_orders(rt: HostRuntime) {
     let run = Run {

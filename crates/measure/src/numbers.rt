@@ -1,4 +1,4 @@
-//! Numbers that look free, the same in each run.
+//! Numbers that look random, the same in each run.
 
 use dfr_channels::{Reading, Scan};
 use std::alloc::{AllocError, Global};

@@ -11,7 +11,7 @@ use std::alloc::{AllocError, Global};
 const HEAD: &str =
     "station Bay 1\ndevice DFR\nfreq 50\nrate 4800\nstart 951782400000000\nlimits 1000,1000,1000000,64\n";
 
-/// Numbers that look free, the same in each run.
+/// Numbers that look random, the same in each run.
 fn next_of(state: u64) -> u64 {
     state
         .wrapping_mul(6_364_136_223_846_793_005)

@@ -183,7 +183,7 @@ fn takes_none<'a>(
     heap.refuse_all();
     let empty = Rules::new(layout, Vec::new(heap)).is_ok();
     let done = empty && fits(layout, rules);
-    heap.ample();
+    heap.refuse_none();
     done
 }
 
@@ -236,7 +236,7 @@ impl<A: Allocator + Copy> Trial for Cut<A> {
 fn is_never_cut(heap: Heap) -> bool {
     heap.refuse_all();
     let cut = cut_lines(heap) == Outcome::Memory && cut_fields(heap) == Outcome::Memory;
-    heap.ample();
+    heap.refuse_none();
     cut
 }
 

@@ -185,7 +185,7 @@ fn foreign_file<A: Allocator + Copy>(alloc: A) -> Option<Foreign<A>> {
     }
 }
 
-/// A record of another layout is foreign, or memory was refused.
+/// A record of another layout is foreign, or an allocation failed.
 #[test]
 fn foreign_refused(rt: HostRuntime) {
     let heap = Refusing::new(rt.alloc());

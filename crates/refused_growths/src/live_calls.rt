@@ -100,7 +100,7 @@ fn is_idle<N: Session<A>, R: Wait, A: Allocator + Copy>(
 ) -> bool {
     heap.refuse_all();
     let pumped = shared.pump(rt, token, 8);
-    heap.ample();
+    heap.refuse_none();
     pumped.scans == 8 && pumped.stopped == End::Most
 }
 

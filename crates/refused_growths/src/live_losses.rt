@@ -1,5 +1,5 @@
-//! Lost scans of a recorder that threads share, over a lane of one: counting them wants no memory, and the step of each goes on after
-//! a refusal as if nothing had happened.
+//! Lost scans of a recorder that threads share, over a lane of one: counting them doesn't allocate, and the step of each goes on
+//! after a refusal as if nothing had happened.
 
 ghost use Rattle.std.specs.Prelude.{◌≡◌};
 
@@ -26,7 +26,7 @@ fn comes_back<N: Session<A>, A: Allocator>(
         Some(scan) => matches!(source.offer(scan), Err(Full(_))),
         None => false,
     };
-    heap.ample();
+    heap.refuse_none();
     came
 }
 
@@ -34,7 +34,7 @@ fn comes_back<N: Session<A>, A: Allocator>(
 fn is_lost<N: Session<A>, A: Allocator>(heap: Heap, source: &mut Source<N, A>, n: u32) -> bool {
     heap.refuse_all();
     let counted = source.lose() == Ok(n) && source.lost() == n;
-    heap.ample();
+    heap.refuse_none();
     counted
 }
 

@@ -221,7 +221,7 @@ fn is_idle<'a>(
 
 fn idles<'a>(heap: Heap<'a>, recorder: &mut Recorder<Heap<'a>>) -> bool {
     let idle = is_idle(heap, recorder, scan(heap, 1, false), scan(heap, 2, false));
-    heap.ample();
+    heap.refuse_none();
     idle && recorder.trigger().ok() == Some(Hit::Opened(1))
 }
 
@@ -232,7 +232,7 @@ fn recorder_idles(heap: Heap) -> bool {
     }
 }
 
-/// Scans that meet no open record and open none, and what takes no memory, while every allocation is refused.
+/// Scans that meet no open record and open none, and what doesn't allocate, while every allocation is refused.
 #[test]
 fn idle_scans_take_none(rt: HostRuntime) {
     let heap = Refusing::new(rt.alloc());

@@ -54,7 +54,7 @@ fn seen_in(before: Seen, outcome: Outcome, refused: bool) -> Option<Seen> {
 /// Notes how a call went, and grants all allocations again. Whether one of the call's was refused; None where it went wrong.
 pub fn noted(heap: Heap, seen: &mut Seen, outcome: Outcome) -> Option<bool> {
     let refused = heap.has_refused();
-    heap.ample();
+    heap.refuse_none();
     *seen = seen_in(*seen, outcome, refused)?;
     Some(refused)
 }
@@ -81,7 +81,7 @@ pub fn refusals<T: Trial>(heap: Heap, again: bool, trial: &mut T) -> Option<Seen
         heap.refuse(n);
         let outcome = trial.call();
         let refused = heap.has_refused();
-        heap.ample();
+        heap.refuse_none();
         seen = seen_in(seen, outcome, refused)?;
         if !refused {
             return Some(seen);
@@ -99,7 +99,7 @@ fn nth<T: Consuming>(heap: Heap, trial: &T, n: u64) -> Option<(Outcome, bool)> {
     heap.refuse(n);
     let outcome = trial.call(made);
     let refused = heap.has_refused();
-    heap.ample();
+    heap.refuse_none();
     Some((outcome, refused))
 }
 

@@ -1,4 +1,4 @@
-//! Calls of a token whose allocations are refused, and offers that want none.
+//! Calls of a token whose allocations are refused, and offers that need none.
 
 use crate::common::{Heap, scan};
 use crate::recorder::is_the_record;
@@ -110,7 +110,7 @@ pub fn is_offered<N: Session<A>, A: Allocator + Copy>(
         Some(scan) => source.offer(scan).is_ok(),
         None => false,
     };
-    heap.ample();
+    heap.refuse_none();
     offered
 }
 
@@ -128,7 +128,7 @@ pub fn are_offered<N: Session<A>, A: Allocator + Copy>(
     true
 }
 
-/// Calls, and whether each wants an allocation, where that is said.
+/// Calls, and whether each needs an allocation, where that is said.
 pub type Calls<'c> = &'c [(Call, Option<bool>)];
 
 pub fn go_on<N: Session<A>, R: Wait, A: Allocator + Copy>(

@@ -76,7 +76,7 @@ fn are_scanned<'a>(heap: Heap<'a>, recorder: &mut Recorder<Heap<'a>>, values: &[
 fn is_covered<'a>(heap: Heap<'a>, recorder: &mut Recorder<Heap<'a>>) -> bool {
     heap.refuse_all();
     let answer = recorder.trigger();
-    heap.ample();
+    heap.refuse_none();
     answer == Err(TriggerFault::Covered)
 }
 
@@ -147,7 +147,7 @@ fn are_offered<N: Session<A>, A: Allocator + Copy>(
     true
 }
 
-/// Six scans of the lane, five of which are a record, and covered triggers, which want room for their entries alone.
+/// Six scans of the lane, five of which are a record, and covered triggers, which need room for their entries alone.
 const RECORD: Calls = &[
     (Call::Pump, Some(false)),
     (Call::Pump, Some(false)),

@@ -127,7 +127,7 @@ fn seat_of<A: Allocator>(token: &Option<Token<A>>) -> Option<u32> {
     }
 }
 
-/// Ends; where that is refused, it ends again with all tokens and ample memory.
+/// Ends; where that is refused, it ends again with all tokens and enough memory.
 fn end_with<N: Session<A>, A: Allocator + Copy>(
     heap: Heap,
     alloc: A,
@@ -147,7 +147,7 @@ fn end_with<N: Session<A>, A: Allocator + Copy>(
             last: Ok(ended),
         },
         Err((fault, inner, source, tokens)) => {
-            heap.ample();
+            heap.refuse_none();
             let parts = (inner, source, tokens);
             Ends {
                 seat,

@@ -1,4 +1,4 @@
-//! What is printed, kept as one text: where memory for it is wanting it is cut, and the judge sees that.
+//! What is printed, kept as one text: where memory for it runs out it is cut, and the judge sees that.
 
 use crate::notes::Note;
 use dfr_channels::Rule;

@@ -68,7 +68,7 @@ fn named<
         Way::Orderly => in_order(rt, &desk, plan.threads),
         _ => at_once(rt, &desk, plan.threads),
     };
-    heap.ample();
+    heap.refuse_none();
     put_callers(rt, out, &desk, started);
     let mut chance = Chance::of(plan.seed, 2000);
     let trouble = Trouble::by(&mut chance);

@@ -215,7 +215,7 @@ pub fn run<'h, R: Wait + Threads + Sync + AllocGlobal>(
     };
     let report = live(rt, heap, recorder, plan, &mut feed, &mut orders, &mut sink);
     let refused = heap.has_refused();
-    heap.ample();
+    heap.refuse_none();
     put_devices(
         out,
         &sink.got,

@@ -43,6 +43,6 @@ row_at k m bytes = record {
   bits = bits_at m (drop (8 + 2 * k) bytes);
 }
 
--- row i begins behind i rows
+-- row i begins after i rows
 abbrev pub rows_at : ℕ → ℕ → List ℕ → ℕ → List RowParts
 rows_at k m dat count = map (λ i. row_at k m (drop (i * row_size k m) dat)) (range_with_len 0 count)

@@ -28,7 +28,7 @@ kind_line fs = one kind (λ line. faults.Kind) fs
 abbrev pub timemult_line : List (List ℕ) → Result Number Fault
 timemult_line fs = one scale (number 1) fs
 
--- a line behind those before it
+-- a line after those before it
 abbrev pub next_analog : List AnalogParts → List (List ℕ) → Result AnalogParts Fault
 next_analog before fs = analog_line (length before + 1) fs
 
@@ -41,14 +41,14 @@ next_rate before fs = rate_line (last_sample before) fs
 abbrev pub next_row : ℕ → ℕ → List RowParts → List (List ℕ) → Result RowParts Fault
 next_row k m before fs = row_line k m fs
 
--- the part of a head behind its rates
+-- the part of a head after its rates
 pub record EndParts : Type 0 where
   pub first : ℤ
   pub trigger : ℤ
   pub kind : Kind
   pub timemult : Number
 
--- the part of a head behind its channels
+-- the part of a head after its channels
 pub record TailParts : Type 0 where
   pub line_freq : Number
   pub nrates : ℕ
@@ -72,14 +72,14 @@ abbrev pub unless_fault : {A : Type 0} → Option ReadFault → A → Result A R
 unless_fault None x = Ok x
 unless_fault (Some e) x = Err e
 
--- the lines behind the rates
+-- the lines after the rates
 unfoldable pub ends_at : List (List ℕ) → ℕ → Result EndParts ReadFault
 ends_at ls at =
     follow (line_at instant_line ls at) (λ first. follow (line_at instant_line ls (at + 1)) (λ trigger.
     follow (line_at kind_line ls (at + 2)) (λ kind. follow (line_at timemult_line ls (at + 3)) (λ timemult.
     unless_fault (extra_fault ls (at + 4)) (record { first = first; trigger = trigger; kind = kind; timemult = timemult })))))
 
--- the lines behind the channels
+-- the lines after the channels
 unfoldable pub tail_at : List (List ℕ) → ℕ → Result TailParts ReadFault
 tail_at ls at =
     follow (line_at frequency_line ls at) (λ line_freq. follow (line_at nrates_line ls (at + 1)) (λ nrates.

@@ -7,12 +7,12 @@ use Rattle.comtrade_read.specs.declared.fault.ReadFault.TheVariants as faults
 unfoldable pub extra_fault : List (List ℕ) → ℕ → Option ReadFault
 extra_fault ls n = if nat_lt n (length ls) then Some (faults.Extra (n + 1)) else None
 
--- what a function returned, seen by view: the value where there is no fault, else the fault or want of memory
+-- what a function returned, seen by view: the value where there is no fault, else the fault, or out of memory
 abbrev pub Gives : {X Y : Type 0} → (X → Y) → Option ReadFault → Y → Result X ReadFault → Type 0
 Gives view fault value (Ok x) = (fault ≡ None) × (view x ≡ value)
 Gives view fault value (Err e) = e ≢ faults.Memory → fault ≡ Some e
 
--- what a function returned, seen by view: what is said, or want of memory
+-- what a function returned, seen by view: what is said, or out of memory
 abbrev pub Is : {X Y : Type 0} → (X → Y) → Result Y ReadFault → Result X ReadFault → Type 0
 Is view said (Ok x) = said ≡ Ok (view x)
 Is view said (Err e) = e ≢ faults.Memory → said ≡ Err e

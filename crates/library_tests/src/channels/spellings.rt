@@ -29,7 +29,7 @@ fn decimals(rt: HostRuntime) {
     assert!(rt; reads(b"+0", 0, 0));
 }
 
-/// A 1 behind a point and 81 zeros, and this exponent.
+/// A 1 after a point and 81 zeros, and this exponent.
 fn with_exponent(alloc: Global, exponent: u8) -> Result<Vec<u8>, AllocError> {
     let mut text = Vec::from_slice(alloc, b"0.")?;
     for _ in 0..81 {
@@ -120,7 +120,7 @@ fn refused_whole_numbers(rt: HostRuntime) {
     }
 }
 
-/// A 1 behind so many zeros.
+/// A 1 after so many zeros.
 fn behind_zeros(alloc: Global) -> Result<Vec<u8>, AllocError> {
     let mut text: Vec<u8> = vec![in alloc; b'0'; 4096]?;
     text.push(b'1')?;
@@ -137,7 +137,7 @@ fn many_zeros(rt: HostRuntime) -> Result<(), Fail> {
     Ok(())
 }
 
-/// Whether a text begins with this number in its plain spelling, with so many bytes behind its comma.
+/// Whether a text begins with this number in its plain spelling, with so many bytes after its comma.
 fn begins(text: &[u8], number: i64, behind: usize) -> bool {
     match plain_number(text) {
         Some((found, Some(rest))) => found == number && rest.len() == behind,

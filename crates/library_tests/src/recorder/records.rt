@@ -1,4 +1,4 @@
-//! Records round triggers by hand and by a rule.
+//! Records around manual triggers and those of a rule.
 
 use super::fixture::{recorder, recorder_at_100, value};
 use dfr_channels::{Reading, Scan};

@@ -96,7 +96,7 @@ fn foreign_record(rt: HostRuntime) {
     assert!(rt; is_foreign(rt.alloc(), two));
 }
 
-/// The scans lie 0, 208, 416 and 625 microseconds behind the start: only the last of them passes the end of the year 9999.
+/// The scans lie 0, 208, 416 and 625 microseconds after the start: only the last of them passes the end of the year 9999.
 #[test]
 fn last_scan_without_an_instant(rt: HostRuntime) {
     let late = Bay {

@@ -95,7 +95,7 @@ loop-step-preserved g c =
       limits = c.make.ensures.opening.1 ∙ c.loop-step.invariant.limits;
     }
 
--- a step that wants memory
+-- a step that needs memory
 pub returns-in-Err-clause-list : goal.returns-in-Err-clause-list
 returns-in-Err-clause-list g c =
     ap (λ s. take (length c.loop-step.answers.items) c.args.steps.items ++ option_to_list (Some s) ++ c.pop_front.new.self.items) c.in-Err.ensures.err.0
