@@ -29,7 +29,7 @@ said show "$(printf 'no\033file')" files/first.dat
 said show files/first.cfg files/no-file
 said show files files/first.dat
 said show files/counts.cfg files/first.dat
-# what could be taken for an option stands behind --
+# what could be taken for an option stands after --
 said check -- --loud files/first.dat
 exec 3>&1
 { sleep 0.3; "$comtrade" show files/first.cfg files/first.dat 2>&3; echo "gone away: status $?" >&3; } | true

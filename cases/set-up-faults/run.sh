@@ -1,4 +1,4 @@
-# the first script with a set-up line that can be read and isn't lawful: line, text, what is printed, status
+# the first script with a set-up line that can be read and isn't valid: line, text, what is printed, status
 tried() {
     got=$({ head -n "$(($1 - 1))" first/in; printf '%s\n' "$2"; tail -n "+$(($1 + 1))" first/in; } | "$dfr"; echo "$?")
     echo "$1 | $2 | ${got//$'\n'/ | }"
