@@ -176,14 +176,20 @@ impl<A: Allocator + Copy> Trial for Faulty<'_, A> {
     }
 }
 
-fn fault_refuses(heap: Heap, cfg: &[u8], dat: &[u8], wanted: (Part, ReadFault)) -> bool {
+fn fault_refuses(
+    heap: Heap,
+    cfg: &[u8],
+    dat: &[u8],
+    wanted: (Part, ReadFault),
+    must: Must,
+) -> bool {
     let faulty = Faulty {
         alloc: heap,
         cfg,
         dat,
         wanted,
     };
-    refuses(heap, Some(faulty), Must::Answer)
+    refuses(heap, Some(faulty), must)
 }
 
 /// A file that ends after its second line, and data whose first value is no number.
@@ -191,15 +197,17 @@ fn fault_refuses(heap: Heap, cfg: &[u8], dat: &[u8], wanted: (Part, ReadFault)) 
 fn faults_refused(rt: HostRuntime) {
     let heap = Refusing::new(rt.alloc());
     let ends = (Part::Cfg, ReadFault::Missing(3));
-    assert!(rt; fault_refuses(&heap, b"Bay 1,DFR,1999\n1,1A,0D\n", b"", ends));
+    assert!(rt; fault_refuses(&heap, b"Bay 1,DFR,1999\n1,1A,0D\n", b"", ends, Must::Answer));
     let spelled = (Part::Dat, ReadFault::Number(1, 3));
-    assert!(rt; fault_refuses(&heap, CFG, b"1,0,x\r\n", spelled));
+    assert!(rt; fault_refuses(&heap, CFG, b"1,0,x\r\n", spelled, Must::Answer));
 }
 
-/// A configuration file with this line in place of its own.
+/// A configuration file with this line in place of its own. Before the first line's fault only lists of lines and of fields are
+/// made, whose room a smaller allocation can give.
 fn line_refuses(heap: Heap, alloc: Global, n: usize, line: &[u8], fault: ReadFault) -> bool {
+    let must = if n == 1 { Must::Meet } else { Must::Answer };
     match with_line(alloc, FIRST_CFG, n, line) {
-        Some(cfg) => fault_refuses(heap, &cfg, FIRST_DAT, (Part::Cfg, fault)),
+        Some(cfg) => fault_refuses(heap, &cfg, FIRST_DAT, (Part::Cfg, fault), must),
         None => false,
     }
 }
