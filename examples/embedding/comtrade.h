@@ -30,7 +30,7 @@ enum {
 /* Kinds of faults; specs/Faults of the library has the same table. Of a pair that is read: */
 enum {
     COMTRADE_REVISION = 1, /* place 1: the first line isn't of the year 1999 (5.3.1) */
-    COMTRADE_FIELDS = 2,   /* place: the line that has another number of fields than its kind has */
+    COMTRADE_FIELDS = 2,   /* place: the line that has another number of fields than its kind requires */
     COMTRADE_NUMBER = 3,   /* place, field: the field that can't be read or is out of its range */
     COMTRADE_COUNTS = 4,   /* place: the line whose counts don't add up (5.3.2), whose number isn't its own, or whose rate ends too soon */
     COMTRADE_INSTANT = 5,  /* place: the line that is no date and time of day (5.3.7) */

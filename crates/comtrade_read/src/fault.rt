@@ -14,7 +14,7 @@ pub enum ReadFault {
     /// The first line has two fields, or a third that isn't the year 1999 (5.3.1).
     #[error("the first line isn't that of the revision of 1999")]
     Revision,
-    /// The line has another number of fields than its kind has.
+    /// The line has another number of fields than its kind requires.
     #[error("line {0} has another number of fields than its kind wants")]
     Fields(u64),
     /// The line, and the field that can't be read or is out of its range. In the first line, in an instant and in the type it
