@@ -1,7 +1,7 @@
 //! A pair of files as comma-separated values, with the line ends and quotation marks of RFC 4180.
 
 use crate::instant::put_instant;
-use crate::number::{Number, Scale, put_value, scale_of, value_of};
+use crate::number::{Number, Scale, put_sample, put_value, scale_of};
 use crate::times::{since_trigger, times_of, trigger_nanos};
 use comtrade_text::{ToolFault, fault_of, put, put_number, put_safe};
 use comtrade_write::{File, Head, Row};
@@ -115,7 +115,7 @@ fn put_reading<A: Allocator>(
     reading: Reading,
 ) -> Result<(), AllocError> {
     match reading {
-        Reading::Value(sample) => put_value(cell, value_of(scale, sample)),
+        Reading::Value(sample) => put_sample(cell, scale, sample),
         Reading::Missing => Ok(()),
     }
 }

@@ -3,6 +3,7 @@
 #![tactic(auto)]
 
 mod comma_separated;
+mod exact;
 mod groups;
 mod instant;
 mod number;

@@ -1,5 +1,10 @@
 //! Numbers of a pair as decimals: what stands in the file, and a scaled sample, exact where floats would round.
 
+ghost use Rattle.std.specs.Prelude.{OnOk};
+ghost use Rattle.comtrade_tools.specs.Values as Values;
+
+use crate::exact::{exact_value, without_zeros};
+use comtrade_write::put_decimal as put_exact;
 use dfr_channels::{AnalogChannel, Decimal};
 use itoa::Buffer;
 use std::alloc::{AllocError, Allocator};
@@ -85,24 +90,41 @@ fn sum(one: Number, other: Number) -> Number {
 /// What a channel makes of its samples: a * x + b.
 #[derive(Clone, Copy, Debug)]
 pub(crate) struct Scale {
-    pub(crate) a: Number,
-    pub(crate) b: Number,
+    pub(crate) a: Decimal,
+    pub(crate) b: Decimal,
 }
 
 pub(crate) fn scale_of<A: Allocator>(channel: &AnalogChannel<A>) -> Scale {
     Scale {
-        a: number_of(channel.a),
-        b: number_of(channel.b),
+        a: channel.a,
+        b: channel.b,
     }
 }
 
-/// The value of a sample: exact where a and b have at most 27 digits and the value at most 35.
+/// The value of a sample, near where it has more digits than a decimal can have.
 pub(crate) fn value_of(scale: Scale, sample: i32) -> Number {
+    let a = number_of(scale.a);
     let product = Number {
-        units: scale.a.units.saturating_mul(sample as i128),
-        exponent: scale.a.exponent,
+        units: a.units.saturating_mul(sample as i128),
+        exponent: a.exponent,
     };
-    sum(product, scale.b)
+    sum(product, number_of(scale.b))
+}
+
+/// The value of a sample: a * x + b, exactly and without zeros at its end, where each of both terms and the sum has at most
+/// 36 digits; else a value near it.
+pub(crate) fn put_sample<A: Allocator>(
+    out: &mut Vec<u8, A>,
+    scale: Scale,
+    sample: i32,
+) -> Result<(), AllocError>
+    ensures { OnOk result (Values.IsShort scale.a scale.b sample
+        → Values.AppendsValue out.old.items out.new.items (Values.value scale.a scale.b sample)) }
+{
+    match exact_value(scale.a, scale.b, sample) {
+        Some(value) => put_exact(out, without_zeros(value)),
+        None => put_value(out, value_of(scale, sample)),
+    }
 }
 
 /// The number rounded to six digits.

@@ -1,6 +1,8 @@
 //! The least and the greatest sample of a channel.
 
-ghost use Rattle.std.specs.Prelude.{◌≤ℤ◌};
+ghost use Rattle.std.specs.Prelude.{◌≡◌};
+ghost use Rattle.std.specs.Int.{int_min, int_max};
+ghost use Rattle.example_peaks.specs.Samples as Samples;
 
 use comtrade_write::Row;
 use dfr_channels::Reading;
@@ -13,10 +15,10 @@ pub struct Span {
 }
 
 impl Span {
-    /// The span with one sample more, which lies in it, as all those before do.
+    /// The span with one sample more.
     fn with(self, sample: i32) -> Span
-        ensures least { (result.least ≤ℤ sample) × (result.least ≤ℤ self.least) }
-        ensures greatest { (sample ≤ℤ result.greatest) × (self.greatest ≤ℤ result.greatest) }
+        ensures least { result.least ≡ int_min self.least sample }
+        ensures greatest { result.greatest ≡ int_max self.greatest sample }
     {
         Span {
             least: self.least.min(sample),
@@ -25,16 +27,29 @@ impl Span {
     }
 }
 
-/// The span of a channel, counted from 0; None where each of its readings is missing.
-pub fn span_of(rows: &[Row], channel: usize) -> Option<Span> {
+/// The sample of a channel in a row, counted from 0; None where its reading is missing.
+fn sample_of(row: &Row, channel: usize) -> Option<i32>
+    ensures { result ≡ Samples.sample channel row.now }
+{
+    match row.values.items().get(channel) {
+        Some(Reading::Value(sample)) => Some(*sample),
+        _ => None,
+    }
+}
+
+/// The span of a channel, counted from 0: all its samples lie in it, and both its ends are samples; None where each of its readings
+/// is missing.
+pub fn span_of(rows: &[Row], channel: usize) -> Option<Span>
+    ensures { Samples.Spans (Samples.samples channel rows.now) result }
+{
     let mut span: Option<Span> = None;
     for row in rows {
-        if let Some(Reading::Value(sample)) = row.values.items().get(channel) {
+        if let Some(sample) = sample_of(row, channel) {
             let one = Span {
-                least: *sample,
-                greatest: *sample,
+                least: sample,
+                greatest: sample,
             };
-            span = Some(span.unwrap_or(one).with(*sample));
+            span = Some(span.unwrap_or(one).with(sample));
         }
     }
     span

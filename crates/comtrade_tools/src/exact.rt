@@ -1,0 +1,75 @@
+//! The value a * x + b of a sample, exactly.
+
+ghost use Rattle.std.specs.Prelude.{◌≡◌, ◌+◌, ◌<◌, ◌≤◌, ◌^◌, pos, IfNone, IfSome};
+ghost use Rattle.std.specs.Option.{SomeIff};
+ghost use Rattle.dfr_channels.specs.Spelling.{IsNumber};
+ghost use Rattle.comtrade_tools.specs.Values as Values;
+
+use dfr_channels::Decimal;
+
+/// The number times a sample; None where that has more than 36 digits.
+fn product(number: Decimal, sample: i32) -> Option<Decimal>
+    ensures { SomeIff result (IsNumber (Values.times number sample)) (Values.times number sample) }
+{
+    let units = number.units().checked_mul(sample as i128)?;
+    Decimal::new(units, number.places())
+}
+
+/// 10^zeros, where zeros are at most 35.
+fn power(zeros: u8) -> i128
+    requires { zeros < 36 }
+    ensures { result ≡ pos (10 ^ zeros) }
+{
+    10i128.pow(zeros as u32)
+}
+
+/// The number with zeros after its places; None where it then has more than 36 digits.
+fn with_places(number: Decimal, places: u8) -> Option<Decimal>
+    requires { number.places ≤ places }
+    ensures { let longer = Values.with_places places number in
+        SomeIff result (IsNumber longer) longer }
+{
+    let zeros = places - number.places();
+    if number.units() == 0 {
+        return Decimal::new(0, places);
+    }
+    if 36 <= zeros {
+        return None;
+    }
+    let units = number.units().checked_mul(power(zeros))?;
+    Decimal::new(units, places)
+}
+
+/// a * x + b, with the places of the finer of a and b; None where a * x, b or the sum then has more than 36 digits.
+pub(crate) fn exact_value(a: Decimal, b: Decimal, sample: i32) -> Option<Decimal>
+    ensures { SomeIff result (Values.IsShort a b sample) (Values.value a b sample) }
+{
+    let places = a.places().max(b.places());
+    let product = with_places(product(a, sample)?, places)?;
+    let offset = with_places(b, places)?;
+    Decimal::new(product.units() + offset.units(), places)
+}
+
+/// The same number with one place fewer; None where it has none, or its last digit isn't 0.
+fn shortened(number: Decimal) -> Option<Decimal>
+    ensures none { IfNone result (Values.HasNoZero number) }
+    ensures same { IfSome result (λ n. Values.with_places number.places n ≡ number) }
+    ensures fewer { IfSome result (λ n. n.places + 1 ≡ number.places) }
+{
+    let units = number.units();
+    if number.places() == 0 || units % 10 != 0 {
+        return None;
+    }
+    Decimal::new(units / 10, number.places() - 1)
+}
+
+/// The same number without zeros at the end of its places.
+pub(crate) fn without_zeros(number: Decimal) -> Decimal
+    ensures { Values.IsTrimmed number result }
+{
+    let mut trimmed = number;
+    while let Some(shorter) = shortened(trimmed) {
+        trimmed = shorter;
+    }
+    trimmed
+}
