@@ -1,2 +1,1 @@
-pub mod Scaled
 pub mod Cutting

@@ -3,7 +3,6 @@
 #![tactic(auto)]
 
 mod comma_separated;
-mod exact;
 mod groups;
 mod instant;
 mod number;

@@ -1,9 +1,9 @@
 //! Numbers of a pair as decimals: what stands in the file, and a scaled sample, exact where floats would round.
 
 ghost use Rattle.std.specs.Prelude.{OnOk};
-ghost use Rattle.comtrade_tools.specs.Values as Values;
+ghost use Rattle.comtrade_values.specs.Values as Values;
 
-use crate::exact::{exact_value, without_zeros};
+use comtrade_values::{exact_value, without_zeros};
 use comtrade_write::put_decimal as put_exact;
 use dfr_channels::{AnalogChannel, Decimal};
 use itoa::Buffer;

@@ -1,1 +1,2 @@
 pub mod FloatText
+pub mod Scaled

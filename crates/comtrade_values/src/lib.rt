@@ -1,10 +1,13 @@
-//! The numbers of a COMTRADE file as a program reckons with them: decimals and scaled samples as floats, instants as civil dates.
+//! The numbers of a COMTRADE file as a program computes with them: scaled samples as decimals, exactly, and as floats, decimals as floats,
+//! instants as civil dates.
 #![tactic(auto)]
 
 mod civil;
+mod exact;
 mod nearest;
 mod scale;
 
 pub use civil::civil_of;
+pub use exact::{exact_value, without_zeros};
 pub use nearest::nearest_f64;
 pub use scale::{Scale, scale_of};

@@ -8,7 +8,7 @@ use Rattle.std.proofs.lemmas.Nat.{pow-add}
 use Rattle.std.proofs.Math.IntN.{zero-*ℤ}
 use Rattle.std.specs.Prelude.{Option, Some, None, Result, Ok, Err, OnOk}
 use Rattle.std.specs.Option.{SomeIff}
-use Rattle.comtrade_tools.specs.Values.{with_places, times, value, IsShort}
+use Rattle.comtrade_values.specs.Values.{with_places, times, value, IsShort}
 
 -- the size of an integer that isn't 0 is above 0
 some_size : (z : ℤ) → (z ≡ pos 0 → ⊥) → 0 < unsigned_abs z

@@ -1,6 +1,6 @@
 use Rattle.std.proofs.Common.{arith}
-use Rattle.comtrade_tools.proofs.Scaled.{fewer}
-use Rattle.comtrade_tools.proofs.exact.without_zeros.Goals as goal
+use Rattle.comtrade_values.proofs.Scaled.{fewer}
+use Rattle.comtrade_values.proofs.exact.without_zeros.Goals as goal
 
 pub loop-shorter-preserved : goal.loop-shorter-preserved
 loop-shorter-preserved c =

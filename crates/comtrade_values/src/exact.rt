@@ -3,7 +3,7 @@
 ghost use Rattle.std.specs.Prelude.{◌≡◌, ◌+◌, ◌<◌, ◌≤◌, ◌^◌, pos, IfNone, IfSome};
 ghost use Rattle.std.specs.Option.{SomeIff};
 ghost use Rattle.dfr_channels.specs.Spelling.{IsNumber};
-ghost use Rattle.comtrade_tools.specs.Values as Values;
+ghost use Rattle.comtrade_values.specs.Values as Values;
 
 use dfr_channels::Decimal;
 
@@ -41,7 +41,7 @@ fn with_places(number: Decimal, places: u8) -> Option<Decimal>
 }
 
 /// a * x + b, with the places of the finer of a and b; None where a * x, b or the sum then has more than 36 digits.
-pub(crate) fn exact_value(a: Decimal, b: Decimal, sample: i32) -> Option<Decimal>
+pub fn exact_value(a: Decimal, b: Decimal, sample: i32) -> Option<Decimal>
     ensures { SomeIff result (Values.IsShort a b sample) (Values.value a b sample) }
 {
     let places = a.places().max(b.places());
@@ -64,7 +64,7 @@ fn shortened(number: Decimal) -> Option<Decimal>
 }
 
 /// The same number without zeros at the end of its places.
-pub(crate) fn without_zeros(number: Decimal) -> Decimal
+pub fn without_zeros(number: Decimal) -> Decimal
     ensures { Values.IsTrimmed number result }
 {
     let mut trimmed = number;

@@ -1,9 +1,9 @@
 use Rattle.std.proofs.Common.{ℤ, subst, rules, w32}
 use Rattle.std.proofs.lemmas.Int.{to_z-of_z}
 use Rattle.dfr_channels.specs.Spelling.{IsNumber}
-use Rattle.comtrade_tools.specs.Values.{times}
-use Rattle.comtrade_tools.proofs.Scaled.{none_if, no_product, no_wide_product, no_wide_offset, value_of}
-use Rattle.comtrade_tools.proofs.exact.exact_value.Goals as goal
+use Rattle.comtrade_values.specs.Values.{times}
+use Rattle.comtrade_values.proofs.Scaled.{none_if, no_product, no_wide_product, no_wide_offset, value_of}
+use Rattle.comtrade_values.proofs.exact.exact_value.Goals as goal
 
 pub returns-in_err-product : goal.returns-in_err-product
 returns-in_err-product c =

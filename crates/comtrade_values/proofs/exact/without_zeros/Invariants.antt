@@ -1,6 +1,6 @@
 use Rattle.std.proofs.Common.{◌≡◌, ◌≤◌}
-use Rattle.comtrade_tools.specs.Values.{with_places}
-use Rattle.comtrade_tools.proofs.exact.without_zeros.Given as goal
+use Rattle.comtrade_values.specs.Values.{with_places}
+use Rattle.comtrade_values.proofs.exact.without_zeros.Given as goal
 
 -- the same number with fewer places
 abbrev pub invariant-loop-shorter : goal.invariant-loop-shorter
