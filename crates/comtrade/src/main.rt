@@ -10,10 +10,11 @@ use crate::extract::run_extract;
 use crate::view::{View, view_over};
 use crate::write::run_convert;
 use comtrade_faults::Pair;
-use comtrade_text::{ToolFault, fault_of, put_safe, read_up_to, write_out};
+use comtrade_text::{ToolFault, fault_of, put, put_safe, read_up_to, write_out};
 use comtrade_words::{Answer, Asked, Names, answer_of};
+use std::alloc::{AllocError, Allocator};
 use std::fs::File;
-use std::io::IsTerminal;
+use std::io::{ErrorKind, IsTerminal};
 use std::process::ExitCode;
 use std::rt::{Env, Files};
 use std::{env, io};
@@ -31,17 +32,27 @@ pub(crate) fn say<R: Eprint>(rt: &R, bytes: &[u8]) {
     }
 }
 
-/// `comtrade: `, a name, and what is wrong with it, on standard error. A reader that has gone away is no fault.
+/// That an allocation failed, on standard error: a text that doesn't allocate.
+pub(crate) fn out_of_memory<R: Eprint>(rt: &R) -> u8 {
+    let _ = eprintln!(rt; "comtrade: out of memory");
+    1
+}
+
+/// `comtrade: `, a name, and what is wrong with it, on standard error; or that an allocation failed. A reader that has gone
+/// away is no fault.
 pub(crate) fn complain<R: Eprint + AllocGlobal>(rt: &R, name: &str, fault: ToolFault) -> u8 {
-    if fault == ToolFault::Closed {
-        return 0;
+    match fault {
+        ToolFault::Closed => return 0,
+        ToolFault::Memory => return out_of_memory(rt),
+        _ => {}
     }
     let mut text = Vec::new(rt.alloc());
-    if put_safe(&mut text, name.as_bytes()).is_ok() {
-        let _ = eprint!(rt; "comtrade: ");
-        say(rt, &text);
-        let _ = eprintln!(rt; ": {fault}");
+    if put_safe(&mut text, name.as_bytes()).is_err() {
+        return out_of_memory(rt);
     }
+    let _ = eprint!(rt; "comtrade: ");
+    say(rt, &text);
+    let _ = eprintln!(rt; ": {fault}");
     1
 }
 
@@ -70,11 +81,12 @@ fn print_text<R: Print + Eprint + AllocGlobal>(rt: &R, text: &str) -> u8 {
 /// Prints what is asked of a pair.
 fn print_view<R: Print + Eprint + AllocGlobal>(rt: &R, view: View, pair: Pair<'_>) -> u8 {
     let mut said = Vec::new(rt.alloc());
-    let answer = view_over(rt.alloc(), view, pair, &mut io::writer(rt), &mut said);
-    say(rt, &said);
-    match answer {
+    match view_over(rt.alloc(), view, pair, &mut io::writer(rt), &mut said) {
         Ok(true) => 0,
-        Ok(false) => 1,
+        Ok(false) => {
+            say(rt, &said);
+            1
+        }
         Err(fault) => complain(rt, "standard output", fault),
     }
 }
@@ -161,14 +173,24 @@ fn run<R: Files + Input + Print + Eprint + AllocGlobal>(
     }
 }
 
-/// Lines on standard error, as printable characters.
-fn say_lines<R: Eprint + AllocGlobal>(rt: &R, text: &str) {
+/// The lines of a text, as printable characters.
+fn safe_lines<A: Allocator>(alloc: A, text: &str) -> Result<Vec<u8, A>, AllocError> {
+    let mut safe = Vec::new(alloc);
     for line in text.lines() {
-        let mut safe = Vec::new(rt.alloc());
-        if put_safe(&mut safe, line.as_bytes()).is_ok() {
-            say(rt, &safe);
+        put_safe(&mut safe, line.as_bytes())?;
+        put(&mut safe, "\n")?;
+    }
+    Ok(safe)
+}
+
+/// Says why words ask for nothing.
+fn refuse_words<R: Eprint + AllocGlobal>(rt: &R, text: &str) -> u8 {
+    match safe_lines(rt.alloc(), text) {
+        Ok(lines) => {
+            say(rt, &lines);
+            2
         }
-        let _ = eprintln!(rt; "");
+        Err(_) => out_of_memory(rt),
     }
 }
 
@@ -181,6 +203,15 @@ fn words_of<R: Env + AllocGlobal>(rt: &R) -> io::Result<Vec<String>> {
     Ok(rest)
 }
 
+/// Says why there are no words.
+fn refuse_start<R: Eprint>(rt: &R, kind: ErrorKind) -> u8 {
+    if kind == ErrorKind::OutOfMemory {
+        return out_of_memory(rt);
+    }
+    let _ = eprintln!(rt; "comtrade: a word isn't valid text");
+    2
+}
+
 /// Does what is to be done with words; `is_watched` where standard error is a terminal.
 fn act<R: Files + Input + Print + Eprint + AllocGlobal>(
     rt: &R,
@@ -190,10 +221,7 @@ fn act<R: Files + Input + Print + Eprint + AllocGlobal>(
     match answer {
         Answer::Do(asked) => run(rt, is_watched, asked),
         Answer::Print(text) => print_text(rt, text.as_str()),
-        Answer::Refuse(text) => {
-            say_lines(rt, text.as_str());
-            2
-        }
+        Answer::Refuse(text) => refuse_words(rt, text.as_str()),
     }
 }
 
@@ -206,22 +234,19 @@ fn answer<R: Files + Input + Print + Eprint + AllocGlobal>(
     let mut texts: Vec<&str> = Vec::new(rt.alloc());
     for word in words {
         if texts.push(word.as_str()).is_err() {
-            return complain(rt, "the words", ToolFault::Memory);
+            return out_of_memory(rt);
         }
     }
     match answer_of(rt.alloc(), &texts) {
         Ok(answer) => act(rt, is_watched, answer),
-        Err(_) => complain(rt, "the words", ToolFault::Memory),
+        Err(_) => out_of_memory(rt),
     }
 }
 
 fn main(rt: HostRuntime) -> ExitCode {
     let is_watched = rt.stderr().is_terminal();
-    match words_of(&rt) {
-        Ok(words) => ExitCode::from(answer(&rt, is_watched, &words)),
-        Err(_) => {
-            let _ = eprintln!(rt; "comtrade: a word isn't valid text");
-            ExitCode::from(2)
-        }
-    }
+    ExitCode::from(match words_of(&rt) {
+        Ok(words) => answer(&rt, is_watched, &words),
+        Err(error) => refuse_start(&rt, error.kind()),
+    })
 }

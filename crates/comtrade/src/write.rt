@@ -1,6 +1,6 @@
 //! Writing pairs of files that are not there yet.
 
-use crate::{complain, note_size, pair_of, read_inputs, say};
+use crate::{complain, note_size, out_of_memory, pair_of, read_inputs, say};
 use comtrade_faults::{Pair, put_fault, put_refusal};
 use comtrade_pairs::{ConvertFault, converted};
 use comtrade_text::{ToolFault, fault_of, write_out};
@@ -64,11 +64,11 @@ pub(crate) fn write_named<R: Files + Eprint + AllocGlobal>(
     dat: &[u8],
 ) -> u8 {
     let Ok(cfg_name) = format!(in rt.alloc(); "{name}.cfg") else {
-        return complain(rt, name, ToolFault::Memory);
+        return out_of_memory(rt);
     };
     match format!(in rt.alloc(); "{name}.dat") {
         Ok(dat_name) => write_pair(rt, cfg_name.as_str(), dat_name.as_str(), cfg, dat),
-        Err(_) => complain(rt, name, ToolFault::Memory),
+        Err(_) => out_of_memory(rt),
     }
 }
 
@@ -90,7 +90,7 @@ fn refuse_pair<R: Eprint + AllocGlobal>(
             say(rt, &said);
             1
         }
-        Err(_) => complain(rt, "the pair", ToolFault::Memory),
+        Err(_) => out_of_memory(rt),
     }
 }
 

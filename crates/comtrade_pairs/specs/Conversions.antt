@@ -1,11 +1,11 @@
 -- A pair of files as a pair of another kind.
-use Rattle.std.specs.Prelude.{ℕ, List}
+use Rattle.std.specs.Prelude.{◌≡◌, ℕ, List, Some}
 use Rattle.dfr_channels.specs.Faults.{◌or◌}
 use Rattle.comtrade_write.specs.Parts.{FileParts}
 use Rattle.comtrade_write.specs.declared.file.Kind.{Kind}
 use Rattle.comtrade_write.specs.declared.fault.WriteFault.{WriteFault}
 use Rattle.comtrade_write.specs.Data.{dat_refusal}
-use Rattle.comtrade_write.specs.Refusals.{Fails, cfg_refusal}
+use Rattle.comtrade_write.specs.Refusals.{cfg_refusal}
 use Rattle.comtrade_read.specs.Reads.{Reads}
 use Rattle.comtrade_pairs.specs.declared.convert.ConvertFault.{ConvertFault}
 use Rattle.comtrade_pairs.specs.declared.convert.ConvertFault.TheVariants.{Read, Write, Memory}
@@ -21,11 +21,11 @@ pub record Converts (cfg dat : List ℕ) (kind : Kind) (new_cfg new_dat : List �
   pub reads : Reads cfg dat file
   pub reads_again : Reads new_cfg new_dat (of_kind kind file)
 
--- the pair reads to a file that a writer refuses so in this kind
+-- the pair reads to a file, and this is the writers' first refusal of it in this kind
 pub record IsRefused (cfg dat : List ℕ) (kind : Kind) (e : WriteFault) : Type 0 where
   pub file : FileParts
   pub reads : Reads cfg dat file
-  pub refused : Fails e (cfg_refusal (of_kind kind file) or dat_refusal kind (of_kind kind file))
+  pub refused : cfg_refusal (of_kind kind file) or dat_refusal kind (of_kind kind file) ≡ Some e
 
 -- why a pair isn't converted
 abbrev pub refuses : List ℕ → List ℕ → Kind → ConvertFault → Type 0

@@ -61,7 +61,7 @@ fn texts_of<A: Allocator + Copy>(alloc: A, file: &File<A>) -> Result<Written<A>,
 }
 
 /// The pair as a pair of this kind: what is written reads to the file that the pair reads to, but for its kind. `Read` is the
-/// pair's first fault; `Write` says by its place what a file of this kind can't hold.
+/// pair's first fault; `Write` is the writers' first refusal of that file in this kind.
 pub fn converted<A: Allocator + Copy>(
     alloc: A,
     cfg: &[u8],
@@ -79,7 +79,9 @@ pub fn converted<A: Allocator + Copy>(
     let file = with_kind(file, kind);
     match texts_of(alloc, &file) {
         Ok(pair) => Ok(pair),
-        Err(WriteFault::Memory) => Err(ConvertFault::Memory),
-        Err(fault) => Err(ConvertFault::Write(fault)),
+        Err(fault) => match fault {
+            WriteFault::Memory => Err(ConvertFault::Memory),
+            _ => Err(ConvertFault::Write(fault)),
+        },
     }
 }

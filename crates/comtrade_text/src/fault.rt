@@ -47,6 +47,7 @@ pub fn fault_of(kind: ErrorKind, other: ToolFault) -> ToolFault {
         ErrorKind::PermissionDenied => ToolFault::Denied,
         ErrorKind::AlreadyExists => ToolFault::Exists,
         ErrorKind::BrokenPipe => ToolFault::Closed,
+        ErrorKind::OutOfMemory => ToolFault::Memory,
         _ => other,
     }
 }

@@ -1,10 +1,12 @@
 //! What words ask for.
 
-ghost use Rattle.std.specs.Prelude.{◌≡◌, ◌↔◌, IfOk, IfSome, Some, codes, map};
-ghost use Rattle.clap.specs.Words.{first_value, found_of, subcommand_rows_of};
-ghost use Rattle.comtrade_words.specs.Asking.{AnswersTo, AreNames, Asks, AsksAs, Does, IsText};
+ghost use Rattle.std.specs.Prelude.{◌≡◌, ◌↔◌, IfOk, MatchOption, Some, codes, map};
+ghost use Rattle.clap.specs.Words.{first_value, found_of, kind_of, subcommand_rows_of};
+ghost use Rattle.comtrade_words.specs.Asking.{AnswersTo, AreNames, Asks, AsksAs, Does, FitsNothing, Tells};
+ghost use Rattle.comtrade_words.specs.Asking as Spec;
 
 use crate::commands::comtrade;
+use clap::error::ErrorKind;
 use clap::{ArgMatches, Error};
 use comtrade_write::Kind;
 use std::alloc::{AllocError, Global};
@@ -46,7 +48,8 @@ pub enum Answer<'a> {
 
 /// Both names of a pair; none where both are standard input.
 fn names_of<'a>(found: &ArgMatches<'a>) -> Option<Names<'a>>
-    ensures { IfSome result (AreNames (first_value (found_of found.now))) }
+    ensures { MatchOption result ((names : Names) → AreNames (first_value (found_of found.now)) names → ⊥)
+        (AreNames (first_value (found_of found.now))) }
 {
     let cfg = found.get_str("CFG")?;
     let dat = found.get_str("DAT")?;
@@ -68,7 +71,8 @@ fn kind_of(found: &ArgMatches<'_>) -> Kind
 
 /// What a command's matches ask for.
 fn asked_of<'a>(verb: &str, found: &ArgMatches<'a>) -> Option<Asked<'a>>
-    ensures { IfSome result (Asks (first_value (found_of found.now)) verb.now) }
+    ensures { MatchOption result (FitsNothing (Asks (first_value (found_of found.now)) verb.now))
+        (Asks (first_value (found_of found.now)) verb.now) }
 {
     if verb == "extract" {
         return Some(Asked::Extract(found.get_str("DIR")?));
@@ -95,7 +99,7 @@ fn asked_of<'a>(verb: &str, found: &ArgMatches<'a>) -> Option<Asked<'a>>
 /// What matches ask for; none where both files are standard input.
 #[tactic(auto, using(crate::proofs::MetCommands::asks_met))]
 fn asked_in<'a>(matches: &ArgMatches<'a>) -> Option<Asked<'a>>
-    ensures { IfSome result (AsksAs (subcommand_rows_of matches.now)) }
+    ensures { MatchOption result (FitsNothing (AsksAs (subcommand_rows_of matches.now))) (AsksAs (subcommand_rows_of matches.now)) }
 {
     match matches.subcommand() {
         Some((verb, found)) => asked_of(verb, found),
@@ -116,19 +120,30 @@ fn answer_to<'a>(alloc: Global, matches: &ArgMatches<'a>) -> Result<Answer<'a>, 
     }
 }
 
-/// The text of a parse that found nothing to do: help or the version, else why.
-fn told<'a>(alloc: Global, error: &Error) -> Result<Answer<'a>, AllocError>
-    ensures { IfOk result IsText }
+/// Help and the version are texts that words ask for.
+fn is_text(kind: ErrorKind) -> bool
+    ensures { result ≡ Spec.is_text kind }
 {
+    matches!(kind, ErrorKind::DisplayHelp | ErrorKind::DisplayVersion)
+}
+
+/// The text of a parse that found nothing to do: help or the version, else why. A parse that ran out of memory has none.
+fn told<'a>(alloc: Global, error: &Error) -> Result<Answer<'a>, AllocError>
+    ensures { IfOk result (Tells (kind_of error.now)) }
+{
+    let kind = error.kind();
+    if let ErrorKind::OutOfMemory = kind {
+        return Err(AllocError);
+    }
     let text = format!(in alloc; "{error}")?;
-    if error.use_stderr() {
-        Ok(Answer::Refuse(text))
-    } else {
+    if is_text(kind) {
         Ok(Answer::Print(text))
+    } else {
+        Ok(Answer::Refuse(text))
     }
 }
 
-/// What is to be done with the words after the program's name. What is done is what they ask for.
+/// What is to be done with the words after the program's name: what they ask for, if they ask for anything.
 pub fn answer_of<'a>(alloc: Global, words: &'a [&'a str]) -> Result<Answer<'a>, AllocError>
     ensures { IfOk result (AnswersTo (map (λ s. s.now) words.entry.now)) }
 {
