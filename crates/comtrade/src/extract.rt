@@ -1,9 +1,8 @@
 //! Cutting the records out of what a replay printed.
 
 use crate::write::write_named;
-use crate::{complain, read_named, say};
-use comtrade_text::{ToolFault, fault_of, put_safe};
-use comtrade_tools::{Next, Printed, next_record};
+use crate::{complain, out_of_memory, read_named, say};
+use comtrade_text::{Next, Printed, ToolFault, fault_of, next_record, put_safe};
 use std::fs;
 use std::rt::Files;
 
@@ -27,11 +26,13 @@ fn write_record<R: Files + Print + Eprint + AllocGlobal>(
 /// Says what no replay prints, or the fault that ended one.
 fn refuse_line<R: Eprint + AllocGlobal>(rt: &R, what: &str, line: &[u8]) {
     let mut text = Vec::new(rt.alloc());
-    if put_safe(&mut text, line).is_ok() {
-        let _ = eprint!(rt; "comtrade: standard input: {what}: ");
-        say(rt, &text);
-        let _ = eprintln!(rt; "");
+    if put_safe(&mut text, line).is_err() {
+        out_of_memory(rt);
+        return;
     }
+    let _ = eprint!(rt; "comtrade: standard input: {what}: ");
+    say(rt, &text);
+    let _ = eprintln!(rt; "");
 }
 
 /// Says how many records were written before the cutting stopped.

@@ -1,2 +1,4 @@
 pub mod Safe
 pub mod Written
+pub mod Replayed
+pub mod Pieces

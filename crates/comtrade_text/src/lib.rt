@@ -1,13 +1,15 @@
-//! What the tools over COMTRADE files read and print: bytes up to a limit, texts of a file as printable characters alone, and
-//! why a tool stopped.
+//! What the tools over COMTRADE files read and print: bytes up to a limit, texts of a file as printable characters alone, the
+//! records that a replay printed, and why a tool stopped.
 #![tactic(auto)]
 
 mod fault;
 mod input;
 mod output;
+mod records;
 mod text;
 
 pub use fault::{ToolFault, fault_of};
 pub use input::read_up_to;
 pub use output::{flush_if_full, write_out};
+pub use records::{Next, Printed, next_record};
 pub use text::{kind_name, put, put_count, put_number, put_quoted, put_safe, put_signed, put_with};

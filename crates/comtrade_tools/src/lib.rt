@@ -1,5 +1,4 @@
-//! Tools over the value of a pair of COMTRADE files of C37.111-1999: what is in it, its rows as CSV, a picture; and the records of a
-//! replay.
+//! Tools over the value of a pair of COMTRADE files of C37.111-1999: what is in it, its rows as CSV, a picture.
 #![tactic(auto)]
 
 mod comma_separated;
@@ -10,7 +9,6 @@ mod panels;
 mod peaks;
 mod phases;
 mod plot;
-mod records;
 mod show;
 mod show_analog;
 mod show_status;
@@ -22,5 +20,4 @@ mod trace;
 
 pub use comma_separated::csv_over;
 pub use plot::plot_over;
-pub use records::{Next, Printed, next_record};
 pub use show::show_over;

@@ -2,8 +2,8 @@
 
 ghost use Rattle.std.specs.Prelude.{◌≡◌, ◌≢◌, MatchOption, ◌∷◌, ◌++◌, ◌<◌, ◌^◌, ℕ, List, [], Some, IfNone, IfSome, IsSomeAnd, IsTrue, length, codes, decimal, position};
 ghost use Rattle.std.specs.List.{before_first, after_first};
-ghost use Rattle.comtrade_tools.specs.Replayed as Replayed;
-ghost use Rattle.comtrade_tools.specs.Pieces.{is_feed, is_space, Holds, Answers, Ends};
+ghost use Rattle.comtrade_text.specs.Replayed as Replayed;
+ghost use Rattle.comtrade_text.specs.Pieces.{is_feed, is_space, Holds, Answers, Ends};
 
 use dfr_channels::numeral_of;
 

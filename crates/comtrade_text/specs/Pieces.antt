@@ -1,9 +1,9 @@
 -- What the steps of the cutting find.
 use Rattle.std.specs.Prelude.{◌≡◌, ℕ, Bool, ◌==◌, List}
-use Rattle.comtrade_tools.specs.declared.records.Printed.{Printed}
-use Rattle.comtrade_tools.specs.declared.records.Piece.{Piece}
-use Rattle.comtrade_tools.specs.declared.records.Piece.TheVariants as piece
-use Rattle.comtrade_tools.specs.Replayed.{line_feed, Taken, Ending, Finds}
+use Rattle.comtrade_text.specs.declared.records.Printed.{Printed}
+use Rattle.comtrade_text.specs.declared.records.Piece.{Piece}
+use Rattle.comtrade_text.specs.declared.records.Piece.TheVariants as piece
+use Rattle.comtrade_text.specs.Replayed.{line_feed, Taken, Ending, Finds}
 
 abbrev pub is_feed : ℕ → Bool
 is_feed b = b == line_feed

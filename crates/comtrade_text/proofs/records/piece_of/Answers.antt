@@ -1,13 +1,13 @@
 use Rattle.std.proofs.Common.{◌≡◌, ◌++◌, ◌∷◌, List, ℕ, drop, ap, ◌∙◌, rules, sym, subst}
 use Rattle.std.specs.Prelude.{codes}
 use Rattle.std.specs.List.{before_first, after_first}
-use Rattle.comtrade_tools.specs.declared.records.Next.{Next}
-use Rattle.comtrade_tools.specs.declared.records.Next.TheVariants as next
-use Rattle.comtrade_tools.specs.Pieces.{is_feed}
-use Rattle.comtrade_tools.specs.Replayed.{Answer, answer_line, IsOneLine, Taken, IsRecord, record_text, extent_words, files_text, Ending, Record, Fault, Nothing, IsEnding, ending_text, Finds}
-use Rattle.comtrade_tools.proofs.Cutting.{found, record_found, fault_found, stripped, not_stripped, no_record, begins}
-use Rattle.comtrade_tools.proofs.records.piece_of.Goals as goal
-use Rattle.comtrade_tools.proofs.records.piece_of.Goals.{in-Some-record_of, in-None}
+use Rattle.comtrade_text.specs.declared.records.Next.{Next}
+use Rattle.comtrade_text.specs.declared.records.Next.TheVariants as next
+use Rattle.comtrade_text.specs.Pieces.{is_feed}
+use Rattle.comtrade_text.specs.Replayed.{Answer, answer_line, IsOneLine, Taken, IsRecord, record_text, extent_words, files_text, Ending, Record, Fault, Nothing, IsEnding, ending_text, Finds}
+use Rattle.comtrade_text.proofs.Cutting.{found, record_found, fault_found, stripped, not_stripped, no_record, begins}
+use Rattle.comtrade_text.proofs.records.piece_of.Goals as goal
+use Rattle.comtrade_text.proofs.records.piece_of.Goals.{in-Some-record_of, in-None}
 
 record_ends : (c : goal.Joined-record_of) (e : Ending) → IsEnding e → c.args.text.now ≡ ending_text e → Finds c.match-record_of.result e
 record_ends c (Record r after) ok e =

@@ -1,7 +1,7 @@
 use Rattle.std.proofs.Common.{◌≡◌, Some, ap, ◌∙◌, rules}
 use Rattle.dfr_channels.specs.Spelling.{capped_size}
-use Rattle.comtrade_tools.proofs.Cutting.{read_again}
-use Rattle.comtrade_tools.proofs.records.number_of.Goals as goal
+use Rattle.comtrade_text.proofs.Cutting.{read_again}
+use Rattle.comtrade_text.proofs.records.number_of.Goals as goal
 
 pub returns-in_err-numeral_of : goal.returns-in_err-numeral_of
 returns-in_err-numeral_of c = λ n small e.

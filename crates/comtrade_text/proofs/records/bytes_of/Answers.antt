@@ -1,6 +1,6 @@
 use Rattle.std.proofs.Common.{◌≡◌, ◌++◌, length, Some, decimal, ◌∙◌, rules, arith, ap}
-use Rattle.comtrade_tools.proofs.Cutting.{sized_found, stripped, not_stripped, split_found}
-use Rattle.comtrade_tools.proofs.records.bytes_of.Goals as goal
+use Rattle.comtrade_text.proofs.Cutting.{sized_found, stripped, not_stripped, split_found}
+use Rattle.comtrade_text.proofs.records.bytes_of.Goals as goal
 
 pub returns-in_err-strip_prefix : goal.returns-in_err-strip_prefix
 returns-in_err-strip_prefix c = λ bytes after small one e.

@@ -1,10 +1,10 @@
 use Rattle.std.proofs.Common.{◌≡◌, ◌∷◌, [], List, ℕ, drop, decimal, ◌∙◌, ap}
 use Rattle.std.specs.Prelude.{codes}
 use Rattle.std.specs.List.{before_first}
-use Rattle.comtrade_tools.specs.Pieces.{is_space}
-use Rattle.comtrade_tools.specs.Replayed.{sized}
-use Rattle.comtrade_tools.proofs.Cutting.{number_found, not_stripped, one_line_cfg, one_line_dat}
-use Rattle.comtrade_tools.proofs.records.record_of.Goals as goal
+use Rattle.comtrade_text.specs.Pieces.{is_space}
+use Rattle.comtrade_text.specs.Replayed.{sized}
+use Rattle.comtrade_text.proofs.Cutting.{number_found, not_stripped, one_line_cfg, one_line_dat}
+use Rattle.comtrade_text.proofs.records.record_of.Goals as goal
 
 pub returns-in_err-number : goal.returns-in_err-number
 returns-in_err-number c = λ r after ok line text.

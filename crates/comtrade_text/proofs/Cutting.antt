@@ -15,8 +15,8 @@ use Rattle.std.proofs.lemmas.List.Sums.{position_or_len_is}
 use Rattle.std.proofs.lemmas.Bool.{lt-ltb, and_from}
 use Rattle.std.proofs.lemmas.Bool.Decides.{nat_tests}
 use Rattle.dfr_channels.specs.Spelling.{capped_size, is_numeral}
-use Rattle.comtrade_tools.specs.Pieces.{is_feed, is_space}
-use Rattle.comtrade_tools.specs.Replayed.{IsOneLine, sized, Answer, answer_line, answers_text, Taken, IsRecord, record_text, extent_words, files_text}
+use Rattle.comtrade_text.specs.Pieces.{is_feed, is_space}
+use Rattle.comtrade_text.specs.Replayed.{IsOneLine, sized, Answer, answer_line, answers_text, Taken, IsRecord, record_text, extent_words, files_text}
 
 -- this byte doesn't stand in it
 abbrev Lacks : ℕ → List ℕ → Type 0

@@ -1,9 +1,9 @@
 use Rattle.std.proofs.Common.{◌≡◌, ℕ, ◌+◌, ◌<◌, ◌≤◌, List, [], ◌∷◌, length, ap, arith}
-use Rattle.comtrade_tools.specs.declared.records.Next.TheVariants.{End}
-use Rattle.comtrade_tools.specs.Replayed.{Answer, Ending, Record, Fault, Nothing, AreLines, IsEnding, answers_text, ending_text, Finds}
-use Rattle.comtrade_tools.proofs.Cutting.{answers_long}
-use Rattle.comtrade_tools.proofs.records.next_record.Invariants.{Left}
-use Rattle.comtrade_tools.proofs.records.next_record.Goals as goal
+use Rattle.comtrade_text.specs.declared.records.Next.TheVariants.{End}
+use Rattle.comtrade_text.specs.Replayed.{Answer, Ending, Record, Fault, Nothing, AreLines, IsEnding, answers_text, ending_text, Finds}
+use Rattle.comtrade_text.proofs.Cutting.{answers_long}
+use Rattle.comtrade_text.proofs.records.next_record.Invariants.{Left}
+use Rattle.comtrade_text.proofs.records.next_record.Goals as goal
 
 pub loop-i-init : goal.loop-i-init
 loop-i-init c = λ answers e lines ok is. record { more = answers; lines = lines; is = is; fewer = omega arith }

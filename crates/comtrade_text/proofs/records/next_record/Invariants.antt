@@ -1,6 +1,6 @@
 use Rattle.std.proofs.Common.{◌≡◌, ℕ, ◌+◌, ◌≤◌, List, length}
-use Rattle.comtrade_tools.specs.Replayed.{Answer, Ending, AreLines, IsEnding, answers_text, ending_text}
-use Rattle.comtrade_tools.proofs.records.next_record.Given as goal
+use Rattle.comtrade_text.specs.Replayed.{Answer, Ending, AreLines, IsEnding, answers_text, ending_text}
+use Rattle.comtrade_text.proofs.records.next_record.Given as goal
 
 -- some of the answers are left, and what ends them
 pub record Left (answers : List Answer) (e : Ending) (i : ℕ) (left : List ℕ) : Type 0 where

@@ -1,8 +1,8 @@
 -- What a replay prints, as far as its records are cut out of it.
 use Rattle.std.specs.Prelude.{◌≡◌, ⊤, ℕ, ◌^◌, ◌<◌, List, [], ◌∷◌, ◌++◌, length, codes, decimal}
 use Rattle.std.specs.List.{All}
-use Rattle.comtrade_tools.specs.declared.records.Next.{Next}
-use Rattle.comtrade_tools.specs.declared.records.Next.TheVariants as next
+use Rattle.comtrade_text.specs.declared.records.Next.{Next}
+use Rattle.comtrade_text.specs.declared.records.Next.TheVariants as next
 
 -- an answer that is one line; the words after the first one are any
 pub data Answer : Type 0 where
