@@ -1,10 +1,9 @@
-use Rattle.std.proofs.Common.{◌≤◌, ◌⊎◌, [], true, length}
-use Rattle.std.specs.Io.KnownBytes.{Appends}
+use Rattle.std.proofs.Common.{◌≡◌, ◌<◌, true, length, arith}
 use Rattle.dfr_channels.specs.Lines.{lines}
 use Rattle.dfr_script.specs.Scripts.{script_value}
 use Rattle.dfr_program.specs.Faults.{script_fault}
-use Rattle.dfr_program.specs.Replays.{PrintsAnswers, PrintsFirst, CutAt}
-use Rattle.dfr_program.proofs.Replaying.{known, known_done, known_ok}
+use Rattle.dfr_program.specs.Replays.{PrintsAnswers, PrintsFirst, CutAt, IsUnread}
+use Rattle.dfr_program.proofs.Replaying.{known, known_done, known_or, known_always, stopped_unread}
 use Rattle.dfr_program.proofs.replay.replay_over.Goals as goal
 
 pub returns-clause-answers : goal.returns-clause-answers
@@ -13,12 +12,12 @@ returns-clause-answers g c =
 
 pub returns-clause-memory : goal.returns-clause-memory
 returns-clause-memory g c e =
-    known c.in_ok-text.text.items (λ t. Appends (g.W.Write.contents c.args.w.now) (g.W.Write.contents c.replay_text.new.w) [] ⊎ PrintsFirst c.args.kind (script_value (lines t)) (g.W.Write.contents c.args.w.now) (g.W.Write.contents c.replay_text.new.w)) (g.R.Read.remaining c.args.r.now) c.in_ok-text.ensures.bytes (c.replay_text.ensures.memory e)
+    known_or (c.replay_text.new.w ≡ c.args.w.now) c.in_ok-text.text.items (λ t. PrintsFirst c.args.kind (script_fault t) (script_value (lines t)) (g.W.Write.contents c.args.w.now) (g.W.Write.contents c.replay_text.new.w)) (g.R.Read.remaining c.args.r.now) c.in_ok-text.ensures.bytes (c.replay_text.ensures.memory e)
 
 pub returns-clause-output : goal.returns-clause-output
 returns-clause-output g c e =
     known c.in_ok-text.text.items (λ t. CutAt c.args.kind (script_fault t) (script_value (lines t)) (g.W.Write.contents c.args.w.now) (g.W.Write.contents c.replay_text.new.w)) (g.R.Read.remaining c.args.r.now) c.in_ok-text.ensures.bytes (c.replay_text.ensures.output e)
 
-pub returns-clause-short : goal.returns-clause-short
-returns-clause-short g c =
-    known_ok c.replay_text.result c.in_ok-text.text.items (λ t. length t ≤ 16777216) (g.R.Read.remaining c.args.r.now) c.in_ok-text.ensures.bytes c.in_ok-text.ensures.short
+pub returns-clause-long : goal.returns-clause-long
+returns-clause-long g c =
+    known c.in_ok-text.text.items (λ t. 16777216 < length t → IsUnread c.replay_text.result × (c.replay_text.new.w ≡ c.args.w.now)) (g.R.Read.remaining c.args.r.now) c.in_ok-text.ensures.bytes (λ more. absurd (omega (arith, more, c.in_ok-text.ensures.short)))
