@@ -9,16 +9,13 @@ use Rattle.dfr_script.specs.Parts.{CommandParts, ScriptParts}
 use Rattle.comtrade_write.specs.declared.file.Kind.{Kind}
 use Rattle.dfr_program.specs.declared.fault.RunFault.{RunFault}
 use Rattle.dfr_program.specs.declared.fault.RunFault.TheVariants.{Memory, Output, Input}
-use Rattle.dfr_program.specs.declared.fault.InputFault.{InputFault}
-use Rattle.dfr_program.specs.declared.fault.InputFault.TheVariants as input
 use Rattle.dfr_program.specs.declared.prepared.Fault.{Fault}
-use Rattle.dfr_program.specs.Inputs as inputs
 use Rattle.dfr_program.specs.Faults.{IsMadeOf}
 use Rattle.dfr_program.specs.FaultTexts.{fault_text}
 use Rattle.dfr_program.specs.Transcript.{transcript}
 use Rattle.dfr_program.specs.Writing.{Grows, Wrote, Cut}
 use Rattle.dfr_program.specs.Answering.{AllPrinted}
-use Rattle.dfr_program.specs.Replays.{Written, IsOpenedBy, PrintsAnswers, PrintsFirst, CutAt, IsUnread}
+use Rattle.dfr_program.specs.Replays.{Written, IsOpenedBy, PrintsAnswers, PrintsFirst, CutAt}
 use Rattle.dfr_program.proofs.Printing.{appends_all, wrote_then, wrote_all, cut_then}
 use Rattle.dfr_program.proofs.Answering.{transcript-more}
 
@@ -146,13 +143,3 @@ known_done (Err f) b t P given e p = tt
 pub known_or : (X : Type 0) (t : List ℕ) (P : List ℕ → Type 0) (given : Option (List ℕ)) → IfSome given (λ b. t ≡ b) → X ⊎ P t → X ⊎ IfSome given P
 known_or X t P given e (inl x) = inl x
 known_or X t P given e (inr p) = inr (known t P given e p)
-
-pub known_always : (P : List ℕ → Type 0) (given : Option (List ℕ)) → ((b : List ℕ) → P b) → IfSome given P
-known_always P None p = tt
-known_always P (Some b) p = p b
-
--- a reading that stopped
-pub stopped_unread : {U : Type 0} (r : Result U RunFault) (f : InputFault) → r ≡ Err (inputs.run_fault f) → IsUnread r
-stopped_unread {U = U} r input.Failed e = subst (λ (v : Result U RunFault). IsUnread v) (sym e) tt
-stopped_unread {U = U} r input.Long e = subst (λ (v : Result U RunFault). IsUnread v) (sym e) tt
-stopped_unread {U = U} r input.Memory e = subst (λ (v : Result U RunFault). IsUnread v) (sym e) tt

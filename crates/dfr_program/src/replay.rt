@@ -122,6 +122,8 @@ pub fn replay_over<A: Allocator + Copy, R: Read, W: Write>(
     ensures long { IfSome (R.remaining r.old) (λ text. 16777216 < length text →
         IsUnread result × (w.new ≡ w.old)) }
 {
-    let text = read_all(alloc, r)?;
-    replay_text(alloc, text, w, kind)
+    match read_all(alloc, r) {
+        Ok(text) => replay_text(alloc, text, w, kind),
+        Err(fault) => Err(RunFault::from(fault)),
+    }
 }
