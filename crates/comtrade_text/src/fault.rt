@@ -1,5 +1,8 @@
 //! Why a tool stopped.
 
+ghost use Rattle.std.specs.Prelude.{◌≡◌};
+ghost use Rattle.comtrade_text.specs.declared.fault.ToolFault.TheVariants as fault;
+
 use dfr_channels::Memory;
 use std::alloc::{AllocError, AllocFailed};
 use std::io::ErrorKind;
@@ -53,6 +56,8 @@ pub fn fault_of(kind: ErrorKind, other: ToolFault) -> ToolFault {
 }
 
 impl From<AllocError> for ToolFault {
+    ghost from_gives = { λ _ e. e ≡ fault.Memory };
+
     fn from(_error: AllocError) -> ToolFault {
         ToolFault::Memory
     }

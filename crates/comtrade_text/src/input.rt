@@ -1,6 +1,6 @@
 //! What comes in, up to a limit.
 
-ghost use Rattle.std.specs.Prelude.{◌≡◌, ◌≤◌, ◌++◌, IfOk, IfSome, length};
+ghost use Rattle.std.specs.Prelude.{◌≡◌, ◌⊎◌, ◌<◌, ◌≤◌, ◌++◌, length, Err, IfOk, IfErr, IfSome};
 
 use crate::fault::ToolFault;
 use std::alloc::{AllocError, Allocator};
@@ -19,7 +19,8 @@ fn append<A: Allocator>(bytes: &mut Vec<u8, A>, piece: &[u8]) -> Result<(), Allo
     Ok(())
 }
 
-/// All that the reader has, where it is at most so many bytes; more is `Long`, and a read that failed is `Input`.
+/// All that the reader has, where it is at most so many bytes; more is `Long`. A read that failed is
+/// `Input`, for whatever cause: none is tried again. `Memory`: an allocation failed here.
 pub fn read_up_to<A: Allocator, R: Read>(
     alloc: A,
     r: &mut R,
@@ -27,6 +28,10 @@ pub fn read_up_to<A: Allocator, R: Read>(
 ) -> Result<Vec<u8, A>, ToolFault>
     ensures bytes { IfOk result (λ v. IfSome (R.remaining r.old) (λ bytes. v.items ≡ bytes)) }
     ensures short { IfOk result (λ v. length v.items ≤ limit) }
+    ensures long { result ≡ Err ToolFault.Long →
+        IfSome (R.remaining r.old) (λ bytes. limit < length bytes) }
+    ensures fault { IfErr result (λ fault. (fault ≡ ToolFault.Long)
+        ⊎ (fault ≡ ToolFault.Input) ⊎ (fault ≡ ToolFault.Memory)) }
 {
     let mut bytes = Vec::new(alloc);
     let mut piece = [0u8; 16_384];

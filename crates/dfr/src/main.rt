@@ -34,7 +34,7 @@ fn read_file<R: Files>(rt: &R, alloc: Global, path: &str) -> Result<Vec<u8>, Run
     ensures { IfOk result (λ bytes. length bytes.items ≤ 16777216) }
 {
     match File::open(rt, path) {
-        Ok(mut file) => read_all(alloc, &mut file),
+        Ok(mut file) => Ok(read_all(alloc, &mut file)?),
         Err(_) => Err(RunFault::Input),
     }
 }

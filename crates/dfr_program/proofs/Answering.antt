@@ -200,7 +200,8 @@ refault U V Input a b x y t p = p
 stopped : (U : Type 0) (e : RunFault) (kind : Kind) (o : Opening) (h : List StepParts) (cs left all : List CommandParts) (c : CommandParts) (a b d : Option (List ℕ)) (x y z : List ℕ) → cs ++ (c ∷ left) ≡ all → Wrote a b y (x ++ transcript kind o h cs) → Printed {U = U} (Err e) b y d z (step_text kind o (history_after o h cs) (step_of o.layout c)) → AllPrinted {U = U} (Err e) kind o h all a x d z
 stopped U Memory kind o h cs left all c a b d x y z q w p = record {
   done = cs;
-  left = c ∷ left;
+  failed = c;
+  left = left;
   list = q;
   wrote = subst (λ (v : Option (List ℕ)). Wrote a v z (x ++ transcript kind o h cs)) (sym p.0) (subst (λ v. Wrote a b v (x ++ transcript kind o h cs)) (sym p.1) w);
 }

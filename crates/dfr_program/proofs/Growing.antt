@@ -1,5 +1,5 @@
 -- Writing some bytes after others.
-use Rattle.std.proofs.Common.{ℕ, List, [], ◌++◌, Option, take, drop}
+use Rattle.std.proofs.Common.{◌≡◌, ◌≢◌, ◌<◌, ℕ, List, [], ◌++◌, Option, take, drop, length, length-drop, ap, arith}
 use Rattle.std.proofs.KnownBytes.{Appends-nil, Appends-trans}
 use Rattle.std.specs.Io.KnownBytes.{Appends}
 use Rattle.std.proofs.lemmas.List.{take-append-drop}
@@ -14,8 +14,15 @@ grows_by a b x h = record { text = x; appends = h }
 pub grows_on : (a b c : Option (List ℕ)) → Grows a b → Grows b c → Grows a c
 grows_on a b c g h = record { text = g.text ++ h.text; appends = Appends-trans a b c g.text h.text g.appends h.appends }
 
--- some first bytes of a text
-pub cut_some : (a b : Option (List ℕ)) (n : ℕ) (t : List ℕ) → Appends a b (take n t) → Cut a b t
-cut_some a b n t h = record { rest = drop n t; wrote = record { front = take n t; appends = h; whole = take-append-drop n t } }
+dropped_some : (n : ℕ) (t : List ℕ) → n < length t → drop n t ≢ []
+dropped_some n t more e = omega (arith, more, ap length e, length-drop n t)
+
+-- some first bytes of a text, but not all
+pub cut_some : (a b : Option (List ℕ)) (n : ℕ) (t : List ℕ) → n < length t → Appends a b (take n t) → Cut a b t
+cut_some a b n t more h = record {
+  rest = drop n t;
+  missing = dropped_some n t more;
+  wrote = record { front = take n t; appends = h; whole = take-append-drop n t };
+}
 
 pub ruleset growing = (grows_none, grows_by, grows_on, cut_some)

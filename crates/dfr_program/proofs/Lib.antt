@@ -1,6 +1,7 @@
 mod Answering
 mod Growing
 mod Living
+mod Pairing
 mod Planning
 mod Printing
 mod Replaying

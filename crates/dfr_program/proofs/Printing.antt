@@ -1,5 +1,5 @@
 -- Printing one text after another: the front of them is written, and the rest buffered.
-use Rattle.std.proofs.Common.{◌≡◌, refl, ℕ, List, [], ◌++◌, Option, Result, Ok, Err, sym, ap, ◌∙◌, subst, append_assoc}
+use Rattle.std.proofs.Common.{◌≡◌, ◌≢◌, refl, ℕ, List, [], ◌∷◌, ◌++◌, Option, Result, Ok, Err, sym, ap, ◌∙◌, subst, append_assoc}
 use Rattle.std.specs.Prelude.{OnOk, IfErr}
 use Rattle.std.proofs.KnownBytes.{Appends-nil, Appends-trans}
 use Rattle.std.specs.Io.KnownBytes.{Appends}
@@ -26,11 +26,16 @@ wrote_then a b c y z t u v w = record {
 }
 
 pub cut_then : (a b c : Option (List ℕ)) (y t u : List ℕ) → Wrote a b y t → Cut b c (y ++ u) → Cut a c (t ++ u)
-cut_then a b c y t u v k = record { rest = k.rest; wrote = wrote_then a b c y k.rest t u v k.wrote }
+cut_then a b c y t u v k = record { rest = k.rest; missing = k.missing; wrote = wrote_then a b c y k.rest t u v k.wrote }
+
+longer_some : (xs ys : List ℕ) → xs ≢ [] → xs ++ ys ≢ []
+longer_some [] ys h = λ e. h refl
+longer_some (x ∷ xs) ys h = λ e. cc
 
 pub cut_more : (a b : Option (List ℕ)) (t u : List ℕ) → Cut a b t → Cut a b (t ++ u)
 cut_more a b t u k = record {
   rest = k.rest ++ u;
+  missing = longer_some k.rest u k.missing;
   wrote = record {
     front = k.wrote.front;
     appends = k.wrote.appends;

@@ -1,6 +1,5 @@
 -- Commands that a script's recorder answers, and what was written of the answers.
-use Rattle.std.proofs.Common.{◌≡◌, ◌≢◌, ◌⊎◌, inl, inr, true, false, Bool, ℕ, List, [], ◌++◌, length, Option, Some, None, Result, Ok, Err, sym, ap, subst}
-use Rattle.std.proofs.KnownBytes.{Appends-nil}
+use Rattle.std.proofs.Common.{◌≡◌, ◌≢◌, ◌⊎◌, inl, inr, true, false, Bool, ℕ, List, [], ◌∷◌, ◌++◌, length, Option, Some, None, Result, Ok, Err, sym, ap, subst}
 use Rattle.std.specs.Prelude.{IfOk, IfErr, IfSome}
 use Rattle.std.specs.Io.KnownBytes.{Appends}
 use Rattle.std.proofs.lemmas.List.{append-nil}
@@ -43,7 +42,7 @@ pub written_then : {U V : Type 0} (r : Result U RunFault) (q : Result V RunFault
 written_then (Ok u) q kind o cs a b c x y p e s n f g h = absurd (cc)
 written_then (Err d) (Ok v) kind o cs a b c x y p e s n f g h = absurd (cc)
 written_then (Err Memory) (Err Memory) kind o cs a b c x y p e s n f g h =
-    record { done = p.done; left = p.left; list = p.list; written = sent_all a b c x y (transcript kind o [] p.done) e p.wrote s }
+    record { done = p.done; failed = p.failed; left = p.left; list = p.list; written = sent_all a b c x y (transcript kind o [] p.done) e p.wrote s }
 written_then (Err Output) (Err Output) kind o cs a b c x y p e s n f g h =
     cut_here a b c x (transcript kind o [] cs) e p.0 (n (no_length y p.1))
 written_then (Err Memory) (Err Output) kind o cs a b c x y p e s n f g h = absurd (cc)
@@ -65,7 +64,7 @@ written_cut (Err Memory) q kind o cs a b c x y p e s n h = absurd (cc)
 written_cut (Err Input) q kind o cs a b c x y p e s n h = absurd (cc)
 written_cut (Err Output) (Ok u) kind o cs a b c x y p e s n h = sent_part a b c x y (transcript kind o [] cs) e p s
 written_cut (Err Output) (Err Memory) kind o cs a b c x y p e s n h =
-    subst (λ (v : List CommandParts). Cut a c (transcript kind o [] v)) p.list (transcript-more kind o [] p.done p.left a c (sent_part a b c x y (transcript kind o [] p.done) e p.wrote s))
+    subst (λ (v : List CommandParts). Cut a c (transcript kind o [] v)) p.list (transcript-more kind o [] p.done (p.failed ∷ p.left) a c (sent_part a b c x y (transcript kind o [] p.done) e p.wrote s))
 written_cut (Err Output) (Err Output) kind o cs a b c x y p e s n h = cut_here a b c x (transcript kind o [] cs) e p.0 (n (no_length y p.1))
 written_cut (Err Output) (Err Input) kind o cs a b c x y p e s n h = absurd p
 
@@ -112,11 +111,11 @@ pub replayed_answers : (r : Result Bool RunFault) (kind : Kind) (s : ScriptParts
 replayed_answers (Ok done) kind s a c p = λ e. record { opening = p.opening; opened = p.opened; written = p.written }
 replayed_answers (Err fault) kind s a c p = tt
 
-pub replayed_memory : (r : Result Bool RunFault) (kind : Kind) (s : ScriptParts) (a c : Option (List ℕ)) → Replayed r kind s a c → r ≡ Err Memory → Appends a c [] ⊎ PrintsFirst kind s a c
-replayed_memory (Ok done) kind s a c p e = absurd (cc)
-replayed_memory (Err Memory) kind s a c p e = inr (record { opening = p.opening; opened = p.opened; first = p.written })
-replayed_memory (Err Output) kind s a c p e = absurd (cc)
-replayed_memory (Err Input) kind s a c p e = absurd (cc)
+pub replayed_memory : (r : Result Bool RunFault) (kind : Kind) (f : Option Fault) (s : ScriptParts) (a c : Option (List ℕ)) → Replayed r kind s a c → f ≡ None → r ≡ Err Memory → PrintsFirst kind f s a c
+replayed_memory (Ok done) kind f s a c p q e = absurd (cc)
+replayed_memory (Err Memory) kind f s a c p q e = record { right = q; opening = p.opening; opened = p.opened; first = p.written }
+replayed_memory (Err Output) kind f s a c p q e = absurd (cc)
+replayed_memory (Err Input) kind f s a c p q e = absurd (cc)
 
 pub replayed_output : (r : Result Bool RunFault) (kind : Kind) (f : Option Fault) (s : ScriptParts) (a c : Option (List ℕ)) → Replayed r kind s a c → f ≡ None → r ≡ Err Output → CutAt kind f s a c
 replayed_output (Ok done) kind f s a c p q e = absurd (cc)
@@ -131,9 +130,6 @@ pub never_done : {E : Type 0} (P : Type 0) (r : Result Bool E) → IfOk r (λ d.
 never_done P (Ok d) e = λ h. absurd (cc)
 never_done P (Err f) e = tt
 
-pub nothing_written : (kind : Kind) (s : ScriptParts) (a c : Option (List ℕ)) → c ≡ a → Appends a c [] ⊎ PrintsFirst kind s a c
-nothing_written kind s a c e = inl (subst (λ (v : Option (List ℕ)). Appends a v []) (sym e) (Appends-nil a))
-
 -- ---- where it is known what a reader has
 
 pub known : (t : List ℕ) (P : List ℕ → Type 0) (given : Option (List ℕ)) → IfSome given (λ b. t ≡ b) → P t → IfSome given P
@@ -144,6 +140,6 @@ pub known_done : {E : Type 0} (r : Result Bool E) (b : Bool) (t : List ℕ) (P :
 known_done (Ok d) b t P given e p = λ h. known t P given e (p h)
 known_done (Err f) b t P given e p = tt
 
-pub known_ok : {U E : Type 0} (r : Result U E) (t : List ℕ) (P : List ℕ → Type 0) (given : Option (List ℕ)) → IfSome given (λ b. t ≡ b) → P t → IfOk r (λ _. IfSome given P)
-known_ok (Ok d) t P given e p = known t P given e p
-known_ok (Err f) t P given e p = tt
+pub known_or : (X : Type 0) (t : List ℕ) (P : List ℕ → Type 0) (given : Option (List ℕ)) → IfSome given (λ b. t ≡ b) → X ⊎ P t → X ⊎ IfSome given P
+known_or X t P given e (inl x) = inl x
+known_or X t P given e (inr p) = inr (known t P given e p)

@@ -1,5 +1,5 @@
 -- What comes of a step and of commands, whatever the history was: the text that is printed, and what the recorder keeps.
-use Rattle.std.specs.Prelude.{◌≡◌, ℕ, List, [], ◌++◌, Option, Result, Ok, Err, OnOk}
+use Rattle.std.specs.Prelude.{◌≡◌, ℕ, List, [], ◌∷◌, ◌++◌, Option, Result, Ok, Err, OnOk}
 use Rattle.dfr_channels.specs.declared.rules.RuleFault.{RuleFault}
 use Rattle.dfr_recorder.specs.Steps.{StepParts}
 use Rattle.dfr_recorder.specs.History.{Opening}
@@ -21,11 +21,12 @@ pub record PrintsStep {U : Type 0} (r : Result U RunFault) (kind : Kind) (old : 
   pub text : (o : Opening) (h : List StepParts) → kept o h ≡ old → Printed r held before holds buffered (step_text kind o h s)
   pub after : OnOk r ((o : Opening) (h : List StepParts) → kept o h ≡ old → kept o (followed h s) ≡ new)
 
--- the answers to the first commands, up to the one at which an allocation failed, are printed
+-- the answers to the first commands are printed, up to the one at which an allocation failed
 pub record PrintsSome (kind : Kind) (o : Opening) (h : List StepParts) (commands : List CommandParts) (held : Option (List ℕ)) (before : List ℕ) (holds : Option (List ℕ)) (buffered : List ℕ) : Type 0 where
   pub done : List CommandParts
+  pub failed : CommandParts
   pub left : List CommandParts
-  pub list : done ++ left ≡ commands
+  pub list : done ++ failed ∷ left ≡ commands
   pub wrote : Wrote held holds buffered (before ++ transcript kind o h done)
 
 -- all answers are printed; where an allocation failed, those to the first commands; where a write failed, a front of them all

@@ -1,4 +1,5 @@
 pub mod Words
+pub mod Inputs
 pub mod Faults
 pub mod FaultTexts
 pub mod Texts

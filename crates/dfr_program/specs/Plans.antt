@@ -1,7 +1,8 @@
 -- What a live run is given of a script: the scans that are fed, lost ones among them, and the orders
 -- with their places.
-use Rattle.std.specs.Prelude.{◌≡◌, ℕ, ◌+◌, List, [], ◌∷◌, ◌++◌, length, Option, None, option_map}
+use Rattle.std.specs.Prelude.{◌≡◌, ℕ, ◌+◌, List, [], ◌∷◌, ◌++◌, length, map, Option, Some, None, Result, Ok, Err, option_map}
 use Rattle.std.specs.List.{flat_map}
+use Rattle.std.specs.Vec.Iter.{into_iter_items}
 use Rattle.dfr_channels.specs.Faults.{◌or◌}
 use Rattle.dfr_channels.specs.Firing.{rules_fault}
 use Rattle.dfr_channels.specs.Lines.{lines}
@@ -13,10 +14,14 @@ use Rattle.dfr_script.specs.Parts as command
 use Rattle.dfr_script.specs.Scripts.{script_value}
 use Rattle.dfr_live.specs.Parts.{CallParts}
 use Rattle.dfr_live.specs.Parts as call
+use Rattle.dfr_live.specs.declared.station.Fed.{Fed}
+use Rattle.dfr_live.specs.declared.station.Fed.TheVariants as fed
 use Rattle.dfr_live.specs.declared.station.Order.{Order}
 use Rattle.dfr_live.specs.declared.station.Order.TheVariants as order
 use Rattle.dfr_program.specs.declared.plan.Given.{Given}
 use Rattle.dfr_program.specs.declared.plan.Given.TheVariants as gives
+use Rattle.dfr_program.specs.declared.plan.Placed.{Placed}
+use Rattle.dfr_program.specs.declared.plan.Scans.{Scans}
 use Rattle.dfr_program.specs.declared.prepared.Fault.{Fault}
 use Rattle.dfr_program.specs.declared.prepared.Fault.TheVariants as faults
 use Rattle.dfr_program.specs.Faults.{script_fault}
@@ -84,3 +89,24 @@ pub record IsPlanned (layout : SetupParts) (cs : List CommandParts) (scans : Lis
   pub fit : refused_in layout cs ≡ None
   pub fed : scans ≡ scans_in cs
   pub ordered : orders ≡ orders_in 0 cs
+
+-- the scan steps that a feed hasn't given yet
+abbrev pub steps_left : {A : Type 0} → Scans A → List StepParts
+steps_left s = map given (into_iter_items s.rest)
+
+-- the orders that haven't been given yet, with their places
+abbrev pub orders_left : {A : Type 0} → Placed A → List (ℕ × CallParts)
+orders_left p = map placed (into_iter_items p.rest)
+
+-- the first step that is left is given, and the others are left then; where none is left, the end. There is always one or the other
+abbrev pub FeedsNext : {A : Type 0} → List StepParts → Result (Fed A) ℕ → List StepParts → Type 0
+FeedsNext old (Ok (fed.Scan scan)) new = old ≡ step.Scan scan ∷ new
+FeedsNext old (Ok fed.Lost) new = old ≡ step.Lost ∷ new
+FeedsNext old (Ok fed.NotYet) new = ⊥
+FeedsNext old (Ok fed.Done) new = (old ≡ []) × (new ≡ [])
+FeedsNext old (Err code) new = ⊥
+
+-- so with orders
+abbrev pub OrdersNext : {A : Type 0} → List (ℕ × CallParts) → Option (ℕ × Order A) → List (ℕ × CallParts) → Type 0
+OrdersNext old (Some order) new = old ≡ placed order ∷ new
+OrdersNext old None new = (old ≡ []) × (new ≡ [])

@@ -1,5 +1,5 @@
 -- What a replay of a script writes: the line of its first fault, or the answers to its commands.
-use Rattle.std.specs.Prelude.{◌≡◌, ℕ, List, [], ◌++◌, Option, Some, None, Result, Ok, Err}
+use Rattle.std.specs.Prelude.{◌≡◌, ⊤, ℕ, List, [], ◌∷◌, ◌++◌, Option, Some, None, Result, Ok, Err}
 use Rattle.std.specs.Io.KnownBytes.{Appends}
 use Rattle.dfr_recorder.specs.History.{Opening}
 use Rattle.dfr_script.specs.Parts.{CommandParts, ScriptParts}
@@ -12,11 +12,12 @@ use Rattle.dfr_program.specs.FaultTexts.{fault_text}
 use Rattle.dfr_program.specs.Transcript.{transcript}
 use Rattle.dfr_program.specs.Writing.{Cut}
 
--- the answers to the first commands are written, and to no others
+-- the answers to the first commands are written, up to the one at which an allocation failed
 pub record WritesFirst (kind : Kind) (o : Opening) (commands : List CommandParts) (old new : Option (List ℕ)) : Type 0 where
   pub done : List CommandParts
+  pub failed : CommandParts
   pub left : List CommandParts
-  pub list : done ++ left ≡ commands
+  pub list : done ++ failed ∷ left ≡ commands
   pub written : Appends old new (transcript kind o [] done)
 
 -- all answers are written; where an allocation failed, those to the first commands; where a write failed, a front of them all
@@ -38,13 +39,14 @@ pub record PrintsAnswers (kind : Kind) (s : ScriptParts) (old new : Option (List
   pub opened : IsOpenedBy s opening
   pub written : Appends old new (transcript kind opening [] s.commands)
 
--- those to the first commands are
-pub record PrintsFirst (kind : Kind) (s : ScriptParts) (old new : Option (List ℕ)) : Type 0 where
+-- the script has no fault, and those to its first commands are
+pub record PrintsFirst (kind : Kind) (fault : Option Fault) (s : ScriptParts) (old new : Option (List ℕ)) : Type 0 where
+  pub right : fault ≡ None
   pub opening : Opening
   pub opened : IsOpenedBy s opening
   pub first : WritesFirst kind opening s.commands old new
 
--- a front of them is
+-- a front of them is, but not all
 pub record PrintsFront (kind : Kind) (s : ScriptParts) (old new : Option (List ℕ)) : Type 0 where
   pub opening : Opening
   pub opened : IsOpenedBy s opening
@@ -54,3 +56,10 @@ pub record PrintsFront (kind : Kind) (s : ScriptParts) (old new : Option (List �
 abbrev pub CutAt : Kind → Option Fault → ScriptParts → Option (List ℕ) → Option (List ℕ) → Type 0
 CutAt kind (Some fault) s old new = Cut old new (fault_text fault)
 CutAt kind None s old new = PrintsFront kind s old new
+
+-- not all that came was read: a read failed, or too much came, or an allocation failed
+abbrev pub IsUnread : {U : Type 0} → Result U RunFault → Type 0
+IsUnread (Ok u) = ⊥
+IsUnread (Err run.Input) = ⊤
+IsUnread (Err run.Output) = ⊥
+IsUnread (Err run.Memory) = ⊤

@@ -1,5 +1,5 @@
 -- What a run does to the bytes that a writer holds.
-use Rattle.std.specs.Prelude.{◌≡◌, ℕ, List, [], ◌++◌, Option, Result, Ok, Err}
+use Rattle.std.specs.Prelude.{◌≡◌, ◌≢◌, ℕ, List, [], ◌++◌, Option, Result, Ok, Err}
 use Rattle.std.specs.Io.KnownBytes.{Appends}
 use Rattle.dfr_program.specs.declared.fault.RunFault.{RunFault}
 use Rattle.dfr_program.specs.declared.fault.RunFault.TheVariants as fault
@@ -15,9 +15,10 @@ pub record Wrote (old new : Option (List ℕ)) (rest text : List ℕ) : Type 0 w
   pub appends : Appends old new front
   pub whole : front ++ rest ≡ text
 
--- the front of a text was written, and some rest of it wasn't
+-- the front of a text was written, but not the whole text
 pub record Cut (old new : Option (List ℕ)) (text : List ℕ) : Type 0 where
   pub rest : List ℕ
+  pub missing : rest ≢ []
   pub wrote : Wrote old new rest text
 
 -- a text is printed after `before`, which was buffered: what isn't written is buffered then. Where an allocation failed nothing

@@ -1,6 +1,8 @@
 //! Why a run ended without an answer.
 
 ghost use Rattle.std.specs.Prelude.{◌≡◌};
+ghost use Rattle.dfr_program.specs.Inputs.{run_fault};
+ghost use Rattle.dfr_program.specs.declared.fault.InputFault.TheVariants as input;
 ghost use Rattle.dfr_program.specs.declared.fault.RunFault.TheVariants.{Memory};
 
 use dfr_channels::Memory;
@@ -19,6 +21,36 @@ pub enum RunFault {
     /// An allocation failed.
     #[error("dfr: memory")]
     Memory,
+}
+
+/// Why not all that a reader has was read.
+#[derive(Clone, Copy, Debug, PartialEq, Eq)]
+pub enum InputFault {
+    /// A read failed.
+    Failed,
+    /// More came than is read.
+    Long,
+    /// An allocation failed.
+    Memory,
+}
+
+impl From<AllocError> for InputFault {
+    ghost from_gives = { λ _ e. e ≡ input.Memory };
+
+    fn from(_error: AllocError) -> InputFault {
+        InputFault::Memory
+    }
+}
+
+impl From<InputFault> for RunFault {
+    ghost from_gives = { λ fault e. e ≡ run_fault fault };
+
+    fn from(fault: InputFault) -> RunFault {
+        match fault {
+            InputFault::Failed | InputFault::Long => RunFault::Input,
+            InputFault::Memory => RunFault::Memory,
+        }
+    }
 }
 
 impl From<AllocError> for RunFault {

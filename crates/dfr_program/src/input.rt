@@ -1,8 +1,8 @@
 //! What comes in, up to a limit.
 
-ghost use Rattle.std.specs.Prelude.{◌≡◌, ◌≢◌, ◌≤◌, ◌++◌, length, IfOk, IfErr, IfSome};
+ghost use Rattle.std.specs.Prelude.{◌≡◌, ◌<◌, ◌≤◌, ◌++◌, length, Err, IfOk, IfSome};
 
-use crate::fault::RunFault;
+use crate::fault::InputFault;
 use std::alloc::{AllocError, Allocator};
 use std::io::Read;
 
@@ -22,15 +22,16 @@ fn append<A: Allocator>(bytes: &mut Vec<u8, A>, piece: &[u8]) -> Result<(), Allo
     Ok(())
 }
 
-/// All that the reader has, where it is at most so many bytes; more is `Input`.
+/// All that the reader has, where it is at most so many bytes; more is `Long`.
 pub(crate) fn read_up_to<A: Allocator, R: Read>(
     alloc: A,
     r: &mut R,
     limit: usize,
-) -> Result<Vec<u8, A>, RunFault>
+) -> Result<Vec<u8, A>, InputFault>
     ensures bytes { IfOk result (λ v. IfSome (R.remaining r.old) (λ bytes. v.items ≡ bytes)) }
     ensures short { IfOk result (λ v. length v.items ≤ limit) }
-    ensures fault { IfErr result (λ fault. fault ≢ RunFault.Output) }
+    ensures long { result ≡ Err InputFault.Long →
+        IfSome (R.remaining r.old) (λ bytes. limit < length bytes) }
 {
     let mut bytes = Vec::new(alloc);
     let mut piece = [0u8; 16_384];
@@ -38,19 +39,19 @@ pub(crate) fn read_up_to<A: Allocator, R: Read>(
         match r.read(&mut piece) {
             Ok(0) => return Ok(bytes),
             Ok(count) => append(&mut bytes, &piece[..count])?,
-            Err(_) => return Err(RunFault::Input),
+            Err(_) => return Err(InputFault::Failed),
         }
     }
-    Err(RunFault::Input)
+    Err(InputFault::Long)
 }
 
-/// All that the reader has, where it is at most 16,777,216 bytes; more is `Input`, and so is a read
-/// that failed, for whatever cause: none is tried again. `Memory`: an allocation failed
-/// here.
-pub fn read_all<A: Allocator, R: Read>(alloc: A, r: &mut R) -> Result<Vec<u8, A>, RunFault>
+/// All that the reader has, where it is at most 16,777,216 bytes; more is `Long`. A read that failed
+/// is `Failed`, for whatever cause: none is tried again. `Memory`: an allocation failed here.
+pub fn read_all<A: Allocator, R: Read>(alloc: A, r: &mut R) -> Result<Vec<u8, A>, InputFault>
     ensures bytes { IfOk result (λ v. IfSome (R.remaining r.old) (λ bytes. v.items ≡ bytes)) }
     ensures short { IfOk result (λ v. length v.items ≤ 16777216) }
-    ensures fault { IfErr result (λ fault. fault ≢ RunFault.Output) }
+    ensures long { result ≡ Err InputFault.Long →
+        IfSome (R.remaining r.old) (λ bytes. 16777216 < length bytes) }
 {
     read_up_to(alloc, r, LIMIT)
 }

@@ -20,7 +20,7 @@ mod report;
 mod text;
 
 pub use command::{Command, command_of};
-pub use fault::RunFault;
+pub use fault::{InputFault, RunFault};
 pub use input::read_all;
 pub use law::as_one_thread;
 pub use live::live_of;

@@ -50,7 +50,9 @@ pub(crate) struct Scans<A: Allocator> {
 }
 
 impl<A: Allocator> Scans<A> {
-    pub(crate) fn of(list: Vec<Given<A>, A>) -> Scans<A> {
+    pub(crate) fn of(list: Vec<Given<A>, A>) -> Scans<A>
+        ensures { spec.steps_left result ≡ map spec.given list.items }
+    {
         Scans {
             rest: list.into_iter(),
         }
@@ -58,7 +60,9 @@ impl<A: Allocator> Scans<A> {
 }
 
 impl<A: Allocator> Feed<A> for Scans<A> {
-    fn next(&mut self) -> Result<Fed<A>, u32> {
+    fn next(&mut self) -> Result<Fed<A>, u32>
+        ensures { spec.FeedsNext (spec.steps_left self.old) result (spec.steps_left self.new) }
+    {
         match self.rest.next() {
             Some(Given::Scan(scan)) => Ok(Fed::Scan(scan)),
             Some(Given::Lost) => Ok(Fed::Lost),
@@ -74,7 +78,9 @@ pub(crate) struct Placed<A: Allocator> {
 }
 
 impl<A: Allocator> Placed<A> {
-    pub(crate) fn of(list: Vec<(u64, Order<A>), A>) -> Placed<A> {
+    pub(crate) fn of(list: Vec<(u64, Order<A>), A>) -> Placed<A>
+        ensures { spec.orders_left result ≡ map spec.placed list.items }
+    {
         Placed {
             rest: list.into_iter(),
         }
@@ -82,7 +88,9 @@ impl<A: Allocator> Placed<A> {
 }
 
 impl<A: Allocator> Orders<A> for Placed<A> {
-    fn next(&mut self) -> Option<(u64, Order<A>)> {
+    fn next(&mut self) -> Option<(u64, Order<A>)>
+        ensures { spec.OrdersNext (spec.orders_left self.old) result (spec.orders_left self.new) }
+    {
         self.rest.next()
     }
 }

@@ -2,11 +2,11 @@
 
 #![tactic(auto, using(crate::proofs::Growing::growing))]
 
-ghost use Rattle.std.specs.Prelude.{◌≡◌, ◌≢◌, ◌++◌, codes, length, true, false, OnOk, IfOk, IfErr};
+ghost use Rattle.std.specs.Prelude.{◌≡◌, ◌≢◌, ◌++◌, codes, length, true, false, Err, OnOk, IfOk, IfErr};
 ghost use Rattle.std.specs.Io.KnownBytes.{Appends};
-ghost use Rattle.dfr_program.specs.Pairs.{Says, IsFaulty};
+ghost use Rattle.dfr_program.specs.Pairs.{PrintsPair, CutsPair};
 ghost use Rattle.dfr_program.specs.ReadTexts as spec;
-ghost use Rattle.dfr_program.specs.Writing.{Grows};
+ghost use Rattle.dfr_program.specs.Writing.{Cut};
 
 use crate::fault::RunFault;
 use crate::output::write_out;
@@ -124,7 +124,9 @@ fn put_read_fault<A: Allocator>(
 fn print_file<A: Allocator, W: Write>(alloc: A, file: &File<A>, w: &mut W) -> Result<bool, RunFault>
     ensures text { OnOk result
         (Appends (W.contents w.old) (W.contents w.new) (spec.file_text file.now)) }
-    ensures grows { Grows (W.contents w.old) (W.contents w.new) }
+    ensures output { result ≡ Err RunFault.Output →
+        Cut (W.contents w.old) (W.contents w.new) (spec.file_text file.now) }
+    ensures memory { result ≡ Err RunFault.Memory → w.new ≡ w.old }
     ensures whole { IfOk result (λ done. done ≡ true) }
     ensures fault { IfErr result (λ fault. fault ≢ RunFault.Input) }
 {
@@ -143,7 +145,9 @@ fn print_read_fault<A: Allocator, W: Write>(
 ) -> Result<bool, RunFault>
     ensures text { OnOk result
         (Appends (W.contents w.old) (W.contents w.new) (spec.read_fault_text part fault)) }
-    ensures grows { Grows (W.contents w.old) (W.contents w.new) }
+    ensures output { result ≡ Err RunFault.Output → (fault ≢ ReadFault.Memory)
+        × Cut (W.contents w.old) (W.contents w.new) (spec.read_fault_text part fault) }
+    ensures memory { result ≡ Err RunFault.Memory → w.new ≡ w.old }
     ensures none { IfOk result (λ done. (done ≡ false) × (fault ≢ ReadFault.Memory)) }
     ensures fault { IfErr result (λ fault. fault ≢ RunFault.Input) }
 {
@@ -154,19 +158,19 @@ fn print_read_fault<A: Allocator, W: Write>(
 }
 
 /// Reads a configuration file and its data file: true where they were read and what is in them was
-/// printed, false where the line of a fault was. `Output`: a write failed. `Memory`: an
-/// allocation failed. It is never `Input`.
+/// printed, false where the line of a fault was. `Output`: a write failed, and a front of that was
+/// written, but not all. `Memory`: an allocation failed, and nothing was written. It is never `Input`.
 pub fn read_over<A: Allocator + Copy, W: Write>(
     alloc: A,
     cfg: &[u8],
     dat: &[u8],
     w: &mut W,
 ) -> Result<bool, RunFault>
-    ensures grows { Grows (W.contents w.old) (W.contents w.new) }
-    ensures whole { IfOk result (λ done. done ≡ true →
-        Says cfg.now dat.now (W.contents w.old) (W.contents w.new)) }
-    ensures none { IfOk result (λ done. done ≡ false →
-        IsFaulty cfg.now dat.now (W.contents w.old) (W.contents w.new)) }
+    ensures printed { IfOk result (λ done.
+        PrintsPair cfg.now dat.now done (W.contents w.old) (W.contents w.new)) }
+    ensures output { result ≡ Err RunFault.Output →
+        CutsPair cfg.now dat.now (W.contents w.old) (W.contents w.new) }
+    ensures memory { result ≡ Err RunFault.Memory → w.new ≡ w.old }
     ensures fault { IfErr result (λ fault. fault ≢ RunFault.Input) }
 {
     match read(alloc, cfg, dat) {

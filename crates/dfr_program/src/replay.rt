@@ -2,7 +2,7 @@
 
 #![tactic(auto, using(crate::proofs::Growing::growing))]
 
-ghost use Rattle.std.specs.Prelude.{◌≡◌, ◌≢◌, ◌≤◌, ◌⊎◌, true, false, not, is_some, [], length, map, Err, Some, IfOk, IfErr, IfSome, OnOk};
+ghost use Rattle.std.specs.Prelude.{◌≡◌, ◌≢◌, ◌<◌, ◌⊎◌, true, false, not, is_some, [], length, map, Err, Some, IfOk, IfErr, IfSome, OnOk};
 ghost use Rattle.std.specs.Io.KnownBytes.{Appends};
 ghost use Rattle.dfr_channels.specs.Lines.{lines};
 ghost use Rattle.dfr_recorder.specs.History.{Opening};
@@ -11,7 +11,7 @@ ghost use Rattle.dfr_script.specs.Commands.{parts_of};
 ghost use Rattle.dfr_script.specs.Scripts.{script_value};
 ghost use Rattle.dfr_program.specs.Faults.{script_fault};
 ghost use Rattle.dfr_program.specs.FaultTexts.{PrintsFault, fault_text};
-ghost use Rattle.dfr_program.specs.Replays.{Written, PrintsAnswers, PrintsFirst, CutAt};
+ghost use Rattle.dfr_program.specs.Replays.{Written, PrintsAnswers, PrintsFirst, CutAt, IsUnread};
 ghost use Rattle.dfr_program.specs.Writing.{Cut, Grows};
 
 use crate::commands::answer_all;
@@ -50,7 +50,7 @@ fn print_fault<A: Allocator, W: Write>(alloc: A, fault: Fault, w: &mut W) -> Res
     ensures text { OnOk result (Appends (W.contents w.old) (W.contents w.new) (fault_text fault)) }
     ensures grows { Grows (W.contents w.old) (W.contents w.new) }
     ensures none { IfOk result (λ done. done ≡ false) }
-    ensures memory { result ≡ Err RunFault.Memory → W.contents w.new ≡ W.contents w.old }
+    ensures memory { result ≡ Err RunFault.Memory → w.new ≡ w.old }
     ensures output { result ≡ Err RunFault.Output →
         Cut (W.contents w.old) (W.contents w.new) (fault_text fault) }
     ensures fault { IfErr result (λ fault. fault ≢ RunFault.Input) }
@@ -75,8 +75,9 @@ fn replay_text<A: Allocator + Copy, W: Write>(
     ensures answers { IfOk result (λ done. done ≡ true →
         PrintsAnswers kind (script_value (lines text.items))
         (W.contents w.old) (W.contents w.new)) }
-    ensures memory { result ≡ Err RunFault.Memory → Appends (W.contents w.old) (W.contents w.new) []
-        ⊎ PrintsFirst kind (script_value (lines text.items)) (W.contents w.old) (W.contents w.new) }
+    ensures memory { result ≡ Err RunFault.Memory → (w.new ≡ w.old)
+        ⊎ PrintsFirst kind (script_fault text.items) (script_value (lines text.items))
+        (W.contents w.old) (W.contents w.new) }
     ensures output { result ≡ Err RunFault.Output →
         CutAt kind (script_fault text.items) (script_value (lines text.items))
         (W.contents w.old) (W.contents w.new) }
@@ -95,8 +96,9 @@ fn replay_text<A: Allocator + Copy, W: Write>(
 /// Replays the script that the reader has: true where the whole of it ran, false where the line of
 /// a fault was printed. The whole script is read, and its set-up made, before any command is.
 /// `Input` is a read that failed, or more than 16,777,216 bytes, and nothing was written; `Output`
-/// a write that failed, and a front of what would be printed was written; `Memory` an allocation
-/// that failed, and the answers to the first commands were written, or nothing.
+/// a write that failed, and a front of what would be printed was written, but not all; `Memory` an
+/// allocation that failed, and nothing was written, or, of a script without a fault, the answers to
+/// the commands before the one at which it failed.
 pub fn replay_over<A: Allocator + Copy, R: Read, W: Write>(
     alloc: A,
     r: &mut R,
@@ -110,15 +112,18 @@ pub fn replay_over<A: Allocator + Copy, R: Read, W: Write>(
         PrintsFault (script_fault text) (W.contents w.old) (W.contents w.new))) }
     ensures answers { IfOk result (λ done. done ≡ true → IfSome (R.remaining r.old) (λ text.
         PrintsAnswers kind (script_value (lines text)) (W.contents w.old) (W.contents w.new))) }
-    ensures memory { result ≡ Err RunFault.Memory → IfSome (R.remaining r.old) (λ text.
-        Appends (W.contents w.old) (W.contents w.new) []
-        ⊎ PrintsFirst kind (script_value (lines text)) (W.contents w.old) (W.contents w.new)) }
+    ensures memory { result ≡ Err RunFault.Memory → (w.new ≡ w.old)
+        ⊎ IfSome (R.remaining r.old) (λ text. PrintsFirst kind (script_fault text)
+        (script_value (lines text)) (W.contents w.old) (W.contents w.new)) }
     ensures output { result ≡ Err RunFault.Output → IfSome (R.remaining r.old) (λ text.
         CutAt kind (script_fault text) (script_value (lines text))
         (W.contents w.old) (W.contents w.new)) }
-    ensures short { IfOk result (λ _. IfSome (R.remaining r.old) (λ text. length text ≤ 16777216)) }
     ensures input { result ≡ Err RunFault.Input → w.new ≡ w.old }
+    ensures long { IfSome (R.remaining r.old) (λ text. 16777216 < length text →
+        IsUnread result × (w.new ≡ w.old)) }
 {
-    let text = read_all(alloc, r)?;
-    replay_text(alloc, text, w, kind)
+    match read_all(alloc, r) {
+        Ok(text) => replay_text(alloc, text, w, kind),
+        Err(fault) => Err(RunFault::from(fault)),
+    }
 }

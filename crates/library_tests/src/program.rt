@@ -1,7 +1,7 @@
 //! The program over readers and writers in memory: what no clause says of a reader or a writer that fails.
 
 use comtrade_write::Kind;
-use dfr_program::{RunFault, read_all, read_over, replay_over};
+use dfr_program::{InputFault, RunFault, read_all, read_over, replay_over};
 use std::alloc::{AllocError, Global};
 use std::io;
 use std::io::{Error, ErrorKind, Read, Write};
@@ -260,7 +260,7 @@ impl Read for Long {
 }
 
 /// How many bytes are read of so many.
-fn count_read(alloc: Global, left: usize) -> Result<usize, RunFault> {
+fn count_read(alloc: Global, left: usize) -> Result<usize, InputFault> {
     match read_all(alloc, &mut Long { left }) {
         Ok(bytes) => Ok(bytes.len()),
         Err(fault) => Err(fault),
@@ -271,8 +271,8 @@ fn count_read(alloc: Global, left: usize) -> Result<usize, RunFault> {
 fn reads_up_to_the_limit(rt: HostRuntime) {
     assert_eq!(rt; count_read(rt.alloc(), 0), Ok(0));
     assert_eq!(rt; count_read(rt.alloc(), 16_777_216), Ok(16_777_216));
-    assert_eq!(rt; count_read(rt.alloc(), 16_777_217), Err(RunFault::Input));
-    assert_eq!(rt; count_read(rt.alloc(), usize::MAX), Err(RunFault::Input));
+    assert_eq!(rt; count_read(rt.alloc(), 16_777_217), Err(InputFault::Long));
+    assert_eq!(rt; count_read(rt.alloc(), usize::MAX), Err(InputFault::Long));
 }
 
 #[test]

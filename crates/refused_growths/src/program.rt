@@ -4,7 +4,7 @@ use crate::common::Heap;
 use crate::refusing::{Must, Outcome, Trial, memory_if, refuses, refuses_lent, right_if};
 use crate::texts::{CFG, FIRST_CFG, FIRST_COUNTS, FIRST_DAT};
 use comtrade_write::Kind;
-use dfr_program::{RunFault, read_all, read_over, replay_over};
+use dfr_program::{InputFault, RunFault, read_all, read_over, replay_over};
 use fuel::Refusing;
 use std::alloc::{Allocator, Global};
 
@@ -192,7 +192,7 @@ impl<A: Allocator + Copy> Trial for Input<A> {
         let mut input = LEVEL;
         match read_all(self.alloc, &mut input) {
             Ok(bytes) => right_if(bytes.as_slice() == LEVEL),
-            Err(fault) => memory_if(fault == RunFault::Memory),
+            Err(fault) => memory_if(fault == InputFault::Memory),
         }
     }
 }

@@ -5,4 +5,4 @@ pub returns-in-Ok-clause-all : goal.returns-in-Ok-clause-all
 returns-in-Ok-clause-all g c = c.in-Ok.ensures.all
 
 pub returns-in-Err-clause-part : goal.returns-in-Err-clause-part
-returns-in-Err-clause-part g c = cut_some _ _ _ _ c.in-Err.ensures.part
+returns-in-Err-clause-part g c = cut_some _ _ _ _ c.in-Err.ensures.left c.in-Err.ensures.part
