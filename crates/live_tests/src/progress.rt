@@ -3,7 +3,7 @@
 use std::sync::atomic::{AtomicBool, AtomicU64, Ordering};
 use std::thread;
 
-const LOOKS: u64 = 10_000_000;
+const LOOKS: u64 = 2_000_000;
 
 /// How far the orders and the sink are.
 #[derive(Drop)]
