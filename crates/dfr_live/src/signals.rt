@@ -21,7 +21,11 @@ pub(crate) struct Signals {
 }
 
 impl Signals {
-    pub(crate) fn new(turns: u64) -> Signals {
+    ghost use Rattle.std.specs.Prelude.{◌≡◌, ◌<◌, ◌≤◌, ◌+◌, min, IsTrue, MatchResult};
+
+    pub(crate) fn new(turns: u64) -> Signals
+        ensures { result.turns ≡ turns }
+    {
         Signals {
             acquired: AtomicBool::new(false),
             triggered: AtomicBool::new(false),
@@ -37,7 +41,12 @@ impl Signals {
 
     /// One turn in which the thread didn't get on; `idle` counts them since it last did. False
     /// where another thread has a fault.
-    pub(crate) fn turn(&self, idle: &mut u64) -> Result<bool, LiveFault> {
+    pub(crate) fn turn(&self, idle: &mut u64) -> Result<bool, LiveFault>
+        ensures counted { idle.new ≡ min (idle.old + 1) u64.MAX }
+        ensures turns { MatchResult result
+            (λ on. IsTrue on → idle.new < self.now.turns)
+            (λ fault. (fault ≡ LiveFault.Turns) × (self.now.turns ≤ idle.new)) }
+    {
         *idle = idle.saturating_add(1);
         if self.failed.load(Ordering::SeqCst) {
             return Ok(false);

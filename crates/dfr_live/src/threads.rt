@@ -1,5 +1,7 @@
 //! The three threads of a recording.
 
+ghost use Rattle.std.specs.Prelude.{◌≡◌};
+
 use crate::acquire::acquire;
 use crate::export::export;
 use crate::orders::carry_out;
@@ -48,8 +50,7 @@ pub(crate) fn locked_task<D, S>(device: &mut D, seat: S) -> Mutex<Task<'_, D, S>
 }
 
 /// Takes the tasks apart once all threads have ended: the shared recorder, the source and the
-/// tokens of the trigger thread and the export thread; else the first fault, where a thread that
-/// couldn't be started counts as a failed allocation.
+/// tokens of the trigger thread and the export thread; else the first fault.
 pub(crate) fn take_apart<N: Session<A>, A: Allocator, F, O, K>(
     tasks: Tasks<'_, '_, '_, N, F, O, K, A>,
     started: bool,
@@ -57,11 +58,12 @@ pub(crate) fn take_apart<N: Session<A>, A: Allocator, F, O, K>(
     let acquisition = tasks.acquisition.into_inner();
     let trigger = tasks.trigger.into_inner();
     let exports = tasks.exports.into_inner();
-    let so_far = first_fault(acquisition.outcome, trigger.outcome);
-    first_fault(so_far, exports.outcome)?;
-    if !started {
-        return Err(LiveFault::Memory);
-    }
+    first_fault(
+        started,
+        acquisition.outcome,
+        trigger.outcome,
+        exports.outcome,
+    )?;
     Ok((tasks.shared, acquisition.seat, trigger.seat, exports.seat))
 }
 
@@ -128,7 +130,9 @@ pub(crate) fn in_three_threads<
 }
 
 /// Hands the outcome on, and tells the other threads where it is a fault.
-fn announce(signals: &Signals, outcome: Result<(), LiveFault>) -> Result<(), LiveFault> {
+fn announce(signals: &Signals, outcome: Result<(), LiveFault>) -> Result<(), LiveFault>
+    ensures { result ≡ outcome }
+{
     if outcome.is_err() {
         signals.fail();
     }

@@ -22,6 +22,8 @@ mod opening;
 #[cfg(test)]
 mod play;
 #[cfg(test)]
+mod progress;
+#[cfg(test)]
 mod runs;
 #[cfg(test)]
 mod soak;

@@ -1,0 +1,89 @@
+-- What the three threads of a station do, each by itself.
+use Rattle.std.specs.Prelude.{◌≡◌, ℕ, ◌+◌, ◌-◌, ◌≤◌, min, max, List, [], ◌∷◌, ◌++◌, Bool, true, false, Option, Some, None, Result, Ok, Err, All, Contains, IsOk, IfErr, IfSome}
+use Rattle.dfr_channels.specs.Parts.{ScanParts}
+use Rattle.dfr_recorder.specs.declared.step.Hit.{Hit}
+use Rattle.dfr_recorder.specs.declared.step.TriggerFault.{TriggerFault}
+use Rattle.dfr_live.specs.Parts.{LeftParts}
+use Rattle.dfr_live.specs.Parts as call
+use Rattle.dfr_live.specs.declared.entry.Reply.TheVariants as reply_is
+use Rattle.dfr_live.specs.declared.report.LiveFault.{LiveFault}
+use Rattle.dfr_live.specs.declared.report.LiveFault.TheVariants as fault
+use Rattle.dfr_live.specs.declared.station.Order.{Order}
+use Rattle.dfr_live.specs.declared.station.Order.TheVariants as order
+use Rattle.dfr_live.specs.Weave.{steps_in}
+use Rattle.dfr_live.specs.Seen.{Caller, Offering}
+use Rattle.dfr_live.specs.Calls.{Notes, wants_memory}
+
+-- ---- which fault a run gives
+
+abbrev pub Outcome : Type 0
+Outcome = Result (Unit {0}) LiveFault
+
+-- the place of a fault in the order in which they are given
+abbrev pub rank : LiveFault → ℕ
+rank (fault.Feed code) = 1
+rank (fault.Sink code) = 2
+rank fault.Turns = 3
+rank fault.Counter = 4
+rank fault.Memory = 5
+rank (fault.Open why) = 6
+rank (fault.End why) = 7
+
+-- this outcome has no fault of a lower rank
+abbrev pub IsNotBefore : LiveFault → Outcome → Type 0
+IsNotBefore f o = IfErr o (λ g. rank f ≤ rank g)
+
+-- of these outcomes a run gives the fault of the lowest rank; Ok where all are
+abbrev pub GivesFirst : List Outcome → Outcome → Type 0
+GivesFirst outcomes (Ok done) = All (λ (o : Outcome). IsOk o) outcomes
+GivesFirst outcomes (Err f) = Contains outcomes (Err f) × All (IsNotBefore f) outcomes
+
+-- a thread that couldn't be started counts as a failed allocation
+abbrev pub start_outcome : Bool → Outcome
+start_outcome true = Ok tt
+start_outcome false = Err fault.Memory
+
+-- ---- the trigger thread
+
+-- how many scan steps a pump is asked for, where so many were made: as many as are missing up to
+-- the place, and 1,024 at most
+abbrev pub steps_towards : Option ℕ → ℕ → ℕ
+steps_towards (Some place) made = min (place - made) 1_024
+steps_towards None made = 1_024
+
+-- the token counts on to the place; it stays as it is where it has counted further
+abbrev pub CountsTo : Option ℕ → Caller → Caller → Type 0
+CountsTo (Some place) t u = u ≡ record t { pumped = max t.pumped place }
+CountsTo None t u = false ≡ true
+
+-- the token counts on, but not over the place
+abbrev pub CountsOn : Option ℕ → Caller → Caller → Type 0
+CountsOn place t u =
+    (u ≡ record t { pumped = u.pumped }) × (t.pumped ≤ u.pumped)
+    × IfSome place (λ p. u.pumped ≤ max t.pumped p)
+
+-- an order has one entry, of its call
+abbrev pub EntersOrder : {A : Type 0} → Order A → Caller → Caller → Type 0
+EntersOrder order.Trigger t u =
+    (r : Result Hit TriggerFault) × (wants_memory r ≡ false)
+    × Notes t call.Trigger (reply_is.Trigger r) u
+EntersOrder (order.SetRules rules) t u =
+    (done : Bool) × Notes t (call.SetRules rules) (reply_is.SetRules done) u
+
+abbrev pub CarriesOut : {A : Type 0} → Order A → Caller → Outcome → Caller → Type 0
+CarriesOut o t (Ok done) u = EntersOrder o t u
+CarriesOut o t (Err f) u = (f ≡ fault.Memory) × (u ≡ t)
+
+-- ---- the acquisition thread
+
+-- the source after one more lost scan
+abbrev pub after_loss : Offering → Offering
+after_loss s = record s { lost = s.lost + 1 }
+
+-- the source after the lane took this scan, and the lost ones before it
+abbrev pub after_offer : Offering → ScanParts → Offering
+after_offer s scan = record s {
+  offered = s.offered ++ steps_in (record { lost = s.lost; scan = scan });
+  offers = s.offers + 1;
+  lost = 0;
+}
