@@ -4,6 +4,12 @@
  * after a call. No pointer may be NULL, also where its length is 0, no two buffers that a call writes may overlap, and none may
  * overlap what it reads. No call may be made from a signal handler, or from the forked child of a process with threads. Channels
  * count from 0.
+ *
+ * What a call writes by its answer; all else that it was handed keeps what it held:
+ *   COMTRADE_DONE        everything but `fault`; of a buffer for a text its front alone
+ *   .._FAULT             `fault`
+ *   COMTRADE_NO_ROOM     `said` of comtrade_analog and comtrade_status, `sizes` of comtrade_write: the lengths that are needed
+ *   other answers        nothing
  */
 #ifndef COMTRADE_H
 #define COMTRADE_H
@@ -76,7 +82,7 @@ struct comtrade_analog {
     size_t unit;
 };
 
-/* The texts are put into the front of the buffers, with no zero after them. After COMTRADE_NO_ROOM `said` is set too. */
+/* The texts are put into the front of the buffers, with no zero after them. After COMTRADE_NO_ROOM all of `said` is set too. */
 int32_t comtrade_analog(const uint8_t *cfg, size_t cfg_length, size_t channel, struct comtrade_analog *said,
                         uint8_t *id, size_t id_room, uint8_t *unit, size_t unit_room, struct comtrade_fault *fault);
 
@@ -93,8 +99,7 @@ int32_t comtrade_status(const uint8_t *cfg, size_t cfg_length, size_t channel, s
 #define COMTRADE_NO_STAMP UINT64_MAX  /* a stamp that is missing */
 
 /* All rows. `stamps` has a place for each row, `samples` one for each row and analogue channel, and `bits` one for each row and
- * status channel, all channels of a row together; each is exactly so long. After another answer than COMTRADE_DONE nothing is said of what
- * stands in them. */
+ * status channel, all channels of a row together; each is exactly so long. */
 int32_t comtrade_rows(const uint8_t *cfg, size_t cfg_length, const uint8_t *dat, size_t dat_length,
                       uint64_t *stamps, size_t stamps_length, int32_t *samples, size_t samples_length,
                       uint8_t *bits, size_t bits_length, struct comtrade_fault *fault);

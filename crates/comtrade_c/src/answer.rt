@@ -1,6 +1,6 @@
 //! What a call answers.
 
-ghost use Rattle.std.specs.Prelude.{◌≡◌, ◌≢◌, ◌<◌, ◌⊎◌, IsTrue, IsFalse, length};
+ghost use Rattle.std.specs.Prelude.{◌≡◌, ◌≢◌, ◌<◌, ◌≤◌, ◌⊎◌, IsTrue, IsFalse, length};
 ghost use Rattle.comtrade_read.specs.declared.fault.ReadFault.TheVariants as reading;
 ghost use Rattle.comtrade_read.specs.declared.pair.Part.TheVariants as parts;
 ghost use Rattle.comtrade_write.specs.declared.fault.WriteFault.TheVariants as writing;
@@ -68,56 +68,91 @@ fn of_write(why: WriteFault) -> Fault
     }
 }
 
-/// Says why a pair isn't read.
+/// Why a pair isn't read; the numbers are left alone where an allocation failed.
 pub(crate) fn refuse_read(part: Part, why: ReadFault, said: &mut Fault) -> i32
     ensures answer { (result ≡ CFG_FAULT) ⊎ (result ≡ DAT_FAULT) ⊎ (result ≡ NO_MEMORY) }
     ensures fault { (result ≡ CFG_FAULT) ⊎ (result ≡ DAT_FAULT) → (why ≢ reading.Memory) }
-    ensures numbers { said.new ≡ faults.of_read why }
+    ensures numbers { (result ≡ CFG_FAULT) ⊎ (result ≡ DAT_FAULT) → said.new ≡ faults.of_read why }
     ensures cfg { result ≡ CFG_FAULT → part ≡ parts.Cfg }
     ensures dat { result ≡ DAT_FAULT → part ≡ parts.Dat }
+    ensures kept { (result ≢ CFG_FAULT) → (result ≢ DAT_FAULT) → said.new ≡ said.old }
 {
-    *said = of_read(why);
-    match (part, why) {
-        (_, ReadFault::Memory) => NO_MEMORY,
+    let answer = match (part, why) {
+        (_, ReadFault::Memory) => return NO_MEMORY,
         (Part::Cfg, _) => CFG_FAULT,
         (Part::Dat, _) => DAT_FAULT,
-    }
+    };
+    *said = of_read(why);
+    answer
 }
 
-/// Says why a configuration file isn't read.
+/// Why a configuration file isn't read; the numbers are left alone where an allocation failed.
 pub(crate) fn refuse_head(why: ReadFault, said: &mut Fault) -> i32
     ensures answer { (result ≡ CFG_FAULT) ⊎ (result ≡ NO_MEMORY) }
     ensures fault { result ≡ CFG_FAULT → (why ≢ reading.Memory) }
-    ensures numbers { said.new ≡ faults.of_read why }
+    ensures numbers { result ≡ CFG_FAULT → said.new ≡ faults.of_read why }
+    ensures kept { (result ≢ CFG_FAULT) → said.new ≡ said.old }
 {
-    *said = of_read(why);
-    match why {
-        ReadFault::Memory => NO_MEMORY,
-        _ => CFG_FAULT,
+    if let ReadFault::Memory = why {
+        return NO_MEMORY;
     }
+    *said = of_read(why);
+    CFG_FAULT
 }
 
-/// Says why a pair isn't written.
+/// Why a pair isn't written; the numbers are left alone where an allocation failed.
 pub(crate) fn refuse_write(why: WriteFault, said: &mut Fault) -> i32
     ensures answer { (result ≡ WRITE_FAULT) ⊎ (result ≡ NO_MEMORY) }
     ensures fault { result ≡ WRITE_FAULT → (why ≢ writing.Memory) }
-    ensures numbers { said.new ≡ faults.of_write why }
+    ensures numbers { result ≡ WRITE_FAULT → said.new ≡ faults.of_write why }
+    ensures kept { (result ≢ WRITE_FAULT) → said.new ≡ said.old }
 {
-    *said = of_write(why);
-    match why {
-        WriteFault::Memory => NO_MEMORY,
-        _ => WRITE_FAULT,
+    if let WriteFault::Memory = why {
+        return NO_MEMORY;
     }
+    *said = of_write(why);
+    WRITE_FAULT
 }
 
-/// The text at the front of a buffer; false where it has no room.
+/// A text at the front of a buffer that has room for it.
+fn put_front(out: &mut [u8], text: &[u8])
+    requires { length text.now ≤ length out.old }
+    ensures { out.new ≡ channels.put text.now out.old }
+{
+    out[..text.len()].copy_from_slice(text);
+}
+
+/// A text at the front of a buffer; false where it has no room, and then the buffer is left alone.
 pub(crate) fn put(out: &mut [u8], text: &[u8]) -> bool
     ensures text { IsTrue result → out.new ≡ channels.put text.now out.old }
     ensures room { IsFalse result → length out.old < length text.now }
+    ensures kept { IsFalse result → out.new ≡ out.old }
 {
     if out.len() < text.len() {
         return false;
     }
-    out[..text.len()].copy_from_slice(text);
+    put_front(out, text);
+    true
+}
+
+/// Two texts, each at the front of its buffer; false where one of them has no room, and then both buffers are left alone.
+pub(crate) fn put_both(
+    left: &mut [u8],
+    left_text: &[u8],
+    right: &mut [u8],
+    right_text: &[u8],
+) -> bool
+    ensures left { IsTrue result → left.new ≡ channels.put left_text.now left.old }
+    ensures right { IsTrue result → right.new ≡ channels.put right_text.now right.old }
+    ensures room { IsFalse result →
+        (length left.old < length left_text.now) ⊎ (length right.old < length right_text.now) }
+    ensures left_kept { IsFalse result → left.new ≡ left.old }
+    ensures right_kept { IsFalse result → right.new ≡ right.old }
+{
+    if left.len() < left_text.len() || right.len() < right_text.len() {
+        return false;
+    }
+    put_front(left, left_text);
+    put_front(right, right_text);
     true
 }

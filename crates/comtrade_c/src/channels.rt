@@ -1,6 +1,6 @@
 //! The channels of a configuration file.
 
-ghost use Rattle.std.specs.Prelude.{◌≡◌, ◌≤◌, ◌⊎◌, length};
+ghost use Rattle.std.specs.Prelude.{◌≡◌, ◌≢◌, ◌≤◌, ◌⊎◌, length};
 ghost use Rattle.comtrade_c.specs.Channels as spec;
 ghost use Rattle.comtrade_c.specs.Channels.{Has, IsAnalog};
 ghost use Rattle.comtrade_c.specs.Channels.{AnalogLacksRoom, PutsAnalog};
@@ -8,7 +8,9 @@ ghost use Rattle.comtrade_c.specs.Channels.{PutsStatus, StatusLacksRoom};
 ghost use Rattle.comtrade_c.specs.Faults.{IsHeadFault, OfHead};
 ghost use Rattle.comtrade_values.specs.Floats.{IsScale};
 
-use crate::answer::{CFG_FAULT, DONE, Fault, NO_CHANNEL, NO_MEMORY, NO_ROOM, put, refuse_head};
+use crate::answer::{
+    CFG_FAULT, DONE, Fault, NO_CHANNEL, NO_MEMORY, NO_ROOM, put, put_both, refuse_head,
+};
 use comtrade_read::read_cfg;
 use comtrade_values::{Scale, scale_of};
 use comtrade_write::Head;
@@ -70,18 +72,19 @@ fn put_analog(
     ensures answer { (result ≡ DONE) ⊎ (result ≡ NO_ROOM) ⊎ (result ≡ NO_MEMORY) }
     ensures done { result ≡ DONE → PutsAnalog channel.now said.new id.old id.new unit.old unit.new }
     ensures room { result ≡ NO_ROOM → AnalogLacksRoom channel.now said.new id.old unit.old }
+    ensures said_kept { (result ≢ DONE) → (result ≢ NO_ROOM) → said.new ≡ said.old }
+    ensures id_kept { (result ≢ DONE) → id.new ≡ id.old }
+    ensures unit_kept { (result ≢ DONE) → unit.new ≡ unit.old }
 {
     let Ok(scale) = scale_of(alloc, channel) else {
         return NO_MEMORY;
     };
     *said = analog_of(channel, scale);
-    if !put(id, channel.id.items()) {
-        return NO_ROOM;
+    if put_both(id, channel.id.items(), unit, channel.unit.items()) {
+        DONE
+    } else {
+        NO_ROOM
     }
-    if !put(unit, channel.unit.items()) {
-        return NO_ROOM;
-    }
-    DONE
 }
 
 fn analog_in(
@@ -99,6 +102,9 @@ fn analog_in(
     ensures room { result ≡ NO_ROOM → Has head.now.analog channel
         (λ c. AnalogLacksRoom c said.new id.old unit.old) }
     ensures lacking { result ≡ NO_CHANNEL → length head.now.analog ≤ channel }
+    ensures said_kept { (result ≢ DONE) → (result ≢ NO_ROOM) → said.new ≡ said.old }
+    ensures id_kept { (result ≢ DONE) → id.new ≡ id.old }
+    ensures unit_kept { (result ≢ DONE) → unit.new ≡ unit.old }
 {
     match head.analog.items().get(channel) {
         Some(channel) => put_analog(alloc, channel, said, id, unit),
@@ -125,6 +131,10 @@ pub extern "C" fn comtrade_analog(
         (λ c. AnalogLacksRoom c said.new id.old unit.old)) }
     ensures lacking { result ≡ NO_CHANNEL → OfHead cfg.now (λ h. length h.analog ≤ channel) }
     ensures fault { result ≡ CFG_FAULT → IsHeadFault cfg.now fault.new }
+    ensures said_kept { (result ≢ DONE) → (result ≢ NO_ROOM) → said.new ≡ said.old }
+    ensures id_kept { (result ≢ DONE) → id.new ≡ id.old }
+    ensures unit_kept { (result ≢ DONE) → unit.new ≡ unit.old }
+    ensures fault_kept { (result ≢ CFG_FAULT) → fault.new ≡ fault.old }
 {
     match read_cfg(alloc, cfg) {
         Err(why) => refuse_head(why, fault),
@@ -136,6 +146,7 @@ fn put_status(channel: &StatusChannel, said: &mut Status, id: &mut [u8]) -> i32
     ensures answer { (result ≡ DONE) ⊎ (result ≡ NO_ROOM) }
     ensures done { result ≡ DONE → PutsStatus channel.now said.new id.old id.new }
     ensures room { result ≡ NO_ROOM → StatusLacksRoom channel.now said.new id.old }
+    ensures id_kept { (result ≢ DONE) → id.new ≡ id.old }
 {
     *said = Status {
         normal: channel.normal,
@@ -155,6 +166,8 @@ fn status_in(head: &Head, channel: usize, said: &mut Status, id: &mut [u8]) -> i
     ensures room { result ≡ NO_ROOM → Has head.now.status channel
         (λ c. StatusLacksRoom c said.new id.old) }
     ensures lacking { result ≡ NO_CHANNEL → length head.now.status ≤ channel }
+    ensures said_kept { (result ≢ DONE) → (result ≢ NO_ROOM) → said.new ≡ said.old }
+    ensures id_kept { (result ≢ DONE) → id.new ≡ id.old }
 {
     match head.status.items().get(channel) {
         Some(channel) => put_status(channel, said, id),
@@ -180,6 +193,9 @@ pub extern "C" fn comtrade_status(
         (λ c. StatusLacksRoom c said.new id.old)) }
     ensures lacking { result ≡ NO_CHANNEL → OfHead cfg.now (λ h. length h.status ≤ channel) }
     ensures fault { result ≡ CFG_FAULT → IsHeadFault cfg.now fault.new }
+    ensures said_kept { (result ≢ DONE) → (result ≢ NO_ROOM) → said.new ≡ said.old }
+    ensures id_kept { (result ≢ DONE) → id.new ≡ id.old }
+    ensures fault_kept { (result ≢ CFG_FAULT) → fault.new ≡ fault.old }
 {
     match read_cfg(alloc, cfg) {
         Err(why) => refuse_head(why, fault),

@@ -90,18 +90,6 @@ fn stamps(alloc: Global, rows: &[Row]) -> Result<Vec<u64>, AllocError>
     Ok(out)
 }
 
-/// Copies a list into a table; false where that isn't as long.
-fn fill<T: Copy>(table: &mut [T], list: &[T]) -> bool
-    ensures table { IsTrue result → table.new ≡ list.now }
-    ensures room { IsFalse result → length table.old ≢ length list.now }
-{
-    if table.len() != list.len() {
-        return false;
-    }
-    table.copy_from_slice(list);
-    true
-}
-
 /// The three tables of some rows.
 #[derive(Drop)]
 struct Tables {
@@ -126,6 +114,30 @@ fn tables_of(alloc: Global, file: &File) -> Result<Tables, AllocError>
     })
 }
 
+/// Copies the tables into those of the caller; false where one of these isn't as long, and then all are left alone.
+fn fill(all: &Tables, stamps: &mut [u64], samples: &mut [i32], bits: &mut [u8]) -> bool
+    ensures stamps { IsTrue result → stamps.new ≡ all.now.stamps.items }
+    ensures samples { IsTrue result → samples.new ≡ all.now.samples.items }
+    ensures bits { IsTrue result → bits.new ≡ all.now.bits.items }
+    ensures room { IsFalse result → (length stamps.old ≢ length all.now.stamps.items)
+        ⊎ (length samples.old ≢ length all.now.samples.items)
+        ⊎ (length bits.old ≢ length all.now.bits.items) }
+    ensures stamps_kept { IsFalse result → stamps.new ≡ stamps.old }
+    ensures samples_kept { IsFalse result → samples.new ≡ samples.old }
+    ensures bits_kept { IsFalse result → bits.new ≡ bits.old }
+{
+    if stamps.len() != all.stamps.len()
+        || samples.len() != all.samples.len()
+        || bits.len() != all.bits.len()
+    {
+        return false;
+    }
+    stamps.copy_from_slice(&all.stamps);
+    samples.copy_from_slice(&all.samples);
+    bits.copy_from_slice(&all.bits);
+    true
+}
+
 /// The rows of a pair: a stamp for each row, and row by row a sample for each analogue channel and a bit for each status channel.
 #[unsafe(no_mangle)]
 pub extern "C" fn comtrade_rows(
@@ -143,6 +155,10 @@ pub extern "C" fn comtrade_rows(
     ensures room { result ≡ NO_ROOM → LacksRoom cfg.now dat.now stamps.old samples.old bits.old }
     ensures cfg_fault { result ≡ CFG_FAULT → IsPairFault cfg.now dat.now Cfg fault.new }
     ensures dat_fault { result ≡ DAT_FAULT → IsPairFault cfg.now dat.now Dat fault.new }
+    ensures stamps_kept { (result ≢ DONE) → stamps.new ≡ stamps.old }
+    ensures samples_kept { (result ≢ DONE) → samples.new ≡ samples.old }
+    ensures bits_kept { (result ≢ DONE) → bits.new ≡ bits.old }
+    ensures fault_kept { (result ≢ CFG_FAULT) → (result ≢ DAT_FAULT) → fault.new ≡ fault.old }
 {
     let file = match read(alloc, cfg, dat) {
         Ok(file) => file,
@@ -151,14 +167,9 @@ pub extern "C" fn comtrade_rows(
     let Ok(all) = tables_of(alloc, &file) else {
         return NO_MEMORY;
     };
-    if !fill(stamps, &all.stamps) {
-        return NO_ROOM;
+    if fill(&all, stamps, samples, bits) {
+        DONE
+    } else {
+        NO_ROOM
     }
-    if !fill(samples, &all.samples) {
-        return NO_ROOM;
-    }
-    if !fill(bits, &all.bits) {
-        return NO_ROOM;
-    }
-    DONE
 }

@@ -1,6 +1,6 @@
 //! What a pair of files says as a whole.
 
-ghost use Rattle.std.specs.Prelude.{◌≡◌, ◌⊎◌};
+ghost use Rattle.std.specs.Prelude.{◌≡◌, ◌≢◌, ◌⊎◌};
 ghost use Rattle.comtrade_read.specs.declared.pair.Part.TheVariants.{Cfg, Dat};
 ghost use Rattle.comtrade_c.specs.Faults.{IsPairFault};
 ghost use Rattle.comtrade_c.specs.Summaries.{Holds, Summarizes};
@@ -60,6 +60,8 @@ pub extern "C" fn comtrade_summary(
     ensures done { result ≡ DONE → Summarizes cfg.now dat.now summary.new }
     ensures cfg_fault { result ≡ CFG_FAULT → IsPairFault cfg.now dat.now Cfg fault.new }
     ensures dat_fault { result ≡ DAT_FAULT → IsPairFault cfg.now dat.now Dat fault.new }
+    ensures summary_kept { (result ≢ DONE) → summary.new ≡ summary.old }
+    ensures fault_kept { (result ≢ CFG_FAULT) → (result ≢ DAT_FAULT) → fault.new ≡ fault.old }
 {
     match read(alloc, cfg, dat) {
         Ok(file) => {

@@ -1,6 +1,6 @@
 //! Writing a pair.
 
-ghost use Rattle.std.specs.Prelude.{◌≡◌, ◌⊎◌, ◌+◌, length, map, take, drop, IfOk, IfErr};
+ghost use Rattle.std.specs.Prelude.{◌≡◌, ◌≢◌, ◌⊎◌, ◌+◌, length, map, take, drop, IfOk, IfErr};
 ghost use Rattle.comtrade_write.specs.Cfg.{cfg};
 ghost use Rattle.comtrade_write.specs.Data.{dat};
 ghost use Rattle.comtrade_write.specs.Refusals.{Fails};
@@ -10,7 +10,7 @@ ghost use Rattle.comtrade_c.specs.Writing as spec;
 ghost use Rattle.comtrade_c.specs.Writing.{IsRefused, IsWritten, LacksRoom, file_of_tables};
 
 use crate::answer::{
-    CFG_FAULT, DONE, Fault, NO_MEMORY, NO_ROOM, WRITE_FAULT, put, refuse_head, refuse_write,
+    CFG_FAULT, DONE, Fault, NO_MEMORY, NO_ROOM, WRITE_FAULT, put_both, refuse_head, refuse_write,
 };
 use crate::rows::{NO_SAMPLE, NO_STAMP};
 use comtrade_read::{file_reads_back, read_cfg};
@@ -158,6 +158,10 @@ fn put_texts(
         IsWritten file.now new_cfg.old new_dat.old sizes.new new_cfg.new new_dat.new }
     ensures room { result ≡ NO_ROOM → LacksRoom file.now new_cfg.old new_dat.old sizes.new }
     ensures fault { result ≡ WRITE_FAULT → IsRefused file.now fault.new }
+    ensures cfg_kept { (result ≢ DONE) → new_cfg.new ≡ new_cfg.old }
+    ensures dat_kept { (result ≢ DONE) → new_dat.new ≡ new_dat.old }
+    ensures sizes_kept { (result ≢ DONE) → (result ≢ NO_ROOM) → sizes.new ≡ sizes.old }
+    ensures fault_kept { (result ≢ WRITE_FAULT) → fault.new ≡ fault.old }
 {
     let (cfg, dat) = match texts_of(alloc, file) {
         Ok(texts) => texts,
@@ -167,13 +171,11 @@ fn put_texts(
         cfg: cfg.len(),
         dat: dat.len(),
     };
-    if !put(new_cfg, &cfg) {
-        return NO_ROOM;
+    if put_both(new_cfg, &cfg, new_dat, &dat) {
+        DONE
+    } else {
+        NO_ROOM
     }
-    if !put(new_dat, &dat) {
-        return NO_ROOM;
-    }
-    DONE
 }
 
 fn kind_of(binary: bool) -> Kind
@@ -226,6 +228,10 @@ pub extern "C" fn comtrade_write(
     ensures cfg_fault { result ≡ CFG_FAULT → IsHeadFault cfg.now fault.new }
     ensures write_fault { result ≡ WRITE_FAULT → OfHead cfg.now (λ h.
         IsRefused (file_of_tables binary stamps.now samples.now bits.now h) fault.new) }
+    ensures cfg_kept { (result ≢ DONE) → new_cfg.new ≡ new_cfg.old }
+    ensures dat_kept { (result ≢ DONE) → new_dat.new ≡ new_dat.old }
+    ensures sizes_kept { (result ≢ DONE) → (result ≢ NO_ROOM) → sizes.new ≡ sizes.old }
+    ensures fault_kept { (result ≢ CFG_FAULT) → (result ≢ WRITE_FAULT) → fault.new ≡ fault.old }
 {
     let head = match read_cfg(alloc, cfg) {
         Ok(head) => head,

@@ -11,6 +11,6 @@ returns-in-Err-clause-fault c =
     record {
       why = c.in-Err.why;
       faulty = c.in-Err.ensures.fault known;
-      numbers = c.refuse_head.ensures.numbers;
+      numbers = c.refuse_head.ensures.numbers (sym same ∙ is);
       unread = c.in-Err.ensures.unread known;
     }

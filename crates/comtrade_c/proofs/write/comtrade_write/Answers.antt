@@ -10,6 +10,6 @@ returns-in-Err-clause-cfg_fault c =
     record {
       why = c.in-Err.why;
       faulty = c.in-Err.ensures.fault known;
-      numbers = c.refuse_head.ensures.numbers;
+      numbers = c.refuse_head.ensures.numbers (sym same ∙ is);
       unread = c.in-Err.ensures.unread known;
     }

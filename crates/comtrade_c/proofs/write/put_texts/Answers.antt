@@ -10,5 +10,5 @@ returns-in-Err-clause-fault c =
     λ is. record {
       why = c.in-Err.why;
       refused = refused c.in-Err.why (refusal c.args.file.now) c.in-Err.ensures.fault (c.refuse_write.ensures.fault (sym same ∙ is));
-      numbers = c.refuse_write.ensures.numbers;
+      numbers = c.refuse_write.ensures.numbers (sym same ∙ is);
     }
