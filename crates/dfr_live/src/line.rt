@@ -18,8 +18,10 @@ pub(crate) fn next_in_line<A: Allocator>(
 ) -> Option<Left<A>>
     ensures lane { lane_out lane.new ≡ lane_out lane.old }
     ensures first { first.new ≡ None }
-    ensures held { IfSome result (λ item. IsHeld first.old item) }
-    ensures none { IfNone result (first.old ≡ None) }
+    ensures held { IfSome result
+        (λ item. IsHeld first.old (received lane.old) item (received lane.new)) }
+    ensures none { IfNone result
+        ((first.old ≡ None) × (received lane.new ≡ received lane.old)) }
     ensures line { (before : List StepParts)
         → steps_of (received lane.old) ≡ before ++ steps_of (option_to_list first.old)
         → steps_of (received lane.new) ≡ before ++ steps_of (option_to_list result) }

@@ -12,7 +12,7 @@ use Rattle.dfr_live.specs.declared.report.LiveReport.{LiveReport}
 use Rattle.dfr_recorder.specs.History.{Opening}
 use Rattle.dfr_program.specs.declared.prepared.Fault.{Fault}
 use Rattle.dfr_program.specs.Faults.{IsMadeOf}
-use Rattle.dfr_program.specs.Live.{RanAsOne, TellsFault, TellsOver, TellsLive, PrintsLive}
+use Rattle.dfr_program.specs.Live.{TellsFault, TellsOver, TellsLive, PrintsLive}
 use Rattle.dfr_program.specs.Reports.{report_text}
 
 pub tells_run : (A : Type 0) (f : Option Fault) (s : ScriptParts) (k : Kept) (done : Bool) (text : List ℕ) → f ≡ None → IsMadeOf s k → TellsOver A (opening_of k) done text → TellsLive A f s done text
@@ -27,14 +27,10 @@ if_ok_map P Q (Err e) p f = tt
 reports_in : {E : Type 0} (A : Type 0) (came : Result (LiveReport A) E) (r : LiveReport A) (o : Opening) → came ≡ Ok r → IfOk came (λ v. Reports o v) → Reports o r
 reports_in {E = E} A came r o q p = subst (λ (v : Result (LiveReport A) E). IfOk v (λ w. Reports o w)) q p
 
--- the law over the locked value, the source and the tokens of the report
-ran : (A : Type 0) (r : LiveReport A) (o : Opening) → Reports o r → ((x : Locked) (source : Offering) (tokens : List Caller) → Ends x source tokens r.ended → IsOneThread x source tokens r.ended) → RanAsOne o r.ended
-ran A r o (x, s, tokens, q, ends, stepped, refused, records) law = (x, s, tokens, q, law x s tokens ends)
-
 pub tells_report : {E : Type 0} (A : Type 0) (came : Result (LiveReport A) E) (r : LiveReport A) (done : Bool) (text : List ℕ) → came ≡ Ok r → ((x : Locked) (source : Offering) (tokens : List Caller) → Ends x source tokens r.ended → IsOneThread x source tokens r.ended) → (done ≡ true) × (text ≡ report_text r) → (o : Opening) → IfOk came (λ v. Reports o v) → TellsOver A o done text
 tells_report A came r done text q law p o reports =
     let here : Reports o r = reports_in A came r o q reports in
-    subst (λ (v : Bool). TellsOver A o v text) (sym p.0) (record { report = r; reports = here; one = ran A r o here law; same = p.1 })
+    subst (λ (v : Bool). TellsOver A o v text) (sym p.0) (record { report = r; reports = here; one = law here.locked here.source here.tokens here.ends; same = p.1 })
 
 pub tells_fault : (A : Type 0) (o : Opening) (done : Bool) (text : List ℕ) → (done ≡ false) × TellsFault text → TellsOver A o done text
 tells_fault A o done text p = subst (λ (v : Bool). TellsOver A o v text) (sym p.0) p.1

@@ -3,9 +3,7 @@ use Rattle.std.specs.Prelude.{◌≡◌, ℕ, List, Option, Some, None, Bool, tr
 use Rattle.std.specs.Io.KnownBytes.{Appends}
 use Rattle.dfr_recorder.specs.History.{Opening}
 use Rattle.dfr_script.specs.Parts.{ScriptParts}
-use Rattle.dfr_live.specs.Seen.{Locked, Offering, Caller}
 use Rattle.dfr_live.specs.Report.{Reports}
-use Rattle.dfr_live.specs.declared.ended.Ended.{Ended}
 use Rattle.dfr_live.specs.declared.report.LiveFault.{LiveFault}
 use Rattle.dfr_live.specs.declared.report.LiveReport.{LiveReport}
 use Rattle.dfr_program.specs.declared.prepared.Fault.{Fault}
@@ -15,15 +13,12 @@ use Rattle.dfr_program.specs.Reports.{report_text, run_word, run_fault_text}
 use Rattle.dfr_program.specs.Recording.{IsOneThread}
 use Rattle.dfr_program.specs.Writing.{Cut}
 
--- there were a locked value over this opening, a source and tokens, for which what is left is a recording as of one thread
-abbrev pub RanAsOne : {A : Type 0} → Opening → Ended A → Type 0
-RanAsOne o e = (x : Locked) × (source : Offering) × (tokens : List Caller) × (x.opening ≡ o) × IsOneThread x source tokens e
-
--- the text of a report on a run in threads over this opening, which was as of one thread
+-- the text of a report on a run in threads over this opening; its locked value, source and tokens
+-- are a recording as of one thread
 pub record TellsReport (A : Type 0) (o : Opening) (text : List ℕ) : Type 0 where
   pub report : LiveReport A
   pub reports : Reports o report
-  pub one : RanAsOne o report.ended
+  pub one : IsOneThread reports.locked reports.source reports.tokens report.ended
   pub same : text ≡ report_text report
 
 -- the line of a fault of the run

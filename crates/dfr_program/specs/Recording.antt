@@ -1,6 +1,5 @@
 -- What a recording in threads comes to.
 use Rattle.std.specs.Prelude.{List}
-use Rattle.dfr_live.specs.Weave.{steps_of}
 use Rattle.dfr_live.specs.Seen.{Locked, Offering, Caller}
 use Rattle.dfr_live.specs.OneList.{OneList}
 use Rattle.dfr_live.specs.declared.ended.Ended.{Ended}
@@ -10,6 +9,5 @@ use Rattle.comtrade_read.specs.ReadBack.{RecordsReadBack}
 -- taken, in it as in every list of steps over the opening, is read from its own two files
 pub record IsOneThread {A : Type 0} (x : Locked) (source : Offering) (tokens : List Caller)
     (e : Ended A) : Type 0 where
-  pub steps : OneList x.opening x.stepped source.offered (steps_of e.left.items) e.log.items
-      tokens e.recorder
+  pub steps : OneList x source tokens e
   pub files : RecordsReadBack x.opening

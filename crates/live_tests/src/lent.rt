@@ -92,7 +92,8 @@ fn is_opened<N: Session<Global>>(rt: &impl Wait, shared: &Shared<N>) -> bool {
 }
 
 fn lends<N: Session<Global>, R: Wait>(rt: &R, alloc: Global, opened: Opened) -> bool
-    requires { (opened.opening ≡ N.opening) × (opened.lane ≡ N.lane) }
+    requires { (opened.opening ≡ N.opening) × (opened.lane ≡ N.lane)
+        × (opened.seats ≡ N.seats) }
 {
     let (shared, mut source, mut tokens) = opened.share::<N>();
     let begun = is_opened(rt, &shared)
@@ -127,7 +128,8 @@ fn are_past<N: Session<Global>>(inner: &mut Inner<N>) -> bool {
 }
 
 fn loses_at_the_end<N: Session<Global>>(alloc: Global, opened: Opened) -> bool
-    requires { (opened.opening ≡ N.opening) × (opened.lane ≡ N.lane) }
+    requires { (opened.opening ≡ N.opening) × (opened.lane ≡ N.lane)
+        × (opened.seats ≡ N.seats) }
 {
     let (shared, mut source, _) = opened.share::<N>();
     let begun = source.lose() == Ok(1) && source.lose() == Ok(2) && offers(alloc, &mut source, 10);

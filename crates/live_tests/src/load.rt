@@ -225,7 +225,8 @@ fn works<N: Session<Global> + Send + Sync, R: Threads + Wait + Sync>(
     opened: Opened,
     scans: u64,
 ) -> Option<u64>
-    requires { (opened.opening ≡ N.opening) × (opened.lane ≡ N.lane) }
+    requires { (opened.opening ≡ N.opening) × (opened.lane ≡ N.lane)
+        × (opened.seats ≡ N.seats) }
 {
     let (shared, source, tokens) = opened.share::<N>();
     let desk = Desk {

@@ -68,7 +68,8 @@ fn is_called<N: Session<Global>>(
 }
 
 fn plays<N: Session<Global>, R: Wait>(rt: &R, alloc: Global, opened: Opened, play: Play) -> bool
-    requires { (opened.opening ≡ N.opening) × (opened.lane ≡ N.lane) }
+    requires { (opened.opening ≡ N.opening) × (opened.lane ≡ N.lane)
+        × (opened.seats ≡ N.seats) }
 {
     let (shared, mut source, mut tokens) = opened.share::<N>();
     let called = is_called(rt, alloc, &shared, &mut source, &mut tokens, play);

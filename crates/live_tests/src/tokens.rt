@@ -16,7 +16,8 @@ fn opened(alloc: Global, seats: u32) -> Option<Opened> {
 }
 
 fn tokens_named<N: Session<Global>>(opened: Opened) -> Vec<Token>
-    requires { (opened.opening ≡ N.opening) × (opened.lane ≡ N.lane) }
+    requires { (opened.opening ≡ N.opening) × (opened.lane ≡ N.lane)
+        × (opened.seats ≡ N.seats) }
 {
     let (_, _, tokens) = opened.share::<N>();
     tokens
@@ -184,7 +185,8 @@ fn ends_in<N: Session<Global>, R: Wait>(
     stranger: Option<Token>,
     case: Case,
 ) -> bool
-    requires { (opened.opening ≡ N.opening) × (opened.lane ≡ N.lane) }
+    requires { (opened.opening ≡ N.opening) × (opened.lane ≡ N.lane)
+        × (opened.seats ≡ N.seats) }
 {
     let (shared, mut source, mut tokens) = opened.share::<N>();
     let mut stranger = stranger;

@@ -69,7 +69,8 @@ fn batches<N: Session<Global>, R: Wait + Clock + Print + AllocGlobal>(
     set: &[Scan],
     amount: Amount,
 ) -> Result<()>
-    requires { (opened.opening ≡ N.opening) × (opened.lane ≡ N.lane) }
+    requires { (opened.opening ≡ N.opening) × (opened.lane ≡ N.lane)
+        × (opened.seats ≡ N.seats) }
 {
     let (shared, source, tokens) = opened.share::<N>();
     let mut source = source;

@@ -92,7 +92,8 @@ fn plays<N: Session<A>, R: Wait, A: Allocator + Copy>(
     opened: Opened<A>,
     play: (Calls, Leaving),
 ) -> bool
-    requires { (opened.opening ≡ N.opening) × (opened.lane ≡ N.lane) }
+    requires { (opened.opening ≡ N.opening) × (opened.lane ≡ N.lane)
+        × (opened.seats ≡ N.seats) }
 {
     let (losing, leaving) = play;
     let (shared, mut source, mut tokens) = opened.share::<N>();

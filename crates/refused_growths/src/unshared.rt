@@ -192,7 +192,8 @@ fn plays<N: Session<A>, R: Wait, A: Allocator + Copy>(
     alloc: A,
     opened: Opened<A>,
 ) -> bool
-    requires { (opened.opening ≡ N.opening) × (opened.lane ≡ N.lane) }
+    requires { (opened.opening ≡ N.opening) × (opened.lane ≡ N.lane)
+        × (opened.seats ≡ N.seats) }
 {
     let (shared, mut source, mut tokens) = opened.share::<N>();
     calls(rt, heap, alloc, (&shared, &mut source), &mut tokens)

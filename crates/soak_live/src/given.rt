@@ -157,7 +157,8 @@ pub fn given_of<A: Allocator + Copy>(alloc: A, script: Script<A>) -> Option<Give
 }
 
 fn token_named<N: Session<A>, A: Allocator + Copy>(opened: Opened<A>) -> Option<Token<A>>
-    requires { (opened.opening ≡ N.opening) × (opened.lane ≡ N.lane) }
+    requires { (opened.opening ≡ N.opening) × (opened.lane ≡ N.lane)
+        × (opened.seats ≡ N.seats) }
 {
     let (_, _, tokens) = opened.share::<N>();
     tokens.into_iter().next()

@@ -35,7 +35,8 @@ fn desk_of<'h, N: Session<A>, A: Allocator + Copy>(
     lists: Lists<A>,
     plan: Plan,
 ) -> Desk<'h, N, A>
-    requires { (opened.opening ≡ N.opening) × (opened.lane ≡ N.lane) }
+    requires { (opened.opening ≡ N.opening) × (opened.lane ≡ N.lane)
+        × (opened.seats ≡ N.seats) }
 {
     let Lists { samples, works } = lists;
     let (shared, source, tokens) = opened.share::<N>();
@@ -60,7 +61,8 @@ fn named<
     A: Allocator + Copy + Send + Sync,
     R: Wait + Threads + Sync + AllocGlobal,
 >(rt: &R, out: &mut Out, heaps: (Heap, A), opened: Opened<A>, lists: Lists<A>, plan: Plan)
-    requires { (opened.opening ≡ N.opening) × (opened.lane ≡ N.lane) }
+    requires { (opened.opening ≡ N.opening) × (opened.lane ≡ N.lane)
+        × (opened.seats ≡ N.seats) }
 {
     let (heap, alloc) = heaps;
     let desk = desk_of::<N, A>(rt.alloc(), heap, opened, lists, plan);
