@@ -3,14 +3,12 @@ use Rattle.std.specs.Prelude.{◌≡◌, ℕ, ◌+◌, ◌-◌, ◌≤◌, min, 
 use Rattle.dfr_channels.specs.Parts.{ScanParts}
 use Rattle.dfr_recorder.specs.declared.step.Hit.{Hit}
 use Rattle.dfr_recorder.specs.declared.step.TriggerFault.{TriggerFault}
-use Rattle.dfr_live.specs.Parts.{LeftParts}
 use Rattle.dfr_live.specs.Parts as call
 use Rattle.dfr_live.specs.declared.entry.Reply.TheVariants as reply_is
 use Rattle.dfr_live.specs.declared.report.LiveFault.{LiveFault}
 use Rattle.dfr_live.specs.declared.report.LiveFault.TheVariants as fault
 use Rattle.dfr_live.specs.declared.station.Order.{Order}
 use Rattle.dfr_live.specs.declared.station.Order.TheVariants as order
-use Rattle.dfr_live.specs.Weave.{steps_in}
 use Rattle.dfr_live.specs.Seen.{Caller, Offering}
 use Rattle.dfr_live.specs.Calls.{Notes, wants_memory}
 
@@ -83,7 +81,7 @@ after_loss s = record s { lost = s.lost + 1 }
 -- the source after the lane took this scan, and the lost ones before it
 abbrev pub after_offer : Offering → ScanParts → Offering
 after_offer s scan = record s {
-  offered = s.offered ++ steps_in (record { lost = s.lost; scan = scan });
+  offered = s.offered ++ record { lost = s.lost; scan = scan } ∷ [];
   offers = s.offers + 1;
   lost = 0;
 }
