@@ -1,7 +1,12 @@
 //! A fault of a pair of files in words: the line, the field's name, what stood there, what is wanted.
 
+ghost use Rattle.std.specs.Prelude.{◌<◌, IfOk};
+ghost use Rattle.comtrade_faults.specs.Places.{AreFew};
+
 use crate::forms::put_other_form;
-use crate::names::{Counts, Place, field_at, fields_wanted, place_at, place_name, type_line};
+use crate::names::{
+    Counts, Place, field_at, fields_wanted, place_at, place_name, rate_count_line, type_line,
+};
 use comtrade_read::ReadFault;
 use comtrade_text::{put, put_count, put_number, put_quoted, put_with};
 use dfr_channels::{fields_of, integer_of, lines_of, without_blank_end};
@@ -32,7 +37,9 @@ fn field_of<'a, A: Allocator + Copy>(
 }
 
 /// A whole number below a million, 0 where the text isn't one.
-fn number_in(text: &[u8]) -> u64 {
+fn number_in(text: &[u8]) -> u64
+    ensures { result < 1_000_000 }
+{
     match integer_of(text) {
         Some(n) if 0 <= n && n < 1_000_000 => n as u64,
         _ => 0,
@@ -40,7 +47,9 @@ fn number_in(text: &[u8]) -> u64 {
 }
 
 /// The number before a field's last letter.
-fn lettered<A: Allocator + Copy>(alloc: A, line: &[u8], field: u32) -> Result<u64, AllocError> {
+fn lettered<A: Allocator + Copy>(alloc: A, line: &[u8], field: u32) -> Result<u64, AllocError>
+    ensures { IfOk result (λ n. n < 1_000_000) }
+{
     match field_of(alloc, line, field)? {
         [digits @ .., _] => Ok(number_in(digits)),
         [] => Ok(0),
@@ -48,16 +57,19 @@ fn lettered<A: Allocator + Copy>(alloc: A, line: &[u8], field: u32) -> Result<u6
 }
 
 /// How many lines of a kind the configuration file says it has, as far as it can be read.
-fn counts_in<A: Allocator + Copy>(alloc: A, lines: &[&[u8]]) -> Result<Counts, AllocError> {
+fn counts_in<A: Allocator + Copy>(alloc: A, lines: &[&[u8]]) -> Result<Counts, AllocError>
+    ensures { IfOk result AreFew }
+{
     let line = line_at(lines, 2);
-    let analog = lettered(alloc, line, 2)?;
-    let status = lettered(alloc, line, 3)?;
-    let at = analog.saturating_add(status).saturating_add(4);
-    let rates = field_of(alloc, line_at(lines, at), 1)?;
+    let channels = Counts {
+        analog: lettered(alloc, line, 2)?,
+        status: lettered(alloc, line, 3)?,
+        rates: 1,
+    };
+    let rates = field_of(alloc, line_at(lines, rate_count_line(channels)), 1)?;
     Ok(Counts {
-        analog,
-        status,
         rates: number_in(rates).max(1),
+        ..channels
     })
 }
 

@@ -1,8 +1,10 @@
 //! Lines of a configuration file by their form, where a line of another kind is wanted: what stands there, and which counts say
 //! otherwise.
 
+ghost use Rattle.comtrade_faults.specs.Places.{AreFew, IsPlace};
+
 use crate::describe::{line_at, put_line};
-use crate::names::{Counts, Place, place_at};
+use crate::names::{Counts, Place, place_at, rate_count_line};
 use comtrade_text::{put, put_quoted};
 use dfr_channels::{Decimal, fields_of};
 use std::alloc::{AllocError, Allocator};
@@ -26,7 +28,7 @@ fn form_wanted(place: Place) -> Option<Form> {
         Place::Frequency | Place::RateCount | Place::TimeMultiplier => Some(Form::Number),
         Place::Rate(_) => Some(Form::Rate),
         Place::First | Place::Trigger => Some(Form::Instant),
-        Place::Type => Some(Form::Type),
+        Place::DataType => Some(Form::Type),
         Place::Station | Place::Channels | Place::After => None,
     }
 }
@@ -88,18 +90,15 @@ fn form_name(form: Form) -> &'static str {
 }
 
 /// The line whose counts say what stands here.
-fn counting_line(counts: Counts, place: Place) -> (u64, Place) {
+fn counting_line(counts: Counts, place: Place) -> (u64, Place)
+    requires { AreFew counts }
+    ensures { IsPlace counts result.0 result.1 }
+{
     match place {
         Place::Analog(_) | Place::Status(_) | Place::Frequency | Place::RateCount => {
             (2, Place::Channels)
         }
-        _ => (
-            counts
-                .analog
-                .saturating_add(counts.status)
-                .saturating_add(4),
-            Place::RateCount,
-        ),
+        _ => (rate_count_line(counts), Place::RateCount),
     }
 }
 
@@ -110,7 +109,9 @@ pub(crate) fn put_other_form<A: Allocator + Copy>(
     lines: &[&[u8]],
     counts: Counts,
     line: u64,
-) -> Result<(), AllocError> {
+) -> Result<(), AllocError>
+    requires { AreFew counts }
+{
     let place = place_at(counts, line);
     let Some(form) = other_form(&fields_of(alloc, line_at(lines, line))?, place) else {
         return Ok(());

@@ -1,5 +1,8 @@
 //! What each line and field of both files is called, and what may stand there (C37.111-1999, clauses 5 and 6).
 
+ghost use Rattle.comtrade_faults.specs.declared.names.Place.TheVariants.{RateCount, DataType};
+ghost use Rattle.comtrade_faults.specs.Places.{AreFew, IsPlace};
+
 /// How many lines of a kind a configuration file has.
 #[derive(Clone, Copy, Debug)]
 pub(crate) struct Counts {
@@ -20,63 +23,63 @@ pub(crate) enum Place {
     Rate(u64),
     First,
     Trigger,
-    Type,
+    DataType,
     TimeMultiplier,
     After,
 }
 
-/// The lines after the rates, counted from 1.
-fn last_place(at: u64) -> Place {
-    match at {
-        1 => Place::First,
-        2 => Place::Trigger,
-        3 => Place::Type,
-        4 => Place::TimeMultiplier,
-        _ => Place::After,
-    }
-}
-
-/// The lines after the channels, counted from 1.
-fn rate_place(rates: u64, at: u64) -> Place {
-    if at == 1 {
-        return Place::Frequency;
-    }
-    if at == 2 {
-        return Place::RateCount;
-    }
-    let rate = at.saturating_sub(2);
-    if rate <= rates {
-        return Place::Rate(rate);
-    }
-    last_place(rate.saturating_sub(rates))
-}
-
 /// What the line with this number is, counted from 1.
-pub(crate) fn place_at(counts: Counts, line: u64) -> Place {
+pub(crate) fn place_at(counts: Counts, line: u64) -> Place
+    ensures { IsPlace counts line result }
+{
     if line <= 1 {
         return Place::Station;
     }
     if line == 2 {
         return Place::Channels;
     }
-    let channel = line.saturating_sub(2);
+    let channel = line - 2;
     if channel <= counts.analog {
         return Place::Analog(channel);
     }
-    let status = channel.saturating_sub(counts.analog);
+    let status = channel - counts.analog;
     if status <= counts.status {
         return Place::Status(status);
     }
-    rate_place(counts.rates, status.saturating_sub(counts.status))
+    let after = status - counts.status;
+    if after == 1 {
+        return Place::Frequency;
+    }
+    if after == 2 {
+        return Place::RateCount;
+    }
+    let rate = after - 2;
+    if rate <= counts.rates {
+        return Place::Rate(rate);
+    }
+    match rate - counts.rates {
+        1 => Place::First,
+        2 => Place::Trigger,
+        3 => Place::DataType,
+        4 => Place::TimeMultiplier,
+        _ => Place::After,
+    }
+}
+
+/// The number of the line that says how many rates there are.
+pub(crate) fn rate_count_line(counts: Counts) -> u64
+    requires { AreFew counts }
+    ensures { IsPlace counts result RateCount }
+{
+    counts.analog + counts.status + 4
 }
 
 /// The number of the line that says the data file's type.
-pub(crate) fn type_line(counts: Counts) -> u64 {
-    counts
-        .analog
-        .saturating_add(counts.status)
-        .saturating_add(counts.rates)
-        .saturating_add(7)
+pub(crate) fn type_line(counts: Counts) -> u64
+    requires { AreFew counts }
+    ensures { IsPlace counts result DataType }
+{
+    counts.analog + counts.status + counts.rates + 7
 }
 
 /// A line's name, and whether a number follows it.
@@ -91,7 +94,7 @@ pub(crate) fn place_name(place: Place) -> (&'static str, Option<u64>) {
         Place::Rate(n) => ("rate ", Some(n)),
         Place::First => ("instant of the first row", None),
         Place::Trigger => ("trigger instant", None),
-        Place::Type => ("type of the data file", None),
+        Place::DataType => ("type of the data file", None),
         Place::TimeMultiplier => ("time multiplier", None),
         Place::After => ("after the last line", None),
     }
@@ -112,7 +115,7 @@ pub(crate) fn fields_wanted(place: Place) -> (u64, &'static str) {
         Place::Rate(_) => (2, "scans a second, number of its last row"),
         Place::First => (2, "dd/mm/yyyy, hh:mm:ss.ssssss"),
         Place::Trigger => (2, "dd/mm/yyyy, hh:mm:ss.ssssss"),
-        Place::Type => (1, "ASCII or BINARY"),
+        Place::DataType => (1, "ASCII or BINARY"),
         Place::TimeMultiplier => (1, "the time multiplier"),
         Place::After => (0, "nothing"),
     }
