@@ -22,8 +22,6 @@ mod opening;
 #[cfg(test)]
 mod play;
 #[cfg(test)]
-mod progress;
-#[cfg(test)]
 mod runs;
 #[cfg(test)]
 mod soak;
