@@ -9,9 +9,10 @@ mod write;
 use crate::extract::run_extract;
 use crate::view::{View, view_over};
 use crate::write::run_convert;
-use comtrade_faults::Pair;
-use comtrade_text::{ToolFault, fault_of, put, put_safe, read_up_to, write_out};
-use comtrade_words::{Answer, Asked, Names, answer_of};
+use comtrade_cli::{
+    Answer, Asked, Names, ToolFault, answer_of, fault_of, put, put_safe, read_up_to, write_out,
+};
+use comtrade_diagnostics::Pair;
 use std::alloc::{AllocError, Allocator};
 use std::fs::File;
 use std::io::{ErrorKind, IsTerminal};

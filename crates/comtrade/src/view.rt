@@ -1,11 +1,10 @@
 //! What is said of a pair of files.
 
-use comtrade_faults::{Pair, check_over, put_fault};
-use comtrade_pairs::Fault;
-use comtrade_read::{ReadFault, read};
-use comtrade_text::ToolFault;
-use comtrade_tools::{csv_over, plot_over, show_over};
-use comtrade_write::File;
+use comtrade_cli::ToolFault;
+use comtrade_diagnostics::{Pair, check_over, put_fault};
+use comtrade_format::File;
+use comtrade_read::{Fault, ReadFault, read};
+use comtrade_views::{csv_over, plot_over, show_over};
 use std::alloc::Allocator;
 use std::io::Write;
 

@@ -1,11 +1,10 @@
 //! Writing pairs of files that are not there yet.
 
 use crate::{complain, note_size, out_of_memory, pair_of, read_inputs, say};
-use comtrade_faults::{Pair, put_fault, put_refusal};
-use comtrade_pairs::{ConvertFault, converted};
-use comtrade_text::{ToolFault, fault_of, write_out};
-use comtrade_words::Names;
-use comtrade_write::Kind;
+use comtrade_cli::{Names, ToolFault, fault_of, write_out};
+use comtrade_diagnostics::{Pair, put_fault, put_refusal};
+use comtrade_format::Kind;
+use comtrade_read::{ConvertFault, converted};
 use std::alloc::AllocError;
 use std::fs;
 use std::fs::File;

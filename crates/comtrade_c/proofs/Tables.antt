@@ -2,8 +2,8 @@
 use Rattle.std.proofs.Common.{◌≡◌, ℕ, ◌+◌, ◌<◌, List, [], ◌∷◌, ◌++◌, length, get_or, take, drop, refl, sym, ap, ◌∙◌, append_assoc}
 use Rattle.std.specs.Prelude.{ℤ}
 use Rattle.std.proofs.lemmas.List.{at_drop_more}
-use Rattle.comtrade_write.specs.declared.file.Rate.{Rate}
-use Rattle.comtrade_write.specs.Parts.{RowParts}
+use Rattle.comtrade_format.specs.declared.file.Rate.{Rate}
+use Rattle.comtrade_format.specs.Parts.{RowParts}
 use Rattle.comtrade_c.specs.Writing.{row, rows_from, ending}
 
 -- the rows of what is left of the stamps are one row and the rows of the rest

@@ -1,8 +1,8 @@
 -- Faults by numbers: the table of comtrade.h.
 use Rattle.std.specs.Prelude.{◌≡◌, ℕ, List}
-use Rattle.comtrade_write.specs.declared.fault.WriteFault.{WriteFault}
-use Rattle.comtrade_write.specs.declared.fault.WriteFault.TheVariants as writing
-use Rattle.comtrade_write.specs.Parts.{HeadParts}
+use Rattle.comtrade_format.specs.declared.fault.WriteFault.{WriteFault}
+use Rattle.comtrade_format.specs.declared.fault.WriteFault.TheVariants as writing
+use Rattle.comtrade_format.specs.Parts.{HeadParts}
 use Rattle.comtrade_read.specs.declared.fault.ReadFault.{ReadFault}
 use Rattle.comtrade_read.specs.declared.fault.ReadFault.TheVariants as reading
 use Rattle.comtrade_read.specs.declared.pair.Part.{Part}

@@ -1,8 +1,8 @@
 -- What is said of a pair of files as a whole.
 use Rattle.std.specs.Prelude.{◌≡◌, ℕ, Bool, true, false, List, length}
-use Rattle.comtrade_write.specs.declared.file.Kind.{Kind}
-use Rattle.comtrade_write.specs.declared.file.Kind.TheVariants.{Ascii, Binary}
-use Rattle.comtrade_write.specs.Parts.{FileParts}
+use Rattle.comtrade_format.specs.declared.file.Kind.{Kind}
+use Rattle.comtrade_format.specs.declared.file.Kind.TheVariants.{Ascii, Binary}
+use Rattle.comtrade_format.specs.Parts.{FileParts}
 use Rattle.comtrade_read.specs.Reads.{Reads}
 use Rattle.comtrade_c.specs.declared.summary.Summary.{Summary}
 

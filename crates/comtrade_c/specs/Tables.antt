@@ -3,7 +3,7 @@ use Rattle.std.specs.Prelude.{◌≡◌, ◌≢◌, ◌⊎◌, ℕ, ℤ, negsuc,
 use Rattle.std.specs.List.{flat_map}
 use Rattle.dfr_channels.specs.declared.scan.Reading.{Reading}
 use Rattle.dfr_channels.specs.declared.scan.Reading.TheVariants.{Value, Missing}
-use Rattle.comtrade_write.specs.Parts.{FileParts, RowParts}
+use Rattle.comtrade_format.specs.Parts.{FileParts, RowParts}
 use Rattle.comtrade_read.specs.Reads.{Reads}
 
 -- -2^31 stands for a missing reading

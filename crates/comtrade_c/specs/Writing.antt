@@ -4,14 +4,14 @@ use Rattle.std.specs.Ordering.{int_eq}
 use Rattle.dfr_channels.specs.Faults.{◌or◌}
 use Rattle.dfr_channels.specs.declared.scan.Reading.{Reading}
 use Rattle.dfr_channels.specs.declared.scan.Reading.TheVariants.{Value, Missing}
-use Rattle.comtrade_write.specs.declared.fault.WriteFault.{WriteFault}
-use Rattle.comtrade_write.specs.declared.file.Kind.{Kind}
-use Rattle.comtrade_write.specs.declared.file.Kind.TheVariants.{Ascii, Binary}
-use Rattle.comtrade_write.specs.declared.file.Rate.{Rate}
-use Rattle.comtrade_write.specs.Parts.{HeadParts, RowParts, FileParts}
-use Rattle.comtrade_write.specs.Cfg.{cfg}
-use Rattle.comtrade_write.specs.Data.{dat, dat_refusal}
-use Rattle.comtrade_write.specs.Refusals.{cfg_refusal}
+use Rattle.comtrade_format.specs.declared.fault.WriteFault.{WriteFault}
+use Rattle.comtrade_format.specs.declared.file.Kind.{Kind}
+use Rattle.comtrade_format.specs.declared.file.Kind.TheVariants.{Ascii, Binary}
+use Rattle.comtrade_format.specs.declared.file.Rate.{Rate}
+use Rattle.comtrade_format.specs.Parts.{HeadParts, RowParts, FileParts}
+use Rattle.comtrade_format.specs.Cfg.{cfg}
+use Rattle.comtrade_format.specs.Data.{dat, dat_refusal}
+use Rattle.comtrade_format.specs.Refusals.{cfg_refusal}
 use Rattle.comtrade_read.specs.Reads.{Reads}
 use Rattle.comtrade_c.specs.Channels.{put}
 use Rattle.comtrade_c.specs.Faults.{of_write}

@@ -3,12 +3,12 @@
 ghost use Rattle.std.specs.Prelude.{◌≡◌, ◌≢◌, ◌<◌, ◌≤◌, ◌⊎◌, IsTrue, IsFalse, length};
 ghost use Rattle.comtrade_read.specs.declared.fault.ReadFault.TheVariants as reading;
 ghost use Rattle.comtrade_read.specs.declared.pair.Part.TheVariants as parts;
-ghost use Rattle.comtrade_write.specs.declared.fault.WriteFault.TheVariants as writing;
+ghost use Rattle.comtrade_format.specs.declared.fault.WriteFault.TheVariants as writing;
 ghost use Rattle.comtrade_c.specs.Channels as channels;
 ghost use Rattle.comtrade_c.specs.Faults as faults;
 
+use comtrade_format::WriteFault;
 use comtrade_read::{Part, ReadFault};
-use comtrade_write::WriteFault;
 
 pub(crate) const DONE: i32 = 0;
 /// The configuration file has a fault.
@@ -27,7 +27,7 @@ pub(crate) const NO_CHANNEL: i32 = 6;
 /// A fault: its kind, and the line or row and the field or channel that have it, from 1; 0 where it has none.
 #[repr(C)]
 #[derive(Clone, Copy)]
-pub struct Fault {
+pub(crate) struct Fault {
     pub place: u64,
     pub field: u32,
     pub kind: u32,

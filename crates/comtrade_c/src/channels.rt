@@ -11,16 +11,16 @@ ghost use Rattle.comtrade_values.specs.Floats.{IsScale};
 use crate::answer::{
     CFG_FAULT, DONE, Fault, NO_CHANNEL, NO_MEMORY, NO_ROOM, put, put_both, refuse_head,
 };
+use comtrade_format::Head;
 use comtrade_read::read_cfg;
 use comtrade_values::{Scale, scale_of};
-use comtrade_write::Head;
 use dfr_channels::{AnalogChannel, Side, StatusChannel};
 use std::alloc::Global;
 
 /// An analogue channel: its value is a·x + b of a sample x; the least and the greatest sample; how long its texts are.
 #[repr(C)]
 #[derive(Clone, Copy)]
-pub struct Analog {
+pub(crate) struct Analog {
     pub a: f64,
     pub b: f64,
     pub min: i32,
@@ -33,7 +33,7 @@ pub struct Analog {
 /// A status channel: its bit while nothing is wrong; how long its text is.
 #[repr(C)]
 #[derive(Clone, Copy)]
-pub struct Status {
+pub(crate) struct Status {
     pub normal: bool,
     pub id: usize,
 }

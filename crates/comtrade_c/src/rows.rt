@@ -8,8 +8,8 @@ ghost use Rattle.comtrade_c.specs.Tables as tables;
 ghost use Rattle.comtrade_c.specs.Tables.{Tabulates, LacksRoom, row_bits, row_samples};
 
 use crate::answer::{CFG_FAULT, DAT_FAULT, DONE, Fault, NO_MEMORY, NO_ROOM, refuse_read};
+use comtrade_format::{File, Row};
 use comtrade_read::read;
-use comtrade_write::{File, Row};
 use dfr_channels::Reading;
 use std::alloc::{AllocError, Global};
 

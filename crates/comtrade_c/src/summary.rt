@@ -7,15 +7,15 @@ ghost use Rattle.comtrade_c.specs.Summaries.{Holds, Summarizes};
 ghost use Rattle.comtrade_c.specs.Summaries as spec;
 
 use crate::answer::{CFG_FAULT, DAT_FAULT, DONE, Fault, NO_MEMORY, refuse_read};
+use comtrade_format::{File, Kind};
 use comtrade_read::read;
-use comtrade_write::{File, Kind};
 use std::alloc::Global;
 
 /// The numbers of channels and of rows; the instants of the first row and of the trigger, in microseconds since 1970-01-01 00:00:00;
 /// whether the data are binary.
 #[repr(C)]
 #[derive(Clone, Copy)]
-pub struct Summary {
+pub(crate) struct Summary {
     pub analog: usize,
     pub status: usize,
     pub rows: usize,

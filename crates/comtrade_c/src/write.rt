@@ -1,9 +1,9 @@
 //! Writing a pair.
 
 ghost use Rattle.std.specs.Prelude.{◌≡◌, ◌≢◌, ◌⊎◌, ◌+◌, length, map, take, drop, IfOk, IfErr};
-ghost use Rattle.comtrade_write.specs.Cfg.{cfg};
-ghost use Rattle.comtrade_write.specs.Data.{dat};
-ghost use Rattle.comtrade_write.specs.Refusals.{Fails};
+ghost use Rattle.comtrade_format.specs.Cfg.{cfg};
+ghost use Rattle.comtrade_format.specs.Data.{dat};
+ghost use Rattle.comtrade_format.specs.Refusals.{Fails};
 ghost use Rattle.comtrade_read.specs.Reads.{Reads};
 ghost use Rattle.comtrade_c.specs.Faults.{IsHeadFault, OfHead};
 ghost use Rattle.comtrade_c.specs.Writing as spec;
@@ -13,15 +13,15 @@ use crate::answer::{
     CFG_FAULT, DONE, Fault, NO_MEMORY, NO_ROOM, WRITE_FAULT, put_both, refuse_head, refuse_write,
 };
 use crate::rows::{NO_SAMPLE, NO_STAMP};
+use comtrade_format::{File, Head, Kind, Rate, Row, WriteFault, cfg_bytes, dat_bytes};
 use comtrade_read::{file_reads_back, read_cfg};
-use comtrade_write::{File, Head, Kind, Rate, Row, WriteFault, cfg_bytes, dat_bytes};
 use dfr_channels::{Items, Reading};
 use std::alloc::{AllocError, Global};
 
 /// How long the two files are.
 #[repr(C)]
 #[derive(Clone, Copy)]
-pub struct Sizes {
+pub(crate) struct Sizes {
     pub cfg: usize,
     pub dat: usize,
 }

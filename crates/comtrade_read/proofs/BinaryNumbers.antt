@@ -18,7 +18,7 @@ use Rattle.byteorder.specs.Endian.{little_number, little_bytes}
 use Rattle.byteorder.specs.Numbers.{little_from-lt}
 use Rattle.dfr_channels.specs.declared.scan.Reading.{Reading}
 use Rattle.dfr_channels.specs.declared.scan.Reading.TheVariants.{Value, Missing}
-use Rattle.comtrade_write.specs.Binary.{reading_number, stamp_number, bits_number}
+use Rattle.comtrade_format.specs.Binary.{reading_number, stamp_number, bits_number}
 use Rattle.comtrade_read.specs.Inner.BinaryRows.{reading, stamp_at}
 use Rattle.comtrade_read.specs.Reads.{IsPresent, IsStamp}
 

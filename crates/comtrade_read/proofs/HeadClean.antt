@@ -8,20 +8,20 @@ use Rattle.std.proofs.lemmas.Bool.{and_parts}
 use Rattle.dfr_channels.specs.Spelling.{Number, IsNumber}
 use Rattle.dfr_channels.specs.Written.{decimal_text}
 use Rattle.dfr_channels.specs.Parts.{AnalogParts, StatusParts}
-use Rattle.comtrade_write.specs.declared.file.Rate.{Rate}
-use Rattle.comtrade_write.specs.Parts.{HeadParts}
-use Rattle.comtrade_write.specs.Lines.{bit_text}
-use Rattle.comtrade_write.specs.Numbered.{numbered}
-use Rattle.comtrade_write.specs.Dates.{day_number, time_of_day}
-use Rattle.comtrade_write.specs.Cfg.{side_text, kind_text}
-use Rattle.comtrade_write.specs.Shape as shape
+use Rattle.comtrade_format.specs.declared.file.Rate.{Rate}
+use Rattle.comtrade_format.specs.Parts.{HeadParts}
+use Rattle.comtrade_format.specs.Lines.{bit_text}
+use Rattle.comtrade_format.specs.Numbered.{numbered}
+use Rattle.comtrade_format.specs.Dates.{day_number, time_of_day}
+use Rattle.comtrade_format.specs.Cfg.{side_text, kind_text}
+use Rattle.comtrade_format.specs.Shape as shape
 use Rattle.comtrade_read.proofs.AllOf.{All-append}
 use Rattle.comtrade_read.proofs.WrittenFields.{IsClean, clean_printed, clean_plain, printed_decimal, printed_signed, printed_number, printed_count, printed_side, printed_bit, printed_kind, printed_revision}
 use Rattle.comtrade_read.proofs.WrittenLines.{IsCleanLine}
 use Rattle.comtrade_read.proofs.WrittenDates.{Instant, date_printed, time_printed}
 use Rattle.comtrade_read.proofs.WrittenRows.{int_le-is}
-use Rattle.comtrade_write.specs.Cfg.{names_fields, counts_fields, analog_fields, status_fields, rate_fields}
-use Rattle.comtrade_write.specs.Dates.{instant_fields}
+use Rattle.comtrade_format.specs.Cfg.{names_fields, counts_fields, analog_fields, status_fields, rate_fields}
+use Rattle.comtrade_format.specs.Dates.{instant_fields}
 use Rattle.comtrade_read.proofs.HeadLines.{ends, tail, all_lines}
 use Rattle.comtrade_read.proofs.HeadTaken.{AnalogTaken, StatusTaken, rate_taken, HeadTaken}
 

@@ -1,5 +1,5 @@
 -- What follows of lines that say a head: how they end, and how many channels there are.
-use Rattle.std.proofs.Common.{◌≡◌, ℕ, zero, suc, ◌+◌, ◌<◌, ◌≤◌, max, Bool, true, false, cond, eqb, leb, ltb, List, [], ◌∷◌, ◌++◌, length, Option, Some, None, refl, ap, ◌∙◌, arith, length-append}
+use Rattle.std.proofs.Common.{◌≡◌, ℕ, ◌+◌, ◌<◌, ◌≤◌, max, Bool, true, false, cond, eqb, leb, ltb, List, [], ◌∷◌, length, Option, Some, None, refl, ap, ◌∙◌, arith}
 use Rattle.std.specs.Prelude.{◌≢◌, ◌&&◌, Result, Ok, Err, ℤ, pos, negsuc}
 use Rattle.std.specs.List.{AllByRecursion}
 use Rattle.std.proofs.lemmas.Bool.{and_parts, eqb-true, leb-true}
@@ -8,17 +8,17 @@ use Rattle.dfr_channels.specs.Lines.{field}
 use Rattle.dfr_channels.specs.Fields.{up_to, free_scale, side, free_bit}
 use Rattle.dfr_channels.specs.LineFields.{many, need, analog_from, status_from}
 use Rattle.dfr_channels.specs.Parts.{AnalogParts, StatusParts}
-use Rattle.comtrade_write.specs.declared.file.Kind.{Kind}
-use Rattle.comtrade_write.specs.declared.file.Rate.{Rate}
-use Rattle.comtrade_write.specs.Parts.{HeadParts}
+use Rattle.comtrade_format.specs.declared.file.Kind.{Kind}
+use Rattle.comtrade_format.specs.declared.file.Rate.{Rate}
+use Rattle.comtrade_format.specs.Parts.{HeadParts}
+use Rattle.comtrade_read.specs.declared.fault.ReadFault.{ReadFault}
 use Rattle.comtrade_read.specs.declared.fault.ReadFault.TheVariants as faults
 use Rattle.comtrade_read.specs.Fields.{whole, natural, small, ten_digits, scale, count}
 use Rattle.comtrade_read.specs.Instant.{date, time}
-use Rattle.comtrade_read.specs.Line.{Fault, number, Lines, told, follow, next, each, end}
-use Rattle.comtrade_read.specs.Head.{last_sample, kind, is_number, revision, names_line, counts_line, analog_line, status_line, rate_line, instant_line, head}
-use Rattle.comtrade_read.specs.Inner.HeadValues.{frequency_line, nrates_line, kind_line, timemult_line, next_analog, next_status, next_rate}
+use Rattle.comtrade_read.specs.Line.{Fault, number, Left, from_first, next, each, end}
+use Rattle.comtrade_read.specs.Head.{last_sample, kind, is_number, revision, names_line, counts_line, analog_line, status_line, rate_line, instant_line, frequency_line, nrates_line, kind_line, timemult_line, next_analog, next_status, next_rate, EndParts, ending, TailParts, tail, head}
+use Rattle.comtrade_read.proofs.LineByLine.{follow_said, next_said, told_said, none_said, next_to, each_to}
 use Rattle.comtrade_read.proofs.LineEnds.{EndsPlain, EndsFull}
-use Rattle.comtrade_read.proofs.Stages.{made, after_timemult, after_kind, after_trigger, after_first, after_rates, after_nrates, after_frequency, after_status, after_analog, after_counts, after_names}
 use Rattle.comtrade_read.proofs.NoReturn.{ends_plain, no_return, whole_plain, natural_plain, free_bit_plain, scale_plain, free_scale_plain, side_plain, count_plain, time_plain, kind_plain}
 
 -- ---- fields
@@ -33,10 +33,6 @@ many_said n fs r x e = with_test (eqb (length fs) n) refl e
 pub need_said : {A B : Type 0} (o : Option A) (fault : Fault) (more : A → Result B Fault) (y : B) → need o fault more ≡ Ok y → (x : A) × (o ≡ Some x) × (more x ≡ Ok y)
 need_said None fault more y e = absurd cc
 need_said (Some x) fault more y e = (x, refl, e)
-
-follow_said : {A B : Type 0} (r : Result A Fault) (more : A → Result B Fault) (y : B) → follow r more ≡ Ok y → (x : A) × (r ≡ Ok x) × (more x ≡ Ok y)
-follow_said (Ok x) more y e = (x, refl, e)
-follow_said (Err f) more y e = absurd cc
 
 pub test_said : {A F : Type 0} (b : Bool) (x : A) (fault : F) (y : A) → cond b (Ok x) (Err fault) ≡ Ok y → (b ≡ true) × (x ≡ y)
 test_said true x fault y e = (refl, cc)
@@ -140,18 +136,6 @@ timemult_plain fs x e =
     let a = one_said (scale (field fs 0)) (number 1) fs x e in
     (no_return fs 0 a.0 (scale_plain (field fs 0) a.1 a.2), no_scale fs a.1 a.2)
 
--- ---- lines
-
-next_said : {A B : Type 0} (says : List (List ℕ) → Result A Fault) (more : A → Lines B) (line : ℕ) (ls : List (List (List ℕ))) (y : B) → next says more line ls ≡ Ok y
-    → (fs : List (List ℕ)) × (rest : List (List (List ℕ))) × (x : A) × (ls ≡ fs ∷ rest) × (says fs ≡ Ok x) × (more x (line + 1) rest ≡ Ok y)
-next_said says more line [] y e = absurd cc
-next_said {A = A} says more line (fs ∷ ls) y e = with_said (says fs) refl e
-  where
-    with_said : (r : Result A Fault) → says fs ≡ r → follow (told line r) (λ x. more x (line + 1) ls) ≡ Ok y
-        → (gs : List (List ℕ)) × (rest : List (List (List ℕ))) × (x : A) × (fs ∷ ls ≡ gs ∷ rest) × (says gs ≡ Ok x) × (more x (line + 1) rest ≡ Ok y)
-    with_said (Ok x) s h = (fs, ls, x, refl, s, h)
-    with_said (Err f) s h = absurd cc
-
 up_high : (high n : ℕ) (o : Option ℤ) → up_to high o ≡ Some n → n ≤ high
 up_high high n None e = absurd cc
 up_high high n (Some (pos m)) e = with_test (leb m high) refl e
@@ -165,73 +149,71 @@ natural_high : (high : ℕ) (f : List ℕ) (n : ℕ) → natural high f ≡ Some
 unfolding natural
 natural_high high f n e = up_high high n (whole_number f) e
 
-pub end_said : {A : Type 0} (x : A) (line : ℕ) (ls : List (List (List ℕ))) (y : A) → end x line ls ≡ Ok y → (ls ≡ []) × (x ≡ y)
-end_said x line [] y e = (refl, cc)
-end_said x line (fs ∷ ls) y e = absurd cc
-
--- what holds of a line's rest holds of the line with it
-next_to : {A B : Type 0} (says : List (List ℕ) → Result A Fault) (more : A → Lines B) (line : ℕ) (ls : List (List (List ℕ))) (y : B) (G : List (List (List ℕ)) → Type 0)
-    → ((fs : List (List ℕ)) (rest : List (List (List ℕ))) (x : A) → says fs ≡ Ok x → G rest → G (fs ∷ rest)) → ((x : A) (at : ℕ) (rest : List (List (List ℕ))) → more x at rest ≡ Ok y → G rest) → next says more line ls ≡ Ok y → G ls
-next_to says more line ls y G w h e = let a = next_said says more line ls y e in rw a.3 (w a.0 a.1 a.2 a.4 (h a.2 (line + 1) a.1 a.5))
-
-pub each_to : {A B : Type 0} (says : List A → List (List ℕ) → Result A Fault) (more : List A → Lines B) (n : ℕ) (before : List A) (line : ℕ) (ls : List (List (List ℕ))) (y : B) (G : List (List (List ℕ)) → Type 0)
-    → ((xs : List A) (fs : List (List ℕ)) (rest : List (List (List ℕ))) (x : A) → says xs fs ≡ Ok x → G rest → G (fs ∷ rest))
-    → ((xs : List A) (at : ℕ) (rest : List (List (List ℕ))) → length xs ≡ length before + n → more xs at rest ≡ Ok y → G rest) → each says n before more line ls ≡ Ok y → G ls
-each_to says more zero before line ls y G w h e = h before line ls (omega arith) e
-each_to says more (suc n) before line ls y G w h e =
-    next_to (says before) (λ x. each says n (before ++ x ∷ []) more) line ls y G (w before)
-    (λ x at rest k. each_to says more n (before ++ x ∷ []) at rest y G w (λ xs to left len m. h xs to left (omega (arith, len, length-append before (x ∷ []))) m) k) e
-
--- what holds of the lines of a head, and of those after some of them
-pub record Said (h : HeadParts) (ls : List (List (List ℕ))) : Type 0 where
-  pub some : 0 < length ls
-  pub plain : AllByRecursion EndsPlain ls
-  pub full : EndsFull ls
-  pub few : length h.analog + length h.status < 1000000
-
-add : (h : HeadParts) (fs : List (List ℕ)) (ls : List (List (List ℕ))) → EndsPlain fs → Said h ls → Said h (fs ∷ ls)
-add h fs [] p s = absurd (omega (arith, s.some))
-add h fs (l ∷ ls) p s = record { some = omega arith; plain = (p, s.plain); full = s.full; few = s.few }
-
--- the lines after the channels
-module _ (h : HeadParts) (names : List ℕ × List ℕ) (analog : List AnalogParts) (status : List StatusParts) (few : length analog + length status < 1000000) where
-  last_said : (line_freq : Number) (nrates : ℕ) (rates : List Rate) (first trigger : ℤ) (kind : Kind) (line : ℕ) (ls : List (List (List ℕ))) → after_kind names analog status line_freq nrates rates first trigger kind line ls ≡ Ok h → Said h ls
-  last_said line_freq nrates rates first trigger kind line ls e =
-      let a = next_said timemult_line (after_timemult names analog status line_freq nrates rates first trigger kind) line ls h e in
-      let z = end_said (made names analog status line_freq nrates rates first trigger kind a.2) (line + 1) a.1 h a.5 in
-      let is : ls ≡ a.0 ∷ [] = a.3 ∙ ap (λ (l : List (List (List ℕ))). a.0 ∷ l) z.0 in
-      let p = timemult_plain a.0 a.2 a.4 in
-      let analog_is : length analog ≡ length h.analog = ap (λ (x : HeadParts). length x.analog) z.1 in
-      let status_is : length status ≡ length h.status = ap (λ (x : HeadParts). length x.status) z.1 in
-      rw is (record { some = omega arith; plain = (p.0, tt); full = p.1; few = omega (arith, few, analog_is, status_is) })
-
-  ends_said : (line_freq : Number) (nrates : ℕ) (rates : List Rate) (line : ℕ) (ls : List (List (List ℕ))) → after_rates names analog status line_freq nrates rates line ls ≡ Ok h → Said h ls
-  ends_said line_freq nrates rates line ls e =
-      next_to instant_line (after_first names analog status line_freq nrates rates) line ls h (Said h) (λ fs rest x s. add h fs rest (instant_plain fs x s)) (λ first at rest k.
-      next_to instant_line (after_trigger names analog status line_freq nrates rates first) at rest h (Said h) (λ fs rest x s. add h fs rest (instant_plain fs x s)) (λ trigger at rest k.
-      next_to kind_line (after_kind names analog status line_freq nrates rates first trigger) at rest h (Said h) (λ fs rest x s. add h fs rest (kind_ends fs x s))
-      (λ kind at rest k. last_said line_freq nrates rates first trigger kind at rest k) k) k) e
-
-  tail_said : (line : ℕ) (ls : List (List (List ℕ))) → after_status names analog status line ls ≡ Ok h → Said h ls
-  tail_said line ls e =
-      next_to frequency_line (after_frequency names analog status) line ls h (Said h) (λ fs rest x s. add h fs rest (frequency_plain fs x s)) (λ line_freq at rest k.
-      next_to nrates_line (after_nrates names analog status line_freq) at rest h (Said h) (λ fs rest x s. add h fs rest (nrates_plain fs x s)) (λ nrates at rest k.
-      each_to next_rate (after_rates names analog status line_freq nrates) (max 1 nrates) [] at rest h (Said h) (λ xs fs rest x s. add h fs rest (rate_plain (last_sample xs) fs x s))
-      (λ rates at rest len k. ends_said line_freq nrates rates at rest k) k) k) e
-
 few_counted : (fs : List (List ℕ)) (x : ℕ × ℕ) → counts_line fs ≡ Ok x → x.0 + x.1 < 1000000
 few_counted fs x e = let c = counts_said fs x e in omega (arith, natural_high 999999 (field fs 0) c.1 c.3, c.5)
 
-channels_said : (h : HeadParts) (names : List ℕ × List ℕ) (counts : ℕ × ℕ) (line : ℕ) (ls : List (List (List ℕ))) → counts.0 + counts.1 < 1000000 → after_counts names counts line ls ≡ Ok h → Said h ls
-channels_said h names counts line ls few e =
-    each_to next_analog (after_analog names counts) counts.0 [] line ls h (Said h) (λ xs fs rest x s. add h fs rest (analog_plain (length xs + 1) fs x s)) (λ analog at rest long k.
-    each_to next_status (after_status names analog) counts.1 [] at rest h (Said h) (λ xs fs rest x s. add h fs rest (status_plain (length xs + 1) fs x s))
-    (λ status at rest len k. tail_said h names analog status (omega (arith, few, long, len)) at rest k) k) e
+-- ---- lines
 
-pub head_said : (ls : List (List (List ℕ))) (h : HeadParts) → head ls ≡ Ok h → Said h ls
+-- what holds of the lines of a head, and of those after some of them
+pub record Said (ls : List (List (List ℕ))) : Type 0 where
+  pub some : 0 < length ls
+  pub plain : AllByRecursion EndsPlain ls
+  pub full : EndsFull ls
+
+add : (fs : List (List ℕ)) (ls : List (List (List ℕ))) → EndsPlain fs → Said ls → Said (fs ∷ ls)
+add fs [] p s = absurd (omega (arith, s.some))
+add fs (l ∷ ls) p s = record { some = omega arith; plain = (p, s.plain); full = s.full }
+
+ending_said : (left : Left) (e : EndParts) → ending left ≡ Ok e → Said left.lines
+unfolding ending
+ending_said left y e =
+    let a = follow_said (next instant_line left) _ y e in
+    let b = follow_said (next instant_line a.0.1) _ y a.2 in
+    let c = follow_said (next kind_line b.0.1) _ y b.2 in
+    let d = follow_said (next timemult_line c.0.1) _ y c.2 in
+    let z = follow_said (end d.0.1) _ y d.2 in
+    let last = next_said timemult_line c.0.1 d.0 d.1 in
+    let p = timemult_plain last.0 d.0.0 (told_said c.0.1.line (timemult_line last.0) d.0.0 last.2) in
+    let is : c.0.1.lines ≡ last.0 ∷ [] = last.1 ∙ ap (λ (l : List (List (List ℕ))). last.0 ∷ l) (none_said d.0.1 z.0 z.1) in
+    let said : Said c.0.1.lines = rw is (record { some = omega arith; plain = (p.0, tt); full = p.1 }) in
+    next_to instant_line left a.0 Said (λ fs rest x s. add fs rest (instant_plain fs x s)) a.1
+    (next_to instant_line a.0.1 b.0 Said (λ fs rest x s. add fs rest (instant_plain fs x s)) b.1
+    (next_to kind_line b.0.1 c.0 Said (λ fs rest x s. add fs rest (kind_ends fs x s)) c.1 said))
+
+tail_said : (left : Left) (t : TailParts) → tail left ≡ Ok t → Said left.lines
+unfolding tail
+tail_said left t e =
+    let a = follow_said (next frequency_line left) _ t e in
+    let b = follow_said (next nrates_line a.0.1) _ t a.2 in
+    let c = follow_said (each next_rate (max 1 b.0.0) [] b.0.1) _ t b.2 in
+    let d = follow_said (ending c.0.1) _ t c.2 in
+    next_to frequency_line left a.0 Said (λ fs rest x s. add fs rest (frequency_plain fs x s)) a.1
+    (next_to nrates_line a.0.1 b.0 Said (λ fs rest x s. add fs rest (nrates_plain fs x s)) b.1
+    (each_to next_rate (max 1 b.0.0) [] b.0.1 c.0 Said (λ xs fs rest x s. add fs rest (rate_plain (last_sample xs) fs x s)) c.1 (ending_said c.0.1 d.0 d.1)).1)
+
+pub head_said : (ls : List (List (List ℕ))) (h : HeadParts) → head ls ≡ Ok h → Said ls × (length h.analog + length h.status < 1000000)
 unfolding head
 head_said ls h e =
-    let a = next_said names_line after_names 1 ls h e in
-    let b = next_said counts_line (after_counts a.2) (1 + 1) a.1 h a.5 in
-    let c = channels_said h a.2 b.2 (1 + 1 + 1) b.1 (few_counted b.0 b.2 b.4) b.5 in
-    rw (a.3, b.3) (add h a.0 (b.0 ∷ b.1) (names_plain a.0 a.2 a.4) (add h b.0 b.1 (counts_plain b.0 b.2 b.4) c))
+    let a = follow_said (next names_line (from_first ls)) _ h e in
+    let b = follow_said (next counts_line a.0.1) _ h a.2 in
+    let c = follow_said (each next_analog b.0.0.0 [] b.0.1) _ h b.2 in
+    let d = follow_said (each next_status b.0.0.1 [] c.0.1) _ h c.2 in
+    let t = follow_said (tail d.0.1) _ h d.2 in
+    let status = each_to next_status b.0.0.1 [] c.0.1 d.0 Said (λ xs fs rest x s. add fs rest (status_plain (length xs + 1) fs x s)) d.1 (tail_said d.0.1 t.0 t.1) in
+    let analog = each_to next_analog b.0.0.0 [] b.0.1 c.0 Said (λ xs fs rest x s. add fs rest (analog_plain (length xs + 1) fs x s)) c.1 status.1 in
+    let counts = next_said counts_line a.0.1 b.0 b.1 in
+    let few = few_counted counts.0 b.0.0 (told_said a.0.1.line (counts_line counts.0) b.0.0 counts.2) in
+    let analog_is : c.0.0 ≡ h.analog = ap (λ (r : Result HeadParts ReadFault). analog_in r) t.2 in
+    let status_is : d.0.0 ≡ h.status = ap (λ (r : Result HeadParts ReadFault). status_in r) t.2 in (
+      next_to names_line (from_first ls) a.0 Said (λ fs rest x s. add fs rest (names_plain fs x s)) a.1
+          (next_to counts_line a.0.1 b.0 Said (λ fs rest x s. add fs rest (counts_plain fs x s)) b.1 analog.1),
+      omega (arith, few, analog.0, status.0, ap length analog_is, ap length status_is),
+    )
+  where
+    analog_in : Result HeadParts ReadFault → List AnalogParts
+    analog_in (Ok h) = h.analog
+    analog_in (Err e) = []
+
+    status_in : Result HeadParts ReadFault → List StatusParts
+    status_in (Ok h) = h.status
+    status_in (Err e) = []

@@ -6,12 +6,13 @@ use Rattle.std.proofs.lemmas.Bool.{leb-true, ltb-true, eqb-true, and_parts}
 use Rattle.std.proofs.lemmas.Bool.Decides.{nat_tests}
 use Rattle.dfr_channels.specs.Texts.{is_name, is_phase, is_unit}
 use Rattle.dfr_channels.specs.Parts.{AnalogParts, StatusParts}
-use Rattle.comtrade_write.specs.declared.file.Rate.{Rate}
-use Rattle.comtrade_write.specs.Parts.{HeadParts}
-use Rattle.comtrade_write.specs.Numbered.{first_from}
-use Rattle.comtrade_write.specs.Shape as shape
-use Rattle.comtrade_write.specs.Refusals.{text_fault, names_refusal, analog_refusal, status_refusal, text_refusal}
-use Rattle.comtrade_read.specs.ReadBack.{HasDecimals, HasNumbers}
+use Rattle.comtrade_format.specs.declared.file.Rate.{Rate}
+use Rattle.comtrade_format.specs.Parts.{HeadParts}
+use Rattle.comtrade_format.specs.Numbered.{first_from}
+use Rattle.comtrade_format.specs.Shape as shape
+use Rattle.comtrade_format.specs.Refusals.{text_fault, names_refusal, analog_refusal, status_refusal, text_refusal}
+use Rattle.dfr_channels.specs.Decimals.{HasDecimals}
+use Rattle.comtrade_read.specs.ReadBack.{HasNumbers}
 use Rattle.comtrade_read.proofs.WrittenDates.{Instant, instant_written}
 use Rattle.comtrade_read.proofs.WrittenRows.{int_le-is}
 use Rattle.dfr_channels.proofs.Lawful.{or-none, unless-none}

@@ -9,8 +9,7 @@ pub mod Blanks
 pub mod LineEnds
 pub mod Joining
 pub mod Cutting
-pub mod Stages
-pub mod HeadRead
+pub mod LineByLine
 pub mod NoReturn
 pub mod HeadSays
 pub mod TextSpelled
@@ -31,4 +30,4 @@ pub mod ReadBack
 pub mod PlainRows
 pub mod EndMark
 pub mod ReadAgain
-pub mod Records
+pub mod FirstRefusal

@@ -16,8 +16,8 @@ use Rattle.dfr_channels.specs.declared.channel.Side.{Side}
 use Rattle.dfr_channels.specs.declared.channel.Side.TheVariants.{Primary, Secondary}
 use Rattle.dfr_channels.specs.declared.scan.Reading.{Reading}
 use Rattle.dfr_channels.specs.declared.scan.Reading.TheVariants as readings
-use Rattle.comtrade_write.specs.declared.file.Kind.{Kind}
-use Rattle.comtrade_write.specs.declared.file.Kind.TheVariants.{Ascii, Binary}
+use Rattle.comtrade_format.specs.declared.file.Kind.{Kind}
+use Rattle.comtrade_format.specs.declared.file.Kind.TheVariants.{Ascii, Binary}
 use Rattle.dfr_channels.specs.Fields.{zero_number, up_to, within, free_scale, side, is_letter, as_bit, bit, free_bit}
 use Rattle.comtrade_read.specs.Fields.{whole, natural, small, scale, count, before_letter}
 use Rattle.comtrade_read.specs.Instant.{digits, is_colon, is_dot, given, micros, seconds, time_at, time}

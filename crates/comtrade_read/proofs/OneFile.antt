@@ -3,9 +3,9 @@ use Rattle.std.proofs.Common.{◌≡◌, ℕ, ◌*◌, Bool, true, false, cond, 
 use Rattle.std.specs.Prelude.{Ok, Err}
 use Rattle.std.proofs.lemmas.Bool.{eqb-true}
 use Rattle.std.proofs.lemmas.Bool.Decides.{nat_tests}
-use Rattle.comtrade_write.specs.declared.file.Kind.{Kind}
-use Rattle.comtrade_write.specs.declared.file.Kind.TheVariants.{Ascii, Binary}
-use Rattle.comtrade_write.specs.Parts.{HeadParts, RowParts, FileParts}
+use Rattle.comtrade_format.specs.declared.file.Kind.{Kind}
+use Rattle.comtrade_format.specs.declared.file.Kind.TheVariants.{Ascii, Binary}
+use Rattle.comtrade_format.specs.Parts.{HeadParts, RowParts, FileParts}
 use Rattle.comtrade_read.specs.declared.fault.ReadFault.{ReadFault}
 use Rattle.comtrade_read.specs.declared.fault.ReadFault.TheVariants as faults
 use Rattle.comtrade_read.specs.declared.pair.Part.{Part}

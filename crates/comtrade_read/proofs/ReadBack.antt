@@ -3,14 +3,14 @@ use Rattle.std.proofs.Common.{◌≡◌, true, length, None, sym}
 use Rattle.std.specs.Prelude.{◌&&◌}
 use Rattle.std.specs.List.{AllByRecursion}
 use Rattle.dfr_channels.specs.Faults.{fault_unless}
-use Rattle.comtrade_write.specs.declared.bounds.Bounds.{Bounds}
-use Rattle.comtrade_write.specs.declared.fault.WriteFault.TheVariants as faults
-use Rattle.comtrade_write.specs.declared.file.Kind.{Kind}
-use Rattle.comtrade_write.specs.declared.file.Kind.TheVariants.{Ascii, Binary}
-use Rattle.comtrade_write.specs.Parts.{FileParts}
-use Rattle.comtrade_write.specs.Data.{dat, dat_refusal}
-use Rattle.comtrade_write.specs.Shape.{head_shaped, is_some_of, rates_end, rows_shaped, is_shaped}
-use Rattle.comtrade_write.specs.Refusals.{ascii_bounds, binary_bounds, value_refusal, stamp_refusal, rows_refusal, data_refusal, text_refusal, cfg_refusal}
+use Rattle.comtrade_format.specs.declared.bounds.Bounds.{Bounds}
+use Rattle.comtrade_format.specs.declared.fault.WriteFault.TheVariants as faults
+use Rattle.comtrade_format.specs.declared.file.Kind.{Kind}
+use Rattle.comtrade_format.specs.declared.file.Kind.TheVariants.{Ascii, Binary}
+use Rattle.comtrade_format.specs.Parts.{FileParts}
+use Rattle.comtrade_format.specs.Data.{dat, dat_refusal}
+use Rattle.comtrade_format.specs.Shape.{head_shaped, is_some_of, rates_end, rows_shaped, is_shaped}
+use Rattle.comtrade_format.specs.Refusals.{ascii_bounds, binary_bounds, value_refusal, stamp_refusal, rows_refusal, data_refusal, text_refusal, cfg_refusal}
 use Rattle.comtrade_read.specs.Reads.{ReadsAs}
 use Rattle.comtrade_read.specs.ReadBack.{ReadBackLaw}
 use Rattle.comtrade_read.proofs.WrittenRows.{RowTaken, rows_taken, ascii_written, binary_written}

@@ -10,8 +10,8 @@ use Rattle.std.proofs.lemmas.List.FromFn.{length-map-range_with_len, take-map-ra
 use Rattle.byteorder.specs.Endian.{little_number, little_bytes}
 use Rattle.byteorder.specs.Numbers.{little_number-reads_back, length-bytes_low_first}
 use Rattle.dfr_channels.specs.declared.scan.Reading.{Reading}
-use Rattle.comtrade_write.specs.Parts.{RowParts}
-use Rattle.comtrade_write.specs.Binary.{reading_number, stamp_number, bits_number, group_bytes, status_bytes, row_bytes}
+use Rattle.comtrade_format.specs.Parts.{RowParts}
+use Rattle.comtrade_format.specs.Binary.{reading_number, stamp_number, bits_number, group_bytes, status_bytes, row_bytes}
 use Rattle.comtrade_read.specs.Inner.BinaryRows.{value_at, stamp_at, values_at, bit_of, bits_at, row_at, rows_at}
 use Rattle.comtrade_read.specs.Reads.{row_size}
 use Rattle.comtrade_read.specs.Reads.{IsPresent, IsRowOf, ReadsBinary}

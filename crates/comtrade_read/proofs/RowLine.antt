@@ -7,7 +7,7 @@ use Rattle.std.proofs.lemmas.List.{append-nil, drop-drop, get_or-drop, length-ma
 use Rattle.dfr_channels.specs.Lines.{field}
 use Rattle.dfr_channels.specs.Fields.{bit}
 use Rattle.dfr_channels.specs.declared.scan.Reading.{Reading}
-use Rattle.comtrade_write.specs.Parts.{RowParts}
+use Rattle.comtrade_format.specs.Parts.{RowParts}
 use Rattle.comtrade_read.specs.Line.{Fault, number, need_each}
 use Rattle.comtrade_read.specs.Fields.{natural}
 use Rattle.comtrade_read.specs.Ascii.{stamp, value, row_line}

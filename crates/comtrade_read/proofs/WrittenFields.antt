@@ -19,11 +19,11 @@ use Rattle.dfr_channels.specs.declared.channel.Side.{Side}
 use Rattle.dfr_channels.specs.declared.channel.Side.TheVariants.{Primary, Secondary}
 use Rattle.dfr_channels.specs.declared.scan.Reading.{Reading}
 use Rattle.dfr_channels.specs.declared.scan.Reading.TheVariants.{Value, Missing}
-use Rattle.comtrade_write.specs.declared.file.Kind.{Kind}
-use Rattle.comtrade_write.specs.declared.file.Kind.TheVariants.{Ascii, Binary}
-use Rattle.comtrade_write.specs.Lines.{bit_text}
-use Rattle.comtrade_write.specs.Cfg.{side_text, kind_text}
-use Rattle.comtrade_write.specs.Ascii.{reading_text, stamp_text}
+use Rattle.comtrade_format.specs.declared.file.Kind.{Kind}
+use Rattle.comtrade_format.specs.declared.file.Kind.TheVariants.{Ascii, Binary}
+use Rattle.comtrade_format.specs.Lines.{bit_text}
+use Rattle.comtrade_format.specs.Cfg.{side_text, kind_text}
+use Rattle.comtrade_format.specs.Ascii.{reading_text, stamp_text}
 use Rattle.dfr_channels.specs.Fields.{free_scale, side, bit, free_bit}
 use Rattle.comtrade_read.specs.Fields.{whole, natural, small, scale, count}
 use Rattle.comtrade_read.specs.Head.{kind}

@@ -2,7 +2,7 @@
 use Rattle.std.proofs.Common.{◌≡◌, ℕ, true, false, eqb, List, [], ◌∷◌, ◌++◌, map, refl, sym, ap, ◌∙◌, append_assoc}
 use Rattle.std.specs.List.{AllByRecursion, flat_map, join_with_byte}
 use Rattle.std.proofs.lemmas.List.{append-nil}
-use Rattle.comtrade_write.specs.Lines.{line}
+use Rattle.comtrade_format.specs.Lines.{line}
 use Rattle.comtrade_read.specs.Joined.{HasNone, Field, field_bytes, IsField, Line, line_bytes, field_texts, IsLine, IsJoined}
 use Rattle.comtrade_read.proofs.AllOf.{All-append, All-map, All-weaker, map-back}
 use Rattle.comtrade_read.proofs.Parts.{join_none}

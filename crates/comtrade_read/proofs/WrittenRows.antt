@@ -1,6 +1,6 @@
 -- Rows that are written are read.
 use Rattle.std.proofs.Common.{◌≡◌, ℕ, zero, suc, ◌+◌, ◌-◌, ◌*◌, ◌/◌, ◌<◌, ◌≤◌, ◌^◌, Bool, true, false, cond, ltb, leb, eqb, List, [], ◌∷◌, ◌++◌, length, map, get_or, take, drop, replicate, Option, Some, None, refl, sym, ap, ◌∙◌, arith, append_assoc, length-append}
-use Rattle.std.specs.Prelude.{ℤ, pos, negsuc, neg_ℤ, ◌≤ℤ◌, int_le, unsigned_abs, Ok}
+use Rattle.std.specs.Prelude.{ℤ, pos, negsuc, neg_ℤ, ◌≤ℤ◌, int_le, unsigned_abs, Result, Ok}
 use Rattle.std.specs.List.{range_with_len, flat_map, concat, list_all, before_first, AllByRecursion, AllZip}
 use Rattle.std.specs.Fmt.{decimal}
 use Rattle.std.proofs.lemmas.List.{append-nil, get_or-take, get_or-drop, length-take, length-replicate, take_at}
@@ -10,17 +10,17 @@ use Rattle.std.proofs.lemmas.Bool.Decides.{nat_tests}
 use Rattle.byteorder.specs.Endian.{little_bytes}
 use Rattle.dfr_channels.specs.declared.scan.Reading.{Reading}
 use Rattle.dfr_channels.specs.declared.scan.Reading.TheVariants.{Value, Missing}
-use Rattle.comtrade_write.specs.declared.bounds.Bounds.{Bounds}
-use Rattle.comtrade_write.specs.Parts.{RowParts}
-use Rattle.comtrade_write.specs.Lines.{line, bit_text}
-use Rattle.comtrade_write.specs.Ascii.{reading_text, stamp_text, fields_line, row_line, ascii}
-use Rattle.comtrade_write.specs.Binary.{reading_number, stamp_number, bits_number, group_bytes, status_bytes, row_bytes, binary}
-use Rattle.comtrade_write.specs.Shape.{row_shaped}
-use Rattle.comtrade_write.specs.Refusals.{ascii_bounds, binary_bounds, takes_reading, takes_stamp, takes_times, values_from, rows_from, stamps_from}
+use Rattle.comtrade_format.specs.declared.bounds.Bounds.{Bounds}
+use Rattle.comtrade_format.specs.Parts.{RowParts}
+use Rattle.comtrade_format.specs.Lines.{line, bit_text}
+use Rattle.comtrade_format.specs.Ascii.{reading_text, stamp_text, fields_line, row_line, ascii}
+use Rattle.comtrade_format.specs.Binary.{reading_number, stamp_number, bits_number, group_bytes, status_bytes, row_bytes, binary}
+use Rattle.comtrade_format.specs.Shape.{row_shaped}
+use Rattle.comtrade_format.specs.Refusals.{ascii_bounds, binary_bounds, takes_reading, takes_stamp, takes_times, values_from, rows_from, stamps_from}
 use Rattle.dfr_channels.specs.Fields.{bit}
-use Rattle.comtrade_read.specs.Line.{each, end}
+use Rattle.comtrade_read.specs.declared.fault.ReadFault.{ReadFault}
+use Rattle.comtrade_read.specs.Line.{Left, taken, next, each, end}
 use Rattle.comtrade_read.specs.Ascii.{stamp, value, is_end_mark, row_line as read_line, rows}
-use Rattle.comtrade_read.specs.Inner.HeadValues.{next_row}
 use Rattle.comtrade_read.specs.Reads.{IsPresent, IsStamp, IsRowOf, ReadsBinary, ReadsAscii}
 use Rattle.comtrade_read.proofs.AllOf.{All-append}
 use Rattle.comtrade_read.proofs.Numerals.{place_at}
@@ -190,10 +190,16 @@ row_again k m r t =
     rw (← t.value_count, ← t.bit_count)
     (row_made (decimal r.number) (stamp_text r.stamp) (map reading_text r.values) (map bit_text r.bits) r (natural_written 9999999999 r.number le (omega arith)) (stamp_again r.stamp t.stamp) (values_again r.values t.values) (bits_again r.bits))
 
-rows_again : (k m : ℕ) (before rs : List RowParts) (line : ℕ) → AllByRecursion (RowTaken ascii_bounds k m) rs → each (next_row k m) (length rs) before end line (map row_fields rs) ≡ Ok (before ++ rs)
-rows_again k m before [] line h = ap (λ (xs : List RowParts). Ok xs) (sym (append-nil before))
+abbrev all_read : List RowParts → ℕ → Result (List RowParts × Left) ReadFault
+all_read rs line = Ok (rs, record { line = line; lines = [] })
+
+rows_again : (k m : ℕ) (before rs : List RowParts) (line : ℕ) → AllByRecursion (RowTaken ascii_bounds k m) rs → each (λ xs. read_line k m) (length rs) before (record { line = line; lines = map row_fields rs }) ≡ all_read (before ++ rs) (line + length rs)
+unfolding each next taken
+rows_again k m before [] line h = let z : line + 0 ≡ line = omega arith in rw (append-nil before, z) refl
 rows_again k m before (r ∷ rs) line h =
-    rw (row_again k m r h.0) (rows_again k m (before ++ r ∷ []) rs (line + 1) h.1 ∙ ap (λ (xs : List RowParts). Ok xs) (append_assoc before (r ∷ []) rs))
+    let s : line + 1 + length rs ≡ line + suc (length rs) = omega arith in
+    let moved : (before ++ r ∷ []) ++ rs ≡ before ++ r ∷ rs = append_assoc before (r ∷ []) rs in
+    rw (row_again k m r h.0) (rw (s, moved) at (rows_again k m (before ++ r ∷ []) rs (line + 1) h.1))
 
 printed_values : (vs : List Reading) → AllByRecursion (λ v. takes_reading ascii_bounds v ≡ true) vs → AllByRecursion Printed (map reading_text vs)
 printed_values [] h = tt
@@ -242,11 +248,11 @@ rows_lines [] = refl
 rows_lines (r ∷ rs) = ap (λ (ys : List ℕ). row_line r ++ ys) (rows_lines rs)
 
 pub ascii_written : (k m : ℕ) (rs : List RowParts) → AllByRecursion (RowTaken ascii_bounds k m) rs → ReadsAscii k m (ascii rs) rs
-unfolding ascii rows
+unfolding ascii rows end
 ascii_written k m rs h =
     let ls = map row_fields rs in
     let text = flat_map line ls in
     let n = place_at is_end_mark text 26 [] (lines_no_end ls (printed_rows k m rs h)) refl in
     let front : before_first is_end_mark (text ++ 26 ∷ []) ≡ text = rw n (take_at text (26 ∷ []) (length text) refl) in
     let whole : before_first is_end_mark (ascii rs) ≡ text = ap (λ (t : List ℕ). before_first is_end_mark (t ++ 26 ∷ [])) (rows_lines rs) ∙ front in
-    record { lines = ls; joined = rw whole (written_joined ls (clean_rows k m rs h)); rows = rows_again k m [] rs 1 h }
+    record { lines = ls; joined = rw whole (written_joined ls (clean_rows k m rs h)); rows = rw (rows_again k m [] rs 1 h) refl }

@@ -7,10 +7,10 @@ use Rattle.dfr_channels.specs.Fields.{bit}
 use Rattle.dfr_channels.specs.LineFields.{many, need}
 use Rattle.dfr_channels.specs.declared.scan.Reading.{Reading}
 use Rattle.dfr_channels.specs.declared.scan.Reading.TheVariants.{Value, Missing}
-use Rattle.comtrade_write.specs.Parts.{RowParts}
+use Rattle.comtrade_format.specs.Parts.{RowParts}
 use Rattle.comtrade_read.specs.declared.fault.ReadFault.{ReadFault}
 use Rattle.comtrade_read.specs.declared.fault.ReadFault.TheVariants as faults
-use Rattle.comtrade_read.specs.Line.{Fault, number, need_each, each, end}
+use Rattle.comtrade_read.specs.Line.{Fault, number, need_each, follow, from_first, each, end}
 use Rattle.comtrade_read.specs.Fields.{natural, small, ten_digits}
 
 abbrev pub is_end_mark : ℕ → Bool
@@ -40,6 +40,7 @@ row_line k m fs = many (2 + k + m) faults.Fields fs (
     need_each bit (2 + k) m [] fs (λ bits.
     Ok (record { number = n; stamp = t; values = values; bits = bits }))))))
 
--- what so many lines say, or their first fault
+-- what so many lines say, and no more, or their first fault
 unfoldable pub rows : ℕ → ℕ → ℕ → List (List (List ℕ)) → Result (List RowParts) ReadFault
-rows k m n ls = each (λ before. row_line k m) n [] end 1 ls
+rows k m n ls =
+    follow (each (λ before. row_line k m) n [] (from_first ls)) (λ rows. follow (end rows.1) (λ none. Ok rows.0))

@@ -1,17 +1,18 @@
 -- The kinds of line of a configuration file (C37.111-1999, clause 5), and where they stand.
 use Rattle.std.specs.Prelude.{ℕ, ◌+◌, ◌-◌, max, Bool, false, ◌&&◌, ◌==◌, nat_lt, nat_le, if◌then◌else◌, List, [], length, slice_get, Option, Some, None, option_map, unwrap_or, Result, Ok, Err, ℤ, pos, negsuc, codes}
 use Rattle.std.specs.Str.{str_eq_ignore_ascii_case}
+use Rattle.dfr_channels.specs.Spelling.{Number}
 use Rattle.dfr_channels.specs.Lines.{field}
 use Rattle.dfr_channels.specs.Fields.{free_scale}
 use Rattle.dfr_channels.specs.LineFields.{many, need, analog_from, status_from}
 use Rattle.dfr_channels.specs.Parts.{AnalogParts, StatusParts}
-use Rattle.comtrade_write.specs.declared.file.Kind.{Kind}
-use Rattle.comtrade_write.specs.declared.file.Kind.TheVariants.{Ascii, Binary}
-use Rattle.comtrade_write.specs.declared.file.Rate.{Rate}
-use Rattle.comtrade_write.specs.Parts.{HeadParts}
+use Rattle.comtrade_format.specs.declared.file.Kind.{Kind}
+use Rattle.comtrade_format.specs.declared.file.Kind.TheVariants.{Ascii, Binary}
+use Rattle.comtrade_format.specs.declared.file.Rate.{Rate}
+use Rattle.comtrade_format.specs.Parts.{HeadParts}
 use Rattle.comtrade_read.specs.declared.fault.ReadFault.{ReadFault}
 use Rattle.comtrade_read.specs.declared.fault.ReadFault.TheVariants as faults
-use Rattle.comtrade_read.specs.Line.{Fault, number, one, follow, next, each, end}
+use Rattle.comtrade_read.specs.Line.{Fault, number, one, follow, Left, from_first, next, each, end}
 use Rattle.comtrade_read.specs.Fields.{whole, natural, small, ten_digits, scale, count}
 use Rattle.comtrade_read.specs.Instant.{date, time, instant_at}
 
@@ -71,14 +72,72 @@ instant_line fs = many 2 faults.Fields fs (
 unfoldable pub kind : List ℕ → Option Kind
 kind f = if str_eq_ignore_ascii_case f (codes "ASCII") then Some Ascii else if str_eq_ignore_ascii_case f (codes "BINARY") then Some Binary else None
 
--- what the lines of a configuration file say, or their first fault; where there is no rate there is one rate line
+-- lines of one field
+abbrev pub frequency_line : List (List ℕ) → Result Number Fault
+frequency_line fs = one free_scale (number 1) fs
+
+abbrev pub nrates_line : List (List ℕ) → Result ℕ Fault
+nrates_line fs = one (natural 999) (number 1) fs
+
+abbrev pub kind_line : List (List ℕ) → Result Kind Fault
+kind_line fs = one kind (λ line. faults.Kind) fs
+
+abbrev pub timemult_line : List (List ℕ) → Result Number Fault
+timemult_line fs = one scale (number 1) fs
+
+-- a line after those before it
+abbrev pub next_analog : List AnalogParts → List (List ℕ) → Result AnalogParts Fault
+next_analog before fs = analog_line (length before + 1) fs
+
+abbrev pub next_status : List StatusParts → List (List ℕ) → Result StatusParts Fault
+next_status before fs = status_line (length before + 1) fs
+
+abbrev pub next_rate : List Rate → List (List ℕ) → Result Rate Fault
+next_rate before fs = rate_line (last_sample before) fs
+
+-- what the lines after the rates say
+pub record EndParts : Type 0 where
+  pub first : ℤ
+  pub trigger : ℤ
+  pub kind : Kind
+  pub timemult : Number
+
+unfoldable pub ending : Left → Result EndParts ReadFault
+ending left =
+    follow (next instant_line left) (λ first. follow (next instant_line first.1) (λ trigger.
+    follow (next kind_line trigger.1) (λ kind. follow (next timemult_line kind.1) (λ timemult.
+    follow (end timemult.1) (λ none.
+    Ok (record { first = first.0; trigger = trigger.0; kind = kind.0; timemult = timemult.0 }))))))
+
+-- what the lines after the channels say; where there is no rate there is one rate line
+pub record TailParts : Type 0 where
+  pub line_freq : Number
+  pub nrates : ℕ
+  pub rates : List Rate
+  pub ending : EndParts
+
+unfoldable pub tail : Left → Result TailParts ReadFault
+tail left =
+    follow (next frequency_line left) (λ line_freq. follow (next nrates_line line_freq.1) (λ nrates.
+    follow (each next_rate (max 1 nrates.0) [] nrates.1) (λ rates. follow (ending rates.1) (λ e.
+    Ok (record { line_freq = line_freq.0; nrates = nrates.0; rates = rates.0; ending = e })))))
+
+-- what the lines of a configuration file say, or their first fault
 unfoldable pub head : List (List (List ℕ)) → Result HeadParts ReadFault
 head ls =
-    next names_line (λ names. next counts_line (λ counts.
-    each (λ before. analog_line (length before + 1)) counts.0 [] (λ analog.
-    each (λ before. status_line (length before + 1)) counts.1 [] (λ status.
-    next (one free_scale (number 1)) (λ line_freq. next (one (natural 999) (number 1)) (λ nrates.
-    each (λ before. rate_line (last_sample before)) (max 1 nrates) [] (λ rates.
-    next instant_line (λ first. next instant_line (λ trigger.
-    next (one kind (λ line. faults.Kind)) (λ kind. next (one scale (number 1)) (λ timemult.
-    end (record { station = names.0; device = names.1; analog = analog; status = status; line_freq = line_freq; nrates = nrates; rates = rates; first = first; trigger = trigger; kind = kind; timemult = timemult })))))))))))) 1 ls
+    follow (next names_line (from_first ls)) (λ names. follow (next counts_line names.1) (λ counts.
+    follow (each next_analog counts.0.0 [] counts.1) (λ analog. follow (each next_status counts.0.1 [] analog.1) (λ status.
+    follow (tail status.1) (λ t.
+    Ok (record {
+      station = names.0.0;
+      device = names.0.1;
+      analog = analog.0;
+      status = status.0;
+      line_freq = t.line_freq;
+      nrates = t.nrates;
+      rates = t.rates;
+      first = t.ending.first;
+      trigger = t.ending.trigger;
+      kind = t.ending.kind;
+      timemult = t.ending.timemult;
+    }))))))

@@ -1,6 +1,5 @@
 -- What the reader's own functions answer. No public contract cites these.
 pub mod LineFaults
-pub mod HeadValues
 pub mod BinaryRows
 pub mod RowValues
 pub mod PlainRows

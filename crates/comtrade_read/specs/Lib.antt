@@ -7,3 +7,5 @@ pub mod Joined
 pub mod Reads
 pub mod ReadBack
 pub mod Inner
+pub mod Verdicts
+pub mod Conversions

@@ -27,25 +27,45 @@ follow (Err e) more = Err e
 abbrev pub one : {A : Type 0} → (List ℕ → Option A) → Fault → List (List ℕ) → Result A Fault
 one read fault fs = many 1 faults.Fields fs (need (read (field fs 0)) fault (λ x. Ok x))
 
--- what the lines from the line of this number on say
-abbrev pub Lines : Type 0 → Type 0
-Lines A = ℕ → List (List (List ℕ)) → Result A ReadFault
-
+-- the fault of this line
 abbrev pub told : {A : Type 0} → ℕ → Result A Fault → Result A ReadFault
 told line (Ok x) = Ok x
 told line (Err fault) = Err (fault line)
 
--- a line of this kind, and what follows from what it says
-abbrev pub next : {A B : Type 0} → (List (List ℕ) → Result A Fault) → (A → Lines B) → Lines B
-next says more line [] = Err (faults.Missing line)
-next says more line (fs ∷ ls) = follow (told line (says fs)) (λ x. more x (line + 1) ls)
+-- what is left of a file: its lines from one of this number on, each by its fields
+pub record Left : Type 0 where
+  pub line : ℕ
+  pub lines : List (List (List ℕ))
+
+abbrev pub from_first : List (List (List ℕ)) → Left
+from_first ls = record { line = 1; lines = ls }
+
+-- the next line, and what is left after it
+pub record Taken : Type 0 where
+  pub line : ℕ
+  pub fields : List (List ℕ)
+  pub left : Left
+
+abbrev pub first_of : ℕ → List (List (List ℕ)) → Result Taken ReadFault
+first_of line [] = Err (faults.Missing line)
+first_of line (fs ∷ ls) = Ok (record { line = line; fields = fs; left = record { line = line + 1; lines = ls } })
+
+unfoldable pub taken : Left → Result Taken ReadFault
+taken left = first_of left.line left.lines
+
+-- what the next line says, which is of this kind, and what is left after it
+unfoldable pub next : {A : Type 0} → (List (List ℕ) → Result A Fault) → Left → Result (A × Left) ReadFault
+next says left = follow (taken left) (λ t. follow (told t.line (says t.fields)) (λ x. Ok (x, t.left)))
 
 -- so many lines more, each of the kind that follows from what those before it said
-abbrev pub each : {A B : Type 0} → (List A → List (List ℕ) → Result A Fault) → ℕ → List A → (List A → Lines B) → Lines B
-each says zero before more line ls = more before line ls
-each says (suc n) before more line ls = next (says before) (λ x. each says n (before ++ x ∷ []) more) line ls
+unfoldable pub each : {A : Type 0} → (List A → List (List ℕ) → Result A Fault) → ℕ → List A → Left → Result (List A × Left) ReadFault
+each says zero before left = Ok (before, left)
+each says (suc n) before left = follow (next (says before) left) (λ p. each says n (before ++ p.0 ∷ []) p.1)
+
+abbrev pub none_of : ℕ → List (List (List ℕ)) → Result (Unit {0}) ReadFault
+none_of line [] = Ok tt
+none_of line (fs ∷ ls) = Err (faults.Extra line)
 
 -- no line more
-abbrev pub end : {A : Type 0} → A → Lines A
-end x line [] = Ok x
-end x line (fs ∷ ls) = Err (faults.Extra line)
+unfoldable pub end : Left → Result (Unit {0}) ReadFault
+end left = none_of left.line left.lines

@@ -4,10 +4,10 @@ use Rattle.std.specs.List.{before_first, concat, AllByRecursion, AllZip}
 use Rattle.dfr_channels.specs.Lines.{lines, fields}
 use Rattle.dfr_channels.specs.declared.scan.Reading.{Reading}
 use Rattle.dfr_channels.specs.declared.scan.Reading.TheVariants.{Value, Missing}
-use Rattle.comtrade_write.specs.declared.file.Kind.{Kind}
-use Rattle.comtrade_write.specs.declared.file.Kind.TheVariants.{Ascii, Binary}
-use Rattle.comtrade_write.specs.Parts.{HeadParts, RowParts, FileParts}
-use Rattle.comtrade_write.specs.Binary.{row_bytes}
+use Rattle.comtrade_format.specs.declared.file.Kind.{Kind}
+use Rattle.comtrade_format.specs.declared.file.Kind.TheVariants.{Ascii, Binary}
+use Rattle.comtrade_format.specs.Parts.{HeadParts, RowParts, FileParts}
+use Rattle.comtrade_format.specs.Binary.{row_bytes}
 use Rattle.comtrade_read.specs.declared.fault.ReadFault.{ReadFault}
 use Rattle.comtrade_read.specs.declared.fault.ReadFault.TheVariants as faults
 use Rattle.comtrade_read.specs.declared.pair.Part.{Part}

@@ -1,20 +1,19 @@
 //! The lines of an ASCII data file.
 
-ghost use Rattle.std.specs.Prelude.{◌≡◌, ◌+◌, ◌<◌, ◌^◌, length, map};
+ghost use Rattle.std.specs.Prelude.{◌≡◌, ◌+◌, ◌<◌, [], length, map};
 ghost use Rattle.std.specs.List.{before_first};
-ghost use Rattle.dfr_channels.specs.Lines.{texts, fields};
-ghost use Rattle.comtrade_read.specs.Line.{told};
+ghost use Rattle.dfr_channels.specs.Lines.{fields};
+ghost use Rattle.comtrade_read.specs.Line.{told, next, each};
 ghost use Rattle.comtrade_read.specs.Ascii as spec;
 ghost use Rattle.comtrade_read.specs.Inner.LineFaults.{Is};
-ghost use Rattle.comtrade_read.specs.Inner.HeadValues.{line_at, lines_at, next_row};
 
 use crate::cells::{field_count, first_field};
 use crate::fault::ReadFault;
 use crate::fields::{natural, needed, within};
-use crate::place::end_at;
+use crate::left::Left;
 use crate::plain_rows::plain_row;
-use comtrade_write::Row;
-use dfr_channels::{Items, Reading, bit_of, integer_of, lines_of, without_blank_end};
+use comtrade_format::Row;
+use dfr_channels::{Items, Reading, bit_of, integer_of};
 use memchr::memchr;
 use std::alloc::Allocator;
 
@@ -106,62 +105,40 @@ fn row_of<A: Allocator + Copy>(
     parts_of(alloc, line, k, m, text)
 }
 
-/// The row on the line at this place.
-#[tactic(auto, unfolding(crate::specs::Inner::HeadValues::line_at, dfr_channels::specs::Lines::line_fields))]
-fn row_at<A: Allocator + Copy>(
+/// The next row.
+#[tactic(auto, unfolding(crate::specs::Line::next))]
+fn next_row<A: Allocator + Copy>(
     alloc: A,
-    lines: &[&[u8]],
-    place: usize,
+    left: &mut Left,
     k: u32,
     m: u32,
 ) -> Result<Row<A>, ReadFault>
-    requires place { place + 1 < 2 ^ 64 }
     requires k { k < 1000000 }
     requires m { m < 1000000 }
-    ensures { Is (λ x. x) (line_at (spec.row_line k m) (texts lines.now) place) result }
+    ensures { Is (λ x. (x, left.new)) (next (spec.row_line k m) left.old) result }
 {
-    match lines.get(place) {
-        Some(text) => row_of(alloc, place as u64 + 1, k, m, text),
-        None => Err(ReadFault::Missing(place as u64 + 1)),
-    }
+    let (line, text) = left.next_text()?;
+    row_of(alloc, line, k, m, text)
 }
 
-/// So many rows, one a line.
+/// So many rows, one a line, in a list with this room.
 fn rows_of<A: Allocator + Copy>(
     alloc: A,
-    lines: &[&[u8]],
+    left: &mut Left,
     k: u32,
     m: u32,
     count: u64,
+    room: usize,
 ) -> Result<Vec<Row<A>, A>, ReadFault>
     requires k { k < 1000000 }
     requires m { m < 1000000 }
-    ensures { Is (λ v. v.items) (lines_at (next_row k m) (texts lines.now) 0 count) result }
+    ensures { Is (λ v. (v.items, left.new)) (each (λ before. spec.row_line k m) count [] left.old) result }
 {
-    // the head may claim more rows than there are lines
-    let room = count.min(lines.len() as u64);
-    let mut list = Vec::with_capacity(alloc, room as usize)?;
+    let mut list = Vec::with_capacity(alloc, room)?;
     for i in 0..count {
-        list.push(row_at(alloc, lines, i as usize, k, m)?)?;
+        list.push(next_row(alloc, left, k, m)?)?;
     }
     Ok(list)
-}
-
-/// The rows that the lines say, and no line after them.
-fn all_rows<A: Allocator + Copy>(
-    alloc: A,
-    lines: &[&[u8]],
-    k: u32,
-    m: u32,
-    count: u64,
-) -> Result<Vec<Row<A>, A>, ReadFault>
-    requires k { k < 1000000 }
-    requires m { m < 1000000 }
-    ensures { Is (λ v. v.items) (spec.rows k m count (map fields (texts lines.now))) result }
-{
-    let rows = rows_of(alloc, lines, k, m, count)?;
-    end_at(lines, count as usize)?;
-    Ok(rows)
 }
 
 /// What stands before the first byte 1A.
@@ -175,6 +152,7 @@ fn before_end_mark(dat: &[u8]) -> &[u8]
 }
 
 /// The rows that an ASCII data file says.
+#[tactic(auto, unfolding(crate::specs::Ascii::rows, crate::specs::Ascii::data_lines))]
 pub(crate) fn ascii_rows<A: Allocator + Copy>(
     alloc: A,
     dat: &[u8],
@@ -186,6 +164,11 @@ pub(crate) fn ascii_rows<A: Allocator + Copy>(
     requires m { m < 1000000 }
     ensures { Is (λ v. v.items) (spec.rows k m count (map fields (spec.data_lines dat.now))) result }
 {
-    let lines = lines_of(alloc, before_end_mark(dat))?;
-    all_rows(alloc, without_blank_end(&lines), k, m, count)
+    let text = before_end_mark(dat);
+    // the head may claim more rows than there are: each has a digit, a comma for each field after it, and an end
+    let most = text.len() / (3 + k as usize + m as usize) + 1;
+    let mut left = Left::of(text);
+    let rows = rows_of(alloc, &mut left, k, m, count, most.min(count as usize))?;
+    left.end()?;
+    Ok(rows)
 }

@@ -8,7 +8,7 @@ ghost use Rattle.comtrade_read.specs.Reads.{row_size};
 
 use crate::fault::ReadFault;
 use byteorder::{ByteOrder, LittleEndian};
-use comtrade_write::Row;
+use comtrade_format::Row;
 use dfr_channels::{Items, Reading};
 use std::alloc::{AllocError, Allocator};
 

@@ -10,7 +10,7 @@ ghost use Rattle.comtrade_read.specs.Inner.RowValues.{rows_as, rows_under};
 use crate::ascii::ascii_rows;
 use crate::binary::binary_rows;
 use crate::fault::ReadFault;
-use comtrade_write::{File, Head, Kind, Rate, Row};
+use comtrade_format::{File, Head, Kind, Rate, Row};
 use dfr_channels::Items;
 use std::alloc::Allocator;
 

@@ -35,7 +35,7 @@ pub enum ReadFault {
     #[error("line {0} is missing")]
     Missing(u64),
     /// Something that isn't blank stands after the last line. The number is that of the first line after the last.
-    #[error("line {0} stands behind the last line")]
+    #[error("line {0} stands after the last line")]
     Extra(u64),
     /// Binary data aren't as long as their rows (clause 6).
     #[error("the binary data aren't as long as their rows")]

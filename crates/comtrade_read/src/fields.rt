@@ -7,10 +7,10 @@ ghost use Rattle.dfr_channels.specs.Lines.{texts, field};
 ghost use Rattle.dfr_channels.specs.Fields as shared;
 ghost use Rattle.comtrade_read.specs.Fields as spec;
 ghost use Rattle.comtrade_read.specs.Head as head;
-ghost use Rattle.comtrade_read.specs.Inner.LineFaults.{Gives, GivesField};
+ghost use Rattle.comtrade_read.specs.Inner.LineFaults.{GivesField};
 
 use crate::fault::ReadFault;
-use comtrade_write::Kind;
+use comtrade_format::Kind;
 use dfr_channels::{Decimal, Items, Side, integer_of};
 use std::alloc::Allocator;
 

@@ -1,34 +1,96 @@
 //! Reads a configuration file.
 
-ghost use Rattle.std.specs.Prelude.{◌≡◌, ◌≢◌, ◌+◌, ◌<◌, length, IfOk, IfErr};
+ghost use Rattle.std.specs.Prelude.{◌≡◌, ◌≢◌, ◌+◌, ◌<◌, ◌≤◌, length, map, IfOk, IfErr};
 ghost use Rattle.comtrade_read.specs.declared.fault.ReadFault.TheVariants as faults;
-ghost use Rattle.dfr_channels.specs.Lines.{texts};
+ghost use Rattle.dfr_channels.specs.Lines.{lines, fields};
+ghost use Rattle.comtrade_read.specs.Head as spec;
 ghost use Rattle.comtrade_read.specs.Inner.LineFaults.{Is};
 ghost use Rattle.comtrade_read.specs.Reads.{ReadsHead, FaultyHead, Nothing};
-ghost use Rattle.comtrade_read.specs.Inner.HeadValues.{head_at};
 
 use crate::channels::{analogs_of, statuses_of};
 use crate::fault::ReadFault;
-use crate::settings::{counts_at, names_at};
-use crate::tail::tail_of;
-use comtrade_write::Head;
-use dfr_channels::{Items, lines_of, without_blank_end};
+use crate::left::Left;
+use crate::settings::{
+    counts_of, frequency_of, instant_of, kind_in, names_of, nrates_of, rates_of, timemult_of,
+};
+use comtrade_format::{Head, Kind, Rate};
+use dfr_channels::{Decimal, Items};
 use std::alloc::Allocator;
 
-/// The head that the lines say.
-#[tactic(auto, unfolding(crate::specs::Inner::HeadValues::head_at))]
-fn head_of<A: Allocator + Copy>(alloc: A, lines: &[&[u8]]) -> Result<Head<A>, ReadFault>
-    ensures { Is (λ x. x) (head_at (texts lines.now)) result }
+/// The part of a head after its rates.
+#[derive(Clone, Copy)]
+struct End {
+    first: i64,
+    trigger: i64,
+    kind: Kind,
+    timemult: Decimal,
+}
+
+/// The lines after the rates, and no line after them.
+#[tactic(auto, unfolding(crate::specs::Head::ending))]
+fn end_of<A: Allocator + Copy>(alloc: A, left: &mut Left) -> Result<End, ReadFault>
+    ensures { Is {Y = spec.EndParts}
+        (λ x. record { first = x.first; trigger = x.trigger; kind = x.kind; timemult = x.timemult })
+        (spec.ending left.old) result }
 {
-    let names = names_at(alloc, lines)?;
-    let (analog_count, status_count) = counts_at(alloc, lines)?;
-    let analog = analogs_of(alloc, lines, analog_count as usize)?;
-    let status = statuses_of(alloc, lines, analog_count as usize, status_count as usize)?;
-    let tail = tail_of(
-        alloc,
-        lines,
-        2 + analog_count as usize + status_count as usize,
-    )?;
+    let first = instant_of(alloc, left)?;
+    let trigger = instant_of(alloc, left)?;
+    let kind = kind_in(alloc, left)?;
+    let timemult = timemult_of(alloc, left)?;
+    left.end()?;
+    Ok(End {
+        first,
+        trigger,
+        kind,
+        timemult,
+    })
+}
+
+/// The part of a head after its channels.
+#[derive(Drop)]
+struct Tail<A: Allocator> {
+    line_freq: Decimal,
+    nrates: u64,
+    rates: Vec<Rate, A>,
+    end: End,
+}
+
+/// The lines after the channels.
+#[tactic(auto, unfolding(crate::specs::Head::tail))]
+fn tail_of<A: Allocator + Copy>(alloc: A, left: &mut Left) -> Result<Tail<A>, ReadFault>
+    ensures small { IfOk result (λ x. x.nrates ≤ 999) }
+    ensures value { Is {Y = spec.TailParts}
+        (λ x. record {
+          line_freq = x.line_freq;
+          nrates = x.nrates;
+          rates = x.rates.items;
+          ending = record { first = x.end.first; trigger = x.end.trigger; kind = x.end.kind; timemult = x.end.timemult };
+        })
+        (spec.tail left.old) result }
+{
+    let line_freq = frequency_of(alloc, left)?;
+    let nrates = nrates_of(alloc, left)?;
+    let rates = rates_of(alloc, left, nrates.max(1))?;
+    let end = end_of(alloc, left)?;
+    Ok(Tail {
+        line_freq,
+        nrates,
+        rates,
+        end,
+    })
+}
+
+/// The head that the lines say.
+#[tactic(auto, unfolding(crate::specs::Head::head))]
+fn head_of<A: Allocator + Copy>(alloc: A, text: &[u8]) -> Result<Head<A>, ReadFault>
+    ensures { Is (λ x. x) (spec.head (map fields (lines text.now))) result }
+{
+    let mut left = Left::of(text);
+    let names = names_of(alloc, &mut left)?;
+    let (analog_count, status_count) = counts_of(alloc, &mut left)?;
+    let analog = analogs_of(alloc, &mut left, analog_count)?;
+    let status = statuses_of(alloc, &mut left, status_count)?;
+    let tail = tail_of(alloc, &mut left)?;
     Ok(Head {
         station: names.station,
         device: names.device,
@@ -37,10 +99,10 @@ fn head_of<A: Allocator + Copy>(alloc: A, lines: &[&[u8]]) -> Result<Head<A>, Re
         line_freq: tail.line_freq,
         nrates: tail.nrates as u32,
         rates: Items::of(tail.rates),
-        first: tail.first,
-        trigger: tail.trigger,
-        kind: tail.kind,
-        timemult: tail.timemult,
+        first: tail.end.first,
+        trigger: tail.end.trigger,
+        kind: tail.end.kind,
+        timemult: tail.end.timemult,
     })
 }
 
@@ -55,6 +117,5 @@ pub fn read_cfg<A: Allocator + Copy>(alloc: A, text: &[u8]) -> Result<Head<A>, R
     ensures fault { IfErr result (λ e. e ≢ faults.Memory → FaultyHead text.now e) }
     ensures unread { IfErr result (λ e. e ≢ faults.Memory → Nothing (ReadsHead text.now)) }
 {
-    let lines = lines_of(alloc, text)?;
-    head_of(alloc, without_blank_end(&lines))
+    head_of(alloc, text)
 }

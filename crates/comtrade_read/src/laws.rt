@@ -1,18 +1,15 @@
 //! Laws of the grammar.
 
 ghost use Rattle.std.specs.Prelude.{◌≡◌, ℕ, None, List};
-ghost use Rattle.dfr_channels.specs.declared.rule.Rule.{Rule};
-ghost use Rattle.dfr_recorder.specs.History.{opening};
-ghost use Rattle.comtrade_write.specs.Parts.{HeadParts};
-ghost use Rattle.comtrade_write.specs.Cfg.{cfg};
-ghost use Rattle.comtrade_write.specs.Data.{dat, dat_refusal};
-ghost use Rattle.comtrade_write.specs.Refusals.{cfg_refusal};
-ghost use Rattle.comtrade_read.specs.ReadBack.{ReadBackLaw, RecordsReadBack};
+ghost use Rattle.comtrade_format.specs.Parts.{HeadParts};
+ghost use Rattle.comtrade_format.specs.Cfg.{cfg};
+ghost use Rattle.comtrade_format.specs.Data.{dat, dat_refusal};
+ghost use Rattle.comtrade_format.specs.Refusals.{cfg_refusal};
+ghost use Rattle.comtrade_read.specs.ReadBack.{ReadBackLaw};
 ghost use Rattle.comtrade_read.specs.Reads.{ReadsHead, ReadsRows, Reads, AtMostOne};
 
-use crate::numbers::{layout_numbers, numbers};
-use comtrade_write::File;
-use dfr_recorder::Recorder;
+use crate::numbers::numbers;
+use comtrade_format::File;
 use std::alloc::Allocator;
 
 /// No configuration file reads to two heads, no data to two lists of rows under one head, and no pair of texts to two files.
@@ -34,17 +31,4 @@ pub fn file_reads_back<A: Allocator>(file: &File<A>)
         → Reads (cfg file.now.head) (dat file.now.head.kind file.now) file.now }
 {
     numbers(&file.head);
-}
-
-/// The law of reading back for the records of a given recorder: every record that a recorder with its layout and its limits
-/// gives, whatever rules and whatever history it has, is read from its own two files, of either kind. It does nothing; the types
-/// keep what the law needs of layout and limits.
-pub fn records_read_back<A: Allocator>(recorder: &Recorder<A>)
-    ensures { (rules : List Rule)
-        → RecordsReadBack (opening recorder.now.layout recorder.now.limits rules) }
-{
-    let _limits = recorder.limits();
-    let layout = recorder.layout();
-    let _rate = layout.rate();
-    layout_numbers(layout);
 }

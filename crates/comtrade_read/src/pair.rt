@@ -7,7 +7,7 @@ ghost use Rattle.comtrade_read.specs.Reads.{Reads, FaultyPair, IsNoFile};
 use crate::data::read_dat;
 use crate::fault::ReadFault;
 use crate::head::read_cfg;
-use comtrade_write::File;
+use comtrade_format::File;
 use std::alloc::Allocator;
 use std::fmt::{self, Display, Formatter, Write};
 

@@ -8,7 +8,7 @@ ghost use Rattle.comtrade_read.specs.Fields.{natural, ten_digits};
 ghost use Rattle.comtrade_read.specs.Ascii as spec;
 ghost use Rattle.comtrade_read.specs.Inner.PlainRows.{IsNext, AreNext, AreBits};
 
-use comtrade_write::Row;
+use comtrade_format::Row;
 use dfr_channels::{Items, Reading, plain_number};
 use std::alloc::{AllocError, Allocator};
 

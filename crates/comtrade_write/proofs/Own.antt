@@ -18,12 +18,13 @@ use Rattle.dfr_channels.specs.declared.layout.ScanFault.TheVariants.{Range}
 use Rattle.dfr_channels.proofs.Lawful.{or-none, unless-none, map-none}
 use Rattle.dfr_recorder.specs.Parts.{RecordParts, IsWhole}
 use Rattle.dfr_recorder.specs.Own.{passes, has_instant, is_own}
-use Rattle.comtrade_write.specs.declared.bounds.Bounds.{Bounds}
-use Rattle.comtrade_write.specs.declared.file.Kind.{Kind}
-use Rattle.comtrade_write.specs.Numbered.{first_from, numbered}
-use Rattle.comtrade_write.specs.Shape.{channels_fit, rates_end, is_some_of, is_writable, has_bounds, head_shaped, row_shaped, is_shaped}
-use Rattle.comtrade_write.specs.Refusals.{ascii_bounds, binary_bounds, takes_reading, values_from, rows_from, stamps_from, data_refusal, analog_refusal, status_refusal, text_refusal, cfg_refusal}
-use Rattle.comtrade_write.specs.OfRecord.{whole, instant_at, head_of, row_of, file, IsWritable}
+use Rattle.comtrade_format.specs.declared.bounds.Bounds.{Bounds}
+use Rattle.comtrade_format.specs.declared.file.Kind.{Kind}
+use Rattle.comtrade_format.specs.Numbered.{first_from, numbered}
+use Rattle.comtrade_format.specs.Shape.{channels_fit, rates_end, is_some_of, is_writable, has_bounds, head_shaped, row_shaped, is_shaped}
+use Rattle.comtrade_format.specs.Refusals.{ascii_bounds, binary_bounds, takes_reading, values_from, rows_from, stamps_from, data_refusal, analog_refusal, status_refusal, text_refusal, cfg_refusal}
+use Rattle.comtrade_format.specs.Data.{IsWritable}
+use Rattle.comtrade_write.specs.OfRecord.{whole, instant_at, head_of, row_of, file}
 
 le-so : (a b : ℕ) → nat_le a b ≡ true → a ≤ b
 le-so a b e = grind (arith, nat_tests, e)

@@ -1,15 +1,14 @@
 -- The File of a record.
-use Rattle.std.specs.Prelude.{◌≡◌, Result, Ok, Err, ℕ, ◌-◌, ℤ, pos, ◌+ℤ◌, Bool, true, false, Some, None, [], ◌∷◌, length}
+use Rattle.std.specs.Prelude.{◌≡◌, Result, Ok, Err, ℕ, ◌-◌, ℤ, pos, ◌+ℤ◌, Bool, true, false, Some, [], ◌∷◌, length}
 use Rattle.dfr_channels.specs.Spelling.{Number}
 use Rattle.dfr_channels.specs.Parts.{ScanParts, SetupParts}
 use Rattle.dfr_channels.specs.Scans.{micros}
 use Rattle.dfr_recorder.specs.Parts.{RecordParts}
-use Rattle.comtrade_write.specs.declared.file.Kind.{Kind}
+use Rattle.comtrade_format.specs.declared.file.Kind.{Kind}
 use Rattle.comtrade_write.specs.declared.of_record.FileFault.{FileFault}
 use Rattle.comtrade_write.specs.declared.of_record.FileFault.TheVariants.{Foreign, Memory}
-use Rattle.comtrade_write.specs.Parts.{HeadParts, RowParts, FileParts}
-use Rattle.comtrade_write.specs.Numbered.{numbered}
-use Rattle.comtrade_write.specs.Refusals.{cfg_refusal, data_refusal, ascii_bounds, binary_bounds}
+use Rattle.comtrade_format.specs.Parts.{HeadParts, RowParts, FileParts}
+use Rattle.comtrade_format.specs.Numbered.{numbered}
 
 abbrev pub whole : ℕ → Number
 whole n = record { units = pos n; places = 0 }
@@ -46,9 +45,3 @@ abbrev pub FileAnswers : Result FileParts FileFault → Bool → FileParts → T
 FileAnswers (Ok f) own made = (own ≡ true) × (f ≡ made)
 FileAnswers (Err Foreign) own made = own ≡ false
 FileAnswers (Err Memory) own made = own ≡ true
-
--- no writer refuses the file, of whatever kind, unless out of memory
-pub record IsWritable (f : FileParts) : Type 0 where
-  pub cfg : cfg_refusal f ≡ None
-  pub ascii : data_refusal ascii_bounds f ≡ None
-  pub binary : data_refusal binary_bounds f ≡ None

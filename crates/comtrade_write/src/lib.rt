@@ -1,30 +1,13 @@
-//! COMTRADE files of C37.111-1999: the value of a pair of files, and the bytes that are written of it.
+//! The files of a record: its File, and the bytes of its two files. What a File is and how it is written stands in `comtrade_format`,
+//! whose names are handed on.
 #![tactic(auto)]
 
-mod bounds;
-mod bytes;
-mod cfg;
-mod checks;
-mod dates;
-mod decimal;
-mod fault;
-mod fields;
-mod file;
-mod number;
 mod of_record;
-mod output;
 mod pair;
-mod parts;
-mod rows_ascii;
-mod rows_binary;
-mod shape;
-mod texts;
-mod value_text;
 
-pub use bytes::{ascii_bytes, binary_bytes, cfg_bytes, dat_bytes};
-pub use decimal::put_decimal;
-pub use fault::WriteFault;
-pub use file::{File, Head, Kind, Rate, Row};
+pub use comtrade_format::{
+    File, Head, Kind, Rate, Row, WriteFault, ascii_bytes, binary_bytes, cfg_bytes, dat_bytes,
+    put_decimal, write_all_of,
+};
 pub use of_record::{FileFault, file_of};
-pub use output::write_all_of;
 pub use pair::{Pair, pair_of};

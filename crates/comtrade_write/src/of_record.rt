@@ -6,11 +6,12 @@ ghost use Rattle.dfr_channels.specs.Scans.{micros};
 ghost use Rattle.dfr_channels.specs.Setups.{IsLawful};
 ghost use Rattle.dfr_recorder.specs.Limits.{has_stamps};
 ghost use Rattle.dfr_recorder.specs.Own as own;
-ghost use Rattle.comtrade_write.specs.Numbered.{numbered};
+ghost use Rattle.comtrade_format.specs.Numbered.{numbered};
 ghost use Rattle.comtrade_write.specs.OfRecord as spec;
-ghost use Rattle.comtrade_write.specs.OfRecord.{FileAnswers, IsWritable};
+ghost use Rattle.comtrade_write.specs.OfRecord.{FileAnswers};
+ghost use Rattle.comtrade_format.specs.Data.{IsWritable};
 
-use crate::file::{File, Head, Kind, Rate, Row};
+use comtrade_format::{File, Head, Kind, Rate, Row};
 use dfr_channels::{Decimal, Items, Layout, Memory, Scan, copies_of};
 use dfr_recorder::Record;
 use std::alloc::Allocator;

@@ -7,6 +7,7 @@ pub mod Fields
 pub mod LineFields
 pub mod Texts
 pub mod Parts
+pub mod Decimals
 pub mod Setups
 pub mod Scans
 pub mod Firing

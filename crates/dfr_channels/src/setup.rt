@@ -75,7 +75,7 @@ pub enum SetupFault {
     #[error("not 1 to 1000000 scans a second")]
     Rate,
     /// Before 1970 or after the year 9999.
-    #[error("a start before 1970 or past the year 9999")]
+    #[error("a start before 1970 or after the year 9999")]
     Start,
 }
 

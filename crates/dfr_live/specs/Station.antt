@@ -9,7 +9,7 @@ use Rattle.dfr_live.specs.declared.report.LiveFault.{LiveFault}
 use Rattle.dfr_live.specs.declared.report.LiveFault.TheVariants as fault
 use Rattle.dfr_live.specs.declared.station.Order.{Order}
 use Rattle.dfr_live.specs.declared.station.Order.TheVariants as order
-use Rattle.dfr_live.specs.Seen.{Caller, Offering}
+use Rattle.dfr_live.specs.Seen.{TokenParts, SourceParts}
 use Rattle.dfr_live.specs.Calls.{Notes, wants_memory}
 
 -- ---- which fault a run gives
@@ -50,36 +50,36 @@ steps_towards (Some place) made = min (place - made) 1_024
 steps_towards None made = 1_024
 
 -- the token counts on to the place; it stays as it is where it has counted further
-abbrev pub CountsTo : Option ℕ → Caller → Caller → Type 0
+abbrev pub CountsTo : Option ℕ → TokenParts → TokenParts → Type 0
 CountsTo (Some place) t u = u ≡ record t { pumped = max t.pumped place }
 CountsTo None t u = false ≡ true
 
 -- the token counts on, but not over the place
-abbrev pub CountsOn : Option ℕ → Caller → Caller → Type 0
+abbrev pub CountsOn : Option ℕ → TokenParts → TokenParts → Type 0
 CountsOn place t u =
     (u ≡ record t { pumped = u.pumped }) × (t.pumped ≤ u.pumped)
     × IfSome place (λ p. u.pumped ≤ max t.pumped p)
 
 -- an order has one entry, of its call
-abbrev pub EntersOrder : {A : Type 0} → Order A → Caller → Caller → Type 0
+abbrev pub EntersOrder : {A : Type 0} → Order A → TokenParts → TokenParts → Type 0
 EntersOrder order.Trigger t u =
     (r : Result Hit TriggerFault) × (wants_memory r ≡ false)
     × Notes t call.Trigger (reply_is.Trigger r) u
 EntersOrder (order.SetRules rules) t u =
     (done : Bool) × Notes t (call.SetRules rules) (reply_is.SetRules done) u
 
-abbrev pub CarriesOut : {A : Type 0} → Order A → Caller → Outcome → Caller → Type 0
+abbrev pub CarriesOut : {A : Type 0} → Order A → TokenParts → Outcome → TokenParts → Type 0
 CarriesOut o t (Ok done) u = EntersOrder o t u
 CarriesOut o t (Err f) u = (f ≡ fault.Memory) × (u ≡ t)
 
 -- ---- the acquisition thread
 
 -- the source after one more lost scan
-abbrev pub after_loss : Offering → Offering
+abbrev pub after_loss : SourceParts → SourceParts
 after_loss s = record s { lost = s.lost + 1 }
 
 -- the source after the lane took this scan, and the lost ones before it
-abbrev pub after_offer : Offering → ScanParts → Offering
+abbrev pub after_offer : SourceParts → ScanParts → SourceParts
 after_offer s scan = record s {
   offered = s.offered ++ record { lost = s.lost; scan = scan } ∷ [];
   offers = s.offers + 1;

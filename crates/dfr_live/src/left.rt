@@ -3,9 +3,8 @@
 ghost use Rattle.std.specs.Prelude.{◌≡◌, MatchResult};
 ghost use Rattle.dfr_live.specs.Calls.{StepsNext};
 
-use crate::calls::{as_scanned, step_lost, step_scan};
 use dfr_channels::Scan;
-use dfr_recorder::{Recorder, ScanRefusal, Scanned};
+use dfr_recorder::{LostRefusal, Recorder, ScanRefusal, Scanned};
 use std::alloc::{Allocator, Global};
 use std::marker::Model;
 
@@ -38,19 +37,29 @@ pub(crate) fn step_next<A: Allocator + Copy>(
         × (recorder.new ≡ recorder.old)) }
 {
     if lost > 0 {
-        return match step_lost(recorder) {
-            Some(answer) => Ok((
-                as_scanned(answer),
+        return match recorder.lost() {
+            Ok(scanned) => Ok((
+                Ok(scanned),
                 Some(Left {
                     lost: lost - 1,
                     scan,
                 }),
             )),
-            None => Err(Left { lost, scan }),
+            Err(LostRefusal::ClockEnd) => Ok((
+                Err(ScanRefusal::ClockEnd),
+                Some(Left {
+                    lost: lost - 1,
+                    scan,
+                }),
+            )),
+            Err(LostRefusal::Memory) => Err(Left { lost, scan }),
         };
     }
-    match step_scan(recorder, scan) {
-        Ok(answer) => Ok((answer, None)),
-        Err(scan) => Err(Left { lost, scan }),
+    match recorder.scan(scan) {
+        Ok(scanned) => Ok((Ok(scanned), None)),
+        Err((ScanRefusal::Memory, scan)) => Err(Left { lost, scan }),
+        Err((ScanRefusal::Shape, _)) => Ok((Err(ScanRefusal::Shape), None)),
+        Err((ScanRefusal::Range(i), _)) => Ok((Err(ScanRefusal::Range(i)), None)),
+        Err((ScanRefusal::ClockEnd, _)) => Ok((Err(ScanRefusal::ClockEnd), None)),
     }
 }

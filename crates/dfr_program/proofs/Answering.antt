@@ -21,9 +21,9 @@ use Rattle.dfr_recorder.specs.History.{Opening}
 use Rattle.dfr_recorder.specs.Kept.{Kept, kept, reply, IsStep}
 use Rattle.dfr_script.specs.Parts.{CommandParts}
 use Rattle.dfr_script.specs.Parts as command
-use Rattle.comtrade_write.specs.declared.file.Kind.{Kind}
-use Rattle.comtrade_write.specs.Cfg.{cfg}
-use Rattle.comtrade_write.specs.Data.{dat}
+use Rattle.comtrade_format.specs.declared.file.Kind.{Kind}
+use Rattle.comtrade_format.specs.Cfg.{cfg}
+use Rattle.comtrade_format.specs.Data.{dat}
 use Rattle.comtrade_write.specs.OfRecord.{file}
 use Rattle.dfr_program.specs.declared.fault.RunFault.{RunFault}
 use Rattle.dfr_program.specs.declared.fault.RunFault.TheVariants.{Memory, Output, Input}

@@ -4,5 +4,7 @@ mod Living
 mod Pairing
 mod Planning
 mod Printing
+mod ReadAgain
+mod ReadBack
 mod Replaying
 mod Stamps

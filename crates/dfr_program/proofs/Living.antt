@@ -4,7 +4,7 @@ use Rattle.std.specs.Prelude.{IfOk}
 use Rattle.std.specs.Io.KnownBytes.{Appends}
 use Rattle.dfr_recorder.specs.Kept.{Kept}
 use Rattle.dfr_script.specs.Parts.{ScriptParts}
-use Rattle.dfr_live.specs.Seen.{Locked, Offering, Caller, opening_of}
+use Rattle.dfr_live.specs.Seen.{InnerParts, SourceParts, TokenParts, opening_of}
 use Rattle.dfr_live.specs.Ends.{Ends}
 use Rattle.dfr_program.specs.Recording.{IsOneThread}
 use Rattle.dfr_live.specs.Report.{Reports}
@@ -27,10 +27,10 @@ if_ok_map P Q (Err e) p f = tt
 reports_in : {E : Type 0} (A : Type 0) (came : Result (LiveReport A) E) (r : LiveReport A) (o : Opening) → came ≡ Ok r → IfOk came (λ v. Reports o v) → Reports o r
 reports_in {E = E} A came r o q p = subst (λ (v : Result (LiveReport A) E). IfOk v (λ w. Reports o w)) q p
 
-pub tells_report : {E : Type 0} (A : Type 0) (came : Result (LiveReport A) E) (r : LiveReport A) (done : Bool) (text : List ℕ) → came ≡ Ok r → ((x : Locked) (source : Offering) (tokens : List Caller) → Ends x source tokens r.ended → IsOneThread x source tokens r.ended) → (done ≡ true) × (text ≡ report_text r) → (o : Opening) → IfOk came (λ v. Reports o v) → TellsOver A o done text
+pub tells_report : {E : Type 0} (A : Type 0) (came : Result (LiveReport A) E) (r : LiveReport A) (done : Bool) (text : List ℕ) → came ≡ Ok r → ((x : InnerParts) (source : SourceParts) (tokens : List TokenParts) → Ends x source tokens r.ended → IsOneThread x source tokens r.ended) → (done ≡ true) × (text ≡ report_text r) → (o : Opening) → IfOk came (λ v. Reports o v) → TellsOver A o done text
 tells_report A came r done text q law p o reports =
     let here : Reports o r = reports_in A came r o q reports in
-    subst (λ (v : Bool). TellsOver A o v text) (sym p.0) (record { report = r; reports = here; one = law here.locked here.source here.tokens here.ends; same = p.1 })
+    subst (λ (v : Bool). TellsOver A o v text) (sym p.0) (record { report = r; reports = here; one = law here.inner here.source here.tokens here.ends; same = p.1 })
 
 pub tells_fault : (A : Type 0) (o : Opening) (done : Bool) (text : List ℕ) → (done ≡ false) × TellsFault text → TellsOver A o done text
 tells_fault A o done text p = subst (λ (v : Bool). TellsOver A o v text) (sym p.0) p.1

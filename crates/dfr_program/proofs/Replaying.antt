@@ -6,7 +6,7 @@ use Rattle.std.proofs.lemmas.List.{append-nil}
 use Rattle.dfr_recorder.specs.History.{Opening, opening}
 use Rattle.dfr_recorder.specs.Kept.{Kept, kept}
 use Rattle.dfr_script.specs.Parts.{CommandParts, ScriptParts}
-use Rattle.comtrade_write.specs.declared.file.Kind.{Kind}
+use Rattle.comtrade_format.specs.declared.file.Kind.{Kind}
 use Rattle.dfr_program.specs.declared.fault.RunFault.{RunFault}
 use Rattle.dfr_program.specs.declared.fault.RunFault.TheVariants.{Memory, Output, Input}
 use Rattle.dfr_program.specs.declared.prepared.Fault.{Fault}

@@ -5,7 +5,7 @@ use Rattle.dfr_recorder.specs.Steps.{StepParts}
 use Rattle.dfr_recorder.specs.History.{Opening}
 use Rattle.dfr_recorder.specs.Kept.{Kept, kept}
 use Rattle.dfr_script.specs.Parts.{CommandParts}
-use Rattle.comtrade_write.specs.declared.file.Kind.{Kind}
+use Rattle.comtrade_format.specs.declared.file.Kind.{Kind}
 use Rattle.dfr_program.specs.declared.fault.RunFault.{RunFault}
 use Rattle.dfr_program.specs.declared.fault.RunFault.TheVariants as fault
 use Rattle.dfr_program.specs.Transcript.{followed, step_text, transcript}

@@ -12,4 +12,5 @@ pub mod Replays
 pub mod Plans
 pub mod Reports
 pub mod Live
+pub mod ReadBack
 pub mod Recording

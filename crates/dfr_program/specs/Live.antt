@@ -18,7 +18,7 @@ use Rattle.dfr_program.specs.Writing.{Cut}
 pub record TellsReport (A : Type 0) (o : Opening) (text : List ℕ) : Type 0 where
   pub report : LiveReport A
   pub reports : Reports o report
-  pub one : IsOneThread reports.locked reports.source reports.tokens report.ended
+  pub one : IsOneThread reports.inner reports.source reports.tokens report.ended
   pub same : text ≡ report_text report
 
 -- the line of a fault of the run

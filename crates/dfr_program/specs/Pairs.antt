@@ -5,7 +5,7 @@ use Rattle.comtrade_read.specs.declared.fault.ReadFault.{ReadFault}
 use Rattle.comtrade_read.specs.declared.fault.ReadFault.TheVariants.{Memory}
 use Rattle.comtrade_read.specs.declared.pair.Part.{Part}
 use Rattle.comtrade_read.specs.Reads.{Reads, FaultyPair, IsNoFile}
-use Rattle.comtrade_write.specs.Parts.{FileParts}
+use Rattle.comtrade_format.specs.Parts.{FileParts}
 use Rattle.dfr_program.specs.ReadTexts.{file_text, read_fault_text}
 use Rattle.dfr_program.specs.Writing.{Cut}
 

@@ -5,7 +5,7 @@ use Rattle.comtrade_read.specs.declared.fault.ReadFault.{ReadFault}
 use Rattle.comtrade_read.specs.declared.fault.ReadFault.TheVariants as faults
 use Rattle.comtrade_read.specs.declared.pair.Part.{Part}
 use Rattle.comtrade_read.specs.declared.pair.Part.TheVariants.{Cfg, Dat}
-use Rattle.comtrade_write.specs.Parts.{HeadParts, FileParts}
+use Rattle.comtrade_format.specs.Parts.{HeadParts, FileParts}
 
 abbrev pub part_text : Part → List ℕ
 part_text Cfg = codes "cfg fault "

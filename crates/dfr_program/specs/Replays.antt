@@ -3,7 +3,7 @@ use Rattle.std.specs.Prelude.{◌≡◌, ⊤, ℕ, List, [], ◌∷◌, ◌++◌
 use Rattle.std.specs.Io.KnownBytes.{Appends}
 use Rattle.dfr_recorder.specs.History.{Opening}
 use Rattle.dfr_script.specs.Parts.{CommandParts, ScriptParts}
-use Rattle.comtrade_write.specs.declared.file.Kind.{Kind}
+use Rattle.comtrade_format.specs.declared.file.Kind.{Kind}
 use Rattle.dfr_program.specs.declared.fault.RunFault.{RunFault}
 use Rattle.dfr_program.specs.declared.fault.RunFault.TheVariants as run
 use Rattle.dfr_program.specs.declared.prepared.Fault.{Fault}

@@ -13,9 +13,9 @@ use Rattle.dfr_recorder.specs.History.{Opening}
 use Rattle.dfr_recorder.specs.Kept.{reply}
 use Rattle.dfr_script.specs.Parts.{CommandParts}
 use Rattle.dfr_script.specs.Parts as command
-use Rattle.comtrade_write.specs.declared.file.Kind.{Kind}
-use Rattle.comtrade_write.specs.Cfg.{cfg}
-use Rattle.comtrade_write.specs.Data.{dat}
+use Rattle.comtrade_format.specs.declared.file.Kind.{Kind}
+use Rattle.comtrade_format.specs.Cfg.{cfg}
+use Rattle.comtrade_format.specs.Data.{dat}
 use Rattle.comtrade_write.specs.OfRecord.{file}
 use Rattle.dfr_program.specs.Texts.{scanned_text, scan_refusal_text, lost_text, trigger_text, rules_refused_text, record_text}
 

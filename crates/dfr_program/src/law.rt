@@ -1,11 +1,11 @@
 //! What a recording in threads comes to, with its files.
 
 ghost use Rattle.std.specs.Prelude.{List};
-ghost use Rattle.dfr_live.specs.Seen.{Locked, Offering, Caller};
+ghost use Rattle.dfr_live.specs.Seen.{InnerParts, SourceParts, TokenParts};
 ghost use Rattle.dfr_live.specs.Ends.{Ends};
 ghost use Rattle.dfr_program.specs.Recording.{IsOneThread};
 
-use comtrade_read::records_read_back;
+use crate::read_back::records_read_back;
 use dfr_live::Ended;
 use std::alloc::Allocator;
 
@@ -15,7 +15,7 @@ use std::alloc::Allocator;
 /// holds exactly the scans that the rules of recording name, and its two files, of either kind,
 /// are read back to it. It does nothing: its contract is the law.
 pub fn as_one_thread<A: Allocator>(ended: &Ended<A>)
-    ensures { (x : Locked) (source : Offering) (tokens : List Caller)
+    ensures { (x : InnerParts) (source : SourceParts) (tokens : List TokenParts)
         → Ends x source tokens ended.now → IsOneThread x source tokens ended.now }
 {
     ended.one_list();

@@ -6,7 +6,7 @@ ghost use Rattle.std.specs.Prelude.{List, ◌≡◌, ◌≢◌, false, is_some, 
 ghost use Rattle.dfr_channels.specs.Lines.{lines};
 ghost use Rattle.dfr_recorder.specs.History.{Opening};
 ghost use Rattle.dfr_script.specs.Scripts.{script_value};
-ghost use Rattle.dfr_live.specs.Seen.{Locked, Offering, Caller, opening_of};
+ghost use Rattle.dfr_live.specs.Seen.{InnerParts, SourceParts, TokenParts, opening_of};
 ghost use Rattle.dfr_live.specs.Ends.{Ends};
 ghost use Rattle.dfr_live.specs.Report.{Reports};
 ghost use Rattle.dfr_program.specs.FaultTexts.{fault_text};
@@ -55,7 +55,7 @@ fn told_fault<A: Allocator>(alloc: A, fault: Fault) -> Result<Told<A>, RunFault>
 
 /// What a run did.
 fn told_report<A: Allocator>(alloc: A, report: &LiveReport<A>) -> Result<Told<A>, RunFault>
-    ensures law { (x : Locked) (source : Offering) (tokens : List Caller)
+    ensures law { (x : InnerParts) (source : SourceParts) (tokens : List TokenParts)
         → Ends x source tokens report.now.ended → IsOneThread x source tokens report.now.ended }
     ensures text { IfOk result (λ told. (told.done ≡ true) × (told.text.items ≡ report_text report.now)) }
     ensures fault { IfErr result (λ fault. fault ≡ RunFault.Memory) }

@@ -5,6 +5,7 @@ mod laws;
 mod limits;
 mod lost;
 mod marks;
+mod one_step;
 mod open_record;
 mod record;
 mod recorder;

@@ -28,7 +28,7 @@ pub enum LimitFault {
     #[error("more than 100000 scans before the trigger")]
     Pre,
     /// `post` is 0.
-    #[error("no scan behind the trigger")]
+    #[error("no scan after the trigger")]
     Post,
     /// Not `pre + 1 + post <= longest <= 1,000,000`.
     #[error("the longest record has too few scans, or more than 1000000")]

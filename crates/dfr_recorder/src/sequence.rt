@@ -1,14 +1,13 @@
 //! A list of steps, made in order.
 
-ghost use Rattle.std.specs.Prelude.{◌≡◌, ◌≢◌, ◌≤◌, ◌++◌, [], None, false, IfOk, IfErr, IfSome, length, map, take, option_to_list, vec_capacity};
+ghost use Rattle.std.specs.Prelude.{◌≡◌, ◌≢◌, ◌≤◌, ◌++◌, [], None, false, IfSome, length, map, take, option_to_list, vec_capacity};
 ghost use Rattle.std.specs.List.{All};
 ghost use Rattle.dfr_recorder.specs.Steps.{step_of};
 ghost use Rattle.dfr_recorder.specs.Answers.{answer_of, is_memory};
-ghost use Rattle.dfr_recorder.specs.Kept.{IsStep};
 ghost use Rattle.dfr_recorder.specs.Memory.{WantsMemory};
 ghost use Rattle.dfr_recorder.specs.Run.{IsRun, IsOwnAnswer};
 
-use crate::{Answer, LostRefusal, Recorder, ScanRefusal, Step, TriggerFault};
+use crate::{Answer, Recorder, Step};
 use std::alloc::{Allocator, Global};
 use std::collections::VecDeque;
 
@@ -20,48 +19,6 @@ pub struct Ran<A: Allocator = Global> {
     pub answers: Vec<Answer<A>, A>,
     pub stopped: Option<Step<A>>,
     pub rest: VecDeque<Step<A>, A>,
-}
-
-/// Makes one step, or hands it back when out of memory.
-fn make<A: Allocator + Copy>(
-    recorder: &mut Recorder<A>,
-    step: Step<A>,
-) -> Result<Answer<A>, Step<A>>
-    ensures ok { IfOk result (λ answer. IsStep recorder.old (step_of step) (answer_of answer) recorder.new) }
-    ensures told { IfOk result (λ answer. is_memory (answer_of answer) ≡ false) }
-    ensures own { IfOk result (λ answer. IsOwnAnswer recorder.old.layout (answer_of answer)) }
-    ensures opening { (recorder.new.layout ≡ recorder.old.layout) × (recorder.new.limits ≡ recorder.old.limits) }
-    ensures err { IfErr result (λ back. (back ≡ step) × (recorder.new ≡ recorder.old)) }
-    ensures wanted { IfErr result (λ back. WantsMemory recorder.old (step_of back)) }
-{
-    match step {
-        Step::Scan(scan) => match recorder.scan(scan) {
-            Ok(scanned) => Ok(Answer::Scan(Ok(scanned))),
-            Err((ScanRefusal::Memory, scan)) => Err(Step::Scan(scan)),
-            Err((ScanRefusal::Shape, _)) => Ok(Answer::Scan(Err(ScanRefusal::Shape))),
-            Err((ScanRefusal::Range(i), _)) => Ok(Answer::Scan(Err(ScanRefusal::Range(i)))),
-            Err((ScanRefusal::ClockEnd, _)) => Ok(Answer::Scan(Err(ScanRefusal::ClockEnd))),
-        },
-        Step::Lost => match recorder.lost() {
-            Ok(scanned) => Ok(Answer::Lost(Ok(scanned))),
-            Err(LostRefusal::Memory) => Err(Step::Lost),
-            Err(LostRefusal::ClockEnd) => Ok(Answer::Lost(Err(LostRefusal::ClockEnd))),
-        },
-        Step::Trigger => match recorder.trigger() {
-            Ok(hit) => Ok(Answer::Trigger(Ok(hit))),
-            Err(TriggerFault::Memory) => Err(Step::Trigger),
-            Err(TriggerFault::NoScan) => Ok(Answer::Trigger(Err(TriggerFault::NoScan))),
-            Err(TriggerFault::ShelfFull) => Ok(Answer::Trigger(Err(TriggerFault::ShelfFull))),
-            Err(TriggerFault::Covered) => Ok(Answer::Trigger(Err(TriggerFault::Covered))),
-        },
-        Step::Take => Ok(Answer::Take(recorder.take())),
-        Step::SetRules(rules) => {
-            if recorder.set_rules(rules).is_err() {
-                return Ok(Answer::SetRules(false));
-            }
-            Ok(Answer::SetRules(true))
-        }
-    }
 }
 
 /// Makes the steps in order, after room was made for all their answers. Where an allocation fails it stops before that step:
@@ -94,7 +51,7 @@ pub fn run<A: Allocator + Copy>(
         };
     }
     while let Some(step) = rest.pop_front() {
-        match make(&mut recorder, step) {
+        match recorder.make(step) {
             Ok(answer) => answers.push_reserved(answer),
             Err(step) => {
                 return Ran {

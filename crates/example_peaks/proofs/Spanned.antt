@@ -6,7 +6,7 @@ use Rattle.std.specs.List.{All, Contains, filter_map, cons_option}
 use Rattle.std.proofs.lemmas.Int.{ints, clamps}
 use Rattle.std.proofs.lemmas.List.{take_more, get_or_at, get_or_append_left, append-nil}
 use Rattle.std.proofs.lemmas.List.Elements.{All-push, All-weaker, filter_map-append}
-use Rattle.comtrade_write.specs.Parts.{RowParts}
+use Rattle.comtrade_format.specs.Parts.{RowParts}
 use Rattle.example_peaks.specs.declared.span.Span.{Span}
 use Rattle.example_peaks.specs.Samples.{sample, samples, IsSpan, Spans}
 

@@ -3,7 +3,7 @@ use Rattle.std.specs.Prelude.{◌≡◌, ℕ, ℤ, ◌≤ℤ◌, List, [], Optio
 use Rattle.std.specs.List.{All, Contains, filter_map}
 use Rattle.dfr_channels.specs.declared.scan.Reading.{Reading}
 use Rattle.dfr_channels.specs.declared.scan.Reading.TheVariants.{Value, Missing}
-use Rattle.comtrade_write.specs.Parts.{RowParts}
+use Rattle.comtrade_format.specs.Parts.{RowParts}
 use Rattle.example_peaks.specs.declared.span.Span.{Span}
 
 abbrev pub sample_in : Option Reading → Option ℤ

@@ -8,9 +8,9 @@ mod span;
 
 use crate::span::span_of;
 use anyhow::{Context, Result, anyhow};
+use comtrade_format::{File, Row};
 use comtrade_read::read;
 use comtrade_values::{civil_of, scale_of};
-use comtrade_write::{File, Row};
 use dfr_channels::AnalogChannel;
 use std::rt::Files;
 use std::{env, fs};

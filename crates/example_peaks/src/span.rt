@@ -4,7 +4,7 @@ ghost use Rattle.std.specs.Prelude.{◌≡◌};
 ghost use Rattle.std.specs.Int.{int_min, int_max};
 ghost use Rattle.example_peaks.specs.Samples as Samples;
 
-use comtrade_write::Row;
+use comtrade_format::Row;
 use dfr_channels::Reading;
 
 /// The least and the greatest of some samples.

@@ -3,7 +3,7 @@
 ghost use Rattle.std.specs.Prelude.{◌<◌};
 
 use anyhow::{Context, Result};
-use comtrade_write::{File, Head, Kind, Rate, Row};
+use comtrade_format::{File, Head, Kind, Rate, Row};
 use dfr_channels::{AnalogChannel, Decimal, Items, Reading, Side, StatusChannel};
 use std::alloc::{AllocError, Global};
 

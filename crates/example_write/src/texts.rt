@@ -2,12 +2,12 @@
 
 ghost use Rattle.std.specs.Prelude.{IfOk, IfErr};
 ghost use Rattle.dfr_channels.specs.Faults.{◌or◌};
-ghost use Rattle.comtrade_write.specs.Data.{dat_refusal};
-ghost use Rattle.comtrade_write.specs.Refusals.{Fails, cfg_refusal};
+ghost use Rattle.comtrade_format.specs.Data.{dat_refusal};
+ghost use Rattle.comtrade_format.specs.Refusals.{Fails, cfg_refusal};
 ghost use Rattle.comtrade_read.specs.Reads.{Reads};
 
+use comtrade_format::{File, WriteFault, cfg_bytes, dat_bytes};
 use comtrade_read::file_reads_back;
-use comtrade_write::{File, WriteFault, cfg_bytes, dat_bytes};
 use std::alloc::Global;
 
 /// A configuration file and its data file.

@@ -3,5 +3,5 @@
 mod contacts;
 mod copies;
 mod rules;
-mod setups;
+pub mod setups;
 mod spellings;

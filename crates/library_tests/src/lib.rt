@@ -3,9 +3,9 @@
 #![tactic(auto)]
 
 #[cfg(test)]
-mod channels;
+mod allocator_counts;
 #[cfg(test)]
-mod fuel_counts;
+mod channels;
 #[cfg(test)]
 mod program;
 #[cfg(test)]

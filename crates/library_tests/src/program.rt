@@ -62,70 +62,65 @@ impl Write for Narrow<'_> {
     }
 }
 
-/// What the replay of the script answers where the writer takes so many bytes, and how many it took.
-fn replayed(alloc: Global, bytes: &mut [u8], limit: usize) -> (Result<bool, RunFault>, usize) {
+/// What a writer gets of the program.
+#[derive(Clone, Copy, Debug)]
+enum Output {
+    /// The replay of the script.
+    Replay,
+    /// The first pair, which is read.
+    Reading,
+}
+
+fn text_of(output: Output) -> &'static [u8] {
+    match output {
+        Output::Replay => PRINTED,
+        Output::Reading => READING,
+    }
+}
+
+/// What the program answers where the writer takes so many bytes, and how many it took.
+fn written(
+    alloc: Global,
+    output: Output,
+    bytes: &mut [u8],
+    limit: usize,
+) -> (Result<bool, RunFault>, usize) {
     let mut narrow = Narrow {
         bytes,
         len: 0,
         limit,
     };
     let mut script = SCRIPT;
-    let ended = replay_over(alloc, &mut script, &mut narrow, Kind::Ascii);
+    let ended = match output {
+        Output::Replay => replay_over(alloc, &mut script, &mut narrow, Kind::Ascii),
+        Output::Reading => read_over(alloc, CFG, DAT, &mut narrow),
+    };
     (ended, narrow.len)
 }
 
-/// Whether just so many bytes of what the script prints are written, where the writer takes so many.
-fn is_cut_after(alloc: Global, limit: usize) -> bool {
+/// Whether just so many bytes of what the program prints are written, where the writer takes so many.
+fn is_cut_after(alloc: Global, output: Output, limit: usize) -> bool {
     let mut bytes = [0u8; 400];
-    let (ended, len) = replayed(alloc, &mut bytes, limit);
-    let whole = limit >= PRINTED.len();
-    let wanted = if whole {
+    let (ended, len) = written(alloc, output, &mut bytes, limit);
+    let text = text_of(output);
+    let wanted = if limit >= text.len() {
         Ok(true)
     } else {
         Err(RunFault::Output)
     };
-    ended == wanted && len == limit && bytes.get(..limit) == PRINTED.get(..limit)
+    ended == wanted && len == limit && bytes.get(..limit) == text.get(..limit)
 }
 
 #[test]
 fn a_failing_writer_has_a_prefix(rt: HostRuntime) {
-    assert_eq!(rt; PRINTED.len(), 301);
-    for limit in 0..302usize {
-        assert!(rt; is_cut_after(rt.alloc(), limit), "after {limit} bytes");
-    }
-}
-
-/// As `replayed`, of the first pair that is read.
-fn printed(alloc: Global, bytes: &mut [u8], limit: usize) -> (Result<bool, RunFault>, usize) {
-    let mut narrow = Narrow {
-        bytes,
-        len: 0,
-        limit,
-    };
-    let ended = read_over(alloc, CFG, DAT, &mut narrow);
-    (ended, narrow.len)
-}
-
-fn is_reading_cut_after(alloc: Global, limit: usize) -> bool {
-    let mut bytes = [0u8; 100];
-    let (ended, len) = printed(alloc, &mut bytes, limit);
-    let whole = limit >= READING.len();
-    let wanted = if whole {
-        Ok(true)
-    } else {
-        Err(RunFault::Output)
-    };
-    ended == wanted && len == limit && bytes.get(..limit) == READING.get(..limit)
-}
-
-#[test]
-fn a_failing_writer_has_a_prefix_of_a_reading(rt: HostRuntime) {
-    assert_eq!(rt; READING.len(), 74);
-    for limit in 0..75usize {
-        assert!(rt;
-            is_reading_cut_after(rt.alloc(), limit),
-            "after {limit} bytes"
-        );
+    for (output, len) in [(Output::Replay, 301usize), (Output::Reading, 74)] {
+        assert_eq!(rt; text_of(output).len(), len);
+        for limit in 0..len + 1 {
+            assert!(rt;
+                is_cut_after(rt.alloc(), output, limit),
+                "{output:?} after {limit} bytes"
+            );
+        }
     }
 }
 

@@ -15,9 +15,9 @@ const FIRST: u64 = 10;
 /// A call and its answer.
 #[derive(Clone, Copy)]
 pub enum Act {
-    /// A scan of this value, which the lane takes.
-    Offer(i32),
-    /// The same, which comes back since the lane is full.
+    /// Scans of these values, which the lane takes.
+    Offer(&'static [i32]),
+    /// A scan of this value, which comes back since the lane is full.
     Full(i32),
     /// A scan of two readings, which the lane takes and the recorder refuses.
     TwoReadings,
@@ -49,6 +49,15 @@ fn offers<N: Session<Global>>(source: &mut Source<N>, scan: Option<Scan>) -> boo
     scan.is_some() && offer(source, scan).is_ok()
 }
 
+fn are_offered<N: Session<Global>>(alloc: Global, source: &mut Source<N>, values: &[i32]) -> bool {
+    for x in values {
+        if !offers(source, value(alloc, *x)) {
+            return false;
+        }
+    }
+    true
+}
+
 /// Where the lane is full the scan comes back.
 fn is_full<N: Session<Global>>(source: &mut Source<N>, scan: Option<Scan>, x: i32) -> bool {
     match offer(source, scan) {
@@ -62,29 +71,20 @@ fn is_taken(record: &Record, first: u64, last: u64) -> bool {
     is_in_order(record, FIRST) && extent.first == first && extent.last == last
 }
 
+/// Whether the rules are set; else they come back since their channel isn't there.
 fn sets<N: Session<Global>>(
     rt: &impl Wait,
     shared: &Shared<N>,
     token: &mut Token,
     rules: Option<Rules>,
-) -> bool {
-    match rules {
-        Some(rules) => shared.set_rules(rt, token, rules).is_ok(),
-        None => false,
-    }
-}
-
-/// The rules come back since their channel isn't there.
-fn is_no_channel<N: Session<Global>>(
-    rt: &impl Wait,
-    shared: &Shared<N>,
-    token: &mut Token,
-    rules: Option<Rules>,
+    are_set: bool,
 ) -> bool {
     match rules {
         Some(rules) => match shared.set_rules(rt, token, rules) {
-            Err((RulesRefusal::NoChannel, back)) => back.list().len() == 1,
-            _ => false,
+            Ok(()) => are_set,
+            Err((fault, back)) => !are_set
+                && fault == RulesRefusal::NoChannel
+                && back.list().len() == 1,
         },
         None => false,
     }
@@ -105,7 +105,7 @@ fn takes<N: Session<Global>>(
 
 fn is_offered<N: Session<Global>>(alloc: Global, source: &mut Source<N>, act: Act) -> bool {
     match act {
-        Act::Offer(x) => offers(source, value(alloc, x)),
+        Act::Offer(values) => are_offered(alloc, source, values),
         Act::Full(x) => is_full(source, value(alloc, x), x),
         Act::TwoReadings => offers(source, scan(alloc, &[Reading::Value(1), Reading::Value(2)])),
         Act::Lose(n) => source.lose() == Ok(n),
@@ -127,8 +127,8 @@ fn is_called<N: Session<Global>>(
         Act::Trigger(wanted) => shared.trigger(rt, token) == wanted,
         Act::Take(first, last) => takes(rt, shared, token, Some((first, last))),
         Act::TakeNone => takes(rt, shared, token, None),
-        Act::Level => sets(rt, shared, token, level_over(alloc, 100)),
-        Act::Edge => is_no_channel(rt, shared, token, edge(alloc)),
+        Act::Level => sets(rt, shared, token, level_over(alloc, 100), true),
+        Act::Edge => sets(rt, shared, token, edge(alloc), false),
         _ => false,
     }
 }

@@ -22,6 +22,8 @@ mod opening;
 #[cfg(test)]
 mod play;
 #[cfg(test)]
+mod progress;
+#[cfg(test)]
 mod runs;
 #[cfg(test)]
 mod soak;
@@ -31,5 +33,3 @@ mod station;
 mod three_threads;
 #[cfg(test)]
 mod tokens;
-#[cfg(test)]
-mod unshared;

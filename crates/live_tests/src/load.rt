@@ -253,26 +253,15 @@ fn records<R: Threads + Wait + Sync>(rt: &R, alloc: Global, load: Load) -> Optio
     }
 }
 
-/// One token pumps and triggers, one takes.
+/// One token pumps and triggers, one takes; or three tokens of each work.
 #[test]
-fn three_threads(rt: HostRuntime) {
-    for lane in [1usize, 8] {
+fn three_and_seven_threads(rt: HostRuntime) {
+    for (lane, seats) in [(1usize, 2u32), (8, 2), (3, 6)] {
         let load = Load {
             lane,
-            seats: 2,
+            seats,
             scans: 1000,
         };
         assert!(rt; records(&rt, rt.alloc(), load).is_some(), "lane {lane}");
     }
-}
-
-/// Three tokens of each work.
-#[test]
-fn seven_threads(rt: HostRuntime) {
-    let load = Load {
-        lane: 3,
-        seats: 6,
-        scans: 1000,
-    };
-    assert!(rt; records(&rt, rt.alloc(), load).is_some());
 }

@@ -11,14 +11,14 @@ use std::alloc::Global;
 use std::marker::Brand;
 use std::sync::Wait;
 
-/// A lane, a shelf, whether records share scans, the calls of the one token and of the source, the entries that they leave, the scans
-/// that are left in the lane by their losses and values, and how many scans were accepted.
+/// A lane, a shelf, whether records share scans, lists of the calls of the one token and of the source, the entries that they leave,
+/// the scans that are left in the lane by their losses and values, and how many scans were accepted.
 #[derive(Clone, Copy)]
 pub struct Play<'a> {
     pub lane: usize,
     pub shelf: u32,
     pub is_shared: bool,
-    pub acts: &'a [Act],
+    pub acts: &'a [&'a [Act]],
     pub entries: &'a [(u64, Act)],
     pub left: &'a [(u32, i32)],
     pub scans: u64,
@@ -53,18 +53,19 @@ fn ends<N: Session<Global>>(
 fn is_called<N: Session<Global>>(
     rt: &impl Wait,
     alloc: Global,
-    shared: &Shared<N>,
-    source: &mut Source<N>,
+    (shared, source): (&Shared<N>, &mut Source<N>),
     tokens: &mut [Token],
     play: Play,
 ) -> bool {
-    match tokens {
-        [token] => {
-            are_made(rt, alloc, shared, source, token, play.acts)
-                && are_entries(token.made(), 0, play.entries)
+    let [token] = tokens else {
+        return false;
+    };
+    for acts in play.acts {
+        if !are_made(rt, alloc, shared, source, token, acts) {
+            return false;
         }
-        _ => false,
     }
+    are_entries(token.made(), 0, play.entries)
 }
 
 fn plays<N: Session<Global>, R: Wait>(rt: &R, alloc: Global, opened: Opened, play: Play) -> bool
@@ -72,7 +73,7 @@ fn plays<N: Session<Global>, R: Wait>(rt: &R, alloc: Global, opened: Opened, pla
         × (opened.seats ≡ N.seats) }
 {
     let (shared, mut source, mut tokens) = opened.share::<N>();
-    let called = is_called(rt, alloc, &shared, &mut source, &mut tokens, play);
+    let called = is_called(rt, alloc, (&shared, &mut source), &mut tokens, play);
     ends(alloc, shared, source, tokens, play) && called
 }
 

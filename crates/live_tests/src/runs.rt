@@ -1,5 +1,6 @@
 //! A run in three threads over a feed, orders and a sink that do as they are told, and fail where they are told to.
 
+use crate::progress::{Progress, begun, count_handed, finds_room, tell_ordered, wait_for_orders};
 use crate::station::{recorder, value};
 use comtrade_read::read;
 use comtrade_write::{File, Kind, Row};
@@ -30,8 +31,9 @@ pub enum Placing<'a> {
     Every(u64, u64, u64),
 }
 
-/// A run: its lane, its shelf, the kind of its files, the turns, what the feed gives, the places of its triggers, and the record
-/// at which the sink fails with code 9.
+/// A run: its lane, its shelf, the kind of its files, the turns, what the feed gives, the places of its triggers, how many records
+/// may be ordered and not handed to the sink, the record at which the sink waits for the last order, and the one at which it fails
+/// with code 9.
 #[derive(Clone, Copy)]
 pub struct Run<'a> {
     pub lane: usize,
@@ -40,6 +42,8 @@ pub struct Run<'a> {
     pub turns: u64,
     pub giving: Giving,
     pub triggers: Placing<'a>,
+    pub room: u64,
+    pub holds_at: u64,
     pub fails_at: u64,
 }
 
@@ -51,6 +55,8 @@ pub const RUN: Run = Run {
     turns: TURNS,
     giving: Giving::Scans(5),
     triggers: Placing::At(&[]),
+    room: u64::MAX,
+    holds_at: 0,
     fails_at: 0,
 };
 
@@ -90,6 +96,8 @@ impl Feed<Global> for ToldFeed {
 #[derive(Drop)]
 struct ToldOrders<'a> {
     triggers: Placing<'a>,
+    progress: &'a Progress,
+    room: u64,
     made: u64,
 }
 
@@ -104,7 +112,13 @@ fn place_of(triggers: Placing, made: u64) -> Option<u64> {
 
 impl Orders<Global> for ToldOrders<'_> {
     fn next(&mut self) -> Option<(u64, Order)> {
-        let place = place_of(self.triggers, self.made)?;
+        let Some(place) = place_of(self.triggers, self.made) else {
+            tell_ordered(self.progress);
+            return None;
+        };
+        if !finds_room(self.progress, self.made, self.room) {
+            return None;
+        }
         self.made = self.made.saturating_add(1);
         Some((place, Order::Trigger))
     }
@@ -112,8 +126,10 @@ impl Orders<Global> for ToldOrders<'_> {
 
 /// Reads back what it gets. It keeps how many records it got, the first and the last scan of the newest, and whether each was whole.
 #[derive(Drop)]
-struct ToldSink {
+struct ToldSink<'a> {
     alloc: Global,
+    progress: &'a Progress,
+    holds_at: u64,
     fails_at: u64,
     got: u64,
     newest: (u64, u64),
@@ -161,10 +177,14 @@ pub fn is_read_back(alloc: Global, cfg: &[u8], dat: &[u8], extent: Extent) -> bo
     }
 }
 
-impl Sink for ToldSink {
+impl Sink for ToldSink<'_> {
     fn put(&mut self, extent: Extent, cfg: &[u8], dat: &[u8]) -> Result<(), u32> {
         if extent.number == self.fails_at {
             return Err(9);
+        }
+        count_handed(self.progress);
+        if extent.number == self.holds_at {
+            wait_for_orders(self.progress);
         }
         self.got = self.got.saturating_add(1);
         self.newest = (extent.first, extent.last);
@@ -186,6 +206,7 @@ pub struct Came {
 }
 
 fn came_of<R: Threads + Wait + Sync>(rt: &R, alloc: Global, recorder: Recorder, run: Run) -> Came {
+    let progress = begun();
     let mut feed = ToldFeed {
         alloc,
         giving: run.giving,
@@ -193,10 +214,14 @@ fn came_of<R: Threads + Wait + Sync>(rt: &R, alloc: Global, recorder: Recorder, 
     };
     let mut orders = ToldOrders {
         triggers: run.triggers,
+        progress: &progress,
+        room: run.room,
         made: 0,
     };
     let mut sink = ToldSink {
         alloc,
+        progress: &progress,
+        holds_at: run.holds_at,
         fails_at: run.fails_at,
         got: 0,
         newest: (0, 0),

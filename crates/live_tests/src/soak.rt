@@ -164,6 +164,7 @@ fn is_report(report: &LiveReport, round: Round, got: u64) -> bool {
         && report.refused == 0
         && report.records == got
         && report.ended.left.is_empty()
+        && report.ended.recorder.waiting() == 0
         && report.ended.recorder.scans() == round.scans
         && entries == round.orders.saturating_add(takes(report))
         && takes(report) > got

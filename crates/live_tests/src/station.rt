@@ -36,13 +36,9 @@ fn layout_from(head: Head, start: i64) -> Option<Layout> {
     .ok()
 }
 
-fn layout_of(head: Head) -> Option<Layout> {
-    layout_from(head, 0)
-}
-
 fn layout(alloc: Global, channels: &[u8]) -> Option<Layout> {
     match read_cfg(alloc, channels) {
-        Ok(head) => layout_of(head),
+        Ok(head) => layout_from(head, 0),
         Err(_) => None,
     }
 }

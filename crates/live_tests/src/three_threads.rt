@@ -106,6 +106,7 @@ fn is_report(report: &LiveReport, scans: u64, records: u64) -> bool {
         && report.refused == 0
         && report.records == records
         && report.ended.left.is_empty()
+        && report.ended.recorder.waiting() == 0
         && report.ended.recorder.scans() == scans
 }
 
@@ -221,6 +222,20 @@ fn a_thousand_scans_in_small_lanes(rt: HostRuntime) {
         let records = load(&rt, rt.alloc(), run, 1000);
         assert!(rt; matches!(records, Some(1..=99)), "lane {lane}");
     }
+}
+
+/// Each record is handed over: also those numbered over 100, and the 64 that wait when the last order was made, since the sink
+/// holds the 136th until then.
+#[test]
+fn two_hundred_records(rt: HostRuntime) {
+    let run = Run {
+        shelf: 64,
+        triggers: Placing::Every(4, 5, 200),
+        room: 64,
+        holds_at: 136,
+        ..RUN
+    };
+    assert_eq!(rt; load(&rt, rt.alloc(), run, 1005), Some(200));
 }
 
 #[test]

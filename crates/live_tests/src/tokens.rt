@@ -94,18 +94,6 @@ fn ends_as<N: Session<Global>>(
     }
 }
 
-/// A stranger's trigger.
-fn triggers<N: Session<Global>>(
-    rt: &impl Wait,
-    shared: &Shared<N>,
-    stranger: &mut Option<Token>,
-) -> bool {
-    match stranger {
-        Some(token) => shared.trigger(rt, token) == Err(TriggerFault::NoScan),
-        None => false,
-    }
-}
-
 fn offers<N: Session<Global>>(alloc: Global, source: &mut Source<N>) -> bool {
     match value(alloc, 10) {
         Some(scan) => source.offer(scan).is_ok(),
@@ -113,14 +101,16 @@ fn offers<N: Session<Global>>(alloc: Global, source: &mut Source<N>) -> bool {
     }
 }
 
-/// A stranger's pump of one scan.
-fn pumps<N: Session<Global>>(
+/// A stranger's pump of one scan, or its trigger before any.
+fn is_called<N: Session<Global>>(
     rt: &impl Wait,
     shared: &Shared<N>,
     stranger: &mut Option<Token>,
+    pumps: bool,
 ) -> bool {
     match stranger {
-        Some(token) => shared.pump(rt, token, 8).scans == 1,
+        Some(token) if pumps => shared.pump(rt, token, 8).scans == 1,
+        Some(token) => shared.trigger(rt, token) == Err(TriggerFault::NoScan),
         None => false,
     }
 }
@@ -135,7 +125,7 @@ fn all_take<N: Session<Global>>(rt: &impl Wait, shared: &Shared<N>, tokens: &mut
 }
 
 /// What goes wrong with the tokens.
-#[derive(Clone, Copy)]
+#[derive(Clone, Copy, Debug)]
 enum Case {
     /// Each of the tokens makes a take, and they are handed in backwards.
     Many(usize),
@@ -162,8 +152,8 @@ fn are_called<N: Session<Global>>(
     match case {
         Case::Many(_) => all_take(rt, shared, tokens),
         Case::Missing | Case::Twice | Case::Exchanged => true,
-        Case::Trigger => triggers(rt, shared, stranger),
-        Case::Pump => offers(alloc, source) && pumps(rt, shared, stranger),
+        Case::Trigger => is_called(rt, shared, stranger, false),
+        Case::Pump => offers(alloc, source) && is_called(rt, shared, stranger, true),
     }
 }
 
@@ -210,29 +200,17 @@ fn is_ended<R: Wait>(rt: &R, alloc: Global, seats: u32, case: Case) -> bool {
     }
 }
 
-#[test]
-fn a_token_missing(rt: HostRuntime) {
-    assert!(rt; is_ended(&rt, rt.alloc(), 2, Case::Missing));
-}
-
-#[test]
-fn a_seat_twice(rt: HostRuntime) {
-    assert!(rt; is_ended(&rt, rt.alloc(), 2, Case::Twice));
-}
-
 /// Tokens are told apart by their seats, their lists and their counts alone.
 #[test]
-fn a_like_token_of_another_opening(rt: HostRuntime) {
-    assert!(rt; is_ended(&rt, rt.alloc(), 1, Case::Exchanged));
-}
-
-#[test]
-fn calls_by_a_token_of_another_opening(rt: HostRuntime) {
-    assert!(rt; is_ended(&rt, rt.alloc(), 1, Case::Trigger));
-    assert!(rt; is_ended(&rt, rt.alloc(), 1, Case::Pump));
-}
-
-#[test]
-fn as_many_tokens_as_may_be(rt: HostRuntime) {
-    assert!(rt; is_ended(&rt, rt.alloc(), 64, Case::Many(64)));
+fn tokens_at_the_end(rt: HostRuntime) {
+    for (seats, case) in [
+        (2u32, Case::Missing),
+        (2, Case::Twice),
+        (1, Case::Exchanged),
+        (1, Case::Trigger),
+        (1, Case::Pump),
+        (64, Case::Many(64)),
+    ] {
+        assert!(rt; is_ended(&rt, rt.alloc(), seats, case), "{case:?}");
+    }
 }

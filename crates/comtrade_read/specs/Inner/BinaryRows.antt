@@ -6,7 +6,7 @@ use Rattle.std.specs.List.{range_with_len}
 use Rattle.byteorder.specs.Endian.{little_number}
 use Rattle.dfr_channels.specs.declared.scan.Reading.{Reading}
 use Rattle.dfr_channels.specs.declared.scan.Reading.TheVariants.{Value, Missing}
-use Rattle.comtrade_write.specs.Parts.{RowParts}
+use Rattle.comtrade_format.specs.Parts.{RowParts}
 use Rattle.comtrade_read.specs.Reads.{row_size}
 
 abbrev pub reading : ℤ → Reading

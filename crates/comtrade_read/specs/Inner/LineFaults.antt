@@ -1,16 +1,7 @@
 -- What the reader's functions answer of one line after the other, in words that no public contract needs.
-use Rattle.std.specs.Prelude.{◌≡◌, ◌≢◌, ℕ, ◌+◌, nat_lt, if◌then◌else◌, List, length, Option, Some, None, Result, Ok, Err}
+use Rattle.std.specs.Prelude.{◌≡◌, ◌≢◌, Option, Some, None, Result, Ok, Err}
 use Rattle.comtrade_read.specs.declared.fault.ReadFault.{ReadFault}
 use Rattle.comtrade_read.specs.declared.fault.ReadFault.TheVariants as faults
-
--- a line too many
-unfoldable pub extra_fault : List (List ℕ) → ℕ → Option ReadFault
-extra_fault ls n = if nat_lt n (length ls) then Some (faults.Extra (n + 1)) else None
-
--- what a function returned, seen by view: the value where there is no fault, else the fault, or out of memory
-abbrev pub Gives : {X Y : Type 0} → (X → Y) → Option ReadFault → Y → Result X ReadFault → Type 0
-Gives view fault value (Ok x) = (fault ≡ None) × (view x ≡ value)
-Gives view fault value (Err e) = e ≢ faults.Memory → fault ≡ Some e
 
 -- what a function returned, seen by view: what is said, or out of memory
 abbrev pub Is : {X Y : Type 0} → (X → Y) → Result Y ReadFault → Result X ReadFault → Type 0

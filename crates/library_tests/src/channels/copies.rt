@@ -1,7 +1,7 @@
 //! A copy is as its source, part by part.
 
 use super::contacts::contact_of;
-use super::setups::{one_of, scan, setup, with_analog, with_status};
+use super::setups::{one_of, scan, setup, with};
 use crate::reader::same::{are_analogs, are_statuses};
 use crate::writer::fixture::{analog, number, text};
 use dfr_channels::{AnalogChannel, Items, Layout, Reading, Scan, Side, StatusChannel};
@@ -56,8 +56,8 @@ fn labelled(alloc: Global) -> Option<StatusChannel> {
 }
 
 fn layout(alloc: Global) -> Option<Layout> {
-    let setup = with_analog(setup(alloc, 0), one_of(alloc, scaled(alloc)));
-    match with_status(setup, one_of(alloc, labelled(alloc))) {
+    let setup = with(setup(alloc, 0), one_of(alloc, scaled(alloc)));
+    match with(setup, one_of(alloc, labelled(alloc))) {
         Some(setup) => Layout::new(setup).ok(),
         None => None,
     }

@@ -8,31 +8,23 @@ use dfr_channels::{
 };
 use std::alloc::Global;
 
-/// 1,000 scans a second of these channels, from 1970 on.
-fn setup_of(head: Head) -> Setup {
-    let Head {
-        station,
-        device,
-        analog,
-        status,
-        line_freq,
-        ..
-    } = head;
+/// So many scans a second of these channels, from this instant on.
+pub fn setup_of(head: Head, rate: u32, start: i64) -> Setup {
     Setup {
-        station,
-        device,
-        analog,
-        status,
-        line_freq,
-        rate: 1000,
-        start: 0,
+        station: head.station,
+        device: head.device,
+        analog: head.analog,
+        status: head.status,
+        line_freq: head.line_freq,
+        rate,
+        start,
     }
 }
 
 /// One analogue channel of 16 bits and so many status channels.
 pub fn setup(alloc: Global, bits: usize) -> Option<Setup> {
     match head(alloc, 1, bits, 0) {
-        Some(head) => Some(setup_of(head)),
+        Some(head) => Some(setup_of(head, 1000, 0)),
         None => None,
     }
 }
@@ -116,10 +108,28 @@ fn channel_of(alloc: Global, unit: Option<Items<u8>>, min: i32, max: i32) -> Opt
     }
 }
 
-pub fn with_analog(setup: Option<Setup>, channels: Option<Items<AnalogChannel>>) -> Option<Setup> {
+/// A list of channels of either kind.
+pub trait Channels {
+    fn put_into(self, setup: &mut Setup);
+}
+
+impl Channels for Items<AnalogChannel> {
+    fn put_into(self, setup: &mut Setup) {
+        setup.analog = self;
+    }
+}
+
+impl Channels for Items<StatusChannel> {
+    fn put_into(self, setup: &mut Setup) {
+        setup.status = self;
+    }
+}
+
+/// The set-up with these channels in place of its own of their kind.
+pub fn with<C: Channels + Drop>(setup: Option<Setup>, channels: Option<C>) -> Option<Setup> {
     match (setup, channels) {
         (Some(mut setup), Some(channels)) => {
-            setup.analog = channels;
+            channels.put_into(&mut setup);
             Some(setup)
         }
         _ => None,
@@ -135,7 +145,7 @@ pub fn one_of<T: Drop>(alloc: Global, channel: Option<T>) -> Option<Items<T>> {
 
 fn setup_with_channel(alloc: Global, unit: &[u8], min: i32, max: i32) -> Option<Setup> {
     let channel = channel_of(alloc, text(alloc, unit), min, max);
-    with_analog(setup(alloc, 0), one_of(alloc, channel))
+    with(setup(alloc, 0), one_of(alloc, channel))
 }
 
 #[test]
@@ -147,25 +157,15 @@ fn refused_analog_channels(rt: HostRuntime) {
     assert!(rt; is_refused(bare, SetupFault::Text(Place::Analog(0))));
 }
 
-pub fn with_status(setup: Option<Setup>, contacts: Option<Items<StatusChannel>>) -> Option<Setup> {
-    match (setup, contacts) {
-        (Some(mut setup), Some(contacts)) => {
-            setup.status = contacts;
-            Some(setup)
-        }
-        _ => None,
-    }
-}
-
 /// So many contacts and one more of this phase, and no analogue channel.
 fn setup_of_contacts(alloc: Global, count: usize, last: &[u8]) -> Option<Setup> {
-    with_status(bare(alloc, 0), contacts(alloc, count, last))
+    with(bare(alloc, 0), contacts(alloc, count, last))
 }
 
 /// So many contacts alone.
 fn bare(alloc: Global, count: usize) -> Option<Setup> {
     match head(alloc, 0, count, 0) {
-        Some(head) => Some(setup_of(head)),
+        Some(head) => Some(setup_of(head, 1000, 0)),
         None => None,
     }
 }

@@ -55,8 +55,9 @@ fn many_places(rt: HostRuntime) -> Result<(), Fail> {
     Ok(())
 }
 
+/// What no decimal is, nor a whole number.
 #[test]
-fn refused_decimals(rt: HostRuntime) {
+fn refused_numbers(rt: HostRuntime) {
     for text in [
         b"1E36".as_slice(),
         b"0.1E37",
@@ -71,8 +72,13 @@ fn refused_decimals(rt: HostRuntime) {
         b"--1",
         b"1E+-2",
         b" 1",
+        b"-",
+        b"1a",
+        b"1000000000000000000000000000000000000",
+        b"-1000000000000000000000000000000000000",
     ] {
         assert!(rt; Decimal::read(text) == None);
+        assert_eq!(rt; integer_of(text), None);
     }
 }
 
@@ -104,20 +110,6 @@ fn whole_numbers(rt: HostRuntime) {
         integer_of(b"999999999999999999999999999999999999"),
         Some(10i128.pow(36) - 1)
     );
-}
-
-#[test]
-fn refused_whole_numbers(rt: HostRuntime) {
-    for text in [
-        b"-".as_slice(),
-        b" 1",
-        b"",
-        b"1a",
-        b"1000000000000000000000000000000000000",
-        b"-1000000000000000000000000000000000000",
-    ] {
-        assert_eq!(rt; integer_of(text), None);
-    }
 }
 
 /// A 1 after so many zeros.

@@ -1,8 +1,8 @@
 //! Recorders of a bay, and the steps that they make.
 
+use crate::channels::setups::setup_of;
 use comtrade_read::read_cfg;
-use comtrade_write::Head;
-use dfr_channels::{Layout, Reading, Rule, Rules, Scan, Setup};
+use dfr_channels::{Layout, Reading, Rule, Rules, Scan};
 use dfr_recorder::{Limits, Recorder, Step};
 use std::alloc::Global;
 use std::collections::VecDeque;
@@ -54,30 +54,9 @@ pub const FAST: Bay = Bay {
     ..BAY
 };
 
-fn layout_of(head: Head, rate: u32, start: i64) -> Option<Layout> {
-    let Head {
-        station,
-        device,
-        analog,
-        status,
-        line_freq,
-        ..
-    } = head;
-    Layout::new(Setup {
-        station,
-        device,
-        analog,
-        status,
-        line_freq,
-        rate,
-        start,
-    })
-    .ok()
-}
-
 pub fn layout(alloc: Global, bay: Bay) -> Option<Layout> {
     match read_cfg(alloc, bay.channels) {
-        Ok(head) => layout_of(head, bay.rate, bay.start),
+        Ok(head) => Layout::new(setup_of(head, bay.rate, bay.start)).ok(),
         Err(_) => None,
     }
 }

@@ -43,15 +43,6 @@ fn fault_behind_rates(left: usize) -> Option<ReadFault> {
     }
 }
 
-#[test]
-fn cut_cfg(rt: HostRuntime) {
-    assert_eq!(rt; CFG.len(), 142);
-    for left in 0..143usize {
-        let fault = cfg_fault(rt.alloc(), CFG.get(..left).unwrap_or(b"x"));
-        assert_eq!(rt; fault, fault_of_cfg(left), "{left} bytes");
-    }
-}
-
 fn is_head_of(alloc: Global, text: &[u8], head: &Head) -> bool {
     match read_cfg(alloc, text) {
         Ok(cut) => is_same_head(&cut, head),
@@ -95,7 +86,12 @@ fn fault_of_dat(left: usize) -> Option<(Part, ReadFault)> {
 }
 
 #[test]
-fn cut_dat(rt: HostRuntime) {
+fn cut_cfg_and_dat(rt: HostRuntime) {
+    assert_eq!(rt; CFG.len(), 142);
+    for left in 0..143usize {
+        let fault = cfg_fault(rt.alloc(), CFG.get(..left).unwrap_or(b"x"));
+        assert_eq!(rt; fault, fault_of_cfg(left), "{left} bytes");
+    }
     assert_eq!(rt; DAT.len(), 53);
     for left in 0..54usize {
         let fault = dat_fault(rt.alloc(), DAT.get(..left).unwrap_or(b"x"));

@@ -3,9 +3,10 @@
 use super::bay::{BAY, Bay, CONTACTS, FAST, SHORT, SIX, TWO, recorder, steps};
 use super::same::is_same;
 use super::{CFG, DAT};
-use comtrade_read::{read, read_of_file, read_of_record, read_of_run, run_and_read};
+use comtrade_read::{read, read_of_file};
 use comtrade_write::{File, Kind, WriteFault, cfg_bytes, dat_bytes, file_of};
 use dfr_channels::{Items, Layout, Memory};
+use dfr_program::{read_of_record, read_of_run, run_and_read};
 use dfr_recorder::{Answer, Ran, Record, Recorder, Step, run};
 use std::alloc::Global;
 use std::collections::VecDeque;
@@ -76,63 +77,61 @@ fn are_read_back(alloc: Global, bay: Bay, script: &[u8], records: usize) -> bool
     }
 }
 
-#[test]
-fn triggers_by_hand(rt: HostRuntime) {
-    let alloc = rt.alloc();
-    assert!(rt; are_read_back(alloc, BAY, b"0123!45^", 1));
-    assert!(rt; are_read_back(alloc, BAY, b"0!12^", 1));
-    assert!(rt; are_read_back(alloc, BAY, b"!^", 0));
-    assert!(rt; are_read_back(alloc, TWO, b"0123!45!67^^", 2));
-    assert!(rt; are_read_back(alloc, BAY, b"0123!45!^!67^", 2));
-}
+const TWO_AT_100: Bay = Bay {
+    at_100: true,
+    ..TWO
+};
 
-#[test]
-fn triggers_by_rule(rt: HostRuntime) {
-    let alloc = rt.alloc();
-    let two = Bay {
-        at_100: true,
-        ..TWO
-    };
-    assert!(rt; are_read_back(alloc, two, b"zzzhhhhh^zz^", 2));
-    let eight = Bay {
-        at_100: true,
-        limits: (2, 2, 8, 1),
-        ..BAY
-    };
-    assert!(rt; are_read_back(alloc, eight, b"zzzhzhzz^", 1));
-}
+const EIGHT_AT_100: Bay = Bay {
+    at_100: true,
+    limits: (2, 2, 8, 1),
+    ..BAY
+};
 
-/// Such stamps, a leap day, and the end of the year 9999, after which a scan is refused.
-#[test]
-fn clocks(rt: HostRuntime) {
-    let alloc = rt.alloc();
-    assert!(rt; are_read_back(alloc, FAST, b"1!234^", 1));
-    let leap = Bay {
-        start: 951782400000000,
-        ..SHORT
-    };
-    assert!(rt; are_read_back(alloc, leap, b"1!2^", 1));
-    let last = Bay {
-        rate: 1,
-        start: 253402300798999999,
-        ..SHORT
-    };
-    assert!(rt; are_read_back(alloc, last, b"1!23^", 1));
-}
+const LEAP: Bay = Bay {
+    start: 951782400000000,
+    ..SHORT
+};
 
+/// The end of the year 9999, after which a scan is refused.
+const LAST: Bay = Bay {
+    rate: 1,
+    start: 253402300798999999,
+    ..SHORT
+};
+
+const WIDE: Bay = Bay {
+    channels: SIX,
+    ..SHORT
+};
+
+const MANY_CONTACTS: Bay = Bay {
+    channels: CONTACTS,
+    ..SHORT
+};
+
+/// Triggers by hand and by rule; stamps that are no whole numbers apart, a leap day, and the last year; many channels.
 #[test]
-fn many_channels(rt: HostRuntime) {
-    let alloc = rt.alloc();
-    let wide = Bay {
-        channels: SIX,
-        ..SHORT
-    };
-    assert!(rt; are_read_back(alloc, wide, b"s!s^", 1));
-    let contacts = Bay {
-        channels: CONTACTS,
-        ..SHORT
-    };
-    assert!(rt; are_read_back(alloc, contacts, b"l!l^", 1));
+fn records_of_runs(rt: HostRuntime) {
+    for (bay, script, records) in [
+        (BAY, b"0123!45^".as_slice(), 1usize),
+        (BAY, b"0!12^", 1),
+        (BAY, b"!^", 0),
+        (TWO, b"0123!45!67^^", 2),
+        (BAY, b"0123!45!^!67^", 2),
+        (TWO_AT_100, b"zzzhhhhh^zz^", 2),
+        (EIGHT_AT_100, b"zzzhzhzz^", 1),
+        (FAST, b"1!234^", 1),
+        (LEAP, b"1!2^", 1),
+        (LAST, b"1!23^", 1),
+        (WIDE, b"s!s^", 1),
+        (MANY_CONTACTS, b"l!l^", 1),
+    ] {
+        assert!(rt;
+            are_read_back(rt.alloc(), bay, script, records),
+            "{script:?}"
+        );
+    }
 }
 
 /// Whether there is one file, with rows of these stamps.
@@ -171,15 +170,6 @@ fn run_is_stamped(alloc: Global, recorder: Recorder) -> bool {
     }
 }
 
-#[test]
-fn files_of_a_run(rt: HostRuntime) {
-    let stamped = match recorder(rt.alloc(), FAST) {
-        Some(recorder) => run_is_stamped(rt.alloc(), recorder),
-        None => false,
-    };
-    assert!(rt; stamped);
-}
-
 fn run_and_read_is_stamped(alloc: Global, recorder: Recorder) -> bool {
     match steps(alloc, b"1!234^") {
         Some(steps) => are_stamped(run_and_read(alloc, recorder, steps, Kind::Binary).1),
@@ -187,13 +177,20 @@ fn run_and_read_is_stamped(alloc: Global, recorder: Recorder) -> bool {
     }
 }
 
-#[test]
-fn run_with_its_files(rt: HostRuntime) {
-    let stamped = match recorder(rt.alloc(), FAST) {
-        Some(recorder) => run_and_read_is_stamped(rt.alloc(), recorder),
+fn is_stamped(alloc: Global, at_once: bool) -> bool {
+    match recorder(alloc, FAST) {
+        Some(recorder) if at_once => run_and_read_is_stamped(alloc, recorder),
+        Some(recorder) => run_is_stamped(alloc, recorder),
         None => false,
-    };
-    assert!(rt; stamped);
+    }
+}
+
+/// The files of a run, and those of a run that is read in the same call.
+#[test]
+fn files_of_a_run(rt: HostRuntime) {
+    for at_once in [false, true] {
+        assert!(rt; is_stamped(rt.alloc(), at_once), "{at_once}");
+    }
 }
 
 /// The instants of the first row and of the trigger of the next record's file.

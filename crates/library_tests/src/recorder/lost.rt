@@ -2,7 +2,7 @@
 
 use super::fixture::recorder_from;
 use super::records::is_value;
-use super::runs::{Steps, add, add_scan, is_whole, ran};
+use super::runs::{Steps, add, add_scan, is_whole};
 use dfr_channels::{Reading, Scan};
 use dfr_recorder::{Answer, LostRefusal, Ran, Record, Recorder, Scanned, Step, run};
 use std::alloc::Global;
@@ -72,7 +72,7 @@ fn runs_past_the_end_of_the_clock(rt: HostRuntime) {
 }
 
 /// A scan, a trigger, and two lost scans, the second of which closes the record.
-fn add_record(alloc: Global, steps: &mut Steps) -> bool {
+pub fn add_record(alloc: Global, steps: &mut Steps) -> bool {
     add_scan(alloc, steps, 10)
         && add(steps, Step::Trigger)
         && add_two(steps)
@@ -96,26 +96,10 @@ const LAST: Scanned = Scanned {
     closed: Some(1),
 };
 
-fn is_closed_by_lost(answers: &[Answer]) -> bool {
+pub fn is_closed_by_lost(answers: &[Answer]) -> bool {
     match answers {
         [.., Answer::Lost(Ok(last)), Answer::Take(Some(record))] => *last == LAST
             && has_gaps(record),
         _ => false,
     }
-}
-
-fn closes(alloc: Global) -> bool {
-    let mut steps = VecDeque::new(alloc);
-    if !add_record(alloc, &mut steps) {
-        return false;
-    }
-    match ran(alloc, steps) {
-        Some(ran) => is_whole(&ran, 5) && is_closed_by_lost(&ran.answers),
-        None => false,
-    }
-}
-
-#[test]
-fn lost_scans_close_a_record(rt: HostRuntime) {
-    assert!(rt; closes(rt.alloc()));
 }

@@ -1,6 +1,7 @@
 //! Lists of steps, with enough memory.
 
 use super::fixture::{recorder, value};
+use super::lost::{add_record, is_closed_by_lost};
 use super::records::is_first;
 use dfr_recorder::{Answer, Hit, Ran, Step, TriggerFault, run};
 use std::alloc::Global;
@@ -123,19 +124,43 @@ fn fills_the_shelf(alloc: Global, steps: &mut Steps) -> bool {
         && add(steps, Step::Trigger)
 }
 
-fn opens_again(alloc: Global) -> bool {
+/// What a run ends with.
+#[derive(Clone, Copy, Debug)]
+enum Case {
+    /// A trigger that a shelf of one refuses, a take, and a trigger that opens.
+    FullShelf,
+    /// Lost scans that close a record.
+    Lost,
+}
+
+fn add_case(alloc: Global, steps: &mut Steps, case: Case) -> bool {
+    match case {
+        Case::FullShelf => fills_the_shelf(alloc, steps),
+        Case::Lost => add_record(alloc, steps),
+    }
+}
+
+fn ends_in(ran: &Ran, case: Case) -> bool {
+    match case {
+        Case::FullShelf => is_whole(ran, 10) && ends_so(&ran.answers),
+        Case::Lost => is_whole(ran, 5) && is_closed_by_lost(&ran.answers),
+    }
+}
+
+fn is_right(alloc: Global, case: Case) -> bool {
     let mut steps = VecDeque::new(alloc);
-    if !fills_the_shelf(alloc, &mut steps) {
+    if !add_case(alloc, &mut steps, case) {
         return false;
     }
     match ran(alloc, steps) {
-        Some(ran) => is_whole(&ran, 10) && ends_so(&ran.answers),
+        Some(ran) => ends_in(&ran, case),
         None => false,
     }
 }
 
-/// A trigger that a shelf of one refuses, a take, and a trigger that opens.
 #[test]
-fn runs_on_a_full_shelf(rt: HostRuntime) {
-    assert!(rt; opens_again(rt.alloc()));
+fn runs_to_their_ends(rt: HostRuntime) {
+    for case in [Case::FullShelf, Case::Lost] {
+        assert!(rt; is_right(rt.alloc(), case), "{case:?}");
+    }
 }

@@ -95,30 +95,12 @@ fn covers_the_last_scan(alloc: Global, recorder: &mut Recorder) -> bool {
         && takes_second(recorder, second(6, 6, 8))
 }
 
-#[test]
-fn a_covered_trigger(rt: HostRuntime) {
-    let done = match unshared_recorder(rt.alloc(), 2) {
-        Some(mut recorder) => covers_the_last_scan(rt.alloc(), &mut recorder),
-        None => false,
-    };
-    assert!(rt; done);
-}
-
 /// A trigger at scan 7, of whose two scans before it the first record has one.
 fn begins_after_the_record(alloc: Global, recorder: &mut Recorder) -> bool {
     opens(alloc, recorder)
         && triggers(alloc, recorder, &TO_SEVENTEEN, Ok(Hit::Opened(2)))
         && are_scanned(alloc, recorder, &TO_NINETEEN)
         && takes_second(recorder, second(6, 7, 9))
-}
-
-#[test]
-fn fewer_scans_before(rt: HostRuntime) {
-    let done = match unshared_recorder(rt.alloc(), 2) {
-        Some(mut recorder) => begins_after_the_record(rt.alloc(), &mut recorder),
-        None => false,
-    };
-    assert!(rt; done);
 }
 
 /// A shelf of one is full: the trigger is covered before the take and after it.
@@ -128,15 +110,6 @@ fn covers_before_the_shelf(alloc: Global, recorder: &mut Recorder) -> bool {
         && recorder.take().is_some()
         && recorder.trigger() == Err(TriggerFault::Covered)
         && triggers(alloc, recorder, &SIXTEEN, Ok(Hit::Opened(2)))
-}
-
-#[test]
-fn covered_on_a_full_shelf(rt: HostRuntime) {
-    let done = match unshared_recorder(rt.alloc(), 1) {
-        Some(mut recorder) => covers_before_the_shelf(rt.alloc(), &mut recorder),
-        None => false,
-    };
-    assert!(rt; done);
 }
 
 const TWO_LOW: [Told; 2] = [(0, None, None), (0, None, Some(2))];
@@ -156,11 +129,47 @@ fn fires_after_the_record(alloc: Global, recorder: &mut Recorder) -> bool {
         && takes_second(recorder, FIRED)
 }
 
-#[test]
-fn a_firing_scan(rt: HostRuntime) {
-    let done = match unshared_recorder_at_100(rt.alloc(), 2) {
-        Some(mut recorder) => fires_after_the_record(rt.alloc(), &mut recorder),
+/// What comes after the first record.
+#[derive(Clone, Copy, Debug)]
+enum Case {
+    CoveredTrigger,
+    FewerScansBefore,
+    FullShelf,
+    FiringScan,
+}
+
+fn recorder(alloc: Global, case: Case) -> Option<Recorder> {
+    match case {
+        Case::CoveredTrigger | Case::FewerScansBefore => unshared_recorder(alloc, 2),
+        Case::FullShelf => unshared_recorder(alloc, 1),
+        Case::FiringScan => unshared_recorder_at_100(alloc, 2),
+    }
+}
+
+fn goes_on(alloc: Global, recorder: &mut Recorder, case: Case) -> bool {
+    match case {
+        Case::CoveredTrigger => covers_the_last_scan(alloc, recorder),
+        Case::FewerScansBefore => begins_after_the_record(alloc, recorder),
+        Case::FullShelf => covers_before_the_shelf(alloc, recorder),
+        Case::FiringScan => fires_after_the_record(alloc, recorder),
+    }
+}
+
+fn is_right(alloc: Global, case: Case) -> bool {
+    match recorder(alloc, case) {
+        Some(mut recorder) => goes_on(alloc, &mut recorder, case),
         None => false,
-    };
-    assert!(rt; done);
+    }
+}
+
+#[test]
+fn after_the_first_record(rt: HostRuntime) {
+    for case in [
+        Case::CoveredTrigger,
+        Case::FewerScansBefore,
+        Case::FullShelf,
+        Case::FiringScan,
+    ] {
+        assert!(rt; is_right(rt.alloc(), case), "{case:?}");
+    }
 }

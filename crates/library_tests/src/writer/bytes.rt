@@ -131,14 +131,6 @@ fn further_file(alloc: Global) -> Option<File> {
     None
 }
 
-#[test]
-fn further_lines(rt: HostRuntime) {
-    let alloc = rt.alloc();
-    let wanted =
-        b"Bay 1,DFR,1999\r\n2,1A,1D\r\n1,IA,A,,A,0.0015,-0.5,0.0,-32767,32767,1.50,1,S\r\n1,TRIP,,,1\r\n50\r\n1\r\n1000,0\r\n29/02/2000,00:00:00.000000\r\n31/12/9999,23:59:58.999999\r\nASCII\r\n1\r\n";
-    assert!(rt; is_cfg(alloc, further_file(alloc), wanted));
-}
-
 /// No rate, a first row in the year 1 and a trigger a microsecond before 1970 began.
 fn unrated_file(alloc: Global) -> Option<File> {
     let mut file = file(alloc, 1000, 12)?;
@@ -155,10 +147,14 @@ fn unrated_file(alloc: Global) -> Option<File> {
     None
 }
 
+const FURTHER: &[u8] =
+    b"Bay 1,DFR,1999\r\n2,1A,1D\r\n1,IA,A,,A,0.0015,-0.5,0.0,-32767,32767,1.50,1,S\r\n1,TRIP,,,1\r\n50\r\n1\r\n1000,0\r\n29/02/2000,00:00:00.000000\r\n31/12/9999,23:59:58.999999\r\nASCII\r\n1\r\n";
+
+const UNRATED: &[u8] =
+    b"Bay 1,DFR,1999\r\n1,1A,0D\r\n1,IA,A,,A,1,0,0,-32767,32767,1,1,P\r\n50\r\n0\r\n0,5\r\n01/01/0001,00:00:00.000000\r\n31/12/1969,23:59:59.999999\r\nASCII\r\n1\r\n";
+
 #[test]
-fn no_rate_and_early_instants(rt: HostRuntime) {
-    let alloc = rt.alloc();
-    let wanted =
-        b"Bay 1,DFR,1999\r\n1,1A,0D\r\n1,IA,A,,A,1,0,0,-32767,32767,1,1,P\r\n50\r\n0\r\n0,5\r\n01/01/0001,00:00:00.000000\r\n31/12/1969,23:59:59.999999\r\nASCII\r\n1\r\n";
-    assert!(rt; is_cfg(alloc, unrated_file(alloc), wanted));
+fn further_lines(rt: HostRuntime) {
+    assert!(rt; is_cfg(rt.alloc(), further_file(rt.alloc()), FURTHER));
+    assert!(rt; is_cfg(rt.alloc(), unrated_file(rt.alloc()), UNRATED));
 }

@@ -76,36 +76,35 @@ pub fn one<T: Drop>(alloc: Global, item: T) -> Option<Items<T>> {
     None
 }
 
-fn add_analog(list: &mut Vec<AnalogChannel>, alloc: Global) -> bool {
-    match analog(alloc) {
+/// A channel of which a head can have many.
+trait Channel: Sized {
+    fn made(alloc: Global) -> Option<Self>;
+}
+
+impl Channel for AnalogChannel {
+    fn made(alloc: Global) -> Option<AnalogChannel> {
+        analog(alloc)
+    }
+}
+
+impl Channel for StatusChannel {
+    fn made(alloc: Global) -> Option<StatusChannel> {
+        status(alloc)
+    }
+}
+
+fn add<T: Channel + Drop>(list: &mut Vec<T>, alloc: Global) -> bool {
+    match T::made(alloc) {
         Some(channel) => list.push(channel).is_ok(),
         None => false,
     }
 }
 
-fn add_status(list: &mut Vec<StatusChannel>, alloc: Global) -> bool {
-    match status(alloc) {
-        Some(channel) => list.push(channel).is_ok(),
-        None => false,
-    }
-}
-
-/// So many analogue channels.
-pub fn analogs(alloc: Global, n: usize) -> Option<Items<AnalogChannel>> {
+/// So many channels.
+fn many<T: Channel + Drop>(alloc: Global, n: usize) -> Option<Items<T>> {
     let mut list = Vec::new(alloc);
     for _ in 0..n {
-        if !add_analog(&mut list, alloc) {
-            return None;
-        }
-    }
-    Some(Items::of(list))
-}
-
-/// So many status channels.
-pub fn statuses(alloc: Global, n: usize) -> Option<Items<StatusChannel>> {
-    let mut list = Vec::new(alloc);
-    for _ in 0..n {
-        if !add_status(&mut list, alloc) {
+        if !add(&mut list, alloc) {
             return None;
         }
     }
@@ -148,7 +147,7 @@ fn give_names(head: &mut Head, alloc: Global) -> bool {
 }
 
 fn give_channels(head: &mut Head, alloc: Global, k: usize, m: usize) -> bool {
-    match (analogs(alloc, k), statuses(alloc, m)) {
+    match (many(alloc, k), many(alloc, m)) {
         (Some(analog), Some(status)) => {
             head.analog = analog;
             head.status = status;

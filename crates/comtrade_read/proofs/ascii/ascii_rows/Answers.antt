@@ -1,11 +1,10 @@
-use Rattle.std.proofs.Common.{◌≡◌, ap, ◌∙◌}
-use Rattle.dfr_channels.specs.Lines.{texts, drop_end, is_blank_line, cut_lines}
-use Rattle.comtrade_read.specs.Ascii.{data_lines}
+use Rattle.std.proofs.Common.{refl}
+use Rattle.std.proofs.lemmas.Result.{err_from_is_err_and}
+use Rattle.comtrade_read.specs.Ascii.{rows, data_lines}
 use Rattle.comtrade_read.proofs.ascii.ascii_rows.Goals as goal
 
-pub returns : goal.returns
-unfolding data_lines
-returns g c =
-    let e : texts c.without_blank_end.result.now ≡ data_lines c.args.dat.now =
-    c.without_blank_end.ensures ∙ ap (λ ls. drop_end is_blank_line ls) (ap texts c.deref.ensures.value ∙ c.in_ok-lines.ensures ∙ ap cut_lines c.before_end_mark.ensures) in
-    rw e at c.all_rows.ensures
+pub returns-in_err-end : goal.returns-in_err-end
+unfolding rows data_lines
+returns-in_err-end g c =
+    let p = err_from_is_err_and c.from_residual-in_err-end.result c.from_residual-in_err-end.ensures.1 in
+    rw (p.1, p.2) (λ n. rw (← c.before_end_mark-text.ensures, ← c.of-left.ensures, c.in_ok-rows.ensures, c.in_err-end.ensures n) refl)

@@ -1,8 +1,7 @@
-use Rattle.std.proofs.Common.{◌≡◌}
-use Rattle.std.specs.Prelude.{Ok}
-use Rattle.dfr_channels.specs.Lines.{texts}
-use Rattle.comtrade_read.specs.Inner.HeadValues.{next_row, lines_at}
+use Rattle.std.proofs.Common.{◌≡◌, ◌-◌, []}
+use Rattle.comtrade_read.specs.Line.{each}
+use Rattle.comtrade_read.specs.Ascii.{row_line}
 use Rattle.comtrade_read.proofs.ascii.rows_of.Given as goal
 
 abbrev pub invariant-loop-i : goal.invariant-loop-i
-invariant-loop-i g l = lines_at (next_row l.k l.m) (texts l.lines) 0 l.i ≡ Ok l.list.items
+invariant-loop-i g l = each (λ before. row_line l.k l.m) l.count [] l.fn.left ≡ each (λ before. row_line l.k l.m) (l.count - l.i) l.list.items l.left

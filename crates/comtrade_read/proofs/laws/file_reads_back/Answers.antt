@@ -1,4 +1,4 @@
-use Rattle.comtrade_write.specs.Parts.{FileParts}
+use Rattle.comtrade_format.specs.Parts.{FileParts}
 use Rattle.comtrade_read.specs.ReadBack.{HasNumbers}
 use Rattle.comtrade_read.proofs.ReadBack.{read_back}
 use Rattle.comtrade_read.proofs.laws.file_reads_back.Goals as goal

@@ -1,5 +1,6 @@
 use Rattle.std.proofs.Common.{sym, ◌∙◌, subst, refl, arith}
-use Rattle.comtrade_write.specs.OfRecord.{file, IsWritable}
+use Rattle.comtrade_format.specs.Data.{IsWritable}
+use Rattle.comtrade_write.specs.OfRecord.{file}
 use Rattle.comtrade_write.proofs.Own.{own_parts, own_writable, earlier_instant, scans_few}
 use Rattle.comtrade_write.proofs.of_record.file_of.Goals as goal
 

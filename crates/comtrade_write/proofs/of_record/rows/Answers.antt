@@ -1,6 +1,6 @@
 use Rattle.std.proofs.Common.{◌≡◌, ◌+◌, ◌-◌, arith, refl}
 use Rattle.comtrade_write.specs.OfRecord.{row_of}
-use Rattle.comtrade_write.proofs.Numbered.{numbered-more}
+use Rattle.comtrade_format.proofs.Numbered.{numbered-more}
 use Rattle.comtrade_write.proofs.of_record.rows.Goals as goal
 
 pub loop-i-preserved : goal.loop-i-preserved

@@ -1,5 +1,5 @@
 use Rattle.std.proofs.Common.{◌≡◌, ◌+◌, ◌++◌, drop}
-use Rattle.comtrade_write.specs.Numbered.{numbered}
+use Rattle.comtrade_format.specs.Numbered.{numbered}
 use Rattle.comtrade_write.specs.OfRecord.{row_of}
 use Rattle.comtrade_write.proofs.of_record.rows.Given as goal
 

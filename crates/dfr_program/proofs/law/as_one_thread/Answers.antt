@@ -3,7 +3,7 @@ use Rattle.dfr_channels.specs.Parts.{SetupParts}
 use Rattle.dfr_recorder.specs.declared.limits.Limits.{Limits}
 use Rattle.dfr_recorder.specs.History.{opening}
 use Rattle.dfr_recorder.specs.Kept.{Kept}
-use Rattle.comtrade_read.specs.ReadBack.{RecordsReadBack}
+use Rattle.dfr_program.specs.ReadBack.{RecordsReadBack}
 use Rattle.dfr_program.proofs.law.as_one_thread.Goals as goal
 
 pub returns : goal.returns

@@ -77,10 +77,10 @@ loop-step-preserved g c =
     let made : map step_of (take (length c.push_reserved.new.self.items) c.args.steps.items) ≡ map step_of (take n c.args.steps.items) ++ step_of c.in-Some.step ∷ [] =
     ap (λ m. map step_of (take m c.args.steps.items)) longer ∙ ap (map step_of) (take_next n c.args.steps.items c.in-Some.step c.pop_front.new.self.items front) ∙ map_push step_of (take n c.args.steps.items) c.in-Some.step in
     let told : map answer_of c.push_reserved.new.self.items ≡ map answer_of c.loop-step.answers.items ++ answer_of c.in-Ok.answer ∷ [] = ap (map answer_of) pushed ∙ map_push answer_of c.loop-step.answers.items c.in-Ok.answer in
-    let P : List StepParts → Type 0 = λ a. IsRun c.args.recorder a (map answer_of c.push_reserved.new.self.items) c.make.new.recorder in
-    let Q : List AnswerParts → Type 0 = λ b. IsRun c.args.recorder (map step_of (take n c.args.steps.items) ++ step_of c.in-Some.step ∷ []) b c.make.new.recorder in
-    let more : IsRun c.args.recorder (map step_of (take n c.args.steps.items) ++ step_of c.in-Some.step ∷ []) (map answer_of c.loop-step.answers.items ++ answer_of c.in-Ok.answer ∷ []) c.make.new.recorder =
-    run_more c.args.recorder c.loop-step.recorder c.make.new.recorder (map step_of (take n c.args.steps.items)) (map answer_of c.loop-step.answers.items) (step_of c.in-Some.step) (answer_of c.in-Ok.answer) c.loop-step.invariant.ran c.in-Ok.ensures.ok in
+    let P : List StepParts → Type 0 = λ a. IsRun c.args.recorder a (map answer_of c.push_reserved.new.self.items) c.make.new.self in
+    let Q : List AnswerParts → Type 0 = λ b. IsRun c.args.recorder (map step_of (take n c.args.steps.items) ++ step_of c.in-Some.step ∷ []) b c.make.new.self in
+    let more : IsRun c.args.recorder (map step_of (take n c.args.steps.items) ++ step_of c.in-Some.step ∷ []) (map answer_of c.loop-step.answers.items ++ answer_of c.in-Ok.answer ∷ []) c.make.new.self =
+    run_more c.args.recorder c.loop-step.recorder c.make.new.self (map step_of (take n c.args.steps.items)) (map answer_of c.loop-step.answers.items) (step_of c.in-Some.step) (answer_of c.in-Ok.answer) c.loop-step.invariant.ran c.in-Ok.ensures.ok in
     let own : All (OwnTo c.loop-step.recorder.layout) c.push_reserved.new.self.items =
     All-same (OwnTo c.loop-step.recorder.layout) c.push_reserved.new.self.items (c.loop-step.answers.items ++ c.in-Ok.answer ∷ []) pushed (All-push (OwnTo c.loop-step.recorder.layout) c.loop-step.answers.items c.in-Ok.answer c.loop-step.invariant.own c.in-Ok.ensures.own) in
     let behind = room_next n c.args.steps.items c.in-Some.step c.pop_front.new.self.items front in

@@ -1,0 +1,2 @@
+"$measure" calls
+"$measure" live

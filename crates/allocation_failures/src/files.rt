@@ -1,0 +1,220 @@
+//! The File of a record, what files write, and what is read back.
+
+use crate::common::{Heap, layout, setup};
+use crate::refusing::{
+    Consuming, Must, Outcome, Trial, memory_if, refuses, refuses_anew, right_if,
+};
+use crate::runs::{closed, ran};
+use crate::texts::{Pair as Texts, pair_in};
+use comtrade_read::{read, read_of_file};
+use comtrade_write::{
+    File, FileFault, Kind, Pair, WriteFault, cfg_bytes, dat_bytes, file_of, pair_of,
+};
+use dfr_channels::{Items, Layout, Memory, Setup};
+use dfr_program::read_of_record;
+use dfr_recorder::{Answer, Record, Recorder};
+use failing_allocator::Refusing;
+use std::alloc::Allocator;
+
+fn last_taken<A: Allocator>(answers: Vec<Answer<A>, A>) -> Option<Record<A>> {
+    let mut answers = answers;
+    match answers.pop() {
+        Some(Answer::Take(record)) => record,
+        _ => None,
+    }
+}
+
+/// The record of five scans around a trigger.
+fn record<A: Allocator + Copy>(alloc: A) -> Option<Record<A>> {
+    match ran(alloc) {
+        Some(ran) => last_taken(ran.answers),
+        None => None,
+    }
+}
+
+/// The File of its two texts.
+pub fn file<A: Allocator + Copy>(alloc: A, kind: Kind) -> Option<File<A>> {
+    let texts = pair_in(kind);
+    read(alloc, texts.cfg, texts.dat).ok()
+}
+
+fn is_text<A: Allocator>(written: Result<Vec<u8, A>, WriteFault>, wanted: &[u8]) -> bool {
+    match written {
+        Ok(bytes) => bytes.as_slice() == wanted,
+        Err(_) => false,
+    }
+}
+
+/// The file writes this configuration file.
+pub fn has_cfg<A: Allocator + Copy>(alloc: A, file: &File<A>, wanted: &[u8]) -> bool {
+    is_text(cfg_bytes(alloc, file), wanted)
+}
+
+/// The file writes these texts.
+pub fn is_file_of<A: Allocator + Copy>(alloc: A, file: &File<A>, wanted: Texts) -> bool {
+    has_cfg(alloc, file, wanted.cfg) && is_text(dat_bytes(alloc, file), wanted.dat)
+}
+
+/// What a File is made of.
+#[derive(Drop)]
+struct Taken<A: Allocator> {
+    alloc: A,
+    layout: Layout<A>,
+    record: Record<A>,
+}
+
+fn with_record<A: Allocator + Copy>(alloc: A, layout: Option<Layout<A>>) -> Option<Taken<A>> {
+    match (layout, record(alloc)) {
+        (Some(layout), Some(record)) => Some(Taken {
+            alloc,
+            layout,
+            record,
+        }),
+        _ => None,
+    }
+}
+
+/// The set-up without its status channel.
+fn without_status<A: Allocator + Copy>(alloc: A, setup: Setup<A>) -> Setup<A> {
+    let mut other = setup;
+    other.status = Items::of(Vec::new(alloc));
+    other
+}
+
+fn other_layout<A: Allocator + Copy>(alloc: A) -> Option<Layout<A>> {
+    match setup(alloc) {
+        Some(setup) => Layout::new(without_status(alloc, setup)).ok(),
+        None => None,
+    }
+}
+
+/// What a File is read or made from: a file's own texts, a record, or a record over a layout that isn't its own.
+#[derive(Drop)]
+enum Origin<'a> {
+    File(File<Heap<'a>>),
+    Record(Taken<Heap<'a>>),
+    Foreign(Taken<Heap<'a>>),
+}
+
+#[derive(Drop)]
+struct Own<'a> {
+    origin: Origin<'a>,
+    kind: Kind,
+}
+
+fn read_again(file: &File<Heap>, kind: Kind) -> Outcome {
+    let heap = *file.rows.allocator();
+    let again = read_of_file(heap, file);
+    heap.refuse_no_more();
+    match again {
+        Ok(again) => right_if(is_file_of(heap, &again, pair_in(kind))),
+        Err(fault) => memory_if(fault == WriteFault::Memory),
+    }
+}
+
+fn make(of: &Taken<Heap>, kind: Kind) -> Outcome {
+    let made = file_of(of.alloc, &of.layout, &of.record, kind);
+    of.alloc.refuse_no_more();
+    match made {
+        Ok(file) => right_if(is_file_of(of.alloc, &file, pair_in(kind))),
+        Err(fault) => memory_if(fault == FileFault::Memory),
+    }
+}
+
+fn refuse(of: &Taken<Heap>, kind: Kind) -> Outcome {
+    match file_of(of.alloc, &of.layout, &of.record, kind) {
+        Ok(_) => Outcome::Wrong,
+        Err(FileFault::Foreign) => Outcome::Right,
+        Err(FileFault::Memory) => Outcome::Memory,
+    }
+}
+
+impl Trial for Own<'_> {
+    fn call(&mut self) -> Outcome {
+        match &self.origin {
+            Origin::File(file) => read_again(file, self.kind),
+            Origin::Record(of) => make(of, self.kind),
+            Origin::Foreign(of) => refuse(of, self.kind),
+        }
+    }
+}
+
+fn own_text(heap: Heap, kind: Kind) -> Option<Own> {
+    let origin = Origin::File(file(heap, kind)?);
+    Some(Own { origin, kind })
+}
+
+fn own_record(heap: Heap, kind: Kind) -> Option<Own> {
+    let origin = Origin::Record(with_record(heap, layout(heap))?);
+    Some(Own { origin, kind })
+}
+
+fn foreign(heap: Heap, kind: Kind) -> Option<Own> {
+    let origin = Origin::Foreign(with_record(heap, other_layout(heap))?);
+    Some(Own { origin, kind })
+}
+
+/// A record of another layout is foreign, or an allocation failed.
+#[test]
+fn files_refused(rt: HostRuntime) {
+    let heap = Refusing::new(rt.alloc());
+    for kind in [Kind::Ascii, Kind::Binary] {
+        assert!(rt; refuses(&heap, own_text(&heap, kind), Must::Answer));
+        assert!(rt; refuses(&heap, own_record(&heap, kind), Must::AnswerEach));
+        assert!(rt; refuses(&heap, foreign(&heap, kind), Must::May));
+    }
+}
+
+/// The record that a recorder gives: the bytes of both its files, or what is read of them.
+#[derive(Drop)]
+struct Given<A: Allocator> {
+    alloc: A,
+    kind: Kind,
+    is_read: bool,
+}
+
+fn is_pair_of<A: Allocator>(pair: &Pair<A>, texts: Texts) -> bool {
+    pair.cfg.as_slice() == texts.cfg && pair.dat.as_slice() == texts.dat
+}
+
+impl<A: Allocator + Copy> Consuming for Given<A> {
+    type Made = Recorder<A>;
+
+    fn make(&self) -> Option<Recorder<A>> {
+        closed(self.alloc)
+    }
+
+    fn call(&self, recorder: Recorder<A>) -> Outcome {
+        let mut recorder = recorder;
+        match recorder.take() {
+            Some(record) if self.is_read => {
+                match read_of_record(self.alloc, recorder.layout(), &record, self.kind) {
+                    Ok(file) => right_if(file.rows.items().len() == 5),
+                    Err(Memory) => Outcome::Memory,
+                }
+            }
+            Some(record) => match pair_of(self.alloc, recorder.layout(), &record, self.kind) {
+                Ok(pair) => right_if(is_pair_of(&pair, pair_in(self.kind))),
+                Err(Memory) => Outcome::Memory,
+            },
+            None => Outcome::Wrong,
+        }
+    }
+}
+
+#[test]
+fn records_refused(rt: HostRuntime) {
+    let heap = Refusing::new(rt.alloc());
+    for (kind, is_read) in [
+        (Kind::Ascii, false),
+        (Kind::Binary, false),
+        (Kind::Binary, true),
+    ] {
+        let given = Given {
+            alloc: &heap,
+            kind,
+            is_read,
+        };
+        assert!(rt; refuses_anew(&heap, given, Must::Answer));
+    }
+}

@@ -1,0 +1,6 @@
+pub mod Safe
+pub mod Written
+pub mod Replayed
+pub mod Pieces
+pub mod Commands
+pub mod Asking

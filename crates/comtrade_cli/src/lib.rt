@@ -1,0 +1,19 @@
+//! The command line of the tools over COMTRADE files: what the words after the program's name ask for, the texts of help, and what
+//! the tools read and print: bytes up to a limit, texts of a file as printable characters alone, the records that a replay
+//! printed, and why a tool stopped.
+#![tactic(auto)]
+
+mod asked;
+mod commands;
+mod fault;
+mod input;
+mod output;
+mod records;
+mod text;
+
+pub use asked::{Answer, Asked, Names, answer_of};
+pub use fault::{ToolFault, fault_of};
+pub use input::read_up_to;
+pub use output::{flush_if_full, write_out};
+pub use records::{Next, Printed, next_record};
+pub use text::{kind_name, put, put_count, put_number, put_quoted, put_safe, put_signed, put_with};

@@ -1,0 +1,160 @@
+//! Whether a pair of files can be read, and its fault in words.
+
+ghost use Rattle.std.specs.Prelude.{◌≡◌, IfOk, true, false};
+ghost use Rattle.comtrade_read.specs.Verdicts.{IsFile};
+ghost use Rattle.comtrade_read.specs.Reads.{IsNoFile};
+
+use crate::describe::put_cfg_fault;
+use crate::describe_data::put_dat_fault;
+use crate::names::Counts;
+use comtrade_cli::{ToolFault, kind_name, put, put_count, put_safe, write_out};
+use comtrade_format::{Head, Kind};
+use comtrade_read::{Fault, Part, ReadFault, read_cfg, verdict_of};
+use std::alloc::{AllocError, Allocator};
+use std::io::Write;
+
+/// The bytes of two files, and what they are called.
+#[derive(Clone, Copy, Debug)]
+pub struct Pair<'a> {
+    pub cfg_name: &'a [u8],
+    pub cfg: &'a [u8],
+    pub dat_name: &'a [u8],
+    pub dat: &'a [u8],
+}
+
+fn counts_of<A: Allocator>(head: &Head<A>) -> Counts {
+    Counts {
+        analog: head.analog.items().len() as u64,
+        status: head.status.items().len() as u64,
+        rates: head.rates.items().len() as u64,
+    }
+}
+
+/// How many rows a head says there are.
+fn rows_of<A: Allocator>(head: &Head<A>) -> u64 {
+    match head.rates.items().last() {
+        Some(rate) => rate.endsamp,
+        None => 0,
+    }
+}
+
+/// The fault of a data file beside a configuration file that can be read.
+fn put_data_fault<A: Allocator + Copy>(
+    alloc: A,
+    out: &mut Vec<u8, A>,
+    pair: Pair<'_>,
+    fault: ReadFault,
+) -> Result<(), AllocError> {
+    match read_cfg(alloc, pair.cfg) {
+        Ok(head) => put_dat_fault(
+            alloc,
+            out,
+            counts_of(&head),
+            rows_of(&head),
+            pair.dat,
+            fault,
+        ),
+        Err(_) => Err(AllocError),
+    }
+}
+
+/// The line that names a fault: the file, the line, the field, what stands there and what is wanted.
+pub fn put_fault<A: Allocator + Copy>(
+    alloc: A,
+    out: &mut Vec<u8, A>,
+    pair: Pair<'_>,
+    found: Fault,
+) -> Result<(), AllocError> {
+    match found.part {
+        Part::Cfg => {
+            put_safe(out, pair.cfg_name)?;
+            put(out, ": ")?;
+            put_cfg_fault(alloc, out, pair.cfg, found.fault)?;
+        }
+        Part::Dat => {
+            put_safe(out, pair.dat_name)?;
+            put(out, ": ")?;
+            put_data_fault(alloc, out, pair, found.fault)?;
+        }
+    }
+    put(out, "\n")
+}
+
+/// What is said of a pair that can be read.
+#[derive(Clone, Copy)]
+struct Sound {
+    kind: Kind,
+    counts: Counts,
+    rows: u64,
+}
+
+fn sound_of<A: Allocator + Copy>(alloc: A, cfg: &[u8]) -> Option<Sound> {
+    match read_cfg(alloc, cfg) {
+        Ok(head) => Some(Sound {
+            kind: head.kind,
+            counts: counts_of(&head),
+            rows: rows_of(&head),
+        }),
+        Err(_) => None,
+    }
+}
+
+/// The line of a pair that can be read.
+fn put_sound<A: Allocator + Copy>(
+    alloc: A,
+    out: &mut Vec<u8, A>,
+    pair: Pair<'_>,
+) -> Result<(), AllocError> {
+    let Some(sound) = sound_of(alloc, pair.cfg) else {
+        return Err(AllocError);
+    };
+    put_safe(out, pair.cfg_name)?;
+    put(out, ", ")?;
+    put_safe(out, pair.dat_name)?;
+    put(out, ": no fault; ")?;
+    put(out, kind_name(sound.kind))?;
+    put(out, " data, ")?;
+    put_head_counts(out, sound.counts, sound.rows)?;
+    put(out, "\n")
+}
+
+/// The numbers of channels and rows.
+fn put_head_counts<A: Allocator>(
+    out: &mut Vec<u8, A>,
+    counts: Counts,
+    rows: u64,
+) -> Result<(), AllocError> {
+    put_count(
+        out,
+        counts.analog,
+        " analogue channel, ",
+        " analogue channels, ",
+    )?;
+    put_count(
+        out,
+        counts.status,
+        " status channel, ",
+        " status channels, ",
+    )?;
+    put_count(out, rows, " row", " rows")
+}
+
+/// Prints the first fault of a pair in words, or that it has none: true where it has none, and then the pair reads to a file;
+/// false where it has one, and then it reads to none.
+pub fn check_over<A: Allocator + Copy, W: Write>(
+    alloc: A,
+    pair: Pair<'_>,
+    w: &mut W,
+) -> Result<bool, ToolFault>
+    ensures sound { IfOk result (λ r. r ≡ true → IsFile pair.entry.cfg.now pair.entry.dat.now) }
+    ensures faulty { IfOk result (λ r. r ≡ false → IsNoFile pair.entry.cfg.now pair.entry.dat.now) }
+{
+    let mut out = Vec::new(alloc);
+    let found = verdict_of(alloc, pair.cfg, pair.dat)?;
+    match found {
+        None => put_sound(alloc, &mut out, pair)?,
+        Some(fault) => put_fault(alloc, &mut out, pair, fault)?,
+    }
+    write_out(w, &out)?;
+    Ok(found.is_none())
+}

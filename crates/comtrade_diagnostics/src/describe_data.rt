@@ -1,0 +1,105 @@
+//! A fault of a data file in words.
+
+use crate::describe::{line_at, put_field, put_field_count, put_place};
+use crate::names::{Counts, Place, row_field};
+use comtrade_cli::{put, put_count, put_with};
+use comtrade_read::ReadFault;
+use dfr_channels::lines_of;
+use std::alloc::{AllocError, Allocator};
+
+/// How many bytes a row of a binary data file has.
+fn row_size(counts: Counts) -> u64 {
+    let groups = counts.status.saturating_add(15) / 16;
+    counts
+        .analog
+        .saturating_add(groups)
+        .saturating_mul(2)
+        .saturating_add(8)
+}
+
+/// A binary data file of another size.
+fn put_length<A: Allocator>(
+    out: &mut Vec<u8, A>,
+    counts: Counts,
+    rows: u64,
+    size: usize,
+) -> Result<(), AllocError> {
+    put_count(out, size as u64, " byte stands", " bytes stand")?;
+    let wanted = rows.saturating_mul(row_size(counts));
+    put_with(out, " there; wanted are ", wanted)?;
+    put(out, ": ")?;
+    put_count(out, rows, " row of ", " rows of ")?;
+    put_count(out, row_size(counts), " byte", " bytes")
+}
+
+/// A row that can't be read.
+fn put_row<A: Allocator + Copy>(
+    alloc: A,
+    out: &mut Vec<u8, A>,
+    counts: Counts,
+    row: u64,
+    text: &[u8],
+    fault: ReadFault,
+) -> Result<(), AllocError> {
+    put_with(out, "line ", row)?;
+    match fault {
+        ReadFault::Number(_, field) => {
+            let (named, place) = row_field(counts, field);
+            match place {
+                Place::After => {}
+                _ => {
+                    put(out, " (")?;
+                    put_place(out, place)?;
+                    put(out, ")")?;
+                }
+            }
+            put_field(alloc, out, text, field, named)
+        }
+        _ => {
+            let wanted = counts
+                .analog
+                .saturating_add(counts.status)
+                .saturating_add(2);
+            let names =
+                "row number, time stamp, a sample for each analogue channel, a bit for each status channel";
+            put_field_count(alloc, out, text, wanted, names)
+        }
+    }
+}
+
+/// The rows that a configuration file says there are.
+fn put_rows<A: Allocator>(
+    out: &mut Vec<u8, A>,
+    line: u64,
+    rows: u64,
+    stands: &str,
+) -> Result<(), AllocError> {
+    put_with(out, "line ", line)?;
+    put(out, stands)?;
+    put(out, "; wanted are ")?;
+    put_count(out, rows, " row", " rows")?;
+    put(out, ", as the configuration file says")
+}
+
+/// A fault of a data file, whose configuration file says so many channels and rows.
+pub(crate) fn put_dat_fault<A: Allocator + Copy>(
+    alloc: A,
+    out: &mut Vec<u8, A>,
+    counts: Counts,
+    rows: u64,
+    dat: &[u8],
+    fault: ReadFault,
+) -> Result<(), AllocError> {
+    let line = match fault {
+        ReadFault::Missing(line) => {
+            return put_rows(out, line, rows, ": the file ends before this line");
+        }
+        ReadFault::Extra(line) => {
+            return put_rows(out, line, rows, ": stands after the last row");
+        }
+        ReadFault::Fields(line) | ReadFault::Number(line, _) => line,
+        _ => return put_length(out, counts, rows, dat.len()),
+    };
+    let lines = lines_of(alloc, dat)?;
+    put_row(alloc, out, counts, line, line_at(&lines, line), fault)
+}

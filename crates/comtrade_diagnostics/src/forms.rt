@@ -1,0 +1,126 @@
+//! Lines of a configuration file by their form, where a line of another kind is wanted: what stands there, and which counts say
+//! otherwise.
+
+ghost use Rattle.comtrade_diagnostics.specs.Places.{AreFew, IsPlace};
+
+use crate::describe::{line_at, put_line};
+use crate::names::{Counts, Place, place_at, rate_count_line};
+use comtrade_cli::{put, put_quoted};
+use dfr_channels::{Decimal, fields_of};
+use std::alloc::{AllocError, Allocator};
+
+/// What a line looks like, by its fields alone.
+#[derive(Clone, Copy, Debug, PartialEq, Eq)]
+enum Form {
+    Analog,
+    Status,
+    Number,
+    Rate,
+    Instant,
+    Type,
+}
+
+/// The form of a line that is wanted, where no other kind's is like it.
+fn form_wanted(place: Place) -> Option<Form> {
+    match place {
+        Place::Analog(_) => Some(Form::Analog),
+        Place::Status(_) => Some(Form::Status),
+        Place::Frequency | Place::RateCount | Place::TimeMultiplier => Some(Form::Number),
+        Place::Rate(_) => Some(Form::Rate),
+        Place::First | Place::Trigger => Some(Form::Instant),
+        Place::DataType => Some(Form::Type),
+        Place::Station | Place::Channels | Place::After => None,
+    }
+}
+
+fn is_number(text: &[u8]) -> bool {
+    Decimal::read(text).is_some()
+}
+
+fn is_type(text: &[u8]) -> bool {
+    text.starts_with(b"ASCII") || text.starts_with(b"BINARY")
+}
+
+/// The form of a line with these fields, where it has that of one kind alone.
+fn form_of(fields: &[&[u8]]) -> Option<Form> {
+    match fields {
+        [text] if is_type(text) => Some(Form::Type),
+        [text] if is_number(text) => Some(Form::Number),
+        [date, time] if date.contains(&b'/') && time.contains(&b':') => Some(Form::Instant),
+        [samp, endsamp] if is_number(samp) && is_number(endsamp) => Some(Form::Rate),
+        _ => match fields.len() {
+            5 => Some(Form::Status),
+            13 => Some(Form::Analog),
+            _ => None,
+        },
+    }
+}
+
+/// Whether counts that don't agree with the lines put a line of this form here. A frequency that looks like a rate has a decimal
+/// comma, and a rate that looks like a number has no last row.
+fn is_misplaced(form: Form, place: Place) -> bool {
+    match place {
+        Place::Analog(_) | Place::Status(_) => true,
+        Place::Frequency | Place::TimeMultiplier => form != Form::Rate,
+        _ => form != Form::Number,
+    }
+}
+
+/// The form of a line with these fields, where one of another form is wanted.
+fn other_form(fields: &[&[u8]], place: Place) -> Option<Form> {
+    let wanted = form_wanted(place)?;
+    let form = form_of(fields)?;
+    if form != wanted && is_misplaced(form, place) {
+        Some(form)
+    } else {
+        None
+    }
+}
+
+/// What a line of this form looks like.
+fn form_name(form: Form) -> &'static str {
+    match form {
+        Form::Analog => "an analogue channel",
+        Form::Status => "a status channel",
+        Form::Number => "a single number",
+        Form::Rate => "a rate",
+        Form::Instant => "an instant",
+        Form::Type => "the type of the data file",
+    }
+}
+
+/// The line whose counts say what stands here.
+fn counting_line(counts: Counts, place: Place) -> (u64, Place)
+    requires { AreFew counts }
+    ensures { IsPlace counts result.0 result.1 }
+{
+    match place {
+        Place::Analog(_) | Place::Status(_) | Place::Frequency | Place::RateCount => {
+            (2, Place::Channels)
+        }
+        _ => (rate_count_line(counts), Place::RateCount),
+    }
+}
+
+/// What a line looks like that stands where one of another kind is wanted, and the counts by which that one is wanted.
+pub(crate) fn put_other_form<A: Allocator + Copy>(
+    alloc: A,
+    out: &mut Vec<u8, A>,
+    lines: &[&[u8]],
+    counts: Counts,
+    line: u64,
+) -> Result<(), AllocError>
+    requires { AreFew counts }
+{
+    let place = place_at(counts, line);
+    let Some(form) = other_form(&fields_of(alloc, line_at(lines, line))?, place) else {
+        return Ok(());
+    };
+    put(out, "; the line looks like ")?;
+    put(out, form_name(form))?;
+    put(out, ", and ")?;
+    let (line, place) = counting_line(counts, place);
+    put_line(out, line, place)?;
+    put(out, " says ")?;
+    put_quoted(out, line_at(lines, line))
+}

@@ -1,0 +1,116 @@
+//! What a file of a kind can't hold, in words.
+
+use crate::check::Pair;
+use crate::describe::put_line_of;
+use comtrade_cli::{put, put_safe, put_signed, put_with};
+use comtrade_format::{File, Kind, WriteFault};
+use comtrade_read::read;
+use dfr_channels::Reading;
+use std::alloc::{AllocError, Allocator};
+
+/// A text's name by its field, and what a file can hold there.
+fn text_field(line: u64, field: u32) -> (&'static str, &'static str) {
+    const NAME: &str = "at most 64 printable ASCII characters";
+    match (line, field) {
+        (1, 1) => ("station", NAME),
+        (1, _) => ("device", NAME),
+        (_, 2) => ("id", NAME),
+        (_, 3) => ("phase", "at most 2 printable ASCII characters"),
+        (_, 4) => ("component", NAME),
+        _ => ("unit", "1 to 32 printable ASCII characters"),
+    }
+}
+
+fn put_text<A: Allocator + Copy>(
+    alloc: A,
+    out: &mut Vec<u8, A>,
+    cfg: &[u8],
+    (line, field): (u64, u32),
+) -> Result<(), AllocError> {
+    let (name, wanted) = text_field(line, field);
+    put_line_of(alloc, out, cfg, line, field, name)?;
+    put(out, "; a file that is written holds ")?;
+    put(out, wanted)?;
+    put(out, " there")
+}
+
+/// The sample of a row and a channel, both counted from 1.
+fn sample_in<A: Allocator>(file: &File<A>, row: u64, channel: u32) -> Option<i32> {
+    let row = usize::try_from(row.checked_sub(1)?).ok()?;
+    let at = (channel as usize).checked_sub(1)?;
+    match file.rows.items().get(row)?.values.items().get(at)? {
+        Reading::Value(sample) => Some(*sample),
+        Reading::Missing => None,
+    }
+}
+
+/// The same of the file that a pair reads to.
+fn sample_at<A: Allocator + Copy>(alloc: A, pair: Pair<'_>, row: u64, channel: u32) -> Option<i32> {
+    match read(alloc, pair.cfg, pair.dat) {
+        Ok(file) => sample_in(&file, row, channel),
+        Err(_) => None,
+    }
+}
+
+fn put_sample<A: Allocator + Copy>(
+    alloc: A,
+    out: &mut Vec<u8, A>,
+    pair: Pair<'_>,
+    (row, channel): (u64, u32),
+) -> Result<(), AllocError> {
+    put_with(out, "row ", row)?;
+    put_with(out, " (analogue channel ", channel as u64)?;
+    put(out, "): ")?;
+    if let Some(sample) = sample_at(alloc, pair, row, channel) {
+        put(out, "the sample ")?;
+        put_signed(out, sample as i64)?;
+        put(out, " stands there; ")?;
+    }
+    Ok(())
+}
+
+/// The line that says what a file of this kind can't hold of a pair, by its place.
+pub fn put_refusal<A: Allocator + Copy>(
+    alloc: A,
+    out: &mut Vec<u8, A>,
+    pair: Pair<'_>,
+    kind: Kind,
+    fault: WriteFault,
+) -> Result<(), AllocError> {
+    match fault {
+        WriteFault::Text(line, field) => {
+            put_safe(out, pair.cfg_name)?;
+            put(out, ": ")?;
+            put_text(alloc, out, pair.cfg, (line, field))?;
+        }
+        WriteFault::Value(row, channel) => {
+            put_safe(out, pair.dat_name)?;
+            put(out, ": ")?;
+            put_sample(alloc, out, pair, (row, channel))?;
+            put(
+                out,
+                match kind {
+                    Kind::Ascii => "ASCII data hold -99999 to 99998",
+                    Kind::Binary => "BINARY data hold -32767 to 32767",
+                },
+            )?;
+        }
+        WriteFault::Stamp(row) => {
+            put_safe(out, pair.dat_name)?;
+            put_with(out, ": row ", row)?;
+            put(
+                out,
+                ": its number or its stamp is greater than the data can hold: ",
+            )?;
+            put(
+                out,
+                match kind {
+                    Kind::Ascii => "9999999999",
+                    Kind::Binary => "4294967295 and 4294967294",
+                },
+            )?;
+        }
+        _ => put(out, "the numbers of the file don't agree")?,
+    }
+    put(out, "\n")
+}

@@ -1,0 +1,9 @@
+use Rattle.std.proofs.Common.{rules, append_assoc}
+use Rattle.std.proofs.lemmas.Result.{IfOk-equal}
+use Rattle.comtrade_format.specs.Cfg.{analog_fields}
+use Rattle.comtrade_format.proofs.Lines.{line-cons, line-last}
+use Rattle.comtrade_format.proofs.cfg.put_analog.Goals as goal
+
+pub returns : goal.returns
+unfolding analog_fields
+returns g c = simp (line-cons, line-last) (search (rules, IfOk-equal, append_assoc))

@@ -1,0 +1,10 @@
+pub mod Parts
+pub mod Lines
+pub mod Dates
+pub mod Numbered
+pub mod Cfg
+pub mod Ascii
+pub mod Binary
+pub mod Shape
+pub mod Refusals
+pub mod Data

@@ -1,0 +1,26 @@
+//! COMTRADE files of C37.111-1999: the value of a pair of files, and the bytes that are written of it.
+#![tactic(auto)]
+
+mod bounds;
+mod bytes;
+mod cfg;
+mod checks;
+mod dates;
+mod decimal;
+mod fault;
+mod fields;
+mod file;
+mod number;
+mod output;
+mod parts;
+mod rows_ascii;
+mod rows_binary;
+mod shape;
+mod texts;
+mod value_text;
+
+pub use bytes::{ascii_bytes, binary_bytes, cfg_bytes, dat_bytes};
+pub use decimal::put_decimal;
+pub use fault::WriteFault;
+pub use file::{File, Head, Kind, Rate, Row};
+pub use output::write_all_of;

@@ -1,4 +1,0 @@
-pub mod Safe
-pub mod Written
-pub mod Replayed
-pub mod Pieces

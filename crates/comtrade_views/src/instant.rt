@@ -1,0 +1,60 @@
+//! Instants as dates, and spans of time.
+
+use comtrade_cli::{put, put_number};
+use comtrade_values::civil_of;
+use itoa::Buffer;
+use jiff_core::civil::DateTime;
+use std::alloc::{AllocError, Allocator};
+
+/// A number with zeros in front, `width` digits at least.
+pub(crate) fn put_padded<A: Allocator>(
+    out: &mut Vec<u8, A>,
+    n: u64,
+    width: usize,
+) -> Result<(), AllocError> {
+    let mut buffer = Buffer::new();
+    let digits = buffer.format(n).as_bytes();
+    for _ in digits.len()..width {
+        out.extend_from_slice(b"0")?;
+    }
+    out.extend_from_slice(digits)
+}
+
+/// A number of two digits after a separator.
+fn put_two<A: Allocator>(out: &mut Vec<u8, A>, before: &str, n: u8) -> Result<(), AllocError> {
+    put(out, before)?;
+    put_padded(out, n as u64, 2)
+}
+
+fn put_civil<A: Allocator>(out: &mut Vec<u8, A>, civil: DateTime) -> Result<(), AllocError> {
+    put_padded(out, civil.date.year.unsigned_abs() as u64, 4)?;
+    put_two(out, "-", civil.date.month)?;
+    put_two(out, "-", civil.date.day)?;
+    put_two(out, " ", civil.time.hour)?;
+    put_two(out, ":", civil.time.minute)?;
+    put_two(out, ":", civil.time.second)?;
+    put(out, ".")?;
+    put_padded(out, (civil.time.subsec_nanosecond / 1000) as u64, 6)
+}
+
+/// Microseconds since 1970-01-01 00:00:00 as `yyyy-mm-dd hh:mm:ss.ssssss`.
+pub(crate) fn put_instant<A: Allocator>(
+    out: &mut Vec<u8, A>,
+    instant: i64,
+) -> Result<(), AllocError> {
+    match civil_of(instant) {
+        Some(civil) => put_civil(out, civil),
+        None => put(out, "?"),
+    }
+}
+
+/// Nanoseconds as milliseconds with three places.
+pub(crate) fn put_millis<A: Allocator>(out: &mut Vec<u8, A>, nanos: i64) -> Result<(), AllocError> {
+    let us = nanos.unsigned_abs().saturating_add(500) / 1000;
+    if nanos < 0 && us != 0 {
+        out.extend_from_slice(b"-")?;
+    }
+    put_number(out, us / 1000)?;
+    out.extend_from_slice(b".")?;
+    put_padded(out, us % 1000, 3)
+}

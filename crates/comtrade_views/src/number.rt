@@ -1,0 +1,214 @@
+//! Numbers of a pair as decimals: what stands in the file, and a scaled sample, exact where floats would round.
+
+ghost use Rattle.std.specs.Prelude.{OnOk};
+ghost use Rattle.comtrade_values.specs.Values as Values;
+
+use comtrade_format::put_decimal as put_exact;
+use comtrade_values::{exact_value, without_zeros};
+use dfr_channels::{AnalogChannel, Decimal};
+use itoa::Buffer;
+use std::alloc::{AllocError, Allocator};
+
+/// The number units * 10^exponent.
+#[derive(Clone, Copy, Debug)]
+pub(crate) struct Number {
+    pub(crate) units: i128,
+    pub(crate) exponent: i32,
+}
+
+/// The number with so few digits that its units are below `most`; the digits after them are left out.
+pub(crate) fn cut(number: Number, most: u128) -> Number {
+    let mut cut = number;
+    for _ in 0..40 {
+        if cut.units.unsigned_abs() < most {
+            break;
+        }
+        cut = Number {
+            units: cut.units / 10,
+            exponent: cut.exponent.saturating_add(1),
+        };
+    }
+    cut
+}
+
+/// A decimal, of at most 27 digits, so that products with samples and stamps fit.
+pub(crate) fn number_of(decimal: Decimal) -> Number {
+    let exact = Number {
+        units: decimal.units(),
+        exponent: -(decimal.places() as i32),
+    };
+    cut(exact, 1_000_000_000_000_000_000_000_000_000)
+}
+
+/// With zeros added after the units until the exponent is the lower one, as long as they fit.
+fn lowered(number: Number, exponent: i32) -> Number {
+    let mut low = number;
+    for _ in 0..80 {
+        if low.exponent <= exponent
+            || 10_000_000_000_000_000_000_000_000_000_000_000 <= low.units.unsigned_abs()
+        {
+            break;
+        }
+        low = Number {
+            units: low.units.saturating_mul(10),
+            exponent: low.exponent.saturating_sub(1),
+        };
+    }
+    low
+}
+
+/// With digits left out until the exponent is the higher one.
+fn raised(number: Number, exponent: i32) -> Number {
+    let mut high = number;
+    for _ in 0..160 {
+        if exponent <= high.exponent {
+            break;
+        }
+        high = Number {
+            units: high.units / 10,
+            exponent: high.exponent.saturating_add(1),
+        };
+    }
+    high
+}
+
+/// The sum: exact where it has at most 35 digits.
+fn sum(one: Number, other: Number) -> Number {
+    let (high, low) = if one.exponent < other.exponent {
+        (other, one)
+    } else {
+        (one, other)
+    };
+    let high = lowered(high, low.exponent);
+    let low = raised(low, high.exponent);
+    Number {
+        units: high.units.saturating_add(low.units),
+        exponent: high.exponent,
+    }
+}
+
+/// What a channel makes of its samples: a * x + b.
+#[derive(Clone, Copy, Debug)]
+pub(crate) struct Scale {
+    pub(crate) a: Decimal,
+    pub(crate) b: Decimal,
+}
+
+pub(crate) fn scale_of<A: Allocator>(channel: &AnalogChannel<A>) -> Scale {
+    Scale {
+        a: channel.a,
+        b: channel.b,
+    }
+}
+
+/// The value of a sample, near where it has more digits than a decimal can have.
+pub(crate) fn value_of(scale: Scale, sample: i32) -> Number {
+    let a = number_of(scale.a);
+    let product = Number {
+        units: a.units.saturating_mul(sample as i128),
+        exponent: a.exponent,
+    };
+    sum(product, number_of(scale.b))
+}
+
+/// The value of a sample: a * x + b, exactly and without zeros at its end, where each of both terms and the sum has at most
+/// 36 digits; else a value near it.
+pub(crate) fn put_sample<A: Allocator>(
+    out: &mut Vec<u8, A>,
+    scale: Scale,
+    sample: i32,
+) -> Result<(), AllocError>
+    ensures { OnOk result (Values.IsShort scale.a scale.b sample
+        → Values.AppendsValue out.old.items out.new.items (Values.value scale.a scale.b sample)) }
+{
+    match exact_value(scale.a, scale.b, sample) {
+        Some(value) => put_exact(out, without_zeros(value)),
+        None => put_value(out, value_of(scale, sample)),
+    }
+}
+
+/// The number rounded to six digits.
+pub(crate) fn rounded(number: Number) -> Number {
+    let seven = cut(number, 10_000_000);
+    if seven.units.unsigned_abs() < 1_000_000 {
+        return seven;
+    }
+    let half = if seven.units < 0 { -5 } else { 5 };
+    Number {
+        units: seven.units.saturating_add(half) / 10,
+        exponent: seven.exponent.saturating_add(1),
+    }
+}
+
+/// Without zeros at the end of the places.
+fn trimmed(number: Number) -> Number {
+    let mut short = number;
+    for _ in 0..120 {
+        if 0 <= short.exponent || short.units % 10 != 0 {
+            break;
+        }
+        short = Number {
+            units: short.units / 10,
+            exponent: short.exponent.saturating_add(1),
+        };
+    }
+    short
+}
+
+pub(crate) fn put_zeros<A: Allocator>(out: &mut Vec<u8, A>, n: usize) -> Result<(), AllocError> {
+    for _ in 0..n {
+        out.extend_from_slice(b"0")?;
+    }
+    Ok(())
+}
+
+/// The digits with a point before the last `places` of them, and a digit before the point.
+fn put_pointed<A: Allocator>(
+    out: &mut Vec<u8, A>,
+    digits: &[u8],
+    places: usize,
+) -> Result<(), AllocError> {
+    if places < digits.len() {
+        let (front, back) = digits.split_at(digits.len() - places);
+        out.extend_from_slice(front)?;
+        out.extend_from_slice(b".")?;
+        return out.extend_from_slice(back);
+    }
+    out.extend_from_slice(b"0.")?;
+    put_zeros(out, places.saturating_sub(digits.len()))?;
+    out.extend_from_slice(digits)
+}
+
+/// A number as a decimal without an exponent and without zeros at its end.
+pub(crate) fn put_value<A: Allocator>(
+    out: &mut Vec<u8, A>,
+    number: Number,
+) -> Result<(), AllocError> {
+    let number = trimmed(number);
+    if number.units < 0 {
+        out.extend_from_slice(b"-")?;
+    }
+    let mut buffer = Buffer::new();
+    let digits = buffer.format(number.units.unsigned_abs()).as_bytes();
+    let places = number.exponent.unsigned_abs() as usize;
+    if number.exponent < 0 {
+        return put_pointed(out, digits, places);
+    }
+    out.extend_from_slice(digits)?;
+    if number.units == 0 {
+        return Ok(());
+    }
+    put_zeros(out, places)
+}
+
+/// A decimal as text.
+pub(crate) fn put_decimal<A: Allocator>(
+    out: &mut Vec<u8, A>,
+    decimal: Decimal,
+) -> Result<(), AllocError> {
+    let exact = Number {
+        units: decimal.units(),
+        exponent: -(decimal.places() as i32),
+    };
+    put_value(out, exact)
+}

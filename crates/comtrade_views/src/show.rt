@@ -1,0 +1,200 @@
+//! What is in a pair of files, for people.
+
+use crate::instant::{put_instant, put_millis};
+use crate::number::put_decimal;
+use crate::peaks::{peaks_of, reading_at};
+use crate::show_analog::put_analog;
+use crate::show_status::{LISTED, put_more, put_status};
+use crate::times::{since_trigger, times_of, trigger_nanos};
+use comtrade_cli::{ToolFault, kind_name, put, put_count, put_safe, put_with, write_out};
+use comtrade_format::{File, Head, Rate, Row};
+use dfr_channels::Reading;
+use std::alloc::{AllocError, Allocator};
+use std::io::Write;
+
+/// When the rows were taken, in nanoseconds since the first instant, and when the trigger was.
+#[derive(Clone, Copy)]
+pub(crate) struct Clock<'a> {
+    pub(crate) times: &'a [Option<i64>],
+    pub(crate) trigger: i64,
+}
+
+/// When a row was taken, in milliseconds since the trigger.
+pub(crate) fn put_row_time<A: Allocator>(
+    out: &mut Vec<u8, A>,
+    clock: Clock<'_>,
+    row: usize,
+) -> Result<(), AllocError> {
+    match since_trigger(clock.times, row, clock.trigger) {
+        Some(nanos) => put_millis(out, nanos),
+        None => put_with(out, "row ", (row as u64).saturating_add(1)),
+    }
+}
+
+fn put_line<A: Allocator>(out: &mut Vec<u8, A>, name: &str, text: &[u8]) -> Result<(), AllocError> {
+    put(out, name)?;
+    put_safe(out, text)?;
+    put(out, "\n")
+}
+
+fn put_instants<A: Allocator>(
+    out: &mut Vec<u8, A>,
+    head: &Head<A>,
+    trigger: i64,
+) -> Result<(), AllocError> {
+    put(out, "first row  ")?;
+    put_instant(out, head.first)?;
+    put(out, "\ntrigger    ")?;
+    put_instant(out, head.trigger)?;
+    put(out, ", ")?;
+    put_millis(out, trigger)?;
+    put(out, " ms after the first row\nfrequency  ")?;
+    put_decimal(out, head.line_freq)?;
+    put(out, " Hz\n")
+}
+
+fn put_rate<A: Allocator>(out: &mut Vec<u8, A>, rate: &Rate) -> Result<(), AllocError> {
+    put(out, "rate       ")?;
+    put_decimal(out, rate.samp)?;
+    put_with(out, " scans/s to row ", rate.endsamp)?;
+    put(out, "\n")
+}
+
+/// The rates, as the file says them.
+fn put_rates<A: Allocator>(out: &mut Vec<u8, A>, head: &Head<A>) -> Result<(), AllocError> {
+    if head.nrates == 0 {
+        put(
+            out,
+            "rate       none; the stamps say when rows were taken\n",
+        )?;
+    } else {
+        for rate in head.rates.items() {
+            put_rate(out, rate)?;
+        }
+    }
+    Ok(())
+}
+
+/// How many rows there are, how they are written, and how long they last.
+fn put_data<A: Allocator>(
+    out: &mut Vec<u8, A>,
+    file: &File<A>,
+    clock: Clock<'_>,
+) -> Result<(), AllocError> {
+    put(out, "data       ")?;
+    put(out, kind_name(file.head.kind))?;
+    put(out, ", ")?;
+    put_count(out, file.rows.items().len() as u64, " row", " rows")?;
+    put(out, ", stamps in ")?;
+    put_decimal(out, file.head.timemult)?;
+    put(out, " us")?;
+    if let (Some(Some(first)), Some(Some(last))) = (clock.times.first(), clock.times.last()) {
+        put(out, ", ")?;
+        put_millis(out, last.saturating_sub(*first))?;
+        put(out, " ms long")?;
+    }
+    put(out, "\n")
+}
+
+fn put_top<A: Allocator>(
+    out: &mut Vec<u8, A>,
+    file: &File<A>,
+    clock: Clock<'_>,
+) -> Result<(), AllocError> {
+    put_line(out, "station    ", file.head.station.items())?;
+    put_line(out, "device     ", file.head.device.items())?;
+    put_instants(out, &file.head, clock.trigger)?;
+    put_rates(out, &file.head)?;
+    put_data(out, file, clock)
+}
+
+/// A run of rows in which a reading is missing.
+fn put_gap<A: Allocator>(
+    out: &mut Vec<u8, A>,
+    clock: Clock<'_>,
+    first: usize,
+    last: usize,
+) -> Result<(), AllocError> {
+    put(out, "  ")?;
+    put_row_time(out, clock, first)?;
+    put(out, " to ")?;
+    put_row_time(out, clock, last)?;
+    put_with(out, ", rows ", (first as u64).saturating_add(1))?;
+    put_with(out, " to ", (last as u64).saturating_add(1))?;
+    put(out, "\n")
+}
+
+/// The runs of rows in which a channel's reading is missing.
+fn put_gaps_of<A: Allocator>(
+    out: &mut Vec<u8, A>,
+    rows: &[Row<A>],
+    clock: Clock<'_>,
+    at: usize,
+) -> Result<(), AllocError> {
+    let mut count = 0u64;
+    let mut begun = None;
+    for (i, row) in rows.iter().enumerate() {
+        if reading_at(row, at) == Reading::Missing {
+            begun = Some(match begun {
+                Some(first) => first,
+                None => i,
+            });
+        } else if let Some(first) = begun {
+            if count < LISTED {
+                put_gap(out, clock, first, i.saturating_sub(1))?;
+            }
+            count = count.saturating_add(1);
+            begun = None;
+        }
+    }
+    if let Some(first) = begun {
+        if count < LISTED {
+            put_gap(out, clock, first, rows.len().saturating_sub(1))?;
+        }
+        count = count.saturating_add(1);
+    }
+    if LISTED < count {
+        put(out, " ")?;
+        put_more(out, count)?;
+        put(out, "\n")?;
+    }
+    Ok(())
+}
+
+/// The gaps of the channels that have any.
+fn put_gaps<A: Allocator>(
+    out: &mut Vec<u8, A>,
+    file: &File<A>,
+    clock: Clock<'_>,
+) -> Result<(), AllocError> {
+    for (i, channel) in file.head.analog.items().iter().enumerate() {
+        if peaks_of(file.rows.items(), i).missing != 0 {
+            let n = (i as u64).saturating_add(1);
+            put_with(out, "\nmissing readings of analogue channel ", n)?;
+            put(out, ", ")?;
+            put_safe(out, channel.id.items())?;
+            put(out, ", ms since the trigger\n")?;
+            put_gaps_of(out, file.rows.items(), clock, i)?;
+        }
+    }
+    Ok(())
+}
+
+/// Prints what is in a file.
+pub fn show_over<A: Allocator + Copy, W: Write>(
+    alloc: A,
+    file: &File<A>,
+    w: &mut W,
+) -> Result<(), ToolFault> {
+    let times = times_of(alloc, file)?;
+    let clock = Clock {
+        times: &times,
+        trigger: trigger_nanos(file),
+    };
+    let mut out = Vec::new(alloc);
+    put_top(&mut out, file, clock)?;
+    put_analog(alloc, &mut out, file, clock)?;
+    put_status(alloc, &mut out, file, clock)?;
+    put_gaps(&mut out, file, clock)?;
+    write_out(w, &out)
+}

@@ -1,0 +1,163 @@
+//! The table of analogue channels, with their extremes.
+
+use crate::number::{put_decimal, put_value, rounded, scale_of, value_of};
+use crate::peaks::{Peak, peaks_of};
+use crate::show::{Clock, put_row_time};
+use crate::table::{end_cell, end_row, put_cell, put_table};
+use comtrade_cli::{put, put_count, put_number, put_safe, put_signed};
+use comtrade_format::{File, Row};
+use dfr_channels::{AnalogChannel, Decimal, Side};
+use std::alloc::{AllocError, Allocator};
+
+fn put_text_cell<A: Allocator>(table: &mut Vec<u8, A>, text: &[u8]) -> Result<(), AllocError> {
+    put_safe(table, text)?;
+    end_cell(table)
+}
+
+/// Number, id, phase and component.
+pub(crate) fn put_names<A: Allocator>(
+    table: &mut Vec<u8, A>,
+    n: usize,
+    id: &[u8],
+    phase: &[u8],
+    component: &[u8],
+) -> Result<(), AllocError> {
+    put_number(table, n as u64)?;
+    end_cell(table)?;
+    put_text_cell(table, id)?;
+    put_text_cell(table, phase)?;
+    put_text_cell(table, component)
+}
+
+fn put_decimal_cell<A: Allocator>(
+    table: &mut Vec<u8, A>,
+    decimal: Decimal,
+) -> Result<(), AllocError> {
+    put_decimal(table, decimal)?;
+    end_cell(table)
+}
+
+/// `-32767 to 32767`
+fn put_range<A: Allocator>(
+    table: &mut Vec<u8, A>,
+    channel: &AnalogChannel<A>,
+) -> Result<(), AllocError> {
+    put_signed(table, channel.min as i64)?;
+    put(table, " to ")?;
+    put_signed(table, channel.max as i64)?;
+    end_cell(table)
+}
+
+/// `110000:100`
+fn put_ratio<A: Allocator>(
+    table: &mut Vec<u8, A>,
+    channel: &AnalogChannel<A>,
+) -> Result<(), AllocError> {
+    put_decimal(table, channel.primary)?;
+    put(table, ":")?;
+    put_decimal_cell(table, channel.secondary)
+}
+
+/// Unit, a, b, range, ratio and side.
+fn put_scale<A: Allocator>(
+    table: &mut Vec<u8, A>,
+    channel: &AnalogChannel<A>,
+) -> Result<(), AllocError> {
+    put_text_cell(table, channel.unit.items())?;
+    put_decimal_cell(table, channel.a)?;
+    put_decimal_cell(table, channel.b)?;
+    put_range(table, channel)?;
+    put_ratio(table, channel)?;
+    put_cell(
+        table,
+        match channel.side {
+            Side::Primary => "primary",
+            Side::Secondary => "secondary",
+        },
+    )
+}
+
+/// A channel's value at a peak, and when it was.
+fn put_peak<A: Allocator>(
+    table: &mut Vec<u8, A>,
+    clock: Clock<'_>,
+    channel: &AnalogChannel<A>,
+    peak: Peak,
+) -> Result<(), AllocError> {
+    put_value(table, rounded(value_of(scale_of(channel), peak.sample)))?;
+    end_cell(table)?;
+    put_row_time(table, clock, peak.row)?;
+    end_cell(table)
+}
+
+/// The least and the greatest value, and how many readings are missing.
+fn put_peaks<A: Allocator>(
+    table: &mut Vec<u8, A>,
+    rows: &[Row<A>],
+    clock: Clock<'_>,
+    channel: &AnalogChannel<A>,
+    at: usize,
+) -> Result<(), AllocError> {
+    let peaks = peaks_of(rows, at);
+    match peaks.extremes {
+        None => put(table, "\x1F\x1F\x1F\x1F")?,
+        Some((least, greatest)) => {
+            let (low, high) = if channel.a.units() < 0 {
+                (greatest, least)
+            } else {
+                (least, greatest)
+            };
+            put_peak(table, clock, channel, low)?;
+            put_peak(table, clock, channel, high)?;
+        }
+    }
+    put_number(table, peaks.missing)?;
+    end_row(table)
+}
+
+/// The rows of the table, a line of names above them.
+fn put_rows<A: Allocator>(
+    table: &mut Vec<u8, A>,
+    file: &File<A>,
+    clock: Clock<'_>,
+) -> Result<(), AllocError> {
+    put(
+        table,
+        "n\x1Fid\x1Fphase\x1Fcomponent\x1Funit\x1Fa\x1Fb\x1Frange\x1Fratio\x1Fside\x1Fleast\x1Fat\x1Fgreatest\x1Fat\x1Fmissing\n",
+    )?;
+    for (i, channel) in file.head.analog.items().iter().enumerate() {
+        put_names(
+            table,
+            i.saturating_add(1),
+            channel.id.items(),
+            channel.phase.items(),
+            channel.component.items(),
+        )?;
+        put_scale(table, channel)?;
+        put_peaks(table, file.rows.items(), clock, channel, i)?;
+    }
+    Ok(())
+}
+
+/// The analogue channels.
+pub(crate) fn put_analog<A: Allocator + Copy>(
+    alloc: A,
+    out: &mut Vec<u8, A>,
+    file: &File<A>,
+    clock: Clock<'_>,
+) -> Result<(), AllocError> {
+    put(out, "\n")?;
+    put_count(
+        out,
+        file.head.analog.items().len() as u64,
+        " analogue channel",
+        " analogue channels",
+    )?;
+    put(
+        out,
+        "; values are a*x + b, times are ms since the trigger\n",
+    )?;
+    let mut table = Vec::new(alloc);
+    put_rows(&mut table, file, clock)?;
+    put_table(alloc, out, &table)
+}

@@ -1,0 +1,107 @@
+//! The table of status channels, with their changes.
+
+use crate::peaks::bit_at;
+use crate::show::{Clock, put_row_time};
+use crate::show_analog::put_names;
+use crate::table::{end_row, put_cell, put_table};
+use comtrade_cli::{put, put_count, put_with};
+use comtrade_format::{File, Row};
+use dfr_channels::StatusChannel;
+use std::alloc::{AllocError, Allocator};
+
+/// How many changes of a contact, and gaps of a channel, are listed.
+pub(crate) const LISTED: u64 = 20;
+
+/// A change of a contact.
+fn put_change<A: Allocator>(
+    table: &mut Vec<u8, A>,
+    clock: Clock<'_>,
+    row: usize,
+    bit: bool,
+    n: u64,
+) -> Result<(), AllocError> {
+    if n != 0 {
+        put(table, ", ")?;
+    }
+    put(table, if bit { "1 at " } else { "0 at " })?;
+    put_row_time(table, clock, row)
+}
+
+/// What stands after the listed ones.
+pub(crate) fn put_more<A: Allocator>(out: &mut Vec<u8, A>, count: u64) -> Result<(), AllocError> {
+    if LISTED < count {
+        put_with(out, " and ", count.saturating_sub(LISTED))?;
+        put(out, " more")?;
+    }
+    Ok(())
+}
+
+/// A contact's bit in the first row, and its changes.
+fn put_changes<A: Allocator>(
+    table: &mut Vec<u8, A>,
+    rows: &[Row<A>],
+    clock: Clock<'_>,
+    at: usize,
+) -> Result<(), AllocError> {
+    let mut count = 0u64;
+    let mut before = None;
+    for (i, row) in rows.iter().enumerate() {
+        let bit = bit_at(row, at);
+        if before.is_none() {
+            put_cell(table, if bit { "1" } else { "0" })?;
+        } else if before != Some(bit) {
+            if count < LISTED {
+                put_change(table, clock, i, bit, count)?;
+            }
+            count = count.saturating_add(1);
+        }
+        before = Some(bit);
+    }
+    put_more(table, count)?;
+    end_row(table)
+}
+
+fn put_contact<A: Allocator>(
+    table: &mut Vec<u8, A>,
+    channel: &StatusChannel<A>,
+    n: usize,
+) -> Result<(), AllocError> {
+    put_names(
+        table,
+        n,
+        channel.id.items(),
+        channel.phase.items(),
+        channel.component.items(),
+    )?;
+    put_cell(table, if channel.normal { "1" } else { "0" })
+}
+
+/// The status channels.
+pub(crate) fn put_status<A: Allocator + Copy>(
+    alloc: A,
+    out: &mut Vec<u8, A>,
+    file: &File<A>,
+    clock: Clock<'_>,
+) -> Result<(), AllocError> {
+    let channels = file.head.status.items();
+    put(out, "\n")?;
+    put_count(
+        out,
+        channels.len() as u64,
+        " status channel\n",
+        " status channels\n",
+    )?;
+    if channels.is_empty() {
+        return Ok(());
+    }
+    let mut table = Vec::new(alloc);
+    put(
+        &mut table,
+        "n\x1Fid\x1Fphase\x1Fcomponent\x1Fnormal\x1Fat first\x1Fchanges\n",
+    )?;
+    for (i, channel) in channels.iter().enumerate() {
+        put_contact(&mut table, channel, i.saturating_add(1))?;
+        put_changes(&mut table, file.rows.items(), clock, i)?;
+    }
+    put_table(alloc, out, &table)
+}

@@ -1,8 +1,0 @@
-use Rattle.std.proofs.Common.{rules, append_assoc}
-use Rattle.std.proofs.lemmas.List.Concat.{flat_map-append}
-use Rattle.comtrade_write.specs.Cfg.{channel_lines}
-use Rattle.comtrade_write.proofs.cfg.put_channels.Goals as goal
-
-pub returns : goal.returns
-unfolding channel_lines
-returns g c = search (rules, append_assoc, flat_map-append)

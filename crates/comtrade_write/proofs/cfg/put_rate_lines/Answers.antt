@@ -1,8 +1,0 @@
-use Rattle.std.proofs.Common.{rules, append_assoc}
-use Rattle.std.proofs.lemmas.Result.{IfOk-equal}
-use Rattle.comtrade_write.specs.Cfg.{rate_lines}
-use Rattle.comtrade_write.proofs.cfg.put_rate_lines.Goals as goal
-
-pub returns : goal.returns
-unfolding rate_lines
-returns g c = search (rules, IfOk-equal, append_assoc)

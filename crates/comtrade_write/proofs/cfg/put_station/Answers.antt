@@ -1,9 +1,0 @@
-use Rattle.std.proofs.Common.{rules, append_assoc}
-use Rattle.std.proofs.lemmas.Result.{IfOk-equal}
-use Rattle.comtrade_write.specs.Cfg.{names_fields}
-use Rattle.comtrade_write.proofs.Lines.{line-cons, line-last}
-use Rattle.comtrade_write.proofs.cfg.put_station.Goals as goal
-
-pub returns : goal.returns
-unfolding names_fields
-returns g c = simp (line-cons, line-last) (search (rules, IfOk-equal, append_assoc))

@@ -1,8 +1,0 @@
-use Rattle.std.proofs.Common.{◌≡◌, ◌+◌, drop}
-use Rattle.dfr_channels.specs.Faults.{◌or◌}
-use Rattle.comtrade_write.specs.Refusals.{rows_refusal, rows_from, stamps_from}
-use Rattle.comtrade_write.proofs.checks.rows_fault.Given as goal
-
--- what is still to be looked at, and the first stamp's fault so far, answer for all of it
-abbrev pub invariant-loop-i : goal.invariant-loop-i
-invariant-loop-i g l = (rows_from l.m (1 + l.i) (drop l.i l.rows) or l.late or stamps_from l.m (1 + l.i) (drop l.i l.rows)) ≡ rows_refusal l.m l.rows

@@ -1,5 +1,0 @@
-use Rattle.std.proofs.Common.{rules, tests}
-use Rattle.comtrade_write.proofs.fields.end_line.Goals as goal
-
-pub returns : goal.returns
-returns g c = search (tests, rules)

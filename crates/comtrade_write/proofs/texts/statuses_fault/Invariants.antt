@@ -1,7 +1,0 @@
-use Rattle.std.proofs.Common.{◌≡◌, ◌+◌, drop}
-use Rattle.comtrade_write.specs.Numbered.{first_from}
-use Rattle.comtrade_write.specs.Refusals.{status_refusal}
-use Rattle.comtrade_write.proofs.texts.statuses_fault.Given as goal
-
-abbrev pub invariant-loop-i : goal.invariant-loop-i
-invariant-loop-i g l = first_from status_refusal (l.from + l.i) (drop l.i l.channels) ≡ first_from status_refusal l.from l.channels

@@ -1,0 +1,45 @@
+//! What the types of decimals, channels and layouts keep of their numbers. Each function here does nothing: its contract states it.
+
+ghost use Rattle.std.specs.List.{All};
+ghost use Rattle.dfr_channels.specs.Spelling.{IsNumber};
+ghost use Rattle.dfr_channels.specs.Decimals.{HasDecimals};
+
+use crate::channel::AnalogChannel;
+use crate::decimal::Decimal;
+use crate::layout::Layout;
+use std::alloc::Allocator;
+
+/// Units strictly between -10^36 and 10^36, and at most 80 places.
+pub fn decimal_is_number(decimal: Decimal)
+    ensures { IsNumber decimal }
+{
+    let _units = decimal.units();
+}
+
+fn channel_has_numbers<A: Allocator>(channel: &AnalogChannel<A>)
+    ensures { HasDecimals channel.now }
+{
+    decimal_is_number(channel.a);
+    decimal_is_number(channel.b);
+    decimal_is_number(channel.skew);
+    decimal_is_number(channel.primary);
+    decimal_is_number(channel.secondary);
+}
+
+/// Every number of the channels is one that a decimal holds.
+pub fn channels_have_numbers<A: Allocator>(channels: &[AnalogChannel<A>])
+    ensures { All HasDecimals channels.now }
+{
+    for channel in channels {
+        channel_has_numbers(channel);
+    }
+}
+
+/// Every number of a layout's channels is one that a decimal holds, and so is its line frequency.
+pub fn layout_has_numbers<A: Allocator>(layout: &Layout<A>)
+    ensures analog { All HasDecimals layout.now.analog }
+    ensures line_freq { IsNumber layout.now.line_freq }
+{
+    channels_have_numbers(layout.analog());
+    decimal_is_number(layout.line_freq());
+}

@@ -1,0 +1,17 @@
+//! Single calls of the recorder, the writers and the reader, with 32 analogue and 64 status channels.
+
+mod clock;
+mod files;
+mod numbers;
+mod recorders;
+mod station;
+
+pub use crate::calls::clock::Amount;
+use anyhow::Result;
+use std::alloc::AllocGlobal;
+use std::rt::Clock;
+
+pub fn measure<R: Clock + Print + AllocGlobal>(rt: &R, amount: Amount) -> Result<()> {
+    recorders::measure(rt, amount)?;
+    files::measure(rt, amount)
+}

@@ -1,0 +1,131 @@
+//! Writing and reading the files of one record.
+
+ghost use Rattle.std.specs.Prelude.{◌+◌, ◌<◌, length};
+
+use crate::calls::clock::{Amount, Least, now};
+use crate::calls::numbers::Numbers;
+use crate::calls::station::recorder;
+use anyhow::{Context, Result};
+use comtrade_read::{read_cfg, read_dat};
+use comtrade_write::{File, Head, Kind, cfg_bytes, dat_bytes, file_of};
+use dfr_recorder::{Record, Recorder};
+use std::alloc::Global;
+use std::rt::Clock;
+
+fn scan_one(alloc: Global, recorder: &mut Recorder, numbers: &mut Numbers) -> Result<()> {
+    let scan = numbers.scan(alloc)?;
+    recorder.scan(scan).ok().context("a lawful scan")?;
+    Ok(())
+}
+
+/// A record from its trigger on, with so many scans after it.
+fn record(alloc: Global, recorder: &mut Recorder, post: u32) -> Result<Record> {
+    let mut numbers = Numbers::new(3);
+    scan_one(alloc, recorder, &mut numbers)?;
+    recorder.trigger().ok().context("a record opens")?;
+    for _ in 0..post {
+        scan_one(alloc, recorder, &mut numbers)?;
+    }
+    recorder.take().context("a closed record")
+}
+
+/// The File of a record of so many scans.
+fn file(alloc: Global, rows: u32, kind: Kind) -> Result<File> {
+    let post = rows.saturating_sub(1);
+    let mut recorder = recorder(alloc, 0, post, 0)?;
+    let record = record(alloc, &mut recorder, post)?;
+    file_of(alloc, recorder.layout(), &record, kind)
+        .ok()
+        .context("a record of this layout")
+}
+
+fn write_once<R: Clock + AllocGlobal>(rt: &R, file: &File, least: &mut Least) -> Result<()> {
+    let start = now(rt)?;
+    let written = dat_bytes(rt.alloc(), file).ok().context("a lawful file")?;
+    least.add(start.elapsed(rt)?);
+    drop(written);
+    Ok(())
+}
+
+/// Reads the data of a head, and drops the File after its time was taken.
+fn read_rows<R: Clock + AllocGlobal>(
+    rt: &R,
+    head: Head,
+    dat: &[u8],
+    least: &mut Least,
+) -> Result<()>
+    requires { length head.analog + length head.status < 1000000 }
+{
+    let start = now(rt)?;
+    let read = read_dat(rt.alloc(), head, dat);
+    let time = start.elapsed(rt);
+    let is_read = read.is_ok();
+    drop(read);
+    is_read.then_some(()).context("its own data")?;
+    least.add(time?);
+    Ok(())
+}
+
+fn read_once<R: Clock + AllocGlobal>(
+    rt: &R,
+    cfg: &[u8],
+    dat: &[u8],
+    least: &mut Least,
+) -> Result<()> {
+    let head = read_cfg(rt.alloc(), cfg).ok().context("its own text")?;
+    read_rows(rt, head, dat, least)
+}
+
+fn measure_writing<R: Clock + Print + AllocGlobal>(
+    rt: &R,
+    amount: Amount,
+    file: &File,
+    name: &str,
+    size: u64,
+) -> Result<()> {
+    let mut least = Least::none();
+    for _ in 0..amount.runs {
+        write_once(rt, file, &mut least)?;
+    }
+    least.print(rt, amount, name, size)?;
+    Ok(())
+}
+
+fn measure_reading<R: Clock + Print + AllocGlobal>(
+    rt: &R,
+    amount: Amount,
+    texts: (&[u8], &[u8]),
+    name: &str,
+) -> Result<()> {
+    let (cfg, dat) = texts;
+    let mut least = Least::none();
+    for _ in 0..amount.runs {
+        read_once(rt, cfg, dat, &mut least)?;
+    }
+    least.print(rt, amount, name, dat.len() as u64)?;
+    Ok(())
+}
+
+/// The texts of the two files.
+fn texts(alloc: Global, file: &File) -> Result<(Vec<u8>, Vec<u8>)> {
+    let cfg = cfg_bytes(alloc, file).ok().context("a lawful file")?;
+    let dat = dat_bytes(alloc, file).ok().context("a lawful file")?;
+    Ok((cfg, dat))
+}
+
+fn measure_kind<R: Clock + Print + AllocGlobal>(
+    rt: &R,
+    amount: Amount,
+    kind: Kind,
+    names: (&str, &str),
+) -> Result<()> {
+    let file = file(rt.alloc(), amount.rows, kind)?;
+    let (cfg, dat) = texts(rt.alloc(), &file)?;
+    measure_writing(rt, amount, &file, names.0, dat.len() as u64)?;
+    measure_reading(rt, amount, (&cfg, &dat), names.1)
+}
+
+pub fn measure<R: Clock + Print + AllocGlobal>(rt: &R, amount: Amount) -> Result<()> {
+    measure_kind(rt, amount, Kind::Ascii, ("write ascii", "read ascii"))?;
+    measure_kind(rt, amount, Kind::Binary, ("write binary", "read binary"))
+}

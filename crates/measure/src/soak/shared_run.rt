@@ -1,0 +1,93 @@
+//! A recorder that threads share, from opening to end.
+
+ghost use Rattle.std.specs.Prelude.{◌≡◌};
+
+use crate::soak::chance::Chance;
+use crate::soak::desk::{Acquiring, Desk, Heap, Held};
+use crate::soak::ending::{Trouble, end_desk, put_ends};
+use crate::soak::given::{Given, Lists};
+use crate::soak::out::Out;
+use crate::soak::plan::{Plan, Way};
+use crate::soak::threads::{at_once, in_order};
+use crate::soak::told::put_callers;
+use dfr_live::{Opened, Session, Token, open};
+use std::alloc::{AllocGlobal, Allocator, Global};
+use std::marker::Brand;
+use std::sync::{Mutex, Wait};
+use std::thread::Threads;
+
+fn held<A: Allocator>(alloc: Global, tokens: Vec<Token<A>, A>) -> Vec<Mutex<Held<A>>> {
+    let mut list = Vec::new(alloc);
+    for token in tokens {
+        let held = Held {
+            token,
+            notes: Vec::new(alloc),
+        };
+        let _pushed = list.push(Mutex::new(held)).is_ok();
+    }
+    list
+}
+
+fn desk_of<'h, N: Session<A>, A: Allocator + Copy>(
+    alloc: Global,
+    heap: Heap<'h>,
+    opened: Opened<A>,
+    lists: Lists<A>,
+    plan: Plan,
+) -> Desk<'h, N, A>
+    requires { (opened.opening ≡ N.opening) × (opened.lane ≡ N.lane)
+        × (opened.seats ≡ N.seats) }
+{
+    let Lists { samples, works } = lists;
+    let (shared, source, tokens) = opened.share::<N>();
+    Desk {
+        heap,
+        seed: plan.seed,
+        rounds: plan.rounds,
+        shared,
+        acquiring: Mutex::new(Acquiring {
+            source,
+            samples,
+            seen: Vec::new(alloc),
+            full: 0,
+        }),
+        tokens: held(alloc, tokens),
+        works: Mutex::new(works),
+    }
+}
+
+fn named<
+    N: Session<A> + Send + Sync,
+    A: Allocator + Copy + Send + Sync,
+    R: Wait + Threads + Sync + AllocGlobal,
+>(rt: &R, out: &mut Out, heaps: (Heap, A), opened: Opened<A>, lists: Lists<A>, plan: Plan)
+    requires { (opened.opening ≡ N.opening) × (opened.lane ≡ N.lane)
+        × (opened.seats ≡ N.seats) }
+{
+    let (heap, alloc) = heaps;
+    let desk = desk_of::<N, A>(rt.alloc(), heap, opened, lists, plan);
+    let started = match plan.way {
+        Way::Orderly => in_order(rt, &desk, plan.threads),
+        _ => at_once(rt, &desk, plan.threads),
+    };
+    heap.refuse_none();
+    put_callers(rt, out, &desk, started);
+    let mut chance = Chance::of(plan.seed, 2000);
+    let trouble = Trouble::by(&mut chance);
+    let ends = end_desk(heap, alloc, desk, &mut chance, trouble);
+    put_ends(out, trouble, ends);
+}
+
+pub fn run<A: Allocator + Copy + Send + Sync, R: Wait + Threads + Sync + AllocGlobal>(
+    rt: &R,
+    out: &mut Out,
+    (heap, alloc): (Heap, A),
+    given: Given<A>,
+    plan: Plan,
+) {
+    let Given { recorder, lists } = given;
+    match open(alloc, recorder, plan.lane, plan.seats) {
+        Ok(opened) => named::<Brand, A, R>(rt, out, (heap, alloc), opened, lists, plan),
+        Err((_, _)) => out.put("not opened\n"),
+    }
+}

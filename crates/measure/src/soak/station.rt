@@ -1,0 +1,226 @@
+//! `run_live` over a feed and a sink that pause and fail.
+
+use crate::soak::chance::Chance;
+use crate::soak::desk::Heap;
+use crate::soak::given::{Given, Lists, Sample, Work};
+use crate::soak::notes::text_sum;
+use crate::soak::out::Out;
+use crate::soak::plan::Plan;
+use crate::soak::told::put_ended;
+use comtrade_write::Kind;
+use dfr_live::{
+    EndFault, Fed, Feed, LiveFault, LiveReport, OpenFault, Order, Orders, Sink, run_live,
+};
+use dfr_recorder::{Extent, Recorder};
+use std::alloc::{AllocGlobal, Allocator};
+use std::collections::VecDeque;
+use std::sync::Wait;
+use std::thread::Threads;
+
+/// Counts calls, and fails at the nth.
+#[derive(Clone, Copy)]
+struct Failing {
+    left: u64,
+    chance: Chance,
+}
+
+impl Failing {
+    /// It fails in some of the runs, at a call below this one.
+    fn of(plan: Plan, user: u64, most: u64) -> Failing {
+        let mut chance = Chance::of(plan.seed, user);
+        let left = if chance.below(4) == 0 {
+            chance.below(most).saturating_add(1)
+        } else {
+            u64::MAX
+        };
+        Failing { left, chance }
+    }
+
+    fn fails(&mut self) -> bool {
+        self.left = self.left.saturating_sub(1);
+        self.chance.pause(60);
+        self.left == 0
+    }
+}
+
+#[derive(Drop)]
+struct Samples<A: Allocator> {
+    list: VecDeque<Sample<A>, A>,
+    failing: Failing,
+}
+
+impl<A: Allocator> Feed<A> for Samples<A> {
+    fn next(&mut self) -> Result<Fed<A>, u32> {
+        if self.failing.fails() {
+            return Err(7);
+        }
+        if self.failing.chance.below(4) == 0 {
+            return Ok(Fed::NotYet);
+        }
+        match self.list.pop_front() {
+            Some(Sample::Scan(scan)) => Ok(Fed::Scan(scan)),
+            Some(Sample::Lost) => Ok(Fed::Lost),
+            None => Ok(Fed::Done),
+        }
+    }
+}
+
+#[derive(Drop)]
+struct Works<A: Allocator> {
+    list: VecDeque<(u64, Work<A>), A>,
+}
+
+impl<A: Allocator> Orders<A> for Works<A> {
+    fn next(&mut self) -> Option<(u64, Order<A>)> {
+        match self.list.pop_front()? {
+            (place, Work::Rules(_, rules)) => Some((place, Order::SetRules(rules))),
+            (place, _) => Some((place, Order::Trigger)),
+        }
+    }
+}
+
+/// A record's extent, and numbers that stand for its files.
+type Files = (Extent, u64, u64);
+
+#[derive(Drop)]
+struct Slow {
+    got: Vec<Files>,
+    failing: Failing,
+}
+
+impl Sink for Slow {
+    fn put(&mut self, extent: Extent, cfg: &[u8], dat: &[u8]) -> Result<(), u32> {
+        if self.failing.fails() {
+            return Err(9);
+        }
+        let files = (extent, text_sum(cfg), text_sum(dat));
+        if self.got.push(files).is_err() {
+            return Err(10);
+        }
+        Ok(())
+    }
+}
+
+fn put_files(out: &mut Out, got: &[Files]) {
+    for (extent, cfg, dat) in got {
+        out.put("sink ");
+        out.extent(*extent);
+        out.item(" ", *cfg);
+        out.item(" ", *dat);
+        out.put("\n");
+    }
+}
+
+type Report<A> = Result<LiveReport<A>, LiveFault>;
+
+fn put_code(out: &mut Out, word: &str, code: u32) {
+    out.item(word, code as u64);
+    out.put(")\n");
+}
+
+fn put_fault(out: &mut Out, fault: LiveFault) {
+    match fault {
+        LiveFault::Feed(code) => put_code(out, "fault Feed(", code),
+        LiveFault::Sink(code) => put_code(out, "fault Sink(", code),
+        LiveFault::Turns => out.put("fault Turns\n"),
+        LiveFault::Counter => out.put("fault Counter\n"),
+        LiveFault::Memory => out.put("fault Memory\n"),
+        LiveFault::Open(OpenFault::Memory) => out.put("fault Open(Memory)\n"),
+        LiveFault::Open(_) => out.put("fault Open\n"),
+        LiveFault::End(EndFault::Memory) => out.put("fault End(Memory)\n"),
+        LiveFault::End(_) => out.put("fault End\n"),
+    }
+}
+
+fn put_report<A: Allocator + Copy>(out: &mut Out, report: Report<A>) {
+    match report {
+        Ok(report) => {
+            out.item("report ", report.stepped);
+            out.item(" ", report.refused);
+            out.item(" ", report.records);
+            out.put("\n");
+            put_ended(out, report.ended);
+        }
+        Err(fault) => put_fault(out, fault),
+    }
+}
+
+/// What the sink got; how many calls of the feed and of the sink were to come before one fails, and
+/// whether an allocation was refused.
+fn put_devices(out: &mut Out, got: &[Files], (feed, sink): (u64, u64), refused: bool) {
+    put_files(out, got);
+    out.item("to come ", feed);
+    out.item(" ", sink);
+    out.put(if refused { " true\n" } else { " false\n" });
+}
+
+fn kind_of(plan: Plan) -> Kind {
+    if plan.seats % 2 == 0 {
+        Kind::Ascii
+    } else {
+        Kind::Binary
+    }
+}
+
+fn refuse_by_chance(heap: Heap, plan: Plan) {
+    let mut chance = Chance::of(plan.seed, 3000);
+    let number = if chance.below(4) == 0 {
+        chance.below(plan.rounds).saturating_add(1)
+    } else {
+        u64::MAX / 2
+    };
+    heap.refuse(number);
+}
+
+fn live<'h, R: Wait + Threads + Sync>(
+    rt: &R,
+    heap: Heap<'h>,
+    recorder: Recorder<Heap<'h>>,
+    plan: Plan,
+    feed: &mut Samples<Heap<'h>>,
+    orders: &mut Works<Heap<'h>>,
+    sink: &mut Slow,
+) -> Report<Heap<'h>> {
+    refuse_by_chance(heap, plan);
+    run_live(
+        rt,
+        heap,
+        recorder,
+        plan.lane,
+        kind_of(plan),
+        1_000_000_000,
+        feed,
+        orders,
+        sink,
+    )
+}
+
+pub fn run<'h, R: Wait + Threads + Sync + AllocGlobal>(
+    rt: &R,
+    out: &mut Out,
+    heap: Heap<'h>,
+    given: Given<Heap<'h>>,
+    plan: Plan,
+) {
+    let Given { recorder, lists } = given;
+    let Lists { samples, works } = lists;
+    let mut feed = Samples {
+        list: samples,
+        failing: Failing::of(plan, 11, plan.rounds),
+    };
+    let mut orders = Works { list: works };
+    let mut sink = Slow {
+        got: Vec::new(rt.alloc()),
+        failing: Failing::of(plan, 12, 8),
+    };
+    let report = live(rt, heap, recorder, plan, &mut feed, &mut orders, &mut sink);
+    let refused = heap.has_refused();
+    heap.refuse_none();
+    put_devices(
+        out,
+        &sink.got,
+        (feed.failing.left, sink.failing.left),
+        refused,
+    );
+    put_report(out, report);
+}
