@@ -4,9 +4,9 @@ use crate::refusing::{
     Consuming, Must, Outcome, Trial, memory_if, refuses, refuses_anew, right_if,
 };
 use crate::runs::{Start, goes_on, make_start, ran};
-use dfr_program::{read_of_run, run_and_read};
 use comtrade_write::{File, Kind};
 use dfr_channels::Memory;
+use dfr_program::{read_of_run, run_and_read};
 use dfr_recorder::Ran;
 use failing_allocator::Refusing;
 use std::alloc::Allocator;

@@ -66,7 +66,10 @@ fn put_date<A: Allocator>(out: &mut Vec<u8, A>, day: i64) -> Result<(), AllocErr
 }
 
 /// The date and the time of an instant of the years 1 to 9999, with the comma between them.
-pub(crate) fn put_instant<A: Allocator>(out: &mut Vec<u8, A>, instant: i64) -> Result<(), AllocError>
+pub(crate) fn put_instant<A: Allocator>(
+    out: &mut Vec<u8, A>,
+    instant: i64,
+) -> Result<(), AllocError>
     requires { IsBetween (neg_ℤ (pos 62135596800000000)) (pos 253402300799999999) instant }
     ensures { OnOk result (out.new.items ≡ out.old.items ++ instant_text instant) }
 {

@@ -27,7 +27,10 @@ pub(crate) fn text_field<A: Allocator>(out: &mut Vec<u8, A>, text: &[u8]) -> Res
 }
 
 #[tactic(auto, unfolding(crate::specs::Lines::field))]
-pub(crate) fn decimal_field<A: Allocator>(out: &mut Vec<u8, A>, d: Decimal) -> Result<(), AllocError>
+pub(crate) fn decimal_field<A: Allocator>(
+    out: &mut Vec<u8, A>,
+    d: Decimal,
+) -> Result<(), AllocError>
     ensures { OnOk result (out.new.items ≡ out.old.items ++ field (decimal_text d)) }
 {
     put_decimal(out, d)?;
