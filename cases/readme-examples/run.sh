@@ -25,7 +25,7 @@ sed 's/#.*//; s/:.*//' crates.txt | awk 'NF { print $1 }' | LC_ALL=C sort | whil
     [ -f "$page" ] || { echo "$name: no README"; continue; }
     lines=$(wc -l < "$page")
     [ "$lines" -le 45 ] || echo "$name: $lines lines; wanted are at most 45"
-    grep -q "^    rt check $name$" "$page" || echo "$name: no \`rt check $name\`"
+    grep -qF "    (cd crates/$name && rt check)" "$page" || echo "$name: no line that checks it"
     unknown "$page" "$name"
     gone "$page" "$name"
     awk -v name="$name" -f cases/readme-examples/blocks.awk "$page"
