@@ -122,6 +122,7 @@ fn next_row<A: Allocator + Copy>(
 }
 
 /// So many rows, one a line, in a list with this room.
+#[inline(never)] // in one piece with the reading of the head the loops run out of registers
 fn rows_of<A: Allocator + Copy>(
     alloc: A,
     left: &mut Left,

@@ -130,6 +130,7 @@ fn row_size(k: usize, m: usize) -> usize
 }
 
 /// So many rows, one after the other.
+#[inline(never)] // in one piece with the reading of the head the loops run out of registers
 fn rows_of<A: Allocator + Copy>(
     alloc: A,
     dat: &[u8],
