@@ -1,0 +1,236 @@
+//! The lines of analogue channels.
+
+use crate::draft::{Analog, Range};
+use crate::exact::whole_of;
+use crate::fault::{ImportFault, Why};
+use crate::field::Parts;
+use crate::key::Key;
+use crate::lines::{Row, at, decimal_of, decimal_or, phase_of, tell_empty, text_of};
+use crate::note::{Notes, Place};
+use dfr_channels::{AnalogChannel, Decimal, Items, Side, integer_of};
+use std::alloc::Allocator;
+
+/// Where the fields of a line stand: those after the texts are so many to the right.
+#[derive(Clone, Copy)]
+struct Shape<'a> {
+    parts: Parts<'a>,
+    line: u64,
+    /// Ten fields: no ratio and no side.
+    is_short: bool,
+}
+
+/// A channel's own number, which is told where it isn't its place.
+pub(crate) fn tell_index<A: Allocator + Copy>(
+    notes: &mut Notes<A>,
+    line: u64,
+    text: &[u8],
+    wanted: u64,
+) -> Result<(), ImportFault> {
+    match integer_of(text) {
+        Some(n) if n == i128::from(wanted) => Ok(()),
+        None if !text.is_empty() => Err(at(line, Why::Number)),
+        _ => {
+            notes.tell_text(Key::IndexOrder, Place::Cfg(line), text)?;
+            Ok(())
+        }
+    }
+}
+
+fn side_of<A: Allocator + Copy>(
+    notes: &mut Notes<A>,
+    shape: Shape<'_>,
+) -> Result<Side, ImportFault> {
+    if shape.is_short {
+        return Ok(Side::Primary);
+    }
+    match shape.parts.at(12) {
+        [] => {
+            notes.tell(Key::SideEmpty, Place::Cfg(shape.line), &[])?;
+            Ok(Side::Primary)
+        }
+        [b'P' | b'p'] => Ok(Side::Primary),
+        [b'S' | b's'] => Ok(Side::Secondary),
+        _ => Err(at(shape.line, Why::Side)),
+    }
+}
+
+/// A bound of the samples: a whole number that 1999 can hold.
+fn bound_of(text: &[u8]) -> Option<i32> {
+    let n = integer_of(text)?;
+    if -99_999 <= n && n <= 99_999 {
+        i32::try_from(n).ok()
+    } else {
+        None
+    }
+}
+
+/// A bound in another form, as a whole number where it is one.
+fn loose_bound<A: Allocator + Copy>(
+    notes: &mut Notes<A>,
+    mark: u8,
+    line: u64,
+    text: &[u8],
+) -> Result<Option<i32>, ImportFault> {
+    let bound = decimal_of(notes, mark, line, text)?;
+    match whole_of(bound) {
+        Some(n) if -99_999 <= n && n <= 99_999 => Ok(i32::try_from(n).ok()),
+        _ => Ok(None),
+    }
+}
+
+/// The least and the greatest sample, and how they are said.
+fn range_of<A: Allocator + Copy>(
+    notes: &mut Notes<A>,
+    mark: u8,
+    shape: Shape<'_>,
+) -> Result<(i32, i32, Range), ImportFault> {
+    let (low, high) = (shape.parts.at(8), shape.parts.at(9));
+    if low.is_empty() || high.is_empty() {
+        tell_empty(notes, shape.line, "min or max: as the data need")?;
+        return Ok((-32_767, 32_767, Range::Empty));
+    }
+    if let (Some(low), Some(high)) = (bound_of(low), bound_of(high)) {
+        if high < low {
+            notes.tell(Key::RangeSwapped, Place::Cfg(shape.line), &[])?;
+            return Ok((high, low, Range::Said));
+        }
+        let is_unsigned = 0 <= low && 32_767 < high;
+        return Ok((low, high, if is_unsigned { Range::Unsigned } else { Range::Said }));
+    }
+    let low = loose_bound(notes, mark, shape.line, low)?;
+    let high = loose_bound(notes, mark, shape.line, high)?;
+    match (low, high) {
+        (Some(low), Some(high)) => Ok((low.min(high), low.max(high), Range::Other)),
+        _ => Ok((-32_767, 32_767, Range::Other)),
+    }
+}
+
+/// A number that may be empty and is 0 then, as the standard's reader takes it.
+fn free_of<A: Allocator + Copy>(
+    notes: &mut Notes<A>,
+    mark: u8,
+    line: u64,
+    text: &[u8],
+) -> Result<Decimal, ImportFault> {
+    match Decimal::new(0, 0) {
+        Some(zero) if text.is_empty() => Ok(zero),
+        _ => decimal_of(notes, mark, line, text),
+    }
+}
+
+/// The ratio, of which an empty side is 1.
+fn ratio_of<A: Allocator + Copy>(
+    notes: &mut Notes<A>,
+    mark: u8,
+    shape: Shape<'_>,
+    index: usize,
+) -> Result<Decimal, ImportFault> {
+    if shape.is_short {
+        return match Decimal::new(1, 0) {
+            Some(one) => Ok(one),
+            None => Err(at(shape.line, Why::Number)),
+        };
+    }
+    decimal_or(notes, mark, shape.line, shape.parts.at(index), ("ratio: 1", 1))
+}
+
+fn unit_of<A: Allocator + Copy>(
+    alloc: A,
+    notes: &mut Notes<A>,
+    shape: Shape<'_>,
+) -> Result<Items<u8, A>, ImportFault> {
+    let unit = text_of(notes, shape.line, shape.parts.at(4), 32, None)?;
+    if !unit.items().is_empty() {
+        return Ok(unit);
+    }
+    notes.tell(Key::UnitEmpty, Place::Cfg(shape.line), &[])?;
+    Ok(Items::of(Vec::from_slice(alloc, b"NONE")?))
+}
+
+/// The channel that a line of so many fields says.
+fn channel_of<A: Allocator + Copy>(
+    alloc: A,
+    notes: &mut Notes<A>,
+    mark: u8,
+    shape: Shape<'_>,
+    number: u64,
+) -> Result<Analog<A>, ImportFault> {
+    let (parts, line) = (shape.parts, shape.line);
+    tell_index(notes, line, parts.at(0), number)?;
+    let id = text_of(notes, line, parts.at(1), 64, Some(number))?;
+    let phase = phase_of(notes, line, parts.at(2))?;
+    let component = text_of(notes, line, parts.at(3), 64, None)?;
+    let unit = unit_of(alloc, notes, shape)?;
+    let a = decimal_or(notes, mark, line, parts.at(5), ("a: 1", 1))?;
+    if a.units() == 0 {
+        notes.tell(Key::AZero, Place::Cfg(line), &[])?;
+    }
+    let b = free_of(notes, mark, line, parts.at(6))?;
+    let skew = free_of(notes, mark, line, parts.at(7))?;
+    let (min, max, range) = range_of(notes, mark, shape)?;
+    let primary = ratio_of(notes, mark, shape, 10)?;
+    let secondary = ratio_of(notes, mark, shape, 11)?;
+    let side = side_of(notes, shape)?;
+    let channel = AnalogChannel {
+        id,
+        phase,
+        component,
+        unit,
+        a,
+        b,
+        skew,
+        min,
+        max,
+        primary,
+        secondary,
+        side,
+    };
+    Ok(Analog {
+        channel,
+        range,
+        line,
+    })
+}
+
+/// Whether the last fields of a line of one more than thirteen are those of a channel, so that the comma too many stands in a
+/// text: numbers, and the side.
+fn has_numbers_at_end(parts: Parts<'_>) -> bool {
+    for i in 6..13usize {
+        let field = parts.at(i);
+        if !field.is_empty() && Decimal::read(field).is_none() {
+            return false;
+        }
+    }
+    matches!(parts.at(13), [b'P' | b'p' | b'S' | b's'])
+}
+
+/// What is wrong with a line of too many fields.
+fn too_many(row: Row<'_>) -> ImportFault {
+    let in_text = has_numbers_at_end(row.parts);
+    at(row.number, if in_text || 13 < row.parts.full { Why::Commas } else { Why::AnalogFields })
+}
+
+/// The channel that a line says; `place` is its number, and whether the file is of 1991.
+pub(crate) fn analog_of<A: Allocator + Copy>(
+    alloc: A,
+    notes: &mut Notes<A>,
+    mark: u8,
+    row: Row<'_>,
+    place: (u64, bool),
+) -> Result<Analog<A>, ImportFault> {
+    let (number, is_old) = place;
+    let parts = row.parts;
+    let is_short = parts.all == 10 || is_old && parts.full <= 10;
+    if parts.all < 10 || parts.full == 11 || 13 < parts.full {
+        return Err(too_many(row));
+    }
+    if is_short && !notes.has(Key::SidesAbsent) {
+        notes.tell(Key::SidesAbsent, Place::Cfg(row.number), &[])?;
+    }
+    let shape = Shape {
+        parts,
+        line: row.number,
+        is_short,
+    };
+    channel_of(alloc, notes, mark, shape, number)
+}

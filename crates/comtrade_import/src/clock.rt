@@ -1,0 +1,100 @@
+//! When rows were sampled, by the rates and by the stamps. Times are in picoseconds from the first row on.
+
+use crate::exact::Exact;
+use crate::num::Num;
+use comtrade_format::Rate;
+use dfr_channels::Decimal;
+use std::alloc::{AllocError, Allocator};
+
+/// A run of rows at one rate.
+#[derive(Clone, Copy, Debug)]
+struct Run {
+    /// The row before the first of the run (0 for the first run), and when it was sampled.
+    from: u64,
+    base: i128,
+    end: u64,
+    units: i128,
+    places: u32,
+}
+
+/// The instants of rows by rates.
+#[derive(Drop)]
+pub(crate) struct Clock<A: Allocator> {
+    runs: Vec<Run, A>,
+}
+
+const SECOND: i128 = 1_000_000_000_000;
+
+impl Run {
+    fn time_of(&self, row: u64) -> Option<i128> {
+        let rows = i128::from(row.saturating_sub(self.from));
+        let part = 10i128.checked_pow(self.places)?.checked_mul(SECOND)?;
+        let time = rows.checked_mul(part)?.checked_div(self.units)?;
+        self.base.checked_add(time)
+    }
+}
+
+impl<A: Allocator + Copy> Clock<A> {
+    pub(crate) fn new(alloc: A, rates: &[Rate]) -> Result<Option<Clock<A>>, AllocError> {
+        let mut runs: Vec<Run, A> = Vec::new(alloc);
+        let mut from = 0u64;
+        let mut base = 0i128;
+        for rate in rates {
+            let run = Run {
+                from,
+                base,
+                end: rate.endsamp,
+                units: rate.samp.units(),
+                places: u32::from(rate.samp.places()),
+            };
+            from = rate.endsamp.saturating_sub(1);
+            match run.time_of(from) {
+                Some(time) if 0 < run.units => base = time,
+                _ => return Ok(None),
+            }
+            runs.push(run)?;
+        }
+        if runs.is_empty() { Ok(None) } else { Ok(Some(Clock { runs })) }
+    }
+}
+
+impl<A: Allocator> Clock<A> {
+    /// When a row was sampled, counted from 0, and half the interval there. `at` is the run of an earlier row.
+    pub(crate) fn time_of(&self, at: &mut usize, row: u64) -> Option<(i128, i128)> {
+        let last = self.runs.len().saturating_sub(1);
+        for _ in 0..self.runs.len() {
+            match self.runs.get(*at) {
+                Some(run) if run.end <= row && *at < last => *at = (*at).saturating_add(1),
+                _ => break,
+            }
+        }
+        let run = self.runs.get(*at)?;
+        let part = 10i128.checked_pow(run.places)?.checked_mul(SECOND)?;
+        Some((run.time_of(row)?, part.checked_div(run.units)?.wrapping_div(2)))
+    }
+}
+
+/// The time that a stamp says, in picoseconds.
+pub(crate) fn time_of_stamp(stamp: Num, timemult: Decimal) -> Option<i128> {
+    let number = Exact {
+        units: i128::from(stamp.mant),
+        places: 0i32.saturating_sub(stamp.ten),
+    };
+    let time = number.times(Exact::of(timemult))?;
+    let more = 6i32.checked_sub(time.places)?;
+    if 0 <= more {
+        let part = 10i128.checked_pow(more.unsigned_abs())?;
+        return time.units.checked_mul(part);
+    }
+    match 10i128.checked_pow(more.unsigned_abs()) {
+        Some(part) => Some(rounded(time.units, part)),
+        None => Some(0),
+    }
+}
+
+/// The nearest whole number to n / part, halves away from 0.
+pub(crate) fn rounded(n: i128, part: i128) -> i128 {
+    let half = part.wrapping_div(2);
+    let up = if n < 0 { n.saturating_sub(half) } else { n.saturating_add(half) };
+    up.checked_div(part).unwrap_or(0)
+}

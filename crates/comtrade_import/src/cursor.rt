@@ -1,0 +1,98 @@
+//! The lines of a text, one after the other.
+
+use dfr_channels::trim;
+use memchr::memchr;
+
+/// A line that isn't blank, without its end.
+#[derive(Clone, Copy, Debug)]
+pub(crate) struct Line<'a> {
+    pub text: &'a [u8],
+    /// From 1.
+    pub number: u64,
+    /// Blank lines stand before it.
+    pub after_blank: bool,
+    /// It ends in CR CR LF.
+    pub is_doubled: bool,
+    /// A line end stands after it.
+    pub is_ended: bool,
+}
+
+/// What is left of a text.
+#[derive(Clone, Copy, Debug)]
+pub(crate) struct Cursor<'a> {
+    left: Option<&'a [u8]>,
+    line: u64,
+    end: u8,
+}
+
+pub(crate) fn before(text: &[u8], at: usize) -> &[u8] {
+    text.get(..at).unwrap_or(&[])
+}
+
+pub(crate) fn after(text: &[u8], at: usize) -> &[u8] {
+    text.get(at.wrapping_add(1)..).unwrap_or(&[])
+}
+
+/// The line without the carriage returns at its end, and how many these were.
+fn without_returns(line: &[u8]) -> (&[u8], u8) {
+    match line {
+        [front @ .., b'\r', b'\r'] => (front, 2),
+        [front @ .., b'\r'] => (front, 1),
+        _ => (line, 0),
+    }
+}
+
+impl<'a> Cursor<'a> {
+    /// The lines of a text. Where it has no line feed, carriage returns alone end its lines.
+    pub(crate) fn new(text: &'a [u8]) -> Cursor<'a> {
+        let ends_alone = memchr(b'\n', text).is_none() && memchr(b'\r', text).is_some();
+        Cursor {
+            left: Some(text),
+            line: 0,
+            end: if ends_alone { b'\r' } else { b'\n' },
+        }
+    }
+
+    /// Whether lines end in CR alone.
+    pub(crate) fn ends_in_returns(&self) -> bool {
+        self.end == b'\r'
+    }
+
+    /// The next line, blank or not.
+    fn step(&mut self) -> Option<Line<'a>> {
+        let text = self.left?;
+        self.line = self.line.saturating_add(1);
+        let (line, left) = match memchr(self.end, text) {
+            Some(at) => (before(text, at), Some(after(text, at))),
+            None => (text, None),
+        };
+        self.left = left;
+        let (line, returns) = without_returns(line);
+        Some(Line {
+            text: line,
+            number: self.line,
+            after_blank: false,
+            is_doubled: returns == 2,
+            is_ended: left.is_some(),
+        })
+    }
+
+    /// The next line that isn't blank.
+    pub(crate) fn next_line(&mut self) -> Option<Line<'a>> {
+        let mut after_blank = false;
+        for _ in 0..u64::MAX {
+            let mut line = self.step()?;
+            if !trim(line.text).is_empty() {
+                line.after_blank = after_blank;
+                return Some(line);
+            }
+            after_blank = true;
+        }
+        None
+    }
+
+    /// The number of the line after the last that was read.
+    pub(crate) fn next_number(&self) -> u64 {
+        self.line.saturating_add(1)
+    }
+}

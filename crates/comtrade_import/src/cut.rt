@@ -1,0 +1,258 @@
+//! A single file (.cff) of 2013, cut into its sections (IEC 60255-24:2013, 10).
+
+use crate::cursor::{after, before};
+use crate::fault::{ImportFault, Why};
+use dfr_channels::{integer_of, trim};
+use memchr::memchr;
+
+/// The kinds of sections.
+#[derive(Clone, Copy, PartialEq, Eq)]
+enum Section {
+    Cfg,
+    Inf,
+    Hdr,
+    /// Data as text.
+    Text,
+    /// Data in bytes, with their count where it is said.
+    Bytes(Option<u64>),
+}
+
+/// The line before a section.
+#[derive(Clone, Copy)]
+struct Separator<'a> {
+    section: Section,
+    /// What stands after the line.
+    rest: &'a [u8],
+    /// It is spelled as the standard spells it.
+    is_usual: bool,
+}
+
+/// The sections of a single file.
+#[derive(Clone, Copy, Debug)]
+pub struct Sections<'a> {
+    pub cfg: &'a [u8],
+    pub dat: &'a [u8],
+    /// A section INF or HDR has text.
+    pub has_inf: bool,
+    pub has_hdr: bool,
+    /// A separator is spelled otherwise than the standard spells it.
+    pub has_odd_separator: bool,
+    /// The count of bytes isn't what is there: said, and there.
+    pub wrong_count: Option<(u64, u64)>,
+}
+
+/// How many bytes of a line are looked at.
+const LONGEST: usize = 120;
+
+/// The next word, and what stands after it.
+fn word_of(text: &[u8]) -> (&[u8], &[u8]) {
+    let text = trim(text);
+    let end = text.iter().position(|b| *b == b' ' || *b == b'\t' || *b == b':');
+    match end {
+        Some(at) => (before(text, at), trim(text.get(at..).unwrap_or(&[]))),
+        None => (text, &text[text.len()..]),
+    }
+}
+
+/// Without a colon at the front.
+fn after_colon(text: &[u8]) -> &[u8] {
+    match text {
+        [b':', rest @ ..] => trim(rest),
+        _ => text,
+    }
+}
+
+fn without_dashes(line: &[u8]) -> &[u8] {
+    let mut inner = line;
+    while let [b'-', rest @ ..] = inner {
+        inner = rest;
+    }
+    while let [rest @ .., b'-'] = inner {
+        inner = rest;
+    }
+    trim(inner)
+}
+
+/// The section of data that a kind and a count name.
+fn data_section(text: &[u8]) -> Option<Section> {
+    let (kind, left) = word_of(after_colon(text));
+    if kind.is_empty() || kind.eq_ignore_ascii_case(b"ascii") {
+        return Some(Section::Text);
+    }
+    let is_binary = kind.eq_ignore_ascii_case(b"binary")
+        || kind.eq_ignore_ascii_case(b"binary32")
+        || kind.eq_ignore_ascii_case(b"float32");
+    if !is_binary {
+        return None;
+    }
+    let count = after_colon(left);
+    if count.is_empty() {
+        return Some(Section::Bytes(None));
+    }
+    let (digits, _) = word_of(count);
+    Some(Section::Bytes(Some(u64::try_from(integer_of(digits)?).ok()?)))
+}
+
+/// The section that a line between dashes names.
+fn section_of(inner: &[u8]) -> Option<Section> {
+    let (file, rest) = word_of(inner);
+    let (kind, rest) = word_of(rest);
+    if !file.eq_ignore_ascii_case(b"file") || !kind.eq_ignore_ascii_case(b"type") {
+        return None;
+    }
+    let (name, left) = word_of(after_colon(rest));
+    if name.eq_ignore_ascii_case(b"cfg") {
+        return Some(Section::Cfg);
+    }
+    if name.eq_ignore_ascii_case(b"inf") {
+        return Some(Section::Inf);
+    }
+    if name.eq_ignore_ascii_case(b"hdr") {
+        return Some(Section::Hdr);
+    }
+    if name.eq_ignore_ascii_case(b"dat") { data_section(left) } else { None }
+}
+
+/// Whether a line is spelled as the standard spells it.
+fn is_usual(line: &[u8], section: Section) -> bool {
+    let front = b"--- file type: ";
+    let is_framed = line.starts_with(front) && line.ends_with(b" ---");
+    let body = line.get(front.len()..).unwrap_or(&[]);
+    is_framed && section != Section::Bytes(None) && !body.iter().any(|b| b.is_ascii_lowercase())
+}
+
+/// The separator at the front of a text.
+fn separator_at(text: &[u8]) -> Option<Separator<'_>> {
+    if !text.starts_with(b"--") {
+        return None;
+    }
+    let front = text.get(..LONGEST).unwrap_or(text);
+    let (line, rest) = match memchr(b'\n', front) {
+        Some(at) => (before(front, at), after(text, at)),
+        None if text.len() <= LONGEST => (front, &text[text.len()..]),
+        None => return None,
+    };
+    let line = match line {
+        [inner @ .., b'\r'] => trim(inner),
+        _ => trim(line),
+    };
+    let section = section_of(without_dashes(line))?;
+    Some(Separator {
+        section,
+        rest,
+        is_usual: is_usual(line, section),
+    })
+}
+
+/// Where the next separator stands: at the front of a line, or anywhere where `is_anywhere`.
+fn next_place(text: &[u8], is_anywhere: bool) -> usize {
+    let mut before = b'\n';
+    for (i, b) in text.iter().enumerate() {
+        let can_be = *b == b'-' && before != b'-' && (is_anywhere || before == b'\n');
+        if can_be && separator_at(text.get(i..).unwrap_or(&[])).is_some() {
+            return i;
+        }
+        before = *b;
+    }
+    text.len()
+}
+
+/// Whether bytes end here: nothing, line ends or 1A are left, or a separator stands here.
+fn ends_here(text: &[u8]) -> bool {
+    let rest = match text {
+        [b'\r', b'\n', rest @ ..] => rest,
+        [b'\n', rest @ ..] => rest,
+        _ => text,
+    };
+    rest.is_empty() || rest == b"\x1a".as_slice() || separator_at(rest).is_some()
+}
+
+/// How many bytes a section takes, and whether its count is wrong.
+fn length_of(separator: Separator<'_>) -> (usize, Option<(u64, u64)>) {
+    let text = separator.rest;
+    let Section::Bytes(said) = separator.section else {
+        return (next_place(text, false), None);
+    };
+    let Some(count) = said else {
+        return (next_place(text, true), None);
+    };
+    let length = usize::try_from(count).unwrap_or(usize::MAX);
+    if let Some(left) = text.get(length..) {
+        if ends_here(left) {
+            return (length, None);
+        }
+    }
+    let there = next_place(text, true);
+    (there, Some((count, there as u64)))
+}
+
+fn has_text(text: &[u8]) -> bool {
+    text.iter().any(|b| !b.is_ascii_whitespace() && *b != 0x1a)
+}
+
+/// The sections so far.
+#[derive(Clone, Copy)]
+struct Found<'a> {
+    sections: Sections<'a>,
+    has_cfg: bool,
+    has_dat: bool,
+}
+
+/// Adds a section.
+fn add<'a>(found: &mut Found<'a>, separator: Separator<'a>) -> Result<&'a [u8], Why> {
+    let (length, wrong) = length_of(separator);
+    let text = before(separator.rest, length);
+    found.sections.has_odd_separator = found.sections.has_odd_separator || !separator.is_usual;
+    match separator.section {
+        Section::Cfg if found.has_cfg => return Err(Why::Twice),
+        Section::Cfg => {
+            found.has_cfg = true;
+            found.sections.cfg = text;
+        }
+        Section::Inf => found.sections.has_inf = found.sections.has_inf || has_text(text),
+        Section::Hdr => found.sections.has_hdr = found.sections.has_hdr || has_text(text),
+        Section::Text | Section::Bytes(_) => {
+            if found.has_dat {
+                return Err(Why::Twice);
+            }
+            found.has_dat = true;
+            found.sections.dat = text;
+            found.sections.wrong_count = wrong;
+        }
+    }
+    Ok(separator.rest.get(length..).unwrap_or(&[]))
+}
+
+/// The sections of a single file. A fault where it has no CFG, no DAT, or one of them twice.
+pub fn cut(cff: &[u8]) -> Result<Sections<'_>, ImportFault> {
+    let mut found = Found {
+        sections: Sections {
+            cfg: &[],
+            dat: &[],
+            has_inf: false,
+            has_hdr: false,
+            has_odd_separator: false,
+            wrong_count: None,
+        },
+        has_cfg: false,
+        has_dat: false,
+    };
+    let mut left = cff;
+    for _ in 0..cff.len() {
+        let here = left.get(next_place(left, false)..).unwrap_or(&[]);
+        let Some(separator) = separator_at(here) else {
+            break;
+        };
+        match add(&mut found, separator) {
+            Ok(rest) => left = rest,
+            Err(why) => return Err(ImportFault::Whole(why)),
+        }
+    }
+    if !found.has_cfg {
+        return Err(ImportFault::Whole(Why::NoCfg));
+    }
+    if !found.has_dat {
+        return Err(ImportFault::Whole(Why::NoDat));
+    }
+    Ok(found.sections)
+}

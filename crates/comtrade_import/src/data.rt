@@ -1,0 +1,260 @@
+//! In which form data stand: what the configuration file says, unless the data prove another form.
+
+use crate::draft::Draft;
+use crate::fault::{ImportFault, Why};
+use crate::key::Key;
+use crate::kinds::Form;
+use crate::note::{Notes, Place};
+use crate::row::{Cells, Counts, Packed, Plan, number_at, read_line};
+use crate::cursor::{Cursor, after, before};
+use dfr_channels::trim;
+use memchr::memchr;
+use std::alloc::Allocator;
+
+/// What data prove of a form.
+#[derive(Clone, Copy)]
+struct Look<'a> {
+    packed: Packed<'a>,
+    /// The data are whole rows.
+    is_whole: bool,
+    /// A byte 1A stands after whole rows.
+    has_mark: bool,
+    /// The numbers of the rows go on by one.
+    runs: bool,
+}
+
+/// Whether the numbers of all rows go on by one, from 0 or 1 where there is one row.
+fn runs(bytes: &[u8], size: usize, is_big: bool) -> bool {
+    let first = number_at(bytes, 0, is_big);
+    let mut wanted = first;
+    let mut count = 0usize;
+    for row in bytes.chunks_exact(size.max(8)) {
+        if number_at(row, 0, is_big) != wanted {
+            return false;
+        }
+        wanted = wanted.wrapping_add(1);
+        count = count.saturating_add(1);
+    }
+    1 < count || count == 1 && first < 2
+}
+
+fn look_at(dat: &[u8], form: Form, size: usize, is_big: bool) -> Look<'_> {
+    let size = size.max(8);
+    let rest = dat.len().wrapping_rem(size);
+    let whole = before(dat, dat.len().saturating_sub(rest));
+    let has_mark = rest == 1 && dat.last().copied() == Some(0x1a);
+    Look {
+        packed: Packed {
+            bytes: whole,
+            form,
+            is_big,
+            size,
+        },
+        is_whole: !whole.is_empty() && (rest == 0 || has_mark),
+        has_mark,
+        runs: runs(whole, size, is_big),
+    }
+}
+
+impl Look<'_> {
+    fn is_proved(&self) -> bool {
+        self.is_whole && self.runs
+    }
+}
+
+/// What stands before the first byte 1A.
+fn before_mark(dat: &[u8]) -> &[u8] {
+    match memchr(0x1a, dat) {
+        Some(at) => before(dat, at),
+        None => dat,
+    }
+}
+
+/// The mark between the fields of ASCII rows.
+fn mark_of(text: &[u8]) -> u8 {
+    let mut cursor = Cursor::new(text);
+    match cursor.next_line() {
+        Some(line) if memchr(b';', line.text).is_some() => b';',
+        _ => b',',
+    }
+}
+
+/// Whether the first row can be read as ASCII.
+fn is_text<A: Allocator + Copy>(alloc: A, text: &[u8], mark: u8, counts: Counts) -> bool {
+    let mut cursor = Cursor::new(text);
+    let mut cells = Cells::new(alloc);
+    match cursor.next_line() {
+        Some(line) => read_line(&mut cells, line.text, mark, counts).is_ok(),
+        None => false,
+    }
+}
+
+fn tell_whole<A: Allocator + Copy>(
+    notes: &mut Notes<A>,
+    key: Key,
+    piece: &str,
+) -> Result<(), ImportFault> {
+    notes.tell(key, Place::Whole("data file"), piece.as_bytes())?;
+    Ok(())
+}
+
+/// A plan for packed rows, with a byte 1A after them told.
+fn packed<'a, A: Allocator + Copy>(
+    notes: &mut Notes<A>,
+    look: Look<'a>,
+) -> Result<Plan<'a>, ImportFault> {
+    if look.has_mark {
+        tell_whole(notes, Key::Dat1a, "")?;
+    }
+    Ok(Plan::Packed(look.packed))
+}
+
+fn text_plan<'a, A: Allocator + Copy>(
+    notes: &mut Notes<A>,
+    dat: &'a [u8],
+) -> Result<Plan<'a>, ImportFault> {
+    let text = before_mark(dat);
+    let rest = after(dat, text.len());
+    if !rest.iter().all(|b| *b == 0x1a || *b == b'\r' || *b == b'\n' || *b == b' ' || *b == 0) {
+        tell_whole(notes, Key::DatAfterEnd, "")?;
+    }
+    let mark = mark_of(text);
+    if mark == b';' {
+        tell_whole(notes, Key::SeparatorSemicolon, "")?;
+    }
+    if Cursor::new(text).ends_in_returns() {
+        tell_whole(notes, Key::LineEndsCr, "")?;
+    }
+    Ok(Plan::Text(text, mark))
+}
+
+/// The data where the configuration file says that they are text.
+fn said_text<'a, A: Allocator + Copy>(
+    alloc: A,
+    notes: &mut Notes<A>,
+    dat: &'a [u8],
+    counts: Counts,
+) -> Result<Plan<'a>, ImportFault> {
+    let text = before_mark(dat);
+    if is_text(alloc, text, mark_of(text), counts) {
+        return text_plan(notes, dat);
+    }
+    let short = look_at(dat, Form::Binary, Form::Binary.row_size(counts.k, counts.m), false);
+    if short.is_proved() {
+        tell_whole(notes, Key::KindOther, "ASCII is said, BINARY is there")?;
+        return packed(notes, short);
+    }
+    let long = look_at(dat, Form::Binary32, Form::Binary32.row_size(counts.k, counts.m), false);
+    if long.is_proved() {
+        return Err(ImportFault::Whole(Why::NoKind));
+    }
+    text_plan(notes, dat)
+}
+
+/// Another form that the data prove, where they aren't of the form that is said.
+fn proved<'a, A: Allocator + Copy>(
+    alloc: A,
+    notes: &mut Notes<A>,
+    dat: &'a [u8],
+    form: Form,
+    counts: Counts,
+) -> Result<Option<Plan<'a>>, ImportFault> {
+    let size = form.row_size(counts.k, counts.m);
+    let big = look_at(dat, form, size, true);
+    if big.is_proved() {
+        tell_whole(notes, Key::BigEndian, "")?;
+        return Ok(Some(packed(notes, big)?));
+    }
+    let spare = look_at(dat, form, size.saturating_add(2), false);
+    if spare.is_proved() {
+        tell_whole(notes, Key::RowSize, "")?;
+        return Ok(Some(packed(notes, spare)?));
+    }
+    let text = before_mark(dat);
+    if is_text(alloc, text, mark_of(text), counts) {
+        tell_whole(notes, Key::KindOther, "binary data are said, ASCII is there")?;
+        return Ok(Some(text_plan(notes, dat)?));
+    }
+    if form == Form::Binary {
+        return Ok(None);
+    }
+    let short = look_at(dat, Form::Binary, Form::Binary.row_size(counts.k, counts.m), false);
+    if short.is_proved() {
+        tell_whole(notes, Key::KindOther, "values of 32 bits are said, BINARY is there")?;
+        return Ok(Some(packed(notes, short)?));
+    }
+    Ok(None)
+}
+
+/// The data where the configuration file says that they are binary.
+fn said_packed<'a, A: Allocator + Copy>(
+    alloc: A,
+    notes: &mut Notes<A>,
+    dat: &'a [u8],
+    form: Form,
+    counts: Counts,
+) -> Result<Plan<'a>, ImportFault> {
+    let own = look_at(dat, form, form.row_size(counts.k, counts.m), false);
+    if own.is_proved() {
+        return packed(notes, own);
+    }
+    if let Some(plan) = proved(alloc, notes, dat, form, counts)? {
+        return Ok(plan);
+    }
+    if own.is_whole {
+        return packed(notes, own);
+    }
+    if !own.runs {
+        return Err(ImportFault::Whole(Why::Length));
+    }
+    let row = own.packed.bytes.len().wrapping_div(own.packed.size.max(1)) as u64;
+    notes.tell(Key::RowCut, Place::Row(row.saturating_add(1)), &[])?;
+    Ok(Plan::Packed(own.packed))
+}
+
+/// The data where the configuration file doesn't say what they are.
+fn unsaid<'a, A: Allocator + Copy>(
+    alloc: A,
+    notes: &mut Notes<A>,
+    dat: &'a [u8],
+    counts: Counts,
+) -> Result<Plan<'a>, ImportFault> {
+    let text = before_mark(dat);
+    if is_text(alloc, text, mark_of(text), counts) {
+        return text_plan(notes, dat);
+    }
+    let short = look_at(dat, Form::Binary, Form::Binary.row_size(counts.k, counts.m), false);
+    if short.is_proved() {
+        return packed(notes, short);
+    }
+    Err(ImportFault::Whole(Why::NoKind))
+}
+
+/// Where the rows stand, and in which form.
+pub(crate) fn plan_of<'a, A: Allocator + Copy>(
+    alloc: A,
+    notes: &mut Notes<A>,
+    draft: &Draft<A>,
+    dat: &'a [u8],
+) -> Result<Plan<'a>, ImportFault> {
+    let counts = Counts {
+        k: draft.analog.len(),
+        m: draft.status.len(),
+    };
+    if trim(dat).is_empty() {
+        return Err(ImportFault::Whole(Why::NoRow));
+    }
+    match draft.form {
+        Some(Form::Ascii) => said_text(alloc, notes, dat, counts),
+        Some(form) => {
+            if form == Form::Binary32 {
+                tell_whole(notes, Key::KindBinary32, "")?;
+            }
+            if form == Form::Float32 {
+                tell_whole(notes, Key::KindFloat32, "")?;
+            }
+            said_packed(alloc, notes, dat, form, counts)
+        }
+        None => unsaid(alloc, notes, dat, counts),
+    }
+}

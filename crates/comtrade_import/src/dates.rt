@@ -1,0 +1,245 @@
+//! Dates and times of day in the spellings that are met.
+
+use jiff_core::civil::Date;
+
+/// Which of day and month stands first in the dates of a file.
+#[derive(Clone, Copy, Debug, PartialEq, Eq)]
+pub enum Order {
+    DayFirst,
+    MonthFirst,
+}
+
+/// The parts of a date, not yet told which is which.
+#[derive(Clone, Copy, Debug)]
+pub(crate) struct Civil {
+    first: u32,
+    second: u32,
+    year: u32,
+    /// The year stands first, or the month is a name: there is one way to read it.
+    is_fixed: bool,
+    pub has_short_year: bool,
+    /// It isn't spelled as dd/mm/yyyy or mm/dd/yyyy.
+    pub is_other: bool,
+}
+
+/// A time of day in microseconds since midnight.
+#[derive(Clone, Copy, Debug)]
+pub(crate) struct Clock {
+    pub micros: i64,
+    pub is_24: bool,
+    pub is_leap: bool,
+    /// More than six digits of a second.
+    pub is_long: bool,
+    /// A point without digits.
+    pub is_odd: bool,
+    pub has_comma: bool,
+}
+
+/// A whole number of at most nine digits.
+fn small(text: &[u8]) -> Option<u32> {
+    if text.is_empty() || 9 < text.len() {
+        return None;
+    }
+    let mut n = 0u32;
+    for b in text {
+        if !b.is_ascii_digit() {
+            return None;
+        }
+        n = n.wrapping_mul(10).wrapping_add(u32::from(b.wrapping_sub(b'0')));
+    }
+    Some(n)
+}
+
+fn month_of(text: &[u8]) -> Option<u32> {
+    let front = text.get(..3)?;
+    if front.eq_ignore_ascii_case(b"jan") {
+        return Some(1);
+    }
+    if front.eq_ignore_ascii_case(b"feb") {
+        return Some(2);
+    }
+    if front.eq_ignore_ascii_case(b"mar") {
+        return Some(3);
+    }
+    if front.eq_ignore_ascii_case(b"apr") {
+        return Some(4);
+    }
+    if front.eq_ignore_ascii_case(b"may") {
+        return Some(5);
+    }
+    if front.eq_ignore_ascii_case(b"jun") {
+        return Some(6);
+    }
+    month_late(front)
+}
+
+fn month_late(front: &[u8]) -> Option<u32> {
+    if front.eq_ignore_ascii_case(b"jul") {
+        return Some(7);
+    }
+    if front.eq_ignore_ascii_case(b"aug") {
+        return Some(8);
+    }
+    if front.eq_ignore_ascii_case(b"sep") {
+        return Some(9);
+    }
+    if front.eq_ignore_ascii_case(b"oct") {
+        return Some(10);
+    }
+    if front.eq_ignore_ascii_case(b"nov") {
+        return Some(11);
+    }
+    if front.eq_ignore_ascii_case(b"dec") {
+        return Some(12);
+    }
+    None
+}
+
+/// What stands before a mark, and after it.
+fn cut_at<'a>(text: &'a [u8], marks: &[u8]) -> Option<(&'a [u8], &'a [u8])> {
+    let at = text.iter().position(|b| marks.contains(b))?;
+    Some((text.get(..at)?, text.get(at.wrapping_add(1)..)?))
+}
+
+/// The year of two digits in its century: 70 to 99 are of the 20th.
+fn full_year(year: u32, digits: usize) -> u32 {
+    if digits != 2 {
+        return year;
+    }
+    if year < 70 { year.saturating_add(2000) } else { year.saturating_add(1900) }
+}
+
+/// The parts of a date.
+pub(crate) fn civil_of(text: &[u8]) -> Option<Civil> {
+    let marks = b"/-. ";
+    let (a, rest) = cut_at(text, marks)?;
+    let (b, c) = cut_at(rest, marks)?;
+    let is_slashed = text.iter().all(|b| b.is_ascii_digit() || *b == b'/');
+    if let Some(month) = month_of(b) {
+        return Some(Civil {
+            first: small(a)?,
+            second: month,
+            year: full_year(small(c)?, c.len()),
+            is_fixed: true,
+            has_short_year: c.len() == 2,
+            is_other: true,
+        });
+    }
+    if 3 < a.len() {
+        return Some(Civil {
+            first: small(c)?,
+            second: small(b)?,
+            year: small(a)?,
+            is_fixed: true,
+            has_short_year: false,
+            is_other: true,
+        });
+    }
+    Some(Civil {
+        first: small(a)?,
+        second: small(b)?,
+        year: full_year(small(c)?, c.len()),
+        is_fixed: false,
+        has_short_year: c.len() == 2,
+        is_other: !is_slashed,
+    })
+}
+
+/// Days since 1970-01-01 of a civil date of the years 1 to 9999.
+fn day_number(year: u32, month: u32, day: u32) -> Option<i64> {
+    if year == 0 || 9_999 < year {
+        return None;
+    }
+    let year = i16::try_from(year).ok()?;
+    let month = i8::try_from(month).ok()?;
+    let day = i8::try_from(day).ok()?;
+    match Date::new(year, month, day) {
+        Ok(date) => Some(i64::from(date.to_unix_epoch_day())),
+        Err(_) => None,
+    }
+}
+
+impl Civil {
+    /// All its numbers are 0.
+    pub(crate) fn is_unset(self) -> bool {
+        self.first == 0 && self.second == 0 && (self.year == 0 || self.has_short_year && self.year == 2000)
+    }
+
+    /// Days since 1970-01-01, where the date is valid in this order.
+    pub(crate) fn day_in(self, order: Order) -> Option<i64> {
+        if self.is_fixed || order == Order::DayFirst {
+            day_number(self.year, self.second, self.first)
+        } else {
+            day_number(self.year, self.first, self.second)
+        }
+    }
+
+    /// Whether the date says its order by itself.
+    pub(crate) fn is_fixed(self) -> bool {
+        self.is_fixed
+    }
+}
+
+/// Microseconds of the digits after a point, rounded, halves up.
+fn micros_of(digits: &[u8]) -> Option<i64> {
+    let mut micros = 0i64;
+    for i in 0..6usize {
+        let digit = match digits.get(i) {
+            Some(b) if b.is_ascii_digit() => i64::from(b.wrapping_sub(b'0')),
+            Some(_) => return None,
+            None => 0,
+        };
+        micros = micros.wrapping_mul(10).wrapping_add(digit);
+    }
+    let rest = digits.get(6..).unwrap_or(&[]);
+    if !rest.iter().all(|b| b.is_ascii_digit()) {
+        return None;
+    }
+    match rest {
+        [b'5'..=b'9', ..] => Some(micros.wrapping_add(1)),
+        _ => Some(micros),
+    }
+}
+
+/// A time of day, as hh:mm:ss.ssssss.
+pub(crate) fn clock_of(text: &[u8]) -> Option<Clock> {
+    let (hours, rest) = cut_at(text, b":")?;
+    let (minutes, rest) = cut_at(rest, b":")?;
+    let (seconds, digits, has_point) = match cut_at(rest, b".,:") {
+        Some((seconds, digits)) => (seconds, digits, true),
+        None => (rest, &rest[rest.len()..], false),
+    };
+    if 2 < hours.len() || 2 < minutes.len() || 2 < seconds.len() {
+        return None;
+    }
+    let (hours, minutes, seconds) = (small(hours)?, small(minutes)?, small(seconds)?);
+    let fraction = micros_of(digits)?;
+    let is_24 = hours == 24 && minutes == 0 && seconds == 0 && fraction == 0;
+    if 23 < hours && !is_24 || 59 < minutes || 60 < seconds {
+        return None;
+    }
+    let whole = i64::from(hours)
+        .wrapping_mul(3600)
+        .wrapping_add(i64::from(minutes).wrapping_mul(60))
+        .wrapping_add(i64::from(seconds));
+    Some(Clock {
+        micros: whole.wrapping_mul(1_000_000).wrapping_add(fraction),
+        is_24,
+        is_leap: seconds == 60,
+        is_long: 6 < digits.len(),
+        is_odd: has_point && digits.is_empty(),
+        has_comma: rest.contains(&b','),
+    })
+}
+
+/// The instant of a day and a time of day, in microseconds since 1970-01-01.
+pub(crate) fn instant_of(day: i64, micros: i64) -> i64 {
+    day.saturating_mul(86_400_000_000).saturating_add(micros)
+}
+
+/// Whether a line can be that of an instant: a colon stands in it, or all its fields are empty.
+pub(crate) fn is_like_instant(line: &[u8], mark: u8) -> bool {
+    line.contains(&b':')
+        || line.contains(&b'/')
+        || line.iter().all(|b| *b == mark || *b == b' ' || *b == b'\t')
+}

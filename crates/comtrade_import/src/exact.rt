@@ -1,0 +1,100 @@
+//! Decimals that are computed with, exactly or not at all.
+
+use dfr_channels::Decimal;
+
+/// The number units / 10^places, which may have places below 0.
+#[derive(Clone, Copy, Debug)]
+pub(crate) struct Exact {
+    pub units: i128,
+    pub places: i32,
+}
+
+fn power(n: i32) -> Option<i128> {
+    10i128.checked_pow(u32::try_from(n).ok()?)
+}
+
+impl Exact {
+    pub(crate) fn of(decimal: Decimal) -> Exact {
+        Exact {
+            units: decimal.units(),
+            places: i32::from(decimal.places()),
+        }
+    }
+
+    pub(crate) fn times(self, other: Exact) -> Option<Exact> {
+        Some(Exact {
+            units: self.units.checked_mul(other.units)?,
+            places: self.places.checked_add(other.places)?,
+        })
+    }
+
+    /// The same number with so many places.
+    fn with_places(self, places: i32) -> Option<Exact> {
+        let more = places.checked_sub(self.places)?;
+        Some(Exact {
+            units: self.units.checked_mul(power(more)?)?,
+            places,
+        })
+    }
+
+    pub(crate) fn plus(self, other: Exact) -> Option<Exact> {
+        let (a, b) = (self.short(), other.short());
+        let places = a.places.max(b.places);
+        let a = a.with_places(places)?;
+        let b = b.with_places(places)?;
+        Some(Exact {
+            units: a.units.checked_add(b.units)?,
+            places,
+        })
+    }
+
+    /// The same number without zeros at its end.
+    pub(crate) fn short(self) -> Exact {
+        let mut short = self;
+        if short.units == 0 {
+            return Exact { units: 0, places: 0 };
+        }
+        for _ in 0..40 {
+            if short.units.wrapping_rem(10) != 0 {
+                break;
+            }
+            short.units = short.units.wrapping_div(10);
+            short.places = short.places.saturating_sub(1);
+        }
+        short
+    }
+
+    pub(crate) fn decimal(self) -> Option<Decimal> {
+        let short = self.short();
+        if short.places < 0 {
+            return Decimal::new(short.with_places(0)?.units, 0);
+        }
+        Decimal::new(short.units, u8::try_from(short.places).ok()?)
+    }
+
+    /// A size of three digits that is at least this number's.
+    pub(crate) fn rounded_up(self) -> Exact {
+        let mut near = Exact {
+            units: self.units.saturating_abs(),
+            places: self.places,
+        };
+        for _ in 0..40 {
+            if near.units < 1_000 {
+                break;
+            }
+            near.units = near.units.saturating_add(9).wrapping_div(10);
+            near.places = near.places.saturating_sub(1);
+        }
+        near.short()
+    }
+}
+
+/// The whole number that a decimal is, if it is one.
+pub(crate) fn whole_of(decimal: Decimal) -> Option<i128> {
+    let short = Exact::of(decimal).short();
+    if short.places < 1 {
+        Some(short.with_places(0)?.units)
+    } else {
+        None
+    }
+}

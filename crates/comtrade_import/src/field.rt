@@ -1,0 +1,133 @@
+//! The fields of a line.
+
+use crate::cursor::{after, before};
+use dfr_channels::trim;
+use memchr::memchr;
+
+/// What is left of a line.
+#[derive(Clone, Copy, Debug)]
+pub(crate) struct Fields<'a> {
+    left: Option<&'a [u8]>,
+    mark: u8,
+}
+
+/// A field in quotation marks, and what stands after it, where one stands at the front that holds a mark between fields.
+fn quoted(text: &[u8], mark: u8) -> Option<(&[u8], Option<&[u8]>)> {
+    let [b'"', rest @ ..] = trim_front(text) else {
+        return None;
+    };
+    let at = memchr(b'"', rest)?;
+    let inside = before(rest, at);
+    memchr(mark, inside)?;
+    let left = trim_front(after(rest, at));
+    if left.is_empty() {
+        return Some((inside, None));
+    }
+    match left {
+        [first, others @ ..] if *first == mark => Some((inside, Some(others))),
+        _ => None,
+    }
+}
+
+fn trim_front(text: &[u8]) -> &[u8] {
+    let mut inner = text;
+    while let [b' ' | b'\t', rest @ ..] = inner {
+        inner = rest;
+    }
+    inner
+}
+
+impl<'a> Fields<'a> {
+    pub(crate) fn of(line: &'a [u8], mark: u8) -> Fields<'a> {
+        Fields {
+            left: Some(line),
+            mark,
+        }
+    }
+
+    /// The next field, without blanks around it.
+    pub(crate) fn next_field(&mut self) -> Option<&'a [u8]> {
+        let text = self.left?;
+        if let Some((inside, left)) = quoted(text, self.mark) {
+            self.left = left;
+            return Some(trim(inside));
+        }
+        match memchr(self.mark, text) {
+            Some(at) => {
+                self.left = Some(after(text, at));
+                Some(trim(before(text, at)))
+            }
+            None => {
+                self.left = None;
+                Some(trim(text))
+            }
+        }
+    }
+
+    /// Whether all that is left are empty fields.
+    pub(crate) fn is_empty_from_here(&self) -> bool {
+        match self.left {
+            Some(text) => text.iter().all(|b| *b == self.mark || *b == b' ' || *b == b'\t'),
+            None => true,
+        }
+    }
+
+    /// Whether a field is left.
+    pub(crate) fn has_more(&self) -> bool {
+        self.left.is_some()
+    }
+}
+
+/// A line's fields as a whole.
+#[derive(Clone, Copy, Debug)]
+pub(crate) struct Parts<'a> {
+    line: &'a [u8],
+    mark: u8,
+    /// How many fields there are, the empty ones at the end too.
+    pub all: usize,
+    /// How many there are up to the last that isn't empty.
+    pub full: usize,
+}
+
+/// How many fields are counted at most.
+const MOST: usize = 64;
+
+impl<'a> Parts<'a> {
+    pub(crate) fn of(line: &'a [u8], mark: u8) -> Parts<'a> {
+        let mut fields = Fields::of(line, mark);
+        let mut all = 0usize;
+        let mut full = 0usize;
+        for _ in 0..MOST {
+            let Some(field) = fields.next_field() else {
+                break;
+            };
+            all = all.saturating_add(1);
+            if !field.is_empty() {
+                full = all;
+            }
+        }
+        if fields.has_more() {
+            all = MOST;
+            if !fields.is_empty_from_here() {
+                full = MOST;
+            }
+        }
+        Parts {
+            line,
+            mark,
+            all,
+            full,
+        }
+    }
+
+    /// The field of this index from 0, empty where there is none.
+    pub(crate) fn at(&self, index: usize) -> &'a [u8] {
+        let mut fields = Fields::of(self.line, self.mark);
+        for _ in 0..index.min(MOST) {
+            if fields.next_field().is_none() {
+                return &[];
+            }
+        }
+        fields.next_field().unwrap_or(&[])
+    }
+}

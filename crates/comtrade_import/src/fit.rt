@@ -1,0 +1,183 @@
+//! Samples as whole numbers that a file of 1999 holds, with the scale that gives them back.
+
+use crate::exact::Exact;
+use crate::num::{Num, ten_to};
+use crate::row::exact_of;
+use crate::scale::{Scale, over};
+use crate::span::{Bounds, Span};
+
+/// How the samples of a channel become whole numbers.
+#[derive(Clone, Copy, Debug)]
+pub(crate) enum Fit {
+    /// They stay as they are.
+    Same,
+    /// Less so much.
+    Shift(i64),
+    /// Times a power of ten.
+    Tens(Scale),
+    /// The nearest of so many steps on both sides of the middle.
+    Steps(Steps),
+    /// All are the same, which b says.
+    Flat(Exact),
+}
+
+/// Steps of `unit` from `middle`, both in the scale's unit.
+#[derive(Clone, Copy, Debug)]
+pub(crate) struct Steps {
+    pub scale: Scale,
+    pub middle: i64,
+    pub unit: i64,
+}
+
+/// The most steps to one side.
+const MOST: i64 = 32_767;
+
+/// A number as a multiple of a power of ten with at most nine digits, and that power.
+fn nine_digits(n: i64) -> (i64, i64) {
+    let mut power = 1i64;
+    for _ in 0..10 {
+        if n.wrapping_div(power.max(1)) < 999_999_999 {
+            break;
+        }
+        power = power.saturating_mul(10);
+    }
+    let up = n.saturating_add(power.saturating_sub(1)).checked_div(power).unwrap_or(n);
+    (up.saturating_mul(power), power)
+}
+
+fn steps_of(span: &Span) -> Steps {
+    let range = span.high.saturating_sub(span.low);
+    let least = range.wrapping_div(65_533).saturating_add(1);
+    let (unit, power) = nine_digits(least);
+    let sum = span.high.saturating_add(span.low);
+    let middle = over(sum.wrapping_div(2), power).saturating_mul(power);
+    Steps {
+        scale: span.scale,
+        middle,
+        unit: unit.max(1),
+    }
+}
+
+/// The power of ten that makes all samples whole numbers within the bounds.
+fn tens_of(span: &Span, bounds: Bounds) -> Option<Scale> {
+    if span.need < -40 || 30 < span.need {
+        return None;
+    }
+    let part = ten_to(span.scale.shift.checked_sub(span.need)?)?;
+    let low = span.low.checked_div(part)?;
+    let high = span.high.checked_div(part)?;
+    if bounds.low <= low && high <= bounds.high {
+        Some(Scale::new(span.need))
+    } else {
+        None
+    }
+}
+
+/// The value of samples that are all the same, where it can be told exactly.
+fn flat_of(span: &Span) -> Option<Exact> {
+    if span.low != span.high {
+        return None;
+    }
+    if span.need <= span.scale.shift {
+        return Some(Exact {
+            units: i128::from(span.low),
+            places: span.scale.shift,
+        });
+    }
+    exact_of(span.first?)
+}
+
+/// How samples without a sign become such with one.
+fn shift_of(span: &Span) -> Option<i64> {
+    let part = ten_to(span.scale.shift)?;
+    let (low, high) = (span.low.checked_div(part)?, span.high.checked_div(part)?);
+    if 1 <= low {
+        return Some(32_768);
+    }
+    if high <= 65_534 { Some(32_767) } else { None }
+}
+
+/// How the samples of a channel become whole numbers. `is_unsigned` where they have no sign.
+pub(crate) fn fit_of(span: &Span, bounds: Bounds, is_unsigned: bool) -> Fit {
+    if span.fits {
+        return Fit::Same;
+    }
+    if is_unsigned {
+        if let Some(shift) = shift_of(span) {
+            return Fit::Shift(shift);
+        }
+    }
+    if let Some(value) = flat_of(span) {
+        return Fit::Flat(value);
+    }
+    match tens_of(span, bounds) {
+        Some(scale) => Fit::Tens(scale),
+        None => Fit::Steps(steps_of(span)),
+    }
+}
+
+/// The whole number of so many steps that is nearest, and how far it is off in the scale's unit.
+fn step_of(steps: Steps, num: Num) -> (i64, i64) {
+    let from = steps.scale.nearest(num).saturating_sub(steps.middle);
+    let step = over(from, steps.unit).max(-MOST).min(MOST);
+    let off = from.saturating_sub(step.saturating_mul(steps.unit));
+    (step, off.saturating_abs())
+}
+
+impl Fit {
+    /// The whole number that a sample becomes, and how far it is off in the scale's unit.
+    pub(crate) fn whole_of(&self, num: Num) -> (i64, i64) {
+        match self {
+            Fit::Same => (num.whole().unwrap_or(0), 0),
+            Fit::Shift(by) => (num.whole().unwrap_or(0).saturating_sub(*by), 0),
+            Fit::Tens(scale) => (scale.nearest(num), 0),
+            Fit::Steps(steps) => step_of(*steps, num),
+            Fit::Flat(_) => (0, 0),
+        }
+    }
+
+    pub(crate) fn is_rounded(&self) -> bool {
+        matches!(self, Fit::Steps(_))
+    }
+
+    pub(crate) fn is_same(&self) -> bool {
+        matches!(self, Fit::Same)
+    }
+
+    /// The factor and the offset that give the values back.
+    pub(crate) fn scaled(&self, a: Exact, b: Exact) -> Option<(Exact, Exact)> {
+        match self {
+            Fit::Same => Some((a, b)),
+            Fit::Shift(by) => Some((
+                a,
+                b.plus(a.times(Exact {
+                    units: i128::from(*by),
+                    places: 0,
+                })?)?,
+            )),
+            Fit::Tens(scale) => Some((
+                Exact {
+                    units: a.units,
+                    places: a.places.checked_add(scale.shift)?,
+                },
+                b,
+            )),
+            Fit::Steps(steps) => {
+                let places = steps.scale.shift;
+                let unit = Exact {
+                    units: i128::from(steps.unit),
+                    places,
+                };
+                let middle = Exact {
+                    units: i128::from(steps.middle),
+                    places,
+                };
+                Some((
+                    a.short().times(unit.short())?,
+                    b.plus(a.short().times(middle.short())?)?,
+                ))
+            }
+            Fit::Flat(value) => Some((a, b.plus(a.short().times(value.short())?)?)),
+        }
+    }
+}

@@ -1,0 +1,210 @@
+//! A pair, or a single file, as a file of 1999 that says the same.
+
+use crate::build::file_of;
+use crate::cut::{Sections, cut};
+use crate::cursor::before;
+use crate::dates::Order;
+use crate::encoding::{narrow, without_mark};
+use crate::fault::{ImportFault, Why};
+use crate::head::draft_of;
+use crate::key::Key;
+use crate::kinds::Form;
+use crate::note::{Note, Notes, Place};
+use crate::sound::is_sound;
+use crate::text::{put, put_number};
+use comtrade_format::{File, WriteFault, cfg_bytes, dat_bytes};
+use comtrade_read::{ReadFault, file_reads_back, read};
+use memchr::memchr;
+use std::alloc::{Allocator, Global};
+
+/// What is asked for where a file can be read in two ways.
+#[derive(Clone, Copy, Debug, Default)]
+pub struct Choices {
+    /// The order of day and month in dates, in place of the one that the revision and the dates say.
+    pub dates: Option<Order>,
+}
+
+/// A file of 1999, its two texts, and what was read otherwise than it stands.
+#[derive(Drop)]
+pub struct Imported<A: Allocator = Global> {
+    pub file: File<A>,
+    pub cfg: Vec<u8, A>,
+    pub dat: Vec<u8, A>,
+    pub notes: Vec<Note<A>, A>,
+}
+
+/// Both texts of a file; none where no file of 1999 can hold it.
+fn finished<A: Allocator + Copy>(
+    alloc: A,
+    file: File<A>,
+    notes: Vec<Note<A>, A>,
+) -> Result<Imported<A>, ImportFault> {
+    file_reads_back(&file);
+    let cfg = match cfg_bytes(alloc, &file) {
+        Ok(cfg) => cfg,
+        Err(fault) => return Err(unwritten(fault)),
+    };
+    let dat = match dat_bytes(alloc, &file) {
+        Ok(dat) => dat,
+        Err(fault) => return Err(unwritten(fault)),
+    };
+    Ok(Imported {
+        file,
+        cfg,
+        dat,
+        notes,
+    })
+}
+
+fn unwritten(fault: WriteFault) -> ImportFault {
+    match fault {
+        WriteFault::Memory => ImportFault::Memory,
+        _ => ImportFault::Whole(Why::Written(fault)),
+    }
+}
+
+/// What stands before the first byte 1A of a configuration file.
+fn before_end<'a, A: Allocator + Copy>(
+    notes: &mut Notes<A>,
+    text: &'a [u8],
+) -> Result<&'a [u8], ImportFault> {
+    match memchr(0x1a, text) {
+        Some(at) => {
+            notes.tell(Key::Cfg1a, Place::Whole("configuration file"), &[])?;
+            Ok(before(text, at))
+        }
+        None => Ok(text),
+    }
+}
+
+/// A text without the mark of UTF-8.
+fn unmarked<'a, A: Allocator + Copy>(
+    notes: &mut Notes<A>,
+    name: &'static str,
+    text: &'a [u8],
+) -> Result<&'a [u8], ImportFault> {
+    match without_mark(text) {
+        Some(rest) => {
+            notes.tell(Key::Bom, Place::Whole(name), &[])?;
+            Ok(rest)
+        }
+        None => Ok(text),
+    }
+}
+
+/// The pair, read with all repairs that it needs.
+fn loose<A: Allocator + Copy>(
+    alloc: A,
+    mut notes: Notes<A>,
+    cfg: &[u8],
+    dat: &[u8],
+    choices: Choices,
+) -> Result<Imported<A>, ImportFault> {
+    let narrowed = narrow(alloc, cfg)?;
+    let text = match &narrowed {
+        Some(text) => {
+            notes.tell(Key::Utf16, Place::Whole("configuration file"), &[])?;
+            text.as_slice()
+        }
+        None => unmarked(&mut notes, "configuration file", cfg)?,
+    };
+    let text = before_end(&mut notes, text)?;
+    let draft = draft_of(alloc, &mut notes, text, choices.dates)?;
+    let is_text = match draft.form {
+        Some(form) => form.is_text(),
+        None => true,
+    };
+    let narrowed = if is_text { narrow(alloc, dat)? } else { None };
+    let data = match &narrowed {
+        Some(text) => {
+            notes.tell(Key::Utf16, Place::Whole("data file"), &[])?;
+            text.as_slice()
+        }
+        None if is_text => unmarked(&mut notes, "data file", dat)?,
+        None => dat,
+    };
+    let file = file_of(alloc, &mut notes, draft, data)?;
+    finished(alloc, file, notes.into_list())
+}
+
+/// The pair as it reads exactly, where it is meant so and a file of 1999 can hold it.
+fn exact<A: Allocator + Copy>(
+    alloc: A,
+    cfg: &[u8],
+    dat: &[u8],
+) -> Result<Option<Imported<A>>, ImportFault> {
+    let file = match read(alloc, cfg, dat) {
+        Ok(file) => file,
+        Err((_, ReadFault::Memory)) => return Err(ImportFault::Memory),
+        Err(_) => return Ok(None),
+    };
+    if !is_sound(alloc, &file, dat)? {
+        return Ok(None);
+    }
+    match finished(alloc, file, Vec::new(alloc)) {
+        Ok(imported) => Ok(Some(imported)),
+        Err(ImportFault::Memory) => Err(ImportFault::Memory),
+        Err(_) => Ok(None),
+    }
+}
+
+/// A pair of any revision as a file of 1999 that says the same, with each repair told.
+pub fn import<A: Allocator + Copy>(
+    alloc: A,
+    cfg: &[u8],
+    dat: &[u8],
+    choices: Choices,
+) -> Result<Imported<A>, ImportFault> {
+    if let Some(imported) = exact(alloc, cfg, dat)? {
+        return Ok(imported);
+    }
+    loose(alloc, Notes::new(alloc), cfg, dat, choices)
+}
+
+/// Tells what was left out of a single file.
+fn tell_sections<A: Allocator + Copy>(
+    alloc: A,
+    notes: &mut Notes<A>,
+    sections: Sections<'_>,
+) -> Result<(), ImportFault> {
+    let place = Place::Whole("single file");
+    notes.tell(Key::Cff, place, &[])?;
+    if sections.has_odd_separator {
+        notes.tell(Key::CffForm, place, &[])?;
+    }
+    if let Some((said, there)) = sections.wrong_count {
+        let mut piece = Vec::new(alloc);
+        put_number(&mut piece, said)?;
+        put(&mut piece, " said, ")?;
+        put_number(&mut piece, there)?;
+        put(&mut piece, " there")?;
+        notes.tell(Key::CffCount, place, &piece)?;
+    }
+    if sections.has_inf {
+        notes.tell(Key::InfDropped, place, &[])?;
+    }
+    if sections.has_hdr {
+        notes.tell(Key::HdrDropped, place, &[])?;
+    }
+    Ok(())
+}
+
+/// A single file as a file of 1999 that says the same, with each repair told.
+pub fn import_single<A: Allocator + Copy>(
+    alloc: A,
+    cff: &[u8],
+    choices: Choices,
+) -> Result<Imported<A>, ImportFault> {
+    let mut notes = Notes::new(alloc);
+    let narrowed = narrow(alloc, cff)?;
+    let text = match &narrowed {
+        Some(text) => {
+            notes.tell(Key::Utf16, Place::Whole("single file"), &[])?;
+            text.as_slice()
+        }
+        None => unmarked(&mut notes, "single file", cff)?,
+    };
+    let sections = cut(text)?;
+    tell_sections(alloc, &mut notes, sections)?;
+    loose(alloc, notes, sections.cfg, sections.dat, choices)
+}

@@ -1,0 +1,270 @@
+//! The lines of the first row's instant and of the trigger's.
+
+use crate::dates::{Civil, Clock, Order, civil_of, clock_of, instant_of, is_like_instant};
+use crate::draft::Revision;
+use crate::fault::{ImportFault, Why};
+use crate::key::Key;
+use crate::lines::{Reader, Row, at, next_row};
+use crate::note::{Notes, Place};
+use dfr_channels::trim;
+use std::alloc::Allocator;
+
+/// A line of an instant; no date or time of day where none stands there.
+#[derive(Clone, Copy)]
+struct Said {
+    civil: Option<Civil>,
+    clock: Option<Clock>,
+    line: u64,
+}
+
+/// Both instants, in microseconds since 1970-01-01.
+#[derive(Clone, Copy)]
+pub(crate) struct Instants {
+    pub first: i64,
+    pub trigger: i64,
+    pub has_nanos: bool,
+}
+
+/// The texts of date and time of day of a line. They may stand in one field, with a blank between them.
+fn texts_of<'a>(row: Row<'a>, mark: u8) -> (&'a [u8], &'a [u8], bool) {
+    let field = row.parts.at(0);
+    if 1 < row.parts.full || field.is_empty() || mark == 0 {
+        let time = if row.parts.full == 3 { rest_after(row.text, mark) } else { row.parts.at(1) };
+        return (field, time, false);
+    }
+    match field.iter().position(|b| *b == b' ' || *b == b'T' || *b == b'\t') {
+        Some(at) => (
+            field.get(..at).unwrap_or(&[]),
+            trim(field.get(at.wrapping_add(1)..).unwrap_or(&[])),
+            true,
+        ),
+        None => (field, &field[field.len()..], false),
+    }
+}
+
+/// What stands after the first mark of a line.
+fn rest_after(line: &[u8], mark: u8) -> &[u8] {
+    match line.iter().position(|b| *b == mark) {
+        Some(at) => trim(line.get(at.wrapping_add(1)..).unwrap_or(&[])),
+        None => line,
+    }
+}
+
+fn tell_clock<A: Allocator + Copy>(
+    notes: &mut Notes<A>,
+    line: u64,
+    clock: Clock,
+    text: &[u8],
+) -> Result<(), ImportFault> {
+    let place = Place::Cfg(line);
+    if clock.is_24 {
+        notes.tell_text(Key::Time24, place, text)?;
+    }
+    if clock.is_leap {
+        notes.tell_text(Key::LeapSecond, place, text)?;
+    }
+    if clock.is_long {
+        notes.tell_text(Key::FractionLong, place, text)?;
+    }
+    if clock.is_odd {
+        notes.tell_text(Key::FractionForm, place, text)?;
+    }
+    if clock.has_comma {
+        notes.tell_text(Key::DecimalComma, place, text)?;
+    }
+    Ok(())
+}
+
+fn tell_civil<A: Allocator + Copy>(
+    notes: &mut Notes<A>,
+    line: u64,
+    civil: Civil,
+    is_other: bool,
+    text: &[u8],
+) -> Result<(), ImportFault> {
+    if civil.is_unset() {
+        return Ok(());
+    }
+    if civil.is_other || is_other {
+        notes.tell_text(Key::DateForm, Place::Cfg(line), text)?;
+    }
+    if civil.has_short_year {
+        notes.tell_text(Key::Years2Digits, Place::Cfg(line), text)?;
+    }
+    Ok(())
+}
+
+/// The next line, where it is that of an instant.
+fn said_of<A: Allocator + Copy>(reader: &mut Reader<'_, '_, A>) -> Result<Said, ImportFault> {
+    let mut ahead = reader.cursor;
+    let is_there = match ahead.next_line() {
+        Some(line) => is_like_instant(line.text, reader.mark),
+        None => false,
+    };
+    if !is_there {
+        return Ok(Said {
+            civil: None,
+            clock: None,
+            line: reader.cursor.next_number(),
+        });
+    }
+    let row = next_row(&mut reader.cursor, reader.mark, reader.notes, 2)?;
+    let line = row.number;
+    let (date, time, is_joined) = texts_of(row, reader.mark);
+    let civil = civil_of(date);
+    let clock = clock_of(time);
+    if civil.is_none() && !date.is_empty() || clock.is_none() && !time.is_empty() || 3 < row.parts.full {
+        return Err(at(line, Why::Instant));
+    }
+    if let Some(clock) = clock {
+        tell_clock(reader.notes, line, clock, time)?;
+    }
+    if let Some(civil) = civil {
+        if clock.is_none() && !civil.is_unset() {
+            return Err(at(line, Why::Instant));
+        }
+        tell_civil(reader.notes, line, civil, is_joined, date)?;
+    }
+    Ok(Said { civil, clock, line })
+}
+
+impl Said {
+    /// The date, where one is set.
+    fn date(self) -> Option<Civil> {
+        match self.civil {
+            Some(civil) if !civil.is_unset() => Some(civil),
+            _ => None,
+        }
+    }
+
+    fn micros(self) -> i64 {
+        match self.clock {
+            Some(clock) => clock.micros,
+            None => 0,
+        }
+    }
+
+    fn is_long(self) -> bool {
+        match self.clock {
+            Some(clock) => clock.is_long,
+            None => false,
+        }
+    }
+
+    /// Whether the date, if one is set, is valid in this order.
+    fn fits(self, order: Order) -> bool {
+        match self.date() {
+            Some(civil) => civil.day_in(order).is_some(),
+            None => true,
+        }
+    }
+
+    /// Whether a date is set that doesn't say its order by itself.
+    fn is_open(self) -> bool {
+        match self.date() {
+            Some(civil) => !civil.is_fixed(),
+            None => false,
+        }
+    }
+
+    /// Whether both orders say the same.
+    fn is_same_in_both(self) -> bool {
+        match self.date() {
+            Some(civil) => civil.day_in(Order::DayFirst) == civil.day_in(Order::MonthFirst),
+            None => true,
+        }
+    }
+}
+
+fn other_of(order: Order) -> Order {
+    match order {
+        Order::DayFirst => Order::MonthFirst,
+        Order::MonthFirst => Order::DayFirst,
+    }
+}
+
+/// The one order of both dates: what was asked for, else the revision's, unless only the other gives valid dates.
+fn order_of<A: Allocator + Copy>(
+    notes: &mut Notes<A>,
+    said: (Said, Said),
+    revision: Revision,
+    asked: Option<Order>,
+) -> Result<Order, ImportFault> {
+    let usual = if revision == Revision::Of1991 { Order::MonthFirst } else { Order::DayFirst };
+    let (first, trigger) = said;
+    let fits = |order: Order| first.fits(order) && trigger.fits(order);
+    let is_ambiguous = fits(usual)
+        && fits(other_of(usual))
+        && !(first.is_same_in_both() && trigger.is_same_in_both());
+    let order = match asked {
+        Some(order) => order,
+        None if fits(usual) => usual,
+        None => other_of(usual),
+    };
+    if !fits(order) {
+        let line = if first.fits(order) { trigger.line } else { first.line };
+        return Err(at(line, Why::NoDate));
+    }
+    if !first.is_open() && !trigger.is_open() {
+        return Ok(order);
+    }
+    let place = Place::Cfg(first.line);
+    if order == Order::MonthFirst {
+        notes.tell(Key::DatesMdy, place, &[])?;
+    } else if revision == Revision::Of1991 {
+        notes.tell(Key::DatesDmy, place, &[])?;
+    }
+    if is_ambiguous && revision == Revision::Of1991 && asked.is_none() {
+        notes.tell(Key::DatesAmbiguous, place, b"the month was taken to stand first")?;
+    }
+    Ok(order)
+}
+
+fn day_of(said: Said, order: Order) -> Option<i64> {
+    said.date()?.day_in(order)
+}
+
+/// The instants of both lines in one order.
+fn settled<A: Allocator + Copy>(
+    notes: &mut Notes<A>,
+    first: Said,
+    trigger: Said,
+    order: Order,
+) -> Result<Instants, ImportFault> {
+    let has_nanos = first.is_long() || trigger.is_long();
+    let start = instant_of(day_of(first, order).unwrap_or(0), first.micros());
+    if first.date().is_none() {
+        notes.tell(Key::InstantUnset, Place::Cfg(first.line), b"first row")?;
+    }
+    let end = match day_of(trigger, order) {
+        Some(day) => instant_of(day, trigger.micros()),
+        None if first.date().is_some() => {
+            notes.tell(Key::TriggerUnset, Place::Cfg(trigger.line), &[])?;
+            start
+        }
+        None => {
+            notes.tell(Key::InstantUnset, Place::Cfg(trigger.line), b"trigger")?;
+            trigger.micros().max(start)
+        }
+    };
+    if end < start {
+        notes.tell(Key::TriggerBeforeFirst, Place::Cfg(trigger.line), &[])?;
+    }
+    Ok(Instants {
+        first: start,
+        trigger: end,
+        has_nanos,
+    })
+}
+
+/// The instants of the first row and of the trigger.
+pub(crate) fn instants_of<A: Allocator + Copy>(
+    reader: &mut Reader<'_, '_, A>,
+    revision: Revision,
+    asked: Option<Order>,
+) -> Result<Instants, ImportFault> {
+    let first = said_of(reader)?;
+    let trigger = said_of(reader)?;
+    let order = order_of(reader.notes, (first, trigger), revision, asked)?;
+    settled(reader.notes, first, trigger, order)
+}

@@ -1,0 +1,324 @@
+//! What was read otherwise than it stands: the keys, which are stable, and what each means.
+
+/// A kind of repair, or something odd that stays.
+#[derive(Clone, Copy, Debug, PartialEq, Eq)]
+pub enum Key {
+    /// Read as 1991.
+    Revision1991,
+    /// Read as 2013.
+    Revision2013,
+    /// No year in line 1, but the lines are those of 1999: read as 1999.
+    RevisionAbsent,
+    /// A year of a known form (2001): read as 1999.
+    RevisionOther,
+    /// 1991 has no ratio and no side: P, 1:1.
+    SidesAbsent,
+    /// No side is said: P.
+    SideEmpty,
+    /// The month stands first in the dates.
+    DatesMdy,
+    /// The day stands first in the dates of a file of 1991.
+    DatesDmy,
+    /// Both orders are lawful dates; which was taken.
+    DatesAmbiguous,
+    /// Dates with other marks or in another order than dd/mm/yyyy.
+    DateForm,
+    /// Years of two digits; which century was taken.
+    Years2Digits,
+    /// 24:00:00 became 00:00:00 of the next day.
+    Time24,
+    /// Second 60 became second 0 of the next minute.
+    LeapSecond,
+    /// More than six digits of a second were rounded.
+    FractionLong,
+    /// A point without digits after the seconds.
+    FractionForm,
+    /// An instant that is empty or zeros became 01/01/1970.
+    InstantUnset,
+    /// No instant of trigger: that of the first row.
+    TriggerUnset,
+    /// The trigger lies before the first row (stays).
+    TriggerBeforeFirst,
+    /// No timemult: 1.
+    NoTimemult,
+    /// Time codes and time quality were left out.
+    Lines2013Dropped,
+    /// Status lines without phase and component.
+    Status3Fields,
+    /// An empty number; what was taken for it.
+    NumberEmpty,
+    /// Counts in another order, or with spaces.
+    CountsForm,
+    /// The total isn't the sum of both counts; the sum was taken.
+    CountsTotal,
+    /// Channels were numbered anew, in the order of their lines.
+    IndexOrder,
+    /// Min and max were swapped.
+    RangeSwapped,
+    /// Min and max that 1999 can't hold were set anew.
+    RangeForm,
+    /// A channel's factor is 0 (stays).
+    AZero,
+    /// Fortran exponents.
+    ExponentD,
+    /// Commas for decimal points.
+    DecimalComma,
+    /// Semicolons between fields.
+    SeparatorSemicolon,
+    /// Empty fields at the ends of lines were left out.
+    TrailingCommas,
+    /// Blank lines were left out.
+    BlankLines,
+    /// Lines end in CR alone.
+    LineEndsCr,
+    /// Lines end in CR CR LF.
+    LineEndsCrcr,
+    /// A mark of UTF-8 before the first line was left out.
+    Bom,
+    /// The file is UTF-16.
+    Utf16,
+    /// 1A and what follows in the cfg was left out.
+    Cfg1a,
+    /// Letters outside ASCII were spelled in ASCII.
+    TextsNotAscii,
+    /// Texts were shortened.
+    TextLong,
+    /// A phase of over two letters was left out.
+    PhaseLong,
+    /// A channel without unit: NONE.
+    UnitEmpty,
+    /// A comma within a text was replaced.
+    TextComma,
+    /// No rate line after nrates 0.
+    RateLineAbsent,
+    /// A rate of 0: nrates 0, the stamps say the times.
+    RateZero,
+    /// Fewer rows than endsamp: endsamp was lowered.
+    RowsFewer,
+    /// More rows than endsamp: endsamp was raised.
+    RowsMore,
+    /// Row numbers and stamps jump: rows are missing; how many, where, and what was made of it.
+    RowsLost,
+    /// An incomplete last row was left out.
+    RowCut,
+    /// Rows were numbered anew.
+    SampleNumbers,
+    /// Stamps begin again: times are by the rate.
+    StampsRestart,
+    /// Stamps contradict the rate; which was taken.
+    StampsAgainstRate,
+    /// Stamps with a point were rounded.
+    StampsDecimal,
+    /// Stamps were shifted so that the first is 0.
+    StampsShifted,
+    /// Stamps are nanoseconds.
+    StampsNs,
+    /// No stamps: times are by the rate.
+    StampsAbsent,
+    /// Neither stamps nor a rate: the rows have no times.
+    TimesUnknown,
+    /// Samples with a point became whole numbers, a was fitted.
+    ValuesDecimal,
+    /// Samples over 16 bits (BINARY) or five digits (ASCII) were scaled, a was fitted.
+    ValuesWide,
+    /// Samples are unsigned: b was moved.
+    ValuesUnsigned,
+    /// Values aren't held exactly: the greatest error, by channel.
+    ValuesRounded,
+    /// Missing values had another mark than the standard's.
+    MissingMarks,
+    /// BINARY32 data.
+    KindBinary32,
+    /// FLOAT32 data.
+    KindFloat32,
+    /// The data aren't of the kind that the cfg says.
+    KindOther,
+    /// The cfg doesn't say the kind of the data.
+    KindAbsent,
+    /// A 1A after BINARY data was left out.
+    Dat1a,
+    /// What follows the 1A of ASCII data was left out.
+    DatAfterEnd,
+    /// BINARY rows have a word more than the counts give.
+    RowSize,
+    /// Bits without a channel are set in status words (stays).
+    StatusSpareBits,
+    /// The BINARY data have their most significant byte first.
+    BigEndian,
+    /// A single file was taken apart.
+    Cff,
+    /// Separators in another spelling than 2013's.
+    CffForm,
+    /// The count of bytes of the DAT section isn't what is there.
+    CffCount,
+    /// The INF section was left out.
+    InfDropped,
+    /// The HDR section was left out.
+    HdrDropped,
+}
+
+impl Key {
+    /// The key's name, as the manual lists it.
+    pub fn name(self) -> &'static str {
+        match self {
+            Key::Revision1991 => "revision-1991",
+            Key::Revision2013 => "revision-2013",
+            Key::RevisionAbsent => "revision-absent",
+            Key::RevisionOther => "revision-other",
+            Key::SidesAbsent => "sides-absent",
+            Key::SideEmpty => "side-empty",
+            Key::DatesMdy => "dates-mdy",
+            Key::DatesDmy => "dates-dmy",
+            Key::DatesAmbiguous => "dates-ambiguous",
+            Key::DateForm => "date-form",
+            Key::Years2Digits => "years-2-digits",
+            Key::Time24 => "time-24",
+            Key::LeapSecond => "leap-second",
+            Key::FractionLong => "fraction-long",
+            Key::FractionForm => "fraction-form",
+            Key::InstantUnset => "instant-unset",
+            Key::TriggerUnset => "trigger-unset",
+            Key::TriggerBeforeFirst => "trigger-before-first",
+            Key::NoTimemult => "no-timemult",
+            Key::Lines2013Dropped => "lines-2013-dropped",
+            Key::Status3Fields => "status-3-fields",
+            Key::NumberEmpty => "number-empty",
+            Key::CountsForm => "counts-form",
+            Key::CountsTotal => "counts-total",
+            Key::IndexOrder => "index-order",
+            Key::RangeSwapped => "range-swapped",
+            Key::RangeForm => "range-form",
+            Key::AZero => "a-zero",
+            Key::ExponentD => "exponent-d",
+            Key::DecimalComma => "decimal-comma",
+            Key::SeparatorSemicolon => "separator-semicolon",
+            Key::TrailingCommas => "trailing-commas",
+            Key::BlankLines => "blank-lines",
+            Key::LineEndsCr => "line-ends-cr",
+            Key::LineEndsCrcr => "line-ends-crcr",
+            Key::Bom => "bom",
+            Key::Utf16 => "utf-16",
+            Key::Cfg1a => "cfg-1a",
+            Key::TextsNotAscii => "texts-not-ascii",
+            Key::TextLong => "text-long",
+            Key::PhaseLong => "phase-long",
+            Key::UnitEmpty => "unit-empty",
+            Key::TextComma => "text-comma",
+            Key::RateLineAbsent => "rate-line-absent",
+            Key::RateZero => "rate-zero",
+            Key::RowsFewer => "rows-fewer",
+            Key::RowsMore => "rows-more",
+            Key::RowsLost => "rows-lost",
+            Key::RowCut => "row-cut",
+            Key::SampleNumbers => "sample-numbers",
+            Key::StampsRestart => "stamps-restart",
+            Key::StampsAgainstRate => "stamps-against-rate",
+            Key::StampsDecimal => "stamps-decimal",
+            Key::StampsShifted => "stamps-shifted",
+            Key::StampsNs => "stamps-ns",
+            Key::StampsAbsent => "stamps-absent",
+            Key::TimesUnknown => "times-unknown",
+            Key::ValuesDecimal => "values-decimal",
+            Key::ValuesWide => "values-wide",
+            Key::ValuesUnsigned => "values-unsigned",
+            Key::ValuesRounded => "values-rounded",
+            Key::MissingMarks => "missing-marks",
+            Key::KindBinary32 => "kind-binary32",
+            Key::KindFloat32 => "kind-float32",
+            Key::KindOther => "kind-other",
+            Key::KindAbsent => "kind-absent",
+            Key::Dat1a => "dat-1a",
+            Key::DatAfterEnd => "dat-after-end",
+            Key::RowSize => "row-size",
+            Key::StatusSpareBits => "status-spare-bits",
+            Key::BigEndian => "big-endian",
+            Key::Cff => "cff",
+            Key::CffForm => "cff-form",
+            Key::CffCount => "cff-count",
+            Key::InfDropped => "inf-dropped",
+            Key::HdrDropped => "hdr-dropped",
+        }
+    }
+
+    /// What the key means.
+    pub fn words(self) -> &'static str {
+        match self {
+            Key::Revision1991 => "read as 1991",
+            Key::Revision2013 => "read as 2013",
+            Key::RevisionAbsent => "no year in line 1, but the lines are those of 1999: read as 1999",
+            Key::RevisionOther => "a year of a known form (2001): read as 1999",
+            Key::SidesAbsent => "1991 has no ratio and no side: P, 1:1",
+            Key::SideEmpty => "no side is said: P",
+            Key::DatesMdy => "the month stands first in the dates",
+            Key::DatesDmy => "the day stands first in the dates of a file of 1991",
+            Key::DatesAmbiguous => "both orders are lawful dates; which was taken",
+            Key::DateForm => "dates with other marks or in another order than dd/mm/yyyy",
+            Key::Years2Digits => "years of two digits; which century was taken",
+            Key::Time24 => "24:00:00 became 00:00:00 of the next day",
+            Key::LeapSecond => "second 60 became second 0 of the next minute",
+            Key::FractionLong => "more than six digits of a second were rounded",
+            Key::FractionForm => "a point without digits after the seconds",
+            Key::InstantUnset => "an instant that is empty or zeros became 01/01/1970",
+            Key::TriggerUnset => "no instant of trigger: that of the first row",
+            Key::TriggerBeforeFirst => "the trigger lies before the first row (stays)",
+            Key::NoTimemult => "no timemult: 1",
+            Key::Lines2013Dropped => "time codes and time quality were left out",
+            Key::Status3Fields => "status lines without phase and component",
+            Key::NumberEmpty => "an empty number; what was taken for it",
+            Key::CountsForm => "counts in another order, or with spaces",
+            Key::CountsTotal => "the total isn't the sum of both counts; the sum was taken",
+            Key::IndexOrder => "channels were numbered anew, in the order of their lines",
+            Key::RangeSwapped => "min and max were swapped",
+            Key::RangeForm => "min and max that 1999 can't hold were set anew",
+            Key::AZero => "a channel's factor is 0 (stays)",
+            Key::ExponentD => "Fortran exponents",
+            Key::DecimalComma => "commas for decimal points",
+            Key::SeparatorSemicolon => "semicolons between fields",
+            Key::TrailingCommas => "empty fields at the ends of lines were left out",
+            Key::BlankLines => "blank lines were left out",
+            Key::LineEndsCr => "lines end in CR alone",
+            Key::LineEndsCrcr => "lines end in CR CR LF",
+            Key::Bom => "a mark of UTF-8 before the first line was left out",
+            Key::Utf16 => "the file is UTF-16",
+            Key::Cfg1a => "1A and what follows in the cfg was left out",
+            Key::TextsNotAscii => "letters outside ASCII were spelled in ASCII",
+            Key::TextLong => "texts were shortened",
+            Key::PhaseLong => "a phase of over two letters was left out",
+            Key::UnitEmpty => "a channel without unit: NONE",
+            Key::TextComma => "a comma within a text was replaced",
+            Key::RateLineAbsent => "no rate line after nrates 0",
+            Key::RateZero => "a rate of 0: nrates 0, the stamps say the times",
+            Key::RowsFewer => "fewer rows than endsamp: endsamp was lowered",
+            Key::RowsMore => "more rows than endsamp: endsamp was raised",
+            Key::RowsLost => "row numbers and stamps jump: rows are missing; how many, where, and what was made of it",
+            Key::RowCut => "an incomplete last row was left out",
+            Key::SampleNumbers => "rows were numbered anew",
+            Key::StampsRestart => "stamps begin again: times are by the rate",
+            Key::StampsAgainstRate => "stamps contradict the rate; which was taken",
+            Key::StampsDecimal => "stamps with a point were rounded",
+            Key::StampsShifted => "stamps were shifted so that the first is 0",
+            Key::StampsNs => "stamps are nanoseconds",
+            Key::StampsAbsent => "no stamps: times are by the rate",
+            Key::TimesUnknown => "neither stamps nor a rate: the rows have no times",
+            Key::ValuesDecimal => "samples with a point became whole numbers, a was fitted",
+            Key::ValuesWide => "samples over 16 bits (BINARY) or five digits (ASCII) were scaled, a was fitted",
+            Key::ValuesUnsigned => "samples are unsigned: b was moved",
+            Key::ValuesRounded => "values aren't held exactly: the greatest error, by channel",
+            Key::MissingMarks => "missing values had another mark than the standard's",
+            Key::KindBinary32 => "BINARY32 data",
+            Key::KindFloat32 => "FLOAT32 data",
+            Key::KindOther => "the data aren't of the kind that the cfg says",
+            Key::KindAbsent => "the cfg doesn't say the kind of the data",
+            Key::Dat1a => "a 1A after BINARY data was left out",
+            Key::DatAfterEnd => "what follows the 1A of ASCII data was left out",
+            Key::RowSize => "BINARY rows have a word more than the counts give",
+            Key::StatusSpareBits => "bits without a channel are set in status words (stays)",
+            Key::BigEndian => "the BINARY data have their most significant byte first",
+            Key::Cff => "a single file was taken apart",
+            Key::CffForm => "separators in another spelling than 2013's",
+            Key::CffCount => "the count of bytes of the DAT section isn't what is there",
+            Key::InfDropped => "the INF section was left out",
+            Key::HdrDropped => "the HDR section was left out",
+        }
+    }
+}

@@ -1,0 +1,52 @@
+//! The forms of data files.
+
+/// The form of a data file: that of 1999 or 2013.
+#[derive(Clone, Copy, Debug, PartialEq, Eq)]
+pub(crate) enum Form {
+    Ascii,
+    Binary,
+    Binary32,
+    Float32,
+}
+
+/// The form that a word names.
+pub(crate) fn form_of(text: &[u8]) -> Option<Form> {
+    if text.eq_ignore_ascii_case(b"ascii") {
+        return Some(Form::Ascii);
+    }
+    if text.eq_ignore_ascii_case(b"binary") {
+        return Some(Form::Binary);
+    }
+    if text.eq_ignore_ascii_case(b"binary32") {
+        return Some(Form::Binary32);
+    }
+    if text.eq_ignore_ascii_case(b"float32") {
+        return Some(Form::Float32);
+    }
+    None
+}
+
+impl Form {
+    /// The bytes of a value.
+    fn width(self) -> usize {
+        match self {
+            Form::Ascii => 1,
+            Form::Binary => 2,
+            Form::Binary32 | Form::Float32 => 4,
+        }
+    }
+
+    /// The bytes of a row of k values and m bits.
+    pub(crate) fn row_size(self, k: usize, m: usize) -> usize {
+        let words = m.saturating_add(15).wrapping_div(16);
+        self.width()
+            .saturating_mul(k)
+            .saturating_add(words.saturating_mul(2))
+            .saturating_add(8)
+    }
+
+    /// What a file of this form is written as.
+    pub(crate) fn is_text(self) -> bool {
+        self == Form::Ascii
+    }
+}

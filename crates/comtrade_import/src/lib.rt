@@ -1,0 +1,41 @@
+//! Reads COMTRADE files as relays and programs really write them, of 1991, 1999 and 2013, and gives a file of 1999 that says the
+//! same, with each repair told.
+#![tactic(auto)]
+
+mod analog;
+mod build;
+mod clock;
+mod cursor;
+mod cut;
+mod data;
+mod dates;
+mod draft;
+mod encoding;
+mod exact;
+mod fault;
+mod field;
+mod fit;
+mod head;
+mod import;
+mod instants;
+mod key;
+mod kinds;
+mod lines;
+mod note;
+mod num;
+mod rates;
+mod row;
+mod scale;
+mod sound;
+mod span;
+mod spelled;
+mod stamps;
+mod status;
+mod text;
+
+pub use cut::{Sections, cut};
+pub use dates::Order;
+pub use fault::{ImportFault, Why};
+pub use import::{Choices, Imported, import, import_single};
+pub use key::Key;
+pub use note::Note;

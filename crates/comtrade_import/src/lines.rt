@@ -1,0 +1,186 @@
+//! What all lines of a configuration file have in common.
+
+use crate::cursor::{Cursor, Line};
+use crate::fault::{ImportFault, Why};
+use crate::field::Parts;
+use crate::key::Key;
+use crate::note::{Notes, Place};
+use crate::num::spelled_of;
+use crate::spelled::{cut_to, plain_of};
+use crate::text::{put, put_number};
+use dfr_channels::{Decimal, Items};
+use std::alloc::{AllocError, Allocator};
+
+/// The lines that are left, the mark between their fields, and the notes so far.
+#[derive(Drop)]
+pub(crate) struct Reader<'a, 'n, A: Allocator> {
+    pub alloc: A,
+    pub cursor: Cursor<'a>,
+    pub mark: u8,
+    pub notes: &'n mut Notes<A>,
+}
+
+/// A line's fields, and its number.
+#[derive(Clone, Copy)]
+pub(crate) struct Row<'a> {
+    pub parts: Parts<'a>,
+    pub text: &'a [u8],
+    pub number: u64,
+}
+
+pub(crate) fn at(line: u64, why: Why) -> ImportFault {
+    ImportFault::Cfg(line, why)
+}
+
+/// Tells the oddities of a line as a whole.
+pub(crate) fn tell_line<A: Allocator + Copy>(
+    notes: &mut Notes<A>,
+    line: Line<'_>,
+    place: Place,
+) -> Result<(), AllocError> {
+    if line.after_blank {
+        notes.tell(Key::BlankLines, place, &[])?;
+    }
+    if line.is_doubled && !notes.has(Key::LineEndsCrcr) {
+        notes.tell(Key::LineEndsCrcr, place, &[])?;
+    }
+    Ok(())
+}
+
+/// The next line, with its oddities told; no empty fields stand at its end that are over `wanted`.
+pub(crate) fn next_row<'a, A: Allocator + Copy>(
+    cursor: &mut Cursor<'a>,
+    mark: u8,
+    notes: &mut Notes<A>,
+    wanted: usize,
+) -> Result<Row<'a>, ImportFault> {
+    let missing = cursor.next_number();
+    let Some(line) = cursor.next_line() else {
+        return Err(at(missing, Why::Missing));
+    };
+    tell_line(notes, line, Place::Cfg(line.number))?;
+    let parts = Parts::of(line.text, mark);
+    if wanted < parts.all && parts.full <= wanted {
+        notes.tell(Key::TrailingCommas, Place::Cfg(line.number), &[])?;
+    }
+    Ok(Row {
+        parts,
+        text: line.text,
+        number: line.number,
+    })
+}
+
+/// The decimal that a text spells, with the oddities of its spelling told.
+pub(crate) fn decimal_of<A: Allocator + Copy>(
+    notes: &mut Notes<A>,
+    mark: u8,
+    line: u64,
+    text: &[u8],
+) -> Result<Decimal, ImportFault> {
+    if let Some(decimal) = Decimal::read(text) {
+        return Ok(decimal);
+    }
+    let Some(spelled) = spelled_of(text, mark == b';') else {
+        return Err(at(line, Why::Number));
+    };
+    if spelled.is_fortran {
+        notes.tell_text(Key::ExponentD, Place::Cfg(line), text)?;
+    }
+    if spelled.has_comma {
+        notes.tell_text(Key::DecimalComma, Place::Cfg(line), text)?;
+    }
+    match decimal_in(notes.allocator(), text)? {
+        Some(decimal) => Ok(decimal),
+        None => Err(at(line, Why::Number)),
+    }
+}
+
+/// The decimal of a text in which a comma stands for the point, or a D for the exponent's mark.
+fn decimal_in<A: Allocator + Copy>(
+    alloc: A,
+    text: &[u8],
+) -> Result<Option<Decimal>, AllocError> {
+    let mut plain = Vec::new(alloc);
+    for b in text {
+        plain.push(match *b {
+            b',' => b'.',
+            b'd' | b'D' => b'E',
+            other => other,
+        })?;
+    }
+    Ok(Decimal::read(&plain))
+}
+
+/// The decimal that a text spells, or what is taken for an empty one, which is told.
+pub(crate) fn decimal_or<A: Allocator + Copy>(
+    notes: &mut Notes<A>,
+    mark: u8,
+    line: u64,
+    text: &[u8],
+    empty: (&str, i128),
+) -> Result<Decimal, ImportFault> {
+    if !text.is_empty() {
+        return decimal_of(notes, mark, line, text);
+    }
+    tell_empty(notes, line, empty.0)?;
+    match Decimal::new(empty.1, 0) {
+        Some(decimal) => Ok(decimal),
+        None => Err(at(line, Why::Number)),
+    }
+}
+
+pub(crate) fn tell_empty<A: Allocator + Copy>(
+    notes: &mut Notes<A>,
+    line: u64,
+    what: &str,
+) -> Result<(), AllocError> {
+    notes.tell(Key::NumberEmpty, Place::Cfg(line), what.as_bytes())
+}
+
+/// A text of at most so many bytes; a longer one is cut, with this number after it where there is one.
+pub(crate) fn text_of<A: Allocator + Copy>(
+    notes: &mut Notes<A>,
+    line: u64,
+    text: &[u8],
+    most: usize,
+    number: Option<u64>,
+) -> Result<Items<u8, A>, ImportFault> {
+    let alloc = notes.allocator();
+    let plain = plain_of(alloc, text)?;
+    let place = Place::Cfg(line);
+    if plain.is_spelled {
+        notes.tell_text(Key::TextsNotAscii, place, &plain.bytes)?;
+    }
+    if plain.had_comma {
+        notes.tell_text(Key::TextComma, place, &plain.bytes)?;
+    }
+    let whole = cut_to(&plain.bytes, plain.bytes.len());
+    if whole.len() <= most {
+        return Ok(Items::of(Vec::from_slice(alloc, whole)?));
+    }
+    notes.tell_text(Key::TextLong, place, whole)?;
+    let mut end = Vec::new(alloc);
+    if let Some(number) = number {
+        put(&mut end, "~")?;
+        put_number(&mut end, number)?;
+    }
+    let mut short = Vec::from_slice(alloc, cut_to(whole, most.saturating_sub(end.len())))?;
+    short.extend_from_slice(&end)?;
+    Ok(Items::of(short))
+}
+
+/// A phase: of more than two bytes it is left out.
+pub(crate) fn phase_of<A: Allocator + Copy>(
+    notes: &mut Notes<A>,
+    line: u64,
+    text: &[u8],
+) -> Result<Items<u8, A>, ImportFault> {
+    let alloc = notes.allocator();
+    let plain = plain_of(alloc, text)?;
+    let whole = cut_to(&plain.bytes, plain.bytes.len());
+    if 2 < whole.len() {
+        notes.tell_text(Key::PhaseLong, Place::Cfg(line), whole)?;
+        return Ok(Items::of(Vec::new(alloc)));
+    }
+    text_of(notes, line, text, 2, None)
+}

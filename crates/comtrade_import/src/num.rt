@@ -1,0 +1,249 @@
+//! Numbers as samples spell them: decimals in text, and binary floats.
+
+/// The number mant * 10^ten * 2^two.
+#[derive(Clone, Copy, Debug)]
+pub(crate) struct Num {
+    pub mant: i64,
+    pub ten: i32,
+    pub two: i32,
+}
+
+/// A number, and how it was spelled.
+#[derive(Clone, Copy, Debug)]
+pub(crate) struct Spelled {
+    pub num: Num,
+    /// A point or an exponent stands in it.
+    pub is_pointed: bool,
+    /// Its exponent's mark is D.
+    pub is_fortran: bool,
+    /// A comma stands for its point.
+    pub has_comma: bool,
+}
+
+static TENS: [i64; 19] = [
+    1,
+    10,
+    100,
+    1_000,
+    10_000,
+    100_000,
+    1_000_000,
+    10_000_000,
+    100_000_000,
+    1_000_000_000,
+    10_000_000_000,
+    100_000_000_000,
+    1_000_000_000_000,
+    10_000_000_000_000,
+    100_000_000_000_000,
+    1_000_000_000_000_000,
+    10_000_000_000_000_000,
+    100_000_000_000_000_000,
+    1_000_000_000_000_000_000,
+];
+
+/// 10^n, for n from 0 to 18.
+pub(crate) fn ten_to(n: i32) -> Option<i64> {
+    TENS.get(usize::try_from(n).ok()?).copied()
+}
+
+impl Num {
+    pub(crate) fn of(mant: i64) -> Num {
+        Num {
+            mant,
+            ten: 0,
+            two: 0,
+        }
+    }
+
+    /// The whole number that it is, if it is one.
+    pub(crate) fn whole(self) -> Option<i64> {
+        if self.mant == 0 {
+            return Some(0);
+        }
+        if self.two != 0 {
+            if self.two < 0 || 39 < self.two {
+                return None;
+            }
+            return self.mant.checked_mul(1i64.wrapping_shl(self.two.unsigned_abs()));
+        }
+        if 0 <= self.ten {
+            return self.mant.checked_mul(ten_to(self.ten)?);
+        }
+        let part = ten_to(self.ten.checked_neg()?)?;
+        if self.mant.checked_rem(part)? == 0 {
+            self.mant.checked_div(part)
+        } else {
+            None
+        }
+    }
+
+    /// The greatest n, also below 0, for which the number over 10^n is whole.
+    pub(crate) fn zeros(self) -> i32 {
+        if self.two == 0 {
+            return self.ten.saturating_add(zeros_of(self.mant));
+        }
+        self.two.min(0)
+    }
+
+    /// A whole number n with the number's size below 10^n.
+    pub(crate) fn order(self) -> i32 {
+        let bits = 64i32.saturating_sub(i32::try_from(self.mant.unsigned_abs().leading_zeros()).unwrap_or(0));
+        if self.two == 0 {
+            return digits_of(self.mant.unsigned_abs()).saturating_add(self.ten);
+        }
+        let twos = bits.saturating_add(self.two);
+        twos.saturating_mul(30_103).wrapping_div(100_000).saturating_add(1)
+    }
+}
+
+/// How many zeros end a number in decimal; 0 ends in very many.
+fn zeros_of(mant: i64) -> i32 {
+    if mant == 0 {
+        return 9_999;
+    }
+    let mut left = mant;
+    let mut zeros = 0i32;
+    for _ in 0..18 {
+        if left.wrapping_rem(10) != 0 {
+            break;
+        }
+        left = left.wrapping_div(10);
+        zeros = zeros.saturating_add(1);
+    }
+    zeros
+}
+
+/// How many decimal digits a number has.
+fn digits_of(size: u64) -> i32 {
+    let mut left = size;
+    let mut digits = 0i32;
+    for _ in 0..20 {
+        if left == 0 {
+            break;
+        }
+        left = left.wrapping_div(10);
+        digits = digits.saturating_add(1);
+    }
+    digits
+}
+
+/// The number that the bits of a float of 32 bits say; none for infinities and what is no number.
+pub(crate) fn num_of_float(bits: u32) -> Option<Num> {
+    let exponent = bits.wrapping_shr(23) & 0xff;
+    let fraction = bits & 0x7f_ffff;
+    if exponent == 255 {
+        return None;
+    }
+    let (mant, two) = if exponent == 0 {
+        (fraction, -149i32)
+    } else {
+        (fraction | 0x80_0000, i32::try_from(exponent).unwrap_or(0).saturating_sub(150))
+    };
+    if mant == 0 {
+        return Some(Num::of(0));
+    }
+    let zeros = mant.trailing_zeros();
+    let mant = i64::from(mant.wrapping_shr(zeros));
+    let two = two.saturating_add(i32::try_from(zeros).unwrap_or(0));
+    let mant = if bits.wrapping_shr(31) == 1 { mant.wrapping_neg() } else { mant };
+    if 0 <= two && two < 39 {
+        return Some(Num::of(mant.wrapping_shl(two.unsigned_abs())));
+    }
+    Some(Num { mant, ten: 0, two })
+}
+
+/// The digits of a decimal, read from the left: at most eighteen that count.
+#[derive(Clone, Copy)]
+struct Digits {
+    mant: i64,
+    ten: i32,
+    is_after: bool,
+    has_any: bool,
+}
+
+const ROOM: i64 = 100_000_000_000_000_000;
+
+impl Digits {
+    fn with(self, digit: u8) -> Digits {
+        let digit = i64::from(digit.wrapping_sub(b'0'));
+        let fits = self.mant < ROOM;
+        let mant = if fits { self.mant.wrapping_mul(10).wrapping_add(digit) } else { self.mant };
+        let ten = match (fits, self.is_after) {
+            (true, true) => self.ten.saturating_sub(1),
+            (false, false) => self.ten.saturating_add(1),
+            _ => self.ten,
+        };
+        Digits {
+            mant,
+            ten,
+            is_after: self.is_after,
+            has_any: true,
+        }
+    }
+}
+
+/// The exponent that a text spells, at most 9,999 in size.
+fn exponent_of(text: &[u8]) -> Option<i32> {
+    let (is_minus, digits) = match text {
+        [b'-', rest @ ..] => (true, rest),
+        [b'+', rest @ ..] => (false, rest),
+        _ => (false, text),
+    };
+    if digits.is_empty() {
+        return None;
+    }
+    let mut size = 0i32;
+    for b in digits {
+        if !b.is_ascii_digit() {
+            return None;
+        }
+        size = size.saturating_mul(10).saturating_add(i32::from(b.wrapping_sub(b'0'))).min(9_999);
+    }
+    Some(if is_minus { size.wrapping_neg() } else { size })
+}
+
+/// The number that a text spells; a comma may stand for the point where that is let.
+pub(crate) fn spelled_of(text: &[u8], lets_comma: bool) -> Option<Spelled> {
+    let (is_minus, body) = match text {
+        [b'-', rest @ ..] => (true, rest),
+        [b'+', rest @ ..] => (false, rest),
+        _ => (false, text),
+    };
+    let mut digits = Digits {
+        mant: 0,
+        ten: 0,
+        is_after: false,
+        has_any: false,
+    };
+    let mut has_comma = false;
+    let mut exponent = None;
+    let mut is_fortran = false;
+    for (i, b) in body.iter().enumerate() {
+        match *b {
+            b'0'..=b'9' => digits = digits.with(*b),
+            b'.' if !digits.is_after => digits.is_after = true,
+            b',' if !digits.is_after && lets_comma => {
+                digits.is_after = true;
+                has_comma = true;
+            }
+            b'e' | b'E' | b'd' | b'D' => {
+                is_fortran = *b == b'd' || *b == b'D';
+                exponent = Some(exponent_of(body.get(i.wrapping_add(1)..)?)?);
+                break;
+            }
+            _ => return None,
+        }
+    }
+    if !digits.has_any {
+        return None;
+    }
+    let mant = if is_minus { digits.mant.wrapping_neg() } else { digits.mant };
+    let ten = if mant == 0 { 0 } else { digits.ten.saturating_add(exponent.unwrap_or(0)) };
+    Some(Spelled {
+        num: Num { mant, ten, two: 0 },
+        is_pointed: digits.is_after || exponent.is_some(),
+        is_fortran,
+        has_comma,
+    })
+}

@@ -1,0 +1,93 @@
+//! Numbers as whole multiples of a power of ten.
+
+use crate::num::{Num, ten_to};
+
+/// Multiples of 10^-shift; `fives` is 5^shift where shift is from 0 to 44.
+#[derive(Clone, Copy, Debug)]
+pub(crate) struct Scale {
+    pub shift: i32,
+    fives: u128,
+}
+
+/// The greatest shift: of a float's 24 bits and 5^44 the product still has 127 bits.
+const MOST: i32 = 44;
+
+impl Scale {
+    pub(crate) fn new(shift: i32) -> Scale {
+        let shift = shift.min(MOST);
+        let power = u32::try_from(shift).unwrap_or(0);
+        Scale {
+            shift,
+            fives: 5u128.checked_pow(power).unwrap_or(1),
+        }
+    }
+
+    /// The nearest multiple to a number whose order is at most 18 - shift.
+    pub(crate) fn nearest(self, num: Num) -> i64 {
+        if num.two == 0 {
+            return decimal_at(num, self.shift);
+        }
+        let size = num.mant.unsigned_abs() as u128;
+        let near = if self.shift < 0 {
+            tenth(size.checked_mul(power_of_two(num.two)).unwrap_or(u128::MAX), self.shift.unsigned_abs())
+        } else {
+            shifted(size.saturating_mul(self.fives), self.shift.saturating_add(num.two))
+        };
+        let near = i64::try_from(near).unwrap_or(i64::MAX);
+        if num.mant < 0 { near.wrapping_neg() } else { near }
+    }
+}
+
+fn power_of_two(n: i32) -> u128 {
+    if 0 <= n && n < 128 {
+        1u128.wrapping_shl(n.unsigned_abs())
+    } else {
+        u128::MAX
+    }
+}
+
+/// A size over 10^n, rounded.
+fn tenth(size: u128, n: u32) -> u128 {
+    match 10u128.checked_pow(n) {
+        Some(part) => size.saturating_add(part.wrapping_div(2)).checked_div(part).unwrap_or(0),
+        None => 0,
+    }
+}
+
+/// A size times 2^n, rounded.
+fn shifted(size: u128, n: i32) -> u128 {
+    if 0 <= n {
+        return size.saturating_mul(power_of_two(n));
+    }
+    let right = n.unsigned_abs();
+    if 127 < right {
+        return 0;
+    }
+    let half = 1u128.wrapping_shl(right.wrapping_sub(1));
+    size.saturating_add(half).wrapping_shr(right)
+}
+
+/// A decimal as the nearest multiple of 10^-shift.
+fn decimal_at(num: Num, shift: i32) -> i64 {
+    let power = num.ten.saturating_add(shift);
+    if num.mant == 0 {
+        return 0;
+    }
+    if 0 <= power {
+        return match ten_to(power) {
+            Some(part) => num.mant.saturating_mul(part),
+            None => i64::MAX,
+        };
+    }
+    match ten_to(0i32.saturating_sub(power)) {
+        Some(part) => over(num.mant, part),
+        None => 0,
+    }
+}
+
+/// The nearest whole number to n / part, halves away from 0.
+pub(crate) fn over(n: i64, part: i64) -> i64 {
+    let half = part.wrapping_div(2);
+    let up = if n < 0 { n.saturating_sub(half) } else { n.saturating_add(half) };
+    up.checked_div(part).unwrap_or(0)
+}

@@ -1,0 +1,86 @@
+//! What the samples of a channel have in common.
+
+use crate::num::Num;
+use crate::scale::Scale;
+
+/// The least and the greatest whole number that a form of data holds.
+#[derive(Clone, Copy, Debug)]
+pub(crate) struct Bounds {
+    pub low: i64,
+    pub high: i64,
+}
+
+/// The samples of a channel so far.
+#[derive(Clone, Copy, Debug)]
+pub(crate) struct Span {
+    /// The first sample, where there is one.
+    pub first: Option<Num>,
+    /// All of them are whole numbers within the bounds.
+    pub fits: bool,
+    pub is_whole: bool,
+    /// The least and the greatest of the whole numbers.
+    pub least: i64,
+    pub most: i64,
+    /// All are below 10^order.
+    pub order: i32,
+    /// The least n for which all times 10^n are whole.
+    pub need: i32,
+    /// The least and the greatest as multiples of the scale's unit.
+    pub low: i64,
+    pub high: i64,
+    pub scale: Scale,
+}
+
+impl Span {
+    pub(crate) fn new() -> Span {
+        Span {
+            first: None,
+            fits: true,
+            is_whole: true,
+            least: i64::MAX,
+            most: i64::MIN,
+            order: -9_999,
+            need: -9_999,
+            low: i64::MAX,
+            high: i64::MIN,
+            scale: Scale::new(0),
+        }
+    }
+
+    /// Takes a sample into account.
+    pub(crate) fn add(&mut self, num: Num, bounds: Bounds) {
+        if self.first.is_none() {
+            self.first = Some(num);
+        }
+        match num.whole() {
+            Some(n) => {
+                self.least = self.least.min(n);
+                self.most = self.most.max(n);
+                self.fits = self.fits && bounds.low <= n && n <= bounds.high;
+            }
+            None => {
+                self.is_whole = false;
+                self.fits = false;
+            }
+        }
+        if num.mant == 0 {
+            return;
+        }
+        self.order = self.order.max(num.order());
+        if self.need < 0 || !self.is_whole {
+            self.need = self.need.max(0i32.saturating_sub(num.zeros()));
+        }
+    }
+
+    /// The scale at which eighteen digits are told apart.
+    pub(crate) fn settle(&mut self) {
+        self.scale = Scale::new(18i32.saturating_sub(self.order).max(-60));
+    }
+
+    /// Takes a sample's place between the others into account.
+    pub(crate) fn widen(&mut self, num: Num) {
+        let near = self.scale.nearest(num);
+        self.low = self.low.min(near);
+        self.high = self.high.max(near);
+    }
+}

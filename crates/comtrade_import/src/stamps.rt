@@ -1,0 +1,445 @@
+//! Numbers and stamps of all rows, and what becomes of them.
+
+use crate::clock::{Clock, rounded, time_of_stamp};
+use crate::draft::{Draft, Revision};
+use crate::fault::{ImportFault, Why};
+use crate::key::Key;
+use crate::note::{Notes, Place};
+use crate::num::Num;
+use crate::text::{put, put_number};
+use comtrade_format::Rate;
+use dfr_channels::Decimal;
+use std::alloc::Allocator;
+
+/// A row's number and stamp.
+#[derive(Clone, Copy, Debug)]
+pub(crate) struct Tick {
+    pub number: i64,
+    pub stamp: Option<Num>,
+}
+
+/// What is written of times: the stamps, their factor, and the rates.
+#[derive(Drop)]
+pub(crate) struct Times<A: Allocator> {
+    pub stamps: Vec<Option<u64>, A>,
+    pub timemult: Decimal,
+    pub rates: Vec<Rate, A>,
+}
+
+/// All rows, as they were read.
+#[derive(Clone, Copy)]
+pub(crate) struct Track<'a> {
+    pub ticks: &'a [Tick],
+    pub timemult: Decimal,
+    /// The greatest stamp that the form of the data holds.
+    pub most: i128,
+    /// A stamp has a point.
+    pub is_pointed: bool,
+    pub place: Place,
+}
+
+/// How numbers go on.
+#[derive(Clone, Copy, PartialEq, Eq)]
+enum Run {
+    /// 1, 2, 3 and so on.
+    Plain,
+    /// Upwards, with gaps.
+    Gaps,
+    Other,
+}
+
+fn run_of(ticks: &[Tick]) -> Run {
+    let mut wanted = 1i64;
+    let mut is_plain = true;
+    let mut rises = true;
+    let mut has_gap = false;
+    let mut before: Option<i64> = None;
+    for tick in ticks {
+        is_plain = is_plain && tick.number == wanted;
+        wanted = wanted.saturating_add(1);
+        if let Some(before) = before {
+            rises = rises && before < tick.number;
+            has_gap = has_gap || before.saturating_add(1) < tick.number;
+        }
+        before = Some(tick.number);
+    }
+    if is_plain {
+        return Run::Plain;
+    }
+    if rises && has_gap { Run::Gaps } else { Run::Other }
+}
+
+/// By what a stamp is divided, and which rows' times it is compared with.
+#[derive(Clone, Copy)]
+struct Sight {
+    part: i128,
+    by_number: bool,
+}
+
+/// Whether all stamps agree with the rates within half an interval.
+fn agrees<A: Allocator + Copy>(track: Track<'_>, clock: &Clock<A>, sight: Sight) -> bool {
+    let Some(first) = track.ticks.first() else {
+        return true;
+    };
+    let Some(start) = first.stamp.and_then(|stamp| time_of_stamp(stamp, track.timemult)) else {
+        return false;
+    };
+    let mut at = 0usize;
+    for (i, tick) in track.ticks.iter().enumerate() {
+        let Some(stamp) = tick.stamp else {
+            continue;
+        };
+        let row = if sight.by_number { tick.number.saturating_sub(first.number).unsigned_abs() } else { i as u64 };
+        let Some((wanted, half)) = clock.time_of(&mut at, row) else {
+            return false;
+        };
+        let Some(time) = time_of_stamp(stamp, track.timemult) else {
+            return false;
+        };
+        let time = rounded(time.saturating_sub(start), sight.part);
+        if half < time.saturating_sub(wanted).saturating_abs() {
+            return false;
+        }
+    }
+    true
+}
+
+fn stamps_fall(ticks: &[Tick], timemult: Decimal) -> bool {
+    let mut before: Option<i128> = None;
+    for tick in ticks {
+        let time = match tick.stamp {
+            Some(stamp) => time_of_stamp(stamp, timemult),
+            None => None,
+        };
+        if let (Some(before), Some(time)) = (before, time) {
+            if time < before {
+                return true;
+            }
+        }
+        before = time;
+    }
+    false
+}
+
+fn are_same(ticks: &[Tick]) -> bool {
+    let mut first: Option<i64> = None;
+    for tick in ticks {
+        let Some(stamp) = tick.stamp else {
+            return false;
+        };
+        let n = stamp.whole();
+        if n.is_none() || first.is_some() && first != n {
+            return false;
+        }
+        first = n;
+    }
+    1 < ticks.len()
+}
+
+/// Where rows are lost, as text: how many, and after which numbers.
+fn tell_lost<A: Allocator + Copy>(
+    notes: &mut Notes<A>,
+    ticks: &[Tick],
+) -> Result<(), ImportFault> {
+    let mut before: Option<i64> = None;
+    for (i, tick) in ticks.iter().enumerate() {
+        if let Some(before) = before {
+            let gap = tick.number.saturating_sub(before).saturating_sub(1);
+            if 0 < gap {
+                let mut piece = Vec::new(notes.allocator());
+                put_number(&mut piece, gap.unsigned_abs())?;
+                put(&mut piece, " missing before it; no rate is said, the stamps say the times")?;
+                notes.tell(Key::RowsLost, Place::Row((i as u64).saturating_add(1)), &piece)?;
+            }
+        }
+        before = Some(tick.number);
+    }
+    Ok(())
+}
+
+/// What the stamps are found to be.
+#[derive(Clone, Copy, PartialEq, Eq)]
+enum Found {
+    /// There is none.
+    None,
+    /// They stay, but for a shift and for rounding; divided by so much.
+    Kept(i128),
+    /// The rates say the times.
+    ByRate,
+}
+
+/// What becomes of stamps beside rates.
+fn beside_rates<A: Allocator + Copy>(
+    notes: &mut Notes<A>,
+    track: Track<'_>,
+    clock: &Clock<A>,
+) -> Result<Found, ImportFault> {
+    let plain = Sight {
+        part: 1,
+        by_number: false,
+    };
+    if track.ticks.len() < 2 || agrees(track, clock, plain) {
+        return Ok(Found::Kept(1));
+    }
+    if agrees(track, clock, Sight { part: 1_000, by_number: false }) {
+        notes.tell(Key::StampsNs, track.place, &[])?;
+        return Ok(Found::Kept(1_000));
+    }
+    if stamps_fall(track.ticks, track.timemult) {
+        notes.tell(Key::StampsRestart, track.place, &[])?;
+    } else {
+        notes.tell(Key::StampsAgainstRate, track.place, b"the rate was taken")?;
+    }
+    Ok(Found::ByRate)
+}
+
+fn without_rates<A: Allocator + Copy>(
+    notes: &mut Notes<A>,
+    track: Track<'_>,
+    draft: &Draft<A>,
+) -> Result<Found, ImportFault> {
+    if are_same(track.ticks) {
+        notes.tell(Key::TimesUnknown, track.place, &[])?;
+        return Ok(Found::Kept(1));
+    }
+    if draft.revision == Revision::Of2013 && draft.has_nanos {
+        notes.tell(Key::StampsNs, track.place, &[])?;
+        return Ok(Found::Kept(1_000));
+    }
+    Ok(Found::Kept(1))
+}
+
+fn found_of<A: Allocator + Copy>(
+    notes: &mut Notes<A>,
+    track: Track<'_>,
+    draft: &Draft<A>,
+    clock: Option<&Clock<A>>,
+) -> Result<Found, ImportFault> {
+    if track.ticks.iter().all(|tick| tick.stamp.is_none()) {
+        let key = if clock.is_some() { Key::StampsAbsent } else { Key::TimesUnknown };
+        notes.tell(key, track.place, &[])?;
+        return Ok(Found::None);
+    }
+    match clock {
+        Some(clock) => beside_rates(notes, track, clock),
+        None => without_rates(notes, track, draft),
+    }
+}
+
+/// The stamps that the rates give, in whole microseconds; none at all where one is over what the form holds.
+fn stamps_by_rate<A: Allocator + Copy>(
+    alloc: A,
+    track: Track<'_>,
+    clock: &Clock<A>,
+) -> Result<Vec<Option<u64>, A>, ImportFault> {
+    let mut list = Vec::new(alloc);
+    let mut at = 0usize;
+    let mut fits = true;
+    for i in 0..track.ticks.len() {
+        let stamp = match clock.time_of(&mut at, i as u64) {
+            Some((time, _)) => rounded(time, 1_000_000),
+            None => i128::MAX,
+        };
+        fits = fits && stamp <= track.most;
+        list.push(u64::try_from(stamp).ok())?;
+    }
+    if !fits {
+        for stamp in list.iter_mut() {
+            *stamp = None;
+        }
+    }
+    Ok(list)
+}
+
+/// The time from which stamps are counted: the first, or the least where one is before it.
+fn start_of(track: Track<'_>) -> i128 {
+    let mut start: Option<i128> = None;
+    for tick in track.ticks {
+        if let Some(stamp) = tick.stamp {
+            let time = time_of_stamp(stamp, track.timemult).unwrap_or(0);
+            start = Some(match start {
+                Some(start) => start.min(time),
+                None => time,
+            });
+        }
+    }
+    start.unwrap_or(0)
+}
+
+/// What a whole stamp counts, in picoseconds; a microsecond where stamps with a point would lose more.
+fn unit_of(track: Track<'_>) -> (i128, Decimal) {
+    let unit = time_of_stamp(Num::of(1), track.timemult).unwrap_or(0);
+    let micro = 1_000_000i128;
+    match Decimal::new(1, 0) {
+        Some(one) if unit < 1 || track.is_pointed && micro < unit => (micro, one),
+        _ => (unit, track.timemult),
+    }
+}
+
+/// The stamps that stay, from 0 on, and their factor.
+fn kept<A: Allocator + Copy>(
+    alloc: A,
+    notes: &mut Notes<A>,
+    track: Track<'_>,
+    part: i128,
+) -> Result<(Vec<Option<u64>, A>, Decimal), ImportFault> {
+    let start = start_of(track);
+    if start != 0 {
+        notes.tell(Key::StampsShifted, track.place, &[])?;
+    }
+    if track.is_pointed {
+        notes.tell(Key::StampsDecimal, track.place, &[])?;
+    }
+    let (unit, timemult) = unit_of(track);
+    let step = unit.saturating_mul(part);
+    let mut list = Vec::new(alloc);
+    for (i, tick) in track.ticks.iter().enumerate() {
+        let stamp = match tick.stamp {
+            None => None,
+            Some(stamp) => {
+                let time = time_of_stamp(stamp, track.timemult).unwrap_or(i128::MAX);
+                let n = rounded(time.saturating_sub(start), step);
+                if track.most < n {
+                    return Err(ImportFault::Dat((i as u64).saturating_add(1), Why::Value));
+                }
+                u64::try_from(n).ok()
+            }
+        };
+        list.push(stamp)?;
+    }
+    Ok((list, timemult))
+}
+
+/// The rates for so many rows; the last row that they name is told where it is another.
+fn rates_for<A: Allocator + Copy>(
+    alloc: A,
+    notes: &mut Notes<A>,
+    draft: &Draft<A>,
+    rows: u64,
+    is_told: bool,
+) -> Result<Vec<Rate, A>, ImportFault> {
+    let place = Place::Whole("data file");
+    match draft.last {
+        Some(last) if rows < last && !is_told => {
+            let mut piece = Vec::new(alloc);
+            put_number(&mut piece, rows)?;
+            put(&mut piece, " rows, endsamp ")?;
+            put_number(&mut piece, last)?;
+            notes.tell(Key::RowsFewer, place, &piece)?;
+        }
+        Some(last) if last < rows => {
+            let mut piece = Vec::new(alloc);
+            put_number(&mut piece, rows)?;
+            put(&mut piece, " rows, endsamp ")?;
+            put_number(&mut piece, last)?;
+            notes.tell(Key::RowsMore, place, &piece)?;
+        }
+        _ => {}
+    }
+    let mut list: Vec<Rate, A> = Vec::new(alloc);
+    let mut before = 0u64;
+    let count = draft.rates.len();
+    for (i, rate) in draft.rates.iter().enumerate() {
+        let is_last = i.saturating_add(1) == count;
+        let endsamp = if is_last { rows } else { rate.endsamp.min(rows) };
+        if before < endsamp || list.is_empty() && is_last {
+            list.push(Rate {
+                samp: rate.samp,
+                endsamp,
+            })?;
+        }
+        before = before.max(endsamp);
+    }
+    Ok(list)
+}
+
+/// Whether rows are lost: the numbers have gaps, and the stamps have them too.
+fn are_lost<A: Allocator + Copy>(track: Track<'_>, clock: &Clock<A>) -> bool {
+    let plain = Sight {
+        part: 1,
+        by_number: false,
+    };
+    let numbered = Sight {
+        part: 1,
+        by_number: true,
+    };
+    agrees(track, clock, numbered) && !agrees(track, clock, plain)
+}
+
+fn tell_numbers<A: Allocator + Copy>(
+    notes: &mut Notes<A>,
+    ticks: &[Tick],
+) -> Result<(), ImportFault> {
+    let mut wanted = 1i64;
+    for tick in ticks {
+        if tick.number != wanted {
+            let mut piece = Vec::new(notes.allocator());
+            if tick.number < 0 {
+                put(&mut piece, "-")?;
+            }
+            put_number(&mut piece, tick.number.unsigned_abs())?;
+            notes.tell(Key::SampleNumbers, Place::Row(wanted.unsigned_abs()), &piece)?;
+            return Ok(());
+        }
+        wanted = wanted.saturating_add(1);
+    }
+    Ok(())
+}
+
+/// What is written of times. `is_cut` where an incomplete row was left out.
+pub(crate) fn times_of<A: Allocator + Copy>(
+    alloc: A,
+    notes: &mut Notes<A>,
+    draft: &Draft<A>,
+    track: Track<'_>,
+    is_cut: bool,
+) -> Result<Times<A>, ImportFault> {
+    let run = run_of(track.ticks);
+    let said = Clock::new(alloc, &draft.rates)?;
+    let is_lost = match &said {
+        Some(clock) => run == Run::Gaps && are_lost(track, clock),
+        None => false,
+    };
+    if is_lost {
+        tell_lost(notes, track.ticks)?;
+        let (stamps, timemult) = kept(alloc, notes, track, 1)?;
+        return Ok(Times {
+            stamps,
+            timemult,
+            rates: Vec::new(alloc),
+        });
+    }
+    if run != Run::Plain {
+        tell_numbers(notes, track.ticks)?;
+    }
+    let rates = rates_for(alloc, notes, draft, track.ticks.len() as u64, is_cut)?;
+    let clock = Clock::new(alloc, &rates)?;
+    let found = found_of(notes, track, draft, clock.as_ref())?;
+    let (stamps, timemult) = settled(alloc, notes, track, clock.as_ref(), found)?;
+    Ok(Times {
+        stamps,
+        timemult,
+        rates,
+    })
+}
+
+/// The stamps that are written, and their factor.
+fn settled<A: Allocator + Copy>(
+    alloc: A,
+    notes: &mut Notes<A>,
+    track: Track<'_>,
+    clock: Option<&Clock<A>>,
+    found: Found,
+) -> Result<(Vec<Option<u64>, A>, Decimal), ImportFault> {
+    match (found, clock, Decimal::new(1, 0)) {
+        (Found::ByRate, Some(clock), Some(one)) => Ok((stamps_by_rate(alloc, track, clock)?, one)),
+        (Found::Kept(part), _, _) => kept(alloc, notes, track, part),
+        _ => {
+            let mut list = Vec::new(alloc);
+            for _ in 0..track.ticks.len() {
+                list.push(None)?;
+            }
+            Ok((list, track.timemult))
+        }
+    }
+}

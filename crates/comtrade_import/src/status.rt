@@ -1,0 +1,68 @@
+//! The lines of status channels.
+
+use crate::analog::tell_index;
+use crate::fault::{ImportFault, Why};
+use crate::field::Parts;
+use crate::key::Key;
+use crate::lines::{Row, at, phase_of, text_of};
+use crate::note::{Notes, Place};
+use dfr_channels::{Items, StatusChannel, bit_of, free_bit_of};
+use std::alloc::Allocator;
+
+/// Where the fields of a line stand.
+#[derive(Clone, Copy, PartialEq, Eq)]
+enum Shape {
+    /// Number, id, phase, component, normal.
+    Full,
+    /// Number, id, normal.
+    Short,
+}
+
+fn shape_of(parts: Parts<'_>) -> Option<Shape> {
+    if parts.full == 5 || parts.all == 5 || parts.full == 4 {
+        return Some(Shape::Full);
+    }
+    if 5 < parts.full || parts.all < 3 {
+        return None;
+    }
+    let third = parts.at(2);
+    if parts.all == 3 || bit_of(third).is_some() {
+        return Some(Shape::Short);
+    }
+    if 5 < parts.all { Some(Shape::Full) } else { None }
+}
+
+/// The channel that a line says.
+pub(crate) fn status_of<A: Allocator + Copy>(
+    alloc: A,
+    notes: &mut Notes<A>,
+    row: Row<'_>,
+    number: u64,
+    is_old: bool,
+) -> Result<StatusChannel<A>, ImportFault> {
+    let (parts, line) = (row.parts, row.number);
+    let Some(shape) = shape_of(parts) else {
+        return Err(at(line, Why::StatusFields));
+    };
+    tell_index(notes, line, parts.at(0), number)?;
+    let id = text_of(notes, line, parts.at(1), 64, Some(number))?;
+    let is_full = shape == Shape::Full;
+    if !is_full && !is_old {
+        notes.tell(Key::Status3Fields, Place::Cfg(line), &[])?;
+    }
+    let phase = if is_full { phase_of(notes, line, parts.at(2))? } else { Items::of(Vec::new(alloc)) };
+    let component = if is_full {
+        text_of(notes, line, parts.at(3), 64, None)?
+    } else {
+        Items::of(Vec::new(alloc))
+    };
+    match free_bit_of(parts.at(if is_full { 4 } else { 2 })) {
+        Some(normal) => Ok(StatusChannel {
+            id,
+            phase,
+            component,
+            normal,
+        }),
+        None => Err(at(line, Why::Bit)),
+    }
+}

@@ -1,0 +1,27 @@
+//! Pieces of text for notes.
+
+use itoa::Buffer;
+use std::alloc::{AllocError, Allocator};
+
+pub(crate) fn put<A: Allocator>(out: &mut Vec<u8, A>, text: &str) -> Result<(), AllocError> {
+    out.extend_from_slice(text.as_bytes())
+}
+
+pub(crate) fn put_number<A: Allocator>(out: &mut Vec<u8, A>, n: u64) -> Result<(), AllocError> {
+    out.extend_from_slice(Buffer::new().format(n).as_bytes())
+}
+
+/// How many bytes of a text are quoted.
+const QUOTED: usize = 80;
+
+/// A text in quotation marks; what isn't printable ASCII stands as a question mark.
+pub(crate) fn put_quoted<A: Allocator>(
+    out: &mut Vec<u8, A>,
+    text: &[u8],
+) -> Result<(), AllocError> {
+    put(out, "\"")?;
+    for b in text.iter().take(QUOTED) {
+        out.push(if 32 <= *b && *b <= 126 { *b } else { b'?' })?;
+    }
+    put(out, if QUOTED < text.len() { "\"..." } else { "\"" })
+}
