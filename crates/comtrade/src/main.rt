@@ -3,10 +3,12 @@
 #![tactic(auto)]
 
 mod extract;
+mod import;
 mod view;
 mod write;
 
 use crate::extract::run_extract;
+use crate::import::run_import;
 use crate::view::{View, view_over};
 use crate::write::run_convert;
 use comtrade_cli::{
@@ -237,6 +239,9 @@ fn answer<R: Files + Input + Print + Eprint + AllocGlobal>(
         if texts.push(word.as_str()).is_err() {
             return out_of_memory(rt);
         }
+    }
+    if let ["import", rest @ ..] = texts.as_slice() {
+        return run_import(rt, rest);
     }
     match answer_of(rt.alloc(), &texts) {
         Ok(answer) => act(rt, is_watched, answer),

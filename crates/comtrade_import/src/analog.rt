@@ -1,12 +1,12 @@
 //! The lines of analogue channels.
 
 use crate::draft::{Analog, Range};
-use crate::exact::whole_of;
 use crate::fault::{ImportFault, Why};
 use crate::field::Parts;
 use crate::key::Key;
 use crate::lines::{Row, at, decimal_of, decimal_or, phase_of, tell_empty, text_of};
 use crate::note::{Notes, Place};
+use crate::num::spelled_of;
 use dfr_channels::{AnalogChannel, Decimal, Items, Side, integer_of};
 use std::alloc::Allocator;
 
@@ -64,15 +64,12 @@ fn bound_of(text: &[u8]) -> Option<i32> {
     }
 }
 
-/// A bound in another form, as a whole number where it is one.
-fn loose_bound<A: Allocator + Copy>(
-    notes: &mut Notes<A>,
-    mark: u8,
-    line: u64,
-    text: &[u8],
-) -> Result<Option<i32>, ImportFault> {
-    let bound = decimal_of(notes, mark, line, text)?;
-    match whole_of(bound) {
+/// A bound in another form, as a whole number where it is one that 1999 can hold.
+fn loose_bound(mark: u8, line: u64, text: &[u8]) -> Result<Option<i32>, ImportFault> {
+    let Some(spelled) = spelled_of(text, mark == b';') else {
+        return Err(at(line, Why::Number));
+    };
+    match spelled.num.whole() {
         Some(n) if -99_999 <= n && n <= 99_999 => Ok(i32::try_from(n).ok()),
         _ => Ok(None),
     }
@@ -97,8 +94,8 @@ fn range_of<A: Allocator + Copy>(
         let is_unsigned = 0 <= low && 32_767 < high;
         return Ok((low, high, if is_unsigned { Range::Unsigned } else { Range::Said }));
     }
-    let low = loose_bound(notes, mark, shape.line, low)?;
-    let high = loose_bound(notes, mark, shape.line, high)?;
+    let low = loose_bound(mark, shape.line, low)?;
+    let high = loose_bound(mark, shape.line, high)?;
     match (low, high) {
         (Some(low), Some(high)) => Ok((low.min(high), low.max(high), Range::Other)),
         _ => Ok((-32_767, 32_767, Range::Other)),

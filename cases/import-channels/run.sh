@@ -1,0 +1,21 @@
+# channels: texts, numbers, ranges, sides
+. files/import/pair.sh
+long=LD0/MMXU1.PhV.phsABC.instCVal.mag.f.of.the.busbar.section.one.and.
+pair umlauts '1s/Kallio/Umspannwerk S\xfcd/;3s/,A,0/,\xb5A,0/' '' '1s/Kallio/Umspannwerk Sued/;3s/,A,0/,uA,0/' ''
+pair umlauts-of-utf-8 '3s/IA/\xc3\x96l \xc2\xb0C/' '' '3s/IA/Oel degC/' ''
+pair long-ids "3s/IA/$long.A/;4s/UB/$long.B/" '' "3s/IA/${long:0:62}~1/;4s/UB/${long:0:62}~2/" ''
+pair long-phase '3s/,A,/,ABC,/' '' '3s/,A,/,,/' ''
+pair no-unit '3s/,A,0/,,0/' '' '3s/,A,0/,NONE,0/' ''
+pair no-side '3s/P\r/\r/' '' '' ''
+pair no-field-of-side '3s/,P\r/\r/' '' '' ''
+pair no-ratio '3s/600,1/,/' '' '3s/600/1/' ''
+pair no-range '3s/-32767,32767/,/' '' '' ''
+pair no-factor '3s/,0.5,0,/,,0,/' '' '3s/,0.5,/,1,/' ''
+pair factor-of-0 '3s/0\.5/0/' '' '3s/0\.5/0/' ''
+pair fortran '4s/0\.0125/1.25D-02/' '' '' ''
+pair turned-range '3s/-32767,32767/32767,-32767/' '' '' ''
+pair range-with-points '3s/-32767,32767/-32767.0,3.2767E+04/' '' '' ''
+pair wide-range '3s/-32767,32767/-2147483648,2147483647/' '' '3s/-32767,32767/-99999,99998/' ''
+pair numbered-from-0 '3s/^1/0/;4s/^2/1/' '' '' ''
+pair contacts-numbered-on '5s/^1/3/;6s/^2/4/' '' '' ''
+pair contacts-of-3-fields '5s/,,Q0//;6s/,A,F21//' '' '5s/,Q0,/,,/;6s/,A,F21,/,,,/' ''

@@ -1,0 +1,316 @@
+//! `comtrade import`: files as relays write them become a pair of 1999.
+
+use crate::write::write_named;
+use crate::{complain, out_of_memory, read_named, say};
+use comtrade_cli::{ToolFault, put, put_safe, write_out};
+use comtrade_import::{Choices, ImportFault, Imported, Key, Order, import, import_single};
+use std::alloc::AllocError;
+use std::io;
+use std::rt::Files;
+
+const HELP: &str = "\
+Reads COMTRADE files of 1991, 1999 and 2013 as relays and programs write them, and writes a pair of 1999 that says the same.
+
+Usage: comtrade import [--dates mdy|dmy] [--refuse KEY] FILE [DAT] NAME
+
+  FILE             a configuration file, a single file (.cff), or what a pair is called without its endings
+  DAT              the data file; without it the one beside FILE
+  NAME             what both new files are called, without .cfg and .dat; neither may be there
+  --dates mdy|dmy  which of month and day stands first in the dates
+  --refuse KEY     writes nothing where this repair would be made; may stand several times
+
+Each repair is a line on standard output: its key, what it means, and where. The manual lists the keys.
+
+Status: 0 the pair was written, with repairs too; 1 it can't be imported, read or written; 2 words that ask for nothing.
+";
+
+/// What the words ask for.
+#[derive(Drop)]
+struct Wanted<'a> {
+    dates: Option<Order>,
+    refused: Vec<Key>,
+    files: Vec<&'a str>,
+}
+
+/// Why words ask for nothing.
+#[derive(Clone, Copy)]
+enum Wrong {
+    Words,
+    Memory,
+}
+
+impl From<AllocError> for Wrong {
+    fn from(_error: AllocError) -> Wrong {
+        Wrong::Memory
+    }
+}
+
+/// A word that an option is given: `--option VALUE` or `--option=VALUE`.
+fn value_of<'a>(word: &'a str, option: &str) -> Option<&'a str> {
+    word.strip_prefix(option)?.strip_prefix('=')
+}
+
+fn order_of(word: &str) -> Option<Order> {
+    if word == "mdy" {
+        return Some(Order::MonthFirst);
+    }
+    if word == "dmy" { Some(Order::DayFirst) } else { None }
+}
+
+/// What an option asks for with its value.
+fn set<'a>(wanted: &mut Wanted<'a>, option: &str, value: &str) -> Result<(), Wrong> {
+    if option == "--dates" {
+        wanted.dates = order_of(value);
+        return if wanted.dates.is_some() { Ok(()) } else { Err(Wrong::Words) };
+    }
+    match Key::named(value) {
+        Some(key) => match wanted.refused.push(key) {
+            Ok(()) => Ok(()),
+            Err(_) => Err(Wrong::Memory),
+        },
+        None => Err(Wrong::Words),
+    }
+}
+
+fn option_in(word: &str) -> Option<&'static str> {
+    if word == "--dates" {
+        return Some("--dates");
+    }
+    if word == "--refuse" { Some("--refuse") } else { None }
+}
+
+/// What the words after `import` ask for.
+fn wanted_of<'a, R: AllocGlobal>(rt: &R, words: &[&'a str]) -> Result<Wanted<'a>, Wrong> {
+    let mut wanted = Wanted {
+        dates: None,
+        refused: Vec::new(rt.alloc()),
+        files: Vec::new(rt.alloc()),
+    };
+    let mut option: Option<&'static str> = None;
+    for word in words {
+        if let Some(name) = option {
+            set(&mut wanted, name, word)?;
+            option = None;
+            continue;
+        }
+        option = option_in(word);
+        if option.is_some() {
+            continue;
+        }
+        if let Some(value) = value_of(word, "--dates") {
+            set(&mut wanted, "--dates", value)?;
+        } else if let Some(value) = value_of(word, "--refuse") {
+            set(&mut wanted, "--refuse", value)?;
+        } else if word.starts_with("--") {
+            return Err(Wrong::Words);
+        } else if wanted.files.push(word).is_err() {
+            return Err(Wrong::Memory);
+        }
+    }
+    if option.is_some() { Err(Wrong::Words) } else { Ok(wanted) }
+}
+
+/// The bytes that are imported.
+#[derive(Drop)]
+enum Source {
+    Pair(Vec<u8>, Vec<u8>),
+    Single(Vec<u8>),
+}
+
+/// The name without an ending of three letters, in any case.
+fn without<'a>(name: &'a str, ending: &str) -> Option<&'a str> {
+    let at = name.len().checked_sub(4)?;
+    let back = name.get(at..)?;
+    if back.eq_ignore_ascii_case(ending) { name.get(..at) } else { None }
+}
+
+/// A file, or none after its fault was said.
+fn read_input<R: Files + Input + Eprint + AllocGlobal>(rt: &R, name: &str) -> Option<Vec<u8>> {
+    match read_named(rt, name) {
+        Ok(bytes) => Some(bytes),
+        Err(fault) => {
+            complain(rt, name, fault);
+            None
+        }
+    }
+}
+
+/// The first file that is there of a name with one of these endings.
+fn read_ended<R: Files + Input + Eprint + AllocGlobal>(
+    rt: &R,
+    stem: &str,
+    endings: &[&str],
+) -> Result<Vec<u8>, ToolFault> {
+    let mut last = ToolFault::NoFile;
+    for ending in endings {
+        let Ok(name) = format!(in rt.alloc(); "{stem}{ending}") else {
+            return Err(ToolFault::Memory);
+        };
+        match read_named(rt, name.as_str()) {
+            Ok(bytes) => return Ok(bytes),
+            Err(ToolFault::NoFile) => {}
+            Err(fault) => last = fault,
+        }
+    }
+    Err(last)
+}
+
+/// The data file beside a configuration file.
+fn read_partner<R: Files + Input + Eprint + AllocGlobal>(
+    rt: &R,
+    cfg: Vec<u8>,
+    stem: &str,
+) -> Option<Source> {
+    match read_ended(rt, stem, &[".dat", ".DAT", ".Dat"]) {
+        Ok(dat) => Some(Source::Pair(cfg, dat)),
+        Err(fault) => {
+            if let Ok(name) = format!(in rt.alloc(); "{stem}.dat") {
+                complain(rt, name.as_str(), fault);
+            }
+            None
+        }
+    }
+}
+
+/// What a name without an ending is called with.
+fn read_stem<R: Files + Input + Eprint + AllocGlobal>(rt: &R, stem: &str) -> Option<Source> {
+    if let Ok(cfg) = read_ended(rt, stem, &[".cfg", ".CFG", ".Cfg"]) {
+        return read_partner(rt, cfg, stem);
+    }
+    match read_ended(rt, stem, &[".cff", ".CFF", ".Cff"]) {
+        Ok(cff) => Some(Source::Single(cff)),
+        Err(_) => Some(Source::Single(read_input(rt, stem)?)),
+    }
+}
+
+/// The files that are named.
+fn read_source<R: Files + Input + Eprint + AllocGlobal>(
+    rt: &R,
+    file: &str,
+    dat: Option<&str>,
+) -> Option<Source> {
+    if let Some(dat) = dat {
+        let cfg = read_input(rt, file)?;
+        return Some(Source::Pair(cfg, read_input(rt, dat)?));
+    }
+    if without(file, ".cff").is_some() {
+        return Some(Source::Single(read_input(rt, file)?));
+    }
+    match without(file, ".cfg") {
+        Some(stem) => {
+            let cfg = read_input(rt, file)?;
+            read_partner(rt, cfg, stem)
+        }
+        None => read_stem(rt, file),
+    }
+}
+
+/// Why files can't be imported, on standard error.
+fn refuse<R: Eprint + AllocGlobal>(rt: &R, file: &str, fault: ImportFault) -> u8 {
+    if let ImportFault::Memory = fault {
+        return out_of_memory(rt);
+    }
+    let mut text = Vec::new(rt.alloc());
+    if put_safe(&mut text, file.as_bytes()).is_err() {
+        return out_of_memory(rt);
+    }
+    let _ = eprint!(rt; "comtrade: ");
+    say(rt, &text);
+    let _ = eprintln!(rt; ": {fault}");
+    1
+}
+
+/// The repairs, a line each.
+pub(crate) fn put_notes(out: &mut Vec<u8>, imported: &Imported) -> Result<(), AllocError> {
+    for note in imported.notes.iter() {
+        note.put_line(out)?;
+        put(out, "\n")?;
+    }
+    Ok(())
+}
+
+/// The first repair that isn't wanted.
+fn unwanted(imported: &Imported, refused: &[Key]) -> Option<Key> {
+    for note in imported.notes.iter() {
+        if refused.contains(&note.key()) {
+            return Some(note.key());
+        }
+    }
+    None
+}
+
+/// Writes the pair, and tells the repairs.
+fn write<R: Files + Print + Eprint + AllocGlobal>(
+    rt: &R,
+    imported: &Imported,
+    wanted: &Wanted<'_>,
+    name: &str,
+) -> u8 {
+    if let Some(key) = unwanted(imported, &wanted.refused) {
+        let (name, words) = (key.name(), key.words());
+        let _ = eprintln!(rt; "comtrade: nothing is written, since this repair isn't wanted: {name}: {words}");
+        return 1;
+    }
+    let mut lines = Vec::new(rt.alloc());
+    if put_notes(&mut lines, imported).is_err() {
+        return out_of_memory(rt);
+    }
+    let status = write_named(rt, name, &imported.cfg, &imported.dat);
+    if status != 0 {
+        return status;
+    }
+    match write_out(&mut io::writer(rt), &lines) {
+        Ok(()) => 0,
+        Err(fault) => complain(rt, "standard output", fault),
+    }
+}
+
+/// Imports what two or three names name.
+fn run_wanted<R: Files + Input + Print + Eprint + AllocGlobal>(
+    rt: &R,
+    wanted: &Wanted<'_>,
+    file: &str,
+    dat: Option<&str>,
+    name: &str,
+) -> u8 {
+    let choices = Choices {
+        dates: wanted.dates,
+    };
+    let Some(source) = read_source(rt, file, dat) else {
+        return 1;
+    };
+    let done = match source {
+        Source::Pair(cfg, dat) => import(rt.alloc(), &cfg, &dat, choices),
+        Source::Single(cff) => import_single(rt.alloc(), &cff, choices),
+    };
+    match done {
+        Ok(imported) => write(rt, &imported, wanted, name),
+        Err(fault) => refuse(rt, file, fault),
+    }
+}
+
+fn refuse_words<R: Eprint>(rt: &R) -> u8 {
+    let _ = eprintln!(rt; "error: these words ask for nothing\n\nUsage: comtrade import [--dates mdy|dmy] [--refuse KEY] FILE [DAT] NAME\n\nFor more information, try 'comtrade import --help'.");
+    2
+}
+
+/// Does what the words after `import` ask for.
+pub(crate) fn run_import<R: Files + Input + Print + Eprint + AllocGlobal>(
+    rt: &R,
+    words: &[&str],
+) -> u8 {
+    if words.iter().any(|word| *word == "--help" || *word == "-h") {
+        let _ = print!(rt; "{HELP}");
+        return 0;
+    }
+    let wanted = match wanted_of(rt, words) {
+        Ok(wanted) => wanted,
+        Err(Wrong::Words) => return refuse_words(rt),
+        Err(Wrong::Memory) => return out_of_memory(rt),
+    };
+    match wanted.files.as_slice() {
+        [file, name] => run_wanted(rt, &wanted, file, None, name),
+        [file, dat, name] => run_wanted(rt, &wanted, file, Some(dat), name),
+        _ => refuse_words(rt),
+    }
+}
