@@ -27,7 +27,7 @@ four='\4\0\0\0\xb8\x0b\0\0\x67\3\x2b\xff\2\0'
 packed plain-binary '' "$one$two$three$four" ''
 packed end-mark '' "$one$two$three$four\x1a" ''
 packed binary-row-cut '' "$one$two$three${four:0:20}" '9s/4/3/' <(printf "$one$two$three")
-packed spare-bits '' "${one:0:46}\5\x80$two$three$four" ''
+packed spare-bits '' "${one:0:30}\5\x80$two$three$four" ''
 packed spare-word '' "$one\0\0$two\0\0$three\7\0$four\0\0" ''
 packed said-to-be-ascii '12s/BINARY/ASCII/' "$one$two$three$four" ''
 packed most-significant-first '' '\0\0\0\1\0\0\0\0\xfc\x79\2\x83\0\1\0\0\0\2\0\0\3\xe8\xfe\x2f\4\x19\0\1\0\0\0\3\0\0\7\xd0\1\x45\2\x9b\0\0\0\0\0\4\0\0\x0b\xb8\3\x67\xff\x2b\0\2' ''

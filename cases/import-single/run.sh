@@ -5,7 +5,7 @@ single() {
     mkdir "$folder/$1"
     cp $base.cfg "$folder/$1/want.cfg"
     cp $base.dat "$folder/$1/want.dat"
-    { printf "$2"; sed -b '1s/1999/2013/;$s/$/\n0,0\r\nB,3\r/' $base.cfg; printf "$3"; sed -b '$d' $base.dat; printf "$4"; } > "$folder/$1/in.cff"
+    { printf -- "$2"; sed -b '1s/1999/2013/;$s/$/\n0,0\r\nB,3\r/' $base.cfg; printf -- "$3"; sed -b '$d' $base.dat; printf -- "$4"; } > "$folder/$1/in.cff"
     imported "$1"
 }
 single text '--- file type: CFG ---\r\n' '--- file type: INF ---\r\n--- file type: HDR ---\r\n--- file type: DAT ASCII ---\r\n' ''

@@ -489,7 +489,7 @@ fn settle<A: Allocator + Copy>(
         is_pointed: survey.has_stamp_point,
         place: Place::Whole("data file"),
     };
-    let times = times_of(alloc, notes, draft, track, survey.is_cut)?;
+    let times = times_of(alloc, notes, draft, &track, survey.is_cut)?;
     let fits = fits_of(alloc, ground, &survey.spans)?;
     tell_samples(notes, draft.form, survey, &fits)?;
     let factors = set_channels(alloc, notes, &mut draft.analog, survey, &fits, is_text)?;

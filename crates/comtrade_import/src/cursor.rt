@@ -91,6 +91,17 @@ impl<'a> Cursor<'a> {
         None
     }
 
+    /// Skips blank lines.
+    pub(crate) fn skip_blank(&mut self) {
+        for _ in 0..u64::MAX {
+            let mut ahead = *self;
+            match ahead.step() {
+                Some(line) if trim(line.text).is_empty() => *self = ahead,
+                _ => break,
+            }
+        }
+    }
+
     /// The number of the line after the last that was read.
     pub(crate) fn next_number(&self) -> u64 {
         self.line.saturating_add(1)

@@ -230,6 +230,18 @@ fn unsaid<'a, A: Allocator + Copy>(
     Err(ImportFault::Whole(Why::NoKind))
 }
 
+/// Tells forms that 1999 doesn't have.
+fn tell_form<A: Allocator + Copy>(
+    notes: &mut Notes<A>,
+    plan: Plan<'_>,
+) -> Result<(), ImportFault> {
+    match plan {
+        Plan::Packed(packed) if packed.form == Form::Binary32 => tell_whole(notes, Key::KindBinary32, ""),
+        Plan::Packed(packed) if packed.form == Form::Float32 => tell_whole(notes, Key::KindFloat32, ""),
+        _ => Ok(()),
+    }
+}
+
 /// Where the rows stand, and in which form.
 pub(crate) fn plan_of<'a, A: Allocator + Copy>(
     alloc: A,
@@ -247,13 +259,9 @@ pub(crate) fn plan_of<'a, A: Allocator + Copy>(
     match draft.form {
         Some(Form::Ascii) => said_text(alloc, notes, dat, counts),
         Some(form) => {
-            if form == Form::Binary32 {
-                tell_whole(notes, Key::KindBinary32, "")?;
-            }
-            if form == Form::Float32 {
-                tell_whole(notes, Key::KindFloat32, "")?;
-            }
-            said_packed(alloc, notes, dat, form, counts)
+            let plan = said_packed(alloc, notes, dat, form, counts)?;
+            tell_form(notes, plan)?;
+            Ok(plan)
         }
         None => unsaid(alloc, notes, dat, counts),
     }

@@ -219,8 +219,10 @@ fn type_of<A: Allocator + Copy>(
     if !text.is_empty() && Decimal::read(text).is_none() {
         return Err(at(number, Why::Kind));
     }
-    if text.is_empty() && ahead.next_number() != number {
+    if text.is_empty() {
         reader.cursor = ahead;
+    } else {
+        reader.cursor.skip_blank();
     }
     reader.notes.tell(Key::KindAbsent, Place::Cfg(number), &[])?;
     Ok(None)

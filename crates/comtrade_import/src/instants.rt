@@ -32,7 +32,8 @@ fn texts_of<'a>(row: Row<'a>, mark: u8) -> (&'a [u8], &'a [u8], bool) {
         let time = if row.parts.full == 3 { rest_after(row.text, mark) } else { row.parts.at(1) };
         return (field, time, false);
     }
-    match field.iter().position(|b| *b == b' ' || *b == b'T' || *b == b'\t') {
+    let blank = field.iter().position(|b| *b == b' ' || *b == b'\t');
+    match blank.or(field.iter().position(|b| *b == b'T')) {
         Some(at) => (
             field.get(..at).unwrap_or(&[]),
             trim(field.get(at.wrapping_add(1)..).unwrap_or(&[])),
@@ -97,15 +98,16 @@ fn tell_civil<A: Allocator + Copy>(
 /// The next line, where it is that of an instant.
 fn said_of<A: Allocator + Copy>(reader: &mut Reader<'_, '_, A>) -> Result<Said, ImportFault> {
     let mut ahead = reader.cursor;
-    let is_there = match ahead.next_line() {
-        Some(line) => is_like_instant(line.text, reader.mark),
-        None => false,
+    let number = reader.cursor.next_number();
+    let Some(next) = ahead.next_line() else {
+        return Err(at(number, Why::Missing));
     };
-    if !is_there {
+    if !is_like_instant(next.text, reader.mark) {
+        reader.cursor.skip_blank();
         return Ok(Said {
             civil: None,
             clock: None,
-            line: reader.cursor.next_number(),
+            line: number,
         });
     }
     let row = next_row(&mut reader.cursor, reader.mark, reader.notes, 2)?;

@@ -356,7 +356,8 @@ impl<'a> Rows<'a> {
             }
             Err(Stop::Memory) => Err((line.number, Stop::Memory)),
             Err(Stop::Why(why)) => {
-                if !line.is_ended && self.is_last() {
+                let has_few = matches!(why, Why::RowFields) && !cells.odd.has_trailing;
+                if (has_few || !line.is_ended) && self.is_last() {
                     return Ok(Step::Cut(line.number));
                 }
                 Err((line.number, Stop::Why(why)))

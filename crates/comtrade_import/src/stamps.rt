@@ -77,7 +77,7 @@ struct Sight {
 }
 
 /// Whether all stamps agree with the rates within half an interval.
-fn agrees<A: Allocator + Copy>(track: Track<'_>, clock: &Clock<A>, sight: Sight) -> bool {
+fn agrees<A: Allocator + Copy>(track: &Track<'_>, clock: &Clock<A>, sight: Sight) -> bool {
     let Some(first) = track.ticks.first() else {
         return true;
     };
@@ -171,7 +171,7 @@ enum Found {
 /// What becomes of stamps beside rates.
 fn beside_rates<A: Allocator + Copy>(
     notes: &mut Notes<A>,
-    track: Track<'_>,
+    track: &Track<'_>,
     clock: &Clock<A>,
 ) -> Result<Found, ImportFault> {
     let plain = Sight {
@@ -195,7 +195,7 @@ fn beside_rates<A: Allocator + Copy>(
 
 fn without_rates<A: Allocator + Copy>(
     notes: &mut Notes<A>,
-    track: Track<'_>,
+    track: &Track<'_>,
     draft: &Draft<A>,
 ) -> Result<Found, ImportFault> {
     if are_same(track.ticks) {
@@ -211,7 +211,7 @@ fn without_rates<A: Allocator + Copy>(
 
 fn found_of<A: Allocator + Copy>(
     notes: &mut Notes<A>,
-    track: Track<'_>,
+    track: &Track<'_>,
     draft: &Draft<A>,
     clock: Option<&Clock<A>>,
 ) -> Result<Found, ImportFault> {
@@ -229,7 +229,7 @@ fn found_of<A: Allocator + Copy>(
 /// The stamps that the rates give, in whole microseconds; none at all where one is over what the form holds.
 fn stamps_by_rate<A: Allocator + Copy>(
     alloc: A,
-    track: Track<'_>,
+    track: &Track<'_>,
     clock: &Clock<A>,
 ) -> Result<Vec<Option<u64>, A>, ImportFault> {
     let mut list = Vec::new(alloc);
@@ -252,7 +252,7 @@ fn stamps_by_rate<A: Allocator + Copy>(
 }
 
 /// The time from which stamps are counted: the first, or the least where one is before it.
-fn start_of(track: Track<'_>) -> i128 {
+fn start_of(track: &Track<'_>) -> i128 {
     let mut start: Option<i128> = None;
     for tick in track.ticks {
         if let Some(stamp) = tick.stamp {
@@ -267,7 +267,7 @@ fn start_of(track: Track<'_>) -> i128 {
 }
 
 /// What a whole stamp counts, in picoseconds; a microsecond where stamps with a point would lose more.
-fn unit_of(track: Track<'_>) -> (i128, Decimal) {
+fn unit_of(track: &Track<'_>) -> (i128, Decimal) {
     let unit = time_of_stamp(Num::of(1), track.timemult).unwrap_or(0);
     let micro = 1_000_000i128;
     match Decimal::new(1, 0) {
@@ -280,7 +280,7 @@ fn unit_of(track: Track<'_>) -> (i128, Decimal) {
 fn kept<A: Allocator + Copy>(
     alloc: A,
     notes: &mut Notes<A>,
-    track: Track<'_>,
+    track: &Track<'_>,
     part: i128,
 ) -> Result<(Vec<Option<u64>, A>, Decimal), ImportFault> {
     let start = start_of(track);
@@ -354,7 +354,7 @@ fn rates_for<A: Allocator + Copy>(
 }
 
 /// Whether rows are lost: the numbers have gaps, and the stamps have them too.
-fn are_lost<A: Allocator + Copy>(track: Track<'_>, clock: &Clock<A>) -> bool {
+fn are_lost<A: Allocator + Copy>(track: &Track<'_>, clock: &Clock<A>) -> bool {
     let plain = Sight {
         part: 1,
         by_number: false,
@@ -391,7 +391,7 @@ pub(crate) fn times_of<A: Allocator + Copy>(
     alloc: A,
     notes: &mut Notes<A>,
     draft: &Draft<A>,
-    track: Track<'_>,
+    track: &Track<'_>,
     is_cut: bool,
 ) -> Result<Times<A>, ImportFault> {
     let run = run_of(track.ticks);
@@ -427,7 +427,7 @@ pub(crate) fn times_of<A: Allocator + Copy>(
 fn settled<A: Allocator + Copy>(
     alloc: A,
     notes: &mut Notes<A>,
-    track: Track<'_>,
+    track: &Track<'_>,
     clock: Option<&Clock<A>>,
     found: Found,
 ) -> Result<(Vec<Option<u64>, A>, Decimal), ImportFault> {

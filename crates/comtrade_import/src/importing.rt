@@ -1,7 +1,10 @@
 //! A pair, or a single file, as a file of 1999 that says the same.
 
+ghost use Rattle.std.specs.Prelude.{IfOk, IfSome};
+ghost use Rattle.comtrade_read.specs.Reads.{Reads};
+
 use crate::build::file_of;
-use crate::cut::{Sections, cut};
+use crate::sections::{Sections, cut};
 use crate::cursor::before;
 use crate::dates::Order;
 use crate::encoding::{narrow, without_mark};
@@ -38,7 +41,9 @@ fn finished<A: Allocator + Copy>(
     alloc: A,
     file: File<A>,
     notes: Vec<Note<A>, A>,
-) -> Result<Imported<A>, ImportFault> {
+) -> Result<Imported<A>, ImportFault>
+    ensures { IfOk result (λ done. Reads done.cfg.items done.dat.items done.file) }
+{
     file_reads_back(&file);
     let cfg = match cfg_bytes(alloc, &file) {
         Ok(cfg) => cfg,
@@ -99,7 +104,9 @@ fn loose<A: Allocator + Copy>(
     cfg: &[u8],
     dat: &[u8],
     choices: Choices,
-) -> Result<Imported<A>, ImportFault> {
+) -> Result<Imported<A>, ImportFault>
+    ensures { IfOk result (λ done. Reads done.cfg.items done.dat.items done.file) }
+{
     let narrowed = narrow(alloc, cfg)?;
     let text = match &narrowed {
         Some(text) => {
@@ -132,7 +139,9 @@ fn exact<A: Allocator + Copy>(
     alloc: A,
     cfg: &[u8],
     dat: &[u8],
-) -> Result<Option<Imported<A>>, ImportFault> {
+) -> Result<Option<Imported<A>>, ImportFault>
+    ensures { IfOk result (λ found. IfSome found (λ done. Reads done.cfg.items done.dat.items done.file)) }
+{
     let file = match read(alloc, cfg, dat) {
         Ok(file) => file,
         Err((_, ReadFault::Memory)) => return Err(ImportFault::Memory),
@@ -148,13 +157,16 @@ fn exact<A: Allocator + Copy>(
     }
 }
 
-/// A pair of any revision as a file of 1999 that says the same, with each repair told.
+/// A pair of any revision as a file of 1999 that says the same, with each repair told. Both texts that come out read to that file. A
+/// pair that reads exactly, and is meant as it reads, comes out as it is.
 pub fn import<A: Allocator + Copy>(
     alloc: A,
     cfg: &[u8],
     dat: &[u8],
     choices: Choices,
-) -> Result<Imported<A>, ImportFault> {
+) -> Result<Imported<A>, ImportFault>
+    ensures { IfOk result (λ done. Reads done.cfg.items done.dat.items done.file) }
+{
     if let Some(imported) = exact(alloc, cfg, dat)? {
         return Ok(imported);
     }
@@ -189,12 +201,14 @@ fn tell_sections<A: Allocator + Copy>(
     Ok(())
 }
 
-/// A single file as a file of 1999 that says the same, with each repair told.
+/// A single file as a file of 1999 that says the same, with each repair told. Both texts that come out read to that file.
 pub fn import_single<A: Allocator + Copy>(
     alloc: A,
     cff: &[u8],
     choices: Choices,
-) -> Result<Imported<A>, ImportFault> {
+) -> Result<Imported<A>, ImportFault>
+    ensures { IfOk result (λ done. Reads done.cfg.items done.dat.items done.file) }
+{
     let mut notes = Notes::new(alloc);
     let narrowed = narrow(alloc, cff)?;
     let text = match &narrowed {
