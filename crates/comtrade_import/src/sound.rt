@@ -39,12 +39,13 @@ fn num_of(stamp: u64) -> Num {
     Num::of(i64::try_from(stamp).unwrap_or(i64::MAX))
 }
 
-/// Whether all stamps are there, from 0 on, and agree with the rates within half an interval; without rates they don't fall
+/// Whether all stamps are there, from 0 on, and agree with the rates within half an interval or what a stamp counts; without rates they don't fall
 /// and aren't all the same.
 fn are_stamps_sound<A: Allocator + Copy>(
     file: &File<A>,
     clock: Option<&Clock<A>>,
 ) -> bool {
+    let unit = time_of_stamp(num_of(1), file.head.timemult).unwrap_or(0);
     let mut at = 0usize;
     let mut last = 0u64;
     for (i, row) in file.rows.items().iter().enumerate() {
@@ -64,7 +65,7 @@ fn are_stamps_sound<A: Allocator + Copy>(
         ) else {
             return false;
         };
-        if half < time.saturating_sub(wanted).saturating_abs() {
+        if half.max(unit) < time.saturating_sub(wanted).saturating_abs() {
             return false;
         }
     }

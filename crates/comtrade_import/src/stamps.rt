@@ -76,14 +76,16 @@ struct Sight {
     by_number: bool,
 }
 
-/// Whether all stamps agree with the rates within half an interval.
+/// Whether all stamps agree with the rates within half an interval, or what a stamp counts where that is more.
 fn agrees<A: Allocator + Copy>(track: &Track<'_>, clock: &Clock<A>, sight: Sight) -> bool {
     let Some(first) = track.ticks.first() else {
         return true;
     };
-    let Some(start) = first.stamp.and_then(|stamp| time_of_stamp(stamp, track.timemult)) else {
-        return false;
+    let start = match first.stamp {
+        Some(stamp) => time_of_stamp(stamp, track.timemult).unwrap_or(0),
+        None => 0,
     };
+    let unit = time_of_stamp(Num::of(1), track.timemult).unwrap_or(0);
     let mut at = 0usize;
     for (i, tick) in track.ticks.iter().enumerate() {
         let Some(stamp) = tick.stamp else {
@@ -97,7 +99,7 @@ fn agrees<A: Allocator + Copy>(track: &Track<'_>, clock: &Clock<A>, sight: Sight
             return false;
         };
         let time = rounded(time.saturating_sub(start), sight.part);
-        if half < time.saturating_sub(wanted).saturating_abs() {
+        if half.max(unit) < time.saturating_sub(wanted).saturating_abs() {
             return false;
         }
     }
