@@ -14,7 +14,7 @@ pub enum Order {
 pub(crate) struct Civil {
     first: u32,
     second: u32,
-    year: u32,
+    pub year: u32,
     /// The year stands first, or the month is a name: there is one way to read it.
     is_fixed: bool,
     pub has_short_year: bool,

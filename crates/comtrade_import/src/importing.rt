@@ -1,6 +1,6 @@
 //! A pair, or a single file, as a file of 1999 that says the same.
 
-ghost use Rattle.std.specs.Prelude.{IfOk, IfSome};
+ghost use Rattle.std.specs.Prelude.{◌≡◌, [], true, false, IfOk, IfSome};
 ghost use Rattle.comtrade_read.specs.Reads.{Reads};
 
 use crate::build::file_of;
@@ -34,6 +34,8 @@ pub struct Imported<A: Allocator = Global> {
     pub cfg: Vec<u8, A>,
     pub dat: Vec<u8, A>,
     pub notes: Vec<Note<A>, A>,
+    /// The pair reads exactly to this file, and there is no note.
+    pub is_exact: bool,
 }
 
 /// Both texts of a file; none where no file of 1999 can hold it.
@@ -41,8 +43,12 @@ fn finished<A: Allocator + Copy>(
     alloc: A,
     file: File<A>,
     notes: Vec<Note<A>, A>,
+    is_exact: bool,
 ) -> Result<Imported<A>, ImportFault>
-    ensures { IfOk result (λ done. Reads done.cfg.items done.dat.items done.file) }
+    ensures reads { IfOk result (λ done. Reads done.cfg.items done.dat.items done.file) }
+    ensures file { IfOk result (λ done. done.file ≡ file) }
+    ensures notes { IfOk result (λ done. done.notes.items ≡ notes.items) }
+    ensures exact { IfOk result (λ done. done.is_exact ≡ is_exact) }
 {
     file_reads_back(&file);
     let cfg = match cfg_bytes(alloc, &file) {
@@ -58,6 +64,7 @@ fn finished<A: Allocator + Copy>(
         cfg,
         dat,
         notes,
+        is_exact,
     })
 }
 
@@ -105,7 +112,8 @@ fn loose<A: Allocator + Copy>(
     dat: &[u8],
     choices: Choices,
 ) -> Result<Imported<A>, ImportFault>
-    ensures { IfOk result (λ done. Reads done.cfg.items done.dat.items done.file) }
+    ensures reads { IfOk result (λ done. Reads done.cfg.items done.dat.items done.file) }
+    ensures inexact { IfOk result (λ done. done.is_exact ≡ false) }
 {
     let narrowed = narrow(alloc, cfg)?;
     let text = match &narrowed {
@@ -131,7 +139,7 @@ fn loose<A: Allocator + Copy>(
         None => dat,
     };
     let file = file_of(alloc, &mut notes, draft, data)?;
-    finished(alloc, file, notes.into_list())
+    finished(alloc, file, notes.into_list(), false)
 }
 
 /// The pair as it reads exactly, where it is meant so and a file of 1999 can hold it.
@@ -140,7 +148,9 @@ fn exact<A: Allocator + Copy>(
     cfg: &[u8],
     dat: &[u8],
 ) -> Result<Option<Imported<A>>, ImportFault>
-    ensures { IfOk result (λ found. IfSome found (λ done. Reads done.cfg.items done.dat.items done.file)) }
+    ensures reads { IfOk result (λ found. IfSome found (λ done. Reads done.cfg.items done.dat.items done.file)) }
+    ensures same { IfOk result (λ found. IfSome found (λ done. Reads cfg.now dat.now done.file)) }
+    ensures untold { IfOk result (λ found. IfSome found (λ done. done.notes.items ≡ [])) }
 {
     let file = match read(alloc, cfg, dat) {
         Ok(file) => file,
@@ -150,7 +160,7 @@ fn exact<A: Allocator + Copy>(
     if !is_sound(alloc, &file, dat)? {
         return Ok(None);
     }
-    match finished(alloc, file, Vec::new(alloc)) {
+    match finished(alloc, file, Vec::new(alloc), true) {
         Ok(imported) => Ok(Some(imported)),
         Err(ImportFault::Memory) => Err(ImportFault::Memory),
         Err(_) => Ok(None),
@@ -165,7 +175,8 @@ pub fn import<A: Allocator + Copy>(
     dat: &[u8],
     choices: Choices,
 ) -> Result<Imported<A>, ImportFault>
-    ensures { IfOk result (λ done. Reads done.cfg.items done.dat.items done.file) }
+    ensures reads { IfOk result (λ done. Reads done.cfg.items done.dat.items done.file) }
+    ensures exact { IfOk result (λ done. done.is_exact ≡ true → (Reads cfg.now dat.now done.file) × (done.notes.items ≡ [])) }
 {
     if let Some(imported) = exact(alloc, cfg, dat)? {
         return Ok(imported);

@@ -6,6 +6,7 @@ use crate::fault::{ImportFault, Why};
 use crate::key::Key;
 use crate::lines::{Reader, Row, at, next_row};
 use crate::note::{Notes, Place};
+use crate::text::{put, put_number, put_quoted};
 use dfr_channels::trim;
 use std::alloc::Allocator;
 
@@ -90,7 +91,11 @@ fn tell_civil<A: Allocator + Copy>(
         notes.tell_text(Key::DateForm, Place::Cfg(line), text)?;
     }
     if civil.has_short_year {
-        notes.tell_text(Key::Years2Digits, Place::Cfg(line), text)?;
+        let mut piece = Vec::new(notes.allocator());
+        put_quoted(&mut piece, text)?;
+        put(&mut piece, " is of ")?;
+        put_number(&mut piece, u64::from(civil.year))?;
+        notes.tell(Key::Years2Digits, Place::Cfg(line), &piece)?;
     }
     Ok(())
 }
