@@ -54,14 +54,22 @@ fn order_of(word: &str) -> Option<Order> {
     if word == "mdy" {
         return Some(Order::MonthFirst);
     }
-    if word == "dmy" { Some(Order::DayFirst) } else { None }
+    if word == "dmy" {
+        Some(Order::DayFirst)
+    } else {
+        None
+    }
 }
 
 /// What an option asks for with its value.
 fn set<'a>(wanted: &mut Wanted<'a>, option: &str, value: &str) -> Result<(), Wrong> {
     if option == "--dates" {
         wanted.dates = order_of(value);
-        return if wanted.dates.is_some() { Ok(()) } else { Err(Wrong::Words) };
+        return if wanted.dates.is_some() {
+            Ok(())
+        } else {
+            Err(Wrong::Words)
+        };
     }
     match Key::named(value) {
         Some(key) => match wanted.refused.push(key) {
@@ -76,7 +84,11 @@ fn option_in(word: &str) -> Option<&'static str> {
     if word == "--dates" {
         return Some("--dates");
     }
-    if word == "--refuse" { Some("--refuse") } else { None }
+    if word == "--refuse" {
+        Some("--refuse")
+    } else {
+        None
+    }
 }
 
 /// What the words after `import` ask for.
@@ -107,7 +119,11 @@ fn wanted_of<'a, R: AllocGlobal>(rt: &R, words: &[&'a str]) -> Result<Wanted<'a>
             return Err(Wrong::Memory);
         }
     }
-    if option.is_some() { Err(Wrong::Words) } else { Ok(wanted) }
+    if option.is_some() {
+        Err(Wrong::Words)
+    } else {
+        Ok(wanted)
+    }
 }
 
 /// The bytes that are imported.
@@ -121,7 +137,11 @@ enum Source {
 fn without<'a>(name: &'a str, ending: &str) -> Option<&'a str> {
     let at = name.len().checked_sub(4)?;
     let back = name.get(at..)?;
-    if back.eq_ignore_ascii_case(ending) { name.get(..at) } else { None }
+    if back.eq_ignore_ascii_case(ending) {
+        name.get(..at)
+    } else {
+        None
+    }
 }
 
 /// A file, or none after its fault was said.
@@ -248,7 +268,9 @@ fn write<R: Files + Print + Eprint + AllocGlobal>(
 ) -> u8 {
     if let Some(key) = unwanted(imported, &wanted.refused) {
         let (name, words) = (key.name(), key.words());
-        let _ = eprintln!(rt; "comtrade: nothing is written, since this repair isn't wanted: {name}: {words}");
+        let _ = eprintln!(rt;
+            "comtrade: nothing is written, since this repair isn't wanted: {name}: {words}"
+        );
         return 1;
     }
     let mut lines = Vec::new(rt.alloc());
@@ -290,7 +312,9 @@ fn run_wanted<R: Files + Input + Print + Eprint + AllocGlobal>(
 }
 
 fn refuse_words<R: Eprint>(rt: &R) -> u8 {
-    let _ = eprintln!(rt; "error: these words ask for nothing\n\nUsage: comtrade import [--dates mdy|dmy] [--refuse KEY] FILE [DAT] NAME\n\nFor more information, try 'comtrade import --help'.");
+    let _ = eprintln!(rt;
+        "error: these words ask for nothing\n\nUsage: comtrade import [--dates mdy|dmy] [--refuse KEY] FILE [DAT] NAME\n\nFor more information, try 'comtrade import --help'."
+    );
     2
 }
 

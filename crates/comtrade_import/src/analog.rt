@@ -92,7 +92,15 @@ fn range_of<A: Allocator + Copy>(
             return Ok((high, low, Range::Said));
         }
         let is_unsigned = 0 <= low && 32_767 < high;
-        return Ok((low, high, if is_unsigned { Range::Unsigned } else { Range::Said }));
+        return Ok((
+            low,
+            high,
+            if is_unsigned {
+                Range::Unsigned
+            } else {
+                Range::Said
+            },
+        ));
     }
     let low = loose_bound(mark, shape.line, low)?;
     let high = loose_bound(mark, shape.line, high)?;
@@ -128,7 +136,13 @@ fn ratio_of<A: Allocator + Copy>(
             None => Err(at(shape.line, Why::Number)),
         };
     }
-    decimal_or(notes, mark, shape.line, shape.parts.at(index), ("ratio: 1", 1))
+    decimal_or(
+        notes,
+        mark,
+        shape.line,
+        shape.parts.at(index),
+        ("ratio: 1", 1),
+    )
 }
 
 fn unit_of<A: Allocator + Copy>(
@@ -204,7 +218,14 @@ fn has_numbers_at_end(parts: Parts<'_>) -> bool {
 /// What is wrong with a line of too many fields.
 fn too_many(row: Row<'_>) -> ImportFault {
     let in_text = has_numbers_at_end(row.parts);
-    at(row.number, if in_text || 13 < row.parts.full { Why::Commas } else { Why::AnalogFields })
+    at(
+        row.number,
+        if in_text || 13 < row.parts.full {
+            Why::Commas
+        } else {
+            Why::AnalogFields
+        },
+    )
 }
 
 /// The channel that a line says; `place` is its number, and whether the file is of 1991.

@@ -401,8 +401,12 @@ fn tell_errors<A: Allocator + Copy>(
 ) -> Result<(), ImportFault> {
     let mut number = 0u64;
     let (fits, worst) = found;
-    for ((((analog, factor), span), fit), worst) in
-        analog.iter().zip(factors.iter()).zip(survey.spans.iter()).zip(fits.iter()).zip(worst.iter())
+    for ((((analog, factor), span), fit), worst) in analog
+        .iter()
+        .zip(factors.iter())
+        .zip(survey.spans.iter())
+        .zip(fits.iter())
+        .zip(worst.iter())
     {
         number = number.saturating_add(1);
         if fit.is_rounded() {
@@ -485,7 +489,11 @@ fn settle<A: Allocator + Copy>(
     let track = Track {
         ticks: &survey.ticks,
         timemult: draft.timemult,
-        most: if is_text { 9_999_999_999 } else { 4_294_967_294 },
+        most: if is_text {
+            9_999_999_999
+        } else {
+            4_294_967_294
+        },
         is_pointed: survey.has_stamp_point,
         place: Place::Whole("data file"),
     };
@@ -510,7 +518,11 @@ fn ranges_of<A: Allocator + Copy>(
     let mut lows = Vec::new(alloc);
     for analog in draft.analog.iter() {
         unsigned.push(is_short && analog.range == Range::Unsigned)?;
-        lows.push(if analog.range == Range::Said { i64::from(analog.channel.min) } else { -99_999 })?;
+        lows.push(if analog.range == Range::Said {
+            i64::from(analog.channel.min)
+        } else {
+            -99_999
+        })?;
     }
     Ok((unsigned, lows))
 }
@@ -552,7 +564,13 @@ pub(crate) fn file_of<A: Allocator + Copy>(
         rates,
     } = times;
     let written = written_of(alloc, ground, &fits, &stamps)?;
-    tell_errors(notes, &draft.analog, &factors, &survey, (&fits, &written.worst))?;
+    tell_errors(
+        notes,
+        &draft.analog,
+        &factors,
+        &survey,
+        (&fits, &written.worst),
+    )?;
     let kind = if is_text { Kind::Ascii } else { Kind::Binary };
     let count = written.rows.len() as u64;
     let head = head_of(alloc, draft, (rates, timemult), kind, count)?;

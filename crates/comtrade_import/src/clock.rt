@@ -54,7 +54,11 @@ impl<A: Allocator + Copy> Clock<A> {
             }
             runs.push(run)?;
         }
-        if runs.is_empty() { Ok(None) } else { Ok(Some(Clock { runs })) }
+        if runs.is_empty() {
+            Ok(None)
+        } else {
+            Ok(Some(Clock { runs }))
+        }
     }
 }
 
@@ -70,7 +74,10 @@ impl<A: Allocator> Clock<A> {
         }
         let run = self.runs.get(*at)?;
         let part = 10i128.checked_pow(run.places)?.checked_mul(SECOND)?;
-        Some((run.time_of(row)?, part.checked_div(run.units)?.wrapping_div(2)))
+        Some((
+            run.time_of(row)?,
+            part.checked_div(run.units)?.wrapping_div(2),
+        ))
     }
 }
 
@@ -95,6 +102,10 @@ pub(crate) fn time_of_stamp(stamp: Num, timemult: Decimal) -> Option<i128> {
 /// The nearest whole number to n / part, halves away from 0.
 pub(crate) fn rounded(n: i128, part: i128) -> i128 {
     let half = part.wrapping_div(2);
-    let up = if n < 0 { n.saturating_sub(half) } else { n.saturating_add(half) };
+    let up = if n < 0 {
+        n.saturating_sub(half)
+    } else {
+        n.saturating_add(half)
+    };
     up.checked_div(part).unwrap_or(0)
 }

@@ -1,12 +1,12 @@
 //! In which form data stand: what the configuration file says, unless the data prove another form.
 
+use crate::cursor::{Cursor, after, before};
 use crate::draft::Draft;
 use crate::fault::{ImportFault, Why};
 use crate::key::Key;
 use crate::kinds::Form;
 use crate::note::{Notes, Place};
 use crate::row::{Cells, Counts, Packed, Plan, number_at, read_line};
-use crate::cursor::{Cursor, after, before};
 use dfr_channels::trim;
 use memchr::memchr;
 use std::alloc::Allocator;
@@ -139,12 +139,22 @@ fn said_text<'a, A: Allocator + Copy>(
     if is_text(alloc, text, mark_of(text), counts) {
         return text_plan(notes, dat);
     }
-    let short = look_at(dat, Form::Binary, Form::Binary.row_size(counts.k, counts.m), false);
+    let short = look_at(
+        dat,
+        Form::Binary,
+        Form::Binary.row_size(counts.k, counts.m),
+        false,
+    );
     if short.is_proved() {
         tell_whole(notes, Key::KindOther, "ASCII is said, BINARY is there")?;
         return packed(notes, short);
     }
-    let long = look_at(dat, Form::Binary32, Form::Binary32.row_size(counts.k, counts.m), false);
+    let long = look_at(
+        dat,
+        Form::Binary32,
+        Form::Binary32.row_size(counts.k, counts.m),
+        false,
+    );
     if long.is_proved() {
         return Err(ImportFault::Whole(Why::NoKind));
     }
@@ -172,15 +182,28 @@ fn proved<'a, A: Allocator + Copy>(
     }
     let text = before_mark(dat);
     if is_text(alloc, text, mark_of(text), counts) {
-        tell_whole(notes, Key::KindOther, "binary data are said, ASCII is there")?;
+        tell_whole(
+            notes,
+            Key::KindOther,
+            "binary data are said, ASCII is there",
+        )?;
         return Ok(Some(text_plan(notes, dat)?));
     }
     if form == Form::Binary {
         return Ok(None);
     }
-    let short = look_at(dat, Form::Binary, Form::Binary.row_size(counts.k, counts.m), false);
+    let short = look_at(
+        dat,
+        Form::Binary,
+        Form::Binary.row_size(counts.k, counts.m),
+        false,
+    );
     if short.is_proved() {
-        tell_whole(notes, Key::KindOther, "values of 32 bits are said, BINARY is there")?;
+        tell_whole(
+            notes,
+            Key::KindOther,
+            "values of 32 bits are said, BINARY is there",
+        )?;
         return Ok(Some(packed(notes, short)?));
     }
     Ok(None)
@@ -223,7 +246,12 @@ fn unsaid<'a, A: Allocator + Copy>(
     if is_text(alloc, text, mark_of(text), counts) {
         return text_plan(notes, dat);
     }
-    let short = look_at(dat, Form::Binary, Form::Binary.row_size(counts.k, counts.m), false);
+    let short = look_at(
+        dat,
+        Form::Binary,
+        Form::Binary.row_size(counts.k, counts.m),
+        false,
+    );
     if short.is_proved() {
         return packed(notes, short);
     }
@@ -231,13 +259,18 @@ fn unsaid<'a, A: Allocator + Copy>(
 }
 
 /// Tells forms that 1999 doesn't have.
-fn tell_form<A: Allocator + Copy>(
-    notes: &mut Notes<A>,
-    plan: Plan<'_>,
-) -> Result<(), ImportFault> {
+fn tell_form<A: Allocator + Copy>(notes: &mut Notes<A>, plan: Plan<'_>) -> Result<(), ImportFault> {
     match plan {
-        Plan::Packed(packed) if packed.form == Form::Binary32 => tell_whole(notes, Key::KindBinary32, ""),
-        Plan::Packed(packed) if packed.form == Form::Float32 => tell_whole(notes, Key::KindFloat32, ""),
+        Plan::Packed(packed) if packed.form == Form::Binary32 => tell_whole(
+            notes,
+            Key::KindBinary32,
+            "",
+        ),
+        Plan::Packed(packed) if packed.form == Form::Float32 => tell_whole(
+            notes,
+            Key::KindFloat32,
+            "",
+        ),
         _ => Ok(()),
     }
 }

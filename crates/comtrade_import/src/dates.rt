@@ -45,7 +45,9 @@ fn small(text: &[u8]) -> Option<u32> {
         if !b.is_ascii_digit() {
             return None;
         }
-        n = n.wrapping_mul(10).wrapping_add(u32::from(b.wrapping_sub(b'0')));
+        n = n
+            .wrapping_mul(10)
+            .wrapping_add(u32::from(b.wrapping_sub(b'0')));
     }
     Some(n)
 }
@@ -106,7 +108,11 @@ fn full_year(year: u32, digits: usize) -> u32 {
     if digits != 2 {
         return year;
     }
-    if year < 70 { year.saturating_add(2000) } else { year.saturating_add(1900) }
+    if year < 70 {
+        year.saturating_add(2000)
+    } else {
+        year.saturating_add(1900)
+    }
 }
 
 /// The parts of a date.
@@ -162,7 +168,9 @@ fn day_number(year: u32, month: u32, day: u32) -> Option<i64> {
 impl Civil {
     /// All its numbers are 0.
     pub(crate) fn is_unset(self) -> bool {
-        self.first == 0 && self.second == 0 && (self.year == 0 || self.has_short_year && self.year == 2000)
+        self.first == 0
+            && self.second == 0
+            && (self.year == 0 || self.has_short_year && self.year == 2000)
     }
 
     /// Days since 1970-01-01, where the date is valid in this order.

@@ -52,7 +52,10 @@ impl Exact {
     pub(crate) fn short(self) -> Exact {
         let mut short = self;
         if short.units == 0 {
-            return Exact { units: 0, places: 0 };
+            return Exact {
+                units: 0,
+                places: 0,
+            };
         }
         for _ in 0..40 {
             if short.units.wrapping_rem(10) != 0 {

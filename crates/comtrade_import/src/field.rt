@@ -67,7 +67,9 @@ impl<'a> Fields<'a> {
     /// Whether all that is left are empty fields.
     pub(crate) fn is_empty_from_here(&self) -> bool {
         match self.left {
-            Some(text) => text.iter().all(|b| *b == self.mark || *b == b' ' || *b == b'\t'),
+            Some(text) => text
+                .iter()
+                .all(|b| *b == self.mark || *b == b' ' || *b == b'\t'),
             None => true,
         }
     }

@@ -41,7 +41,10 @@ fn nine_digits(n: i64) -> (i64, i64) {
         }
         power = power.saturating_mul(10);
     }
-    let up = n.saturating_add(power.saturating_sub(1)).checked_div(power).unwrap_or(n);
+    let up = n
+        .saturating_add(power.saturating_sub(1))
+        .checked_div(power)
+        .unwrap_or(n);
     (up.saturating_mul(power), power)
 }
 

@@ -57,7 +57,11 @@ fn count_of(text: &[u8]) -> Option<(u64, u8, bool)> {
     let digits = trim(number);
     let n = integer_of(digits)?;
     let n = u64::try_from(n).ok()?;
-    Some((n, letter.to_ascii_uppercase(), is_odd || digits.len() != number.len()))
+    Some((
+        n,
+        letter.to_ascii_uppercase(),
+        is_odd || digits.len() != number.len(),
+    ))
 }
 
 /// What the line of counts says.
@@ -95,7 +99,11 @@ fn counted(row: Row<'_>) -> Option<Counts> {
             _ => return None,
         }
     }
-    if 3 < row.parts.full { None } else { Some(counts) }
+    if 3 < row.parts.full {
+        None
+    } else {
+        Some(counts)
+    }
 }
 
 /// The numbers of analogue and of status channels.
@@ -120,10 +128,14 @@ fn counts_of<A: Allocator + Copy>(
         return Err(at(line, Why::ManyChannels));
     }
     if counts.is_odd {
-        reader.notes.tell_text(Key::CountsForm, Place::Cfg(line), row.text)?;
+        reader
+            .notes
+            .tell_text(Key::CountsForm, Place::Cfg(line), row.text)?;
     }
     if counts.total.is_some() && counts.total != Some(sum) {
-        reader.notes.tell_text(Key::CountsTotal, Place::Cfg(line), row.text)?;
+        reader
+            .notes
+            .tell_text(Key::CountsTotal, Place::Cfg(line), row.text)?;
     }
     Ok((analog, status))
 }
@@ -171,9 +183,20 @@ fn analogs_of<A: Allocator + Copy>(
 ) -> Result<Vec<Analog<A>, A>, ImportFault> {
     let mut list = Vec::new(reader.alloc);
     for i in 0..count {
-        let row = next_row(&mut reader.cursor, reader.mark, reader.notes, if is_old { 10 } else { 13 })?;
+        let row = next_row(
+            &mut reader.cursor,
+            reader.mark,
+            reader.notes,
+            if is_old { 10 } else { 13 },
+        )?;
         let number = i.saturating_add(1);
-        list.push(analog_of(reader.alloc, reader.notes, reader.mark, row, (number, is_old))?)?;
+        list.push(analog_of(
+            reader.alloc,
+            reader.notes,
+            reader.mark,
+            row,
+            (number, is_old),
+        )?)?;
     }
     Ok(list)
 }
@@ -199,7 +222,13 @@ fn frequency_of<A: Allocator + Copy>(
     if 1 < row.parts.full {
         return Err(at(row.number, Why::Number));
     }
-    decimal_or(reader.notes, reader.mark, row.number, row.parts.at(0), ("line frequency: 0", 0))
+    decimal_or(
+        reader.notes,
+        reader.mark,
+        row.number,
+        row.parts.at(0),
+        ("line frequency: 0", 0),
+    )
 }
 
 /// The form of the data; none where no line says it.
@@ -214,7 +243,11 @@ fn type_of<A: Allocator + Copy>(
     };
     if let Some(form) = form_of(text) {
         let row = next_row(&mut reader.cursor, reader.mark, reader.notes, 1)?;
-        return if row.parts.full == 1 { Ok(Some(form)) } else { Err(at(number, Why::Kind)) };
+        return if row.parts.full == 1 {
+            Ok(Some(form))
+        } else {
+            Err(at(number, Why::Kind))
+        };
     }
     if !text.is_empty() && Decimal::read(text).is_none() {
         return Err(at(number, Why::Kind));
@@ -241,7 +274,13 @@ fn timemult_of<A: Allocator + Copy>(
     };
     if is_there {
         let row = next_row(&mut reader.cursor, reader.mark, reader.notes, 1)?;
-        return decimal_or(reader.notes, reader.mark, row.number, row.parts.at(0), ("timemult: 1", 1));
+        return decimal_or(
+            reader.notes,
+            reader.mark,
+            row.number,
+            row.parts.at(0),
+            ("timemult: 1", 1),
+        );
     }
     if revision != Revision::Of1991 {
         reader.notes.tell(Key::NoTimemult, Place::Cfg(number), &[])?;
@@ -264,7 +303,11 @@ fn end_of<A: Allocator + Copy>(reader: &mut Reader<'_, '_, A>) -> Result<(), Imp
             return Err(at(line.number, Why::Extra));
         }
         reader.cursor = ahead;
-        reader.notes.tell_text(Key::Lines2013Dropped, Place::Cfg(line.number), trim(line.text))?;
+        reader.notes.tell_text(
+            Key::Lines2013Dropped,
+            Place::Cfg(line.number),
+            trim(line.text),
+        )?;
     }
     match reader.cursor.next_line() {
         Some(line) => Err(at(line.number, Why::Extra)),
@@ -336,7 +379,11 @@ pub(crate) fn draft_of<A: Allocator + Copy>(
         notes.tell(Key::LineEndsCr, Place::Whole("configuration file"), &[])?;
     }
     if mark == b';' {
-        notes.tell(Key::SeparatorSemicolon, Place::Whole("configuration file"), &[])?;
+        notes.tell(
+            Key::SeparatorSemicolon,
+            Place::Whole("configuration file"),
+            &[],
+        )?;
     }
     let mut reader = Reader {
         alloc,

@@ -4,7 +4,6 @@ ghost use Rattle.std.specs.Prelude.{◌≡◌, [], true, false, IfOk, IfSome};
 ghost use Rattle.comtrade_read.specs.Reads.{Reads};
 
 use crate::build::file_of;
-use crate::sections::{Sections, cut};
 use crate::cursor::before;
 use crate::dates::Order;
 use crate::encoding::{narrow, without_mark};
@@ -13,6 +12,7 @@ use crate::head::draft_of;
 use crate::key::Key;
 use crate::kinds::Form;
 use crate::note::{Note, Notes, Place};
+use crate::sections::{Sections, cut};
 use crate::sound::is_sound;
 use crate::text::{put, put_number};
 use comtrade_format::{File, WriteFault, cfg_bytes, dat_bytes};

@@ -30,7 +30,11 @@ pub(crate) struct Instants {
 fn texts_of<'a>(row: Row<'a>, mark: u8) -> (&'a [u8], &'a [u8], bool) {
     let field = row.parts.at(0);
     if 1 < row.parts.full || field.is_empty() || mark == 0 {
-        let time = if row.parts.full == 3 { rest_after(row.text, mark) } else { row.parts.at(1) };
+        let time = if row.parts.full == 3 {
+            rest_after(row.text, mark)
+        } else {
+            row.parts.at(1)
+        };
         return (field, time, false);
     }
     let blank = field.iter().position(|b| *b == b' ' || *b == b'\t');
@@ -120,7 +124,10 @@ fn said_of<A: Allocator + Copy>(reader: &mut Reader<'_, '_, A>) -> Result<Said, 
     let (date, time, is_joined) = texts_of(row, reader.mark);
     let civil = civil_of(date);
     let clock = clock_of(time);
-    if civil.is_none() && !date.is_empty() || clock.is_none() && !time.is_empty() || 3 < row.parts.full {
+    if civil.is_none() && !date.is_empty()
+        || clock.is_none() && !time.is_empty()
+        || 3 < row.parts.full
+    {
         return Err(at(line, Why::Instant));
     }
     if let Some(clock) = clock {
@@ -197,7 +204,11 @@ fn order_of<A: Allocator + Copy>(
     revision: Revision,
     asked: Option<Order>,
 ) -> Result<Order, ImportFault> {
-    let usual = if revision == Revision::Of1991 { Order::MonthFirst } else { Order::DayFirst };
+    let usual = if revision == Revision::Of1991 {
+        Order::MonthFirst
+    } else {
+        Order::DayFirst
+    };
     let (first, trigger) = said;
     let fits = |order: Order| first.fits(order) && trigger.fits(order);
     let is_ambiguous = fits(usual)
@@ -209,7 +220,11 @@ fn order_of<A: Allocator + Copy>(
         None => other_of(usual),
     };
     if !fits(order) {
-        let line = if first.fits(order) { trigger.line } else { first.line };
+        let line = if first.fits(order) {
+            trigger.line
+        } else {
+            first.line
+        };
         return Err(at(line, Why::NoDate));
     }
     if !first.is_open() && !trigger.is_open() {
@@ -222,7 +237,11 @@ fn order_of<A: Allocator + Copy>(
         notes.tell(Key::DatesDmy, place, &[])?;
     }
     if is_ambiguous && revision == Revision::Of1991 && asked.is_none() {
-        notes.tell(Key::DatesAmbiguous, place, b"the month was taken to stand first")?;
+        notes.tell(
+            Key::DatesAmbiguous,
+            place,
+            b"the month was taken to stand first",
+        )?;
     }
     Ok(order)
 }

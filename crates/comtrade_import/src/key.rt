@@ -245,7 +245,8 @@ impl Key {
         match self {
             Key::Revision1991 => "read as 1991",
             Key::Revision2013 => "read as 2013",
-            Key::RevisionAbsent => "no year in line 1, but the lines are those of 1999: read as 1999",
+            Key::RevisionAbsent =>
+                "no year in line 1, but the lines are those of 1999: read as 1999",
             Key::RevisionOther => "a year of a known form (2001): read as 1999",
             Key::SidesAbsent => "1991 has no ratio and no side: P, 1:1",
             Key::SideEmpty => "no side is said: P",
@@ -290,7 +291,8 @@ impl Key {
             Key::RateZero => "a rate of 0: nrates 0, the stamps say the times",
             Key::RowsFewer => "fewer rows than endsamp: endsamp was lowered",
             Key::RowsMore => "more rows than endsamp: endsamp was raised",
-            Key::RowsLost => "row numbers and stamps jump: rows are missing; how many, where, and what was made of it",
+            Key::RowsLost =>
+                "row numbers and stamps jump: rows are missing; how many, where, and what was made of it",
             Key::RowCut => "an incomplete last row was left out",
             Key::SampleNumbers => "rows were numbered anew",
             Key::StampsRestart => "stamps begin again: times are by the rate",
@@ -301,7 +303,8 @@ impl Key {
             Key::StampsAbsent => "no stamps: times are by the rate",
             Key::TimesUnknown => "neither stamps nor a rate: the rows have no times",
             Key::ValuesDecimal => "samples with a point became whole numbers, a was fitted",
-            Key::ValuesWide => "samples over 16 bits (BINARY) or five digits (ASCII) were scaled, a was fitted",
+            Key::ValuesWide =>
+                "samples over 16 bits (BINARY) or five digits (ASCII) were scaled, a was fitted",
             Key::ValuesUnsigned => "samples are unsigned: b was moved",
             Key::ValuesRounded => "values aren't held exactly: the greatest error, by channel",
             Key::MissingMarks => "missing values had another mark than the standard's",

@@ -33,9 +33,9 @@ mod stamps;
 mod status;
 mod text;
 
-pub use sections::{Sections, cut};
 pub use dates::Order;
 pub use fault::{ImportFault, Why};
 pub use importing::{Choices, Imported, import, import_single};
 pub use key::Key;
 pub use note::Note;
+pub use sections::{Sections, cut};

@@ -96,10 +96,7 @@ pub(crate) fn decimal_of<A: Allocator + Copy>(
 }
 
 /// The decimal of a text in which a comma stands for the point, or a D for the exponent's mark.
-fn decimal_in<A: Allocator + Copy>(
-    alloc: A,
-    text: &[u8],
-) -> Result<Option<Decimal>, AllocError> {
+fn decimal_in<A: Allocator + Copy>(alloc: A, text: &[u8]) -> Result<Option<Decimal>, AllocError> {
     let mut plain = Vec::new(alloc);
     for b in text {
         plain.push(match *b {

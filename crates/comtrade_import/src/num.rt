@@ -65,7 +65,9 @@ impl Num {
             if self.two < 0 || 39 < self.two {
                 return None;
             }
-            return self.mant.checked_mul(1i64.wrapping_shl(self.two.unsigned_abs()));
+            return self
+                .mant
+                .checked_mul(1i64.wrapping_shl(self.two.unsigned_abs()));
         }
         if 0 <= self.ten {
             return self.mant.checked_mul(ten_to(self.ten)?);
@@ -88,12 +90,16 @@ impl Num {
 
     /// A whole number n with the number's size below 10^n.
     pub(crate) fn order(self) -> i32 {
-        let bits = 64i32.saturating_sub(i32::try_from(self.mant.unsigned_abs().leading_zeros()).unwrap_or(0));
+        let bits = 64i32.saturating_sub(i32::try_from(
+            self.mant.unsigned_abs().leading_zeros(),
+        ).unwrap_or(0));
         if self.two == 0 {
             return digits_of(self.mant.unsigned_abs()).saturating_add(self.ten);
         }
         let twos = bits.saturating_add(self.two);
-        twos.saturating_mul(30_103).wrapping_div(100_000).saturating_add(1)
+        twos.saturating_mul(30_103)
+            .wrapping_div(100_000)
+            .saturating_add(1)
     }
 }
 
@@ -138,7 +144,10 @@ pub(crate) fn num_of_float(bits: u32) -> Option<Num> {
     let (mant, two) = if exponent == 0 {
         (fraction, -149i32)
     } else {
-        (fraction | 0x80_0000, i32::try_from(exponent).unwrap_or(0).saturating_sub(150))
+        (
+            fraction | 0x80_0000,
+            i32::try_from(exponent).unwrap_or(0).saturating_sub(150),
+        )
     };
     if mant == 0 {
         return Some(Num::of(0));
@@ -146,7 +155,11 @@ pub(crate) fn num_of_float(bits: u32) -> Option<Num> {
     let zeros = mant.trailing_zeros();
     let mant = i64::from(mant.wrapping_shr(zeros));
     let two = two.saturating_add(i32::try_from(zeros).unwrap_or(0));
-    let mant = if bits.wrapping_shr(31) == 1 { mant.wrapping_neg() } else { mant };
+    let mant = if bits.wrapping_shr(31) == 1 {
+        mant.wrapping_neg()
+    } else {
+        mant
+    };
     if 0 <= two && two < 39 {
         return Some(Num::of(mant.wrapping_shl(two.unsigned_abs())));
     }
@@ -168,7 +181,11 @@ impl Digits {
     fn with(self, digit: u8) -> Digits {
         let digit = i64::from(digit.wrapping_sub(b'0'));
         let fits = self.mant < ROOM;
-        let mant = if fits { self.mant.wrapping_mul(10).wrapping_add(digit) } else { self.mant };
+        let mant = if fits {
+            self.mant.wrapping_mul(10).wrapping_add(digit)
+        } else {
+            self.mant
+        };
         let ten = match (fits, self.is_after) {
             (true, true) => self.ten.saturating_sub(1),
             (false, false) => self.ten.saturating_add(1),
@@ -198,7 +215,10 @@ fn exponent_of(text: &[u8]) -> Option<i32> {
         if !b.is_ascii_digit() {
             return None;
         }
-        size = size.saturating_mul(10).saturating_add(i32::from(b.wrapping_sub(b'0'))).min(9_999);
+        size = size
+            .saturating_mul(10)
+            .saturating_add(i32::from(b.wrapping_sub(b'0')))
+            .min(9_999);
     }
     Some(if is_minus { size.wrapping_neg() } else { size })
 }
@@ -238,8 +258,16 @@ pub(crate) fn spelled_of(text: &[u8], lets_comma: bool) -> Option<Spelled> {
     if !digits.has_any {
         return None;
     }
-    let mant = if is_minus { digits.mant.wrapping_neg() } else { digits.mant };
-    let ten = if mant == 0 { 0 } else { digits.ten.saturating_add(exponent.unwrap_or(0)) };
+    let mant = if is_minus {
+        digits.mant.wrapping_neg()
+    } else {
+        digits.mant
+    };
+    let ten = if mant == 0 {
+        0
+    } else {
+        digits.ten.saturating_add(exponent.unwrap_or(0))
+    };
     Some(Spelled {
         num: Num { mant, ten, two: 0 },
         is_pointed: digits.is_after || exponent.is_some(),

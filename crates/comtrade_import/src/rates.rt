@@ -45,7 +45,11 @@ fn rate_count<A: Allocator + Copy>(
         return Err(at(row.number, Why::Rate));
     }
     let count = count_of(reader, row, 0)?;
-    if 999 < count { Err(at(row.number, Why::ManyRates)) } else { Ok((count, row.number)) }
+    if 999 < count {
+        Err(at(row.number, Why::ManyRates))
+    } else {
+        Ok((count, row.number))
+    }
 }
 
 /// A rate and its last row.
@@ -56,7 +60,13 @@ fn rate_of<A: Allocator + Copy>(
     if 2 < row.parts.full {
         return Err(at(row.number, Why::Rate));
     }
-    let samp = decimal_or(reader.notes, reader.mark, row.number, row.parts.at(0), ("rate: 0", 0))?;
+    let samp = decimal_or(
+        reader.notes,
+        reader.mark,
+        row.number,
+        row.parts.at(0),
+        ("rate: 0", 0),
+    )?;
     if samp.units() < 0 {
         return Err(at(row.number, Why::Rate));
     }
@@ -123,7 +133,9 @@ pub(crate) fn rates_of<A: Allocator + Copy>(
         return rates_in(reader, count);
     }
     if !has_rate_line(reader.cursor, reader.mark) {
-        reader.notes.tell(Key::RateLineAbsent, Place::Cfg(line), &[])?;
+        reader
+            .notes
+            .tell(Key::RateLineAbsent, Place::Cfg(line), &[])?;
         return Ok(Rates {
             list: Vec::new(reader.alloc),
             last: None,

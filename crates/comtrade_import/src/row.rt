@@ -117,7 +117,9 @@ fn push_value<A: Allocator>(
             cells.odd.has_fortran = cells.odd.has_fortran || spelled.is_fortran;
             cells.odd.has_commas = cells.odd.has_commas || spelled.has_comma;
             let is_missing = spelled.num.whole() == Some(MISSING);
-            cells.values.push(if is_missing { None } else { Some(spelled.num) })?;
+            cells
+                .values
+                .push(if is_missing { None } else { Some(spelled.num) })?;
             Ok(())
         }
         None if is_mark(text) => {
@@ -202,7 +204,11 @@ pub(crate) fn read_line<A: Allocator>(
         return Ok(());
     }
     cells.odd.has_trailing = true;
-    if fields.is_empty_from_here() { Ok(()) } else { Err(Stop::Why(Why::RowFields)) }
+    if fields.is_empty_from_here() {
+        Ok(())
+    } else {
+        Err(Stop::Why(Why::RowFields))
+    }
 }
 
 fn word_at(bytes: &[u8], at: usize, is_big: bool) -> u16 {
@@ -232,7 +238,11 @@ fn value_at(row: &[u8], at: usize, packed: Packed<'_>, is_unsigned: bool) -> Opt
         Form::Float32 => num_of_float(long_at(row, at, packed.is_big)),
         Form::Binary32 => {
             let bits = long_at(row, at, packed.is_big);
-            if bits == 0x8000_0000 { None } else { Some(Num::of(signed_long(bits))) }
+            if bits == 0x8000_0000 {
+                None
+            } else {
+                Some(Num::of(signed_long(bits)))
+            }
         }
         _ => {
             let bits = word_at(row, at, packed.is_big);
@@ -249,12 +259,20 @@ fn value_at(row: &[u8], at: usize, packed: Packed<'_>, is_unsigned: bool) -> Opt
 
 fn signed_long(bits: u32) -> i64 {
     let n = i64::from(bits);
-    if bits.wrapping_shr(31) == 1 { n.saturating_sub(4_294_967_296) } else { n }
+    if bits.wrapping_shr(31) == 1 {
+        n.saturating_sub(4_294_967_296)
+    } else {
+        n
+    }
 }
 
 fn signed_word(bits: u16) -> i64 {
     let n = i64::from(bits);
-    if 0x8000 <= bits { n.saturating_sub(65_536) } else { n }
+    if 0x8000 <= bits {
+        n.saturating_sub(65_536)
+    } else {
+        n
+    }
 }
 
 /// The bits of a row's words, and whether one is set that no channel has.
@@ -294,8 +312,16 @@ fn read_packed<A: Allocator>(
     cells.odd = Odd::default();
     cells.number = i64::from(long_at(row, 0, packed.is_big));
     let stamp = long_at(row, 4, packed.is_big);
-    cells.stamp = if stamp == u32::MAX { None } else { Some(Num::of(i64::from(stamp))) };
-    let width = if packed.form == Form::Binary { 2usize } else { 4usize };
+    cells.stamp = if stamp == u32::MAX {
+        None
+    } else {
+        Some(Num::of(i64::from(stamp)))
+    };
+    let width = if packed.form == Form::Binary {
+        2usize
+    } else {
+        4usize
+    };
     let mut at = 8usize;
     for i in 0..counts.k {
         let is_unsigned = unsigned.get(i).copied().unwrap_or(false);

@@ -29,12 +29,22 @@ impl Scale {
         }
         let size = num.mant.unsigned_abs() as u128;
         let near = if self.shift < 0 {
-            tenth(size.checked_mul(power_of_two(num.two)).unwrap_or(u128::MAX), self.shift.unsigned_abs())
+            tenth(
+                size.checked_mul(power_of_two(num.two)).unwrap_or(u128::MAX),
+                self.shift.unsigned_abs(),
+            )
         } else {
-            shifted(size.saturating_mul(self.fives), self.shift.saturating_add(num.two))
+            shifted(
+                size.saturating_mul(self.fives),
+                self.shift.saturating_add(num.two),
+            )
         };
         let near = i64::try_from(near).unwrap_or(i64::MAX);
-        if num.mant < 0 { near.wrapping_neg() } else { near }
+        if num.mant < 0 {
+            near.wrapping_neg()
+        } else {
+            near
+        }
     }
 }
 
@@ -49,7 +59,10 @@ fn power_of_two(n: i32) -> u128 {
 /// A size over 10^n, rounded.
 fn tenth(size: u128, n: u32) -> u128 {
     match 10u128.checked_pow(n) {
-        Some(part) => size.saturating_add(part.wrapping_div(2)).checked_div(part).unwrap_or(0),
+        Some(part) => size
+            .saturating_add(part.wrapping_div(2))
+            .checked_div(part)
+            .unwrap_or(0),
         None => 0,
     }
 }
@@ -88,6 +101,10 @@ fn decimal_at(num: Num, shift: i32) -> i64 {
 /// The nearest whole number to n / part, halves away from 0.
 pub(crate) fn over(n: i64, part: i64) -> i64 {
     let half = part.wrapping_div(2);
-    let up = if n < 0 { n.saturating_sub(half) } else { n.saturating_add(half) };
+    let up = if n < 0 {
+        n.saturating_sub(half)
+    } else {
+        n.saturating_add(half)
+    };
     up.checked_div(part).unwrap_or(0)
 }

@@ -47,7 +47,9 @@ const LONGEST: usize = 120;
 /// The next word, and what stands after it.
 fn word_of(text: &[u8]) -> (&[u8], &[u8]) {
     let text = trim(text);
-    let end = text.iter().position(|b| *b == b' ' || *b == b'\t' || *b == b':');
+    let end = text
+        .iter()
+        .position(|b| *b == b' ' || *b == b'\t' || *b == b':');
     match end {
         Some(at) => (before(text, at), trim(text.get(at..).unwrap_or(&[]))),
         None => (text, &text[text.len()..]),
@@ -110,7 +112,11 @@ fn section_of(inner: &[u8]) -> Option<Section> {
     if name.eq_ignore_ascii_case(b"hdr") {
         return Some(Section::Hdr);
     }
-    if name.eq_ignore_ascii_case(b"dat") { data_section(left) } else { None }
+    if name.eq_ignore_ascii_case(b"dat") {
+        data_section(left)
+    } else {
+        None
+    }
 }
 
 /// Whether a line is spelled as the standard spells it.

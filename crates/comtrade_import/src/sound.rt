@@ -1,13 +1,12 @@
 //! Whether a file that reads exactly is also meant as it reads.
 
-use crate::clock::Clock;
+use crate::clock::{Clock, time_of_stamp};
+use crate::cursor::after;
+use crate::num::Num;
 use comtrade_format::{File, Head, Kind, Row};
 use dfr_channels::{AnalogChannel, Reading};
 use memchr::memchr;
 use std::alloc::{AllocError, Allocator};
-use crate::clock::time_of_stamp;
-use crate::cursor::after;
-use crate::num::Num;
 
 fn is_channel_sound<A: Allocator>(channel: &AnalogChannel<A>) -> bool {
     channel.min <= channel.max
@@ -19,7 +18,11 @@ fn is_channel_sound<A: Allocator>(channel: &AnalogChannel<A>) -> bool {
 
 fn is_head_sound<A: Allocator>(head: &Head<A>) -> bool {
     head.first <= head.trigger
-        && head.analog.items().iter().all(|channel| is_channel_sound(channel))
+        && head
+            .analog
+            .items()
+            .iter()
+            .all(|channel| is_channel_sound(channel))
         && (head.nrates == 0 || head.rates.items().iter().all(|rate| 0 < rate.samp.units()))
 }
 
@@ -41,10 +44,7 @@ fn num_of(stamp: u64) -> Num {
 
 /// Whether all stamps are there, from 0 on, and agree with the rates within half an interval or what a stamp counts; without rates they don't fall
 /// and aren't all the same.
-fn are_stamps_sound<A: Allocator + Copy>(
-    file: &File<A>,
-    clock: Option<&Clock<A>>,
-) -> bool {
+fn are_stamps_sound<A: Allocator + Copy>(file: &File<A>, clock: Option<&Clock<A>>) -> bool {
     let unit = time_of_stamp(num_of(1), file.head.timemult).unwrap_or(0);
     let mut at = 0usize;
     let mut last = 0u64;
@@ -77,9 +77,14 @@ fn has_odd_text(dat: &[u8]) -> bool {
     let mut before = b'\n';
     for (i, b) in dat.iter().enumerate() {
         if *b == 0x1a {
-            return !after(dat, i).iter().all(|b| b.is_ascii_whitespace() || *b == 0x1a || *b == 0);
+            return !after(dat, i)
+                .iter()
+                .all(|b| b.is_ascii_whitespace() || *b == 0x1a || *b == 0);
         }
-        if *b == b',' && before == b',' || *b == b'\r' && before == b',' || *b == b'\n' && before == b',' {
+        if *b == b',' && before == b','
+            || *b == b'\r' && before == b','
+            || *b == b'\n' && before == b','
+        {
             return true;
         }
         if *b != b' ' && *b != b'\t' {
@@ -103,7 +108,9 @@ fn has_foreign_mark<A: Allocator>(file: &File<A>) -> bool {
 /// Whether a bit is set that no channel has, in rows of this size.
 fn has_spare_bits(dat: &[u8], k: usize, m: usize) -> bool {
     let left = m.wrapping_rem(16);
-    let size = 8usize.saturating_add(k.saturating_mul(2)).saturating_add(m.saturating_add(15).wrapping_div(16).saturating_mul(2));
+    let size = 8usize
+        .saturating_add(k.saturating_mul(2))
+        .saturating_add(m.saturating_add(15).wrapping_div(16).saturating_mul(2));
     if left == 0 || size < 8 {
         return false;
     }
@@ -128,7 +135,10 @@ pub(crate) fn is_sound<A: Allocator + Copy>(
     file: &File<A>,
     dat: &[u8],
 ) -> Result<bool, AllocError> {
-    if !is_head_sound(&file.head) || !are_numbered(file.rows.items()) || !are_data_sound(file, dat) {
+    if !is_head_sound(&file.head)
+        || !are_numbered(file.rows.items())
+        || !are_data_sound(file, dat)
+    {
         return Ok(false);
     }
     if file.head.nrates == 0 {

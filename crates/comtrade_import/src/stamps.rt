@@ -66,7 +66,11 @@ fn run_of(ticks: &[Tick]) -> Run {
     if is_plain {
         return Run::Plain;
     }
-    if rises && has_gap { Run::Gaps } else { Run::Other }
+    if rises && has_gap {
+        Run::Gaps
+    } else {
+        Run::Other
+    }
 }
 
 /// By what a stamp is divided, and which rows' times it is compared with.
@@ -91,7 +95,11 @@ fn agrees<A: Allocator + Copy>(track: &Track<'_>, clock: &Clock<A>, sight: Sight
         let Some(stamp) = tick.stamp else {
             continue;
         };
-        let row = if sight.by_number { tick.number.saturating_sub(first.number).unsigned_abs() } else { i as u64 };
+        let row = if sight.by_number {
+            tick.number.saturating_sub(first.number).unsigned_abs()
+        } else {
+            i as u64
+        };
         let Some((wanted, half)) = clock.time_of(&mut at, row) else {
             return false;
         };
@@ -139,10 +147,7 @@ fn are_same(ticks: &[Tick]) -> bool {
 }
 
 /// Where rows are lost, as text: how many, and after which numbers.
-fn tell_lost<A: Allocator + Copy>(
-    notes: &mut Notes<A>,
-    ticks: &[Tick],
-) -> Result<(), ImportFault> {
+fn tell_lost<A: Allocator + Copy>(notes: &mut Notes<A>, ticks: &[Tick]) -> Result<(), ImportFault> {
     let mut before: Option<i64> = None;
     for (i, tick) in ticks.iter().enumerate() {
         if let Some(before) = before {
@@ -150,8 +155,15 @@ fn tell_lost<A: Allocator + Copy>(
             if 0 < gap {
                 let mut piece = Vec::new(notes.allocator());
                 put_number(&mut piece, gap.unsigned_abs())?;
-                put(&mut piece, " missing before it; no rate is said, the stamps say the times")?;
-                notes.tell(Key::RowsLost, Place::Row((i as u64).saturating_add(1)), &piece)?;
+                put(
+                    &mut piece,
+                    " missing before it; no rate is said, the stamps say the times",
+                )?;
+                notes.tell(
+                    Key::RowsLost,
+                    Place::Row((i as u64).saturating_add(1)),
+                    &piece,
+                )?;
             }
         }
         before = Some(tick.number);
@@ -183,7 +195,14 @@ fn beside_rates<A: Allocator + Copy>(
     if track.ticks.len() < 2 || agrees(track, clock, plain) {
         return Ok(Found::Kept(1));
     }
-    if agrees(track, clock, Sight { part: 1_000, by_number: false }) {
+    if agrees(
+        track,
+        clock,
+        Sight {
+            part: 1_000,
+            by_number: false,
+        },
+    ) {
         notes.tell(Key::StampsNs, track.place, &[])?;
         return Ok(Found::Kept(1_000));
     }
@@ -218,7 +237,11 @@ fn found_of<A: Allocator + Copy>(
     clock: Option<&Clock<A>>,
 ) -> Result<Found, ImportFault> {
     if track.ticks.iter().all(|tick| tick.stamp.is_none()) {
-        let key = if clock.is_some() { Key::StampsAbsent } else { Key::TimesUnknown };
+        let key = if clock.is_some() {
+            Key::StampsAbsent
+        } else {
+            Key::TimesUnknown
+        };
         notes.tell(key, track.place, &[])?;
         return Ok(Found::None);
     }
@@ -343,7 +366,11 @@ fn rates_for<A: Allocator + Copy>(
     let count = draft.rates.len();
     for (i, rate) in draft.rates.iter().enumerate() {
         let is_last = i.saturating_add(1) == count;
-        let endsamp = if is_last { rows } else { rate.endsamp.min(rows) };
+        let endsamp = if is_last {
+            rows
+        } else {
+            rate.endsamp.min(rows)
+        };
         if before < endsamp || list.is_empty() && is_last {
             list.push(Rate {
                 samp: rate.samp,
@@ -380,7 +407,11 @@ fn tell_numbers<A: Allocator + Copy>(
                 put(&mut piece, "-")?;
             }
             put_number(&mut piece, tick.number.unsigned_abs())?;
-            notes.tell(Key::SampleNumbers, Place::Row(wanted.unsigned_abs()), &piece)?;
+            notes.tell(
+                Key::SampleNumbers,
+                Place::Row(wanted.unsigned_abs()),
+                &piece,
+            )?;
             return Ok(());
         }
         wanted = wanted.saturating_add(1);

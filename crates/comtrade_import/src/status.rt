@@ -29,7 +29,11 @@ fn shape_of(parts: Parts<'_>) -> Option<Shape> {
     if parts.all == 3 || bit_of(third).is_some() {
         return Some(Shape::Short);
     }
-    if 5 < parts.all { Some(Shape::Full) } else { None }
+    if 5 < parts.all {
+        Some(Shape::Full)
+    } else {
+        None
+    }
 }
 
 /// The channel that a line says.
@@ -50,7 +54,11 @@ pub(crate) fn status_of<A: Allocator + Copy>(
     if !is_full && !is_old {
         notes.tell(Key::Status3Fields, Place::Cfg(line), &[])?;
     }
-    let phase = if is_full { phase_of(notes, line, parts.at(2))? } else { Items::of(Vec::new(alloc)) };
+    let phase = if is_full {
+        phase_of(notes, line, parts.at(2))?
+    } else {
+        Items::of(Vec::new(alloc))
+    };
     let component = if is_full {
         text_of(notes, line, parts.at(3), 64, None)?
     } else {
