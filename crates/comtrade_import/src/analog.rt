@@ -1,6 +1,6 @@
 //! The lines of analogue channels.
 
-use crate::draft::{Analog, Range};
+use crate::draft::{Range, Said};
 use crate::fault::{ImportFault, Why};
 use crate::field::Parts;
 use crate::key::Key;
@@ -158,20 +158,26 @@ fn unit_of<A: Allocator + Copy>(
     Ok(Items::of(Vec::from_slice(alloc, b"NONE")?))
 }
 
-/// The channel that a line of so many fields says.
-fn channel_of<A: Allocator + Copy>(
-    alloc: A,
+/// The numbers of a channel's line, and its side.
+#[derive(Clone, Copy)]
+struct Numbers {
+    a: Decimal,
+    b: Decimal,
+    skew: Decimal,
+    min: i32,
+    max: i32,
+    range: Range,
+    primary: Decimal,
+    secondary: Decimal,
+    side: Side,
+}
+
+fn numbers_of<A: Allocator + Copy>(
     notes: &mut Notes<A>,
     mark: u8,
     shape: Shape<'_>,
-    number: u64,
-) -> Result<Analog<A>, ImportFault> {
+) -> Result<Numbers, ImportFault> {
     let (parts, line) = (shape.parts, shape.line);
-    tell_index(notes, line, parts.at(0), number)?;
-    let id = text_of(notes, line, parts.at(1), 64, Some(number))?;
-    let phase = phase_of(notes, line, parts.at(2))?;
-    let component = text_of(notes, line, parts.at(3), 64, None)?;
-    let unit = unit_of(alloc, notes, shape)?;
     let a = decimal_or(notes, mark, line, parts.at(5), ("a: 1", 1))?;
     if a.units() == 0 {
         notes.tell(Key::AZero, Place::Cfg(line), &[])?;
@@ -182,24 +188,45 @@ fn channel_of<A: Allocator + Copy>(
     let primary = ratio_of(notes, mark, shape, 10)?;
     let secondary = ratio_of(notes, mark, shape, 11)?;
     let side = side_of(notes, shape)?;
-    let channel = AnalogChannel {
-        id,
-        phase,
-        component,
-        unit,
+    Ok(Numbers {
         a,
         b,
         skew,
         min,
         max,
+        range,
         primary,
         secondary,
         side,
-    };
-    Ok(Analog {
-        channel,
-        range,
-        line,
+    })
+}
+
+/// The channel that a line of so many fields says.
+fn channel_of<A: Allocator + Copy>(
+    alloc: A,
+    notes: &mut Notes<A>,
+    shape: Shape<'_>,
+    number: u64,
+    numbers: Numbers,
+) -> Result<AnalogChannel<A>, ImportFault> {
+    let (parts, line) = (shape.parts, shape.line);
+    let id = text_of(notes, line, parts.at(1), 64, Some(number))?;
+    let phase = phase_of(notes, line, parts.at(2))?;
+    let component = text_of(notes, line, parts.at(3), 64, None)?;
+    let unit = unit_of(alloc, notes, shape)?;
+    Ok(AnalogChannel {
+        id,
+        phase,
+        component,
+        unit,
+        a: numbers.a,
+        b: numbers.b,
+        skew: numbers.skew,
+        min: numbers.min,
+        max: numbers.max,
+        primary: numbers.primary,
+        secondary: numbers.secondary,
+        side: numbers.side,
     })
 }
 
@@ -235,7 +262,7 @@ pub(crate) fn analog_of<A: Allocator + Copy>(
     mark: u8,
     row: Row<'_>,
     place: (u64, bool),
-) -> Result<Analog<A>, ImportFault> {
+) -> Result<(AnalogChannel<A>, Said), ImportFault> {
     let (number, is_old) = place;
     let parts = row.parts;
     let is_short = parts.all == 10 || is_old && parts.full <= 10;
@@ -250,5 +277,11 @@ pub(crate) fn analog_of<A: Allocator + Copy>(
         line: row.number,
         is_short,
     };
-    channel_of(alloc, notes, mark, shape, number)
+    tell_index(notes, row.number, parts.at(0), number)?;
+    let numbers = numbers_of(notes, mark, shape)?;
+    let said = Said {
+        range: numbers.range,
+        line: row.number,
+    };
+    Ok((channel_of(alloc, notes, shape, number, numbers)?, said))
 }

@@ -6,7 +6,9 @@ use crate::fault::{ImportFault, Why};
 use crate::key::Key;
 use crate::kinds::Form;
 use crate::note::{Notes, Place};
-use crate::row::{Cells, Counts, Packed, Plan, number_at, read_line};
+use crate::packed_row::number_at;
+use crate::row::{Cells, Counts, Packed, Plan};
+use crate::text_row::read_line;
 use dfr_channels::trim;
 use memchr::memchr;
 use std::alloc::Allocator;
@@ -283,8 +285,8 @@ pub(crate) fn plan_of<'a, A: Allocator + Copy>(
     dat: &'a [u8],
 ) -> Result<Plan<'a>, ImportFault> {
     let counts = Counts {
-        k: draft.analog.len(),
-        m: draft.status.len(),
+        k: draft.channels.analog.len(),
+        m: draft.channels.status.len(),
     };
     if trim(dat).is_empty() {
         return Err(ImportFault::Whole(Why::NoRow));

@@ -26,32 +26,48 @@ pub(crate) enum Range {
     Unsigned,
 }
 
-/// An analogue channel, and how its range is said.
-#[derive(Drop)]
-pub(crate) struct Analog<A: Allocator> {
-    pub channel: AnalogChannel<A>,
+/// How the line of an analogue channel says its range.
+#[derive(Clone, Copy, Debug)]
+pub(crate) struct Said {
     pub range: Range,
     pub line: u64,
+}
+
+/// The rates, and the last row that they name; no rate where none is usable, no row where no line is there.
+#[derive(Drop)]
+pub(crate) struct Rates<A: Allocator> {
+    pub list: Vec<Rate, A>,
+    pub last: Option<u64>,
+}
+
+/// The channels.
+#[derive(Drop)]
+pub(crate) struct Channels<A: Allocator> {
+    pub analog: Vec<AnalogChannel<A>, A>,
+    /// Of each analogue channel.
+    pub said: Vec<Said, A>,
+    pub status: Vec<StatusChannel<A>, A>,
+}
+
+/// The first line's names.
+#[derive(Drop)]
+pub(crate) struct Names<A: Allocator> {
+    pub station: Items<u8, A>,
+    pub device: Items<u8, A>,
 }
 
 /// What the lines of a configuration file say.
 #[derive(Drop)]
 pub(crate) struct Draft<A: Allocator> {
-    pub station: Items<u8, A>,
-    pub device: Items<u8, A>,
-    pub analog: Vec<Analog<A>, A>,
-    pub status: Vec<StatusChannel<A>, A>,
+    pub names: Names<A>,
+    pub channels: Channels<A>,
     pub line_freq: Decimal,
-    /// No rate where none is usable.
-    pub rates: Vec<Rate, A>,
-    /// The last row that the rate lines name; none where no line is there.
-    pub last: Option<u64>,
+    pub rates: Rates<A>,
     pub first: i64,
     pub trigger: i64,
     /// None where the file doesn't say the kind.
     pub form: Option<Form>,
     pub timemult: Decimal,
-    pub mark: u8,
     pub revision: Revision,
     /// The instants have more than six digits of a second.
     pub has_nanos: bool,

@@ -1,5 +1,6 @@
 //! Decimals that are computed with, exactly or not at all.
 
+use crate::num::Num;
 use dfr_channels::Decimal;
 
 /// The number units / 10^places, which may have places below 0.
@@ -100,4 +101,21 @@ pub(crate) fn whole_of(decimal: Decimal) -> Option<i128> {
     } else {
         None
     }
+}
+
+/// A sample as an exact number.
+pub(crate) fn exact_of(num: Num) -> Option<Exact> {
+    let mant = i128::from(num.mant);
+    if 0 <= num.two {
+        let two = 2i128.checked_pow(num.two.unsigned_abs())?;
+        return Some(Exact {
+            units: mant.checked_mul(two)?,
+            places: 0i32.saturating_sub(num.ten),
+        });
+    }
+    let five = 5i128.checked_pow(num.two.unsigned_abs())?;
+    Some(Exact {
+        units: mant.checked_mul(five)?,
+        places: num.two.saturating_abs(),
+    })
 }

@@ -1,8 +1,7 @@
 //! Samples as whole numbers that a file of 1999 holds, with the scale that gives them back.
 
-use crate::exact::Exact;
+use crate::exact::{Exact, exact_of};
 use crate::num::{Num, ten_to};
-use crate::row::exact_of;
 use crate::scale::{Scale, over};
 use crate::span::{Bounds, Span};
 

@@ -2,6 +2,7 @@
 
 use crate::cursor::Cursor;
 use crate::dates::is_like_instant;
+use crate::draft::Rates;
 use crate::exact::whole_of;
 use crate::fault::{ImportFault, Why};
 use crate::field::Parts;
@@ -11,13 +12,6 @@ use crate::note::Place;
 use comtrade_format::Rate;
 use dfr_channels::Decimal;
 use std::alloc::Allocator;
-
-/// The rates, and the last row that they name; no rate where none is usable.
-#[derive(Drop)]
-pub(crate) struct Rates<A: Allocator> {
-    pub list: Vec<Rate, A>,
-    pub last: Option<u64>,
-}
 
 /// A whole number from 0 on.
 fn count_of<A: Allocator + Copy>(

@@ -6,17 +6,10 @@ use crate::fault::{ImportFault, Why};
 use crate::key::Key;
 use crate::note::{Notes, Place};
 use crate::num::Num;
-use crate::text::{put, put_number};
+use crate::numbers::{Run, Tick, rates_for, run_of, tell_lost, tell_numbers};
 use comtrade_format::Rate;
 use dfr_channels::Decimal;
 use std::alloc::Allocator;
-
-/// A row's number and stamp.
-#[derive(Clone, Copy, Debug)]
-pub(crate) struct Tick {
-    pub number: i64,
-    pub stamp: Option<Num>,
-}
 
 /// What is written of times: the stamps, their factor, and the rates.
 #[derive(Drop)]
@@ -36,41 +29,6 @@ pub(crate) struct Track<'a> {
     /// A stamp has a point.
     pub is_pointed: bool,
     pub place: Place,
-}
-
-/// How numbers go on.
-#[derive(Clone, Copy, PartialEq, Eq)]
-enum Run {
-    /// 1, 2, 3 and so on.
-    Plain,
-    /// Upwards, with gaps.
-    Gaps,
-    Other,
-}
-
-fn run_of(ticks: &[Tick]) -> Run {
-    let mut wanted = 1i64;
-    let mut is_plain = true;
-    let mut rises = true;
-    let mut has_gap = false;
-    let mut before: Option<i64> = None;
-    for tick in ticks {
-        is_plain = is_plain && tick.number == wanted;
-        wanted = wanted.saturating_add(1);
-        if let Some(before) = before {
-            rises = rises && before < tick.number;
-            has_gap = has_gap || before.saturating_add(1) < tick.number;
-        }
-        before = Some(tick.number);
-    }
-    if is_plain {
-        return Run::Plain;
-    }
-    if rises && has_gap {
-        Run::Gaps
-    } else {
-        Run::Other
-    }
 }
 
 /// By what a stamp is divided, and which rows' times it is compared with.
@@ -144,31 +102,6 @@ fn are_same(ticks: &[Tick]) -> bool {
         first = n;
     }
     1 < ticks.len()
-}
-
-/// Where rows are lost, as text: how many, and after which numbers.
-fn tell_lost<A: Allocator + Copy>(notes: &mut Notes<A>, ticks: &[Tick]) -> Result<(), ImportFault> {
-    let mut before: Option<i64> = None;
-    for (i, tick) in ticks.iter().enumerate() {
-        if let Some(before) = before {
-            let gap = tick.number.saturating_sub(before).saturating_sub(1);
-            if 0 < gap {
-                let mut piece = Vec::new(notes.allocator());
-                put_number(&mut piece, gap.unsigned_abs())?;
-                put(
-                    &mut piece,
-                    " missing before it; no rate is said, the stamps say the times",
-                )?;
-                notes.tell(
-                    Key::RowsLost,
-                    Place::Row((i as u64).saturating_add(1)),
-                    &piece,
-                )?;
-            }
-        }
-        before = Some(tick.number);
-    }
-    Ok(())
 }
 
 /// What the stamps are found to be.
@@ -335,53 +268,6 @@ fn kept<A: Allocator + Copy>(
     Ok((list, timemult))
 }
 
-/// The rates for so many rows; the last row that they name is told where it is another.
-fn rates_for<A: Allocator + Copy>(
-    alloc: A,
-    notes: &mut Notes<A>,
-    draft: &Draft<A>,
-    rows: u64,
-    is_told: bool,
-) -> Result<Vec<Rate, A>, ImportFault> {
-    let place = Place::Whole("data file");
-    match draft.last {
-        Some(last) if rows < last && !is_told => {
-            let mut piece = Vec::new(alloc);
-            put_number(&mut piece, rows)?;
-            put(&mut piece, " rows, endsamp ")?;
-            put_number(&mut piece, last)?;
-            notes.tell(Key::RowsFewer, place, &piece)?;
-        }
-        Some(last) if last < rows => {
-            let mut piece = Vec::new(alloc);
-            put_number(&mut piece, rows)?;
-            put(&mut piece, " rows, endsamp ")?;
-            put_number(&mut piece, last)?;
-            notes.tell(Key::RowsMore, place, &piece)?;
-        }
-        _ => {}
-    }
-    let mut list: Vec<Rate, A> = Vec::new(alloc);
-    let mut before = 0u64;
-    let count = draft.rates.len();
-    for (i, rate) in draft.rates.iter().enumerate() {
-        let is_last = i.saturating_add(1) == count;
-        let endsamp = if is_last {
-            rows
-        } else {
-            rate.endsamp.min(rows)
-        };
-        if before < endsamp || list.is_empty() && is_last {
-            list.push(Rate {
-                samp: rate.samp,
-                endsamp,
-            })?;
-        }
-        before = before.max(endsamp);
-    }
-    Ok(list)
-}
-
 /// Whether rows are lost: the numbers have gaps, and the stamps have them too.
 fn are_lost<A: Allocator + Copy>(track: &Track<'_>, clock: &Clock<A>) -> bool {
     let plain = Sight {
@@ -395,30 +281,6 @@ fn are_lost<A: Allocator + Copy>(track: &Track<'_>, clock: &Clock<A>) -> bool {
     agrees(track, clock, numbered) && !agrees(track, clock, plain)
 }
 
-fn tell_numbers<A: Allocator + Copy>(
-    notes: &mut Notes<A>,
-    ticks: &[Tick],
-) -> Result<(), ImportFault> {
-    let mut wanted = 1i64;
-    for tick in ticks {
-        if tick.number != wanted {
-            let mut piece = Vec::new(notes.allocator());
-            if tick.number < 0 {
-                put(&mut piece, "-")?;
-            }
-            put_number(&mut piece, tick.number.unsigned_abs())?;
-            notes.tell(
-                Key::SampleNumbers,
-                Place::Row(wanted.unsigned_abs()),
-                &piece,
-            )?;
-            return Ok(());
-        }
-        wanted = wanted.saturating_add(1);
-    }
-    Ok(())
-}
-
 /// What is written of times. `is_cut` where an incomplete row was left out.
 pub(crate) fn times_of<A: Allocator + Copy>(
     alloc: A,
@@ -428,7 +290,7 @@ pub(crate) fn times_of<A: Allocator + Copy>(
     is_cut: bool,
 ) -> Result<Times<A>, ImportFault> {
     let run = run_of(track.ticks);
-    let said = Clock::new(alloc, &draft.rates)?;
+    let said = Clock::new(alloc, &draft.rates.list)?;
     let is_lost = match &said {
         Some(clock) => run == Run::Gaps && are_lost(track, clock),
         None => false,

@@ -1,0 +1,121 @@
+//! The lines after the rates.
+
+use crate::dates::Order;
+use crate::draft::Revision;
+use crate::fault::{ImportFault, Why};
+use crate::field::Parts;
+use crate::instants::{Instants, instants_of};
+use crate::key::Key;
+use crate::kinds::{Form, form_of};
+use crate::lines::{Reader, at, decimal_or, next_row};
+use crate::note::Place;
+use dfr_channels::{Decimal, trim};
+use std::alloc::Allocator;
+
+/// The form of the data; none where no line says it.
+fn type_of<A: Allocator + Copy>(
+    reader: &mut Reader<'_, '_, A>,
+) -> Result<Option<Form>, ImportFault> {
+    let mut ahead = reader.cursor;
+    let number = reader.cursor.next_number();
+    let text = match ahead.next_line() {
+        Some(line) => Parts::of(line.text, reader.mark).at(0),
+        None => &[],
+    };
+    if let Some(form) = form_of(text) {
+        let row = next_row(&mut reader.cursor, reader.mark, reader.notes, 1)?;
+        return if row.parts.full == 1 {
+            Ok(Some(form))
+        } else {
+            Err(at(number, Why::Kind))
+        };
+    }
+    if !text.is_empty() && Decimal::read(text).is_none() {
+        return Err(at(number, Why::Kind));
+    }
+    if text.is_empty() {
+        reader.cursor = ahead;
+    } else {
+        reader.cursor.skip_blank();
+    }
+    reader.notes.tell(Key::KindAbsent, Place::Cfg(number), &[])?;
+    Ok(None)
+}
+
+/// The factor of stamps: 1 where no line says it.
+fn timemult_of<A: Allocator + Copy>(
+    reader: &mut Reader<'_, '_, A>,
+    revision: Revision,
+) -> Result<Decimal, ImportFault> {
+    let mut ahead = reader.cursor;
+    let number = reader.cursor.next_number();
+    let is_there = match ahead.next_line() {
+        Some(line) => Parts::of(line.text, reader.mark).full < 2,
+        None => false,
+    };
+    if is_there {
+        let row = next_row(&mut reader.cursor, reader.mark, reader.notes, 1)?;
+        return decimal_or(
+            reader.notes,
+            reader.mark,
+            row.number,
+            row.parts.at(0),
+            ("timemult: 1", 1),
+        );
+    }
+    if revision != Revision::Of1991 {
+        reader.notes.tell(Key::NoTimemult, Place::Cfg(number), &[])?;
+    }
+    match Decimal::new(1, 0) {
+        Some(one) => Ok(one),
+        None => Err(at(number, Why::Number)),
+    }
+}
+
+/// Time codes and time quality, which 1999 has no lines for; whatever else stands there is refused.
+fn end_of<A: Allocator + Copy>(reader: &mut Reader<'_, '_, A>) -> Result<(), ImportFault> {
+    for _ in 0..2 {
+        let mut ahead = reader.cursor;
+        let Some(line) = ahead.next_line() else {
+            return Ok(());
+        };
+        let parts = Parts::of(line.text, reader.mark);
+        if 2 < parts.full || 10 < parts.at(0).len() || 10 < parts.at(1).len() {
+            return Err(at(line.number, Why::Extra));
+        }
+        reader.cursor = ahead;
+        reader.notes.tell_text(
+            Key::Lines2013Dropped,
+            Place::Cfg(line.number),
+            trim(line.text),
+        )?;
+    }
+    match reader.cursor.next_line() {
+        Some(line) => Err(at(line.number, Why::Extra)),
+        None => Ok(()),
+    }
+}
+
+/// What stands after the rates.
+#[derive(Clone, Copy)]
+pub(crate) struct Ending {
+    pub instants: Instants,
+    pub form: Option<Form>,
+    pub timemult: Decimal,
+}
+
+pub(crate) fn ending_of<A: Allocator + Copy>(
+    reader: &mut Reader<'_, '_, A>,
+    revision: Revision,
+    asked: Option<Order>,
+) -> Result<Ending, ImportFault> {
+    let instants = instants_of(reader, revision, asked)?;
+    let form = type_of(reader)?;
+    let timemult = timemult_of(reader, revision)?;
+    end_of(reader)?;
+    Ok(Ending {
+        instants,
+        form,
+        timemult,
+    })
+}

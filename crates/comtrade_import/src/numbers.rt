@@ -1,0 +1,152 @@
+//! The numbers of rows, and the rates of as many rows as there are.
+
+use crate::draft::Draft;
+use crate::fault::ImportFault;
+use crate::key::Key;
+use crate::note::{Notes, Place};
+use crate::num::Num;
+use crate::text::{put, put_number};
+use comtrade_format::Rate;
+use std::alloc::Allocator;
+
+/// A row's number and stamp.
+#[derive(Clone, Copy, Debug)]
+pub(crate) struct Tick {
+    pub number: i64,
+    pub stamp: Option<Num>,
+}
+
+/// How numbers go on.
+#[derive(Clone, Copy, PartialEq, Eq)]
+pub(crate) enum Run {
+    /// 1, 2, 3 and so on.
+    Plain,
+    /// Upwards, with gaps.
+    Gaps,
+    Other,
+}
+
+pub(crate) fn run_of(ticks: &[Tick]) -> Run {
+    let mut wanted = 1i64;
+    let mut is_plain = true;
+    let mut rises = true;
+    let mut has_gap = false;
+    let mut before: Option<i64> = None;
+    for tick in ticks {
+        is_plain = is_plain && tick.number == wanted;
+        wanted = wanted.saturating_add(1);
+        if let Some(before) = before {
+            rises = rises && before < tick.number;
+            has_gap = has_gap || before.saturating_add(1) < tick.number;
+        }
+        before = Some(tick.number);
+    }
+    if is_plain {
+        return Run::Plain;
+    }
+    if rises && has_gap {
+        Run::Gaps
+    } else {
+        Run::Other
+    }
+}
+
+/// Where rows are lost, as text: how many, and after which numbers.
+pub(crate) fn tell_lost<A: Allocator + Copy>(
+    notes: &mut Notes<A>,
+    ticks: &[Tick],
+) -> Result<(), ImportFault> {
+    let mut before: Option<i64> = None;
+    for (i, tick) in ticks.iter().enumerate() {
+        if let Some(before) = before {
+            let gap = tick.number.saturating_sub(before).saturating_sub(1);
+            if 0 < gap {
+                let mut piece = Vec::new(notes.allocator());
+                put_number(&mut piece, gap.unsigned_abs())?;
+                put(
+                    &mut piece,
+                    " missing before it; no rate is said, the stamps say the times",
+                )?;
+                notes.tell(
+                    Key::RowsLost,
+                    Place::Row((i as u64).saturating_add(1)),
+                    &piece,
+                )?;
+            }
+        }
+        before = Some(tick.number);
+    }
+    Ok(())
+}
+
+/// Tells the first row whose number isn't its place.
+pub(crate) fn tell_numbers<A: Allocator + Copy>(
+    notes: &mut Notes<A>,
+    ticks: &[Tick],
+) -> Result<(), ImportFault> {
+    let mut wanted = 1i64;
+    for tick in ticks {
+        if tick.number != wanted {
+            let mut piece = Vec::new(notes.allocator());
+            if tick.number < 0 {
+                put(&mut piece, "-")?;
+            }
+            put_number(&mut piece, tick.number.unsigned_abs())?;
+            notes.tell(
+                Key::SampleNumbers,
+                Place::Row(wanted.unsigned_abs()),
+                &piece,
+            )?;
+            return Ok(());
+        }
+        wanted = wanted.saturating_add(1);
+    }
+    Ok(())
+}
+
+/// The rates for so many rows; the last row that they name is told where it is another.
+pub(crate) fn rates_for<A: Allocator + Copy>(
+    alloc: A,
+    notes: &mut Notes<A>,
+    draft: &Draft<A>,
+    rows: u64,
+    is_told: bool,
+) -> Result<Vec<Rate, A>, ImportFault> {
+    let place = Place::Whole("data file");
+    match draft.rates.last {
+        Some(last) if rows < last && !is_told => {
+            let mut piece = Vec::new(alloc);
+            put_number(&mut piece, rows)?;
+            put(&mut piece, " rows, endsamp ")?;
+            put_number(&mut piece, last)?;
+            notes.tell(Key::RowsFewer, place, &piece)?;
+        }
+        Some(last) if last < rows => {
+            let mut piece = Vec::new(alloc);
+            put_number(&mut piece, rows)?;
+            put(&mut piece, " rows, endsamp ")?;
+            put_number(&mut piece, last)?;
+            notes.tell(Key::RowsMore, place, &piece)?;
+        }
+        _ => {}
+    }
+    let mut list: Vec<Rate, A> = Vec::new(alloc);
+    let mut before = 0u64;
+    let count = draft.rates.list.len();
+    for (i, rate) in draft.rates.list.iter().enumerate() {
+        let is_last = i.saturating_add(1) == count;
+        let endsamp = if is_last {
+            rows
+        } else {
+            rate.endsamp.min(rows)
+        };
+        if before < endsamp || list.is_empty() && is_last {
+            list.push(Rate {
+                samp: rate.samp,
+                endsamp,
+            })?;
+        }
+        before = before.max(endsamp);
+    }
+    Ok(list)
+}

@@ -1,0 +1,201 @@
+//! How the samples of each channel are written, and what is told of it.
+
+use crate::draft::{Range, Said};
+use crate::exact::Exact;
+use crate::fault::{ImportFault, Why};
+use crate::fit::{Fit, fit_of};
+use crate::key::Key;
+use crate::kinds::Form;
+use crate::note::{Notes, Place};
+use crate::span::Span;
+use crate::survey::{Ground, Survey};
+use crate::text::put;
+use comtrade_format::put_decimal;
+use dfr_channels::{AnalogChannel, Decimal};
+use std::alloc::Allocator;
+
+/// How a channel's samples become whole numbers.
+#[derive(Clone, Copy, Debug)]
+pub(crate) struct Made {
+    pub fit: Fit,
+    /// The factor before.
+    factor: Decimal,
+    /// How far the worst sample is off, in units of 10^-shift.
+    pub worst: i64,
+    shift: i32,
+}
+
+/// The least and the greatest of the whole numbers that the samples become.
+fn range_for(fit: &Fit, is_text: bool) -> (i32, i32) {
+    if is_text && !fit.is_rounded() {
+        (-99_999, 99_998)
+    } else {
+        (-32_767, 32_767)
+    }
+}
+
+/// The range of samples that stay, where it can't.
+fn set_same<A: Allocator + Copy>(
+    notes: &mut Notes<A>,
+    channel: &mut AnalogChannel<A>,
+    said: Said,
+    span: &Span,
+    is_text: bool,
+) -> Result<(), ImportFault> {
+    if said.range == Range::Other {
+        notes.tell(Key::RangeForm, Place::Cfg(said.line), &[])?;
+    }
+    let holds = i64::from(channel.min) <= span.least && span.most <= i64::from(channel.max);
+    if said.range == Range::Said || said.range == Range::Unsigned || holds {
+        return Ok(());
+    }
+    let (low, high) = range_for(&Fit::Same, is_text);
+    channel.min = low;
+    channel.max = high;
+    Ok(())
+}
+
+/// The range and the scale of a channel whose samples become others.
+fn set_other<A: Allocator + Copy>(
+    channel: &mut AnalogChannel<A>,
+    said: Said,
+    fit: &Fit,
+    is_text: bool,
+) -> Result<(), ImportFault> {
+    let fault = ImportFault::Cfg(said.line, Why::Scale);
+    let Some((a, b)) = fit.scaled(Exact::of(channel.a), Exact::of(channel.b)) else {
+        return Err(fault);
+    };
+    let (Some(a), Some(b)) = (a.decimal(), b.decimal()) else {
+        return Err(fault);
+    };
+    channel.a = a;
+    channel.b = b;
+    let (low, high) = match fit {
+        Fit::Shift(by) => {
+            let by = i32::try_from(*by).unwrap_or(0);
+            (
+                channel.min.saturating_sub(by).max(-99_999),
+                channel.max.saturating_sub(by).min(99_999),
+            )
+        }
+        _ => range_for(fit, is_text),
+    };
+    channel.min = low;
+    channel.max = high;
+    Ok(())
+}
+
+/// Settles a channel: its range, its scale, and how its samples become whole numbers.
+fn made_of<A: Allocator + Copy>(
+    notes: &mut Notes<A>,
+    channel: &mut AnalogChannel<A>,
+    said: Said,
+    span: &Span,
+    place: (bool, Ground<'_>),
+) -> Result<Made, ImportFault> {
+    let (is_unsigned, ground) = place;
+    let is_text = ground.is_text();
+    let made = Made {
+        fit: fit_of(span, ground.bounds, is_unsigned),
+        factor: channel.a,
+        worst: 0,
+        shift: span.scale.shift,
+    };
+    if made.fit.is_same() {
+        set_same(notes, channel, said, span, is_text)?;
+    } else {
+        set_other(channel, said, &made.fit, is_text)?;
+    }
+    Ok(made)
+}
+
+/// Tells what becomes of the samples.
+fn tell_samples<A: Allocator + Copy>(
+    notes: &mut Notes<A>,
+    form: Option<Form>,
+    survey: &Survey<A>,
+    made: &[Made],
+) -> Result<(), ImportFault> {
+    if survey.has_points {
+        notes.tell(Key::ValuesDecimal, Place::Whole("data file"), &[])?;
+    }
+    if form == Some(Form::Float32) {
+        return Ok(());
+    }
+    let mut number = 0u64;
+    for (span, made) in survey.spans.iter().zip(made.iter()) {
+        number = number.saturating_add(1);
+        if let Fit::Shift(_) = made.fit {
+            notes.tell(Key::ValuesUnsigned, Place::Channel(number), &[])?;
+        } else if span.is_whole && !made.fit.is_same() {
+            notes.tell(Key::ValuesWide, Place::Channel(number), &[])?;
+        }
+    }
+    Ok(())
+}
+
+/// Settles all channels.
+pub(crate) fn settle_channels<A: Allocator + Copy>(
+    alloc: A,
+    notes: &mut Notes<A>,
+    channels: &mut Vec<AnalogChannel<A>, A>,
+    said: &[Said],
+    survey: &Survey<A>,
+    ground: (Ground<'_>, Option<Form>),
+) -> Result<Vec<Made, A>, ImportFault> {
+    let (ground, form) = ground;
+    let mut list = Vec::new(alloc);
+    for (i, channel) in channels.iter_mut().enumerate() {
+        let (Some(said), Some(span)) = (said.get(i), survey.spans.get(i)) else {
+            return Err(ImportFault::Whole(Why::NoRow));
+        };
+        let is_unsigned = ground.unsigned.get(i).copied().unwrap_or(false);
+        list.push(made_of(notes, channel, *said, span, (is_unsigned, ground))?)?;
+    }
+    tell_samples(notes, form, survey, &list)?;
+    Ok(list)
+}
+
+/// The greatest error of a channel, in its unit.
+fn tell_error<A: Allocator + Copy>(
+    notes: &mut Notes<A>,
+    channel: &AnalogChannel<A>,
+    made: Made,
+    number: u64,
+) -> Result<(), ImportFault> {
+    let off = Exact {
+        units: i128::from(made.worst.saturating_add(1)),
+        places: made.shift,
+    };
+    let error = match Exact::of(made.factor).short().times(off.rounded_up()) {
+        Some(error) => error.rounded_up().decimal(),
+        None => None,
+    };
+    let mut piece = Vec::from_slice(notes.allocator(), channel.id.items())?;
+    put(&mut piece, " by at most ")?;
+    match error {
+        Some(decimal) => put_decimal(&mut piece, decimal)?,
+        None => put(&mut piece, "half a step")?,
+    }
+    put(&mut piece, " ")?;
+    piece.extend_from_slice(channel.unit.items())?;
+    notes.tell(Key::ValuesRounded, Place::Channel(number), &piece)?;
+    Ok(())
+}
+
+/// Tells the errors of the channels whose values aren't held exactly.
+pub(crate) fn tell_errors<A: Allocator + Copy>(
+    notes: &mut Notes<A>,
+    channels: &[AnalogChannel<A>],
+    made: &[Made],
+) -> Result<(), ImportFault> {
+    let mut number = 0u64;
+    for (channel, made) in channels.iter().zip(made.iter()) {
+        number = number.saturating_add(1);
+        if made.fit.is_rounded() {
+            tell_error(notes, channel, *made, number)?;
+        }
+    }
+    Ok(())
+}

@@ -1,0 +1,124 @@
+//! A row of ASCII data.
+
+use crate::fault::Why;
+use crate::field::Fields;
+use crate::num::spelled_of;
+use crate::row::{Cells, Counts, Odd, Stop};
+use dfr_channels::bit_of;
+use std::alloc::Allocator;
+
+/// Texts that stand for a missing value.
+fn is_mark(text: &[u8]) -> bool {
+    let body = match text {
+        [b'-' | b'+', rest @ ..] => rest,
+        _ => text,
+    };
+    if text.iter().all(|b| *b == b'-' || *b == b'*' || *b == b'?' || *b == b'#' || *b == b'.') {
+        return true;
+    }
+    body.eq_ignore_ascii_case(b"nan")
+        || body.eq_ignore_ascii_case(b"inf")
+        || body.eq_ignore_ascii_case(b"infinity")
+        || body.eq_ignore_ascii_case(b"null")
+        || body.eq_ignore_ascii_case(b"none")
+        || body.eq_ignore_ascii_case(b"n/a")
+        || body.eq_ignore_ascii_case(b"na")
+        || body.eq_ignore_ascii_case(b"missing")
+        || body.starts_with(b"1.#")
+}
+
+/// The mark of a missing value in ASCII data (clause 6).
+const MISSING: i64 = 99_999;
+
+fn push_value<A: Allocator>(
+    cells: &mut Cells<A>,
+    text: &[u8],
+    lets_comma: bool,
+) -> Result<(), Stop> {
+    match spelled_of(text, lets_comma) {
+        Some(spelled) => {
+            cells.odd.has_points = cells.odd.has_points || spelled.is_pointed;
+            cells.odd.has_fortran = cells.odd.has_fortran || spelled.is_fortran;
+            cells.odd.has_commas = cells.odd.has_commas || spelled.has_comma;
+            let is_missing = spelled.num.whole() == Some(MISSING);
+            cells
+                .values
+                .push(if is_missing { None } else { Some(spelled.num) })?;
+            Ok(())
+        }
+        None if is_mark(text) => {
+            cells.odd.has_marks = true;
+            cells.values.push(None)?;
+            Ok(())
+        }
+        None => Err(Stop::Why(Why::Value)),
+    }
+}
+
+/// Number and stamp of a row.
+fn read_front<A: Allocator>(
+    cells: &mut Cells<A>,
+    fields: &mut Fields<'_>,
+    lets_comma: bool,
+) -> Result<(), Stop> {
+    let number = fields.next_field().unwrap_or(&[]);
+    match spelled_of(number, false) {
+        Some(spelled) => match spelled.num.whole() {
+            Some(n) => cells.number = n,
+            None => return Err(Stop::Why(Why::Value)),
+        },
+        None => return Err(Stop::Why(Why::Value)),
+    }
+    let stamp = match fields.next_field() {
+        Some(text) => text,
+        None => return Err(Stop::Why(Why::RowFields)),
+    };
+    cells.stamp = None;
+    if stamp.is_empty() {
+        return Ok(());
+    }
+    let Some(spelled) = spelled_of(stamp, lets_comma) else {
+        return Err(Stop::Why(Why::Value));
+    };
+    cells.odd.has_stamp_point = spelled.is_pointed;
+    cells.stamp = Some(spelled.num);
+    Ok(())
+}
+
+/// A row of ASCII data.
+pub(crate) fn read_line<A: Allocator>(
+    cells: &mut Cells<A>,
+    line: &[u8],
+    mark: u8,
+    counts: Counts,
+) -> Result<(), Stop> {
+    cells.values.clear();
+    cells.bits.clear();
+    cells.odd = Odd::default();
+    let mut fields = Fields::of(line, mark);
+    read_front(cells, &mut fields, mark == b';')?;
+    for _ in 0..counts.k {
+        let Some(text) = fields.next_field() else {
+            return Err(Stop::Why(Why::RowFields));
+        };
+        push_value(cells, text, mark == b';')?;
+    }
+    for _ in 0..counts.m {
+        let Some(text) = fields.next_field() else {
+            return Err(Stop::Why(Why::RowFields));
+        };
+        match bit_of(text) {
+            Some(bit) => cells.bits.push(bit)?,
+            None => return Err(Stop::Why(Why::Bit)),
+        }
+    }
+    if !fields.has_more() {
+        return Ok(());
+    }
+    cells.odd.has_trailing = true;
+    if fields.is_empty_from_here() {
+        Ok(())
+    } else {
+        Err(Stop::Why(Why::RowFields))
+    }
+}
