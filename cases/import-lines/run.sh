@@ -12,6 +12,10 @@ pair semicolons 's/,/;/g' 's/,/;/g' '' ''
 pair semicolons-in-cfg 's/,/;/g' '' '' ''
 pair decimal-commas 's/,/;/g;s/0\.5/0,5/;s/0\.0125/0,0125/;s/12\.5/12,5/' '' '' ''
 pair quoted-comma '3s/Line 3/"Line 3, north"/' '' '3s/Line 3/Line 3; north/' ''
+pair comma-in-an-id '3s/IA/Feeder 2, north/' '' '3s/IA/Feeder 2; north/' ''
+pair comma-in-a-component '4s/Line 3/Line 3, north/' '' '4s/Line 3/Line 3; north/' ''
+pair comma-in-a-contact '5s/Breaker/Breaker,closed/' '' '5s/Breaker/Breaker;closed/' ''
+pair comma-in-a-station '1s/Kallio/Kallio, 400 kV/' '' '1s/Kallio/Kallio; 400 kV/' ''
 pair comma-between-semicolons 's/,/;/g;3s/Line 3/Line 3, north/' '' '3s/Line 3/Line 3; north/' ''
 mkdir "$folder/carriage-returns" "$folder/utf-16"
 for name in carriage-returns utf-16; do

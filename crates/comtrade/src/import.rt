@@ -99,7 +99,7 @@ fn wanted_of<'a, R: AllocGlobal>(rt: &R, words: &[&'a str]) -> Result<Wanted<'a>
         files: Vec::new(rt.alloc()),
     };
     let mut option: Option<&'static str> = None;
-    for word in words {
+    for word in words.iter().copied() {
         if let Some(name) = option {
             set(&mut wanted, name, word)?;
             option = None;
@@ -333,8 +333,8 @@ pub(crate) fn run_import<R: Files + Input + Print + Eprint + AllocGlobal>(
         Err(Wrong::Memory) => return out_of_memory(rt),
     };
     match wanted.files.as_slice() {
-        [file, name] => run_wanted(rt, &wanted, file, None, name),
-        [file, dat, name] => run_wanted(rt, &wanted, file, Some(dat), name),
+        [file, name] => run_wanted(rt, &wanted, *file, None, *name),
+        [file, dat, name] => run_wanted(rt, &wanted, *file, Some(*dat), *name),
         _ => refuse_words(rt),
     }
 }

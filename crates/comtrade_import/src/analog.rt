@@ -2,7 +2,7 @@
 
 use crate::draft::{Range, Said};
 use crate::fault::{ImportFault, Why};
-use crate::field::Parts;
+use crate::field::{Parts, joint_of};
 use crate::key::Key;
 use crate::lines::{Row, at, decimal_of, decimal_or, phase_of, tell_empty, text_of};
 use crate::note::{Notes, Place};
@@ -230,29 +230,50 @@ fn channel_of<A: Allocator + Copy>(
     })
 }
 
-/// Whether the last fields of a line of one more than thirteen are those of a channel, so that the comma too many stands in a
-/// text: numbers, and the side.
-fn has_numbers_at_end(parts: Parts<'_>) -> bool {
-    for i in 6..13usize {
+/// Whether fields from one to another are numbers, or empty.
+fn are_numbers(parts: &Parts<'_>, from: usize, to: usize) -> bool {
+    for i in from..to {
         let field = parts.at(i);
         if !field.is_empty() && Decimal::read(field).is_none() {
             return false;
         }
     }
-    matches!(parts.at(13), [b'P' | b'p' | b'S' | b's'])
+    true
 }
 
-/// What is wrong with a line of too many fields.
-fn too_many(row: Row<'_>) -> ImportFault {
-    let in_text = has_numbers_at_end(row.parts);
-    at(
-        row.number,
-        if in_text || 13 < row.parts.full {
-            Why::Commas
-        } else {
-            Why::AnalogFields
-        },
-    )
+/// Whether a comma too many can stand in the text of this field: phase and unit are such, and what it parts is no number.
+fn can_join(parts: &Parts<'_>, joint: usize) -> bool {
+    let joined = parts.joined(joint);
+    let unit = joined.at(4);
+    joined.at(2).len() <= 2
+        && !unit.is_empty()
+        && Decimal::read(unit).is_none()
+        && Decimal::read(parts.at(joint.saturating_add(1))).is_none()
+}
+
+/// The fields of a line of one too many, where its comma can only stand in the id or in the component.
+fn told_apart<'a>(parts: &Parts<'a>) -> Option<Parts<'a>> {
+    let has_side = matches!(parts.at(13), [b'P' | b'p' | b'S' | b's']);
+    let can_be = parts.full == 14 && has_side && are_numbers(parts, 6, 13)
+        || parts.full == 11 && are_numbers(parts, 6, 11);
+    if !can_be {
+        return None;
+    }
+    let joint = joint_of(parts, (1, can_join(parts, 1)), (3, can_join(parts, 3)))?;
+    Some(parts.joined(joint))
+}
+
+/// The fields of a channel's line.
+fn fields_of(row: Row<'_>) -> Result<Parts<'_>, ImportFault> {
+    let parts = row.parts;
+    if 10 <= parts.all && parts.full <= 13 && parts.full != 11 {
+        return Ok(parts);
+    }
+    match told_apart(&parts) {
+        Some(parts) => Ok(parts),
+        None if parts.full == 14 => Err(at(row.number, Why::Commas)),
+        None => Err(at(row.number, Why::AnalogFields)),
+    }
 }
 
 /// The channel that a line says; `place` is its number, and whether the file is of 1991.
@@ -264,11 +285,8 @@ pub(crate) fn analog_of<A: Allocator + Copy>(
     place: (u64, bool),
 ) -> Result<(AnalogChannel<A>, Said), ImportFault> {
     let (number, is_old) = place;
-    let parts = row.parts;
+    let parts = fields_of(row)?;
     let is_short = parts.all == 10 || is_old && parts.full <= 10;
-    if parts.all < 10 || parts.full == 11 || 13 < parts.full {
-        return Err(too_many(row));
-    }
     if is_short && !notes.has(Key::SidesAbsent) {
         notes.tell(Key::SidesAbsent, Place::Cfg(row.number), &[])?;
     }

@@ -89,6 +89,8 @@ pub(crate) struct Parts<'a> {
     pub all: usize,
     /// How many there are up to the last that isn't empty.
     pub full: usize,
+    /// The field with which the one after it makes one text, where there is one.
+    joint: Option<usize>,
 }
 
 /// How many fields are counted at most.
@@ -119,17 +121,83 @@ impl<'a> Parts<'a> {
             mark,
             all,
             full,
+            joint: None,
         }
+    }
+
+    /// The same fields, but that this one and the next are one text with a mark in it.
+    pub(crate) fn joined(&self, joint: usize) -> Parts<'a> {
+        Parts {
+            line: self.line,
+            mark: self.mark,
+            all: self.all.saturating_sub(1),
+            full: self.full.saturating_sub(1),
+            joint: Some(joint),
+        }
+    }
+
+    /// What is left of the line after so many fields.
+    fn after_fields(&self, count: usize) -> Fields<'a> {
+        let mut fields = Fields::of(self.line, self.mark);
+        for _ in 0..count.min(MOST) {
+            if fields.next_field().is_none() {
+                break;
+            }
+        }
+        fields
+    }
+
+    /// Whether a blank stands after the mark after this field, as in a sentence.
+    pub(crate) fn has_blank_after(&self, index: usize) -> bool {
+        let left = self.after_fields(index.saturating_add(1)).left;
+        matches!(left, Some([b' ', ..]))
     }
 
     /// The field of this index from 0, empty where there is none.
     pub(crate) fn at(&self, index: usize) -> &'a [u8] {
-        let mut fields = Fields::of(self.line, self.mark);
-        for _ in 0..index.min(MOST) {
-            if fields.next_field().is_none() {
-                return &[];
-            }
+        match self.joint {
+            Some(joint) if joint == index => self.pair_at(index),
+            Some(joint) if joint < index => self.field_at(index.saturating_add(1)),
+            _ => self.field_at(index),
         }
-        fields.next_field().unwrap_or(&[])
+    }
+
+    fn field_at(&self, index: usize) -> &'a [u8] {
+        self.after_fields(index).next_field().unwrap_or(&[])
+    }
+
+    /// What stands in this field and the next, with the mark between them.
+    fn pair_at(&self, index: usize) -> &'a [u8] {
+        let Some(from) = self.after_fields(index).left else {
+            return &[];
+        };
+        match self.after_fields(index.saturating_add(2)).left {
+            Some(left) => {
+                let length = from.len().saturating_sub(left.len()).saturating_sub(1);
+                trim(from.get(..length).unwrap_or(from))
+            }
+            None => trim(from),
+        }
+    }
+}
+
+/// Which of two joints is meant, where each may be possible: the only one that is, else the only one with a blank after its mark.
+pub(crate) fn joint_of(
+    parts: &Parts<'_>,
+    first: (usize, bool),
+    second: (usize, bool),
+) -> Option<usize> {
+    match (first.1, second.1) {
+        (true, false) => Some(first.0),
+        (false, true) => Some(second.0),
+        (false, false) => None,
+        (true, true) => match (
+            parts.has_blank_after(first.0),
+            parts.has_blank_after(second.0),
+        ) {
+            (true, false) => Some(first.0),
+            (false, true) => Some(second.0),
+            _ => None,
+        },
     }
 }

@@ -7,7 +7,7 @@ use crate::dates::Order;
 use crate::draft::{Channels, Draft, Names, Revision};
 use crate::ending::ending_of;
 use crate::fault::{ImportFault, Why};
-use crate::field::Parts;
+use crate::field::{Parts, joint_of};
 use crate::key::Key;
 use crate::lines::{Reader, Row, at, decimal_or, next_row, text_of};
 use crate::note::{Notes, Place};
@@ -151,7 +151,12 @@ fn frequency_of<A: Allocator + Copy>(
 fn names_of<A: Allocator + Copy>(
     reader: &mut Reader<'_, '_, A>,
 ) -> Result<(Names<A>, Year, u64), ImportFault> {
-    let row = next_row(&mut reader.cursor, reader.mark, reader.notes, 3)?;
+    let mut row = next_row(&mut reader.cursor, reader.mark, reader.notes, 3)?;
+    if row.parts.full == 4 {
+        if let Some(joint) = joint_of(&row.parts, (0, true), (1, true)) {
+            row.parts = row.parts.joined(joint);
+        }
+    }
     let year = year_of(row)?;
     let station = text_of(reader.notes, row.number, row.parts.at(0), 64, None)?;
     let device = text_of(reader.notes, row.number, row.parts.at(1), 64, None)?;

@@ -6,11 +6,11 @@ ghost use Rattle.comtrade_read.specs.Reads.{Reads};
 use crate::build::file_of;
 use crate::cursor::before;
 use crate::dates::Order;
+use crate::draft::Draft;
 use crate::encoding::{narrow, without_mark};
 use crate::fault::{ImportFault, Why};
 use crate::head::draft_of;
 use crate::key::Key;
-use crate::kinds::Form;
 use crate::note::{Note, Notes, Place};
 use crate::sections::{Sections, cut};
 use crate::sound::is_sound;
@@ -104,6 +104,75 @@ fn unmarked<'a, A: Allocator + Copy>(
     }
 }
 
+/// What a configuration file says, whose text is ASCII or UTF-8.
+fn draft_in<A: Allocator + Copy>(
+    alloc: A,
+    notes: &mut Notes<A>,
+    text: &[u8],
+    choices: Choices,
+) -> Result<Draft<A>, ImportFault> {
+    let text = before_end(notes, text)?;
+    draft_of(alloc, notes, text, choices.dates)
+}
+
+/// What a configuration file says.
+fn cfg_of<A: Allocator + Copy>(
+    alloc: A,
+    notes: &mut Notes<A>,
+    cfg: &[u8],
+    choices: Choices,
+) -> Result<Draft<A>, ImportFault> {
+    match narrow(alloc, cfg)? {
+        Some(text) => {
+            notes.tell(Key::Utf16, Place::Whole("configuration file"), &[])?;
+            draft_in(alloc, notes, text.as_slice(), choices)
+        }
+        None => {
+            let text = unmarked(notes, "configuration file", cfg)?;
+            draft_in(alloc, notes, text, choices)
+        }
+    }
+}
+
+/// The file of data that are said to be text.
+fn file_of_text<A: Allocator + Copy>(
+    alloc: A,
+    notes: &mut Notes<A>,
+    draft: Draft<A>,
+    dat: &[u8],
+) -> Result<File<A>, ImportFault> {
+    match narrow(alloc, dat)? {
+        Some(text) => {
+            notes.tell(Key::Utf16, Place::Whole("data file"), &[])?;
+            file_of(alloc, notes, draft, text.as_slice())
+        }
+        None => {
+            let text = unmarked(notes, "data file", dat)?;
+            file_of(alloc, notes, draft, text)
+        }
+    }
+}
+
+/// The file that a pair says, with all repairs that it needs.
+fn repaired<A: Allocator + Copy>(
+    alloc: A,
+    notes: &mut Notes<A>,
+    cfg: &[u8],
+    dat: &[u8],
+    choices: Choices,
+) -> Result<File<A>, ImportFault> {
+    let draft = cfg_of(alloc, notes, cfg, choices)?;
+    let is_text = match draft.form {
+        Some(form) => form.is_text(),
+        None => true,
+    };
+    if is_text {
+        file_of_text(alloc, notes, draft, dat)
+    } else {
+        file_of(alloc, notes, draft, dat)
+    }
+}
+
 /// The pair, read with all repairs that it needs.
 fn loose<A: Allocator + Copy>(
     alloc: A,
@@ -115,30 +184,7 @@ fn loose<A: Allocator + Copy>(
     ensures reads { IfOk result (λ done. Reads done.cfg.items done.dat.items done.file) }
     ensures inexact { IfOk result (λ done. done.is_exact ≡ false) }
 {
-    let narrowed = narrow(alloc, cfg)?;
-    let text = match &narrowed {
-        Some(text) => {
-            notes.tell(Key::Utf16, Place::Whole("configuration file"), &[])?;
-            text.as_slice()
-        }
-        None => unmarked(&mut notes, "configuration file", cfg)?,
-    };
-    let text = before_end(&mut notes, text)?;
-    let draft = draft_of(alloc, &mut notes, text, choices.dates)?;
-    let is_text = match draft.form {
-        Some(form) => form.is_text(),
-        None => true,
-    };
-    let narrowed = if is_text { narrow(alloc, dat)? } else { None };
-    let data = match &narrowed {
-        Some(text) => {
-            notes.tell(Key::Utf16, Place::Whole("data file"), &[])?;
-            text.as_slice()
-        }
-        None if is_text => unmarked(&mut notes, "data file", dat)?,
-        None => dat,
-    };
-    let file = file_of(alloc, &mut notes, draft, data)?;
+    let file = repaired(alloc, &mut notes, cfg, dat, choices)?;
     finished(alloc, file, notes.into_list(), false)
 }
 
@@ -212,6 +258,20 @@ fn tell_sections<A: Allocator + Copy>(
     Ok(())
 }
 
+/// The pair in a single file, whose text is ASCII or UTF-8.
+fn single<A: Allocator + Copy>(
+    alloc: A,
+    mut notes: Notes<A>,
+    text: &[u8],
+    choices: Choices,
+) -> Result<Imported<A>, ImportFault>
+    ensures { IfOk result (λ done. Reads done.cfg.items done.dat.items done.file) }
+{
+    let sections = cut(text)?;
+    tell_sections(alloc, &mut notes, sections)?;
+    loose(alloc, notes, sections.cfg, sections.dat, choices)
+}
+
 /// A single file as a file of 1999 that says the same, with each repair told. Both texts that come out read to that file.
 pub fn import_single<A: Allocator + Copy>(
     alloc: A,
@@ -221,15 +281,14 @@ pub fn import_single<A: Allocator + Copy>(
     ensures { IfOk result (λ done. Reads done.cfg.items done.dat.items done.file) }
 {
     let mut notes = Notes::new(alloc);
-    let narrowed = narrow(alloc, cff)?;
-    let text = match &narrowed {
+    match narrow(alloc, cff)? {
         Some(text) => {
             notes.tell(Key::Utf16, Place::Whole("single file"), &[])?;
-            text.as_slice()
+            single(alloc, notes, text.as_slice(), choices)
         }
-        None => unmarked(&mut notes, "single file", cff)?,
-    };
-    let sections = cut(text)?;
-    tell_sections(alloc, &mut notes, sections)?;
-    loose(alloc, notes, sections.cfg, sections.dat, choices)
+        None => {
+            let text = unmarked(&mut notes, "single file", cff)?;
+            single(alloc, notes, text, choices)
+        }
+    }
 }

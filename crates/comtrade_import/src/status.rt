@@ -36,6 +36,20 @@ fn shape_of(parts: Parts<'_>) -> Option<Shape> {
     }
 }
 
+/// The fields of a line, where a comma too many can only stand in the id or in the component.
+fn told_apart<'a>(parts: &Parts<'a>) -> Option<Parts<'a>> {
+    if parts.full == 4 && parts.all == 4 && bit_of(parts.at(3)).is_some() && 2 < parts.at(2).len() {
+        return Some(parts.joined(1));
+    }
+    if parts.full != 6 || bit_of(parts.at(5)).is_none() {
+        return None;
+    }
+    let in_id = parts.joined(1).at(2).len() <= 2;
+    let in_component = parts.joined(3).at(2).len() <= 2;
+    let joint = joint_of(parts, (1, in_id), (3, in_component))?;
+    Some(parts.joined(joint))
+}
+
 /// The channel that a line says.
 pub(crate) fn status_of<A: Allocator + Copy>(
     alloc: A,
@@ -44,7 +58,8 @@ pub(crate) fn status_of<A: Allocator + Copy>(
     number: u64,
     is_old: bool,
 ) -> Result<StatusChannel<A>, ImportFault> {
-    let (parts, line) = (row.parts, row.number);
+    let line = row.number;
+    let parts = told_apart(&row.parts).unwrap_or(row.parts);
     let Some(shape) = shape_of(parts) else {
         return Err(at(line, Why::StatusFields));
     };
