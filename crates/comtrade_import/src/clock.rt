@@ -7,7 +7,7 @@ use dfr_channels::Decimal;
 use std::alloc::{AllocError, Allocator};
 
 /// A run of rows at one rate.
-#[derive(Clone, Copy, Debug)]
+#[derive(Clone, Copy)]
 struct Run {
     /// The row before the first of the run (0 for the first run), and when it was sampled.
     from: u64,

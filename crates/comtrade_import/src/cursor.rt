@@ -4,7 +4,7 @@ use dfr_channels::trim;
 use memchr::memchr;
 
 /// A line that isn't blank, without its end.
-#[derive(Clone, Copy, Debug)]
+#[derive(Clone, Copy)]
 pub(crate) struct Line<'a> {
     pub text: &'a [u8],
     /// From 1.
@@ -18,7 +18,7 @@ pub(crate) struct Line<'a> {
 }
 
 /// What is left of a text.
-#[derive(Clone, Copy, Debug)]
+#[derive(Clone, Copy)]
 pub(crate) struct Cursor<'a> {
     left: Option<&'a [u8]>,
     line: u64,

@@ -8,6 +8,7 @@ use crate::kinds::Form;
 use crate::note::{Notes, Place};
 use crate::packed_row::number_at;
 use crate::row::{Cells, Counts, Packed, Plan};
+use crate::text::has_only;
 use crate::text_row::read_line;
 use dfr_channels::trim;
 use memchr::memchr;
@@ -117,7 +118,7 @@ fn text_plan<'a, A: Allocator + Copy>(
 ) -> Result<Plan<'a>, ImportFault> {
     let text = before_mark(dat);
     let rest = after(dat, text.len());
-    if !rest.iter().all(|b| *b == 0x1a || *b == b'\r' || *b == b'\n' || *b == b' ' || *b == 0) {
+    if !has_only(rest, b"\x1a\r\n \0") {
         tell_whole(notes, Key::DatAfterEnd, "")?;
     }
     let mark = mark_of(text);

@@ -1,5 +1,6 @@
 //! Dates and times of day in the spellings that are met.
 
+use crate::text::{DIGITS, has_only, place_of};
 use jiff_core::civil::Date;
 
 /// Which of day and month stands first in the dates of a file.
@@ -10,7 +11,7 @@ pub enum Order {
 }
 
 /// The parts of a date, not yet told which is which.
-#[derive(Clone, Copy, Debug)]
+#[derive(Clone, Copy)]
 pub(crate) struct Civil {
     first: u32,
     second: u32,
@@ -23,7 +24,7 @@ pub(crate) struct Civil {
 }
 
 /// A time of day in microseconds since midnight.
-#[derive(Clone, Copy, Debug)]
+#[derive(Clone, Copy)]
 pub(crate) struct Clock {
     pub micros: i64,
     pub is_24: bool,
@@ -99,7 +100,7 @@ fn month_late(front: &[u8]) -> Option<u32> {
 
 /// What stands before a mark, and after it.
 fn cut_at<'a>(text: &'a [u8], marks: &[u8]) -> Option<(&'a [u8], &'a [u8])> {
-    let at = text.iter().position(|b| marks.contains(b))?;
+    let at = place_of(text, marks)?;
     Some((text.get(..at)?, text.get(at.wrapping_add(1)..)?))
 }
 
@@ -120,7 +121,7 @@ pub(crate) fn civil_of(text: &[u8]) -> Option<Civil> {
     let marks = b"/-. ";
     let (a, rest) = cut_at(text, marks)?;
     let (b, c) = cut_at(rest, marks)?;
-    let is_slashed = text.iter().all(|b| b.is_ascii_digit() || *b == b'/');
+    let is_slashed = has_only(text, b"0123456789/");
     if let Some(month) = month_of(b) {
         return Some(Civil {
             first: small(a)?,
@@ -200,7 +201,7 @@ fn micros_of(digits: &[u8]) -> Option<i64> {
         micros = micros.wrapping_mul(10).wrapping_add(digit);
     }
     let rest = digits.get(6..).unwrap_or(&[]);
-    if !rest.iter().all(|b| b.is_ascii_digit()) {
+    if !has_only(rest, DIGITS) {
         return None;
     }
     match rest {
@@ -247,7 +248,5 @@ pub(crate) fn instant_of(day: i64, micros: i64) -> i64 {
 
 /// Whether a line can be that of an instant: a colon stands in it, or all its fields are empty.
 pub(crate) fn is_like_instant(line: &[u8], mark: u8) -> bool {
-    line.contains(&b':')
-        || line.contains(&b'/')
-        || line.iter().all(|b| *b == mark || *b == b' ' || *b == b'\t')
+    line.contains(&b':') || line.contains(&b'/') || has_only(line, &[mark, b' ', b'\t'])
 }

@@ -6,7 +6,7 @@ use dfr_channels::{AnalogChannel, Decimal, Items, StatusChannel};
 use std::alloc::Allocator;
 
 /// The revision whose lines a file has.
-#[derive(Clone, Copy, Debug, PartialEq, Eq)]
+#[derive(Clone, Copy, PartialEq, Eq)]
 pub(crate) enum Revision {
     Of1991,
     Of1999,
@@ -14,7 +14,7 @@ pub(crate) enum Revision {
 }
 
 /// How the range of a channel's samples is said.
-#[derive(Clone, Copy, Debug, PartialEq, Eq)]
+#[derive(Clone, Copy, PartialEq, Eq)]
 pub(crate) enum Range {
     /// By whole numbers that 1999 can hold.
     Said,
@@ -27,7 +27,7 @@ pub(crate) enum Range {
 }
 
 /// How the line of an analogue channel says its range.
-#[derive(Clone, Copy, Debug)]
+#[derive(Clone, Copy)]
 pub(crate) struct Said {
     pub range: Range,
     pub line: u64,

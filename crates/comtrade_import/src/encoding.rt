@@ -3,7 +3,7 @@
 use std::alloc::{AllocError, Allocator};
 
 /// The order of the bytes of UTF-16, where a text is UTF-16.
-#[derive(Clone, Copy, Debug, PartialEq, Eq)]
+#[derive(Clone, Copy, PartialEq, Eq)]
 enum Wide {
     Little,
     Big,

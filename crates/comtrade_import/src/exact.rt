@@ -4,7 +4,7 @@ use crate::num::Num;
 use dfr_channels::Decimal;
 
 /// The number units / 10^places, which may have places below 0.
-#[derive(Clone, Copy, Debug)]
+#[derive(Clone, Copy)]
 pub(crate) struct Exact {
     pub units: i128,
     pub places: i32,

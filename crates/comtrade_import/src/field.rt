@@ -1,11 +1,12 @@
 //! The fields of a line.
 
 use crate::cursor::{after, before};
+use crate::text::has_only;
 use dfr_channels::trim;
 use memchr::memchr;
 
 /// What is left of a line.
-#[derive(Clone, Copy, Debug)]
+#[derive(Clone, Copy)]
 pub(crate) struct Fields<'a> {
     left: Option<&'a [u8]>,
     mark: u8,
@@ -67,9 +68,7 @@ impl<'a> Fields<'a> {
     /// Whether all that is left are empty fields.
     pub(crate) fn is_empty_from_here(&self) -> bool {
         match self.left {
-            Some(text) => text
-                .iter()
-                .all(|b| *b == self.mark || *b == b' ' || *b == b'\t'),
+            Some(text) => has_only(text, &[self.mark, b' ', b'\t']),
             None => true,
         }
     }
@@ -81,7 +80,7 @@ impl<'a> Fields<'a> {
 }
 
 /// A line's fields as a whole.
-#[derive(Clone, Copy, Debug)]
+#[derive(Clone, Copy)]
 pub(crate) struct Parts<'a> {
     line: &'a [u8],
     mark: u8,

@@ -6,7 +6,7 @@ use crate::scale::{Scale, over};
 use crate::span::{Bounds, Span};
 
 /// How the samples of a channel become whole numbers.
-#[derive(Clone, Copy, Debug)]
+#[derive(Clone, Copy)]
 pub(crate) enum Fit {
     /// They stay as they are.
     Same,
@@ -21,7 +21,7 @@ pub(crate) enum Fit {
 }
 
 /// Steps of `unit` from `middle`, both in the scale's unit.
-#[derive(Clone, Copy, Debug)]
+#[derive(Clone, Copy)]
 pub(crate) struct Steps {
     pub scale: Scale,
     pub middle: i64,

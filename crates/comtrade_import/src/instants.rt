@@ -6,7 +6,7 @@ use crate::fault::{ImportFault, Why};
 use crate::key::Key;
 use crate::lines::{Reader, Row, at, next_row};
 use crate::note::{Notes, Place};
-use crate::text::{put, put_number, put_quoted};
+use crate::text::{place_of, put, put_number, put_quoted};
 use dfr_channels::trim;
 use std::alloc::Allocator;
 
@@ -37,8 +37,7 @@ fn texts_of<'a>(row: Row<'a>, mark: u8) -> (&'a [u8], &'a [u8], bool) {
         };
         return (field, time, false);
     }
-    let blank = field.iter().position(|b| *b == b' ' || *b == b'\t');
-    match blank.or(field.iter().position(|b| *b == b'T')) {
+    match place_of(field, b" \t").or(place_of(field, b"T")) {
         Some(at) => (
             field.get(..at).unwrap_or(&[]),
             trim(field.get(at.wrapping_add(1)..).unwrap_or(&[])),
@@ -50,7 +49,7 @@ fn texts_of<'a>(row: Row<'a>, mark: u8) -> (&'a [u8], &'a [u8], bool) {
 
 /// What stands after the first mark of a line.
 fn rest_after(line: &[u8], mark: u8) -> &[u8] {
-    match line.iter().position(|b| *b == mark) {
+    match place_of(line, &[mark]) {
         Some(at) => trim(line.get(at.wrapping_add(1)..).unwrap_or(&[])),
         None => line,
     }
@@ -197,6 +196,10 @@ fn other_of(order: Order) -> Order {
     }
 }
 
+fn both_fit(said: (Said, Said), order: Order) -> bool {
+    said.0.fits(order) && said.1.fits(order)
+}
+
 /// The one order of both dates: what was asked for, else the revision's, unless only the other gives valid dates.
 fn order_of<A: Allocator + Copy>(
     notes: &mut Notes<A>,
@@ -210,16 +213,15 @@ fn order_of<A: Allocator + Copy>(
         Order::DayFirst
     };
     let (first, trigger) = said;
-    let fits = |order: Order| first.fits(order) && trigger.fits(order);
-    let is_ambiguous = fits(usual)
-        && fits(other_of(usual))
+    let is_ambiguous = both_fit(said, usual)
+        && both_fit(said, other_of(usual))
         && !(first.is_same_in_both() && trigger.is_same_in_both());
     let order = match asked {
         Some(order) => order,
-        None if fits(usual) => usual,
+        None if both_fit(said, usual) => usual,
         None => other_of(usual),
     };
-    if !fits(order) {
+    if !both_fit(said, order) {
         let line = if first.fits(order) {
             trigger.line
         } else {

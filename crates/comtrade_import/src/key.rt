@@ -327,7 +327,12 @@ impl Key {
 
     /// The key of this name.
     pub fn named(name: &str) -> Option<Key> {
-        ALL.iter().copied().find(|key| key.name() == name)
+        for key in ALL.iter() {
+            if key.name() == name {
+                return Some(*key);
+            }
+        }
+        None
     }
 }
 

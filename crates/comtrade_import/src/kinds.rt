@@ -1,7 +1,7 @@
 //! The forms of data files.
 
 /// The form of a data file: that of 1999 or 2013.
-#[derive(Clone, Copy, Debug, PartialEq, Eq)]
+#[derive(Clone, Copy, PartialEq, Eq)]
 pub(crate) enum Form {
     Ascii,
     Binary,

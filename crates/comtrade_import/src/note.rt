@@ -5,7 +5,7 @@ use crate::text::{put, put_number, put_quoted};
 use std::alloc::{AllocError, Allocator, Global};
 
 /// Where something stands.
-#[derive(Clone, Copy, Debug)]
+#[derive(Clone, Copy)]
 pub(crate) enum Place {
     /// A line of the configuration file.
     Cfg(u64),
@@ -98,7 +98,7 @@ impl<A: Allocator> Note<A> {
 }
 
 /// The notes so far, each key at most once.
-#[derive(Debug, Drop)]
+#[derive(Drop)]
 pub(crate) struct Notes<A: Allocator> {
     list: Vec<Note<A>, A>,
 }
@@ -119,7 +119,12 @@ impl<A: Allocator + Copy> Notes<A> {
     }
 
     pub(crate) fn has(&self, key: Key) -> bool {
-        self.list.iter().any(|note| note.key == key)
+        for note in self.list.iter() {
+            if note.key == key {
+                return true;
+            }
+        }
+        false
     }
 
     /// Tells a repair, with what stood there.

@@ -1,7 +1,7 @@
 //! Numbers as samples spell them: decimals in text, and binary floats.
 
 /// The number mant * 10^ten * 2^two.
-#[derive(Clone, Copy, Debug)]
+#[derive(Clone, Copy)]
 pub(crate) struct Num {
     pub mant: i64,
     pub ten: i32,
@@ -9,7 +9,7 @@ pub(crate) struct Num {
 }
 
 /// A number, and how it was spelled.
-#[derive(Clone, Copy, Debug)]
+#[derive(Clone, Copy)]
 pub(crate) struct Spelled {
     pub num: Num,
     /// A point or an exponent stands in it.

@@ -10,7 +10,7 @@ use comtrade_format::Rate;
 use std::alloc::Allocator;
 
 /// A row's number and stamp.
-#[derive(Clone, Copy, Debug)]
+#[derive(Clone, Copy)]
 pub(crate) struct Tick {
     pub number: i64,
     pub stamp: Option<Num>,

@@ -9,7 +9,7 @@ use crate::text_row::read_line;
 use std::alloc::{AllocError, AllocFailed, Allocator};
 
 /// Rows of binary data: whole rows alone.
-#[derive(Clone, Copy, Debug)]
+#[derive(Clone, Copy)]
 pub(crate) struct Packed<'a> {
     pub bytes: &'a [u8],
     pub form: Form,
@@ -19,21 +19,21 @@ pub(crate) struct Packed<'a> {
 }
 
 /// Where rows stand, and in which form.
-#[derive(Clone, Copy, Debug)]
+#[derive(Clone, Copy)]
 pub(crate) enum Plan<'a> {
     Text(&'a [u8], u8),
     Packed(Packed<'a>),
 }
 
 /// Numbers of channels.
-#[derive(Clone, Copy, Debug)]
+#[derive(Clone, Copy)]
 pub(crate) struct Counts {
     pub k: usize,
     pub m: usize,
 }
 
 /// What is odd about a row.
-#[derive(Clone, Copy, Debug, Default)]
+#[derive(Clone, Copy, Default)]
 pub(crate) struct Odd {
     pub has_points: bool,
     pub has_fortran: bool,

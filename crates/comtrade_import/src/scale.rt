@@ -3,7 +3,7 @@
 use crate::num::{Num, ten_to};
 
 /// Multiples of 10^-shift; `fives` is 5^shift where shift is from 0 to 44.
-#[derive(Clone, Copy, Debug)]
+#[derive(Clone, Copy)]
 pub(crate) struct Scale {
     pub shift: i32,
     fives: u128,

@@ -15,7 +15,7 @@ use dfr_channels::{AnalogChannel, Decimal};
 use std::alloc::Allocator;
 
 /// How a channel's samples become whole numbers.
-#[derive(Clone, Copy, Debug)]
+#[derive(Clone, Copy)]
 pub(crate) struct Made {
     pub fit: Fit,
     /// The factor before.

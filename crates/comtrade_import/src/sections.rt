@@ -2,6 +2,7 @@
 
 use crate::cursor::{after, before};
 use crate::fault::{ImportFault, Why};
+use crate::text::{has_only, place_of};
 use dfr_channels::{integer_of, trim};
 use memchr::memchr;
 
@@ -47,9 +48,7 @@ const LONGEST: usize = 120;
 /// The next word, and what stands after it.
 fn word_of(text: &[u8]) -> (&[u8], &[u8]) {
     let text = trim(text);
-    let end = text
-        .iter()
-        .position(|b| *b == b' ' || *b == b'\t' || *b == b':');
+    let end = place_of(text, b" \t:");
     match end {
         Some(at) => (before(text, at), trim(text.get(at..).unwrap_or(&[]))),
         None => (text, &text[text.len()..]),
@@ -119,12 +118,21 @@ fn section_of(inner: &[u8]) -> Option<Section> {
     }
 }
 
+fn has_lowercase(text: &[u8]) -> bool {
+    for b in text {
+        if b.is_ascii_lowercase() {
+            return true;
+        }
+    }
+    false
+}
+
 /// Whether a line is spelled as the standard spells it.
 fn is_usual(line: &[u8], section: Section) -> bool {
     let front = b"--- file type: ";
     let is_framed = line.starts_with(front) && line.ends_with(b" ---");
     let body = line.get(front.len()..).unwrap_or(&[]);
-    is_framed && section != Section::Bytes(None) && !body.iter().any(|b| b.is_ascii_lowercase())
+    is_framed && section != Section::Bytes(None) && !has_lowercase(body)
 }
 
 /// The separator at the front of a text.
@@ -193,7 +201,7 @@ fn length_of(separator: Separator<'_>) -> (usize, Option<(u64, u64)>) {
 }
 
 fn has_text(text: &[u8]) -> bool {
-    text.iter().any(|b| !b.is_ascii_whitespace() && *b != 0x1a)
+    !has_only(text, b" \t\r\n\x0c\x1a")
 }
 
 /// The sections so far.

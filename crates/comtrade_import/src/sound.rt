@@ -3,6 +3,7 @@
 use crate::clock::{Clock, time_of_stamp};
 use crate::cursor::after;
 use crate::num::Num;
+use crate::text::has_only;
 use comtrade_format::{File, Head, Kind, Row};
 use dfr_channels::{AnalogChannel, Reading};
 use memchr::memchr;
@@ -17,13 +18,17 @@ fn is_channel_sound<A: Allocator>(channel: &AnalogChannel<A>) -> bool {
 }
 
 fn is_head_sound<A: Allocator>(head: &Head<A>) -> bool {
+    for channel in head.analog.items() {
+        if !is_channel_sound(channel) {
+            return false;
+        }
+    }
+    for rate in head.rates.items() {
+        if head.nrates != 0 && rate.samp.units() < 1 {
+            return false;
+        }
+    }
     head.first <= head.trigger
-        && head
-            .analog
-            .items()
-            .iter()
-            .all(|channel| is_channel_sound(channel))
-        && (head.nrates == 0 || head.rates.items().iter().all(|rate| 0 < rate.samp.units()))
 }
 
 fn are_numbered<A: Allocator>(rows: &[Row<A>]) -> bool {
@@ -77,9 +82,7 @@ fn has_odd_text(dat: &[u8]) -> bool {
     let mut before = b'\n';
     for (i, b) in dat.iter().enumerate() {
         if *b == 0x1a {
-            return !after(dat, i)
-                .iter()
-                .all(|b| b.is_ascii_whitespace() || *b == 0x1a || *b == 0);
+            return !has_only(after(dat, i), b" \t\r\n\x1a\0");
         }
         if *b == b',' && before == b','
             || *b == b'\r' && before == b','
@@ -94,15 +97,26 @@ fn has_odd_text(dat: &[u8]) -> bool {
     before == b','
 }
 
-/// Whether BINARY's mark of a missing value stands among values that can't be so low.
+/// Whether BINARY's mark of a missing value stands in a row among values that can't be so low.
+fn has_mark_in<A: Allocator>(row: &Row<A>, channels: &[AnalogChannel<A>]) -> bool {
+    for (value, channel) in row.values.items().iter().zip(channels.iter()) {
+        if let Reading::Value(x) = value {
+            if *x == -32_768 && -32_768 < channel.min {
+                return true;
+            }
+        }
+    }
+    false
+}
+
 fn has_foreign_mark<A: Allocator>(file: &File<A>) -> bool {
     let channels = file.head.analog.items();
-    file.rows.items().iter().any(|row| {
-        row.values.items().iter().zip(channels.iter()).any(|(value, channel)| match value {
-            Reading::Value(x) => *x == -32_768 && -32_768 < channel.min,
-            Reading::Missing => false,
-        })
-    })
+    for row in file.rows.items() {
+        if has_mark_in(row, channels) {
+            return true;
+        }
+    }
+    false
 }
 
 /// Whether a bit is set that no channel has, in rows of this size.
@@ -115,10 +129,14 @@ fn has_spare_bits(dat: &[u8], k: usize, m: usize) -> bool {
         return false;
     }
     let mask = 0xffffu16.wrapping_shl(u32::try_from(left).unwrap_or(0));
-    dat.chunks_exact(size).any(|row| match row {
-        [.., low, high] => u16::from_le_bytes([*low, *high]) & mask != 0,
-        _ => false,
-    })
+    for row in dat.chunks_exact(size) {
+        if let [.., low, high] = row {
+            if u16::from_le_bytes([*low, *high]) & mask != 0 {
+                return true;
+            }
+        }
+    }
+    false
 }
 
 fn are_data_sound<A: Allocator>(file: &File<A>, dat: &[u8]) -> bool {

@@ -4,14 +4,14 @@ use crate::num::Num;
 use crate::scale::Scale;
 
 /// The least and the greatest whole number that a form of data holds.
-#[derive(Clone, Copy, Debug)]
+#[derive(Clone, Copy)]
 pub(crate) struct Bounds {
     pub low: i64,
     pub high: i64,
 }
 
 /// The samples of a channel so far.
-#[derive(Clone, Copy, Debug)]
+#[derive(Clone, Copy)]
 pub(crate) struct Span {
     /// The first sample, where there is one.
     pub first: Option<Num>,

@@ -163,13 +163,22 @@ fn without_rates<A: Allocator + Copy>(
     Ok(Found::Kept(1))
 }
 
+fn has_no_stamp(ticks: &[Tick]) -> bool {
+    for tick in ticks {
+        if tick.stamp.is_some() {
+            return false;
+        }
+    }
+    true
+}
+
 fn found_of<A: Allocator + Copy>(
     notes: &mut Notes<A>,
     track: &Track<'_>,
     draft: &Draft<A>,
     clock: Option<&Clock<A>>,
 ) -> Result<Found, ImportFault> {
-    if track.ticks.iter().all(|tick| tick.stamp.is_none()) {
+    if has_no_stamp(track.ticks) {
         let key = if clock.is_some() {
             Key::StampsAbsent
         } else {

@@ -2,7 +2,7 @@
 
 use crate::analog::tell_index;
 use crate::fault::{ImportFault, Why};
-use crate::field::Parts;
+use crate::field::{Parts, joint_of};
 use crate::key::Key;
 use crate::lines::{Row, at, phase_of, text_of};
 use crate::note::{Notes, Place};

@@ -164,13 +164,22 @@ pub(crate) fn survey_of<A: Allocator + Copy>(
     Ok(survey)
 }
 
+fn all_fit(spans: &[Span]) -> bool {
+    for span in spans {
+        if !span.fits {
+            return false;
+        }
+    }
+    true
+}
+
 /// A second look, at the channels that don't fit as they are.
 fn widen_all<A: Allocator + Copy>(
     ground: Ground<'_>,
     survey: &mut Survey<A>,
     cells: &mut Cells<A>,
 ) -> Result<(), ImportFault> {
-    if survey.spans.iter().all(|span| span.fits) {
+    if all_fit(&survey.spans) {
         return Ok(());
     }
     for span in survey.spans.iter_mut() {

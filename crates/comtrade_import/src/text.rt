@@ -11,6 +11,29 @@ pub(crate) fn put_number<A: Allocator>(out: &mut Vec<u8, A>, n: u64) -> Result<(
     out.extend_from_slice(Buffer::new().format(n).as_bytes())
 }
 
+/// Whether each byte of a text is one of these.
+pub(crate) fn has_only(text: &[u8], bytes: &[u8]) -> bool {
+    for b in text {
+        if !bytes.contains(b) {
+            return false;
+        }
+    }
+    true
+}
+
+/// Where the first of these bytes stands.
+pub(crate) fn place_of(text: &[u8], bytes: &[u8]) -> Option<usize> {
+    for (i, b) in text.iter().enumerate() {
+        if bytes.contains(b) {
+            return Some(i);
+        }
+    }
+    None
+}
+
+/// The digits.
+pub(crate) const DIGITS: &[u8] = b"0123456789";
+
 /// How many bytes of a text are quoted.
 const QUOTED: usize = 80;
 

@@ -4,6 +4,7 @@ use crate::fault::Why;
 use crate::field::Fields;
 use crate::num::spelled_of;
 use crate::row::{Cells, Counts, Odd, Stop};
+use crate::text::has_only;
 use dfr_channels::bit_of;
 use std::alloc::Allocator;
 
@@ -13,7 +14,7 @@ fn is_mark(text: &[u8]) -> bool {
         [b'-' | b'+', rest @ ..] => rest,
         _ => text,
     };
-    if text.iter().all(|b| *b == b'-' || *b == b'*' || *b == b'?' || *b == b'#' || *b == b'.') {
+    if has_only(text, b"-*?#.") {
         return true;
     }
     body.eq_ignore_ascii_case(b"nan")
