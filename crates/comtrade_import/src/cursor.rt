@@ -91,15 +91,17 @@ impl<'a> Cursor<'a> {
         None
     }
 
-    /// Skips blank lines.
-    pub(crate) fn skip_blank(&mut self) {
+    /// What is left after blank lines.
+    pub(crate) fn after_blank(self) -> Cursor<'a> {
+        let mut here = self;
         for _ in 0..u64::MAX {
-            let mut ahead = *self;
+            let mut ahead = here;
             match ahead.step() {
-                Some(line) if trim(line.text).is_empty() => *self = ahead,
+                Some(line) if trim(line.text).is_empty() => here = ahead,
                 _ => break,
             }
         }
+        here
     }
 
     /// The number of the line after the last that was read.

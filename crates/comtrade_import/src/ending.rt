@@ -36,7 +36,7 @@ fn type_of<A: Allocator + Copy>(
     if text.is_empty() {
         reader.cursor = ahead;
     } else {
-        reader.cursor.skip_blank();
+        reader.cursor = reader.cursor.after_blank();
     }
     reader.notes.tell(Key::KindAbsent, Place::Cfg(number), &[])?;
     Ok(None)

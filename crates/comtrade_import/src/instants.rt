@@ -111,7 +111,7 @@ fn said_of<A: Allocator + Copy>(reader: &mut Reader<'_, '_, A>) -> Result<Said, 
         return Err(at(number, Why::Missing));
     };
     if !is_like_instant(next.text, reader.mark) {
-        reader.cursor.skip_blank();
+        reader.cursor = reader.cursor.after_blank();
         return Ok(Said {
             civil: None,
             clock: None,

@@ -49,7 +49,7 @@ fn num_of(stamp: u64) -> Num {
 
 /// Whether all stamps are there, from 0 on, and agree with the rates within half an interval or what a stamp counts; without rates they don't fall
 /// and aren't all the same.
-fn are_stamps_sound<A: Allocator + Copy>(file: &File<A>, clock: Option<&Clock<A>>) -> bool {
+fn are_stamps_sound<A: Allocator + Copy>(file: &File<A>, clock: &Option<Clock<A>>) -> bool {
     let unit = time_of_stamp(num_of(1), file.head.timemult).unwrap_or(0);
     let mut at = 0usize;
     let mut last = 0u64;
@@ -160,10 +160,8 @@ pub(crate) fn is_sound<A: Allocator + Copy>(
         return Ok(false);
     }
     if file.head.nrates == 0 {
-        return Ok(are_stamps_sound(file, None));
+        return Ok(are_stamps_sound(file, &None));
     }
-    match Clock::new(alloc, file.head.rates.items())? {
-        Some(clock) => Ok(are_stamps_sound(file, Some(&clock))),
-        None => Ok(false),
-    }
+    let clock = Clock::new(alloc, file.head.rates.items())?;
+    Ok(clock.is_some() && are_stamps_sound(file, &clock))
 }
