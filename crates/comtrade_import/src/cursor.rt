@@ -91,17 +91,15 @@ impl<'a> Cursor<'a> {
         None
     }
 
-    /// What is left after blank lines.
-    pub(crate) fn after_blank(self) -> Cursor<'a> {
-        let mut here = self;
+    /// Goes past blank lines.
+    pub(crate) fn skip_blanks(&mut self) {
         for _ in 0..u64::MAX {
-            let mut ahead = here;
+            let mut ahead = *self;
             match ahead.step() {
-                Some(line) if trim(line.text).is_empty() => here = ahead,
+                Some(line) if trim(line.text).is_empty() => *self = ahead,
                 _ => break,
             }
         }
-        here
     }
 
     /// The number of the line after the last that was read.

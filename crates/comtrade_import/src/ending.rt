@@ -1,5 +1,6 @@
 //! The lines after the rates.
 
+use crate::cursor::Cursor;
 use crate::dates::Order;
 use crate::draft::Revision;
 use crate::fault::{ImportFault, Why};
@@ -12,31 +13,54 @@ use crate::note::Place;
 use dfr_channels::{Decimal, trim};
 use std::alloc::Allocator;
 
+/// What stands where the type of the data is to stand.
+#[derive(Clone, Copy)]
+enum Next {
+    Form(Form),
+    Number,
+    Nothing,
+    Other,
+}
+
+fn next_of(cursor: Cursor<'_>, mark: u8) -> Next {
+    let mut ahead = cursor;
+    let Some(line) = ahead.next_line() else {
+        return Next::Nothing;
+    };
+    let text = Parts::of(line.text, mark).at(0);
+    match form_of(text) {
+        Some(form) => Next::Form(form),
+        None if text.is_empty() => Next::Nothing,
+        None if Decimal::read(text).is_some() => Next::Number,
+        None => Next::Other,
+    }
+}
+
+/// The form, whose line has no other field.
+fn said_form<A: Allocator + Copy>(
+    reader: &mut Reader<'_, '_, A>,
+    form: Form,
+) -> Result<Option<Form>, ImportFault> {
+    let row = next_row(&mut reader.cursor, reader.mark, reader.notes, 1)?;
+    if row.parts.full == 1 {
+        Ok(Some(form))
+    } else {
+        Err(at(row.number, Why::Kind))
+    }
+}
+
 /// The form of the data; none where no line says it.
 fn type_of<A: Allocator + Copy>(
     reader: &mut Reader<'_, '_, A>,
 ) -> Result<Option<Form>, ImportFault> {
-    let mut ahead = reader.cursor;
     let number = reader.cursor.next_number();
-    let text = match ahead.next_line() {
-        Some(line) => Parts::of(line.text, reader.mark).at(0),
-        None => &[],
-    };
-    if let Some(form) = form_of(text) {
-        let row = next_row(&mut reader.cursor, reader.mark, reader.notes, 1)?;
-        return if row.parts.full == 1 {
-            Ok(Some(form))
-        } else {
-            Err(at(number, Why::Kind))
-        };
-    }
-    if !text.is_empty() && Decimal::read(text).is_none() {
-        return Err(at(number, Why::Kind));
-    }
-    if text.is_empty() {
-        reader.cursor = ahead;
-    } else {
-        reader.cursor = reader.cursor.after_blank();
+    match next_of(reader.cursor, reader.mark) {
+        Next::Form(form) => return said_form(reader, form),
+        Next::Other => return Err(at(number, Why::Kind)),
+        Next::Number => reader.cursor.skip_blanks(),
+        Next::Nothing => {
+            let _ = reader.cursor.next_line();
+        }
     }
     reader.notes.tell(Key::KindAbsent, Place::Cfg(number), &[])?;
     Ok(None)

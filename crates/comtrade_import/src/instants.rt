@@ -1,5 +1,6 @@
 //! The lines of the first row's instant and of the trigger's.
 
+use crate::cursor::Cursor;
 use crate::dates::{Civil, Clock, Order, civil_of, clock_of, instant_of, is_like_instant};
 use crate::draft::Revision;
 use crate::fault::{ImportFault, Why};
@@ -103,24 +104,21 @@ fn tell_civil<A: Allocator + Copy>(
     Ok(())
 }
 
-/// The next line, where it is that of an instant.
-fn said_of<A: Allocator + Copy>(reader: &mut Reader<'_, '_, A>) -> Result<Said, ImportFault> {
-    let mut ahead = reader.cursor;
-    let number = reader.cursor.next_number();
-    let Some(next) = ahead.next_line() else {
-        return Err(at(number, Why::Missing));
-    };
-    if !is_like_instant(next.text, reader.mark) {
-        reader.cursor = reader.cursor.after_blank();
-        return Ok(Said {
-            civil: None,
-            clock: None,
-            line: number,
-        });
-    }
-    let row = next_row(&mut reader.cursor, reader.mark, reader.notes, 2)?;
+/// Whether the next line can be that of an instant; none where there is no line.
+fn is_next(cursor: Cursor<'_>, mark: u8) -> Option<bool> {
+    let mut ahead = cursor;
+    let line = ahead.next_line()?;
+    Some(is_like_instant(line.text, mark))
+}
+
+/// The date and the time of day of a line, with their oddities told.
+fn said_in<A: Allocator + Copy>(
+    notes: &mut Notes<A>,
+    row: Row<'_>,
+    mark: u8,
+) -> Result<Said, ImportFault> {
     let line = row.number;
-    let (date, time, is_joined) = texts_of(row, reader.mark);
+    let (date, time, is_joined) = texts_of(row, mark);
     let civil = civil_of(date);
     let clock = clock_of(time);
     if civil.is_none() && !date.is_empty()
@@ -130,15 +128,34 @@ fn said_of<A: Allocator + Copy>(reader: &mut Reader<'_, '_, A>) -> Result<Said, 
         return Err(at(line, Why::Instant));
     }
     if let Some(clock) = clock {
-        tell_clock(reader.notes, line, clock, time)?;
+        tell_clock(notes, line, clock, time)?;
     }
     if let Some(civil) = civil {
         if clock.is_none() && !civil.is_unset() {
             return Err(at(line, Why::Instant));
         }
-        tell_civil(reader.notes, line, civil, is_joined, date)?;
+        tell_civil(notes, line, civil, is_joined, date)?;
     }
     Ok(Said { civil, clock, line })
+}
+
+/// The next line, where it is that of an instant.
+fn said_of<A: Allocator + Copy>(reader: &mut Reader<'_, '_, A>) -> Result<Said, ImportFault> {
+    let line = reader.cursor.next_number();
+    match is_next(reader.cursor, reader.mark) {
+        Some(true) => {}
+        Some(false) => {
+            reader.cursor.skip_blanks();
+            return Ok(Said {
+                civil: None,
+                clock: None,
+                line,
+            });
+        }
+        None => return Err(at(line, Why::Missing)),
+    }
+    let row = next_row(&mut reader.cursor, reader.mark, reader.notes, 2)?;
+    said_in(reader.notes, row, reader.mark)
 }
 
 impl Said {
