@@ -31,11 +31,14 @@ fn quoted(text: &[u8], mark: u8) -> Option<(&[u8], Option<&[u8]>)> {
 }
 
 fn trim_front(text: &[u8]) -> &[u8] {
-    let mut inner = text;
-    while let [b' ' | b'\t', rest @ ..] = inner {
-        inner = rest;
+    let mut blanks = 0usize;
+    for b in text {
+        if *b != b' ' && *b != b'\t' {
+            break;
+        }
+        blanks = blanks.saturating_add(1);
     }
-    inner
+    text.get(blanks..).unwrap_or(text)
 }
 
 impl<'a> Fields<'a> {

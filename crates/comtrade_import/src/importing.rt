@@ -16,7 +16,7 @@ use crate::sections::{Sections, cut};
 use crate::sound::is_sound;
 use crate::text::{put, put_number};
 use comtrade_format::{File, WriteFault, cfg_bytes, dat_bytes};
-use comtrade_read::{ReadFault, file_reads_back, read};
+use comtrade_read::{ReadFault, Written, file_reads_back, read};
 use memchr::memchr;
 use std::alloc::{Allocator, Global};
 
@@ -38,7 +38,23 @@ pub struct Imported<A: Allocator = Global> {
     pub is_exact: bool,
 }
 
-/// Both texts of a file; none where no file of 1999 can hold it.
+/// The two texts of a file, which read to it.
+fn texts_of<A: Allocator + Copy>(alloc: A, file: &File<A>) -> Result<Written<A>, WriteFault>
+    ensures { IfOk result (λ pair. Reads pair.cfg.items pair.dat.items file.now) }
+{
+    file_reads_back(file);
+    let cfg = match cfg_bytes(alloc, file) {
+        Ok(cfg) => cfg,
+        Err(fault) => return Err(fault),
+    };
+    let dat = match dat_bytes(alloc, file) {
+        Ok(dat) => dat,
+        Err(fault) => return Err(fault),
+    };
+    Ok(Written { cfg, dat })
+}
+
+/// A file with both its texts; a fault where no file of 1999 can hold it.
 fn finished<A: Allocator + Copy>(
     alloc: A,
     file: File<A>,
@@ -50,22 +66,19 @@ fn finished<A: Allocator + Copy>(
     ensures notes { IfOk result (λ done. done.notes.items ≡ notes.items) }
     ensures exact { IfOk result (λ done. done.is_exact ≡ is_exact) }
 {
-    file_reads_back(&file);
-    let cfg = match cfg_bytes(alloc, &file) {
-        Ok(cfg) => cfg,
-        Err(fault) => return Err(unwritten(fault)),
-    };
-    let dat = match dat_bytes(alloc, &file) {
-        Ok(dat) => dat,
-        Err(fault) => return Err(unwritten(fault)),
-    };
-    Ok(Imported {
-        file,
-        cfg,
-        dat,
-        notes,
-        is_exact,
-    })
+    match texts_of(alloc, &file) {
+        Ok(written) => {
+            let Written { cfg, dat } = written;
+            Ok(Imported {
+                file,
+                cfg,
+                dat,
+                notes,
+                is_exact,
+            })
+        }
+        Err(fault) => Err(unwritten(fault)),
+    }
 }
 
 fn unwritten(fault: WriteFault) -> ImportFault {

@@ -64,14 +64,15 @@ fn after_colon(text: &[u8]) -> &[u8] {
 }
 
 fn without_dashes(line: &[u8]) -> &[u8] {
-    let mut inner = line;
-    while let [b'-', rest @ ..] = inner {
-        inner = rest;
+    let mut front = line.len();
+    let mut end = 0usize;
+    for (i, b) in line.iter().enumerate() {
+        if *b != b'-' {
+            front = front.min(i);
+            end = i.saturating_add(1);
+        }
     }
-    while let [rest @ .., b'-'] = inner {
-        inner = rest;
-    }
-    trim(inner)
+    trim(line.get(front..end).unwrap_or(&[]))
 }
 
 /// The section of data that a kind and a count name.
