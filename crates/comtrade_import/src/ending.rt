@@ -22,7 +22,7 @@ enum Next {
     Other,
 }
 
-fn next_of(cursor: Cursor<'_>, mark: u8) -> Next {
+fn look_at(cursor: Cursor<'_>, mark: u8) -> Next {
     let mut ahead = cursor;
     let Some(line) = ahead.next_line() else {
         return Next::Nothing;
@@ -33,6 +33,16 @@ fn next_of(cursor: Cursor<'_>, mark: u8) -> Next {
         None if text.is_empty() => Next::Nothing,
         None if Decimal::read(text).is_some() => Next::Number,
         None => Next::Other,
+    }
+}
+
+/// Goes past what stands for the type without saying it.
+fn pass(cursor: &mut Cursor<'_>, next: Next) {
+    match next {
+        Next::Nothing => {
+            let _ = cursor.next_line();
+        }
+        _ => cursor.skip_blanks(),
     }
 }
 
@@ -53,15 +63,16 @@ fn said_form<A: Allocator + Copy>(
 fn type_of<A: Allocator + Copy>(
     reader: &mut Reader<'_, '_, A>,
 ) -> Result<Option<Form>, ImportFault> {
-    let number = reader.cursor.next_number();
-    match next_of(reader.cursor, reader.mark) {
+    let mut ahead = reader.cursor;
+    let number = ahead.next_number();
+    let next = look_at(ahead, reader.mark);
+    match next {
         Next::Form(form) => return said_form(reader, form),
         Next::Other => return Err(at(number, Why::Kind)),
-        Next::Number => reader.cursor.skip_blanks(),
-        Next::Nothing => {
-            let _ = reader.cursor.next_line();
-        }
+        _ => {}
     }
+    pass(&mut ahead, next);
+    reader.cursor = ahead;
     reader.notes.tell(Key::KindAbsent, Place::Cfg(number), &[])?;
     Ok(None)
 }

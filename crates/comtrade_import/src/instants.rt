@@ -139,23 +139,29 @@ fn said_in<A: Allocator + Copy>(
     Ok(Said { civil, clock, line })
 }
 
-/// The next line, where it is that of an instant.
-fn said_of<A: Allocator + Copy>(reader: &mut Reader<'_, '_, A>) -> Result<Said, ImportFault> {
-    let line = reader.cursor.next_number();
-    match is_next(reader.cursor, reader.mark) {
-        Some(true) => {}
-        Some(false) => {
-            reader.cursor.skip_blanks();
-            return Ok(Said {
-                civil: None,
-                clock: None,
-                line,
-            });
-        }
-        None => return Err(at(line, Why::Missing)),
-    }
+/// The next line, which is that of an instant.
+fn said_there<A: Allocator + Copy>(reader: &mut Reader<'_, '_, A>) -> Result<Said, ImportFault> {
     let row = next_row(&mut reader.cursor, reader.mark, reader.notes, 2)?;
     said_in(reader.notes, row, reader.mark)
+}
+
+/// The next line, where it is that of an instant.
+fn said_of<A: Allocator + Copy>(reader: &mut Reader<'_, '_, A>) -> Result<Said, ImportFault> {
+    let mut ahead = reader.cursor;
+    let line = ahead.next_number();
+    let Some(is_instant) = is_next(ahead, reader.mark) else {
+        return Err(at(line, Why::Missing));
+    };
+    if is_instant {
+        return said_there(reader);
+    }
+    ahead.skip_blanks();
+    reader.cursor = ahead;
+    Ok(Said {
+        civil: None,
+        clock: None,
+        line,
+    })
 }
 
 impl Said {
