@@ -1,16 +1,19 @@
-//! The program: `comtrade show|check|csv|plot CFG DAT`, `comtrade convert --kind ascii|binary CFG DAT NAME`,
+//! The program: `comtrade show|check|csv|plot FILE [DAT]`, `comtrade convert --kind ascii|binary FILE [DAT] NAME`,
 //! `comtrade extract DIR`.
 #![tactic(auto)]
 
 mod extract;
+mod find;
 mod view;
 mod write;
 
 use crate::extract::run_extract;
-use crate::view::{View, view_over};
+use crate::find::{Pairing, pairing_of};
+use crate::view::view_over;
 use crate::write::run_convert;
 use comtrade_cli::{
-    Answer, Asked, Names, ToolFault, answer_of, fault_of, put, put_safe, read_up_to, write_out,
+    Answer, Asked, Names, ToolFault, View, answer_of, fault_of, put, put_safe, read_up_to,
+    write_out,
 };
 use comtrade_diagnostics::Pair;
 use std::alloc::{AllocError, Allocator};
@@ -94,30 +97,32 @@ fn print_view<R: Print + Eprint + AllocGlobal>(rt: &R, view: View, pair: Pair<'_
 
 /// What both files of a pair are called, and their bytes.
 #[derive(Drop)]
-struct Inputs {
+pub(crate) struct Inputs {
+    names: Pairing,
     cfg: Vec<u8>,
     dat: Vec<u8>,
 }
 
-/// Reads a pair; None where that was refused, which is said.
-pub(crate) fn read_inputs<R: Files + Input + Eprint + AllocGlobal>(
-    rt: &R,
-    names: Names<'_>,
-) -> Option<Inputs> {
-    let cfg = match read_named(rt, names.cfg) {
-        Ok(cfg) => cfg,
+/// Reads a file; none where that was refused, which is said.
+fn read_input<R: Files + Input + Eprint + AllocGlobal>(rt: &R, name: &str) -> Option<Vec<u8>> {
+    match read_named(rt, name) {
+        Ok(bytes) => Some(bytes),
         Err(fault) => {
-            complain(rt, shown(names.cfg), fault);
-            return None;
-        }
-    };
-    match read_named(rt, names.dat) {
-        Ok(dat) => Some(Inputs { cfg, dat }),
-        Err(fault) => {
-            complain(rt, shown(names.dat), fault);
+            complain(rt, shown(name), fault);
             None
         }
     }
+}
+
+/// Reads a pair; none where that was refused, which is said.
+pub(crate) fn read_inputs<R: Files + Input + Eprint + AllocGlobal + Clone + Drop>(
+    rt: &R,
+    names: Names<'_>,
+) -> Option<Inputs> {
+    let names = pairing_of(rt, names)?;
+    let cfg = read_input(rt, names.cfg.as_str())?;
+    let dat = read_input(rt, names.dat.as_str())?;
+    Some(Inputs { names, cfg, dat })
 }
 
 /// Says how much there is to do, where it may last over a second and someone sees it.
@@ -134,17 +139,17 @@ fn shown(name: &str) -> &str {
     if name == "-" { "standard input" } else { name }
 }
 
-pub(crate) fn pair_of<'a>(names: Names<'a>, inputs: &'a Inputs) -> Pair<'a> {
+pub(crate) fn pair_of(inputs: &Inputs) -> Pair<'_> {
     Pair {
-        cfg_name: shown(names.cfg).as_bytes(),
+        cfg_name: shown(inputs.names.cfg.as_str()).as_bytes(),
         cfg: &inputs.cfg,
-        dat_name: shown(names.dat).as_bytes(),
+        dat_name: shown(inputs.names.dat.as_str()).as_bytes(),
         dat: &inputs.dat,
     }
 }
 
 /// Reads a pair, and prints what is asked of it.
-fn run_view<R: Files + Input + Print + Eprint + AllocGlobal>(
+fn run_view<R: Files + Input + Print + Eprint + AllocGlobal + Clone + Drop>(
     rt: &R,
     is_watched: bool,
     view: View,
@@ -153,23 +158,20 @@ fn run_view<R: Files + Input + Print + Eprint + AllocGlobal>(
     match read_inputs(rt, names) {
         Some(inputs) => {
             note_size(rt, is_watched, &inputs);
-            print_view(rt, view, pair_of(names, &inputs))
+            print_view(rt, view, pair_of(&inputs))
         }
         None => 1,
     }
 }
 
-fn run<R: Files + Input + Print + Eprint + AllocGlobal>(
+fn run<R: Files + Input + Print + Eprint + AllocGlobal + Clone + Drop>(
     rt: &R,
     is_watched: bool,
     asked: Asked<'_>,
 ) -> u8 {
     match asked {
-        Asked::Show(names) => run_view(rt, is_watched, View::Show, names),
-        Asked::Check(names) => run_view(rt, is_watched, View::Check, names),
-        Asked::Csv(names) => run_view(rt, is_watched, View::Csv, names),
-        Asked::Plot(names) => run_view(rt, is_watched, View::Plot, names),
-        Asked::Convert(names, kind, name) => run_convert(rt, is_watched, kind, names, name),
+        Asked::View(view, viewed) => run_view(rt, is_watched, view, viewed.names),
+        Asked::Convert(made) => run_convert(rt, is_watched, made),
         Asked::Extract(folder) => run_extract(rt, folder),
     }
 }
@@ -214,7 +216,7 @@ fn refuse_start<R: Eprint>(rt: &R, kind: ErrorKind) -> u8 {
 }
 
 /// Does what is to be done with words; `is_watched` where standard error is a terminal.
-fn act<R: Files + Input + Print + Eprint + AllocGlobal>(
+fn act<R: Files + Input + Print + Eprint + AllocGlobal + Clone + Drop>(
     rt: &R,
     is_watched: bool,
     answer: Answer<'_>,
@@ -227,7 +229,7 @@ fn act<R: Files + Input + Print + Eprint + AllocGlobal>(
 }
 
 /// Does what the words ask for.
-fn answer<R: Files + Input + Print + Eprint + AllocGlobal>(
+fn answer<R: Files + Input + Print + Eprint + AllocGlobal + Clone + Drop>(
     rt: &R,
     is_watched: bool,
     words: &[String],

@@ -1,25 +1,12 @@
 //! What is said of a pair of files.
 
-use comtrade_cli::ToolFault;
+use comtrade_cli::{ToolFault, View};
 use comtrade_diagnostics::{Pair, check_over, put_fault};
 use comtrade_format::File;
 use comtrade_read::{Fault, ReadFault, read};
 use comtrade_views::{csv_over, plot_over, show_over};
 use std::alloc::Allocator;
 use std::io::Write;
-
-/// What is said of a pair.
-#[derive(Clone, Copy, Debug, PartialEq, Eq)]
-pub(crate) enum View {
-    /// What is in it.
-    Show,
-    /// Its first fault.
-    Check,
-    /// Its rows as comma-separated values.
-    Csv,
-    /// A picture of it.
-    Plot,
-}
 
 /// The file that a pair reads to; None where it has a fault, whose line is put to `said`.
 fn file_in<A: Allocator + Copy>(

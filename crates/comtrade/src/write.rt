@@ -1,7 +1,7 @@
 //! Writing pairs of files that are not there yet.
 
 use crate::{complain, note_size, out_of_memory, pair_of, read_inputs, say};
-use comtrade_cli::{Names, ToolFault, fault_of, write_out};
+use comtrade_cli::{Converted, ToolFault, fault_of, write_out};
 use comtrade_diagnostics::{Pair, put_fault, put_refusal};
 use comtrade_format::Kind;
 use comtrade_read::{ConvertFault, converted};
@@ -93,19 +93,17 @@ fn refuse_pair<R: Eprint + AllocGlobal>(
     }
 }
 
-pub(crate) fn run_convert<R: Files + Input + Eprint + AllocGlobal>(
+pub(crate) fn run_convert<R: Files + Input + Eprint + AllocGlobal + Clone + Drop>(
     rt: &R,
     is_watched: bool,
-    kind: Kind,
-    names: Names<'_>,
-    name: &str,
+    asked: Converted<'_>,
 ) -> u8 {
-    let Some(inputs) = read_inputs(rt, names) else {
+    let Some(inputs) = read_inputs(rt, asked.names) else {
         return 1;
     };
     note_size(rt, is_watched, &inputs);
-    match converted(rt.alloc(), &inputs.cfg, &inputs.dat, kind) {
-        Ok(made) => write_named(rt, name, &made.cfg, &made.dat),
-        Err(fault) => refuse_pair(rt, kind, pair_of(names, &inputs), fault),
+    match converted(rt.alloc(), &inputs.cfg, &inputs.dat, asked.kind) {
+        Ok(made) => write_named(rt, asked.name, &made.cfg, &made.dat),
+        Err(fault) => refuse_pair(rt, asked.kind, pair_of(&inputs), fault),
     }
 }
