@@ -4,18 +4,21 @@
 
 mod extract;
 mod find;
+mod survey;
 mod view;
 mod write;
 
 use crate::extract::run_extract;
 use crate::find::{Pairing, pairing_of};
+use crate::survey::run_survey;
 use crate::view::view_over;
 use crate::write::run_convert;
 use comtrade_cli::{
-    Answer, Asked, Names, ToolFault, View, answer_of, fault_of, put, put_safe, read_up_to,
-    write_out,
+    Answer, Asked, Names, Part, ToolFault, View, Viewed, answer_of, fault_of, put, put_safe,
+    read_up_to, write_out,
 };
 use comtrade_diagnostics::Pair;
+use comtrade_read::verdict_of;
 use std::alloc::{AllocError, Allocator};
 use std::fs::File;
 use std::io::{ErrorKind, IsTerminal};
@@ -74,24 +77,39 @@ pub(crate) fn read_named<R: Files + Input + AllocGlobal>(
     }
 }
 
-/// Prints a text.
-fn print_text<R: Print + Eprint + AllocGlobal>(rt: &R, text: &str) -> u8 {
-    match write_out(&mut io::writer(rt), text.as_bytes()) {
+/// Prints bytes.
+pub(crate) fn print_bytes<R: Print + Eprint + AllocGlobal>(rt: &R, bytes: &[u8]) -> u8 {
+    match write_out(&mut io::writer(rt), bytes) {
         Ok(()) => 0,
         Err(fault) => complain(rt, "standard output", fault),
     }
 }
 
-/// Prints what is asked of a pair.
-fn print_view<R: Print + Eprint + AllocGlobal>(rt: &R, view: View, pair: Pair<'_>) -> u8 {
+/// Prints what is asked of a pair. Its verdict is the status of a check, whoever reads what is printed.
+fn print_view<R: Print + Eprint + AllocGlobal>(
+    rt: &R,
+    view: View,
+    part: Part<'_>,
+    pair: Pair<'_>,
+) -> u8 {
     let mut said = Vec::new(rt.alloc());
-    match view_over(rt.alloc(), view, pair, &mut io::writer(rt), &mut said) {
+    match view_over(rt.alloc(), view, part, pair, &mut io::writer(rt), &mut said) {
         Ok(true) => 0,
         Ok(false) => {
             say(rt, &said);
             1
         }
+        Err(ToolFault::Closed) if view == View::Check => verdict(rt, pair),
         Err(fault) => complain(rt, "standard output", fault),
+    }
+}
+
+/// The status of a check of which nobody reads the text.
+fn verdict<R: Eprint + AllocGlobal>(rt: &R, pair: Pair<'_>) -> u8 {
+    match verdict_of(rt.alloc(), pair.cfg, pair.dat) {
+        Ok(None) => 0,
+        Ok(Some(_)) => 1,
+        Err(_) => out_of_memory(rt),
     }
 }
 
@@ -153,12 +171,12 @@ fn run_view<R: Files + Input + Print + Eprint + AllocGlobal + Clone + Drop>(
     rt: &R,
     is_watched: bool,
     view: View,
-    names: Names<'_>,
+    viewed: Viewed<'_>,
 ) -> u8 {
-    match read_inputs(rt, names) {
+    match read_inputs(rt, viewed.names) {
         Some(inputs) => {
             note_size(rt, is_watched, &inputs);
-            print_view(rt, view, pair_of(&inputs))
+            print_view(rt, view, viewed.part, pair_of(&inputs))
         }
         None => 1,
     }
@@ -170,9 +188,10 @@ fn run<R: Files + Input + Print + Eprint + AllocGlobal + Clone + Drop>(
     asked: Asked<'_>,
 ) -> u8 {
     match asked {
-        Asked::View(view, viewed) => run_view(rt, is_watched, view, viewed.names),
+        Asked::View(view, viewed) => run_view(rt, is_watched, view, viewed),
         Asked::Convert(made) => run_convert(rt, is_watched, made),
         Asked::Extract(folder) => run_extract(rt, folder),
+        Asked::Survey(survey, surveyed) => run_survey(rt, survey, &surveyed),
     }
 }
 
@@ -223,7 +242,7 @@ fn act<R: Files + Input + Print + Eprint + AllocGlobal + Clone + Drop>(
 ) -> u8 {
     match answer {
         Answer::Do(asked) => run(rt, is_watched, asked),
-        Answer::Print(text) => print_text(rt, text.as_str()),
+        Answer::Print(text) => print_bytes(rt, text.as_str().as_bytes()),
         Answer::Refuse(text) => refuse_words(rt, text.as_str()),
     }
 }

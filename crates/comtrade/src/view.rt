@@ -1,15 +1,16 @@
 //! What is said of a pair of files.
 
-use comtrade_cli::{ToolFault, View};
+use comtrade_cli::{Part, ToolFault, View, put, put_safe};
 use comtrade_diagnostics::{Pair, check_over, put_fault};
 use comtrade_format::File;
+use comtrade_part::{PartFault, is_whole, part_of};
 use comtrade_read::{Fault, ReadFault, read};
 use comtrade_views::{csv_over, plot_over, show_over};
 use std::alloc::Allocator;
 use std::io::Write;
 
 /// The file that a pair reads to; None where it has a fault, whose line is put to `said`.
-fn file_in<A: Allocator + Copy>(
+pub(crate) fn file_in<A: Allocator + Copy>(
     alloc: A,
     pair: Pair<'_>,
     said: &mut Vec<u8, A>,
@@ -38,11 +39,48 @@ fn put_view<A: Allocator + Copy, W: Write>(
     }
 }
 
-/// Prints what is asked of a pair: false where it has a fault. The fault's line is what `Check` prints; the others put it to
-/// `said` and print nothing.
+/// Puts why a record has no such part; an allocation that failed is the fault of the tool.
+pub(crate) fn put_part_fault<A: Allocator + Copy>(
+    said: &mut Vec<u8, A>,
+    fault: PartFault<'_>,
+) -> Result<(), ToolFault> {
+    if fault == PartFault::Memory {
+        return Err(ToolFault::Memory);
+    }
+    let text = format!(in *said.allocator(); "{fault}")?;
+    put(said, "comtrade: ")?;
+    put_safe(said, text.as_str().as_bytes())?;
+    put(said, "\n")?;
+    Ok(())
+}
+
+/// Prints what is asked of a part of a file; false where it has none, which is put to `said`.
+fn put_part<A: Allocator + Copy, W: Write>(
+    alloc: A,
+    view: View,
+    part: Part<'_>,
+    file: &File<A>,
+    w: &mut W,
+    said: &mut Vec<u8, A>,
+) -> Result<bool, ToolFault> {
+    match part_of(alloc, file, part) {
+        Ok(cut) => {
+            put_view(alloc, view, &cut, w)?;
+            Ok(true)
+        }
+        Err(fault) => {
+            put_part_fault(said, fault)?;
+            Ok(false)
+        }
+    }
+}
+
+/// Prints what is asked of a part of a pair: false where the pair has a fault, or no such part. The fault's line is what `Check` prints;
+/// the others put it to `said` and print nothing.
 pub(crate) fn view_over<A: Allocator + Copy, W: Write>(
     alloc: A,
     view: View,
+    part: Part<'_>,
     pair: Pair<'_>,
     w: &mut W,
     said: &mut Vec<u8, A>,
@@ -50,12 +88,12 @@ pub(crate) fn view_over<A: Allocator + Copy, W: Write>(
     if view == View::Check {
         return check_over(alloc, pair, w);
     }
-    match file_in(alloc, pair, said) {
-        Ok(Some(file)) => match put_view(alloc, view, &file, w) {
-            Ok(()) => Ok(true),
-            Err(fault) => Err(fault),
-        },
-        Ok(None) => Ok(false),
-        Err(fault) => Err(fault),
+    let Some(file) = file_in(alloc, pair, said)? else {
+        return Ok(false);
+    };
+    if is_whole(part) {
+        put_view(alloc, view, &file, w)?;
+        return Ok(true);
     }
+    put_part(alloc, view, part, &file, w, said)
 }

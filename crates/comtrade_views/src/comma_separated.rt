@@ -2,12 +2,13 @@
 
 use crate::instant::put_instant;
 use crate::number::{Number, Scale, put_sample, put_value, scale_of};
-use crate::times::{since_trigger, times_of, trigger_nanos};
-use comtrade_cli::{ToolFault, fault_of, put, put_number, put_safe};
+use crate::times::times_since_trigger;
+use comtrade_cli::{ToolFault, fault_of, put, put_number, put_safe, put_with};
 use comtrade_format::{File, Head, Row};
 use csv::{Error, ErrorKind, Terminator, Writer, WriterBuilder};
 use dfr_channels::Reading;
 use std::alloc::{AllocError, Allocator};
+use std::collections::BTreeMap;
 use std::io::Write;
 
 /// Why a table can't be written.
@@ -47,20 +48,51 @@ fn put_name<A: Allocator, W: Write>(
     end_cell(table, cell)
 }
 
+/// A text of the file, after an apostrophe where a spreadsheet would read a formula.
+fn put_name_of<A: Allocator>(cell: &mut Vec<u8, A>, id: &[u8]) -> Result<(), AllocError> {
+    if let Some(b'=' | b'+' | b'-' | b'@') = id.first() {
+        put(cell, "'")?;
+    }
+    put_safe(cell, id)
+}
+
+/// ` (2)` after the second one of a name, and so on.
+fn put_repeat<A: Allocator>(cell: &mut Vec<u8, A>, before: u64) -> Result<(), AllocError> {
+    if before == 0 {
+        return Ok(());
+    }
+    put_with(cell, " (", before.saturating_add(1))?;
+    put(cell, ")")
+}
+
+/// Writes the name of a column, told apart from the same name before it.
+fn end_name<A: Allocator + Copy, W: Write>(
+    table: &mut Writer<&mut W>,
+    cell: &mut Vec<u8, A>,
+    seen: &mut BTreeMap<Vec<u8, A>, u64, A>,
+) -> Result<(), ToolFault> {
+    let name = Vec::from_slice(*cell.allocator(), cell.as_slice())?;
+    let count = seen.entry(name)?.or_insert(0);
+    let before = *count;
+    *count = before.saturating_add(1);
+    put_repeat(cell, before)?;
+    end_cell(table, cell)
+}
+
 /// An analogue channel's id and unit.
 fn put_channel<A: Allocator>(
     cell: &mut Vec<u8, A>,
     id: &[u8],
     unit: &[u8],
 ) -> Result<(), AllocError> {
-    put_safe(cell, id)?;
+    put_name_of(cell, id)?;
     put(cell, " [")?;
     put_safe(cell, unit)?;
     put(cell, "]")
 }
 
 /// The names of the columns.
-fn put_head<A: Allocator, W: Write>(
+fn put_head<A: Allocator + Copy, W: Write>(
     table: &mut Writer<&mut W>,
     cell: &mut Vec<u8, A>,
     head: &Head<A>,
@@ -68,27 +100,28 @@ fn put_head<A: Allocator, W: Write>(
     put_name(table, cell, "row")?;
     put_name(table, cell, "instant")?;
     put_name(table, cell, "ms since trigger")?;
+    let mut seen = BTreeMap::new(*cell.allocator());
     for channel in head.analog.items() {
         put_channel(cell, channel.id.items(), channel.unit.items())?;
-        end_cell(table, cell)?;
+        end_name(table, cell, &mut seen)?;
     }
     for channel in head.status.items() {
-        put_safe(cell, channel.id.items())?;
-        end_cell(table, cell)?;
+        put_name_of(cell, channel.id.items())?;
+        end_name(table, cell, &mut seen)?;
     }
     end_row(table)
 }
 
-/// The instant of a row, or nothing where nothing says it.
+/// The instant of a row, by the nanoseconds since the trigger, or nothing where nothing says it.
 fn put_time<A: Allocator>(
     cell: &mut Vec<u8, A>,
-    first: i64,
-    nanos: Option<i64>,
+    trigger: i64,
+    since: Option<i64>,
 ) -> Result<(), AllocError> {
-    match nanos {
+    match since {
         Some(nanos) => put_instant(
             cell,
-            first.saturating_add(nanos.saturating_add(500).div_euclid(1000)),
+            trigger as i128 + (nanos as i128 + 500).div_euclid(1000),
         ),
         None => Ok(()),
     }
@@ -146,7 +179,7 @@ fn scales_of<A: Allocator + Copy>(alloc: A, head: &Head<A>) -> Result<Vec<Scale,
 }
 
 /// The names, and the rows, written as they are made.
-fn put_table<A: Allocator, W: Write>(
+fn put_table<A: Allocator + Copy, W: Write>(
     table: &mut Writer<&mut W>,
     cell: &mut Vec<u8, A>,
     file: &File<A>,
@@ -154,13 +187,12 @@ fn put_table<A: Allocator, W: Write>(
     times: &[Option<i64>],
 ) -> Result<(), ToolFault> {
     put_head(table, cell, &file.head)?;
-    let trigger = trigger_nanos(file);
-    for (i, row) in file.rows.items().iter().enumerate() {
+    for (row, since) in file.rows.items().iter().zip(times) {
         put_number(cell, row.number)?;
         end_cell(table, cell)?;
-        put_time(cell, file.head.first, since_trigger(times, i, 0))?;
+        put_time(cell, file.head.trigger, *since)?;
         end_cell(table, cell)?;
-        put_since(cell, since_trigger(times, i, trigger))?;
+        put_since(cell, *since)?;
         end_cell(table, cell)?;
         put_row(table, cell, scales, row)?;
     }
@@ -191,6 +223,6 @@ pub fn csv_over<A: Allocator + Copy, W: Write>(
     w: &mut W,
 ) -> Result<(), ToolFault> {
     let scales = scales_of(alloc, &file.head)?;
-    let times = times_of(alloc, file)?;
+    let times = times_since_trigger(alloc, file)?;
     write_table(alloc, file, &scales, &times, w)
 }
