@@ -24,7 +24,7 @@ use std::fs::File;
 use std::io::{ErrorKind, IsTerminal};
 use std::process::ExitCode;
 use std::rt::{Env, Files};
-use std::{env, io};
+use std::{env, fs, io};
 
 /// The most bytes of a file that is read: 1 GiB.
 const LIMIT: usize = 1_073_741_824;
@@ -63,6 +63,14 @@ pub(crate) fn complain<R: Eprint + AllocGlobal>(rt: &R, name: &str, fault: ToolF
     1
 }
 
+/// Whether a name is that of a folder.
+pub(crate) fn is_folder<R: Files>(rt: &R, name: &str) -> bool {
+    match fs::metadata(rt, name) {
+        Ok(data) => data.is_dir(),
+        Err(_) => false,
+    }
+}
+
 /// All bytes of a file, or of standard input where it is named `-`.
 pub(crate) fn read_named<R: Files + Input + AllocGlobal>(
     rt: &R,
@@ -70,6 +78,9 @@ pub(crate) fn read_named<R: Files + Input + AllocGlobal>(
 ) -> Result<Vec<u8>, ToolFault> {
     if name == "-" {
         return read_up_to(rt.alloc(), &mut rt.reader(), LIMIT);
+    }
+    if is_folder(rt, name) {
+        return Err(ToolFault::Folder);
     }
     match File::open(rt, name) {
         Ok(mut file) => read_up_to(rt.alloc(), &mut file, LIMIT),
@@ -216,11 +227,36 @@ fn refuse_words<R: Eprint + AllocGlobal>(rt: &R, text: &str) -> u8 {
     }
 }
 
-/// The words after the program's name.
+/// Whether a word is a number below 0.
+fn is_negative(word: &str) -> bool {
+    match word.strip_prefix('-') {
+        Some(size) => size.starts_with(|c: char| c.is_ascii_digit() || c == '.'),
+        None => false,
+    }
+}
+
+/// Whether the value of this option may be below 0.
+fn takes_moment(word: &str) -> bool {
+    word == "--from" || word == "--to"
+}
+
+/// The words after the program's name. A number below 0 after an option that takes a moment is joined to it, since it would be taken for
+/// an option itself.
 fn words_of<R: Env + AllocGlobal>(rt: &R) -> io::Result<Vec<String>> {
-    let mut rest = Vec::new(rt.alloc());
+    let mut rest: Vec<String> = Vec::new(rt.alloc());
     for word in env::args(rt)?.skip(1) {
-        rest.push(word)?;
+        match rest.pop() {
+            Some(mut option) if takes_moment(option.as_str()) && is_negative(word.as_str()) => {
+                option.push_str("=")?;
+                option.push_str(word.as_str())?;
+                rest.push(option)?;
+            }
+            Some(before) => {
+                rest.push(before)?;
+                rest.push(word)?;
+            }
+            None => rest.push(word)?,
+        }
     }
     Ok(rest)
 }

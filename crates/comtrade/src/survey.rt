@@ -1,8 +1,7 @@
 //! The commands over many pairs.
 
-use crate::find::folder_of;
 use crate::view::file_in;
-use crate::{Inputs, complain, pair_of, print_bytes, read_inputs, say};
+use crate::{Inputs, complain, is_folder, pair_of, print_bytes, read_inputs, say};
 use comtrade_cli::{Names, Survey, Surveyed, ToolFault, fault_of};
 use comtrade_views::{
     Event, Summary, add_events, fault_summary, put_events, put_summaries, sort_events,
@@ -54,14 +53,6 @@ fn path_in<R: AllocGlobal>(rt: &R, folder: &str, file: &str) -> Result<String, A
     Ok(path)
 }
 
-/// Whether a name is that of a folder.
-fn is_folder<R: Files>(rt: &R, name: &str) -> bool {
-    match fs::metadata(rt, name) {
-        Ok(data) => data.is_dir(),
-        Err(_) => false,
-    }
-}
-
 /// The pairs that names mean: of a folder those in it.
 fn pairs_of<R: Files + Eprint + AllocGlobal + Clone + Drop>(
     rt: &R,
@@ -98,11 +89,6 @@ struct Found {
     is_sound: bool,
 }
 
-/// The name of a pair without its folder.
-fn short(name: &str) -> &str {
-    folder_of(name).1
-}
-
 /// Adds one pair that was read.
 fn add_pair<R: AllocGlobal + Eprint>(
     rt: &R,
@@ -120,7 +106,7 @@ fn add_pair<R: AllocGlobal + Eprint>(
                 .push(summary_of(alloc, &file, name.as_bytes())?)?,
             Survey::Events => {
                 let place = found.names.len();
-                found.names.push(String::from_str(alloc, short(name))?)?;
+                found.names.push(String::from_str(alloc, name)?)?;
                 add_events(alloc, &mut found.events, &file, place)?;
             }
         },
@@ -165,10 +151,12 @@ fn text_of<R: AllocGlobal>(
 ) -> Result<Vec<u8>, ToolFault> {
     let mut out = Vec::new(rt.alloc());
     match survey {
+        Survey::List if found.records.is_empty() => {}
         Survey::List => {
             sort_summaries(&mut found.records)?;
             put_summaries(rt.alloc(), &mut out, &found.records)?;
         }
+        Survey::Events if found.names.is_empty() => {}
         Survey::Events => {
             sort_events(&mut found.events)?;
             put_events(rt.alloc(), &mut out, &found.events, &found.names)?;

@@ -5,7 +5,7 @@ use comtrade_diagnostics::{Pair, check_over, put_fault};
 use comtrade_format::File;
 use comtrade_part::{PartFault, is_whole, part_of};
 use comtrade_read::{Fault, ReadFault, read};
-use comtrade_views::{csv_over, plot_over, show_over};
+use comtrade_views::{csv_over, plot_over, show_over, times_since_trigger};
 use std::alloc::Allocator;
 use std::io::Write;
 
@@ -25,17 +25,18 @@ pub(crate) fn file_in<A: Allocator + Copy>(
     }
 }
 
-/// Prints what is asked of a file.
+/// Prints what is asked of a file, whose rows were taken at these times, in nanoseconds since the trigger.
 fn put_view<A: Allocator + Copy, W: Write>(
     alloc: A,
     view: View,
     file: &File<A>,
+    times: &[Option<i64>],
     w: &mut W,
 ) -> Result<(), ToolFault> {
     match view {
-        View::Csv => csv_over(alloc, file, w),
+        View::Csv => csv_over(alloc, file, times, w),
         View::Plot => plot_over(alloc, file, w),
-        _ => show_over(alloc, file, w),
+        _ => show_over(alloc, file, times, w),
     }
 }
 
@@ -60,12 +61,17 @@ fn put_part<A: Allocator + Copy, W: Write>(
     view: View,
     part: Part<'_>,
     file: &File<A>,
+    times: &[Option<i64>],
     w: &mut W,
     said: &mut Vec<u8, A>,
 ) -> Result<bool, ToolFault> {
     match part_of(alloc, file, part) {
         Ok(cut) => {
-            put_view(alloc, view, &cut, w)?;
+            let times = match times.get(cut.from..cut.to) {
+                Some(times) => times,
+                None => &[],
+            };
+            put_view(alloc, view, &cut.file, times, w)?;
             Ok(true)
         }
         Err(fault) => {
@@ -91,9 +97,10 @@ pub(crate) fn view_over<A: Allocator + Copy, W: Write>(
     let Some(file) = file_in(alloc, pair, said)? else {
         return Ok(false);
     };
+    let times = times_since_trigger(alloc, &file)?;
     if is_whole(part) {
-        put_view(alloc, view, &file, w)?;
+        put_view(alloc, view, &file, &times, w)?;
         return Ok(true);
     }
-    put_part(alloc, view, part, &file, w, said)
+    put_part(alloc, view, part, &file, &times, w, said)
 }

@@ -112,12 +112,12 @@ fn refuse_part<R: Eprint + AllocGlobal>(rt: &R, fault: PartFault<'_>) -> u8 {
 
 /// Writes a part of a record, with data of this kind: what is written reads back to it.
 fn write_part<R: Files + Eprint + AllocGlobal>(rt: &R, asked: Converted<'_>, file: &Record) -> u8 {
-    let mut part = match part_of(rt.alloc(), file, asked.part) {
-        Ok(part) => part,
+    let mut cut = match part_of(rt.alloc(), file, asked.part) {
+        Ok(cut) => cut,
         Err(fault) => return refuse_part(rt, fault),
     };
-    part.head.kind = asked.kind;
-    match written_of(rt.alloc(), &part) {
+    cut.file.head.kind = asked.kind;
+    match written_of(rt.alloc(), &cut.file) {
         Ok(made) => write_named(rt, asked.name, &made.cfg, &made.dat),
         Err(WriteFault::Memory) => out_of_memory(rt),
         Err(fault) => {

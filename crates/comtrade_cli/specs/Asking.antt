@@ -74,6 +74,7 @@ pub record IsViewed (rows : List Row) (v : Viewed) : Type 0 where
 -- the last of two or three names is the new pair's, the second of three the data file's
 pub record IsConverted (rows : List Row) (made : Converted) : Type 0 where
   pub file : first_of (codes "FILE") rows ≡ Some made.names.file.now
+  pub second : is_some (first_of (codes "NAME") rows) ≡ true
   pub dat : option_map (λ s. s.now) made.names.dat
       ≡ (if is_some (first_of (codes "LAST") rows) then first_of (codes "NAME") rows else None)
   pub name : (if is_some (first_of (codes "LAST") rows) then first_of (codes "LAST") rows else first_of (codes "NAME") rows)

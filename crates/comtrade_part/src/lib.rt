@@ -11,5 +11,5 @@ mod side;
 mod written;
 
 pub use fault::PartFault;
-pub use part::{is_whole, part_of};
+pub use part::{Cut, is_whole, part_of};
 pub use written::written_of;

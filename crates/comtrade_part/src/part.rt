@@ -8,7 +8,7 @@ use crate::side::turn;
 use comtrade_cli::Part;
 use comtrade_format::File;
 use dfr_channels::{AnalogChannel, Items, Side};
-use std::alloc::Allocator;
+use std::alloc::{Allocator, Global};
 
 /// Whether the whole record is meant, as it is.
 pub fn is_whole(part: Part<'_>) -> bool {
@@ -56,13 +56,23 @@ fn on_side<'a, A: Allocator>(file: File<A>, side: Option<Side>) -> Result<File<A
     }
 }
 
+/// A part of a record, as a record of its own.
+#[derive(Debug, Drop)]
+pub struct Cut<A: Allocator = Global> {
+    pub file: File<A>,
+    /// Its first row's index, from 0, in the whole record.
+    pub from: usize,
+    /// The index after its last row's.
+    pub to: usize,
+}
+
 /// The part of a record that is meant: rows from one moment to another, numbered from 1, with their instants; channels by their names;
 /// values of one side of the transformers. Refused by the first of what is wrong: both sides, the moments, the names, no channel, a ratio.
 pub fn part_of<'a, A: Allocator + Copy>(
     alloc: A,
     file: &File<A>,
     part: Part<'a>,
-) -> Result<File<A>, PartFault<'a>> {
+) -> Result<Cut<A>, PartFault<'a>> {
     let side = side_of(part)?;
     let rows = rows_between(file, part.from, part.to)?;
     let kept = match file.rows.items().get(rows.from..rows.to) {
@@ -73,5 +83,10 @@ pub fn part_of<'a, A: Allocator + Copy>(
     if channels.analog.is_empty() && channels.status.is_empty() {
         return Err(PartFault::Empty);
     }
-    on_side(cut_of(alloc, file, rows, &channels)?, side)
+    let file = on_side(cut_of(alloc, file, rows, &channels)?, side)?;
+    Ok(Cut {
+        file,
+        from: rows.from,
+        to: rows.to,
+    })
 }

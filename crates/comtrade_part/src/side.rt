@@ -4,7 +4,7 @@ use dfr_channels::{AnalogChannel, Decimal, Side};
 use std::alloc::Allocator;
 
 /// How many digits a quotient has at most.
-const DIGITS: i128 = 1_000_000_000_000_000_000;
+const DIGITS: i128 = 1_000_000_000_000_000;
 
 /// A number as units / 10^places.
 #[derive(Clone, Copy)]
@@ -13,7 +13,7 @@ struct Number {
     places: i32,
 }
 
-/// A number of at most 18 digits.
+/// A number of at most 15 digits.
 fn short(units: i128, places: i32) -> Number {
     let mut number = Number { units, places };
     for _ in 0..40 {
@@ -32,7 +32,7 @@ fn number_of(decimal: Decimal) -> Number {
     short(decimal.units(), decimal.places() as i32)
 }
 
-/// x * y / z; none where z is 0. It is exact where its quotient has at most 18 digits, else cut there.
+/// x * y / z; none where z is 0. It is exact where its quotient has at most 15 digits, else cut there.
 fn ratio_of(x: Number, y: Number, z: Number) -> Option<Number> {
     if z.units == 0 {
         return None;

@@ -2,7 +2,6 @@
 
 use crate::instant::put_instant;
 use crate::number::{Number, Scale, put_sample, put_value, scale_of};
-use crate::times::times_since_trigger;
 use comtrade_cli::{ToolFault, fault_of, put, put_number, put_safe, put_with};
 use comtrade_format::{File, Head, Row};
 use csv::{Error, ErrorKind, Terminator, Writer, WriterBuilder};
@@ -216,13 +215,14 @@ fn write_table<A: Allocator + Copy, W: Write>(
     put_table(&mut table, &mut cell, file, scales, times)
 }
 
-/// Prints the rows of a file: number, instant, milliseconds since the trigger, values a*x + b, bits.
+/// Prints the rows of a file: number, instant, milliseconds since the trigger, values a*x + b, bits. The rows were taken at these times, in
+/// nanoseconds since the trigger.
 pub fn csv_over<A: Allocator + Copy, W: Write>(
     alloc: A,
     file: &File<A>,
+    times: &[Option<i64>],
     w: &mut W,
 ) -> Result<(), ToolFault> {
     let scales = scales_of(alloc, &file.head)?;
-    let times = times_since_trigger(alloc, file)?;
-    write_table(alloc, file, &scales, &times, w)
+    write_table(alloc, file, &scales, times, w)
 }

@@ -25,3 +25,4 @@ pub use events::{Event, add_events, put_events, sort_events};
 pub use plot::plot_over;
 pub use show::show_over;
 pub use summary::{Summary, fault_summary, put_summaries, sort_summaries, summary_of};
+pub use times::times_since_trigger;

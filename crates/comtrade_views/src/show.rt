@@ -5,7 +5,7 @@ use crate::number::put_decimal;
 use crate::peaks::{peaks_of, reading_at};
 use crate::show_analog::put_analog;
 use crate::show_status::{LISTED, put_more, put_status};
-use crate::times::{times_since_trigger, trigger_since_first};
+use crate::times::trigger_since_first;
 use comtrade_cli::{ToolFault, kind_name, put, put_count, put_safe, put_with, write_out};
 use comtrade_format::{File, Head, Rate, Row};
 use dfr_channels::Reading;
@@ -180,15 +180,15 @@ fn put_gaps<A: Allocator>(
     Ok(())
 }
 
-/// Prints what is in a file.
+/// Prints what is in a file, whose rows were taken at these times, in nanoseconds since the trigger.
 pub fn show_over<A: Allocator + Copy, W: Write>(
     alloc: A,
     file: &File<A>,
+    times: &[Option<i64>],
     w: &mut W,
 ) -> Result<(), ToolFault> {
-    let times = times_since_trigger(alloc, file)?;
     let clock = Clock {
-        times: &times,
+        times,
         trigger: trigger_since_first(file),
     };
     let mut out = Vec::new(alloc);

@@ -45,7 +45,7 @@ pub(crate) fn since_trigger(times: &[Option<i64>], row: usize, trigger: i64) -> 
 }
 
 /// When each row was taken, in nanoseconds since the trigger; none where nothing says it, and beyond 292 years.
-pub(crate) fn times_since_trigger<A: Allocator + Copy>(
+pub fn times_since_trigger<A: Allocator + Copy>(
     alloc: A,
     file: &File<A>,
 ) -> Result<Vec<Option<i64>, A>, ToolFault> {
