@@ -2,7 +2,7 @@
 
 use crate::{out_of_memory, say};
 use comtrade_cli::{Names, put_safe};
-use std::alloc::AllocError;
+use std::alloc::{AllocError, Global};
 use std::fs;
 use std::rt::Files;
 
@@ -116,7 +116,7 @@ fn found_in<R: Files + AllocGlobal + Clone + Drop>(
     }
 }
 
-fn joined(alloc: std::alloc::Global, folder: &str, file: &str) -> Result<String, AllocError> {
+fn joined(alloc: Global, folder: &str, file: &str) -> Result<String, AllocError> {
     let mut path = String::from_str(alloc, folder)?;
     path.push_str(file)?;
     Ok(path)
@@ -192,7 +192,7 @@ pub(crate) fn pairing_of<R: Files + Eprint + AllocGlobal + Clone + Drop>(
     }
 }
 
-fn pairing(alloc: std::alloc::Global, cfg: &str, dat: &str) -> Result<Option<Pairing>, AllocError> {
+fn pairing(alloc: Global, cfg: &str, dat: &str) -> Result<Option<Pairing>, AllocError> {
     let cfg = String::from_str(alloc, cfg)?;
     let dat = String::from_str(alloc, dat)?;
     Ok(Some(Pairing { cfg, dat }))

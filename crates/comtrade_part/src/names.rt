@@ -21,7 +21,7 @@ fn fits(name: &[u8], text: &[u8]) -> bool {
         if left == text.len() {
             break;
         }
-        if name.get(at) == Some(&b'*') {
+        if is_same(name.get(at), Some(&b'*')) {
             star = Some((at, left));
             at = at.saturating_add(1);
         } else if is_same(name.get(at), text.get(left)) {

@@ -9,6 +9,7 @@ use comtrade_cli::Part;
 use comtrade_format::File;
 use dfr_channels::{AnalogChannel, Items, Side};
 use std::alloc::{Allocator, Global};
+use std::mem;
 
 /// Whether the whole record is meant, as it is.
 pub fn is_whole(part: Part<'_>) -> bool {
@@ -42,12 +43,16 @@ fn turn_all<A: Allocator>(channels: &mut [AnalogChannel<A>], side: Side) -> Resu
 }
 
 /// The file with all values on the side that is asked for.
-fn on_side<'a, A: Allocator>(file: File<A>, side: Option<Side>) -> Result<File<A>, PartFault<'a>> {
+fn on_side<'a, A: Allocator>(
+    alloc: A,
+    file: File<A>,
+    side: Option<Side>,
+) -> Result<File<A>, PartFault<'a>> {
     let Some(side) = side else {
         return Ok(file);
     };
     let File { mut head, rows } = file;
-    let mut analog = head.analog.into_vec();
+    let mut analog = mem::replace(&mut head.analog, Items::of(Vec::new(alloc))).into_vec();
     let turned = turn_all(&mut analog, side);
     head.analog = Items::of(analog);
     match turned {
@@ -83,7 +88,7 @@ pub fn part_of<'a, A: Allocator + Copy>(
     if channels.analog.is_empty() && channels.status.is_empty() {
         return Err(PartFault::Empty);
     }
-    let file = on_side(cut_of(alloc, file, rows, &channels)?, side)?;
+    let file = on_side(alloc, cut_of(alloc, file, rows, &channels)?, side)?;
     Ok(Cut {
         file,
         from: rows.from,

@@ -3,36 +3,46 @@
 use dfr_channels::{AnalogChannel, Decimal, Side};
 use std::alloc::Allocator;
 
-/// How many digits a quotient has at most.
-const DIGITS: i128 = 1_000_000_000_000_000;
+/// A number of a channel has fewer units than this.
+const DIGITS: u128 = 1_000_000_000_000_000;
 
-/// A number as units / 10^places.
+/// A dividend is made no longer than this.
+const LONGEST: u128 = 10_000_000_000_000_000_000_000_000_000_000_000_000;
+
+/// A number as units / 10^places, and whether it is below 0.
 #[derive(Clone, Copy)]
 struct Number {
-    units: i128,
+    is_negative: bool,
+    units: u128,
     places: i32,
 }
 
-/// A number of at most 15 digits.
-fn short(units: i128, places: i32) -> Number {
-    let mut number = Number { units, places };
+/// The number with at most 15 digits: those after them are left out.
+fn short(number: Number) -> Number {
+    let mut short = number;
     for _ in 0..40 {
-        if -DIGITS < number.units && number.units < DIGITS {
+        if short.units < DIGITS {
             break;
         }
-        number = Number {
-            units: number.units / 10,
-            places: number.places.saturating_sub(1),
+        short = Number {
+            is_negative: short.is_negative,
+            units: short.units / 10,
+            places: short.places.saturating_sub(1),
         };
     }
-    number
+    short
 }
 
 fn number_of(decimal: Decimal) -> Number {
-    short(decimal.units(), decimal.places() as i32)
+    let units = decimal.units();
+    short(Number {
+        is_negative: units < 0,
+        units: units.unsigned_abs(),
+        places: decimal.places() as i32,
+    })
 }
 
-/// x * y / z; none where z is 0. It is exact where its quotient has at most 15 digits, else cut there.
+/// x * y / z; none where z is 0. It is exact where its quotient has at most 15 digits, else those after them are left out.
 fn ratio_of(x: Number, y: Number, z: Number) -> Option<Number> {
     if z.units == 0 {
         return None;
@@ -40,13 +50,17 @@ fn ratio_of(x: Number, y: Number, z: Number) -> Option<Number> {
     let mut units = x.units.saturating_mul(y.units);
     let mut places = x.places.saturating_add(y.places).saturating_sub(z.places);
     for _ in 0..40 {
-        if units % z.units == 0 || i128::MAX / 20 < units.abs_diff(0) as i128 {
+        if units % z.units == 0 || LONGEST < units {
             break;
         }
         units = units.saturating_mul(10);
         places = places.saturating_add(1);
     }
-    Some(short(units / z.units, places))
+    Some(short(Number {
+        is_negative: (x.is_negative != y.is_negative) != z.is_negative,
+        units: units / z.units,
+        places,
+    }))
 }
 
 /// The decimal, where it has few enough digits and places.
@@ -57,11 +71,18 @@ fn decimal_of(number: Number) -> Option<Decimal> {
             break;
         }
         number = Number {
+            is_negative: number.is_negative,
             units: number.units.saturating_mul(10),
             places: number.places.saturating_add(1),
         };
     }
-    Decimal::new(number.units, u8::try_from(number.places).ok()?)
+    let size = i128::try_from(number.units).ok()?;
+    let units = if number.is_negative {
+        0i128.saturating_sub(size)
+    } else {
+        size
+    };
+    Decimal::new(units, u8::try_from(number.places).ok()?)
 }
 
 /// A number of a channel on the other side.

@@ -118,10 +118,10 @@ fn put_time<A: Allocator>(
     since: Option<i64>,
 ) -> Result<(), AllocError> {
     match since {
-        Some(nanos) => put_instant(
-            cell,
-            trigger as i128 + (nanos as i128 + 500).div_euclid(1000),
-        ),
+        Some(nanos) => {
+            let micros = (nanos as i128).saturating_add(500).div_euclid(1000);
+            put_instant(cell, (trigger as i128).saturating_add(micros))
+        }
         None => Ok(()),
     }
 }

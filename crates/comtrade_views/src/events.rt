@@ -3,7 +3,7 @@
 use crate::instant::{put_instant, put_millis};
 use crate::peaks::{bit_at, reading_at};
 use crate::table::{end_cell, end_row, put_cell, put_table};
-use crate::times::{times_since_trigger, trigger_since_first};
+use crate::times::times_since_trigger;
 use comtrade_cli::{ToolFault, put, put_count, put_safe, put_with};
 use comtrade_format::{File, Row};
 use dfr_channels::Reading;
@@ -178,7 +178,7 @@ pub fn add_events<A: Allocator + Copy>(
     let times = times_since_trigger(alloc, file)?;
     let source = Source {
         record,
-        trigger: trigger_since_first(file) + file.head.first as i128 * 1000,
+        trigger: file.head.trigger as i128 * 1000,
         times: &times,
     };
     add_trigger(alloc, events, source, file)?;

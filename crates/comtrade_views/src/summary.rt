@@ -114,7 +114,7 @@ fn put_length<A: Allocator + Copy>(
 ) -> Result<(), ToolFault> {
     let times = times_of(alloc, file)?;
     if let (Some(Some(first)), Some(Some(last))) = (times.first(), times.last()) {
-        put_millis(text, *last as i128 - *first as i128)?;
+        put_millis(text, (*last as i128).saturating_sub(*first as i128))?;
     }
     end_cell(text)?;
     Ok(())

@@ -53,7 +53,7 @@ pub fn times_since_trigger<A: Allocator + Copy>(
     let mut times = times_of(alloc, file)?;
     for time in times.iter_mut() {
         *time = match time {
-            Some(nanos) => i64::try_from(*nanos as i128 - trigger).ok(),
+            Some(nanos) => i64::try_from((*nanos as i128).saturating_sub(trigger)).ok(),
             None => None,
         };
     }
