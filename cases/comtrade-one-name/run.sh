@@ -17,7 +17,6 @@ checked "$folder/b"
 checked "$folder/b.CFG"
 checked "$folder/B.Dat"
 checked "$folder/c.d"
-checked "$folder/a.cfg" "$folder/b.CFG"
 (cd "$folder" && "$comtrade" check a && "$comtrade" check ./a.dat)
 for name in alone none a.txt; do
     "$comtrade" check "$folder/$name" 2>&1 | sed "s|$folder/|FOLDER/|g"

@@ -9,6 +9,10 @@ example=../examples/earth-fault/rec1
 "$comtrade" csv --from 2024-07-01T10:30:00.5503 --channels ua $example | tr -d '\r'
 "$comtrade" show --from 119 --to 124 --changed $example | tail -n 5
 "$comtrade" csv --to "row 1" --channels IA --secondary $example | tr -d '\r'
+"$comtrade" csv --separator ';' --decimal , --from 0 --to 0.3 --channels UA $example | tr -d '\r'
+"$comtrade" csv --separator tab --to "row 1" --channels 1 --from "row 1" $example | tr -d '\r' | tr '\t' '|'
+"$comtrade" csv --separator , --decimal , $example
+echo "status $?"
 # a part written as a record of its own says the same rows at the same instants, and reads back
 "$comtrade" convert --kind binary --from 0 --to 20 --channels 'I*,B*,Earth*,Trip' $example "$folder/part"
 "$comtrade" check "$folder/part" | sed "s|$folder/||g"

@@ -14,8 +14,8 @@ use crate::survey::run_survey;
 use crate::view::view_over;
 use crate::write::run_convert;
 use comtrade_cli::{
-    Answer, Asked, Names, Part, ToolFault, View, Viewed, answer_of, fault_of, put, put_safe,
-    read_up_to, write_out,
+    Answer, Asked, Names, ToolFault, View, Viewed, answer_of, fault_of, put, put_safe, read_up_to,
+    write_out,
 };
 use comtrade_diagnostics::Pair;
 use comtrade_read::verdict_of;
@@ -100,11 +100,18 @@ pub(crate) fn print_bytes<R: Print + Eprint + AllocGlobal>(rt: &R, bytes: &[u8])
 fn print_view<R: Print + Eprint + AllocGlobal>(
     rt: &R,
     view: View,
-    part: Part<'_>,
+    viewed: Viewed<'_>,
     pair: Pair<'_>,
 ) -> u8 {
     let mut said = Vec::new(rt.alloc());
-    match view_over(rt.alloc(), view, part, pair, &mut io::writer(rt), &mut said) {
+    match view_over(
+        rt.alloc(),
+        view,
+        viewed,
+        pair,
+        &mut io::writer(rt),
+        &mut said,
+    ) {
         Ok(true) => 0,
         Ok(false) => {
             say(rt, &said);
@@ -187,7 +194,7 @@ fn run_view<R: Files + Input + Print + Eprint + AllocGlobal + Clone + Drop>(
     match read_inputs(rt, viewed.names) {
         Some(inputs) => {
             note_size(rt, is_watched, &inputs);
-            print_view(rt, view, viewed.part, pair_of(&inputs))
+            print_view(rt, view, viewed, pair_of(&inputs))
         }
         None => 1,
     }
@@ -202,7 +209,7 @@ fn run<R: Files + Input + Print + Eprint + AllocGlobal + Clone + Drop>(
         Asked::View(view, viewed) => run_view(rt, is_watched, view, viewed),
         Asked::Convert(made) => run_convert(rt, is_watched, made),
         Asked::Extract(folder) => run_extract(rt, folder),
-        Asked::Survey(survey, surveyed) => run_survey(rt, survey, &surveyed),
+        Asked::Survey(survey, names) => run_survey(rt, survey, &names),
     }
 }
 

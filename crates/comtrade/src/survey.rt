@@ -2,7 +2,7 @@
 
 use crate::view::file_in;
 use crate::{Inputs, complain, is_folder, pair_of, print_bytes, read_inputs, say};
-use comtrade_cli::{Names, Survey, Surveyed, ToolFault, fault_of};
+use comtrade_cli::{Names, Survey, ToolFault, fault_of};
 use comtrade_views::{
     Event, Summary, add_events, fault_summary, put_events, put_summaries, sort_events,
     sort_summaries, summary_of,
@@ -185,9 +185,9 @@ fn survey_pairs<R: Files + Input + Eprint + AllocGlobal + Clone + Drop>(
 pub(crate) fn run_survey<R: Files + Input + Print + Eprint + AllocGlobal + Clone + Drop>(
     rt: &R,
     survey: Survey,
-    surveyed: &Surveyed<'_>,
+    names: &[&str],
 ) -> u8 {
-    let Ok(pairs) = pairs_of(rt, &surveyed.names) else {
+    let Ok(pairs) = pairs_of(rt, names) else {
         return 1;
     };
     match survey_pairs(rt, survey, &pairs) {

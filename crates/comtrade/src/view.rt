@@ -1,13 +1,17 @@
 //! What is said of a pair of files.
 
-use comtrade_cli::{Part, ToolFault, View, put, put_safe};
+use comtrade_cli::{Part, ToolFault, View, Viewed, put, put_safe};
 use comtrade_diagnostics::{Pair, check_over, put_fault};
 use comtrade_format::File;
 use comtrade_part::{PartFault, is_whole, part_of};
 use comtrade_read::{Fault, ReadFault, read};
-use comtrade_views::{csv_over, plot_over, show_over, times_since_trigger};
+use comtrade_views::{Spelling, csv_over, plot_over, show_over, times_since_trigger};
 use std::alloc::Allocator;
 use std::io::Write;
+
+const NO_SPELLING: &str = "\
+comtrade: a separator is tab or one sign that isn't a letter, a digit, a minus or a quotation mark; a decimal sign is . or , and not the \
+separator\n";
 
 /// The file that a pair reads to; None where it has a fault, whose line is put to `said`.
 pub(crate) fn file_in<A: Allocator + Copy>(
@@ -29,12 +33,13 @@ pub(crate) fn file_in<A: Allocator + Copy>(
 fn put_view<A: Allocator + Copy, W: Write>(
     alloc: A,
     view: View,
+    spelling: Spelling,
     file: &File<A>,
     times: &[Option<i64>],
     w: &mut W,
 ) -> Result<(), ToolFault> {
     match view {
-        View::Csv => csv_over(alloc, file, times, w),
+        View::Csv => csv_over(alloc, file, times, spelling, w),
         View::Plot => plot_over(alloc, file, w),
         _ => show_over(alloc, file, times, w),
     }
@@ -59,6 +64,7 @@ pub(crate) fn put_part_fault<A: Allocator + Copy>(
 fn put_part<A: Allocator + Copy, W: Write>(
     alloc: A,
     view: View,
+    spelling: Spelling,
     part: Part<'_>,
     file: &File<A>,
     times: &[Option<i64>],
@@ -71,7 +77,7 @@ fn put_part<A: Allocator + Copy, W: Write>(
                 Some(times) => times,
                 None => &[],
             };
-            put_view(alloc, view, &cut.file, times, w)?;
+            put_view(alloc, view, spelling, &cut.file, times, w)?;
             Ok(true)
         }
         Err(fault) => {
@@ -86,7 +92,7 @@ fn put_part<A: Allocator + Copy, W: Write>(
 pub(crate) fn view_over<A: Allocator + Copy, W: Write>(
     alloc: A,
     view: View,
-    part: Part<'_>,
+    viewed: Viewed<'_>,
     pair: Pair<'_>,
     w: &mut W,
     said: &mut Vec<u8, A>,
@@ -94,13 +100,17 @@ pub(crate) fn view_over<A: Allocator + Copy, W: Write>(
     if view == View::Check {
         return check_over(alloc, pair, w);
     }
+    let Some(spelling) = Spelling::of(viewed.form.separator, viewed.form.decimal) else {
+        put(said, NO_SPELLING)?;
+        return Ok(false);
+    };
     let Some(file) = file_in(alloc, pair, said)? else {
         return Ok(false);
     };
     let times = times_since_trigger(alloc, &file)?;
-    if is_whole(part) {
-        put_view(alloc, view, &file, &times, w)?;
+    if is_whole(viewed.part) {
+        put_view(alloc, view, spelling, &file, &times, w)?;
         return Ok(true);
     }
-    put_part(alloc, view, part, &file, &times, w, said)
+    put_part(alloc, view, spelling, viewed.part, &file, &times, w, said)
 }

@@ -14,7 +14,6 @@ use Rattle.comtrade_cli.specs.declared.words.Viewed.{Viewed}
 use Rattle.comtrade_cli.specs.declared.words.Converted.{Converted}
 use Rattle.comtrade_cli.specs.declared.words.Survey.{Survey}
 use Rattle.comtrade_cli.specs.declared.words.Survey.TheVariants as survey
-use Rattle.comtrade_cli.specs.declared.words.Surveyed.{Surveyed}
 use Rattle.comtrade_cli.specs.declared.words.Asked.{Asked}
 use Rattle.comtrade_cli.specs.declared.words.Asked.TheVariants as asks
 use Rattle.comtrade_cli.specs.declared.asked.Answer.{Answer}
@@ -48,13 +47,10 @@ pub record ArePart (rows : List Row) (part : Part) : Type 0 where
   pub primary : IsFlag rows (codes "primary") part.primary
   pub secondary : IsFlag rows (codes "secondary") part.secondary
 
--- how texts and numbers are printed
+-- how a table of values is written
 pub record AreForm (rows : List Row) (form : Form) : Type 0 where
   pub separator : IsOption rows (codes "separator") form.separator
   pub decimal : IsOption rows (codes "decimal") form.decimal
-  pub encoding : IsOption rows (codes "encoding") form.encoding
-  pub json : IsFlag rows (codes "json") form.json
-  pub csv : IsFlag rows (codes "csv") form.csv
 
 abbrev pub view_name : View → Text
 view_name view.Show = codes "show"
@@ -83,16 +79,16 @@ pub record IsConverted (rows : List Row) (made : Converted) : Type 0 where
   pub data_kind : (made.kind ≡ kind.Binary) ↔ (first_of (codes "KIND") rows ≡ Some (codes "binary"))
   pub part : ArePart rows made.part
 
-pub record IsSurveyed (rows : List Row) (s : Surveyed) : Type 0 where
-  pub names : map (λ s. s.now) s.names.items ≡ unwrap_or (all_of (codes "NAMES") rows) []
-  pub form : AreForm rows s.form
+-- the names that were given, in their order
+abbrev pub AreAll : List Row → List Text → Type 0
+AreAll rows names = names ≡ unwrap_or (all_of (codes "NAMES") rows) []
 
 -- what a command asks for, by the words that were given for its arguments
 abbrev pub Asks : List Row → Text → Asked → Type 0
 Asks rows verb (asks.View v viewed) = (view_name v ≡ verb) × IsViewed rows viewed
 Asks rows verb (asks.Convert made) = (codes "convert" ≡ verb) × IsConverted rows made
 Asks rows verb (asks.Extract folder) = (codes "extract" ≡ verb) × (first_of (codes "DIR") rows ≡ Some folder.now)
-Asks rows verb (asks.Survey s surveyed) = (survey_name s ≡ verb) × IsSurveyed rows surveyed
+Asks rows verb (asks.Survey s names) = (survey_name s ≡ verb) × AreAll rows (map (λ s. s.now) names.items)
 
 -- the same, of a command that a parse met
 abbrev pub AsksAs : Option (Text × List Row) → Asked → Type 0

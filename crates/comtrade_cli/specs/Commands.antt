@@ -72,13 +72,13 @@ extract = with_rule (new_app (codes "extract")) (word (codes "DIR"))
 
 -- a command over folders and files
 abbrev pub over_names : Text → App
-over_names name = with_rule (with_rule (new_app name) (words (codes "NAMES"))) (flag (codes "json"))
+over_names name = with_rule (new_app name) (words (codes "NAMES"))
 
 abbrev pub list : App
 list = over_names (codes "list")
 
 abbrev pub events : App
-events = with_rule (over_names (codes "events")) (flag (codes "csv"))
+events = over_names (codes "events")
 
 abbrev pub top : App
 top = on_top (λ s. record s {

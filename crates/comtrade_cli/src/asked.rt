@@ -7,7 +7,7 @@ ghost use Rattle.comtrade_cli.specs.Asking as Spec;
 
 use crate::commands::comtrade;
 use crate::matched::{form_of, kind_of, named, names_of, part_of, text_of, texts_of};
-use crate::words::{Asked, Converted, Survey, Surveyed, View, Viewed};
+use crate::words::{Asked, Converted, Survey, View, Viewed};
 use clap::error::ErrorKind;
 use clap::{ArgMatches, Error};
 use std::alloc::{AllocError, Global};
@@ -117,7 +117,7 @@ fn extract_of<'a>(found: &ArgMatches<'a>) -> Option<Asked<'a>>
     }
 }
 
-/// Folders and files, and how what is found is printed.
+/// Folders and files.
 fn surveyed_of<'a>(
     alloc: Global,
     survey: Survey,
@@ -126,13 +126,7 @@ fn surveyed_of<'a>(
     ensures { IfOk result (Asks (rows_of (found_of found.now)) (Spec.survey_name survey)) }
 {
     let names = texts_of(alloc, found, "NAMES")?;
-    Ok(Asked::Survey(
-        survey,
-        Surveyed {
-            names,
-            form: form_of(found),
-        },
-    ))
+    Ok(Asked::Survey(survey, names))
 }
 
 /// What a command's matches ask for.

@@ -6,7 +6,7 @@ ghost use Rattle.clap.specs.Words.{App};
 ghost use Rattle.comtrade_cli.specs.Commands.{IsCommand, IsKinded};
 ghost use Rattle.comtrade_cli.specs.Commands as Spec;
 
-use crate::options::{flag, free_word, with_part, with_table, word, words};
+use crate::options::{free_word, with_part, with_table, word, words};
 use clap::Command;
 use std::alloc::{AllocError, Global};
 
@@ -118,8 +118,7 @@ fn over_names<'a>(alloc: Global, name: &'a str, about: &'a str) -> Result<Comman
     Command::new(alloc, name)
         .about(about)
         .after_help(SURVEY_STATUS)
-        .arg(words(alloc, "NAMES", "Folders with pairs, and pairs"))?
-        .arg(flag(alloc, "json", "One object of JSON"))
+        .arg(words(alloc, "NAMES", "Folders with pairs, and pairs"))
 }
 
 fn list<'a>(alloc: Global) -> Result<Command<'a>, AllocError>
@@ -135,8 +134,11 @@ fn list<'a>(alloc: Global) -> Result<Command<'a>, AllocError>
 fn events<'a>(alloc: Global) -> Result<Command<'a>, AllocError>
     ensures { IfOk result (IsCommand Spec.events) }
 {
-    let about = "Prints the triggers, gaps and changes of contacts of one record or more, by time";
-    over_names(alloc, "events", about)?.arg(flag(alloc, "csv", "Comma-separated values"))
+    over_names(
+        alloc,
+        "events",
+        "Prints the triggers, gaps and changes of contacts of one record or more, by time",
+    )
 }
 
 /// The commands that print what is in a pair.

@@ -80,16 +80,13 @@ pub(crate) fn part_of<'a>(found: &ArgMatches<'a>) -> Part<'a>
     }
 }
 
-/// How texts and numbers are printed.
+/// How a table of values is written.
 pub(crate) fn form_of<'a>(found: &ArgMatches<'a>) -> Form<'a>
     ensures { AreForm (rows_of (found_of found.now)) result }
 {
     Form {
         separator: text_of(found, "separator"),
         decimal: text_of(found, "decimal"),
-        encoding: text_of(found, "encoding"),
-        json: is_set(found, "json"),
-        csv: is_set(found, "csv"),
     }
 }
 

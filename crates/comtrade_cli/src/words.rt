@@ -27,19 +27,13 @@ pub struct Part<'a> {
     pub secondary: bool,
 }
 
-/// How texts and numbers are printed, as texts that are not parsed yet.
+/// How a table of values is written, as texts that are not parsed yet.
 #[derive(Clone, Copy, Debug)]
 pub struct Form<'a> {
     /// What separates the cells of a table.
     pub separator: Option<&'a str>,
     /// What stands before the places of a number.
     pub decimal: Option<&'a str>,
-    /// The encoding of a file's texts.
-    pub encoding: Option<&'a str>,
-    /// One object of JSON in place of text.
-    pub json: bool,
-    /// Comma-separated values in place of text.
-    pub csv: bool,
 }
 
 /// The commands over one pair of files that print what is in it.
@@ -82,13 +76,6 @@ pub enum Survey {
     Events,
 }
 
-/// Folders and files, and how what is found is printed.
-#[derive(Debug, Drop)]
-pub struct Surveyed<'a> {
-    pub names: Vec<&'a str>,
-    pub form: Form<'a>,
-}
-
 /// What the words ask for.
 #[derive(Debug, Drop)]
 pub enum Asked<'a> {
@@ -98,6 +85,6 @@ pub enum Asked<'a> {
     Convert(Converted<'a>),
     /// The pairs that a replay printed, into a folder.
     Extract(&'a str),
-    /// What is in many pairs.
-    Survey(Survey, Surveyed<'a>),
+    /// What is in many pairs: those of these names, and those in folders of these names.
+    Survey(Survey, Vec<&'a str>),
 }

@@ -10,6 +10,62 @@ use std::alloc::{AllocError, Allocator};
 use std::collections::BTreeMap;
 use std::io::Write;
 
+/// What separates the cells of a table, and what stands before the places of a number.
+#[derive(Clone, Copy, Debug, PartialEq, Eq)]
+pub struct Spelling {
+    pub separator: u8,
+    pub decimal: u8,
+}
+
+impl Spelling {
+    /// A comma and a point.
+    pub const PLAIN: Spelling = Spelling {
+        separator: b',',
+        decimal: b'.',
+    };
+
+    /// The spelling with what words ask for: a separator of one printable character or `tab`, a decimal point or a comma; none where they ask
+    /// for something else, or for one sign in both places.
+    pub fn of(separator: Option<&str>, decimal: Option<&str>) -> Option<Spelling> {
+        let separator = separator_of(separator)?;
+        let decimal = decimal_of(decimal)?;
+        if separator == decimal {
+            return None;
+        }
+        Some(Spelling { separator, decimal })
+    }
+}
+
+fn separator_of(text: Option<&str>) -> Option<u8> {
+    match text.unwrap_or(",").as_bytes() {
+        b"tab" => Some(b'\t'),
+        [b] if is_sign(*b) => Some(*b),
+        _ => None,
+    }
+}
+
+/// A printable character that stands in no number and isn't a quotation mark.
+fn is_sign(b: u8) -> bool {
+    33 <= b && b <= 126 && !b.is_ascii_alphanumeric() && b != b'"' && b != b'-'
+}
+
+fn decimal_of(text: Option<&str>) -> Option<u8> {
+    match text.unwrap_or(".").as_bytes() {
+        b"." => Some(b'.'),
+        b"," => Some(b','),
+        _ => None,
+    }
+}
+
+/// The number of a cell with this sign before its places.
+fn respell<A: Allocator>(cell: &mut Vec<u8, A>, decimal: u8) {
+    for b in cell.iter_mut() {
+        if *b == b'.' {
+            *b = decimal;
+        }
+    }
+}
+
 /// Why a table can't be written.
 fn csv_fault(error: &Error) -> ToolFault {
     match error.kind() {
@@ -145,11 +201,13 @@ fn put_reading<A: Allocator>(
     cell: &mut Vec<u8, A>,
     scale: Scale,
     reading: Reading,
+    decimal: u8,
 ) -> Result<(), AllocError> {
-    match reading {
-        Reading::Value(sample) => put_sample(cell, scale, sample),
-        Reading::Missing => Ok(()),
+    if let Reading::Value(sample) = reading {
+        put_sample(cell, scale, sample)?;
+        respell(cell, decimal);
     }
+    Ok(())
 }
 
 /// The values and the bits of a row.
@@ -158,9 +216,10 @@ fn put_row<A: Allocator, W: Write>(
     cell: &mut Vec<u8, A>,
     scales: &[Scale],
     row: &Row<A>,
+    decimal: u8,
 ) -> Result<(), ToolFault> {
     for (scale, reading) in scales.iter().zip(row.values.items()) {
-        put_reading(cell, *scale, *reading)?;
+        put_reading(cell, *scale, *reading, decimal)?;
         end_cell(table, cell)?;
     }
     for bit in row.bits.items() {
@@ -184,6 +243,7 @@ fn put_table<A: Allocator + Copy, W: Write>(
     file: &File<A>,
     scales: &[Scale],
     times: &[Option<i64>],
+    decimal: u8,
 ) -> Result<(), ToolFault> {
     put_head(table, cell, &file.head)?;
     for (row, since) in file.rows.items().iter().zip(times) {
@@ -192,8 +252,9 @@ fn put_table<A: Allocator + Copy, W: Write>(
         put_time(cell, file.head.trigger, *since)?;
         end_cell(table, cell)?;
         put_since(cell, *since)?;
+        respell(cell, decimal);
         end_cell(table, cell)?;
-        put_row(table, cell, scales, row)?;
+        put_row(table, cell, scales, row, decimal)?;
     }
     match table.flush() {
         Ok(()) => Ok(()),
@@ -206,13 +267,15 @@ fn write_table<A: Allocator + Copy, W: Write>(
     file: &File<A>,
     scales: &[Scale],
     times: &[Option<i64>],
+    spelling: Spelling,
     w: &mut W,
 ) -> Result<(), ToolFault> {
     let mut cell = Vec::new(alloc);
     let mut table = WriterBuilder::new()
+        .delimiter(spelling.separator)
         .terminator(Terminator::CRLF)
         .from_writer(w);
-    put_table(&mut table, &mut cell, file, scales, times)
+    put_table(&mut table, &mut cell, file, scales, times, spelling.decimal)
 }
 
 /// Prints the rows of a file: number, instant, milliseconds since the trigger, values a*x + b, bits. The rows were taken at these times, in
@@ -221,8 +284,9 @@ pub fn csv_over<A: Allocator + Copy, W: Write>(
     alloc: A,
     file: &File<A>,
     times: &[Option<i64>],
+    spelling: Spelling,
     w: &mut W,
 ) -> Result<(), ToolFault> {
     let scales = scales_of(alloc, &file.head)?;
-    write_table(alloc, file, &scales, times, w)
+    write_table(alloc, file, &scales, times, spelling, w)
 }

@@ -20,7 +20,7 @@ mod ticks;
 mod times;
 mod trace;
 
-pub use comma_separated::csv_over;
+pub use comma_separated::{Spelling, csv_over};
 pub use events::{Event, add_events, put_events, sort_events};
 pub use plot::plot_over;
 pub use show::show_over;
