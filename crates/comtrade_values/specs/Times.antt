@@ -7,6 +7,7 @@ use Rattle.dfr_channels.specs.Spelling.{Number}
 use Rattle.comtrade_format.specs.Parts.{HeadParts}
 use Rattle.comtrade_format.specs.declared.file.Rate.{Rate}
 use Rattle.comtrade_values.specs.declared.clock.Clock.{Clock}
+use Rattle.comtrade_values.specs.declared.clock.Paces.{Paces}
 
 -- a time that has 128 bits
 abbrev pub short : ℕ → Option ℕ
@@ -59,24 +60,20 @@ abbrev pub time_of : HeadParts → ℕ → Option ℕ → Option ℕ
 time_of head row stamp = if not (head.nrates == 0) && are_rates head.rates then since head.rates (Some 0) 0 row
     else option_and_then (stamp_time head.timemult) stamp
 
--- the same, by a clock
-abbrev pub since_by : Clock → ℕ → Option ℕ
-since_by clock row = since clock.rates.now clock.begun clock.from row
+-- the same, by the rates that are left, and by a clock
+abbrev pub since_by : Paces → ℕ → Option ℕ
+since_by paces row = since paces.rates.now paces.begun paces.from row
 
 abbrev pub time_by : Clock → ℕ → Option ℕ → Option ℕ
-time_by clock row stamp = if clock.has_rates then since_by clock row else option_and_then (stamp_time clock.timemult) stamp
+time_by clock row stamp = if clock.has_rates then since_by clock.paces row else option_and_then (stamp_time clock.timemult) stamp
 
--- a clock after its first rate, which leaves these
-abbrev pub after : Clock → Rate → Bor (List Rate) → Clock
-after clock rate more = record clock {
+-- the rates after the first one
+abbrev pub after : Paces → Rate → Bor (List Rate) → Paces
+after paces rate more = record {
   rates = more;
-  begun = together clock.begun (span rate.samp (rate.endsamp - clock.from));
+  begun = together paces.begun (span rate.samp (rate.endsamp - paces.from));
   from = rate.endsamp;
 }
-
--- both clocks go by the same
-abbrev pub SameBut : Clock → Clock → Type 0
-SameBut old new = (new.has_rates ≡ old.has_rates) × (new.timemult ≡ old.timemult)
 
 -- the first rate is the row's, or there is none
 abbrev pub IsFirst : ℕ → List Rate → Type 0

@@ -91,94 +91,102 @@ fn are_rates(rates: &[Rate]) -> bool
     true
 }
 
-/// When the rows of one file were taken. Where the file says a rate, and none of its rates is 0, the rates alone decide, also where rows
-/// have stamps (C37.111-1999, 5.3.6); else the stamps do (5.3.9). It is asked for rows in the order of the file.
+/// The rates of a file, from that of a row on.
 #[derive(Clone, Copy, Debug)]
-pub struct Clock<'a> {
-    /// The rates from that of the row on that was asked for last.
+struct Paces<'a> {
     rates: &'a [Rate],
     /// When the row after the last one of the rates before them was taken.
     begun: Option<u128>,
     /// How many rows the rates before them have.
     from: u64,
+}
+
+/// The rates after the first one.
+fn next<'a>(paces: Paces<'a>, rate: &Rate, more: &'a [Rate]) -> Paces<'a>
+    ensures { result ≡ Times.after paces.entry rate.now more.entry }
+{
+    let rows = rate.endsamp.saturating_sub(paces.from);
+    Paces {
+        rates: more,
+        begun: together(paces.begun, span_of(rate.samp, rows)),
+        from: rate.endsamp,
+    }
+}
+
+/// The rates without those of which all rows are before this one.
+fn past<'a>(paces: Paces<'a>, row: u64) -> Paces<'a>
+    ensures since { (later : ℕ) → row ≤ later → Times.since_by result later ≡ Times.since_by paces.entry later }
+    ensures first { Times.IsFirst row result.rates.now }
+{
+    let mut left = paces;
+    while let Some((rate, more)) = left.rates.split_first() {
+        if row < rate.endsamp {
+            return left;
+        }
+        left = next(left, rate, more);
+    }
+    left
+}
+
+/// When the row of this index, from 0, was taken by the rates.
+fn by_rates(paces: Paces<'_>, row: u64) -> Option<u128>
+    ensures { result ≡ Times.since_by paces.entry row }
+{
+    let left = past(paces, row);
+    match left.rates.first() {
+        Some(rate) => together(
+            left.begun,
+            span_of(rate.samp, row.saturating_sub(left.from)),
+        ),
+        None => None,
+    }
+}
+
+/// When the rows of one file were taken. Where the file says a rate, and none of its rates is 0, the rates alone decide, also where rows
+/// have stamps (C37.111-1999, 5.3.6); else the stamps do (5.3.9).
+#[derive(Clone, Copy, Debug)]
+pub struct Clock<'a> {
+    paces: Paces<'a>,
     has_rates: bool,
     timemult: Decimal,
 }
 
-/// The clock of a file, before its first row.
+/// The clock of a file.
 pub fn clock_of<A: Allocator>(head: &Head<A>) -> Clock<'_>
     ensures { (row : ℕ) (stamp : Option ℕ) → Times.time_by result row stamp ≡ Times.time_of head.now row stamp }
 {
     let rates = head.rates.items();
     Clock {
-        rates,
-        begun: Some(0),
-        from: 0,
+        paces: Paces {
+            rates,
+            begun: Some(0),
+            from: 0,
+        },
         has_rates: head.nrates != 0 && are_rates(rates),
         timemult: head.timemult,
     }
 }
 
 impl<'a> Clock<'a> {
-    /// The clock without the rates of which all rows are before this one.
-    fn past(self, row: u64) -> Clock<'a>
-        ensures same { Times.SameBut self.entry result }
-        ensures since { (later : ℕ) → row ≤ later → Times.since_by result later ≡ Times.since_by self.entry later }
-        ensures first { Times.IsFirst row result.rates.now }
+    /// The clock from this row on: it answers the same of it and the rows after it, and is quicker where there are many rates.
+    pub fn at(&self, row: u64) -> Clock<'a>
+        ensures { (later : ℕ) (stamp : Option ℕ) → row ≤ later
+            → Times.time_by result later stamp ≡ Times.time_by self.now later stamp }
     {
-        let mut clock = self;
-        while let Some((rate, more)) = clock.rates.split_first() {
-            if row < rate.endsamp {
-                return clock;
-            }
-            clock = clock.next(rate, more);
-        }
-        clock
-    }
-
-    /// The clock after its first rate.
-    fn next(self, rate: &Rate, more: &'a [Rate]) -> Clock<'a>
-        ensures { result ≡ Times.after self.entry rate.now more.entry }
-    {
-        let rows = rate.endsamp.saturating_sub(self.from);
         Clock {
-            rates: more,
-            begun: together(self.begun, span_of(rate.samp, rows)),
-            from: rate.endsamp,
+            paces: past(self.paces, row),
             has_rates: self.has_rates,
             timemult: self.timemult,
         }
     }
 
-    /// The clock, from this row on: it answers the same of it and the rows after it, and is quicker where there are many rates.
-    pub fn at(self, row: u64) -> Clock<'a>
-        ensures { (later : ℕ) (stamp : Option ℕ) → row ≤ later
-            → Times.time_by result later stamp ≡ Times.time_by self.entry later stamp }
-    {
-        self.past(row)
-    }
-
-    /// When the row of this index, from 0, was taken by the rates.
-    fn by_rates(self, row: u64) -> Option<u128>
-        ensures { result ≡ Times.since_by self.entry row }
-    {
-        let clock = self.past(row);
-        match clock.rates.first() {
-            Some(rate) => together(
-                clock.begun,
-                span_of(rate.samp, row.saturating_sub(clock.from)),
-            ),
-            None => None,
-        }
-    }
-
     /// When the row of this index, from 0, with this stamp was taken, in nanoseconds since the first row, rounded down in each rate; none
     /// where neither a rate nor a stamp says it, or where it has more than 128 bits.
-    pub fn nanos(self, row: u64, stamp: Option<u64>) -> Option<u128>
-        ensures { result ≡ Times.time_by self.entry row stamp }
+    pub fn nanos(&self, row: u64, stamp: Option<u64>) -> Option<u128>
+        ensures { result ≡ Times.time_by self.now row stamp }
     {
         if self.has_rates {
-            return self.by_rates(row);
+            return by_rates(self.paces, row);
         }
         match stamp {
             Some(stamp) => nanos_of_stamp(self.timemult, stamp),
