@@ -18,7 +18,7 @@ use comtrade_cli::{
     write_out,
 };
 use comtrade_diagnostics::Pair;
-use comtrade_read::verdict_of;
+use comtrade_read::{read_cfg, verdict_of};
 use std::alloc::{AllocError, Allocator};
 use std::fs::File;
 use std::io::{ErrorKind, IsTerminal};
@@ -115,10 +115,20 @@ fn print_view<R: Print + Eprint + AllocGlobal>(
         Ok(true) => 0,
         Ok(false) => {
             say(rt, &said);
+            note_swapped(rt, pair);
             1
         }
         Err(ToolFault::Closed) if view == View::Check => verdict(rt, pair),
         Err(fault) => complain(rt, "standard output", fault),
+    }
+}
+
+/// Says that the second file is a configuration file, where the first one isn't.
+fn note_swapped<R: Eprint + AllocGlobal>(rt: &R, pair: Pair<'_>) {
+    if read_cfg(rt.alloc(), pair.dat).is_ok() && read_cfg(rt.alloc(), pair.cfg).is_err() {
+        let _ = eprintln!(rt;
+            "comtrade: the files are swapped: the configuration file comes first"
+        );
     }
 }
 

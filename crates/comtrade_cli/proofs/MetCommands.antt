@@ -1,5 +1,5 @@
 -- A command that a parse met, by its name and its rows.
-use Rattle.std.proofs.Common.{◌≡◌, ℕ, Bool, true, false, Bor, List, [], Option, Some, None, option_map, unwrap_or, codes, inl, inr, refl, ap, ap₂, ◌∙◌, sym, rules}
+use Rattle.std.proofs.Common.{◌≡◌, ℕ, Bool, true, false, Bor, get_or, arith, List, [], Option, Some, None, option_map, unwrap_or, codes, inl, inr, refl, ap, ap₂, ◌∙◌, sym, rules}
 use Rattle.clap.specs.Words.{Row, Rule, Text, all_of, first_of, first_value, found_of, matched_of, raw_values, rows_of, rule_of, with_rule}
 use Rattle.std.specs.Prelude.{◌||◌, ◌⊎◌, MatchOption, is_some, if◌then◌else◌}
 use Rattle.clap.specs.Matches.{subcommand_name_of}
@@ -36,34 +36,37 @@ all_rows f id = raw_values-rows f id
 
 -- no two commands have one name
 view_isnt_convert : (v : View) → view_name v ≡ codes "convert" → ⊥
-view_isnt_convert view.Show e = cc
-view_isnt_convert view.Check e = cc
-view_isnt_convert view.Csv e = cc
-view_isnt_convert view.Plot e = cc
+view_isnt_convert view.Show e = let bad : 115 ≡ 99 = ap (λ (t : List ℕ). get_or t 0 0) e in absurd (omega arith)
+view_isnt_convert view.Check e = let bad : 104 ≡ 111 = ap (λ (t : List ℕ). get_or t 1 0) e in absurd (omega arith)
+view_isnt_convert view.Csv e = let bad : 115 ≡ 111 = ap (λ (t : List ℕ). get_or t 1 0) e in absurd (omega arith)
+view_isnt_convert view.Plot e = let bad : 112 ≡ 99 = ap (λ (t : List ℕ). get_or t 0 0) e in absurd (omega arith)
 
 view_isnt_extract : (v : View) → view_name v ≡ codes "extract" → ⊥
-view_isnt_extract view.Show e = cc
-view_isnt_extract view.Check e = cc
-view_isnt_extract view.Csv e = cc
-view_isnt_extract view.Plot e = cc
+view_isnt_extract view.Show e = let bad : 115 ≡ 101 = ap (λ (t : List ℕ). get_or t 0 0) e in absurd (omega arith)
+view_isnt_extract view.Check e = let bad : 99 ≡ 101 = ap (λ (t : List ℕ). get_or t 0 0) e in absurd (omega arith)
+view_isnt_extract view.Csv e = let bad : 99 ≡ 101 = ap (λ (t : List ℕ). get_or t 0 0) e in absurd (omega arith)
+view_isnt_extract view.Plot e = let bad : 112 ≡ 101 = ap (λ (t : List ℕ). get_or t 0 0) e in absurd (omega arith)
 
 survey_isnt_convert : (s : Survey) → survey_name s ≡ codes "convert" → ⊥
-survey_isnt_convert survey.List e = cc
-survey_isnt_convert survey.Events e = cc
+survey_isnt_convert survey.List e = let bad : 108 ≡ 99 = ap (λ (t : List ℕ). get_or t 0 0) e in absurd (omega arith)
+survey_isnt_convert survey.Events e = let bad : 101 ≡ 99 = ap (λ (t : List ℕ). get_or t 0 0) e in absurd (omega arith)
 
 survey_isnt_extract : (s : Survey) → survey_name s ≡ codes "extract" → ⊥
-survey_isnt_extract survey.List e = cc
-survey_isnt_extract survey.Events e = cc
+survey_isnt_extract survey.List e = let bad : 108 ≡ 101 = ap (λ (t : List ℕ). get_or t 0 0) e in absurd (omega arith)
+survey_isnt_extract survey.Events e = let bad : 118 ≡ 120 = ap (λ (t : List ℕ). get_or t 1 0) e in absurd (omega arith)
 
 survey_isnt_view : (s : Survey) (v : View) → survey_name s ≡ view_name v → ⊥
-survey_isnt_view survey.List view.Show e = cc
-survey_isnt_view survey.List view.Check e = cc
-survey_isnt_view survey.List view.Csv e = cc
-survey_isnt_view survey.List view.Plot e = cc
-survey_isnt_view survey.Events view.Show e = cc
-survey_isnt_view survey.Events view.Check e = cc
-survey_isnt_view survey.Events view.Csv e = cc
-survey_isnt_view survey.Events view.Plot e = cc
+survey_isnt_view survey.List view.Show e = let bad : 108 ≡ 115 = ap (λ (t : List ℕ). get_or t 0 0) e in absurd (omega arith)
+survey_isnt_view survey.List view.Check e = let bad : 108 ≡ 99 = ap (λ (t : List ℕ). get_or t 0 0) e in absurd (omega arith)
+survey_isnt_view survey.List view.Csv e = let bad : 108 ≡ 99 = ap (λ (t : List ℕ). get_or t 0 0) e in absurd (omega arith)
+survey_isnt_view survey.List view.Plot e = let bad : 108 ≡ 112 = ap (λ (t : List ℕ). get_or t 0 0) e in absurd (omega arith)
+survey_isnt_view survey.Events view.Show e = let bad : 101 ≡ 115 = ap (λ (t : List ℕ). get_or t 0 0) e in absurd (omega arith)
+survey_isnt_view survey.Events view.Check e = let bad : 101 ≡ 99 = ap (λ (t : List ℕ). get_or t 0 0) e in absurd (omega arith)
+survey_isnt_view survey.Events view.Csv e = let bad : 101 ≡ 99 = ap (λ (t : List ℕ). get_or t 0 0) e in absurd (omega arith)
+survey_isnt_view survey.Events view.Plot e = let bad : 101 ≡ 112 = ap (λ (t : List ℕ). get_or t 0 0) e in absurd (omega arith)
+
+extract_isnt_convert : codes "extract" ≡ codes "convert" → ⊥
+extract_isnt_convert e = let bad : 101 ≡ 99 = ap (λ (t : List ℕ). get_or t 0 0) e in absurd (omega arith)
 
 -- where the names of a pair don't fit, nothing that its command asks for does
 pub no_view : (r : List Row) (v : View) → ((names : Names) → AreNames r names → ⊥) → FitsNothing (Asks r (view_name v))
@@ -75,12 +78,12 @@ no_view r v none (asks.Survey s surveyed) h = survey_isnt_view s v h.0
 pub no_convert : (r : List Row) → ((made : Converted) → IsConverted r made → ⊥) → FitsNothing (Asks r (codes "convert"))
 no_convert r none (asks.View w viewed) h = view_isnt_convert w h.0
 no_convert r none (asks.Convert made) h = none made h.1
-no_convert r none (asks.Extract folder) h = absurd (let e = h.0 in cc)
+no_convert r none (asks.Extract folder) h = extract_isnt_convert h.0
 no_convert r none (asks.Survey s surveyed) h = survey_isnt_convert s h.0
 
 pub no_extract : (r : List Row) → None ≡ first_of (codes "DIR") r → FitsNothing (Asks r (codes "extract"))
 no_extract r none (asks.View w viewed) h = view_isnt_extract w h.0
-no_extract r none (asks.Convert made) h = absurd (let e = h.0 in cc)
+no_extract r none (asks.Convert made) h = extract_isnt_convert (sym h.0)
 no_extract r none (asks.Extract folder) h = absurd (let e = none ∙ h.1 in cc)
 no_extract r none (asks.Survey s surveyed) h = survey_isnt_extract s h.0
 

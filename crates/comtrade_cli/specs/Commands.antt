@@ -63,9 +63,15 @@ abbrev pub plot : App
 plot = with_part (over_pair (codes "plot"))
 
 -- with three names the second is the data file's
+abbrev pub convert_names : App
+convert_names = with_rule (with_rule (with_rule (new_app (codes "convert"))
+    (word (codes "FILE"))) (word (codes "NAME"))) (free_word (codes "LAST"))
+
+abbrev pub convert_kind : Bor (List (Bor (List ℕ))) → App
+convert_kind kinds = with_rule convert_names (kind_word kinds)
+
 abbrev pub convert : Bor (List (Bor (List ℕ))) → App
-convert kinds = with_part (with_rule (with_rule (with_rule (with_rule (new_app (codes "convert"))
-    (kind_word kinds)) (word (codes "FILE"))) (word (codes "NAME"))) (free_word (codes "LAST")))
+convert kinds = with_part (convert_kind kinds)
 
 abbrev pub extract : App
 extract = with_rule (new_app (codes "extract")) (word (codes "DIR"))

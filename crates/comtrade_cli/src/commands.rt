@@ -43,7 +43,8 @@ fn show<'a>(alloc: Global) -> Result<Command<'a>, AllocError>
     ensures { IfOk result (IsCommand Spec.show) }
 {
     let about = "Prints what is in a pair: names, instants, channels, extremes, changes, gaps";
-    with_part(alloc, over_pair(alloc, "show", about)?)
+    let pair = over_pair(alloc, "show", about)?;
+    with_part(alloc, pair)
 }
 
 fn check<'a>(alloc: Global) -> Result<Command<'a>, AllocError>
@@ -60,29 +61,28 @@ fn csv<'a>(alloc: Global) -> Result<Command<'a>, AllocError>
     ensures { IfOk result (IsCommand Spec.csv) }
 {
     let about = "Prints the rows: instants, values a*x + b, contacts";
-    let part = with_part(alloc, over_pair(alloc, "csv", about)?)?;
+    let pair = over_pair(alloc, "csv", about)?;
+    let part = with_part(alloc, pair)?;
     with_table(alloc, part)
 }
 
 fn plot<'a>(alloc: Global) -> Result<Command<'a>, AllocError>
     ensures { IfOk result (IsCommand Spec.plot) }
 {
-    with_part(alloc, over_pair(alloc, "plot", "Prints a picture, as SVG")?)
+    let pair = over_pair(alloc, "plot", "Prints a picture, as SVG")?;
+    with_part(alloc, pair)
 }
 
-fn convert<'a>(alloc: Global) -> Result<Command<'a>, AllocError>
-    ensures { IfOk result (IsKinded Spec.convert) }
+/// The names of `convert`: with three of them the second is the data file's.
+fn convert_names<'a>(alloc: Global) -> Result<Command<'a>, AllocError>
+    ensures { IfOk result (IsCommand Spec.convert_names) }
 {
     let about =
         "Writes NAME.cfg and NAME.dat, which say the same with data of another kind; neither may be there";
-    let kind = word(alloc, "KIND", "The kind of the data that is written")
-        .long("kind")
-        .value_parser(KINDS.as_slice());
-    let named = Command::new(alloc, "convert")
+    Command::new(alloc, "convert")
         .about(about)
         .after_help(STATUS)
         .override_usage("comtrade convert --kind <KIND> [OPTIONS] <FILE> [DAT] <NAME>")
-        .arg(kind)?
         .arg(word(alloc, "FILE", "A file of the pair, or what both are called"))?
         .arg(word(
             alloc,
@@ -93,8 +93,24 @@ fn convert<'a>(alloc: Global) -> Result<Command<'a>, AllocError>
             alloc,
             "LAST",
             "What both new files are called, where the data file stands before it",
-        ))?;
-    with_part(alloc, named)
+        ))
+}
+
+/// The same, with the kind of the data.
+fn convert_kind<'a>(alloc: Global) -> Result<Command<'a>, AllocError>
+    ensures { IfOk result (IsKinded Spec.convert_kind) }
+{
+    let kind = word(alloc, "KIND", "The kind of the data that is written")
+        .long("kind")
+        .value_parser(KINDS.as_slice());
+    convert_names(alloc)?.arg(kind)
+}
+
+fn convert<'a>(alloc: Global) -> Result<Command<'a>, AllocError>
+    ensures { IfOk result (IsKinded Spec.convert) }
+{
+    let kinded = convert_kind(alloc)?;
+    with_part(alloc, kinded)
 }
 
 fn extract<'a>(alloc: Global) -> Result<Command<'a>, AllocError>
@@ -180,7 +196,10 @@ fn top<'a>(alloc: Global) -> Result<Command<'a>, AllocError>
 pub(crate) fn comtrade<'a>(alloc: Global) -> Result<Command<'a>, AllocError>
     ensures { IfOk result (IsKinded Spec.program) }
 {
-    surveys(alloc, views(alloc, top(alloc)?)?)?
+    let top = top(alloc)?;
+    let viewing = views(alloc, top)?;
+    let surveying = surveys(alloc, viewing)?;
+    surveying
         .subcommand(convert(alloc)?)?
         .subcommand(extract(alloc)?)
 }
