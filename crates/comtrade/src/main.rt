@@ -246,9 +246,9 @@ fn refuse_words<R: Eprint + AllocGlobal>(rt: &R, text: &str) -> u8 {
 
 /// Whether a word is a number below 0.
 fn is_negative(word: &str) -> bool {
-    match word.strip_prefix('-') {
-        Some(size) => size.starts_with(|c: char| c.is_ascii_digit() || c == '.'),
-        None => false,
+    match word.as_bytes() {
+        [b'-', b, ..] => b.is_ascii_digit() || *b == b'.',
+        _ => false,
     }
 }
 
@@ -257,22 +257,29 @@ fn takes_moment(word: &str) -> bool {
     word == "--from" || word == "--to"
 }
 
+/// Joins a value to the option before it.
+fn join(words: &mut [String], value: &str) -> Result<(), AllocError> {
+    match words.last_mut() {
+        Some(option) => {
+            option.push_str("=")?;
+            option.push_str(value)
+        }
+        None => Ok(()),
+    }
+}
+
 /// The words after the program's name. A number below 0 after an option that takes a moment is joined to it, since it would be taken for
 /// an option itself.
 fn words_of<R: Env + AllocGlobal>(rt: &R) -> io::Result<Vec<String>> {
     let mut rest: Vec<String> = Vec::new(rt.alloc());
+    let mut is_moment = false;
     for word in env::args(rt)?.skip(1) {
-        match rest.pop() {
-            Some(mut option) if takes_moment(option.as_str()) && is_negative(word.as_str()) => {
-                option.push_str("=")?;
-                option.push_str(word.as_str())?;
-                rest.push(option)?;
-            }
-            Some(before) => {
-                rest.push(before)?;
-                rest.push(word)?;
-            }
-            None => rest.push(word)?,
+        if is_moment && is_negative(word.as_str()) {
+            join(&mut rest, word.as_str())?;
+            is_moment = false;
+        } else {
+            is_moment = takes_moment(word.as_str());
+            rest.push(word)?;
         }
     }
     Ok(rest)
