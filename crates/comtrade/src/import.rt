@@ -1,7 +1,7 @@
 //! `comtrade import`: files as relays write them become a pair of 1999.
 
-use crate::write::write_named;
-use crate::{complain, out_of_memory, read_named, say};
+use crate::write::{is_name, write_named};
+use crate::{complain, out_of_memory, read_input, read_named, say};
 use comtrade_cli::{ToolFault, put, put_safe, write_out};
 use comtrade_import::{Choices, ImportFault, Imported, Key, Order, import, import_single};
 use std::alloc::AllocError;
@@ -141,17 +141,6 @@ fn without<'a>(name: &'a str, ending: &str) -> Option<&'a str> {
         name.get(..at)
     } else {
         None
-    }
-}
-
-/// A file, or none after its fault was said.
-fn read_input<R: Files + Input + Eprint + AllocGlobal>(rt: &R, name: &str) -> Option<Vec<u8>> {
-    match read_named(rt, name) {
-        Ok(bytes) => Some(bytes),
-        Err(fault) => {
-            complain(rt, name, fault);
-            None
-        }
     }
 }
 
@@ -295,6 +284,9 @@ fn run_wanted<R: Files + Input + Print + Eprint + AllocGlobal>(
     dat: Option<&str>,
     name: &str,
 ) -> u8 {
+    if !is_name(rt, name) {
+        return 2;
+    }
     let choices = Choices {
         dates: wanted.dates,
     };
