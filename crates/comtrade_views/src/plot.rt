@@ -106,7 +106,7 @@ fn put_top<A: Allocator>(
     put_names(out, &file.head)?;
     put_text_at(out, LEFT, 40.0, " fill=\"#555555\"")?;
     put(out, "trigger ")?;
-    put_instant(out, file.head.trigger)?;
+    put_instant(out, file.head.trigger as i128)?;
     put(out, ", ")?;
     put_count(out, file.rows.items().len() as u64, " row", " rows")?;
     end_text(out)
