@@ -377,7 +377,7 @@ struct lines {
 };
 
 static void put(struct lines *to, const char *text, size_t length) {
-    if (to->out_of_memory) return;
+    if (to->out_of_memory || !length) return;
     if (to->room - to->length < length) {
         size_t room = 2 * to->room + length;
         char *longer = (char *)realloc(to->at, room);

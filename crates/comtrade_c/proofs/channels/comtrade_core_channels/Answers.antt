@@ -21,5 +21,5 @@ returns-clause-room c = λ is. (
     c.in-Ok.ensures.found,
     lacks c.in-Ok.head c.args.analog.now c.in-Ok-tables_of.all.analog.items c.args.normal.now c.in-Ok-tables_of.all.normal.items
     c.args.rates.now c.in-Ok-tables_of.all.rates.items c.args.lengths.now c.in-Ok-tables_of.all.lengths.items c.args.text.now
-    c.in-Ok-tables_of.all.text.items c.in-Ok-tables_of.ensures (c.fill.ensures.room (search rules))
+    c.in-Ok-tables_of.all.text.items c.in-Ok-tables_of.ensures (c.fill.ensures.room c.if-fill.false)
   )
