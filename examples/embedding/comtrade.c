@@ -305,7 +305,11 @@ int32_t comtrade_values(const comtrade *r, size_t channel, size_t first, size_t 
     int32_t answer = asked(r, channel, n, first, count, to);
     if (answer != COMTRADE_DONE) return answer;
     if (channel != COMTRADE_ALL) return put_values(r, channel, first, count, to, 1);
-    for (size_t c = 0; c < n && answer == COMTRADE_DONE; c++) answer = put_values(r, c, first, count, to + c, n);
+    enum { BLOCK = 64 }; /* so many rows of all channels are in the cache */
+    for (size_t k = 0, now; k < count; k += now) {
+        now = count - k < BLOCK ? count - k : BLOCK;
+        for (size_t c = 0; c < n && answer == COMTRADE_DONE; c++) answer = put_values(r, c, first + k, now, to + k * n + c, n);
+    }
     return answer;
 }
 

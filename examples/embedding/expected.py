@@ -22,7 +22,7 @@ def many():
     for k in range(40):
         xs = [99999 if (k + c) % 7 == 0 else wave(k, c) for c in range(64)]
         rows.append(",".join([str(k + 1), "" if k % 5 == 4 else str(1000 * k)] + [str(x) for x in xs] + [str((k >> (c % 6)) & 1) for c in range(64)]))
-    return "\r\n".join(head) + "\r\n", ("\r\n".join(rows) + "\r\n").encode()
+    return "\r\n".join(head) + "\r\n", ("\r\n".join(rows) + "\r\n\x1a").encode()
 
 
 def rates():
@@ -53,7 +53,7 @@ def micros(text):
 
 def rows_of(dat, kind, n, m):
     if kind == "ASCII":
-        for line in dat.decode().splitlines():
+        for line in dat.split(b"\x1a")[0].decode().splitlines():
             fields = line.split(",")
             xs = [None if int(x) == 99999 else int(x) for x in fields[2 : 2 + n]]
             yield int(fields[1]) if fields[1] else None, xs, [int(b) for b in fields[2 + n :]]

@@ -14,7 +14,8 @@ use dfr_recorder::{Extent, Limits, Recorder};
 use std::alloc::{AllocError, Global};
 
 /// The channels: a current in steps of 0.5 A. Rates and instants are those of the set-up.
-const CHANNELS: &[u8] = b"Bay 1,Own,1999\n1,1A,0D\n1,IA,A,Line 3,A,0.5,0,0,-32767,32767,600,1,P\n50\n1\n1,1\n01/01/2024,0:0:0\n01/01/2024,0:0:0\nBINARY\n1";
+const CHANNELS: &[u8] =
+    b"Bay 1,Own,1999\n1,1A,0D\n1,IA,A,Line 3,A,0.5,0,0,-32767,32767,600,1,P\n50\n1\n1,1\n01/01/2024,0:0:0\n01/01/2024,0:0:0\nBINARY\n1";
 
 /// A current that rises tenfold at scan 30 for ten scans; scan 32 is lost, and after scan 99 nothing comes.
 #[derive(Drop)]
@@ -103,7 +104,9 @@ fn recorder(alloc: Global) -> Result<Recorder> {
     let Ok(rules) = Rules::new(&layout, Vec::from_slice(alloc, &[over])?) else {
         bail!("a rule names no channel");
     };
-    Recorder::new(alloc, layout, limits, rules).ok().context("out of memory")
+    Recorder::new(alloc, layout, limits, rules)
+        .ok()
+        .context("out of memory")
 }
 
 fn main(rt: HostRuntime) -> Result<()> {
@@ -114,13 +117,26 @@ fn main(rt: HostRuntime) -> Result<()> {
         kept: Vec::new(alloc),
     };
     let recorder = recorder(alloc)?;
-    let ran = run_live(&rt, alloc, recorder, 64, Kind::Binary, 1_000_000_000, &mut feed, &mut orders, &mut sink);
+    let ran = run_live(
+        &rt,
+        alloc,
+        recorder,
+        64,
+        Kind::Binary,
+        1_000_000_000,
+        &mut feed,
+        &mut orders,
+        &mut sink,
+    );
     let Ok(report) = ran else {
         bail!("the run was ended by a fault");
     };
     println!(rt; "{} scans, {} records", report.stepped, report.records)?;
     for Kept { extent, cfg, dat } in &sink.kept {
-        println!(rt; "record {}: scans {} to {}, trigger {}, {cfg} and {dat} bytes", extent.number, extent.first, extent.last, extent.trigger)?;
+        println!(rt;
+            "record {}: scans {} to {}, trigger {}, {cfg} and {dat} bytes",
+            extent.number, extent.first, extent.last, extent.trigger
+        )?;
     }
     Ok(())
 }

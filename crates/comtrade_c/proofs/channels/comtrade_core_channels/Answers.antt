@@ -17,9 +17,9 @@ returns-in-Err-clause-cfg_fault c =
 
 pub returns-clause-room : goal.returns-clause-room
 returns-clause-room c = λ is. (
-    c.in-Ok.head,
-    c.in-Ok.ensures.found,
-    lacks c.in-Ok.head c.args.analog.now c.in-Ok-tables_of.all.analog.items c.args.normal.now c.in-Ok-tables_of.all.normal.items
-    c.args.rates.now c.in-Ok-tables_of.all.rates.items c.args.lengths.now c.in-Ok-tables_of.all.lengths.items c.args.text.now
-    c.in-Ok-tables_of.all.text.items c.in-Ok-tables_of.ensures (c.fill.ensures.room c.if-fill.false)
-  )
+  c.in-Ok.head,
+  c.in-Ok.ensures.found,
+  lacks c.in-Ok.head c.args.analog.now c.in-Ok-tables_of.all.analog.items c.args.normal.now c.in-Ok-tables_of.all.normal.items
+      c.args.rates.now c.in-Ok-tables_of.all.rates.items c.args.lengths.now c.in-Ok-tables_of.all.lengths.items c.args.text.now
+      c.in-Ok-tables_of.all.text.items c.in-Ok-tables_of.ensures (c.fill.ensures.room c.if-fill.false),
+)
