@@ -5,13 +5,15 @@
 //! files to the sink. Each of the three is used by one thread alone.
 #![tactic(auto)]
 
-use anyhow::{Context, Result, bail};
+use anyhow::{Context, Result};
 use comtrade_read::read_cfg;
 use comtrade_write::Kind;
 use dfr_channels::{Layout, Reading, Rule, Rules, Scan, Setup};
 use dfr_live::{Fed, Feed, Order, Orders, Sink, run_live};
 use dfr_recorder::{Extent, Limits, Recorder};
 use std::alloc::{AllocError, Global};
+use std::sync::Wait;
+use std::thread::Threads;
 
 /// The channels: a current in steps of 0.5 A. Rates and instants are those of the set-up.
 const CHANNELS: &[u8] =
@@ -80,10 +82,10 @@ impl Sink for InMemory {
     }
 }
 
-/// 1,000 scans a second; a record is 5 scans before a trigger and 10 after it, 40 at most, and 4 records may wait for the sink.
-fn recorder(alloc: Global) -> Result<Recorder> {
-    let head = read_cfg(alloc, CHANNELS)?;
-    let setup = Setup {
+/// 1,000 scans a second of the channels.
+fn layout(alloc: Global) -> Option<Layout> {
+    let head = read_cfg(alloc, CHANNELS).ok()?;
+    Layout::new(Setup {
         station: head.station,
         device: head.device,
         analog: head.analog,
@@ -91,47 +93,80 @@ fn recorder(alloc: Global) -> Result<Recorder> {
         line_freq: head.line_freq,
         rate: 1_000,
         start: head.first,
-    };
-    let Ok(layout) = Layout::new(setup) else {
-        bail!("the set-up has a fault");
-    };
+    })
+    .ok()
+}
+
+/// Fires from 500 on, in samples.
+fn rules(alloc: Global, layout: &Layout) -> Option<Rules> {
     let over = Rule::Level {
         channel: 0,
         over: true,
         threshold: 500,
     };
-    let limits = Limits::new(&layout, 5, 10, 40, 4)?;
-    let Ok(rules) = Rules::new(&layout, Vec::from_slice(alloc, &[over])?) else {
-        bail!("a rule names no channel");
-    };
-    Recorder::new(alloc, layout, limits, rules)
-        .ok()
-        .context("out of memory")
+    match Vec::from_slice(alloc, &[over]) {
+        Ok(list) => Rules::new(layout, list).ok(),
+        Err(_) => None,
+    }
+}
+
+fn begin(alloc: Global, layout: Layout, limits: Limits, rules: Rules) -> Option<Recorder> {
+    if limits.fits(&layout) && rules.fits(&layout) {
+        return Recorder::new(alloc, layout, limits, rules).ok();
+    }
+    None
+}
+
+/// A record is 5 scans before a trigger and 10 after it, 40 at most, and 4 records may wait for the sink.
+fn recorder_of(alloc: Global, layout: Layout) -> Option<Recorder> {
+    let limits = Limits::new(&layout, 5, 10, 40, 4).ok()?;
+    match rules(alloc, &layout) {
+        Some(rules) => begin(alloc, layout, limits, rules),
+        None => None,
+    }
+}
+
+fn recorder(alloc: Global) -> Option<Recorder> {
+    match layout(alloc) {
+        Some(layout) => recorder_of(alloc, layout),
+        None => None,
+    }
+}
+
+/// How many scan steps were made, and how many records were taken.
+fn run<R: Threads + Wait + Sync>(
+    rt: &R,
+    alloc: Global,
+    recorder: Recorder,
+    sink: &mut InMemory,
+) -> Option<(u64, u64)> {
+    let mut feed = Line { alloc, next: 0 };
+    let mut orders = ByHand { given: false };
+    let report = run_live(
+        rt,
+        alloc,
+        recorder,
+        64, // how many scans the lane holds
+        Kind::Binary,
+        1_000_000_000, // for how many turns a thread may wait
+        &mut feed,
+        &mut orders,
+        sink,
+    );
+    report.ok().map(|report| (report.stepped, report.records))
 }
 
 fn main(rt: HostRuntime) -> Result<()> {
     let alloc = rt.alloc();
-    let mut feed = Line { alloc, next: 0 };
-    let mut orders = ByHand { given: false };
     let mut sink = InMemory {
         kept: Vec::new(alloc),
     };
-    let recorder = recorder(alloc)?;
-    let ran = run_live(
-        &rt,
-        alloc,
-        recorder,
-        64,
-        Kind::Binary,
-        1_000_000_000,
-        &mut feed,
-        &mut orders,
-        &mut sink,
-    );
-    let Ok(report) = ran else {
-        bail!("the run was ended by a fault");
+    let ran = match recorder(alloc) {
+        Some(recorder) => run(&rt, alloc, recorder, &mut sink),
+        None => None,
     };
-    println!(rt; "{} scans, {} records", report.stepped, report.records)?;
+    let (scans, records) = ran.context("the run was ended by a fault")?;
+    println!(rt; "{scans} scans, {records} records")?;
     for Kept { extent, cfg, dat } in &sink.kept {
         println!(rt;
             "record {}: scans {} to {}, trigger {}, {cfg} and {dat} bytes",
