@@ -1,6 +1,6 @@
 use Rattle.std.proofs.Common.{sym, ◌∙◌, w32, rules}
 use Rattle.std.proofs.lemmas.Int.{to_z-of_z}
-use Rattle.comtrade_c.proofs.write.comtrade_write.Goals as goal
+use Rattle.comtrade_c.proofs.write.comtrade_core_write.Goals as goal
 
 pub returns-in-Err-clause-cfg_fault : goal.returns-in-Err-clause-cfg_fault
 returns-in-Err-clause-cfg_fault c =
