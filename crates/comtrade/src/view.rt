@@ -4,7 +4,8 @@ use comtrade_cli::ToolFault;
 use comtrade_diagnostics::{Pair, check_over, put_fault};
 use comtrade_format::File;
 use comtrade_read::{Fault, ReadFault, read};
-use comtrade_views::{csv_over, plot_over, show_over};
+use comtrade_plot::{PlotOptions, plot_over};
+use comtrade_views::{csv_over, show_over};
 use std::alloc::Allocator;
 use std::io::Write;
 
@@ -46,7 +47,7 @@ fn put_view<A: Allocator + Copy, W: Write>(
 ) -> Result<(), ToolFault> {
     match view {
         View::Csv => csv_over(alloc, file, w),
-        View::Plot => plot_over(alloc, file, w),
+        View::Plot => plot_over(alloc, file, PlotOptions::default(), w),
         _ => show_over(alloc, file, w),
     }
 }
