@@ -106,12 +106,12 @@ fn put_part<A: Allocator + Copy>(
 }
 
 /// The picture of a whole record.
-fn put_whole<A: Allocator + Copy>(
+fn put_whole<'a, A: Allocator + Copy>(
     alloc: A,
     sheet: &mut Sheet<A>,
-    file: &File<A>,
-    record: &Record<A>,
-    part: &Part<A>,
+    file: &'a File<A>,
+    record: &'a Record<A>,
+    part: &'a Part<A>,
     options: PlotOptions,
 ) -> Result<(), ToolFault> {
     let chart = chart_of(alloc, file, record, part);

@@ -26,6 +26,25 @@ pub(crate) fn later_change(last: i64, change: i64, cycle: i64) -> i64 {
     }
 }
 
+/// The first time that is drawn of a record that begins here.
+fn first_drawn(begin: i64, cycle: i64) -> i64
+    requires { begin ≤ℤ pos 0 }
+    ensures after { begin ≤ℤ result }
+    ensures before { result ≤ℤ pos 0 }
+{
+    cycle.saturating_mul(-BEFORE).clamp(begin, 0)
+}
+
+/// The last time that is drawn of a record that ends here.
+fn last_drawn(end: i64, cycle: i64, change: i64) -> i64
+    requires { pos 0 ≤ℤ end }
+    ensures after { pos 0 ≤ℤ result }
+    ensures before { result ≤ℤ end }
+{
+    let after_change = change.saturating_add(cycle.saturating_mul(ENDING));
+    cycle.saturating_mul(AFTER).max(after_change).clamp(0, end)
+}
+
 /// The times that are drawn of a record around its trigger, which is at 0, where they are a small part of the record: `change`
 /// is when the last contact changed that belongs to the fault. They are part of the record, and the trigger is among them.
 pub(crate) fn window_of(whole: Frame, cycle: i64, change: i64) -> Option<Frame>
@@ -38,8 +57,7 @@ pub(crate) fn window_of(whole: Frame, cycle: i64, change: i64) -> Option<Frame>
     if whole.to.saturating_sub(whole.from) <= cycle.saturating_mul(LONG) {
         return None;
     }
-    let end = change.saturating_add(cycle.saturating_mul(ENDING));
-    let from = cycle.saturating_mul(-BEFORE).min(0).max(whole.from);
-    let to = cycle.saturating_mul(AFTER).max(end).max(0).min(whole.to);
+    let from = first_drawn(whole.from, cycle);
+    let to = last_drawn(whole.to, cycle, change);
     Some(Frame { from, to })
 }
