@@ -12,7 +12,9 @@ awk -F, '
     function short(text) { if (text ~ /\./) { sub(/0+$/, "", text); sub(/\.$/, "", text) } return text == "-0" ? "0" : text }
     /^[0-9]/ {
         sub(/\r$/, "")
-        printf "%s,2024-07-01 10:30:00.%06d,%s", $1, 300625 + $2, short(sprintf("%.3f", ($2 - 50000) / 1000))
+        # 4,800 scans a second, in nanoseconds, rounded down
+        nanos = int(($1 - 1) * 1000000000 / 4800)
+        printf "%s,2024-07-01 10:30:00.%06d,%s", $1, 300625 + int((nanos + 500) / 1000), short(sprintf("%.6f", (nanos - 50000000) / 1000000))
         for (i = 3; i <= 6; i++) printf ",%s", short(sprintf("%.2f", $i / 100))
         for (i = 7; i <= 10; i++) printf ",%s", short(sprintf("%.1f", $i / 2))
         printf ",%s,%s,%s,%s\r\n", $11, $12, $13, $14

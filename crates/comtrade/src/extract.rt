@@ -62,7 +62,12 @@ fn extract_all<R: Files + Print + Eprint + AllocGlobal>(
                 written = written.saturating_add(1);
                 left = rest;
             }
-            Next::End => return 0,
+            Next::End => {
+                if written == 0 {
+                    let _ = eprintln!(rt; "comtrade: standard input holds no record");
+                }
+                return 0;
+            }
             Next::Foreign(line) => {
                 refuse_line(
                     rt,
@@ -84,6 +89,10 @@ pub(crate) fn run_extract<R: Files + Input + Print + Eprint + AllocGlobal>(
     rt: &R,
     folder: &str,
 ) -> u8 {
+    if folder.is_empty() {
+        let _ = eprintln!(rt; "error: the folder has no name");
+        return 2;
+    }
     if let Err(error) = fs::create_dir_all(rt, folder) {
         return complain(rt, folder, fault_of(error.kind(), ToolFault::Output));
     }

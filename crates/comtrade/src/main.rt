@@ -1,24 +1,30 @@
-//! The program: `comtrade show|check|csv|plot CFG DAT`, `comtrade convert --kind ascii|binary CFG DAT NAME`,
+//! The program: `comtrade show|check|csv|plot FILE [DAT]`, `comtrade convert --kind ascii|binary FILE [DAT] NAME`,
 //! `comtrade extract DIR`.
 #![tactic(auto)]
 
 mod extract;
+mod find;
+mod survey;
 mod view;
 mod write;
 
 use crate::extract::run_extract;
-use crate::view::{View, view_over};
+use crate::find::{Pairing, pairing_of};
+use crate::survey::run_survey;
+use crate::view::view_over;
 use crate::write::run_convert;
 use comtrade_cli::{
-    Answer, Asked, Names, ToolFault, answer_of, fault_of, put, put_safe, read_up_to, write_out,
+    Answer, Asked, Names, ToolFault, View, Viewed, answer_of, fault_of, put, put_safe, read_up_to,
+    write_out,
 };
 use comtrade_diagnostics::Pair;
+use comtrade_read::{read_cfg, verdict_of};
 use std::alloc::{AllocError, Allocator};
 use std::fs::File;
 use std::io::{ErrorKind, IsTerminal};
 use std::process::ExitCode;
 use std::rt::{Env, Files};
-use std::{env, io};
+use std::{env, fs, io};
 
 /// The most bytes of a file that is read: 1 GiB.
 const LIMIT: usize = 1_073_741_824;
@@ -57,6 +63,14 @@ pub(crate) fn complain<R: Eprint + AllocGlobal>(rt: &R, name: &str, fault: ToolF
     1
 }
 
+/// Whether a name is that of a folder.
+pub(crate) fn is_folder<R: Files>(rt: &R, name: &str) -> bool {
+    match fs::metadata(rt, name) {
+        Ok(data) => data.is_dir(),
+        Err(_) => false,
+    }
+}
+
 /// All bytes of a file, or of standard input where it is named `-`.
 pub(crate) fn read_named<R: Files + Input + AllocGlobal>(
     rt: &R,
@@ -65,59 +79,96 @@ pub(crate) fn read_named<R: Files + Input + AllocGlobal>(
     if name == "-" {
         return read_up_to(rt.alloc(), &mut rt.reader(), LIMIT);
     }
+    if is_folder(rt, name) {
+        return Err(ToolFault::Folder);
+    }
     match File::open(rt, name) {
         Ok(mut file) => read_up_to(rt.alloc(), &mut file, LIMIT),
         Err(error) => Err(fault_of(error.kind(), ToolFault::Input)),
     }
 }
 
-/// Prints a text.
-fn print_text<R: Print + Eprint + AllocGlobal>(rt: &R, text: &str) -> u8 {
-    match write_out(&mut io::writer(rt), text.as_bytes()) {
+/// Prints bytes.
+pub(crate) fn print_bytes<R: Print + Eprint + AllocGlobal>(rt: &R, bytes: &[u8]) -> u8 {
+    match write_out(&mut io::writer(rt), bytes) {
         Ok(()) => 0,
         Err(fault) => complain(rt, "standard output", fault),
     }
 }
 
-/// Prints what is asked of a pair.
-fn print_view<R: Print + Eprint + AllocGlobal>(rt: &R, view: View, pair: Pair<'_>) -> u8 {
+/// Prints what is asked of a pair. Its verdict is the status of a check, whoever reads what is printed.
+fn print_view<R: Print + Eprint + AllocGlobal>(
+    rt: &R,
+    view: View,
+    viewed: Viewed<'_>,
+    pair: Pair<'_>,
+) -> u8 {
     let mut said = Vec::new(rt.alloc());
-    match view_over(rt.alloc(), view, pair, &mut io::writer(rt), &mut said) {
+    match view_over(
+        rt.alloc(),
+        view,
+        viewed,
+        pair,
+        &mut io::writer(rt),
+        &mut said,
+    ) {
         Ok(true) => 0,
         Ok(false) => {
             say(rt, &said);
+            note_swapped(rt, pair);
             1
         }
+        Err(ToolFault::Closed) if view == View::Check => verdict(rt, pair),
         Err(fault) => complain(rt, "standard output", fault),
+    }
+}
+
+/// Says that the second file is a configuration file, where the first one isn't.
+fn note_swapped<R: Eprint + AllocGlobal>(rt: &R, pair: Pair<'_>) {
+    if read_cfg(rt.alloc(), pair.dat).is_ok() && read_cfg(rt.alloc(), pair.cfg).is_err() {
+        let _ = eprintln!(rt;
+            "comtrade: the files are swapped: the configuration file comes first"
+        );
+    }
+}
+
+/// The status of a check of which nobody reads the text.
+fn verdict<R: Eprint + AllocGlobal>(rt: &R, pair: Pair<'_>) -> u8 {
+    match verdict_of(rt.alloc(), pair.cfg, pair.dat) {
+        Ok(None) => 0,
+        Ok(Some(_)) => 1,
+        Err(_) => out_of_memory(rt),
     }
 }
 
 /// What both files of a pair are called, and their bytes.
 #[derive(Drop)]
-struct Inputs {
+pub(crate) struct Inputs {
+    names: Pairing,
     cfg: Vec<u8>,
     dat: Vec<u8>,
 }
 
-/// Reads a pair; None where that was refused, which is said.
-pub(crate) fn read_inputs<R: Files + Input + Eprint + AllocGlobal>(
-    rt: &R,
-    names: Names<'_>,
-) -> Option<Inputs> {
-    let cfg = match read_named(rt, names.cfg) {
-        Ok(cfg) => cfg,
+/// Reads a file; none where that was refused, which is said.
+fn read_input<R: Files + Input + Eprint + AllocGlobal>(rt: &R, name: &str) -> Option<Vec<u8>> {
+    match read_named(rt, name) {
+        Ok(bytes) => Some(bytes),
         Err(fault) => {
-            complain(rt, shown(names.cfg), fault);
-            return None;
-        }
-    };
-    match read_named(rt, names.dat) {
-        Ok(dat) => Some(Inputs { cfg, dat }),
-        Err(fault) => {
-            complain(rt, shown(names.dat), fault);
+            complain(rt, shown(name), fault);
             None
         }
     }
+}
+
+/// Reads a pair; none where that was refused, which is said.
+pub(crate) fn read_inputs<R: Files + Input + Eprint + AllocGlobal + Clone + Drop>(
+    rt: &R,
+    names: Names<'_>,
+) -> Option<Inputs> {
+    let names = pairing_of(rt, names)?;
+    let cfg = read_input(rt, names.cfg.as_str())?;
+    let dat = read_input(rt, names.dat.as_str())?;
+    Some(Inputs { names, cfg, dat })
 }
 
 /// Says how much there is to do, where it may last over a second and someone sees it.
@@ -134,43 +185,41 @@ fn shown(name: &str) -> &str {
     if name == "-" { "standard input" } else { name }
 }
 
-pub(crate) fn pair_of<'a>(names: Names<'a>, inputs: &'a Inputs) -> Pair<'a> {
+pub(crate) fn pair_of(inputs: &Inputs) -> Pair<'_> {
     Pair {
-        cfg_name: shown(names.cfg).as_bytes(),
+        cfg_name: shown(inputs.names.cfg.as_str()).as_bytes(),
         cfg: &inputs.cfg,
-        dat_name: shown(names.dat).as_bytes(),
+        dat_name: shown(inputs.names.dat.as_str()).as_bytes(),
         dat: &inputs.dat,
     }
 }
 
 /// Reads a pair, and prints what is asked of it.
-fn run_view<R: Files + Input + Print + Eprint + AllocGlobal>(
+fn run_view<R: Files + Input + Print + Eprint + AllocGlobal + Clone + Drop>(
     rt: &R,
     is_watched: bool,
     view: View,
-    names: Names<'_>,
+    viewed: Viewed<'_>,
 ) -> u8 {
-    match read_inputs(rt, names) {
+    match read_inputs(rt, viewed.names) {
         Some(inputs) => {
             note_size(rt, is_watched, &inputs);
-            print_view(rt, view, pair_of(names, &inputs))
+            print_view(rt, view, viewed, pair_of(&inputs))
         }
         None => 1,
     }
 }
 
-fn run<R: Files + Input + Print + Eprint + AllocGlobal>(
+fn run<R: Files + Input + Print + Eprint + AllocGlobal + Clone + Drop>(
     rt: &R,
     is_watched: bool,
     asked: Asked<'_>,
 ) -> u8 {
     match asked {
-        Asked::Show(names) => run_view(rt, is_watched, View::Show, names),
-        Asked::Check(names) => run_view(rt, is_watched, View::Check, names),
-        Asked::Csv(names) => run_view(rt, is_watched, View::Csv, names),
-        Asked::Plot(names) => run_view(rt, is_watched, View::Plot, names),
-        Asked::Convert(names, kind, name) => run_convert(rt, is_watched, kind, names, name),
+        Asked::View(view, viewed) => run_view(rt, is_watched, view, viewed),
+        Asked::Convert(made) => run_convert(rt, is_watched, made),
         Asked::Extract(folder) => run_extract(rt, folder),
+        Asked::Survey(survey, names) => run_survey(rt, survey, &names),
     }
 }
 
@@ -195,11 +244,43 @@ fn refuse_words<R: Eprint + AllocGlobal>(rt: &R, text: &str) -> u8 {
     }
 }
 
-/// The words after the program's name.
+/// Whether a word is a number below 0.
+fn is_negative(word: &str) -> bool {
+    match word.as_bytes() {
+        [b'-', b, ..] => b.is_ascii_digit() || *b == b'.',
+        _ => false,
+    }
+}
+
+/// Whether the value of this option may be below 0.
+fn takes_moment(word: &str) -> bool {
+    word == "--from" || word == "--to"
+}
+
+/// Joins a value to the option before it.
+fn join(words: &mut [String], value: &str) -> Result<(), AllocError> {
+    match words.last_mut() {
+        Some(option) => {
+            option.push_str("=")?;
+            option.push_str(value)
+        }
+        None => Ok(()),
+    }
+}
+
+/// The words after the program's name. A number below 0 after an option that takes a moment is joined to it, since it would be taken for
+/// an option itself.
 fn words_of<R: Env + AllocGlobal>(rt: &R) -> io::Result<Vec<String>> {
-    let mut rest = Vec::new(rt.alloc());
+    let mut rest: Vec<String> = Vec::new(rt.alloc());
+    let mut is_moment = false;
     for word in env::args(rt)?.skip(1) {
-        rest.push(word)?;
+        if is_moment && is_negative(word.as_str()) {
+            join(&mut rest, word.as_str())?;
+            is_moment = false;
+        } else {
+            is_moment = takes_moment(word.as_str());
+            rest.push(word)?;
+        }
     }
     Ok(rest)
 }
@@ -214,20 +295,20 @@ fn refuse_start<R: Eprint>(rt: &R, kind: ErrorKind) -> u8 {
 }
 
 /// Does what is to be done with words; `is_watched` where standard error is a terminal.
-fn act<R: Files + Input + Print + Eprint + AllocGlobal>(
+fn act<R: Files + Input + Print + Eprint + AllocGlobal + Clone + Drop>(
     rt: &R,
     is_watched: bool,
     answer: Answer<'_>,
 ) -> u8 {
     match answer {
         Answer::Do(asked) => run(rt, is_watched, asked),
-        Answer::Print(text) => print_text(rt, text.as_str()),
+        Answer::Print(text) => print_bytes(rt, text.as_str().as_bytes()),
         Answer::Refuse(text) => refuse_words(rt, text.as_str()),
     }
 }
 
 /// Does what the words ask for.
-fn answer<R: Files + Input + Print + Eprint + AllocGlobal>(
+fn answer<R: Files + Input + Print + Eprint + AllocGlobal + Clone + Drop>(
     rt: &R,
     is_watched: bool,
     words: &[String],

@@ -1,29 +1,60 @@
 //! What is said of a pair of files.
 
-use comtrade_cli::ToolFault;
+use comtrade_cli::{Part, Picture, ToolFault, View, Viewed, put, put_safe};
 use comtrade_diagnostics::{Pair, check_over, put_fault};
 use comtrade_format::File;
+use comtrade_part::{PartFault, is_whole, part_of};
+use comtrade_plot::{PlotOptions, page_over, plot_over};
 use comtrade_read::{Fault, ReadFault, read};
-use comtrade_plot::{PlotOptions, plot_over};
-use comtrade_views::{csv_over, show_over};
+use comtrade_views::{Spelling, csv_over, show_over, times_since_trigger};
 use std::alloc::Allocator;
 use std::io::Write;
 
-/// What is said of a pair.
-#[derive(Clone, Copy, Debug, PartialEq, Eq)]
-pub(crate) enum View {
-    /// What is in it.
-    Show,
-    /// Its first fault.
-    Check,
-    /// Its rows as comma-separated values.
-    Csv,
-    /// A picture of it.
-    Plot,
+const NO_SPELLING: &str = "\
+comtrade: a separator is tab or one sign that isn't a letter, a digit, a minus or a quotation mark; a decimal sign is . or , and not the \
+separator\n";
+
+const NO_SIZE: &str =
+    "comtrade: --width and --height are whole numbers of pixels from 1 to 100000\n";
+
+/// How values are spelled, and how a picture is drawn.
+#[derive(Clone, Copy)]
+struct Look {
+    spelling: Spelling,
+    options: PlotOptions,
+}
+
+/// A number of pixels; none where the text isn't one.
+fn pixels_of(text: &str) -> Option<u32> {
+    match text.parse::<u32>() {
+        Ok(pixels) if 1 <= pixels && pixels <= 100_000 => Some(pixels),
+        _ => None,
+    }
+}
+
+/// Whether a size that was asked for is one.
+fn is_size(text: Option<&str>) -> bool {
+    match text {
+        Some(text) => pixels_of(text).is_some(),
+        None => true,
+    }
+}
+
+/// How a picture is drawn; none where a size isn't one.
+fn options_of(picture: Picture<'_>) -> Option<PlotOptions> {
+    if !is_size(picture.width) || !is_size(picture.height) {
+        return None;
+    }
+    Some(PlotOptions {
+        is_whole: picture.whole,
+        shows_all: picture.all,
+        width: pixels_of(picture.width.unwrap_or("")),
+        height: pixels_of(picture.height.unwrap_or("")),
+    })
 }
 
 /// The file that a pair reads to; None where it has a fault, whose line is put to `said`.
-fn file_in<A: Allocator + Copy>(
+pub(crate) fn file_in<A: Allocator + Copy>(
     alloc: A,
     pair: Pair<'_>,
     said: &mut Vec<u8, A>,
@@ -38,25 +69,71 @@ fn file_in<A: Allocator + Copy>(
     }
 }
 
-/// Prints what is asked of a file.
+/// Prints what is asked of a file, whose rows were taken at these times, in nanoseconds since the trigger.
 fn put_view<A: Allocator + Copy, W: Write>(
     alloc: A,
     view: View,
+    look: Look,
     file: &File<A>,
+    times: &[Option<i64>],
     w: &mut W,
 ) -> Result<(), ToolFault> {
     match view {
-        View::Csv => csv_over(alloc, file, w),
-        View::Plot => plot_over(alloc, file, PlotOptions::default(), w),
-        _ => show_over(alloc, file, w),
+        View::Csv => csv_over(alloc, file, times, look.spelling, w),
+        View::Plot => plot_over(alloc, file, times, look.options, w),
+        View::Page => page_over(alloc, file, times, w),
+        _ => show_over(alloc, file, times, w),
     }
 }
 
-/// Prints what is asked of a pair: false where it has a fault. The fault's line is what `Check` prints; the others put it to
-/// `said` and print nothing.
+/// Puts why a record has no such part; an allocation that failed is the fault of the tool.
+pub(crate) fn put_part_fault<A: Allocator + Copy>(
+    said: &mut Vec<u8, A>,
+    fault: PartFault<'_>,
+) -> Result<(), ToolFault> {
+    if fault == PartFault::Memory {
+        return Err(ToolFault::Memory);
+    }
+    let text = format!(in *said.allocator(); "{fault}")?;
+    put(said, "comtrade: ")?;
+    put_safe(said, text.as_str().as_bytes())?;
+    put(said, "\n")?;
+    Ok(())
+}
+
+/// Prints what is asked of a part of a file; false where it has none, which is put to `said`.
+fn put_part<A: Allocator + Copy, W: Write>(
+    alloc: A,
+    view: View,
+    look: Look,
+    part: Part<'_>,
+    file: &File<A>,
+    times: &[Option<i64>],
+    w: &mut W,
+    said: &mut Vec<u8, A>,
+) -> Result<bool, ToolFault> {
+    match part_of(alloc, file, part) {
+        Ok(cut) => {
+            let times = match times.get(cut.from..cut.to) {
+                Some(times) => times,
+                None => &[],
+            };
+            put_view(alloc, view, look, &cut.file, times, w)?;
+            Ok(true)
+        }
+        Err(fault) => {
+            put_part_fault(said, fault)?;
+            Ok(false)
+        }
+    }
+}
+
+/// Prints what is asked of a part of a pair: false where the pair has a fault, or no such part. The fault's line is what `Check` prints;
+/// the others put it to `said` and print nothing.
 pub(crate) fn view_over<A: Allocator + Copy, W: Write>(
     alloc: A,
     view: View,
+    viewed: Viewed<'_>,
     pair: Pair<'_>,
     w: &mut W,
     said: &mut Vec<u8, A>,
@@ -64,12 +141,22 @@ pub(crate) fn view_over<A: Allocator + Copy, W: Write>(
     if view == View::Check {
         return check_over(alloc, pair, w);
     }
-    match file_in(alloc, pair, said) {
-        Ok(Some(file)) => match put_view(alloc, view, &file, w) {
-            Ok(()) => Ok(true),
-            Err(fault) => Err(fault),
-        },
-        Ok(None) => Ok(false),
-        Err(fault) => Err(fault),
+    let Some(spelling) = Spelling::of(viewed.form.separator, viewed.form.decimal) else {
+        put(said, NO_SPELLING)?;
+        return Ok(false);
+    };
+    let Some(options) = options_of(viewed.picture) else {
+        put(said, NO_SIZE)?;
+        return Ok(false);
+    };
+    let look = Look { spelling, options };
+    let Some(file) = file_in(alloc, pair, said)? else {
+        return Ok(false);
+    };
+    let times = times_since_trigger(alloc, &file)?;
+    if is_whole(viewed.part) {
+        put_view(alloc, view, look, &file, &times, w)?;
+        return Ok(true);
     }
+    put_part(alloc, view, look, viewed.part, &file, &times, w, said)
 }

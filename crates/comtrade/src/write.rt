@@ -1,9 +1,11 @@
 //! Writing pairs of files that are not there yet.
 
-use crate::{complain, note_size, out_of_memory, pair_of, read_inputs, say};
-use comtrade_cli::{Names, ToolFault, fault_of, write_out};
+use crate::view::{file_in, put_part_fault};
+use crate::{Inputs, complain, note_size, out_of_memory, pair_of, read_inputs, say};
+use comtrade_cli::{Converted, ToolFault, fault_of, put_safe, write_out};
 use comtrade_diagnostics::{Pair, put_fault, put_refusal};
-use comtrade_format::Kind;
+use comtrade_format::{File as Record, Kind, WriteFault};
+use comtrade_part::{PartFault, is_whole, part_of, written_of};
 use comtrade_read::{ConvertFault, converted};
 use std::alloc::AllocError;
 use std::fs;
@@ -93,19 +95,113 @@ fn refuse_pair<R: Eprint + AllocGlobal>(
     }
 }
 
-pub(crate) fn run_convert<R: Files + Input + Eprint + AllocGlobal>(
+/// Says why a part of a record isn't written.
+fn refuse_part<R: Eprint + AllocGlobal>(rt: &R, fault: PartFault<'_>) -> u8 {
+    if fault == PartFault::Memory {
+        return out_of_memory(rt);
+    }
+    let mut said = Vec::new(rt.alloc());
+    match put_part_fault(&mut said, fault) {
+        Ok(()) => {
+            say(rt, &said);
+            1
+        }
+        Err(_) => out_of_memory(rt),
+    }
+}
+
+/// Writes a part of a record, with data of this kind: what is written reads back to it.
+fn write_part<R: Files + Eprint + AllocGlobal>(rt: &R, asked: Converted<'_>, file: &Record) -> u8 {
+    let mut cut = match part_of(rt.alloc(), file, asked.part) {
+        Ok(cut) => cut,
+        Err(fault) => return refuse_part(rt, fault),
+    };
+    cut.file.head.kind = asked.kind;
+    match written_of(rt.alloc(), &cut.file) {
+        Ok(made) => write_named(rt, asked.name, &made.cfg, &made.dat),
+        Err(WriteFault::Memory) => out_of_memory(rt),
+        Err(fault) => {
+            let _ = eprintln!(rt; "comtrade: the part isn't written: {fault}");
+            1
+        }
+    }
+}
+
+/// Converts a part of a pair.
+fn convert_part<R: Files + Eprint + AllocGlobal>(
+    rt: &R,
+    asked: Converted<'_>,
+    inputs: &Inputs,
+) -> u8 {
+    let mut said = Vec::new(rt.alloc());
+    match file_in(rt.alloc(), pair_of(inputs), &mut said) {
+        Ok(Some(file)) => write_part(rt, asked, &file),
+        Ok(None) => {
+            say(rt, &said);
+            1
+        }
+        Err(_) => out_of_memory(rt),
+    }
+}
+
+/// Converts a whole pair.
+fn convert_whole<R: Files + Eprint + AllocGlobal>(
+    rt: &R,
+    asked: Converted<'_>,
+    inputs: &Inputs,
+) -> u8 {
+    match converted(rt.alloc(), &inputs.cfg, &inputs.dat, asked.kind) {
+        Ok(made) => write_named(rt, asked.name, &made.cfg, &made.dat),
+        Err(fault) => refuse_pair(rt, asked.kind, pair_of(inputs), fault),
+    }
+}
+
+/// The name without .cfg or .dat at its end, in any case of letters.
+fn without_ending(name: &str) -> Option<&str> {
+    let at = name.len().checked_sub(4)?;
+    let ending = name.get(at..)?;
+    if ending.eq_ignore_ascii_case(".cfg") || ending.eq_ignore_ascii_case(".dat") {
+        name.get(..at)
+    } else {
+        None
+    }
+}
+
+/// Whether files can be called so with .cfg and .dat; where they can't, it says why.
+fn is_name<R: Eprint + AllocGlobal>(rt: &R, name: &str) -> bool {
+    if name.is_empty() || name.ends_with('/') {
+        let _ = eprintln!(rt; "error: the new files have no name");
+        return false;
+    }
+    let Some(stem) = without_ending(name) else {
+        return true;
+    };
+    let mut text = Vec::new(rt.alloc());
+    if put_safe(&mut text, stem.as_bytes()).is_err() {
+        out_of_memory(rt);
+        return false;
+    }
+    let _ = eprint!(rt; "error: the name of the new files stands without .cfg and .dat: ");
+    say(rt, &text);
+    let _ = eprintln!(rt; "");
+    false
+}
+
+pub(crate) fn run_convert<R: Files + Input + Eprint + AllocGlobal + Clone + Drop>(
     rt: &R,
     is_watched: bool,
-    kind: Kind,
-    names: Names<'_>,
-    name: &str,
+    asked: Converted<'_>,
 ) -> u8 {
-    let Some(inputs) = read_inputs(rt, names) else {
+    if !is_name(rt, asked.name) {
+        return 2;
+    }
+    let Some(inputs) = read_inputs(rt, asked.names) else {
         return 1;
     };
     note_size(rt, is_watched, &inputs);
-    match converted(rt.alloc(), &inputs.cfg, &inputs.dat, kind) {
-        Ok(made) => write_named(rt, name, &made.cfg, &made.dat),
-        Err(fault) => refuse_pair(rt, kind, pair_of(names, &inputs), fault),
+    if is_whole(asked.part) {
+        convert_whole(rt, asked, &inputs)
+    } else {
+        convert_part(rt, asked, &inputs)
     }
 }

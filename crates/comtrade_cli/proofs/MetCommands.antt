@@ -1,41 +1,103 @@
 -- A command that a parse met, by its name and its rows.
-use Rattle.std.proofs.Common.{◌≡◌, ℕ, Bool, true, false, Bor, List, [], Option, Some, None, option_map, codes, inl, inr, refl, ap, ap₂, ◌∙◌, sym, rules}
-use Rattle.clap.specs.Words.{Row, Text, first_of, first_value, rows_of}
-use Rattle.std.specs.Prelude.{◌||◌, ◌⊎◌, MatchOption}
+use Rattle.std.proofs.Common.{◌≡◌, ℕ, Bool, true, false, Bor, get_or, arith, List, [], Option, Some, None, option_map, unwrap_or, codes, inl, inr, refl, ap, ap₂, ◌∙◌, sym, rules}
+use Rattle.clap.specs.Words.{Row, Rule, Text, all_of, first_of, first_value, found_of, matched_of, raw_values, rows_of, rule_of, with_rule}
+use Rattle.std.specs.Prelude.{◌||◌, ◌⊎◌, MatchOption, is_some, if◌then◌else◌}
 use Rattle.clap.specs.Matches.{subcommand_name_of}
-use Rattle.clap.specs.Words.{AddsSubcommand, App, is_simple, with_subcommand}
+use Rattle.clap.specs.Words.{AddsArg, AddsSubcommand, App, is_simple, with_subcommand}
 use Rattle.clap.proofs.OnLiterals.{clap_on_literals}
+use Rattle.clap.specs.declared.builder.arg.Arg.{Arg}
 use Rattle.clap.specs.declared.builder.command.Command.{Command}
 use Rattle.clap.specs.Words.{subcommand_rows_of}
-use Rattle.clap.proofs.WalkLemmas.{first_value-rows}
+use Rattle.clap.proofs.WalkLemmas.{first_value-rows, raw_values-rows}
 use Rattle.clap.specs.declared.parser.matches.Found.{Found}
 use Rattle.clap.specs.declared.parser.matches.ArgMatches.{ArgMatches}
-use Rattle.comtrade_cli.specs.declared.asked.Names.{Names}
-use Rattle.comtrade_cli.specs.declared.asked.Asked.{Asked}
-use Rattle.comtrade_cli.specs.declared.asked.Asked.TheVariants.{Show, Check, Csv, Plot, Convert, Extract}
+use Rattle.comtrade_cli.specs.declared.words.Names.{Names}
+use Rattle.comtrade_cli.specs.declared.words.Converted.{Converted}
+use Rattle.comtrade_cli.specs.declared.words.View.{View}
+use Rattle.comtrade_cli.specs.declared.words.View.TheVariants as view
+use Rattle.comtrade_cli.specs.declared.words.Survey.{Survey}
+use Rattle.comtrade_cli.specs.declared.words.Survey.TheVariants as survey
+use Rattle.comtrade_cli.specs.declared.words.Asked.{Asked}
+use Rattle.comtrade_cli.specs.declared.words.Asked.TheVariants as asks
 use Rattle.comtrade_cli.specs.declared.asked.Answer.{Answer}
 use Rattle.comtrade_cli.specs.declared.asked.Answer.TheVariants.{Do, Print, Refuse}
 use Rattle.clap.specs.declared.error.kind.ErrorKind.{ErrorKind}
 use Rattle.clap.specs.declared.error.kind.ErrorKind.TheVariants.{OutOfMemory}
 use Rattle.clap.specs.Words.{IsAmong, Kinds, is_simple_and_free}
-use Rattle.comtrade_cli.specs.Asking.{AreNames, Asks, AsksAs, Does, DoneAbout, FindsText, FitsNothing, Tells, is_text}
+use Rattle.comtrade_cli.specs.Asking.{AreNames, Asks, AsksAs, Does, DoneAbout, FindsText, FitsNothing, IsConverted, Tells, is_text, survey_name, view_name}
 use Rattle.comtrade_cli.specs.Commands.{IsCommand, program}
 
 -- what rows say is what the getters read
-rows : (f : Found) (id : Text) → first_of id (rows_of f) ≡ first_value f id
-rows f id = sym (first_value-rows f id)
+pub rows : (f : Found) (id : Text) → first_value f id ≡ first_of id (rows_of f)
+rows f id = first_value-rows f id
 
--- the same words given, the same asked for
-names : (g h : Text → Option Text) → ((id : Text) → h id ≡ g id) → (n : Names) → AreNames g n → AreNames h n
-names g h e n p = record { cfg = e (codes "CFG") ∙ p.cfg; dat = e (codes "DAT") ∙ p.dat; one_input = p.one_input }
+pub all_rows : (f : Found) (id : Text) → option_map raw_values (matched_of f id) ≡ all_of id (rows_of f)
+all_rows f id = raw_values-rows f id
 
-by_words : (g h : Text → Option Text) → ((id : Text) → h id ≡ g id) → (verb : Text) (a : Asked) → Asks g verb a → Asks h verb a
-by_words g h e verb (Show n) p = (p.0, names g h e n p.1)
-by_words g h e verb (Check n) p = (p.0, names g h e n p.1)
-by_words g h e verb (Csv n) p = (p.0, names g h e n p.1)
-by_words g h e verb (Plot n) p = (p.0, names g h e n p.1)
-by_words g h e verb (Convert n k name) p = (p.0, names g h e n p.1, rw (e (codes "KIND")) p.2, e (codes "NAME") ∙ p.3)
-by_words g h e verb (Extract folder) p = (p.0, e (codes "DIR") ∙ p.1)
+-- no two commands have one name
+view_isnt_convert : (v : View) → view_name v ≡ codes "convert" → ⊥
+view_isnt_convert view.Show e = let bad : 115 ≡ 99 = ap (λ (t : List ℕ). get_or t 0 0) e in absurd (omega arith)
+view_isnt_convert view.Check e = let bad : 104 ≡ 111 = ap (λ (t : List ℕ). get_or t 1 0) e in absurd (omega arith)
+view_isnt_convert view.Csv e = let bad : 115 ≡ 111 = ap (λ (t : List ℕ). get_or t 1 0) e in absurd (omega arith)
+view_isnt_convert view.Plot e = let bad : 112 ≡ 99 = ap (λ (t : List ℕ). get_or t 0 0) e in absurd (omega arith)
+view_isnt_convert view.Page e = let bad : 112 ≡ 99 = ap (λ (t : List ℕ). get_or t 0 0) e in absurd (omega arith)
+
+view_isnt_extract : (v : View) → view_name v ≡ codes "extract" → ⊥
+view_isnt_extract view.Show e = let bad : 115 ≡ 101 = ap (λ (t : List ℕ). get_or t 0 0) e in absurd (omega arith)
+view_isnt_extract view.Check e = let bad : 99 ≡ 101 = ap (λ (t : List ℕ). get_or t 0 0) e in absurd (omega arith)
+view_isnt_extract view.Csv e = let bad : 99 ≡ 101 = ap (λ (t : List ℕ). get_or t 0 0) e in absurd (omega arith)
+view_isnt_extract view.Plot e = let bad : 112 ≡ 101 = ap (λ (t : List ℕ). get_or t 0 0) e in absurd (omega arith)
+view_isnt_extract view.Page e = let bad : 112 ≡ 101 = ap (λ (t : List ℕ). get_or t 0 0) e in absurd (omega arith)
+
+survey_isnt_convert : (s : Survey) → survey_name s ≡ codes "convert" → ⊥
+survey_isnt_convert survey.List e = let bad : 108 ≡ 99 = ap (λ (t : List ℕ). get_or t 0 0) e in absurd (omega arith)
+survey_isnt_convert survey.Events e = let bad : 101 ≡ 99 = ap (λ (t : List ℕ). get_or t 0 0) e in absurd (omega arith)
+
+survey_isnt_extract : (s : Survey) → survey_name s ≡ codes "extract" → ⊥
+survey_isnt_extract survey.List e = let bad : 108 ≡ 101 = ap (λ (t : List ℕ). get_or t 0 0) e in absurd (omega arith)
+survey_isnt_extract survey.Events e = let bad : 118 ≡ 120 = ap (λ (t : List ℕ). get_or t 1 0) e in absurd (omega arith)
+
+survey_isnt_view : (s : Survey) (v : View) → survey_name s ≡ view_name v → ⊥
+survey_isnt_view survey.List view.Show e = let bad : 108 ≡ 115 = ap (λ (t : List ℕ). get_or t 0 0) e in absurd (omega arith)
+survey_isnt_view survey.List view.Check e = let bad : 108 ≡ 99 = ap (λ (t : List ℕ). get_or t 0 0) e in absurd (omega arith)
+survey_isnt_view survey.List view.Csv e = let bad : 108 ≡ 99 = ap (λ (t : List ℕ). get_or t 0 0) e in absurd (omega arith)
+survey_isnt_view survey.List view.Plot e = let bad : 108 ≡ 112 = ap (λ (t : List ℕ). get_or t 0 0) e in absurd (omega arith)
+survey_isnt_view survey.List view.Page e = let bad : 108 ≡ 112 = ap (λ (t : List ℕ). get_or t 0 0) e in absurd (omega arith)
+survey_isnt_view survey.Events view.Show e = let bad : 101 ≡ 115 = ap (λ (t : List ℕ). get_or t 0 0) e in absurd (omega arith)
+survey_isnt_view survey.Events view.Check e = let bad : 101 ≡ 99 = ap (λ (t : List ℕ). get_or t 0 0) e in absurd (omega arith)
+survey_isnt_view survey.Events view.Csv e = let bad : 101 ≡ 99 = ap (λ (t : List ℕ). get_or t 0 0) e in absurd (omega arith)
+survey_isnt_view survey.Events view.Plot e = let bad : 101 ≡ 112 = ap (λ (t : List ℕ). get_or t 0 0) e in absurd (omega arith)
+survey_isnt_view survey.Events view.Page e = let bad : 101 ≡ 112 = ap (λ (t : List ℕ). get_or t 0 0) e in absurd (omega arith)
+
+extract_isnt_convert : codes "extract" ≡ codes "convert" → ⊥
+extract_isnt_convert e = let bad : 101 ≡ 99 = ap (λ (t : List ℕ). get_or t 0 0) e in absurd (omega arith)
+
+-- where the names of a pair don't fit, nothing that its command asks for does
+pub no_view : (r : List Row) (v : View) → ((names : Names) → AreNames r names → ⊥) → FitsNothing (Asks r (view_name v))
+no_view r v none (asks.View w viewed) h = none viewed.names h.1.names
+no_view r v none (asks.Convert made) h = view_isnt_convert v (sym h.0)
+no_view r v none (asks.Extract folder) h = view_isnt_extract v (sym h.0)
+no_view r v none (asks.Survey s surveyed) h = survey_isnt_view s v h.0
+
+pub no_convert : (r : List Row) → ((made : Converted) → IsConverted r made → ⊥) → FitsNothing (Asks r (codes "convert"))
+no_convert r none (asks.View w viewed) h = view_isnt_convert w h.0
+no_convert r none (asks.Convert made) h = none made h.1
+no_convert r none (asks.Extract folder) h = extract_isnt_convert h.0
+no_convert r none (asks.Survey s surveyed) h = survey_isnt_convert s h.0
+
+pub no_extract : (r : List Row) → None ≡ first_of (codes "DIR") r → FitsNothing (Asks r (codes "extract"))
+no_extract r none (asks.View w viewed) h = view_isnt_extract w h.0
+no_extract r none (asks.Convert made) h = extract_isnt_convert (sym h.0)
+no_extract r none (asks.Extract folder) h = absurd (let e = none ∙ h.1 in cc)
+no_extract r none (asks.Survey s surveyed) h = survey_isnt_extract s h.0
+
+-- nor where no command has the name
+pub no_command : (r : List Row) (verb : Text) → ((v : View) → view_name v ≡ verb → ⊥) → ((s : Survey) → survey_name s ≡ verb → ⊥)
+    → (codes "convert" ≡ verb → ⊥) → (codes "extract" ≡ verb → ⊥) → FitsNothing (Asks r verb)
+no_command r verb view survey convert extract (asks.View w viewed) h = view w h.0
+no_command r verb view survey convert extract (asks.Convert made) h = convert h.0
+no_command r verb view survey convert extract (asks.Extract folder) h = extract h.0
+no_command r verb view survey convert extract (asks.Survey s surveyed) h = survey s h.0
 
 -- a name and rows that are those of what a parse met
 pair : (o : Option (Text × List Row)) (verb : Text) (r : List Row) → Some verb ≡ option_map (λ p. p.0) o → Some r ≡ option_map (λ p. p.1) o → o ≡ Some (verb, r)
@@ -46,16 +108,11 @@ name_in : (m : ArgMatches) → subcommand_name_of m ≡ option_map (λ p. p.0) (
 name_in m = search rules
 
 -- what is asked of a command's matches is asked of the command that the parse met
-pub asks_met : (m : ArgMatches) (f : Found) (verb : Text) (o : Option Asked) → Some verb ≡ subcommand_name_of m
-    → Some (rows_of f) ≡ option_map (λ p. p.1) (subcommand_rows_of m)
-    → MatchOption o (FitsNothing (Asks (first_value f) verb)) (Asks (first_value f) verb)
+pub asks_met : (m : ArgMatches) (r : List Row) (verb : Text) (o : Option Asked) → Some verb ≡ subcommand_name_of m
+    → Some r ≡ option_map (λ p. p.1) (subcommand_rows_of m)
+    → MatchOption o (FitsNothing (Asks r verb)) (Asks r verb)
     → MatchOption o (FitsNothing (AsksAs (subcommand_rows_of m))) (AsksAs (subcommand_rows_of m))
-asks_met m f verb None e h given =
-    rw (pair (subcommand_rows_of m) verb (rows_of f) (e ∙ name_in m) h)
-    (λ a asks. given a (by_words (λ id. first_of id (rows_of f)) (first_value f) (λ id. sym (rows f id)) verb a asks))
-asks_met m f verb (Some a) e h given =
-    rw (pair (subcommand_rows_of m) verb (rows_of f) (e ∙ name_in m) h)
-    (by_words (first_value f) (λ id. first_of id (rows_of f)) (λ id. rows f id) verb a given)
+asks_met m r verb o e h given = rw (pair (subcommand_rows_of m) verb r (e ∙ name_in m) h) given
 
 -- what is done where the parse finds nothing to tell
 pub done : (o p : Option (Text × List Row)) (found : Kinds) (a : Answer) → o ≡ p → found ≡ [] → Does o a → DoneAbout found p a
@@ -80,6 +137,14 @@ pub added : (a s : App) (old sub new : Command) → IsCommand a old → IsComman
 added a s old sub new is_old is_sub h = record {
   app = h.shape is_sub.local ∙ ap₂ with_subcommand is_old.app (ap (λ (x : App). x.top) is_sub.app);
   local = h.globals ∙ no_globals _ _ is_old.local is_sub.local;
+}
+
+-- a command with an argument more
+pub with_arg : (a : App) (r : Rule) (old new : Command) (arg : Arg) → IsCommand a old → rule_of arg ≡ r → arg.global ≡ false → AddsArg old arg new
+    → IsCommand (with_rule a r) new
+with_arg a r old new arg is_old rule local h = record {
+  app = h.shape local ∙ ap₂ with_rule is_old.app rule;
+  local = h.globals ∙ no_globals _ _ is_old.local local;
 }
 
 -- a parse reads the program's words as clap's definitions say

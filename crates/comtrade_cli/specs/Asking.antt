@@ -1,38 +1,109 @@
 -- What the words after the program's name ask for.
-use Rattle.std.specs.Prelude.{◌≡◌, ◌≢◌, ◌↔◌, ◌⊎◌, ℕ, Bool, true, false, List, [], Option, Some, None, codes}
+use Rattle.std.specs.Prelude.{◌≡◌, ◌≢◌, ◌↔◌, ◌⊎◌, ℕ, Bool, true, false, List, [], Option, Some, None, codes, map, option_map, unwrap_or, is_some, IsSomeAnd, if◌then◌else◌}
 use Rattle.std.specs.Borrow.{Bor}
-use Rattle.clap.specs.Words.{Kinds, IsAmong, Row, Text, fault_of, first_of, subcommand_of}
+use Rattle.clap.specs.Words.{Kinds, IsAmong, Row, Text, all_of, fault_of, first_of, subcommand_of}
 use Rattle.clap.specs.declared.error.kind.ErrorKind.{ErrorKind}
 use Rattle.clap.specs.declared.error.kind.ErrorKind.TheVariants as fault
 use Rattle.comtrade_format.specs.declared.file.Kind.TheVariants as kind
-use Rattle.comtrade_cli.specs.declared.asked.Names.{Names}
-use Rattle.comtrade_cli.specs.declared.asked.Asked.{Asked}
-use Rattle.comtrade_cli.specs.declared.asked.Asked.TheVariants.{Show, Check, Csv, Plot, Convert, Extract}
+use Rattle.comtrade_cli.specs.declared.words.Names.{Names}
+use Rattle.comtrade_cli.specs.declared.words.Part.{Part}
+use Rattle.comtrade_cli.specs.declared.words.Form.{Form}
+use Rattle.comtrade_cli.specs.declared.words.Picture.{Picture}
+use Rattle.comtrade_cli.specs.declared.words.View.{View}
+use Rattle.comtrade_cli.specs.declared.words.View.TheVariants as view
+use Rattle.comtrade_cli.specs.declared.words.Viewed.{Viewed}
+use Rattle.comtrade_cli.specs.declared.words.Converted.{Converted}
+use Rattle.comtrade_cli.specs.declared.words.Survey.{Survey}
+use Rattle.comtrade_cli.specs.declared.words.Survey.TheVariants as survey
+use Rattle.comtrade_cli.specs.declared.words.Asked.{Asked}
+use Rattle.comtrade_cli.specs.declared.words.Asked.TheVariants as asks
 use Rattle.comtrade_cli.specs.declared.asked.Answer.{Answer}
 use Rattle.comtrade_cli.specs.declared.asked.Answer.TheVariants.{Do, Print, Refuse}
 use Rattle.comtrade_cli.specs.Commands.{AreKinds, program}
 
--- what both files are called, by the words that were given for CFG and DAT; only one of them is standard input
-pub record AreNames (given : Text → Option Text) (names : Names) : Type 0 where
-  pub cfg : given (codes "CFG") ≡ Some names.cfg.now
-  pub dat : given (codes "DAT") ≡ Some names.dat.now
-  pub one_input : names.cfg.now ≡ codes "-" → names.dat.now ≡ codes "-" → ⊥
+-- the text that was given for an argument, if any was
+abbrev pub IsOption : List Row → Text → Option (Bor Text) → Type 0
+IsOption rows id text = option_map (λ s. s.now) text ≡ first_of id rows
+
+-- whether a flag was given
+abbrev pub IsFlag : List Row → Text → Bool → Type 0
+IsFlag rows id set = (set ≡ true) ↔ (first_of id rows ≡ Some (codes "true"))
+
+-- standard input is one of two files at most, and no partner is found by its name
+abbrev pub IsNamed : Text → Option Text → Type 0
+IsNamed file dat = file ≡ codes "-" → IsSomeAnd dat (λ other. other ≢ codes "-")
+
+-- what the files of a pair are called, by the words that were given for FILE and DAT
+pub record AreNames (rows : List Row) (names : Names) : Type 0 where
+  pub file : first_of (codes "FILE") rows ≡ Some names.file.now
+  pub dat : IsOption rows (codes "DAT") names.dat
+  pub named : IsNamed names.file.now (option_map (λ s. s.now) names.dat)
+
+-- which part of a record is meant
+pub record ArePart (rows : List Row) (part : Part) : Type 0 where
+  pub from : IsOption rows (codes "from") part.from
+  pub to : IsOption rows (codes "to") part.to
+  pub channels : IsOption rows (codes "channels") part.channels
+  pub changed : IsFlag rows (codes "changed") part.changed
+  pub primary : IsFlag rows (codes "primary") part.primary
+  pub secondary : IsFlag rows (codes "secondary") part.secondary
+
+-- how a table of values is written
+pub record AreForm (rows : List Row) (form : Form) : Type 0 where
+  pub separator : IsOption rows (codes "separator") form.separator
+  pub decimal : IsOption rows (codes "decimal") form.decimal
+
+-- how a picture is drawn
+pub record ArePicture (rows : List Row) (picture : Picture) : Type 0 where
+  pub whole : IsFlag rows (codes "whole") picture.whole
+  pub all : IsFlag rows (codes "all") picture.all
+  pub width : IsOption rows (codes "width") picture.width
+  pub height : IsOption rows (codes "height") picture.height
+
+abbrev pub view_name : View → Text
+view_name view.Show = codes "show"
+view_name view.Check = codes "check"
+view_name view.Csv = codes "csv"
+view_name view.Plot = codes "plot"
+view_name view.Page = codes "page"
+
+abbrev pub survey_name : Survey → Text
+survey_name survey.List = codes "list"
+survey_name survey.Events = codes "events"
+
+pub record IsViewed (rows : List Row) (v : Viewed) : Type 0 where
+  pub names : AreNames rows v.names
+  pub part : ArePart rows v.part
+  pub form : AreForm rows v.form
+  pub picture : ArePicture rows v.picture
+
+-- the last of two or three names is the new pair's, the second of three the data file's
+pub record IsConverted (rows : List Row) (made : Converted) : Type 0 where
+  pub file : first_of (codes "FILE") rows ≡ Some made.names.file.now
+  pub second : is_some (first_of (codes "NAME") rows) ≡ true
+  pub dat : option_map (λ s. s.now) made.names.dat
+      ≡ (if is_some (first_of (codes "LAST") rows) then first_of (codes "NAME") rows else None)
+  pub name : (if is_some (first_of (codes "LAST") rows) then first_of (codes "LAST") rows else first_of (codes "NAME") rows)
+      ≡ Some made.name.now
+  pub named : IsNamed made.names.file.now (option_map (λ s. s.now) made.names.dat)
+  pub data_kind : (made.kind ≡ kind.Binary) ↔ (first_of (codes "KIND") rows ≡ Some (codes "binary"))
+  pub part : ArePart rows made.part
+
+-- the names that were given, in their order
+abbrev pub AreAll : List Row → List Text → Type 0
+AreAll rows names = names ≡ unwrap_or (all_of (codes "NAMES") rows) []
 
 -- what a command asks for, by the words that were given for its arguments
-abbrev pub Asks : (Text → Option Text) → Text → Asked → Type 0
-Asks given verb (Show names) = (verb ≡ codes "show") × AreNames given names
-Asks given verb (Check names) = (verb ≡ codes "check") × AreNames given names
-Asks given verb (Csv names) = (verb ≡ codes "csv") × AreNames given names
-Asks given verb (Plot names) = (verb ≡ codes "plot") × AreNames given names
-Asks given verb (Convert names k name) = (verb ≡ codes "convert") × AreNames given names
-    × ((k ≡ kind.Binary) ↔ (given (codes "KIND") ≡ Some (codes "binary")))
-    × (given (codes "NAME") ≡ Some name.now)
-Asks given verb (Extract folder) = (verb ≡ codes "extract") × (given (codes "DIR") ≡ Some folder.now)
+abbrev pub Asks : List Row → Text → Asked → Type 0
+Asks rows verb (asks.View v viewed) = (view_name v ≡ verb) × IsViewed rows viewed
+Asks rows verb (asks.Convert made) = (codes "convert" ≡ verb) × IsConverted rows made
+Asks rows verb (asks.Extract folder) = (codes "extract" ≡ verb) × (first_of (codes "DIR") rows ≡ Some folder.now)
+Asks rows verb (asks.Survey s names) = (survey_name s ≡ verb) × AreAll rows (map (λ s. s.now) names.items)
 
 -- the same, of a command that a parse met
 abbrev pub AsksAs : Option (Text × List Row) → Asked → Type 0
 AsksAs None asked = ⊥
-AsksAs (Some met) asked = Asks (λ id. first_of id met.1) met.0 asked
+AsksAs (Some met) asked = Asks met.1 met.0 asked
 
 -- nothing fits
 abbrev pub FitsNothing : (Asked → Type 0) → Type 0

@@ -5,15 +5,28 @@ use Rattle.clap.specs.Words.{App, Rule, Text, app_of, new_app, new_rule, with_ru
 use Rattle.clap.specs.Simple.{on_top}
 use Rattle.clap.specs.declared.builder.command.Command.{Command}
 use Rattle.clap.specs.declared.builder.command.Command.TheViews.{out-Command as fields_of}
+use Rattle.clap.specs.declared.builder.action.ArgAction.TheVariants.{Append, SetTrue}
 use Rattle.clap.specs.declared.builder.value_parser.ValueParser.TheVariants.{Names}
 
 -- a word that has to be there
 abbrev pub word : Text → Rule
 word name = record (new_rule name) { required = true }
 
--- a command over a pair of files
-abbrev pub over_pair : Text → App
-over_pair name = with_rule (with_rule (new_app name) (word (codes "CFG"))) (word (codes "DAT"))
+-- a word that may be there
+abbrev pub free_word : Text → Rule
+free_word name = new_rule name
+
+-- one word or more
+abbrev pub words : Text → Rule
+words name = record (word name) { action = Some Append }
+
+-- --name with a value
+abbrev pub option : Text → Rule
+option name = record (new_rule name) { long = Some name; value_names = 1 }
+
+-- --name without one
+abbrev pub flag : Text → Rule
+flag name = record (new_rule name) { long = Some name; action = Some SetTrue }
 
 -- --kind, whose words are these
 abbrev pub kind_word : Bor (List (Bor (List ℕ))) → Rule
@@ -22,11 +35,64 @@ kind_word kinds = record (word (codes "KIND")) {
   parser = Some (Names kinds);
 }
 
+-- which part of a record is meant, and on which side
+abbrev pub with_part : App → App
+with_part a = with_rule (with_rule (with_rule (with_rule (with_rule (with_rule a
+    (option (codes "from"))) (option (codes "to"))) (option (codes "channels")))
+    (flag (codes "changed"))) (flag (codes "primary"))) (flag (codes "secondary"))
+
+-- how a picture is drawn
+abbrev pub with_picture : App → App
+with_picture a = with_rule (with_rule (with_rule (with_rule a
+    (flag (codes "whole"))) (flag (codes "all"))) (option (codes "width"))) (option (codes "height"))
+
+-- how a table of values is written
+abbrev pub with_table : App → App
+with_table a = with_rule (with_rule a (option (codes "separator"))) (option (codes "decimal"))
+
+-- a command over a pair of files
+abbrev pub over_pair : Text → App
+over_pair name = with_rule (with_rule (new_app name) (word (codes "FILE"))) (free_word (codes "DAT"))
+
+-- the commands that print what is in a pair
+abbrev pub show : App
+show = with_part (over_pair (codes "show"))
+
+abbrev pub check : App
+check = over_pair (codes "check")
+
+abbrev pub csv : App
+csv = with_table (with_part (over_pair (codes "csv")))
+
+abbrev pub plot : App
+plot = with_picture (with_part (over_pair (codes "plot")))
+
+abbrev pub page : App
+page = with_part (over_pair (codes "page"))
+
+-- with three names the second is the data file's
+abbrev pub convert_names : App
+convert_names = with_rule (with_rule (with_rule (new_app (codes "convert"))
+    (word (codes "FILE"))) (word (codes "NAME"))) (free_word (codes "LAST"))
+
+abbrev pub convert_kind : Bor (List (Bor (List ℕ))) → App
+convert_kind kinds = with_rule convert_names (kind_word kinds)
+
 abbrev pub convert : Bor (List (Bor (List ℕ))) → App
-convert kinds = with_rule (with_rule (over_pair (codes "convert")) (kind_word kinds)) (word (codes "NAME"))
+convert kinds = with_part (convert_kind kinds)
 
 abbrev pub extract : App
 extract = with_rule (new_app (codes "extract")) (word (codes "DIR"))
+
+-- a command over folders and files
+abbrev pub over_names : Text → App
+over_names name = with_rule (new_app name) (words (codes "NAMES"))
+
+abbrev pub list : App
+list = over_names (codes "list")
+
+abbrev pub events : App
+events = over_names (codes "events")
 
 abbrev pub top : App
 top = on_top (λ s. record s {
@@ -38,12 +104,14 @@ top = on_top (λ s. record s {
 
 -- the program's commands
 abbrev pub views : App → App
-views a = with_subcommand (with_subcommand (with_subcommand (with_subcommand a
-    (over_pair (codes "show")).top) (over_pair (codes "check")).top) (over_pair (codes "csv")).top)
-    (over_pair (codes "plot")).top
+views a = with_subcommand (with_subcommand (with_subcommand (with_subcommand (with_subcommand a
+    show.top) check.top) csv.top) plot.top) page.top
+
+abbrev pub surveys : App → App
+surveys a = with_subcommand (with_subcommand a list.top) events.top
 
 abbrev pub program : Bor (List (Bor (List ℕ))) → App
-program kinds = with_subcommand (with_subcommand (views top) (convert kinds).top) extract.top
+program kinds = with_subcommand (with_subcommand (surveys (views top)) (convert kinds).top) extract.top
 
 -- the words for kinds of data
 abbrev pub AreKinds : Bor (List (Bor (List ℕ))) → Type 0

@@ -1,39 +1,16 @@
 //! What words ask for.
 
-ghost use Rattle.std.specs.Prelude.{◌≡◌, ◌↔◌, IfOk, MatchOption, Some, codes, map};
-ghost use Rattle.clap.specs.Words.{first_value, found_of, kind_of, subcommand_rows_of};
-ghost use Rattle.comtrade_cli.specs.Asking.{AnswersTo, AreNames, Asks, AsksAs, Does, FitsNothing, Tells};
+ghost use Rattle.std.specs.Prelude.{◌≡◌, IfOk, MatchOption, codes, map};
+ghost use Rattle.clap.specs.Words.{found_of, kind_of, rows_of, subcommand_rows_of};
+ghost use Rattle.comtrade_cli.specs.Asking.{AnswersTo, Asks, AsksAs, Does, FitsNothing, Tells};
 ghost use Rattle.comtrade_cli.specs.Asking as Spec;
 
 use crate::commands::comtrade;
+use crate::matched::{form_of, kind_of, named, names_of, part_of, picture_of, text_of, texts_of};
+use crate::words::{Asked, Converted, Survey, View, Viewed};
 use clap::error::ErrorKind;
 use clap::{ArgMatches, Error};
-use comtrade_format::Kind;
 use std::alloc::{AllocError, Global};
-
-/// What both files of a pair are called. One of them may be `-`, which is standard input.
-#[derive(Clone, Copy, Debug, PartialEq, Eq)]
-pub struct Names<'a> {
-    pub cfg: &'a str,
-    pub dat: &'a str,
-}
-
-/// What the words ask for.
-#[derive(Clone, Copy, Debug)]
-pub enum Asked<'a> {
-    /// What is in a pair.
-    Show(Names<'a>),
-    /// Its first fault.
-    Check(Names<'a>),
-    /// Its rows as comma-separated values.
-    Csv(Names<'a>),
-    /// A picture of it.
-    Plot(Names<'a>),
-    /// A pair as a pair of another kind, with this name.
-    Convert(Names<'a>, Kind, &'a str),
-    /// The pairs that a replay printed, into a folder.
-    Extract(&'a str),
-}
 
 /// What is to be done with words.
 #[derive(Debug, Drop)]
@@ -46,76 +23,161 @@ pub enum Answer<'a> {
     Refuse(String),
 }
 
-/// Both names of a pair; none where both are standard input.
-fn names_of<'a>(found: &ArgMatches<'a>) -> Option<Names<'a>>
-    ensures { MatchOption result ((names : Names) → AreNames (first_value (found_of found.now)) names → ⊥)
-        (AreNames (first_value (found_of found.now))) }
+/// The command over one pair that is called so.
+fn view_of(verb: &str) -> Option<View>
+    ensures { MatchOption result ((view : View) → Spec.view_name view ≡ verb.now → ⊥) (λ view. Spec.view_name view ≡ verb.now) }
 {
-    let cfg = found.get_str("CFG")?;
-    let dat = found.get_str("DAT")?;
-    if cfg == "-" && dat == "-" {
-        return None;
-    }
-    Some(Names { cfg, dat })
-}
-
-/// The kind that is asked for; the parse lets no other word through.
-fn kind_of(found: &ArgMatches<'_>) -> Kind
-    ensures { (result ≡ Kind.Binary) ↔ (first_value (found_of found.now) (codes "KIND") ≡ Some (codes "binary")) }
-{
-    match found.get_str("KIND") {
-        Some(word) if word == "binary" => Kind::Binary,
-        _ => Kind::Ascii,
-    }
-}
-
-/// What a command's matches ask for.
-fn asked_of<'a>(verb: &str, found: &ArgMatches<'a>) -> Option<Asked<'a>>
-    ensures { MatchOption result (FitsNothing (Asks (first_value (found_of found.now)) verb.now))
-        (Asks (first_value (found_of found.now)) verb.now) }
-{
-    if verb == "extract" {
-        return Some(Asked::Extract(found.get_str("DIR")?));
-    }
-    let names = names_of(found)?;
-    if verb == "convert" {
-        return Some(Asked::Convert(names, kind_of(found), found.get_str("NAME")?));
+    if verb == "show" {
+        return Some(View::Show);
     }
     if verb == "check" {
-        return Some(Asked::Check(names));
+        return Some(View::Check);
     }
     if verb == "csv" {
-        return Some(Asked::Csv(names));
+        return Some(View::Csv);
     }
     if verb == "plot" {
-        return Some(Asked::Plot(names));
+        return Some(View::Plot);
     }
-    if verb == "show" {
-        return Some(Asked::Show(names));
+    if verb == "page" {
+        return Some(View::Page);
     }
     None
 }
 
-/// What matches ask for; none where both files are standard input.
-#[tactic(auto, using(crate::proofs::MetCommands::asks_met))]
-fn asked_in<'a>(matches: &ArgMatches<'a>) -> Option<Asked<'a>>
-    ensures { MatchOption result (FitsNothing (AsksAs (subcommand_rows_of matches.now))) (AsksAs (subcommand_rows_of matches.now)) }
+/// The command over many pairs that is called so.
+fn survey_of(verb: &str) -> Option<Survey>
+    ensures { MatchOption result ((survey : Survey) → Spec.survey_name survey ≡ verb.now → ⊥)
+        (λ survey. Spec.survey_name survey ≡ verb.now) }
 {
-    match matches.subcommand() {
-        Some((verb, found)) => asked_of(verb, found),
+    if verb == "list" {
+        return Some(Survey::List);
+    }
+    if verb == "events" {
+        return Some(Survey::Events);
+    }
+    None
+}
+
+/// A pair, and what is printed of it.
+#[tactic(auto, using(crate::proofs::MetCommands::no_view))]
+fn viewed_of<'a>(view: View, found: &ArgMatches<'a>) -> Option<Asked<'a>>
+    ensures { MatchOption result (FitsNothing (Asks (rows_of (found_of found.now)) (Spec.view_name view)))
+        (Asks (rows_of (found_of found.now)) (Spec.view_name view)) }
+{
+    let names = names_of(found)?;
+    Some(Asked::View(
+        view,
+        Viewed {
+            names,
+            part: part_of(found),
+            form: form_of(found),
+            picture: picture_of(found),
+        },
+    ))
+}
+
+/// What the last word names, and a pair: with three names the second is the data file's.
+fn converted_of<'a>(found: &ArgMatches<'a>) -> Option<Converted<'a>>
+    ensures { MatchOption result ((made : Converted) → Spec.IsConverted (rows_of (found_of found.now)) made → ⊥)
+        (Spec.IsConverted (rows_of (found_of found.now))) }
+{
+    let file = text_of(found, "FILE")?;
+    let second = text_of(found, "NAME")?;
+    let third = text_of(found, "LAST");
+    let (dat, name) = match third {
+        Some(name) => (Some(second), name),
+        None => (None, second),
+    };
+    Some(Converted {
+        names: named(file, dat)?,
+        kind: kind_of(found),
+        part: part_of(found),
+        name,
+    })
+}
+
+/// A pair, and the pair that is written.
+#[tactic(auto, using(crate::proofs::MetCommands::no_convert))]
+fn convert_of<'a>(found: &ArgMatches<'a>) -> Option<Asked<'a>>
+    ensures { MatchOption result (FitsNothing (Asks (rows_of (found_of found.now)) (codes "convert")))
+        (Asks (rows_of (found_of found.now)) (codes "convert")) }
+{
+    match converted_of(found) {
+        Some(made) => Some(Asked::Convert(made)),
         None => None,
     }
 }
 
-/// What is to be done with matches: all that the parse lets through are asked for, but for a pair of which both are standard input.
+/// The folder of an extract.
+#[tactic(auto, using(crate::proofs::MetCommands::no_extract))]
+fn extract_of<'a>(found: &ArgMatches<'a>) -> Option<Asked<'a>>
+    ensures { MatchOption result (FitsNothing (Asks (rows_of (found_of found.now)) (codes "extract")))
+        (Asks (rows_of (found_of found.now)) (codes "extract")) }
+{
+    match text_of(found, "DIR") {
+        Some(folder) => Some(Asked::Extract(folder)),
+        None => None,
+    }
+}
+
+/// Folders and files.
+fn surveyed_of<'a>(
+    alloc: Global,
+    survey: Survey,
+    found: &ArgMatches<'a>,
+) -> Result<Asked<'a>, AllocError>
+    ensures { IfOk result (Asks (rows_of (found_of found.now)) (Spec.survey_name survey)) }
+{
+    let names = texts_of(alloc, found, "NAMES")?;
+    Ok(Asked::Survey(survey, names))
+}
+
+/// What a command's matches ask for.
+#[tactic(auto, using(crate::proofs::MetCommands::no_command))]
+fn asked_of<'a>(
+    alloc: Global,
+    verb: &str,
+    found: &ArgMatches<'a>,
+) -> Result<Option<Asked<'a>>, AllocError>
+    ensures { IfOk result (λ asked. MatchOption asked (FitsNothing (Asks (rows_of (found_of found.now)) verb.now))
+        (Asks (rows_of (found_of found.now)) verb.now)) }
+{
+    if verb == "extract" {
+        return Ok(extract_of(found));
+    }
+    if verb == "convert" {
+        return Ok(convert_of(found));
+    }
+    if let Some(view) = view_of(verb) {
+        return Ok(viewed_of(view, found));
+    }
+    match survey_of(verb) {
+        Some(survey) => Ok(Some(surveyed_of(alloc, survey, found)?)),
+        None => Ok(None),
+    }
+}
+
+/// What matches ask for; none where a pair isn't named by its words.
+#[tactic(auto, using(crate::proofs::MetCommands::asks_met))]
+fn asked_in<'a>(alloc: Global, matches: &ArgMatches<'a>) -> Result<Option<Asked<'a>>, AllocError>
+    ensures { IfOk result (λ asked. MatchOption asked (FitsNothing (AsksAs (subcommand_rows_of matches.now))) (AsksAs (subcommand_rows_of matches.now))) }
+{
+    match matches.subcommand() {
+        Some((verb, found)) => asked_of(alloc, verb, found),
+        None => Ok(None),
+    }
+}
+
+/// What is to be done with matches: all that the parse lets through are asked for, but for a pair whose words don't name it.
 fn answer_to<'a>(alloc: Global, matches: &ArgMatches<'a>) -> Result<Answer<'a>, AllocError>
     ensures { IfOk result (Does (subcommand_rows_of matches.now)) }
 {
-    match asked_in(matches) {
+    match asked_in(alloc, matches)? {
         Some(asked) => Ok(Answer::Do(asked)),
         None => Ok(Answer::Refuse(String::from_str(
             alloc,
-            "error: only one of CFG and DAT can be -, standard input\n",
+            "error: only one of both files can be -, standard input, and the other has to be named\n",
         )?)),
     }
 }

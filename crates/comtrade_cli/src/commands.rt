@@ -1,30 +1,28 @@
-//! The commands of the program, with their words and their help.
+//! The commands of the program, with their words and their help. A command is one function here, its definition of the same name in
+//! `specs/Commands.antt`, and a line in the function of its group.
 
-ghost use Rattle.std.specs.Prelude.{◌≡◌, IfOk, codes, false};
-ghost use Rattle.clap.specs.Words.{rule_of};
+ghost use Rattle.std.specs.Prelude.{IfOk};
+ghost use Rattle.clap.specs.Words.{App};
 ghost use Rattle.comtrade_cli.specs.Commands.{IsCommand, IsKinded};
 ghost use Rattle.comtrade_cli.specs.Commands as Spec;
 
-use clap::{Arg, Command};
+use crate::options::{free_word, with_part, with_picture, with_table, word, words};
+use clap::Command;
 use std::alloc::{AllocError, Global};
 
 const ABOUT: &str =
     "Looks at COMTRADE files of 1999 (IEEE Std C37.111-1999): shows, checks, draws and converts them";
 
 const STATUS: &str = "\
-One of CFG and DAT may be -, which is standard input.
+FILE is a configuration file (.cfg), a data file (.dat) or what both are called: its partner is found by its name, in any case of \
+letters. With DAT both are named; one of them may be -, which is standard input.
 
 Status: 0 all of it was done; 1 a fault of the files, or what can't be read or written; 2 words that ask for nothing.";
 
-static KINDS: [&str; 2] = ["ascii", "binary"];
+const SURVEY_STATUS: &str = "\
+Status: 0 all of it was done; 1 a fault of the files, or what can't be read or written; 2 words that ask for nothing.";
 
-/// A word that has to be there.
-fn word<'a>(alloc: Global, name: &'a str, help: &'a str) -> Arg<'a>
-    ensures rule { rule_of result ≡ Spec.word name.entry.now }
-    ensures local { result.global ≡ false }
-{
-    Arg::new(alloc, name).required(true).help(help)
-}
+static KINDS: [&str; 2] = ["ascii", "binary"];
 
 /// A command over a pair of files.
 fn over_pair<'a>(alloc: Global, name: &'a str, about: &'a str) -> Result<Command<'a>, AllocError>
@@ -33,23 +31,95 @@ fn over_pair<'a>(alloc: Global, name: &'a str, about: &'a str) -> Result<Command
     Command::new(alloc, name)
         .about(about)
         .after_help(STATUS)
-        .arg(word(alloc, "CFG", "The configuration file (.cfg)"))?
-        .arg(word(alloc, "DAT", "The data file (.dat)"))
+        .arg(word(alloc, "FILE", "A file of the pair, or what both are called"))?
+        .arg(free_word(
+            alloc,
+            "DAT",
+            "The data file, where FILE is the configuration file",
+        ))
+}
+
+fn show<'a>(alloc: Global) -> Result<Command<'a>, AllocError>
+    ensures { IfOk result (IsCommand Spec.show) }
+{
+    let about = "Prints what is in a pair: names, instants, channels, extremes, changes, gaps";
+    let pair = over_pair(alloc, "show", about)?;
+    with_part(alloc, pair)
+}
+
+fn check<'a>(alloc: Global) -> Result<Command<'a>, AllocError>
+    ensures { IfOk result (IsCommand Spec.check) }
+{
+    over_pair(
+        alloc,
+        "check",
+        "Prints the first fault of a pair, or that it has none",
+    )
+}
+
+fn csv<'a>(alloc: Global) -> Result<Command<'a>, AllocError>
+    ensures { IfOk result (IsCommand Spec.csv) }
+{
+    let about = "Prints the rows: instants, values a*x + b, contacts";
+    let pair = over_pair(alloc, "csv", about)?;
+    let part = with_part(alloc, pair)?;
+    with_table(alloc, part)
+}
+
+fn plot<'a>(alloc: Global) -> Result<Command<'a>, AllocError>
+    ensures { IfOk result (IsCommand Spec.plot) }
+{
+    let pair = over_pair(alloc, "plot", "Prints a picture, as SVG")?;
+    let part = with_part(alloc, pair)?;
+    with_picture(alloc, part)
+}
+
+fn page<'a>(alloc: Global) -> Result<Command<'a>, AllocError>
+    ensures { IfOk result (IsCommand Spec.page) }
+{
+    let about = "Prints a page that shows the record in a browser, in one file";
+    let pair = over_pair(alloc, "page", about)?;
+    with_part(alloc, pair)
+}
+
+/// The names of `convert`: with three of them the second is the data file's.
+fn convert_names<'a>(alloc: Global) -> Result<Command<'a>, AllocError>
+    ensures { IfOk result (IsCommand Spec.convert_names) }
+{
+    let about =
+        "Writes NAME.cfg and NAME.dat, which say the same with data of another kind; neither may be there";
+    Command::new(alloc, "convert")
+        .about(about)
+        .after_help(STATUS)
+        .override_usage("comtrade convert --kind <KIND> [OPTIONS] <FILE> [DAT] <NAME>")
+        .arg(word(alloc, "FILE", "A file of the pair, or what both are called"))?
+        .arg(word(
+            alloc,
+            "NAME",
+            "What both new files are called, without .cfg and .dat; before a third name the data file",
+        ))?
+        .arg(free_word(
+            alloc,
+            "LAST",
+            "What both new files are called, where the data file stands before it",
+        ))
+}
+
+/// The same, with the kind of the data.
+fn convert_kind<'a>(alloc: Global) -> Result<Command<'a>, AllocError>
+    ensures { IfOk result (IsKinded Spec.convert_kind) }
+{
+    let kind = word(alloc, "KIND", "The kind of the data that is written")
+        .long("kind")
+        .value_parser(KINDS.as_slice());
+    convert_names(alloc)?.arg(kind)
 }
 
 fn convert<'a>(alloc: Global) -> Result<Command<'a>, AllocError>
     ensures { IfOk result (IsKinded Spec.convert) }
 {
-    let about =
-        "Writes NAME.cfg and NAME.dat, which say the same with data of another kind; neither may be there";
-    let kind = word(alloc, "KIND", "The kind of the data that is written")
-        .long("kind")
-        .value_parser(KINDS.as_slice());
-    over_pair(alloc, "convert", about)?.arg(kind)?.arg(word(
-        alloc,
-        "NAME",
-        "What both files are called, without .cfg and .dat",
-    ))
+    let kinded = convert_kind(alloc)?;
+    with_part(alloc, kinded)
 }
 
 fn extract<'a>(alloc: Global) -> Result<Command<'a>, AllocError>
@@ -66,24 +136,53 @@ fn extract<'a>(alloc: Global) -> Result<Command<'a>, AllocError>
         ))
 }
 
+/// A command over folders and files.
+fn over_names<'a>(alloc: Global, name: &'a str, about: &'a str) -> Result<Command<'a>, AllocError>
+    ensures { IfOk result (IsCommand (Spec.over_names name.entry.now)) }
+{
+    Command::new(alloc, name)
+        .about(about)
+        .after_help(SURVEY_STATUS)
+        .arg(words(alloc, "NAMES", "Folders with pairs, and pairs"))
+}
+
+fn list<'a>(alloc: Global) -> Result<Command<'a>, AllocError>
+    ensures { IfOk result (IsCommand Spec.list) }
+{
+    over_names(
+        alloc,
+        "list",
+        "Prints a line for each record of folders, by the instants of the triggers",
+    )
+}
+
+fn events<'a>(alloc: Global) -> Result<Command<'a>, AllocError>
+    ensures { IfOk result (IsCommand Spec.events) }
+{
+    over_names(
+        alloc,
+        "events",
+        "Prints the triggers, gaps and changes of contacts of one record or more, by time",
+    )
+}
+
 /// The commands that print what is in a pair.
 fn views<'a>(alloc: Global, program: Command<'a>) -> Result<Command<'a>, AllocError>
     ensures { IsCommand Spec.top program.entry → IfOk result (IsCommand (Spec.views Spec.top)) }
 {
-    let show = "Prints what is in a pair: names, instants, channels, extremes, changes, gaps";
     program
-        .subcommand(over_pair(alloc, "show", show)?)?
-        .subcommand(over_pair(
-            alloc,
-            "check",
-            "Prints the first fault of a pair, or that it has none",
-        )?)?
-        .subcommand(over_pair(
-            alloc,
-            "csv",
-            "Prints the rows: instants, values a*x + b, contacts",
-        )?)?
-        .subcommand(over_pair(alloc, "plot", "Prints a picture, as SVG")?)
+        .subcommand(show(alloc)?)?
+        .subcommand(check(alloc)?)?
+        .subcommand(csv(alloc)?)?
+        .subcommand(plot(alloc)?)?
+        .subcommand(page(alloc)?)
+}
+
+/// The commands over many pairs.
+fn surveys<'a>(alloc: Global, program: Command<'a>) -> Result<Command<'a>, AllocError>
+    ensures { (a : App) → IsCommand a program.entry → IfOk result (IsCommand (Spec.surveys a)) }
+{
+    program.subcommand(list(alloc)?)?.subcommand(events(alloc)?)
 }
 
 /// The program's name, version and help.
@@ -107,7 +206,10 @@ fn top<'a>(alloc: Global) -> Result<Command<'a>, AllocError>
 pub(crate) fn comtrade<'a>(alloc: Global) -> Result<Command<'a>, AllocError>
     ensures { IfOk result (IsKinded Spec.program) }
 {
-    views(alloc, top(alloc)?)?
+    let top = top(alloc)?;
+    let viewing = views(alloc, top)?;
+    let surveying = surveys(alloc, viewing)?;
+    surveying
         .subcommand(convert(alloc)?)?
         .subcommand(extract(alloc)?)
 }

@@ -20,6 +20,12 @@ pub enum ToolFault {
     /// A file of this name is there, and isn't written over.
     #[error("is there already, and stays as it is")]
     Exists,
+    /// A folder stands in a file's place.
+    #[error("is a folder")]
+    Folder,
+    /// Links lead back to themselves.
+    #[error("is a link that leads back to itself")]
+    Loop,
     /// A read failed.
     #[error("can't be read")]
     Input,
@@ -49,6 +55,8 @@ pub fn fault_of(kind: ErrorKind, other: ToolFault) -> ToolFault {
         ErrorKind::NotFound => ToolFault::NoFile,
         ErrorKind::PermissionDenied => ToolFault::Denied,
         ErrorKind::AlreadyExists => ToolFault::Exists,
+        ErrorKind::IsADirectory => ToolFault::Folder,
+        ErrorKind::FilesystemLoop => ToolFault::Loop,
         ErrorKind::BrokenPipe => ToolFault::Closed,
         ErrorKind::OutOfMemory => ToolFault::Memory,
         _ => other,

@@ -7,13 +7,17 @@ mod asked;
 mod commands;
 mod fault;
 mod input;
+mod matched;
+mod options;
 mod output;
 mod records;
 mod text;
+mod words;
 
-pub use asked::{Answer, Asked, Names, answer_of};
+pub use asked::{Answer, answer_of};
 pub use fault::{ToolFault, fault_of};
 pub use input::read_up_to;
 pub use output::{flush_if_full, write_out};
 pub use records::{Next, Printed, next_record};
 pub use text::{kind_name, put, put_count, put_number, put_quoted, put_safe, put_signed, put_with};
+pub use words::{Asked, Converted, Form, Names, Part, Picture, Survey, View, Viewed};

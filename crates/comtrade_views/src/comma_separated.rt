@@ -2,13 +2,69 @@
 
 use crate::instant::put_instant;
 use crate::number::{Number, Scale, put_sample, put_value, scale_of};
-use crate::times::{since_trigger, times_of, trigger_nanos};
-use comtrade_cli::{ToolFault, fault_of, put, put_number, put_safe};
+use comtrade_cli::{ToolFault, fault_of, put, put_number, put_safe, put_with};
 use comtrade_format::{File, Head, Row};
 use csv::{Error, ErrorKind, Terminator, Writer, WriterBuilder};
 use dfr_channels::Reading;
 use std::alloc::{AllocError, Allocator};
+use std::collections::BTreeMap;
 use std::io::Write;
+
+/// What separates the cells of a table, and what stands before the places of a number.
+#[derive(Clone, Copy, Debug, PartialEq, Eq)]
+pub struct Spelling {
+    pub separator: u8,
+    pub decimal: u8,
+}
+
+impl Spelling {
+    /// A comma and a point.
+    pub const PLAIN: Spelling = Spelling {
+        separator: b',',
+        decimal: b'.',
+    };
+
+    /// The spelling with what words ask for: a separator of one printable character or `tab`, a decimal point or a comma; none where they ask
+    /// for something else, or for one sign in both places.
+    pub fn of(separator: Option<&str>, decimal: Option<&str>) -> Option<Spelling> {
+        let separator = separator_of(separator)?;
+        let decimal = decimal_of(decimal)?;
+        if separator == decimal {
+            return None;
+        }
+        Some(Spelling { separator, decimal })
+    }
+}
+
+fn separator_of(text: Option<&str>) -> Option<u8> {
+    match text.unwrap_or(",").as_bytes() {
+        b"tab" => Some(b'\t'),
+        [b] if is_sign(*b) => Some(*b),
+        _ => None,
+    }
+}
+
+/// A printable character that stands in no number and isn't a quotation mark.
+fn is_sign(b: u8) -> bool {
+    33 <= b && b <= 126 && !b.is_ascii_alphanumeric() && b != b'"' && b != b'-'
+}
+
+fn decimal_of(text: Option<&str>) -> Option<u8> {
+    match text.unwrap_or(".").as_bytes() {
+        b"." => Some(b'.'),
+        b"," => Some(b','),
+        _ => None,
+    }
+}
+
+/// The number of a cell with this sign before its places.
+fn respell<A: Allocator>(cell: &mut Vec<u8, A>, decimal: u8) {
+    for b in cell.iter_mut() {
+        if *b == b'.' {
+            *b = decimal;
+        }
+    }
+}
 
 /// Why a table can't be written.
 fn csv_fault(error: &Error) -> ToolFault {
@@ -47,20 +103,51 @@ fn put_name<A: Allocator, W: Write>(
     end_cell(table, cell)
 }
 
+/// A text of the file, after an apostrophe where a spreadsheet would read a formula.
+fn put_name_of<A: Allocator>(cell: &mut Vec<u8, A>, id: &[u8]) -> Result<(), AllocError> {
+    if let Some(b'=' | b'+' | b'-' | b'@') = id.first() {
+        put(cell, "'")?;
+    }
+    put_safe(cell, id)
+}
+
+/// ` (2)` after the second one of a name, and so on.
+fn put_repeat<A: Allocator>(cell: &mut Vec<u8, A>, before: u64) -> Result<(), AllocError> {
+    if before == 0 {
+        return Ok(());
+    }
+    put_with(cell, " (", before.saturating_add(1))?;
+    put(cell, ")")
+}
+
+/// Writes the name of a column, told apart from the same name before it.
+fn end_name<A: Allocator + Copy, W: Write>(
+    table: &mut Writer<&mut W>,
+    cell: &mut Vec<u8, A>,
+    seen: &mut BTreeMap<Vec<u8, A>, u64, A>,
+) -> Result<(), ToolFault> {
+    let name = Vec::from_slice(*cell.allocator(), cell.as_slice())?;
+    let count = seen.entry(name)?.or_insert(0);
+    let before = *count;
+    *count = before.saturating_add(1);
+    put_repeat(cell, before)?;
+    end_cell(table, cell)
+}
+
 /// An analogue channel's id and unit.
 fn put_channel<A: Allocator>(
     cell: &mut Vec<u8, A>,
     id: &[u8],
     unit: &[u8],
 ) -> Result<(), AllocError> {
-    put_safe(cell, id)?;
+    put_name_of(cell, id)?;
     put(cell, " [")?;
     put_safe(cell, unit)?;
     put(cell, "]")
 }
 
 /// The names of the columns.
-fn put_head<A: Allocator, W: Write>(
+fn put_head<A: Allocator + Copy, W: Write>(
     table: &mut Writer<&mut W>,
     cell: &mut Vec<u8, A>,
     head: &Head<A>,
@@ -68,28 +155,29 @@ fn put_head<A: Allocator, W: Write>(
     put_name(table, cell, "row")?;
     put_name(table, cell, "instant")?;
     put_name(table, cell, "ms since trigger")?;
+    let mut seen = BTreeMap::new(*cell.allocator());
     for channel in head.analog.items() {
         put_channel(cell, channel.id.items(), channel.unit.items())?;
-        end_cell(table, cell)?;
+        end_name(table, cell, &mut seen)?;
     }
     for channel in head.status.items() {
-        put_safe(cell, channel.id.items())?;
-        end_cell(table, cell)?;
+        put_name_of(cell, channel.id.items())?;
+        end_name(table, cell, &mut seen)?;
     }
     end_row(table)
 }
 
-/// The instant of a row, or nothing where nothing says it.
+/// The instant of a row, by the nanoseconds since the trigger, or nothing where nothing says it.
 fn put_time<A: Allocator>(
     cell: &mut Vec<u8, A>,
-    first: i64,
-    nanos: Option<i64>,
+    trigger: i64,
+    since: Option<i64>,
 ) -> Result<(), AllocError> {
-    match nanos {
-        Some(nanos) => put_instant(
-            cell,
-            first.saturating_add(nanos.saturating_add(500).div_euclid(1000)),
-        ),
+    match since {
+        Some(nanos) => {
+            let micros = (nanos as i128).saturating_add(500).div_euclid(1000);
+            put_instant(cell, (trigger as i128).saturating_add(micros))
+        }
         None => Ok(()),
     }
 }
@@ -113,11 +201,13 @@ fn put_reading<A: Allocator>(
     cell: &mut Vec<u8, A>,
     scale: Scale,
     reading: Reading,
+    decimal: u8,
 ) -> Result<(), AllocError> {
-    match reading {
-        Reading::Value(sample) => put_sample(cell, scale, sample),
-        Reading::Missing => Ok(()),
+    if let Reading::Value(sample) = reading {
+        put_sample(cell, scale, sample)?;
+        respell(cell, decimal);
     }
+    Ok(())
 }
 
 /// The values and the bits of a row.
@@ -126,9 +216,10 @@ fn put_row<A: Allocator, W: Write>(
     cell: &mut Vec<u8, A>,
     scales: &[Scale],
     row: &Row<A>,
+    decimal: u8,
 ) -> Result<(), ToolFault> {
     for (scale, reading) in scales.iter().zip(row.values.items()) {
-        put_reading(cell, *scale, *reading)?;
+        put_reading(cell, *scale, *reading, decimal)?;
         end_cell(table, cell)?;
     }
     for bit in row.bits.items() {
@@ -146,23 +237,24 @@ fn scales_of<A: Allocator + Copy>(alloc: A, head: &Head<A>) -> Result<Vec<Scale,
 }
 
 /// The names, and the rows, written as they are made.
-fn put_table<A: Allocator, W: Write>(
+fn put_table<A: Allocator + Copy, W: Write>(
     table: &mut Writer<&mut W>,
     cell: &mut Vec<u8, A>,
     file: &File<A>,
     scales: &[Scale],
     times: &[Option<i64>],
+    decimal: u8,
 ) -> Result<(), ToolFault> {
     put_head(table, cell, &file.head)?;
-    let trigger = trigger_nanos(file);
-    for (i, row) in file.rows.items().iter().enumerate() {
+    for (row, since) in file.rows.items().iter().zip(times) {
         put_number(cell, row.number)?;
         end_cell(table, cell)?;
-        put_time(cell, file.head.first, since_trigger(times, i, 0))?;
+        put_time(cell, file.head.trigger, *since)?;
         end_cell(table, cell)?;
-        put_since(cell, since_trigger(times, i, trigger))?;
+        put_since(cell, *since)?;
+        respell(cell, decimal);
         end_cell(table, cell)?;
-        put_row(table, cell, scales, row)?;
+        put_row(table, cell, scales, row, decimal)?;
     }
     match table.flush() {
         Ok(()) => Ok(()),
@@ -175,22 +267,26 @@ fn write_table<A: Allocator + Copy, W: Write>(
     file: &File<A>,
     scales: &[Scale],
     times: &[Option<i64>],
+    spelling: Spelling,
     w: &mut W,
 ) -> Result<(), ToolFault> {
     let mut cell = Vec::new(alloc);
     let mut table = WriterBuilder::new()
+        .delimiter(spelling.separator)
         .terminator(Terminator::CRLF)
         .from_writer(w);
-    put_table(&mut table, &mut cell, file, scales, times)
+    put_table(&mut table, &mut cell, file, scales, times, spelling.decimal)
 }
 
-/// Prints the rows of a file: number, instant, milliseconds since the trigger, values a*x + b, bits.
+/// Prints the rows of a file: number, instant, milliseconds since the trigger, values a*x + b, bits. The rows were taken at these times, in
+/// nanoseconds since the trigger.
 pub fn csv_over<A: Allocator + Copy, W: Write>(
     alloc: A,
     file: &File<A>,
+    times: &[Option<i64>],
+    spelling: Spelling,
     w: &mut W,
 ) -> Result<(), ToolFault> {
     let scales = scales_of(alloc, &file.head)?;
-    let times = times_of(alloc, file)?;
-    write_table(alloc, file, &scales, &times, w)
+    write_table(alloc, file, &scales, times, spelling, w)
 }

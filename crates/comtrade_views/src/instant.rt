@@ -1,6 +1,6 @@
 //! Instants as dates, and spans of time.
 
-use comtrade_cli::{put, put_number};
+use comtrade_cli::put;
 use comtrade_values::civil_of;
 use itoa::Buffer;
 use jiff_core::civil::DateTime;
@@ -37,24 +37,33 @@ fn put_civil<A: Allocator>(out: &mut Vec<u8, A>, civil: DateTime) -> Result<(), 
     put_padded(out, (civil.time.subsec_nanosecond / 1000) as u64, 6)
 }
 
-/// Microseconds since 1970-01-01 00:00:00 as `yyyy-mm-dd hh:mm:ss.ssssss`.
+/// Microseconds since 1970-01-01 00:00:00 as `yyyy-mm-dd hh:mm:ss.ssssss`; an instant outside the years 1 to 9999 has a text.
 pub(crate) fn put_instant<A: Allocator>(
     out: &mut Vec<u8, A>,
-    instant: i64,
+    instant: i128,
 ) -> Result<(), AllocError> {
-    match civil_of(instant) {
-        Some(civil) => put_civil(out, civil),
-        None => put(out, "?"),
+    let civil = match i64::try_from(instant) {
+        Ok(near) => civil_of(near),
+        Err(_) => None,
+    };
+    match civil {
+        Some(civil) if 1 <= civil.date.year => put_civil(out, civil),
+        _ if instant < 0 => put(out, "before the year 1"),
+        _ => put(out, "after the year 9999"),
     }
 }
 
 /// Nanoseconds as milliseconds with three places.
-pub(crate) fn put_millis<A: Allocator>(out: &mut Vec<u8, A>, nanos: i64) -> Result<(), AllocError> {
+pub(crate) fn put_millis<A: Allocator>(
+    out: &mut Vec<u8, A>,
+    nanos: i128,
+) -> Result<(), AllocError> {
     let us = nanos.unsigned_abs().saturating_add(500) / 1000;
     if nanos < 0 && us != 0 {
         out.extend_from_slice(b"-")?;
     }
-    put_number(out, us / 1000)?;
+    let mut buffer = Buffer::new();
+    out.extend_from_slice(buffer.format(us / 1000).as_bytes())?;
     out.extend_from_slice(b".")?;
-    put_padded(out, us % 1000, 3)
+    put_padded(out, (us % 1000) as u64, 3)
 }

@@ -5,18 +5,18 @@ use crate::number::put_decimal;
 use crate::peaks::{peaks_of, reading_at};
 use crate::show_analog::put_analog;
 use crate::show_status::{LISTED, put_more, put_status};
-use crate::times::{since_trigger, times_of, trigger_nanos};
+use crate::times::trigger_since_first;
 use comtrade_cli::{ToolFault, kind_name, put, put_count, put_safe, put_with, write_out};
 use comtrade_format::{File, Head, Rate, Row};
 use dfr_channels::Reading;
 use std::alloc::{AllocError, Allocator};
 use std::io::Write;
 
-/// When the rows were taken, in nanoseconds since the first instant, and when the trigger was.
+/// When the rows were taken, in nanoseconds since the trigger, and when the trigger was, in nanoseconds since the first instant.
 #[derive(Clone, Copy)]
 pub(crate) struct Clock<'a> {
     pub(crate) times: &'a [Option<i64>],
-    pub(crate) trigger: i64,
+    pub(crate) trigger: i128,
 }
 
 /// When a row was taken, in milliseconds since the trigger.
@@ -25,9 +25,9 @@ pub(crate) fn put_row_time<A: Allocator>(
     clock: Clock<'_>,
     row: usize,
 ) -> Result<(), AllocError> {
-    match since_trigger(clock.times, row, clock.trigger) {
-        Some(nanos) => put_millis(out, nanos),
-        None => put_with(out, "row ", (row as u64).saturating_add(1)),
+    match clock.times.get(row) {
+        Some(Some(nanos)) => put_millis(out, *nanos as i128),
+        _ => put_with(out, "row ", (row as u64).saturating_add(1)),
     }
 }
 
@@ -40,12 +40,12 @@ fn put_line<A: Allocator>(out: &mut Vec<u8, A>, name: &str, text: &[u8]) -> Resu
 fn put_instants<A: Allocator>(
     out: &mut Vec<u8, A>,
     head: &Head<A>,
-    trigger: i64,
+    trigger: i128,
 ) -> Result<(), AllocError> {
     put(out, "first row  ")?;
-    put_instant(out, head.first)?;
+    put_instant(out, head.first as i128)?;
     put(out, "\ntrigger    ")?;
-    put_instant(out, head.trigger)?;
+    put_instant(out, head.trigger as i128)?;
     put(out, ", ")?;
     put_millis(out, trigger)?;
     put(out, " ms after the first row\nfrequency  ")?;
@@ -90,7 +90,7 @@ fn put_data<A: Allocator>(
     put(out, " us")?;
     if let (Some(Some(first)), Some(Some(last))) = (clock.times.first(), clock.times.last()) {
         put(out, ", ")?;
-        put_millis(out, last.saturating_sub(*first))?;
+        put_millis(out, (*last as i128).saturating_sub(*first as i128))?;
         put(out, " ms long")?;
     }
     put(out, "\n")
@@ -180,16 +180,16 @@ fn put_gaps<A: Allocator>(
     Ok(())
 }
 
-/// Prints what is in a file.
+/// Prints what is in a file, whose rows were taken at these times, in nanoseconds since the trigger.
 pub fn show_over<A: Allocator + Copy, W: Write>(
     alloc: A,
     file: &File<A>,
+    times: &[Option<i64>],
     w: &mut W,
 ) -> Result<(), ToolFault> {
-    let times = times_of(alloc, file)?;
     let clock = Clock {
-        times: &times,
-        trigger: trigger_nanos(file),
+        times,
+        trigger: trigger_since_first(file),
     };
     let mut out = Vec::new(alloc);
     put_top(&mut out, file, clock)?;

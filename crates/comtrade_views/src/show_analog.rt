@@ -9,8 +9,18 @@ use comtrade_format::{File, Row};
 use dfr_channels::{AnalogChannel, Decimal, Side};
 use std::alloc::{AllocError, Allocator};
 
+/// The most bytes of a text that a file of the standard holds.
+const LONGEST: usize = 64;
+
+/// A text of the file; of one that is longer than a file of the standard holds, its first bytes and three dots.
 fn put_text_cell<A: Allocator>(table: &mut Vec<u8, A>, text: &[u8]) -> Result<(), AllocError> {
-    put_safe(table, text)?;
+    match text.get(..LONGEST) {
+        Some(front) if front.len() < text.len() => {
+            put_safe(table, front)?;
+            put(table, "...")?;
+        }
+        _ => put_safe(table, text)?,
+    }
     end_cell(table)
 }
 

@@ -15,7 +15,7 @@ use std::rt::Files;
 const UNWRITTEN: u32 = 1;
 
 /// `recN.cfg` and `recN.dat` of record N are written into it; older files of these names are
-/// replaced.
+/// replaced. An empty name is no folder's.
 #[derive(Drop)]
 pub struct Folder<'a, R> {
     pub rt: &'a R,
@@ -60,6 +60,9 @@ fn write_part<R: Files + AllocGlobal>(
 ) -> Result<(), u32>
     ensures { IfErr result (λ code. code ≡ 1) }
 {
+    if folder.path.is_empty() {
+        return Err(UNWRITTEN);
+    }
     let Ok(path) = path_of(folder.rt.alloc(), folder.path, number, ending) else {
         return Err(UNWRITTEN);
     };

@@ -1,0 +1,199 @@
+//! The partner of a file: a pair by one name.
+
+use crate::{out_of_memory, say};
+use comtrade_cli::{Names, put_safe};
+use std::alloc::{AllocError, Global};
+use std::fs;
+use std::rt::Files;
+
+/// What both files of a pair are called.
+#[derive(Drop)]
+pub(crate) struct Pairing {
+    pub(crate) cfg: String,
+    pub(crate) dat: String,
+}
+
+/// Which file of a pair.
+#[derive(Clone, Copy, PartialEq, Eq)]
+enum Ending {
+    Cfg,
+    Dat,
+}
+
+impl Ending {
+    fn text(self) -> &'static str {
+        match self {
+            Ending::Cfg => ".cfg",
+            Ending::Dat => ".dat",
+        }
+    }
+}
+
+/// The name without its last four bytes, where these are the ending in any case of letters.
+fn without_ending(name: &str, ending: Ending) -> Option<&str> {
+    let at = name.len().checked_sub(4)?;
+    let front = name.get(..at)?;
+    let back = name.get(at..)?;
+    if !front.is_empty() && !front.ends_with('/') && back.eq_ignore_ascii_case(ending.text()) {
+        Some(front)
+    } else {
+        None
+    }
+}
+
+/// Which file of a pair a name is, and what both are called; a name of neither is what both are called.
+fn stem_of(name: &str) -> (Option<Ending>, &str) {
+    if let Some(stem) = without_ending(name, Ending::Cfg) {
+        return (Some(Ending::Cfg), stem);
+    }
+    match without_ending(name, Ending::Dat) {
+        Some(stem) => (Some(Ending::Dat), stem),
+        None => (None, name),
+    }
+}
+
+/// The folder of a name, with its slash, and what stands after it.
+pub(crate) fn folder_of(name: &str) -> (&str, &str) {
+    match name.rsplit_once('/') {
+        Some((folder, file)) => match name.get(..folder.len().saturating_add(1)) {
+            Some(front) => (front, file),
+            None => ("", name),
+        },
+        None => ("", name),
+    }
+}
+
+/// How well a file of a folder fits as the one with this stem and ending: best 0, none where it doesn't.
+fn rank_of(file: &str, stem: &str, ending: Ending) -> Option<u8> {
+    let front = without_ending(file, ending)?;
+    let is_same = front == stem;
+    if is_same && file.ends_with(ending.text()) {
+        return Some(0);
+    }
+    if is_same {
+        return Some(1);
+    }
+    if front.eq_ignore_ascii_case(stem) {
+        Some(2)
+    } else {
+        None
+    }
+}
+
+/// Whether a file fits better than the best before it: by its rank, then by its name.
+fn is_better(rank: u8, name: &str, best: &Option<(u8, String)>) -> bool {
+    match best {
+        Some((other, file)) => rank < *other || rank == *other && name < file.as_str(),
+        None => true,
+    }
+}
+
+/// The file of a folder that fits best.
+fn found_in<R: Files + AllocGlobal + Clone + Drop>(
+    rt: &R,
+    folder: &str,
+    stem: &str,
+    ending: Ending,
+) -> Result<Option<String>, AllocError> {
+    let place = if folder.is_empty() { "." } else { folder };
+    let Ok(entries) = fs::read_dir(rt, place) else {
+        return Ok(None);
+    };
+    let mut best: Option<(u8, String)> = None;
+    for entry in entries {
+        let Ok(entry) = entry else {
+            continue;
+        };
+        if let Some(rank) = rank_of(entry.file_name(), stem, ending) {
+            if is_better(rank, entry.file_name(), &best) {
+                best = Some((rank, String::from_str(rt.alloc(), entry.file_name())?));
+            }
+        }
+    }
+    match best {
+        Some((_, file)) => Ok(Some(joined(rt.alloc(), folder, file.as_str())?)),
+        None => Ok(None),
+    }
+}
+
+fn joined(alloc: Global, folder: &str, file: &str) -> Result<String, AllocError> {
+    let mut path = String::from_str(alloc, folder)?;
+    path.push_str(file)?;
+    Ok(path)
+}
+
+/// The name itself where it has this ending, else the file that fits best.
+fn file_for<R: Files + AllocGlobal + Clone + Drop>(
+    rt: &R,
+    name: &str,
+    ending: Ending,
+) -> Result<Option<String>, AllocError> {
+    let (given, whole) = stem_of(name);
+    if given == Some(ending) {
+        return Ok(Some(String::from_str(rt.alloc(), name)?));
+    }
+    let (folder, stem) = folder_of(whole);
+    found_in(rt, folder, stem, ending)
+}
+
+/// Says that a partner isn't there, and what was looked for.
+fn refuse_partner<R: Eprint + AllocGlobal>(rt: &R, name: &str, ending: Ending) -> Option<Pairing> {
+    let (_, whole) = stem_of(name);
+    let (folder, stem) = folder_of(whole);
+    let mut text = Vec::new(rt.alloc());
+    let mut place = Vec::new(rt.alloc());
+    let folder = if folder.is_empty() { "." } else { folder };
+    if put_safe(&mut text, stem.as_bytes()).is_err()
+        || put_safe(&mut place, folder.as_bytes()).is_err()
+    {
+        out_of_memory(rt);
+        return None;
+    }
+    let _ = eprint!(rt; "comtrade: ");
+    say(rt, &text);
+    let _ = eprint!(rt;
+        "{}: there is no such file, in any case of letters, in the folder ",
+        ending.text()
+    );
+    say(rt, &place);
+    let _ = eprintln!(rt; "");
+    None
+}
+
+/// The files of a pair by one name; none where one isn't there, which is said.
+fn found_pair<R: Files + Eprint + AllocGlobal + Clone + Drop>(
+    rt: &R,
+    name: &str,
+) -> Result<Option<Pairing>, AllocError> {
+    let Some(cfg) = file_for(rt, name, Ending::Cfg)? else {
+        return Ok(refuse_partner(rt, name, Ending::Cfg));
+    };
+    match file_for(rt, name, Ending::Dat)? {
+        Some(dat) => Ok(Some(Pairing { cfg, dat })),
+        None => Ok(refuse_partner(rt, name, Ending::Dat)),
+    }
+}
+
+/// What both files are called; none where the partner of the one isn't there, which is said.
+pub(crate) fn pairing_of<R: Files + Eprint + AllocGlobal + Clone + Drop>(
+    rt: &R,
+    names: Names<'_>,
+) -> Option<Pairing> {
+    let paired = match names.dat {
+        Some(dat) => pairing(rt.alloc(), names.file, dat),
+        None => found_pair(rt, names.file),
+    };
+    match paired {
+        Ok(pairing) => pairing,
+        Err(_) => {
+            out_of_memory(rt);
+            None
+        }
+    }
+}
+
+fn pairing(alloc: Global, cfg: &str, dat: &str) -> Result<Option<Pairing>, AllocError> {
+    let cfg = String::from_str(alloc, cfg)?;
+    let dat = String::from_str(alloc, dat)?;
+    Ok(Some(Pairing { cfg, dat }))
+}

@@ -1,0 +1,200 @@
+//! The commands over many pairs.
+
+use crate::view::file_in;
+use crate::{Inputs, complain, is_folder, pair_of, print_bytes, read_inputs, say};
+use comtrade_cli::{Names, Survey, ToolFault, fault_of};
+use comtrade_views::{
+    Event, Summary, add_events, fault_summary, put_events, put_summaries, sort_events,
+    sort_summaries, summary_of,
+};
+use std::alloc::AllocError;
+use std::fs;
+use std::rt::Files;
+
+/// Whether a name is that of a configuration file.
+fn is_cfg(name: &str) -> bool {
+    match name.len().checked_sub(4) {
+        Some(at) => match name.get(at..) {
+            Some(ending) => 0 < at && ending.eq_ignore_ascii_case(".cfg"),
+            None => false,
+        },
+        None => false,
+    }
+}
+
+/// The configuration files of a folder, in the order of their names.
+fn cfgs_of<R: Files + AllocGlobal + Clone + Drop>(
+    rt: &R,
+    folder: &str,
+) -> Result<Vec<String>, ToolFault> {
+    let entries = match fs::read_dir(rt, folder) {
+        Ok(entries) => entries,
+        Err(error) => return Err(fault_of(error.kind(), ToolFault::Input)),
+    };
+    let mut names = Vec::new(rt.alloc());
+    for entry in entries {
+        let Ok(entry) = entry else {
+            continue;
+        };
+        if is_cfg(entry.file_name()) {
+            names.push(path_in(rt, folder, entry.file_name())?)?;
+        }
+    }
+    names.sort()?;
+    Ok(names)
+}
+
+fn path_in<R: AllocGlobal>(rt: &R, folder: &str, file: &str) -> Result<String, AllocError> {
+    let mut path = String::from_str(rt.alloc(), folder)?;
+    if !folder.ends_with('/') {
+        path.push_str("/")?;
+    }
+    path.push_str(file)?;
+    Ok(path)
+}
+
+/// The pairs that names mean: of a folder those in it.
+fn pairs_of<R: Files + Eprint + AllocGlobal + Clone + Drop>(
+    rt: &R,
+    names: &[&str],
+) -> Result<Vec<String>, ToolFault> {
+    let mut pairs = Vec::new(rt.alloc());
+    for name in names {
+        if !is_folder(rt, name) {
+            pairs.push(String::from_str(rt.alloc(), name)?)?;
+            continue;
+        }
+        match cfgs_of(rt, name) {
+            Ok(found) => {
+                for pair in found {
+                    pairs.push(pair)?;
+                }
+            }
+            Err(fault) => {
+                complain(rt, name, fault);
+                return Err(fault);
+            }
+        }
+    }
+    Ok(pairs)
+}
+
+/// What was found so far.
+#[derive(Drop)]
+struct Found {
+    records: Vec<Summary>,
+    events: Vec<Event>,
+    names: Vec<String>,
+    /// Whether each pair could be read.
+    is_sound: bool,
+}
+
+/// Adds one pair that was read.
+fn add_pair<R: AllocGlobal + Eprint>(
+    rt: &R,
+    survey: Survey,
+    found: &mut Found,
+    inputs: &Inputs,
+    name: &str,
+) -> Result<(), ToolFault> {
+    let alloc = rt.alloc();
+    let mut said = Vec::new(alloc);
+    match file_in(alloc, pair_of(inputs), &mut said)? {
+        Some(file) => match survey {
+            Survey::List => found
+                .records
+                .push(summary_of(alloc, &file, name.as_bytes())?)?,
+            Survey::Events => {
+                let place = found.names.len();
+                found.names.push(String::from_str(alloc, name)?)?;
+                add_events(alloc, &mut found.events, &file, place)?;
+            }
+        },
+        None => {
+            found.is_sound = false;
+            match survey {
+                Survey::List => found
+                    .records
+                    .push(fault_summary(alloc, said, name.as_bytes())?)?,
+                Survey::Events => say(rt, &said),
+            }
+        }
+    }
+    Ok(())
+}
+
+/// Reads each pair, one after the other.
+fn add_pairs<R: Files + Input + Eprint + AllocGlobal + Clone + Drop>(
+    rt: &R,
+    survey: Survey,
+    found: &mut Found,
+    pairs: &[String],
+) -> Result<(), ToolFault> {
+    for pair in pairs {
+        let name = Names {
+            file: pair.as_str(),
+            dat: None,
+        };
+        match read_inputs(rt, name) {
+            Some(inputs) => add_pair(rt, survey, found, &inputs, pair.as_str())?,
+            None => found.is_sound = false,
+        }
+    }
+    Ok(())
+}
+
+/// The text of what was found.
+fn text_of<R: AllocGlobal>(
+    rt: &R,
+    survey: Survey,
+    found: &mut Found,
+) -> Result<Vec<u8>, ToolFault> {
+    let mut out = Vec::new(rt.alloc());
+    match survey {
+        Survey::List if found.records.is_empty() => {}
+        Survey::List => {
+            sort_summaries(&mut found.records)?;
+            put_summaries(rt.alloc(), &mut out, &found.records)?;
+        }
+        Survey::Events if found.names.is_empty() => {}
+        Survey::Events => {
+            sort_events(&mut found.events)?;
+            put_events(rt.alloc(), &mut out, &found.events, &found.names)?;
+        }
+    }
+    Ok(out)
+}
+
+fn survey_pairs<R: Files + Input + Eprint + AllocGlobal + Clone + Drop>(
+    rt: &R,
+    survey: Survey,
+    pairs: &[String],
+) -> Result<(Vec<u8>, bool), ToolFault> {
+    let mut found = Found {
+        records: Vec::new(rt.alloc()),
+        events: Vec::new(rt.alloc()),
+        names: Vec::new(rt.alloc()),
+        is_sound: true,
+    };
+    add_pairs(rt, survey, &mut found, pairs)?;
+    let text = text_of(rt, survey, &mut found)?;
+    Ok((text, found.is_sound))
+}
+
+/// Prints what is in the pairs that words name: status 1 where one can't be read.
+pub(crate) fn run_survey<R: Files + Input + Print + Eprint + AllocGlobal + Clone + Drop>(
+    rt: &R,
+    survey: Survey,
+    names: &[&str],
+) -> u8 {
+    let Ok(pairs) = pairs_of(rt, names) else {
+        return 1;
+    };
+    match survey_pairs(rt, survey, &pairs) {
+        Ok((text, is_sound)) => {
+            let status = print_bytes(rt, &text);
+            if is_sound { status } else { 1 }
+        }
+        Err(fault) => complain(rt, "records", fault),
+    }
+}

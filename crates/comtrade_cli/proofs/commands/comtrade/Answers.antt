@@ -1,0 +1,15 @@
+use Rattle.std.proofs.lemmas.Result.{IfOk-weaker}
+use Rattle.comtrade_cli.proofs.MetCommands.{added}
+use Rattle.comtrade_cli.proofs.commands.comtrade.Goals as goal
+
+pub returns : goal.returns
+returns c =
+    let viewing = c.in_ok-viewing.ensures c.in_ok-top.ensures in
+    let surveying = c.in_ok-surveying.ensures _ viewing in
+    let kinded = c.in_ok-convert.ensures in
+    let converting = added _ _ _ _ _ surveying kinded.command c.in_ok-subcommand.ensures in
+    IfOk-weaker c.subcommand-2.result _ _ (λ r h. record {
+      kinds = kinded.kinds;
+      words = kinded.words;
+      command = added _ _ _ _ _ converting c.in_ok-extract.ensures h;
+    }) c.subcommand-2.ensures

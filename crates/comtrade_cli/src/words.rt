@@ -1,0 +1,106 @@
+//! What the words of the program can ask for.
+
+use comtrade_format::Kind;
+
+/// What the files of a pair are called. Without a name for the data file its partner is looked for. One of both may be `-`, which is
+/// standard input; then the other has a name.
+#[derive(Clone, Copy, Debug)]
+pub struct Names<'a> {
+    pub file: &'a str,
+    pub dat: Option<&'a str>,
+}
+
+/// Which part of a record is meant, and on which side of the transformers, as texts that are not parsed yet.
+#[derive(Clone, Copy, Debug)]
+pub struct Part<'a> {
+    /// The first moment: milliseconds since the trigger, an instant, or `row N`.
+    pub from: Option<&'a str>,
+    /// The last moment.
+    pub to: Option<&'a str>,
+    /// Names and numbers of channels, separated by commas.
+    pub channels: Option<&'a str>,
+    /// Only contacts that change.
+    pub changed: bool,
+    /// Values of the primary side.
+    pub primary: bool,
+    /// Values of the secondary side.
+    pub secondary: bool,
+}
+
+/// How a table of values is written, as texts that are not parsed yet.
+#[derive(Clone, Copy, Debug)]
+pub struct Form<'a> {
+    /// What separates the cells of a table.
+    pub separator: Option<&'a str>,
+    /// What stands before the places of a number.
+    pub decimal: Option<&'a str>,
+}
+
+/// The commands over one pair of files that print what is in it.
+#[derive(Clone, Copy, Debug, PartialEq, Eq)]
+pub enum View {
+    /// What is in it.
+    Show,
+    /// Its first fault.
+    Check,
+    /// Its rows as comma-separated values.
+    Csv,
+    /// A picture of it.
+    Plot,
+    /// A page that shows it in a browser.
+    Page,
+}
+
+/// How a picture is drawn, its sizes as texts that are not parsed yet.
+#[derive(Clone, Copy, Debug)]
+pub struct Picture<'a> {
+    /// All of a long record.
+    pub whole: bool,
+    /// A bar for each contact.
+    pub all: bool,
+    /// How wide it is shown, in pixels.
+    pub width: Option<&'a str>,
+    /// How high it is shown.
+    pub height: Option<&'a str>,
+}
+
+/// A pair of files, and what is printed of it. An option that a command doesn't have is none.
+#[derive(Clone, Copy, Debug)]
+pub struct Viewed<'a> {
+    pub names: Names<'a>,
+    pub part: Part<'a>,
+    pub form: Form<'a>,
+    pub picture: Picture<'a>,
+}
+
+/// A pair of files, and the pair that is written in its place.
+#[derive(Clone, Copy, Debug)]
+pub struct Converted<'a> {
+    pub names: Names<'a>,
+    pub kind: Kind,
+    pub part: Part<'a>,
+    /// What both new files are called, without `.cfg` and `.dat`.
+    pub name: &'a str,
+}
+
+/// The commands over many pairs.
+#[derive(Clone, Copy, Debug, PartialEq, Eq)]
+pub enum Survey {
+    /// A line for each record of folders.
+    List,
+    /// What happened, in one list.
+    Events,
+}
+
+/// What the words ask for.
+#[derive(Debug, Drop)]
+pub enum Asked<'a> {
+    /// What is in a pair.
+    View(View, Viewed<'a>),
+    /// A pair as a pair of another kind, with this name.
+    Convert(Converted<'a>),
+    /// The pairs that a replay printed, into a folder.
+    Extract(&'a str),
+    /// What is in many pairs: those of these names, and those in folders of these names.
+    Survey(Survey, Vec<&'a str>),
+}

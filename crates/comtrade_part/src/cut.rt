@@ -1,0 +1,170 @@
+//! A record's rows and channels, cut out of it.
+
+use crate::names::Channels;
+use crate::rows::Rows;
+use comtrade_format::{File, Head, Rate, Row};
+use comtrade_values::clock_of;
+use dfr_channels::{AnalogChannel, Items, Memory, Reading, StatusChannel, TryClone};
+use std::alloc::Allocator;
+
+/// The items at these places.
+fn picked<T: TryClone, A: Allocator + Copy>(
+    alloc: A,
+    list: &[T],
+    places: &[usize],
+) -> Result<Items<T, A>, Memory> {
+    let mut picked = Vec::with_capacity(alloc, places.len())?;
+    for place in places {
+        if let Some(item) = list.get(*place) {
+            picked.push(item.try_clone()?)?;
+        }
+    }
+    Ok(Items::of(picked))
+}
+
+fn readings_at<A: Allocator + Copy>(
+    alloc: A,
+    values: &[Reading],
+    places: &[usize],
+) -> Result<Items<Reading, A>, Memory> {
+    let mut picked = Vec::with_capacity(alloc, places.len())?;
+    for place in places {
+        if let Some(value) = values.get(*place) {
+            picked.push(*value)?;
+        }
+    }
+    Ok(Items::of(picked))
+}
+
+fn bits_at<A: Allocator + Copy>(
+    alloc: A,
+    bits: &[bool],
+    places: &[usize],
+) -> Result<Items<bool, A>, Memory> {
+    let mut picked = Vec::with_capacity(alloc, places.len())?;
+    for place in places {
+        if let Some(bit) = bits.get(*place) {
+            picked.push(*bit)?;
+        }
+    }
+    Ok(Items::of(picked))
+}
+
+/// A row with these channels, its number, and a stamp that counts from this one.
+fn row_at<A: Allocator + Copy>(
+    alloc: A,
+    row: &Row<A>,
+    channels: &Channels<A>,
+    number: u64,
+    base: u64,
+) -> Result<Row<A>, Memory> {
+    let values = readings_at(alloc, row.values.items(), &channels.analog)?;
+    let bits = bits_at(alloc, row.bits.items(), &channels.status)?;
+    Ok(Row {
+        number,
+        stamp: row.stamp.map(|stamp| stamp.saturating_sub(base)),
+        values,
+        bits,
+    })
+}
+
+/// The rows, numbered from 1, with stamps that count from the first one's.
+fn cut_rows<A: Allocator + Copy>(
+    alloc: A,
+    rows: &[Row<A>],
+    channels: &Channels<A>,
+) -> Result<Items<Row<A>, A>, Memory> {
+    let base = match rows.first() {
+        Some(row) => row.stamp.unwrap_or(0),
+        None => 0,
+    };
+    let mut cut = Vec::with_capacity(alloc, rows.len())?;
+    let mut number = 0u64;
+    for row in rows {
+        number = number.saturating_add(1);
+        cut.push(row_at(alloc, row, channels, number, base)?)?;
+    }
+    Ok(Items::of(cut))
+}
+
+/// The rates of the rows, which end with the last of them.
+fn cut_rates<A: Allocator + Copy>(
+    alloc: A,
+    rates: &[Rate],
+    rows: Rows,
+) -> Result<Items<Rate, A>, Memory> {
+    let (from, to) = (rows.from as u64, rows.to as u64);
+    let mut cut: Vec<Rate, A> = Vec::new(alloc);
+    let mut last = 0u64;
+    for rate in rates {
+        let endsamp = rate.endsamp.min(to).saturating_sub(from);
+        if last < endsamp {
+            cut.push(Rate {
+                samp: rate.samp,
+                endsamp,
+            })?;
+            last = endsamp;
+        }
+    }
+    Ok(Items::of(cut))
+}
+
+/// The instant of the first of the rows, to the nearest microsecond.
+fn first_instant<A: Allocator>(head: &Head<A>, rows: &[Row<A>], from: usize) -> i64 {
+    let stamp = match rows.get(from) {
+        Some(row) => row.stamp,
+        None => None,
+    };
+    let nanos = clock_of(head).nanos(from as u64, stamp).unwrap_or(0);
+    let micros = i64::try_from(nanos.saturating_add(500) / 1000).unwrap_or(i64::MAX);
+    head.first.saturating_add(micros)
+}
+
+/// What the configuration file says of the part.
+fn cut_head<A: Allocator + Copy>(
+    alloc: A,
+    file: &File<A>,
+    rows: Rows,
+    channels: &Channels<A>,
+) -> Result<Head<A>, Memory> {
+    let head = &file.head;
+    let station = head.station.try_clone()?;
+    let device = head.device.try_clone()?;
+    let analog: Items<AnalogChannel<A>, A> = picked(alloc, head.analog.items(), &channels.analog)?;
+    let status: Items<StatusChannel<A>, A> = picked(alloc, head.status.items(), &channels.status)?;
+    let rates = cut_rates(alloc, head.rates.items(), rows)?;
+    let nrates = if head.nrates == 0 {
+        0
+    } else {
+        u32::try_from(rates.items().len()).unwrap_or(u32::MAX)
+    };
+    Ok(Head {
+        station,
+        device,
+        analog,
+        status,
+        line_freq: head.line_freq,
+        nrates,
+        rates,
+        first: first_instant(head, file.rows.items(), rows.from),
+        trigger: head.trigger,
+        kind: head.kind,
+        timemult: head.timemult,
+    })
+}
+
+/// A record of these rows and channels: its instants are those of the rows.
+pub(crate) fn cut_of<A: Allocator + Copy>(
+    alloc: A,
+    file: &File<A>,
+    rows: Rows,
+    channels: &Channels<A>,
+) -> Result<File<A>, Memory> {
+    let head = cut_head(alloc, file, rows, channels)?;
+    let kept = match file.rows.items().get(rows.from..rows.to) {
+        Some(kept) => kept,
+        None => &[],
+    };
+    let rows = cut_rows(alloc, kept, channels)?;
+    Ok(File { head, rows })
+}

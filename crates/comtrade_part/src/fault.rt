@@ -1,0 +1,52 @@
+//! Why a record has no such part.
+
+use dfr_channels::Memory;
+use std::alloc::{AllocError, AllocFailed};
+use thiserror::Error;
+
+/// Why a record has no such part.
+#[derive(Clone, Copy, Debug, PartialEq, Eq, Error)]
+pub enum PartFault<'a> {
+    /// An allocation failed.
+    #[error("out of memory")]
+    Memory,
+    /// A text is no moment.
+    #[error("\"{0}\" is no moment; wanted are ms since the trigger as -20, an instant as 2024-07-01T10:30:00.35, or row N")]
+    Moment(&'a str),
+    /// Neither rates nor stamps say when rows were taken.
+    #[error("nothing says when its rows were taken: only row N can be asked for")]
+    Timeless,
+    /// No row is from the first moment to the last.
+    #[error("no row stands from the first moment to the last")]
+    NoRow,
+    /// No channel is called so.
+    #[error("no channel is called \"{0}\"")]
+    NoChannel(&'a str),
+    /// No channel is left.
+    #[error("no channel is left")]
+    Empty,
+    /// Both sides are asked for.
+    #[error("values are of the primary or of the secondary side, not of both")]
+    Sides,
+    /// A channel's ratio gives no value of the other side; its number, from 1.
+    #[error("the ratio of analogue channel {0} gives no value of the other side")]
+    Ratio(u64),
+}
+
+impl<'a> From<AllocError> for PartFault<'a> {
+    fn from(_error: AllocError) -> PartFault<'a> {
+        PartFault::Memory
+    }
+}
+
+impl<'a> From<Memory> for PartFault<'a> {
+    fn from(_error: Memory) -> PartFault<'a> {
+        PartFault::Memory
+    }
+}
+
+impl<'a, T: Drop> From<AllocFailed<T>> for PartFault<'a> {
+    fn from(_error: AllocFailed<T>) -> PartFault<'a> {
+        PartFault::Memory
+    }
+}

@@ -1,0 +1,15 @@
+//! A part of a record: rows from one moment to another, channels by their names, values of one side of the transformers.
+#![tactic(auto)]
+
+mod cut;
+mod fault;
+mod moment;
+mod names;
+mod part;
+mod rows;
+mod side;
+mod written;
+
+pub use fault::PartFault;
+pub use part::{Cut, is_whole, part_of};
+pub use written::written_of;

@@ -1,0 +1,188 @@
+//! Channels by their names.
+
+use crate::fault::PartFault;
+use comtrade_format::{Head, Row};
+use dfr_channels::{AnalogChannel, StatusChannel};
+use std::alloc::{AllocError, Allocator};
+
+/// Which channels are meant, by their places from 0.
+#[derive(Debug, Drop)]
+pub(crate) struct Channels<A: Allocator> {
+    pub(crate) analog: Vec<usize, A>,
+    pub(crate) status: Vec<usize, A>,
+}
+
+/// Whether a text fits a name in which * stands for any letters; upper and lower case are the same.
+fn fits(name: &[u8], text: &[u8]) -> bool {
+    let mut at = 0usize;
+    let mut left = 0usize;
+    let mut star: Option<(usize, usize)> = None;
+    for _ in 0..(text.len().saturating_add(1)).saturating_mul(name.len().saturating_add(1)) {
+        if left == text.len() {
+            break;
+        }
+        if is_same(name.get(at), Some(&b'*')) {
+            star = Some((at, left));
+            at = at.saturating_add(1);
+        } else if is_same(name.get(at), text.get(left)) {
+            at = at.saturating_add(1);
+            left = left.saturating_add(1);
+        } else if let Some((begin, covered)) = star {
+            star = Some((begin, covered.saturating_add(1)));
+            at = begin.saturating_add(1);
+            left = covered.saturating_add(1);
+        } else {
+            return false;
+        }
+    }
+    left == text.len() && ends_in_stars(name, at)
+}
+
+fn is_same(one: Option<&u8>, other: Option<&u8>) -> bool {
+    match (one, other) {
+        (Some(x), Some(y)) => x.eq_ignore_ascii_case(y),
+        _ => false,
+    }
+}
+
+/// Whether nothing but stars stands from this place on.
+fn ends_in_stars(name: &[u8], at: usize) -> bool {
+    match name.get(at..) {
+        Some(rest) => rest.iter().all(|b| *b == b'*'),
+        None => true,
+    }
+}
+
+/// The place from 0 of a channel's number from 1.
+fn place_of(text: &str) -> Option<usize> {
+    text.parse::<usize>().ok()?.checked_sub(1)
+}
+
+/// The place of `D5`, a status channel by its number.
+fn status_place(text: &str) -> Option<usize> {
+    place_of(text.strip_prefix('D').or_else(|| text.strip_prefix('d'))?)
+}
+
+/// Marks the channels of which the id fits, and answers whether there is one.
+fn mark_analog<A: Allocator>(
+    marks: &mut [bool],
+    channels: &[AnalogChannel<A>],
+    name: &str,
+) -> bool {
+    let mut is_found = false;
+    for (mark, channel) in marks.iter_mut().zip(channels) {
+        if fits(name.as_bytes(), channel.id.items()) {
+            *mark = true;
+            is_found = true;
+        }
+    }
+    is_found
+}
+
+fn mark_status<A: Allocator>(
+    marks: &mut [bool],
+    channels: &[StatusChannel<A>],
+    name: &str,
+) -> bool {
+    let mut is_found = false;
+    for (mark, channel) in marks.iter_mut().zip(channels) {
+        if fits(name.as_bytes(), channel.id.items()) {
+            *mark = true;
+            is_found = true;
+        }
+    }
+    is_found
+}
+
+/// Marks the channel of a place, where there is one.
+fn mark_place(marks: &mut [bool], place: Option<usize>) -> bool {
+    let Some(place) = place else {
+        return false;
+    };
+    match marks.get_mut(place) {
+        Some(mark) => {
+            *mark = true;
+            true
+        }
+        None => false,
+    }
+}
+
+/// Marks what one name means: the channels with such an id, else the channel of a number.
+fn mark<A: Allocator>(
+    head: &Head<A>,
+    analog: &mut [bool],
+    status: &mut [bool],
+    name: &str,
+) -> bool {
+    let in_analog = mark_analog(analog, head.analog.items(), name);
+    let in_status = mark_status(status, head.status.items(), name);
+    in_analog
+        || in_status
+        || mark_place(analog, place_of(name))
+        || mark_place(status, status_place(name))
+}
+
+/// The places that are marked.
+fn places_of<A: Allocator>(alloc: A, marks: &[bool]) -> Result<Vec<usize, A>, AllocError> {
+    let mut places = Vec::new(alloc);
+    for (i, is_marked) in marks.iter().enumerate() {
+        if *is_marked {
+            places.push(i)?;
+        }
+    }
+    Ok(places)
+}
+
+/// As many marks as there are channels.
+fn marks<A: Allocator>(
+    alloc: A,
+    count: usize,
+    is_marked: bool,
+) -> Result<Vec<bool, A>, AllocError> {
+    let mut marks = Vec::new(alloc);
+    for _ in 0..count {
+        marks.push(is_marked)?;
+    }
+    Ok(marks)
+}
+
+/// Takes the marks of contacts away that keep their bit in all rows.
+fn unmark_still<A: Allocator>(marks: &mut [bool], rows: &[Row<A>]) {
+    for (i, mark) in marks.iter_mut().enumerate() {
+        let first = bit_in(rows.first(), i);
+        if rows.iter().all(|row| bit_in(Some(row), i) == first) {
+            *mark = false;
+        }
+    }
+}
+
+fn bit_in<A: Allocator>(row: Option<&Row<A>>, place: usize) -> Option<bool> {
+    row?.bits.items().get(place).copied()
+}
+
+/// The channels that are meant: all without names; with `is_changed` only those contacts that change in these rows.
+pub(crate) fn channels_of<'a, A: Allocator + Copy>(
+    alloc: A,
+    head: &Head<A>,
+    rows: &[Row<A>],
+    names: Option<&'a str>,
+    is_changed: bool,
+) -> Result<Channels<A>, PartFault<'a>> {
+    let is_all = names.is_none();
+    let mut analog = marks(alloc, head.analog.items().len(), is_all)?;
+    let mut status = marks(alloc, head.status.items().len(), is_all)?;
+    for name in names.unwrap_or("").split(',') {
+        let name = name.trim();
+        if !is_all && !mark(head, &mut analog, &mut status, name) {
+            return Err(PartFault::NoChannel(name));
+        }
+    }
+    if is_changed {
+        unmark_still(&mut status, rows);
+    }
+    Ok(Channels {
+        analog: places_of(alloc, &analog)?,
+        status: places_of(alloc, &status)?,
+    })
+}

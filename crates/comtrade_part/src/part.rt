@@ -1,0 +1,97 @@
+//! The part of a record that words ask for.
+
+use crate::cut::cut_of;
+use crate::fault::PartFault;
+use crate::names::channels_of;
+use crate::rows::rows_between;
+use crate::side::turn;
+use comtrade_cli::Part;
+use comtrade_format::File;
+use dfr_channels::{AnalogChannel, Items, Side};
+use std::alloc::{Allocator, Global};
+use std::mem;
+
+/// Whether the whole record is meant, as it is.
+pub fn is_whole(part: Part<'_>) -> bool {
+    part.from.is_none() && part.to.is_none() && part.channels.is_none() && has_no_flag(part)
+}
+
+fn has_no_flag(part: Part<'_>) -> bool {
+    !part.changed && !part.primary && !part.secondary
+}
+
+/// The side that is asked for.
+fn side_of<'a>(part: Part<'a>) -> Result<Option<Side>, PartFault<'a>> {
+    match (part.primary, part.secondary) {
+        (false, false) => Ok(None),
+        (true, false) => Ok(Some(Side::Primary)),
+        (false, true) => Ok(Some(Side::Secondary)),
+        (true, true) => Err(PartFault::Sides),
+    }
+}
+
+/// Turns each channel to this side.
+fn turn_all<A: Allocator>(channels: &mut [AnalogChannel<A>], side: Side) -> Result<(), u64> {
+    let mut number = 0u64;
+    for channel in channels {
+        number = number.saturating_add(1);
+        if !turn(channel, side) {
+            return Err(number);
+        }
+    }
+    Ok(())
+}
+
+/// The file with all values on the side that is asked for.
+fn on_side<'a, A: Allocator>(
+    alloc: A,
+    file: File<A>,
+    side: Option<Side>,
+) -> Result<File<A>, PartFault<'a>> {
+    let Some(side) = side else {
+        return Ok(file);
+    };
+    let File { mut head, rows } = file;
+    let mut analog = mem::replace(&mut head.analog, Items::of(Vec::new(alloc))).into_vec();
+    let turned = turn_all(&mut analog, side);
+    head.analog = Items::of(analog);
+    match turned {
+        Ok(()) => Ok(File { head, rows }),
+        Err(number) => Err(PartFault::Ratio(number)),
+    }
+}
+
+/// A part of a record, as a record of its own.
+#[derive(Debug, Drop)]
+pub struct Cut<A: Allocator = Global> {
+    pub file: File<A>,
+    /// Its first row's index, from 0, in the whole record.
+    pub from: usize,
+    /// The index after its last row's.
+    pub to: usize,
+}
+
+/// The part of a record that is meant: rows from one moment to another, numbered from 1, with their instants; channels by their names;
+/// values of one side of the transformers. Refused by the first of what is wrong: both sides, the moments, the names, no channel, a ratio.
+pub fn part_of<'a, A: Allocator + Copy>(
+    alloc: A,
+    file: &File<A>,
+    part: Part<'a>,
+) -> Result<Cut<A>, PartFault<'a>> {
+    let side = side_of(part)?;
+    let rows = rows_between(file, part.from, part.to)?;
+    let kept = match file.rows.items().get(rows.from..rows.to) {
+        Some(kept) => kept,
+        None => &[],
+    };
+    let channels = channels_of(alloc, &file.head, kept, part.channels, part.changed)?;
+    if channels.analog.is_empty() && channels.status.is_empty() {
+        return Err(PartFault::Empty);
+    }
+    let file = on_side(alloc, cut_of(alloc, file, rows, &channels)?, side)?;
+    Ok(Cut {
+        file,
+        from: rows.from,
+        to: rows.to,
+    })
+}

@@ -1,0 +1,122 @@
+//! Rows from one moment to another.
+
+use crate::fault::PartFault;
+use crate::moment::{Moment, moment_of};
+use comtrade_format::{File, Row};
+use comtrade_values::clock_of;
+use std::alloc::Allocator;
+
+/// Rows by their indices from 0: from the first one on, and not from the second one on.
+#[derive(Clone, Copy, Debug)]
+pub(crate) struct Rows {
+    pub(crate) from: usize,
+    pub(crate) to: usize,
+}
+
+/// A bound of the rows.
+#[derive(Clone, Copy)]
+enum Bound {
+    None,
+    /// An index from 0.
+    Index(u64),
+    /// Nanoseconds since the first row.
+    Time(i128),
+}
+
+/// The bound that a text says.
+fn bound_of<'a, A: Allocator>(
+    file: &File<A>,
+    text: Option<&'a str>,
+) -> Result<Bound, PartFault<'a>> {
+    let Some(text) = text else {
+        return Ok(Bound::None);
+    };
+    let first = file.head.first as i128 * 1000;
+    let trigger = file.head.trigger as i128 * 1000;
+    match moment_of(text) {
+        Some(Moment::Row(number)) => Ok(Bound::Index(number.saturating_sub(1))),
+        Some(Moment::SinceTrigger(nanos)) => {
+            Ok(Bound::Time(nanos.saturating_add(trigger - first)))
+        }
+        Some(Moment::Instant(nanos)) => Ok(Bound::Time(nanos.saturating_sub(first))),
+        None => Err(PartFault::Moment(text)),
+    }
+}
+
+/// Whether a row is not before the bound.
+fn is_after(bound: Bound, index: u64, time: Option<i128>) -> bool {
+    match bound {
+        Bound::None => true,
+        Bound::Index(first) => first <= index,
+        Bound::Time(first) => match time {
+            Some(time) => first <= time,
+            None => false,
+        },
+    }
+}
+
+/// Whether a row is not after the bound.
+fn is_before(bound: Bound, index: u64, time: Option<i128>) -> bool {
+    match bound {
+        Bound::None => true,
+        Bound::Index(last) => index <= last,
+        Bound::Time(last) => match time {
+            Some(time) => time <= last,
+            None => false,
+        },
+    }
+}
+
+fn needs_time(bound: Bound) -> bool {
+    matches!(bound, Bound::Time(_))
+}
+
+/// When a row was taken, where that is at most what 127 bits hold.
+fn time_of(nanos: Option<u128>) -> Option<i128> {
+    i128::try_from(nanos?).ok()
+}
+
+/// The rows between both bounds, from the first of them to the last; none where there is none.
+fn between<A: Allocator>(
+    file: &File<A>,
+    rows: &[Row<A>],
+    from: Bound,
+    to: Bound,
+) -> (Option<Rows>, bool) {
+    let mut clock = clock_of(&file.head);
+    let mut found: Option<Rows> = None;
+    let mut has_times = false;
+    for (i, row) in rows.iter().enumerate() {
+        let index = i as u64;
+        clock = clock.at(index);
+        let time = time_of(clock.nanos(index, row.stamp));
+        has_times = has_times || time.is_some();
+        if is_after(from, index, time) && is_before(to, index, time) {
+            let first = match found {
+                Some(rows) => rows.from,
+                None => i,
+            };
+            found = Some(Rows {
+                from: first,
+                to: i.saturating_add(1),
+            });
+        }
+    }
+    (found, has_times)
+}
+
+/// The rows from one moment to another, both with them.
+pub(crate) fn rows_between<'a, A: Allocator>(
+    file: &File<A>,
+    from: Option<&'a str>,
+    to: Option<&'a str>,
+) -> Result<Rows, PartFault<'a>> {
+    let from = bound_of(file, from)?;
+    let to = bound_of(file, to)?;
+    let (found, has_times) = between(file, file.rows.items(), from, to);
+    match found {
+        Some(rows) => Ok(rows),
+        None if !has_times && (needs_time(from) || needs_time(to)) => Err(PartFault::Timeless),
+        None => Err(PartFault::NoRow),
+    }
+}
