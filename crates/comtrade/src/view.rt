@@ -3,8 +3,8 @@
 use comtrade_cli::ToolFault;
 use comtrade_diagnostics::{Pair, check_over, put_fault};
 use comtrade_format::File;
+use comtrade_plot::{PlotOptions, plot_over, times_since_trigger};
 use comtrade_read::{Fault, ReadFault, read};
-use comtrade_plot::{PlotOptions, plot_over};
 use comtrade_views::{csv_over, show_over};
 use std::alloc::Allocator;
 use std::io::Write;
@@ -47,7 +47,10 @@ fn put_view<A: Allocator + Copy, W: Write>(
 ) -> Result<(), ToolFault> {
     match view {
         View::Csv => csv_over(alloc, file, w),
-        View::Plot => plot_over(alloc, file, PlotOptions::default(), w),
+        View::Plot => {
+            let times = times_since_trigger(alloc, file)?;
+            plot_over(alloc, file, &times, PlotOptions::default(), w)
+        }
         _ => show_over(alloc, file, w),
     }
 }

@@ -30,3 +30,4 @@ mod windows;
 
 pub use page::page_over;
 pub use plot::{PlotOptions, plot_over};
+pub use times::times_since_trigger;

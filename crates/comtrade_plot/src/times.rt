@@ -53,7 +53,7 @@ fn time_of<A: Allocator>(paces: &[Pace], timemult: f64, i: u64, row: &Row<A>) ->
 }
 
 /// When each row was taken, in nanoseconds since the trigger; None where the file doesn't say it.
-pub(crate) fn times_of<A: Allocator + Copy>(
+pub fn times_since_trigger<A: Allocator + Copy>(
     alloc: A,
     file: &File<A>,
 ) -> Result<Vec<Option<i64>, A>, ToolFault> {
