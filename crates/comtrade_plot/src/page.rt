@@ -201,13 +201,15 @@ fn write_end<A: Allocator + Copy, W: Write>(alloc: A, w: &mut W) -> Result<(), T
     sheet.write(w)
 }
 
-/// Prints a page that shows a file in a browser, without a network.
+/// Prints a page that shows a file in a browser, without a network; its rows were taken at these times, in nanoseconds since the
+/// trigger.
 pub fn page_over<A: Allocator + Copy, W: Write>(
     alloc: A,
     file: &File<A>,
+    times: &[Option<i64>],
     w: &mut W,
 ) -> Result<(), ToolFault> {
-    let record = record_of(alloc, file)?;
+    let record = record_of(alloc, file, times)?;
     let choice = choice_of(file, &record, false);
     let part = part_of(alloc, file, &record, choice.whole)?;
     let mut sheet = Sheet::new(alloc);

@@ -118,14 +118,15 @@ fn put_whole<'a, A: Allocator + Copy>(
     put_picture(sheet, &chart, None, options)
 }
 
-/// Prints a picture of a file.
+/// Prints a picture of a file, whose rows were taken at these times, in nanoseconds since the trigger.
 pub fn plot_over<A: Allocator + Copy, W: Write>(
     alloc: A,
     file: &File<A>,
+    times: &[Option<i64>],
     options: PlotOptions,
     w: &mut W,
 ) -> Result<(), ToolFault> {
-    let record = record_of(alloc, file)?;
+    let record = record_of(alloc, file, times)?;
     let choice = choice_of(file, &record, options.is_whole);
     let part = part_of(alloc, file, &record, choice.drawn)?;
     let mut sheet = Sheet::new(alloc);

@@ -7,7 +7,7 @@ use crate::groups::panels_of;
 use crate::layout::Chart;
 use crate::rows::{kept_times, last_change, numbers_of, places_of, whole_frame};
 use crate::survey::{Survey, add_cycles, surveys_of};
-use crate::times::{cycle_of, times_of};
+use crate::times::cycle_of;
 use crate::windows::window_of;
 use comtrade_cli::ToolFault;
 use comtrade_format::File;
@@ -44,12 +44,14 @@ pub(crate) struct Record<A: Allocator> {
 pub(crate) fn record_of<A: Allocator + Copy>(
     alloc: A,
     file: &File<A>,
+    times: &[Option<i64>],
 ) -> Result<Record<A>, ToolFault> {
-    let mut times = times_of(alloc, file)?;
-    let is_timed = whole_frame(&times).is_some();
-    if !is_timed {
-        times = numbers_of(alloc, file.rows.items().len())?;
-    }
+    let is_timed = whole_frame(times).is_some();
+    let times = if is_timed {
+        Vec::from_slice(alloc, times)?
+    } else {
+        numbers_of(alloc, file.rows.items().len())?
+    };
     let kept = kept_times(alloc, file, &times)?;
     let scales = scales_of(alloc, file.head.analog.items())?;
     let cycle = cycle_of(alloc, file)?;
