@@ -63,16 +63,24 @@ pub(crate) fn peak_of(survey: Survey, scale: Scale) -> Option<f64> {
     Some(if high.abs() < low.abs() { low } else { high })
 }
 
-/// The effective values around the trigger, where both are known.
+/// The effective values around the trigger, where they are known.
 fn put_rms<A: Allocator>(sheet: &mut Sheet<A>, survey: Survey, unit: &[u8]) {
-    let (Some(before), Some(after)) = (survey.before.rms(), survey.after.rms()) else {
+    if !is_alternating(unit) {
         return;
-    };
-    if is_alternating(unit) {
-        sheet.text(", rms ");
-        put_quantity(sheet, before, unit);
-        sheet.text(" \u{2192} ");
-        put_quantity(sheet, after, unit);
+    }
+    match (survey.before.rms(), survey.after.rms()) {
+        (Some(before), Some(after)) => {
+            sheet.text(", rms ");
+            put_quantity(sheet, before, unit);
+            sheet.text(" \u{2192} ");
+            put_quantity(sheet, after, unit);
+        }
+        (Some(before), None) => {
+            sheet.text(", rms ");
+            put_quantity(sheet, before, unit);
+            sheet.text(" \u{2192} ?");
+        }
+        _ => {}
     }
 }
 

@@ -6,7 +6,7 @@ use crate::gaps::{Gap, gaps_of};
 use crate::groups::panels_of;
 use crate::layout::Chart;
 use crate::rows::{kept_times, last_change, numbers_of, places_of, whole_frame};
-use crate::survey::{Survey, add_cycles, surveys_of};
+use crate::survey::{Survey, add_cycles, drop_partial, surveys_of};
 use crate::times::cycle_of;
 use crate::windows::window_of;
 use comtrade_cli::ToolFault;
@@ -142,6 +142,7 @@ pub(crate) fn part_of<A: Allocator + Copy>(
     let mut surveys = surveys_of(alloc, file, &record.kept, frame)?;
     if let Some(cycle) = whole_cycle(record) {
         add_cycles(&mut surveys, &record.scales, file, &record.kept, cycle);
+        drop_partial(&mut surveys, &record.times, cycle);
     }
     let panels = panels_of(alloc, file.head.analog.items(), &surveys, &record.scales)?;
     let places = places_of(alloc, frame, &record.kept)?;

@@ -117,6 +117,32 @@ fn add_squares<A: Allocator>(
     }
 }
 
+/// How many rows were taken from one time on and before another, also those that were lost.
+fn rows_between(times: &[Option<i64>], from: i64, to: i64) -> u64 {
+    let mut count = 0u64;
+    for time in times {
+        match *time {
+            Some(time) if from <= time && time < to => count = count.saturating_add(1),
+            _ => {}
+        }
+    }
+    count
+}
+
+/// Takes back the squares of cycles of which a reading is missing.
+pub(crate) fn drop_partial(surveys: &mut [Survey], times: &[Option<i64>], cycle: i64) {
+    let before = rows_between(times, cycle.saturating_neg(), 0);
+    let after = rows_between(times, 0, cycle);
+    for survey in surveys.iter_mut() {
+        if survey.before.count != before {
+            survey.before = NONE;
+        }
+        if survey.after.count != after {
+            survey.after = NONE;
+        }
+    }
+}
+
 /// The squares of the cycle that ends at the trigger and of the one that begins there.
 pub(crate) fn add_cycles<A: Allocator>(
     surveys: &mut [Survey],

@@ -106,15 +106,18 @@ pub(crate) fn put_trace<A: Allocator>(
 ) {
     let mut stroke = None;
     for (row, place) in rows.iter().zip(places.iter()) {
-        match (*place, reading_at(row, channel)) {
-            (Some(x), Reading::Value(sample)) => {
-                stroke = moved(sheet, stroke, x, panel.level(scale.value(sample)));
-            }
-            _ => {
+        let Some(x) = *place else {
+            end_run(sheet, stroke);
+            stroke = None;
+            continue;
+        };
+        stroke = match reading_at(row, channel) {
+            Reading::Value(sample) => { moved(sheet, stroke, x, panel.level(scale.value(sample))) }
+            Reading::Missing => {
                 end_run(sheet, stroke);
-                stroke = None;
+                None
             }
-        }
+        };
     }
     end_run(sheet, stroke);
 }

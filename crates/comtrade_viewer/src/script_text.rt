@@ -57,17 +57,31 @@ const channels = head.analog.map((channel, i) => {
   const missing = channel.wide ? -2147483648 : -32768;
   return { ...channel, samples, missing, pyramid: pyramidOf(samples, missing), isOn: true };
 });
-const contacts = head.status.map((contact, i) => ({ ...contact, bits: bytesOf("d" + i), isOn: true }));
 
 const bitAt = (contact, row) => (contact.bits[row >> 3] >> (row & 7)) & 1;
+
+/** The rows whose bit isn't that of the row before. */
+function changesOf(contact) {
+  const list = [];
+  for (let i = 1; i < rows; i++) if (bitAt(contact, i) !== bitAt(contact, i - 1)) list.push(i);
+  return list;
+}
+const contacts = head.status.map((contact, i) => ({ ...contact, bits: bytesOf("d" + i) }));
 for (const contact of contacts) {
-  const first = bitAt(contact, 0);
-  contact.isOn = contacts.length <= 8;
-  for (let i = 1; i < rows && !contact.isOn; i++) contact.isOn = bitAt(contact, i) !== first;
+  contact.changes = changesOf(contact);
+  contact.isOn = contacts.length <= 8 || contact.changes.length > 0;
 }
 
 /** Whether a scan was lost: no channel has a reading. */
 const isLost = (row) => channels.length > 0 && channels.every((channel) => channel.samples[row] === channel.missing);
+/** The runs of lost scans: the row before each, and the one after it. */
+const gaps = [];
+for (let i = 0; i < rows; i++) {
+  if (!isLost(i)) continue;
+  const from = Math.max(0, i - 1);
+  while (i < rows && isLost(i)) i++;
+  gaps.push([from, Math.min(i, rows - 1)]);
+}
 
 /** The least and the greatest sample of the rows from one on and before another; null where none has one. */
 function extremes(channel, from, to) {
@@ -111,7 +125,8 @@ function nearestRow(time) {
   return time - times[before] < times[after] - time ? before : after;
 }
 
-const whole = { from: times[0], to: times[rows - 1] > times[0] ? times[rows - 1] : times[0] + 1 };
+const begin = rows ? times[0] : 0;
+const whole = { from: begin, to: rows && times[rows - 1] > begin ? times[rows - 1] : begin + 1 };
 const cycle = head.hertz > 0 ? 1e9 / head.hertz : 0;
 const state = {
   from: head.from ?? whole.from, to: head.to ?? whole.to,
@@ -330,41 +345,43 @@ function drawPanel(panel) {
   pen.strokeRect(LEFT, panel.top, plot.width, panel.height);
 }
 
-/** Runs of rows for which a test holds, over the rows that are drawn; a few looks for each column where there are many rows. */
-function runs(test) {
-  const from = Math.max(0, rowAt(state.from) - 1), to = Math.min(rows, rowAt(state.to) + 1), list = [];
-  const step = Math.max(1, Math.floor((to - from) / (plot.width * 8)));
-  let begin = -1;
-  for (let i = from; i < to; i += step) {
-    const holds = test(i);
-    if (holds && begin < 0) begin = i;
-    if (!holds && begin >= 0) list.push([begin, i]), (begin = -1);
-  }
-  if (begin >= 0) list.push([begin, to - 1]);
-  return list;
-}
-
 function drawGaps(bottom) {
-  for (const [from, to] of runs(isLost)) {
-    const x = Math.max(LEFT, across(times[Math.max(0, from - 1)])), end = Math.min(LEFT + plot.width, across(times[to]));
+  for (const [from, to] of gaps) {
+    const x = Math.max(LEFT, across(times[from])), end = Math.min(LEFT + plot.width, across(times[to]));
+    if (end < LEFT || x > LEFT + plot.width) continue;
     pen.fillStyle = colours().gap;
     for (const panel of plot.panels) pen.fillRect(x, panel.top, Math.max(1, end - x), panel.height);
     pen.fillRect(x, plot.barsTop, Math.max(1, end - x), bottom - plot.barsTop);
-    if (end - x > 70) text("gap " + timeText(times[to] - times[Math.max(0, from - 1)]), (x + end) / 2, plot.panels[0] ? plot.panels[0].top + 12 : 20, "center", colours().faint);
+    if (end - x > 70) text("gap " + timeText(times[to] - times[from]), (x + end) / 2, plot.panels[0] ? plot.panels[0].top + 12 : 20, "center", colours().faint);
   }
 }
 
+/** The contacts' bars: a column is filled where the bit is 1 at its begin, or becomes 1 in it. */
 function drawContacts() {
+  const edges = [];
+  for (let column = 0; column <= plot.width; column++) edges.push(rowAt(timeAt(LEFT + column)));
   plot.bars.forEach((contact, i) => {
     const y = plot.barsTop + i * BAR;
     line(LEFT, y + BAR - 3.5, LEFT + plot.width, y + BAR - 3.5, colours().grid);
     pen.fillStyle = contact.normal ? colours().normal : colours().on;
-    for (const [from, to] of runs((row) => bitAt(contact, row) && !isLost(row))) {
-      const x = Math.max(LEFT, across(times[from])), end = Math.min(LEFT + plot.width, across(times[to]));
-      pen.fillRect(x, y + 3, Math.max(0.5, end - x), BAR - 7);
+    let next = 0, begin = -1;
+    const first = rows ? bitAt(contact, 0) : 0;
+    for (let column = 0; column < plot.width; column++) {
+      const from = edges[column], to = edges[column + 1];
+      while (next < contact.changes.length && contact.changes[next] < from) next++;
+      let isOn = (first ^ (next & 1)) === 1 && from > 0 && from <= rows;
+      if (next < contact.changes.length && contact.changes[next] < to) isOn = true;
+      if (from === 0 && to > 0) isOn = isOn || first === 1;
+      if (isOn && begin < 0) begin = column;
+      if (!isOn && begin >= 0) pen.fillRect(LEFT + begin, y + 3, column - begin, BAR - 7), (begin = -1);
     }
-    text(contact.id, LEFT + 4, y + 12);
+    if (begin >= 0) pen.fillRect(LEFT + begin, y + 3, plot.width - begin, BAR - 7);
   });
+}
+
+/** The contacts' names, over their bars. */
+function nameContacts() {
+  plot.bars.forEach((contact, i) => text(contact.id, LEFT + 4, plot.barsTop + i * BAR + 12));
 }
 
 function drawTimes(bottom) {
@@ -394,10 +411,11 @@ function draw() {
   pen.font = "12px sans-serif";
   pen.fillStyle = colours().page;
   pen.fillRect(0, 0, canvas.width, canvas.height);
+  drawContacts();
   drawGaps(bottom);
   drawTimes(bottom);
   for (const panel of plot.panels) drawPanel(panel);
-  drawContacts();
+  nameContacts();
   if (head.isTimed) drawUpright(0, colours().text, [4, 3], "", bottom);
   state.cursors.forEach((row, i) => drawUpright(times[row], [colours().c, colours().a][i], [], "AB"[i], bottom));
 }
