@@ -102,8 +102,18 @@ fn put_numbers<A: Allocator>(
     }
 }
 
+/// A small text at a height, made narrower where there is no room for it.
+fn put_small<A: Allocator>(sheet: &mut Sheet<A>, y: u32, text: &Sheet<A>) {
+    let small = " class=\"f\" font-size=\"10.5\" fill=\"#55595f\"";
+    let narrow =
+        " class=\"f\" font-size=\"10.5\" fill=\"#55595f\" textLength=\"246\" lengthAdjust=\"spacingAndGlyphs\"";
+    sheet.begin_text(NAMES, y, if text.len() < 45 { small } else { narrow });
+    sheet.append(text);
+    sheet.end_text();
+}
+
 /// A channel's legend at a height; the height of the next one.
-pub(crate) fn put_legend<A: Allocator>(
+pub(crate) fn put_legend<A: Allocator + Copy>(
     sheet: &mut Sheet<A>,
     chart: &Chart<'_, A>,
     at: usize,
@@ -121,12 +131,8 @@ pub(crate) fn put_legend<A: Allocator>(
     };
     put_mark(sheet, hue, y);
     let end = put_name(sheet, channel.id.items(), channel.phase.items(), y);
-    sheet.begin_text(
-        NAMES,
-        end.saturating_add(LINE_HEIGHT - 10),
-        " class=\"f\" font-size=\"10.5\" fill=\"#55595f\"",
-    );
-    put_numbers(sheet, channel, *survey, *scale);
-    sheet.end_text();
+    let mut numbers = Sheet::new(chart.alloc);
+    put_numbers(&mut numbers, channel, *survey, *scale);
+    put_small(sheet, end.saturating_add(LINE_HEIGHT - 10), &numbers);
     y.saturating_add(legend_height(channel))
 }

@@ -76,14 +76,29 @@ fn put_analog<A: Allocator>(
     sheet.text("}");
 }
 
+/// What the page has to know of the analogue channel of this index.
+fn put_analog_at<A: Allocator>(
+    sheet: &mut Sheet<A>,
+    channels: &[AnalogChannel<A>],
+    part: &Part<A>,
+    at: usize,
+) {
+    let (Some(channel), Some(panel), Some(survey)) = (
+        channels.get(at),
+        part.panels.get(at),
+        part.surveys.get(at),
+    ) else {
+        return;
+    };
+    let hue = hue_in(channels, &part.panels, at);
+    put_analog(sheet, channel, *panel, hue.class(), is_wide(*survey));
+}
+
 fn put_analogs<A: Allocator>(sheet: &mut Sheet<A>, channels: &[AnalogChannel<A>], part: &Part<A>) {
-    let panels = part.panels.as_slice();
-    let known = panels.iter().zip(part.surveys.iter());
     sheet.text(",\"analog\":[");
-    for (i, (channel, (panel, survey))) in channels.iter().zip(known).enumerate() {
+    for i in 0..channels.len() {
         sheet.text(if i == 0 { "" } else { ",\n" });
-        let hue = hue_in(channels, panels, i);
-        put_analog(sheet, channel, *panel, hue.class(), is_wide(*survey));
+        put_analog_at(sheet, channels, part, i);
     }
     sheet.text("]");
 }

@@ -148,7 +148,12 @@ pub(crate) fn put_traces<A: Allocator>(
 }
 
 /// The names of a panel's channels.
-fn put_names<A: Allocator>(sheet: &mut Sheet<A>, chart: &Chart<'_, A>, top: u32, number: usize) {
+fn put_names<A: Allocator + Copy>(
+    sheet: &mut Sheet<A>,
+    chart: &Chart<'_, A>,
+    top: u32,
+    number: usize,
+) {
     let file = chart.file;
     let channels = file.head.analog.items();
     let mut y = top.saturating_add(90);

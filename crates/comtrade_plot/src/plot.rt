@@ -69,53 +69,47 @@ fn put_scales<A: Allocator>(sheet: &mut Sheet<A>, chart: &Chart<'_, A>, places: 
     put_note(sheet, chart, places.end.saturating_add(580));
 }
 
-/// The picture of a chart; of a part of a record with the strip of the whole.
+/// The picture of a chart up to its end, with room for the strip where it is a part of a record.
 fn put_picture<A: Allocator + Copy>(
     sheet: &mut Sheet<A>,
     chart: &Chart<'_, A>,
-    whole: Option<&Chart<'_, A>>,
+    is_part: bool,
     options: PlotOptions,
 ) -> Result<(), ToolFault> {
     let bars = bars_of(chart, options.shows_all)?;
-    let places = places_in(chart, &bars, whole.is_some());
+    let places = places_in(chart, &bars, is_part);
     put_head(sheet, chart, options, places.end.saturating_add(640));
-    if let Some(whole) = whole {
-        put_overview(sheet, whole, chart.frame, 560);
-    }
     put_panels(sheet, chart, places.panels);
     put_contacts(sheet, chart, &bars, places.contacts);
     put_scales(sheet, chart, places);
-    sheet.text("</svg>\n");
     Ok(())
 }
 
-/// The picture of a part of a record, with the strip of the whole.
-fn put_part<A: Allocator + Copy>(
-    alloc: A,
-    sheet: &mut Sheet<A>,
-    file: &File<A>,
-    record: &Record<A>,
-    part: &Part<A>,
-    whole: Frame,
-    options: PlotOptions,
-) -> Result<(), ToolFault> {
-    let all = whole_of(alloc, file, record, part, whole)?;
-    let chart = chart_of(alloc, file, record, part);
-    let strip = chart_of(alloc, file, record, &all);
-    put_picture(sheet, &chart, Some(&strip), options)
-}
-
-/// The picture of a whole record.
-fn put_whole<'a, A: Allocator + Copy>(
+/// The picture of what is drawn of a record.
+fn put_drawn<'a, A: Allocator + Copy>(
     alloc: A,
     sheet: &mut Sheet<A>,
     file: &'a File<A>,
     record: &'a Record<A>,
     part: &'a Part<A>,
+    is_part: bool,
     options: PlotOptions,
 ) -> Result<(), ToolFault> {
     let chart = chart_of(alloc, file, record, part);
-    put_picture(sheet, &chart, None, options)
+    put_picture(sheet, &chart, is_part, options)
+}
+
+/// The strip of the whole record, of which these times are drawn.
+fn put_strip<'a, A: Allocator + Copy>(
+    alloc: A,
+    sheet: &mut Sheet<A>,
+    file: &'a File<A>,
+    record: &'a Record<A>,
+    all: &'a Part<A>,
+    drawn: Frame,
+) {
+    let chart = chart_of(alloc, file, record, all);
+    put_overview(sheet, &chart, drawn, 560);
 }
 
 /// Prints a picture of a file, whose rows were taken at these times, in nanoseconds since the trigger.
@@ -130,11 +124,19 @@ pub fn plot_over<A: Allocator + Copy, W: Write>(
     let choice = choice_of(file, &record, options.is_whole);
     let part = part_of(alloc, file, &record, choice.drawn)?;
     let mut sheet = Sheet::new(alloc);
+    put_drawn(
+        alloc,
+        &mut sheet,
+        file,
+        &record,
+        &part,
+        choice.is_part,
+        options,
+    )?;
     if choice.is_part {
-        let whole = choice.whole;
-        put_part(alloc, &mut sheet, file, &record, &part, whole, options)?;
-    } else {
-        put_whole(alloc, &mut sheet, file, &record, &part, options)?;
+        let all = whole_of(alloc, file, &record, &part, choice.whole)?;
+        put_strip(alloc, &mut sheet, file, &record, &all, choice.drawn);
     }
+    sheet.text("</svg>\n");
     sheet.write(w)
 }
