@@ -15,7 +15,6 @@ said 2>&1 | head -n 3
 said jump
 said shw files/first.cfg files/first.dat
 said "$(printf 'j\033[31m')"
-said show files/first.cfg
 said show files/first.cfg files/first.dat more
 said show --loud files/first.cfg files/first.dat
 said check - - < /dev/null

@@ -180,7 +180,7 @@ pub(crate) fn pairing_of<R: Files + Eprint + AllocGlobal + Clone + Drop>(
     names: Names<'_>,
 ) -> Option<Pairing> {
     let paired = match names.dat {
-        Some(dat) => pairing(rt.alloc(), names.file, dat),
+        Some(dat) => named_pair(rt.alloc(), names.file, dat),
         None => found_pair(rt, names.file),
     };
     match paired {
@@ -192,7 +192,7 @@ pub(crate) fn pairing_of<R: Files + Eprint + AllocGlobal + Clone + Drop>(
     }
 }
 
-fn pairing(alloc: Global, cfg: &str, dat: &str) -> Result<Option<Pairing>, AllocError> {
+fn named_pair(alloc: Global, cfg: &str, dat: &str) -> Result<Option<Pairing>, AllocError> {
     let cfg = String::from_str(alloc, cfg)?;
     let dat = String::from_str(alloc, dat)?;
     Ok(Some(Pairing { cfg, dat }))

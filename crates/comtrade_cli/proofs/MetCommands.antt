@@ -1,5 +1,5 @@
 -- A command that a parse met, by its name and its rows.
-use Rattle.std.proofs.Common.{◌≡◌, ℕ, Bool, true, false, Bor, get_or, arith, List, [], Option, Some, None, option_map, unwrap_or, codes, inl, inr, refl, ap, ap₂, ◌∙◌, sym, rules}
+use Rattle.std.proofs.Common.{◌≡◌, ℕ, Bool, true, false, Bor, get_or, arith, ltb, ltb-true, ◌<◌, List, [], Option, Some, None, option_map, unwrap_or, codes, inl, inr, refl, ap, ap₂, ◌∙◌, sym, rules}
 use Rattle.clap.specs.Words.{Row, Rule, Text, all_of, first_of, first_value, found_of, matched_of, raw_values, rows_of, rule_of, with_rule}
 use Rattle.std.specs.Prelude.{◌||◌, ◌⊎◌, MatchOption, is_some, if◌then◌else◌}
 use Rattle.clap.specs.Matches.{subcommand_name_of}
@@ -34,43 +34,50 @@ rows f id = first_value-rows f id
 pub all_rows : (f : Found) (id : Text) → option_map raw_values (matched_of f id) ≡ all_of id (rows_of f)
 all_rows f id = raw_values-rows f id
 
+-- equal texts have equal letters
+letter : (k : ℕ) (s t : List ℕ) → s ≡ t → get_or s k 0 ≡ get_or t k 0
+letter k s t e = ap (λ (x : List ℕ). get_or x k 0) e
+
+below : (m n : ℕ) → m ≡ n → ltb m n ≡ true → ⊥
+below m n e h = let lt : m < n = ltb-true m n h in absurd (omega arith)
+
 -- no two commands have one name
 view_isnt_convert : (v : View) → view_name v ≡ codes "convert" → ⊥
-view_isnt_convert view.Show e = let bad : 115 ≡ 99 = ap (λ (t : List ℕ). get_or t 0 0) e in absurd (omega arith)
-view_isnt_convert view.Check e = let bad : 104 ≡ 111 = ap (λ (t : List ℕ). get_or t 1 0) e in absurd (omega arith)
-view_isnt_convert view.Csv e = let bad : 115 ≡ 111 = ap (λ (t : List ℕ). get_or t 1 0) e in absurd (omega arith)
-view_isnt_convert view.Plot e = let bad : 112 ≡ 99 = ap (λ (t : List ℕ). get_or t 0 0) e in absurd (omega arith)
-view_isnt_convert view.Page e = let bad : 112 ≡ 99 = ap (λ (t : List ℕ). get_or t 0 0) e in absurd (omega arith)
+view_isnt_convert view.Show e = below 99 115 (letter 0 _ _ (sym e)) refl
+view_isnt_convert view.Check e = below 104 111 (letter 1 _ _ e) refl
+view_isnt_convert view.Csv e = below 111 115 (letter 1 _ _ (sym e)) refl
+view_isnt_convert view.Plot e = below 99 112 (letter 0 _ _ (sym e)) refl
+view_isnt_convert view.Page e = below 99 112 (letter 0 _ _ (sym e)) refl
 
 view_isnt_extract : (v : View) → view_name v ≡ codes "extract" → ⊥
-view_isnt_extract view.Show e = let bad : 115 ≡ 101 = ap (λ (t : List ℕ). get_or t 0 0) e in absurd (omega arith)
-view_isnt_extract view.Check e = let bad : 99 ≡ 101 = ap (λ (t : List ℕ). get_or t 0 0) e in absurd (omega arith)
-view_isnt_extract view.Csv e = let bad : 99 ≡ 101 = ap (λ (t : List ℕ). get_or t 0 0) e in absurd (omega arith)
-view_isnt_extract view.Plot e = let bad : 112 ≡ 101 = ap (λ (t : List ℕ). get_or t 0 0) e in absurd (omega arith)
-view_isnt_extract view.Page e = let bad : 112 ≡ 101 = ap (λ (t : List ℕ). get_or t 0 0) e in absurd (omega arith)
+view_isnt_extract view.Show e = below 101 115 (letter 0 _ _ (sym e)) refl
+view_isnt_extract view.Check e = below 99 101 (letter 0 _ _ e) refl
+view_isnt_extract view.Csv e = below 99 101 (letter 0 _ _ e) refl
+view_isnt_extract view.Plot e = below 101 112 (letter 0 _ _ (sym e)) refl
+view_isnt_extract view.Page e = below 101 112 (letter 0 _ _ (sym e)) refl
 
 survey_isnt_convert : (s : Survey) → survey_name s ≡ codes "convert" → ⊥
-survey_isnt_convert survey.List e = let bad : 108 ≡ 99 = ap (λ (t : List ℕ). get_or t 0 0) e in absurd (omega arith)
-survey_isnt_convert survey.Events e = let bad : 101 ≡ 99 = ap (λ (t : List ℕ). get_or t 0 0) e in absurd (omega arith)
+survey_isnt_convert survey.List e = below 99 108 (letter 0 _ _ (sym e)) refl
+survey_isnt_convert survey.Events e = below 99 101 (letter 0 _ _ (sym e)) refl
 
 survey_isnt_extract : (s : Survey) → survey_name s ≡ codes "extract" → ⊥
-survey_isnt_extract survey.List e = let bad : 108 ≡ 101 = ap (λ (t : List ℕ). get_or t 0 0) e in absurd (omega arith)
-survey_isnt_extract survey.Events e = let bad : 118 ≡ 120 = ap (λ (t : List ℕ). get_or t 1 0) e in absurd (omega arith)
+survey_isnt_extract survey.List e = below 101 108 (letter 0 _ _ (sym e)) refl
+survey_isnt_extract survey.Events e = below 118 120 (letter 1 _ _ e) refl
 
 survey_isnt_view : (s : Survey) (v : View) → survey_name s ≡ view_name v → ⊥
-survey_isnt_view survey.List view.Show e = let bad : 108 ≡ 115 = ap (λ (t : List ℕ). get_or t 0 0) e in absurd (omega arith)
-survey_isnt_view survey.List view.Check e = let bad : 108 ≡ 99 = ap (λ (t : List ℕ). get_or t 0 0) e in absurd (omega arith)
-survey_isnt_view survey.List view.Csv e = let bad : 108 ≡ 99 = ap (λ (t : List ℕ). get_or t 0 0) e in absurd (omega arith)
-survey_isnt_view survey.List view.Plot e = let bad : 108 ≡ 112 = ap (λ (t : List ℕ). get_or t 0 0) e in absurd (omega arith)
-survey_isnt_view survey.List view.Page e = let bad : 108 ≡ 112 = ap (λ (t : List ℕ). get_or t 0 0) e in absurd (omega arith)
-survey_isnt_view survey.Events view.Show e = let bad : 101 ≡ 115 = ap (λ (t : List ℕ). get_or t 0 0) e in absurd (omega arith)
-survey_isnt_view survey.Events view.Check e = let bad : 101 ≡ 99 = ap (λ (t : List ℕ). get_or t 0 0) e in absurd (omega arith)
-survey_isnt_view survey.Events view.Csv e = let bad : 101 ≡ 99 = ap (λ (t : List ℕ). get_or t 0 0) e in absurd (omega arith)
-survey_isnt_view survey.Events view.Plot e = let bad : 101 ≡ 112 = ap (λ (t : List ℕ). get_or t 0 0) e in absurd (omega arith)
-survey_isnt_view survey.Events view.Page e = let bad : 101 ≡ 112 = ap (λ (t : List ℕ). get_or t 0 0) e in absurd (omega arith)
+survey_isnt_view survey.List view.Show e = below 108 115 (letter 0 _ _ e) refl
+survey_isnt_view survey.List view.Check e = below 99 108 (letter 0 _ _ (sym e)) refl
+survey_isnt_view survey.List view.Csv e = below 99 108 (letter 0 _ _ (sym e)) refl
+survey_isnt_view survey.List view.Plot e = below 108 112 (letter 0 _ _ e) refl
+survey_isnt_view survey.List view.Page e = below 108 112 (letter 0 _ _ e) refl
+survey_isnt_view survey.Events view.Show e = below 101 115 (letter 0 _ _ e) refl
+survey_isnt_view survey.Events view.Check e = below 99 101 (letter 0 _ _ (sym e)) refl
+survey_isnt_view survey.Events view.Csv e = below 99 101 (letter 0 _ _ (sym e)) refl
+survey_isnt_view survey.Events view.Plot e = below 101 112 (letter 0 _ _ e) refl
+survey_isnt_view survey.Events view.Page e = below 101 112 (letter 0 _ _ e) refl
 
 extract_isnt_convert : codes "extract" ≡ codes "convert" → ⊥
-extract_isnt_convert e = let bad : 101 ≡ 99 = ap (λ (t : List ℕ). get_or t 0 0) e in absurd (omega arith)
+extract_isnt_convert e = below 99 101 (letter 0 _ _ (sym e)) refl
 
 -- where the names of a pair don't fit, nothing that its command asks for does
 pub no_view : (r : List Row) (v : View) → ((names : Names) → AreNames r names → ⊥) → FitsNothing (Asks r (view_name v))

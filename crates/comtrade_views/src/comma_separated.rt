@@ -18,12 +18,6 @@ pub struct Spelling {
 }
 
 impl Spelling {
-    /// A comma and a point.
-    pub const PLAIN: Spelling = Spelling {
-        separator: b',',
-        decimal: b'.',
-    };
-
     /// The spelling with what words ask for: a separator of one printable character or `tab`, a decimal point or a comma; none where they ask
     /// for something else, or for one sign in both places.
     pub fn of(separator: Option<&str>, decimal: Option<&str>) -> Option<Spelling> {

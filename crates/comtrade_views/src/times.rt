@@ -44,6 +44,12 @@ pub(crate) fn since_trigger(times: &[Option<i64>], row: usize, trigger: i64) -> 
     }
 }
 
+/// A time since the first row as one since the trigger.
+fn since(time: Option<i64>, trigger: i128) -> Option<i64> {
+    let nanos = time? as i128;
+    i64::try_from(nanos.saturating_sub(trigger)).ok()
+}
+
 /// When each row was taken, in nanoseconds since the trigger; none where nothing says it, and beyond 292 years.
 pub fn times_since_trigger<A: Allocator + Copy>(
     alloc: A,
@@ -52,10 +58,7 @@ pub fn times_since_trigger<A: Allocator + Copy>(
     let trigger = trigger_since_first(file);
     let mut times = times_of(alloc, file)?;
     for time in times.iter_mut() {
-        *time = match time {
-            Some(nanos) => i64::try_from((*nanos as i128).saturating_sub(trigger)).ok(),
-            None => None,
-        };
+        *time = since(*time, trigger);
     }
     Ok(times)
 }
