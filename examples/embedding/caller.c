@@ -1,31 +1,18 @@
-/* Prints each analogue channel of a pair with its greatest value, and writes the pair anew as BINARY: caller CFG DAT NEWCFG NEWDAT */
+/* Prints what a pair says, and writes the pair anew from the arrays that were read: caller CFG DAT NEWCFG NEWDAT */
+#include <inttypes.h>
 #include <stdio.h>
 #include <stdlib.h>
 
 #include "comtrade.h"
 
-struct bytes {
-    uint8_t *at;
-    size_t length;
-};
+static struct comtrade_fault fault;
 
-static struct bytes contents(const char *name) {
-    FILE *file = fopen(name, "rb");
-    if (!file) {
-        perror(name);
-        exit(1);
-    }
-    fseek(file, 0, SEEK_END);
-    struct bytes got = {malloc(ftell(file) + 1), ftell(file)};
-    rewind(file);
-    if (!got.at || fread(got.at, 1, got.length, file) != got.length) exit(1);
-    fclose(file);
-    return got;
-}
-
-static void keep(const char *name, const uint8_t *at, size_t length) {
-    FILE *file = fopen(name, "wb");
-    if (!file || fwrite(at, 1, length, file) != length || fclose(file)) exit(1);
+static void need(int32_t answer) {
+    char words[200];
+    if (answer == COMTRADE_DONE) return;
+    printf("%s\n", comtrade_answer_text(answer));
+    if (comtrade_fault_text(&fault, words, sizeof words, NULL) == COMTRADE_DONE) printf("%s\n", words);
+    exit(1);
 }
 
 static void *room(size_t count, size_t size) {
@@ -34,55 +21,99 @@ static void *room(size_t count, size_t size) {
     return at;
 }
 
-static void need(int32_t answer, const struct comtrade_fault *fault) {
-    if (answer == COMTRADE_DONE) return;
-    printf("answer %d kind %u place %llu field %u\n", answer, fault->kind, (unsigned long long)fault->place, fault->field);
-    exit(1);
+static char *text(const comtrade *record, int32_t which, size_t channel) {
+    size_t needed;
+    comtrade_text(record, which, channel, NULL, 0, &needed);
+    char *at = room(needed, 1);
+    need(comtrade_text(record, which, channel, at, needed + 1, NULL));
+    return at;
+}
+
+static void print_row(const comtrade *record, const struct comtrade_head *head, size_t row) {
+    int64_t time;
+    double *values = room(head->analog, sizeof *values);
+    uint8_t *bits = room(head->status, 1);
+    need(comtrade_times(record, row, 1, &time));
+    need(comtrade_values(record, COMTRADE_ALL, row, 1, values));
+    need(comtrade_bits(record, COMTRADE_ALL, row, 1, bits));
+    printf("row %zu: %" PRId64 " ns:", row, time);
+    for (size_t c = 0; c < head->analog; c++) values[c] == values[c] ? printf(" %.6f", values[c]) : printf(" -");
+    printf(" /");
+    for (size_t c = 0; c < head->status; c++) printf(" %u", bits[c]);
+    printf("\n");
+    free(values);
+    free(bits);
 }
 
 int main(int argc, char **argv) {
+    comtrade *record;
+    struct comtrade_head head = {sizeof head, 0, 0, 0, 0, 0, 0, 0, 0, 0, false};
     if (argc != 5) return 2;
-    struct bytes cfg = contents(argv[1]), dat = contents(argv[2]);
-    struct comtrade_fault fault = {0, 0, 0};
-    struct comtrade_summary held;
-    need(comtrade_summary(cfg.at, cfg.length, dat.at, dat.length, &held, &fault), &fault);
-    printf("%zu analogue, %zu status, %zu rows, %s\n", held.analog, held.status, held.rows, held.binary ? "BINARY" : "ASCII");
+    need(comtrade_open_files(argv[1], argv[2], &record, &fault));
+    need(comtrade_head(record, &head));
+    struct comtrade_setup setup = {sizeof setup, text(record, COMTRADE_STATION, 0), text(record, COMTRADE_DEVICE, 0), NULL, head.analog, NULL,
+        head.status, NULL, head.nrates, head.rows, NULL, NULL, NULL, head.line_freq, head.timemult, head.first, head.trigger, head.binary};
+    printf("%s, %s: %zu analogue, %zu status, %zu rows, %s\n", setup.station, setup.device, head.analog, head.status, head.rows, head.binary ? "BINARY" : "ASCII");
+    printf("%.3f Hz, times %.3f, from %" PRId64 ", trigger %" PRId64 "\n", head.line_freq, head.timemult, head.first, head.trigger);
 
-    size_t samples = held.rows * held.analog, bits = held.rows * held.status;
-    uint64_t *stamp = room(held.rows, sizeof *stamp);
-    int32_t *sample = room(samples, sizeof *sample);
-    uint8_t *bit = room(bits, 1);
-    need(comtrade_rows(cfg.at, cfg.length, dat.at, dat.length, stamp, held.rows, sample, samples, bit, bits, &fault), &fault);
-
-    uint8_t *id = room(cfg.length, 1), *unit = room(cfg.length, 1);
-    for (size_t c = 0; c < held.analog; c++) {
-        struct comtrade_analog channel;
-        need(comtrade_analog(cfg.at, cfg.length, c, &channel, id, cfg.length, unit, cfg.length, &fault), &fault);
+    struct comtrade_rate *rates = room(head.rates, sizeof *rates);
+    for (size_t k = 0; k < head.rates; k++) {
+        rates[k].size = sizeof *rates;
+        need(comtrade_rate(record, k, &rates[k]));
+        printf("rate %.3f to row %" PRIu64 "\n", rates[k].samp, rates[k].endsamp);
+    }
+    struct comtrade_analog_setup *analog = room(head.analog, sizeof *analog);
+    int32_t *samples = room(head.rows, sizeof *samples);
+    double *values = room(head.rows, sizeof *values);
+    for (size_t c = 0; c < head.analog; c++) {
+        struct comtrade_analog said;
+        said.size = sizeof said;
+        need(comtrade_analog(record, c, &said));
+        struct comtrade_analog_setup made = {text(record, COMTRADE_ANALOG_ID, c), text(record, COMTRADE_ANALOG_PHASE, c),
+            text(record, COMTRADE_ANALOG_COMPONENT, c), text(record, COMTRADE_ANALOG_UNIT, c), said.a, said.b, said.skew, said.primary,
+            said.secondary, said.min, said.max, said.on_secondary};
+        analog[c] = made;
+        need(comtrade_samples(record, c, 0, head.rows, samples));
+        need(comtrade_values(record, c, 0, head.rows, values));
+        long long sum = 0;
+        size_t missing = 0;
         double most = 0;
-        int any = 0;
-        for (size_t r = 0; r < held.rows; r++) {
-            int32_t x = sample[r * held.analog + c];
-            double value = channel.a * x + channel.b;
-            if (x != COMTRADE_NO_SAMPLE && (!any || most < value)) most = value, any = 1;
+        for (size_t k = 0; k < head.rows; k++) {
+            if (samples[k] == COMTRADE_NO_SAMPLE)
+                missing++;
+            else
+                sum += samples[k], most = values[k] > most ? values[k] : most;
         }
-        printf("%.*s: %.3f %.*s\n", (int)channel.id, id, most, (int)channel.unit, unit);
+        printf("%s|%s|%s|%s: %.6f %.6f %.6f %.3f:%.3f%s %d to %d: %zu missing, sum %lld, most %.6f\n", made.id, made.phase, made.component, made.unit,
+               said.a, said.b, said.skew, said.primary, said.secondary, said.on_secondary ? "S" : "P", said.min, said.max, missing, sum, most);
     }
-    for (size_t c = 0; c < held.status; c++) {
-        struct comtrade_status channel;
-        need(comtrade_status(cfg.at, cfg.length, c, &channel, id, cfg.length, &fault), &fault);
-        unsigned ones = 0;
-        for (size_t r = 0; r < held.rows; r++) ones += bit[r * held.status + c];
-        printf("%.*s: %u of %zu\n", (int)channel.id, id, ones, held.rows);
+    struct comtrade_status_setup *status = room(head.status, sizeof *status);
+    uint8_t *bits = room(head.rows, 1);
+    for (size_t c = 0; c < head.status; c++) {
+        struct comtrade_status said;
+        said.size = sizeof said;
+        need(comtrade_status(record, c, &said));
+        struct comtrade_status_setup made = {text(record, COMTRADE_STATUS_ID, c), text(record, COMTRADE_STATUS_PHASE, c),
+            text(record, COMTRADE_STATUS_COMPONENT, c), said.normal};
+        status[c] = made;
+        need(comtrade_bits(record, c, 0, head.rows, bits));
+        size_t ones = 0;
+        for (size_t k = 0; k < head.rows; k++) ones += bits[k];
+        printf("%s|%s|%s: %d: %zu of %zu\n", made.id, made.phase, made.component, said.normal, ones, head.rows);
     }
+    print_row(record, &head, 0);
+    print_row(record, &head, head.rows / 2);
+    print_row(record, &head, head.rows - 1);
 
-    struct comtrade_sizes sizes = {0, 0};
-    uint8_t none[1];
-    int32_t answer = comtrade_write(cfg.at, cfg.length, true, stamp, held.rows, sample, samples, bit, bits, none, 0, none, 0, &sizes, &fault);
-    if (answer != COMTRADE_NO_ROOM) need(answer, &fault);
-    uint8_t *new_cfg = room(sizes.cfg, 1), *new_dat = room(sizes.dat, 1);
-    need(comtrade_write(cfg.at, cfg.length, true, stamp, held.rows, sample, samples, bit, bits, new_cfg, sizes.cfg, new_dat, sizes.dat, &sizes, &fault), &fault);
-    keep(argv[3], new_cfg, sizes.cfg);
-    keep(argv[4], new_dat, sizes.dat);
-    printf("written: %zu and %zu bytes\n", sizes.cfg, sizes.dat);
+    uint64_t *stamps = room(head.rows, sizeof *stamps);
+    int32_t *sample_table = room(head.rows * head.analog, sizeof *sample_table);
+    uint8_t *bit_table = room(head.rows * head.status, 1);
+    need(comtrade_stamps(record, 0, head.rows, stamps));
+    need(comtrade_samples(record, COMTRADE_ALL, 0, head.rows, sample_table));
+    need(comtrade_bits(record, COMTRADE_ALL, 0, head.rows, bit_table));
+    comtrade_close(record);
+    setup.analog = analog, setup.status = status, setup.rates = rates;
+    setup.stamps = stamps, setup.samples = sample_table, setup.bits = bit_table;
+    need(comtrade_write_files(&setup, argv[3], argv[4], &fault));
     return 0; /* the process ends, and its memory with it */
 }

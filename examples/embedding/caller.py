@@ -1,102 +1,42 @@
 #!/usr/bin/env python3
-"""Prints each analogue channel of a pair with its greatest value, and writes the pair anew as BINARY:
+"""Prints what a pair says, and writes the pair anew from the arrays that were read: caller.py CFG DAT NEWCFG NEWDAT
 
-    caller.py LIBRARY CFG DAT NEWCFG NEWDAT
-
-LIBRARY is the shared object that `run` links of crates/comtrade_c.
-"""
-import ctypes
+The package of python/ is found by PYTHONPATH where it isn't installed, and the library by DFR_COMTRADE_LIBRARY."""
 import sys
-from ctypes import POINTER, Structure, byref, c_bool, c_double, c_int32, c_int64, c_size_t, c_uint8, c_uint32, c_uint64
+from datetime import datetime
+from pathlib import Path
 
-NO_SAMPLE = -(2**31)
-NO_ROOM = 5
-
-
-class Fault(Structure):
-    _fields_ = [("place", c_uint64), ("field", c_uint32), ("kind", c_uint32)]
+import dfr_comtrade
+from dfr_comtrade import NO_SAMPLE
 
 
-class Summary(Structure):
-    _fields_ = [("analog", c_size_t), ("status", c_size_t), ("rows", c_size_t), ("first", c_int64), ("trigger", c_int64), ("binary", c_bool)]
+def micros(instant):
+    passed = instant - datetime(1970, 1, 1)
+    return (passed.days * 86400 + passed.seconds) * 10**6 + passed.microseconds
 
 
-class Analog(Structure):
-    _fields_ = [("a", c_double), ("b", c_double), ("min", c_int32), ("max", c_int32), ("secondary", c_bool), ("id", c_size_t), ("unit", c_size_t)]
-
-
-class Status(Structure):
-    _fields_ = [("normal", c_bool), ("id", c_size_t)]
-
-
-class Sizes(Structure):
-    _fields_ = [("cfg", c_size_t), ("dat", c_size_t)]
-
-
-def table(kind):
-    return [POINTER(kind), c_size_t]
-
-
-TEXT = table(c_uint8)
-ROWS = table(c_uint64) + table(c_int32) + table(c_uint8)
-
-
-def load(path):
-    library = ctypes.CDLL(path)
-    library.comtrade_summary.argtypes = TEXT + TEXT + [POINTER(Summary), POINTER(Fault)]
-    library.comtrade_analog.argtypes = TEXT + [c_size_t, POINTER(Analog)] + TEXT + TEXT + [POINTER(Fault)]
-    library.comtrade_status.argtypes = TEXT + [c_size_t, POINTER(Status)] + TEXT + [POINTER(Fault)]
-    library.comtrade_rows.argtypes = TEXT + TEXT + ROWS + [POINTER(Fault)]
-    library.comtrade_write.argtypes = TEXT + [c_bool] + ROWS + TEXT + TEXT + [POINTER(Sizes), POINTER(Fault)]
-    return library
-
-
-def text(data):
-    return (c_uint8 * (len(data) + 1)).from_buffer_copy(data + b"\0"), c_size_t(len(data))
-
-
-def room(kind, count):
-    return (kind * (count + 1))(), c_size_t(count)
-
-
-def need(answer, fault):
-    if answer:
-        sys.exit(f"answer {answer} kind {fault.kind} place {fault.place} field {fault.field}")
-
-
-def main(path, cfg_name, dat_name, new_cfg_name, new_dat_name):
-    library, fault, held = load(path), Fault(), Summary()
-    cfg_bytes, dat_bytes = open(cfg_name, "rb").read(), open(dat_name, "rb").read()
-    cfg, dat = text(cfg_bytes), text(dat_bytes)
-    need(library.comtrade_summary(*cfg, *dat, byref(held), byref(fault)), fault)
-    print(f"{held.analog} analogue, {held.status} status, {held.rows} rows, {'BINARY' if held.binary else 'ASCII'}")
-
-    stamps, samples, bits = room(c_uint64, held.rows), room(c_int32, held.rows * held.analog), room(c_uint8, held.rows * held.status)
-    need(library.comtrade_rows(*cfg, *dat, *stamps, *samples, *bits, byref(fault)), fault)
-    ids, units = room(c_uint8, len(cfg_bytes)), room(c_uint8, len(cfg_bytes))
-    for number in range(held.analog):
-        channel = Analog()
-        need(library.comtrade_analog(*cfg, number, byref(channel), *ids, *units, byref(fault)), fault)
-        column = samples[0][number : held.rows * held.analog : held.analog]
-        values = [channel.a * x + channel.b for x in column if x != NO_SAMPLE]
-        print(f"{bytes(ids[0][: channel.id]).decode()}: {max(values, default=0):.3f} {bytes(units[0][: channel.unit]).decode()}")
-    for number in range(held.status):
-        channel = Status()
-        need(library.comtrade_status(*cfg, number, byref(channel), *ids, byref(fault)), fault)
-        print(f"{bytes(ids[0][: channel.id]).decode()}: {sum(bits[0][number : held.rows * held.status : held.status])} of {held.rows}")
-
-    def write(*rooms):
-        sizes = Sizes()
-        return library.comtrade_write(*cfg, True, *stamps, *samples, *bits, *rooms[0], *rooms[1], byref(sizes), byref(fault)), sizes
-
-    answer, sizes = write(room(c_uint8, 0), room(c_uint8, 0))
-    if answer != NO_ROOM:
-        need(answer, fault)
-    new_cfg, new_dat = room(c_uint8, sizes.cfg), room(c_uint8, sizes.dat)
-    need(write(new_cfg, new_dat)[0], fault)
-    open(new_cfg_name, "wb").write(bytes(new_cfg[0][: sizes.cfg]))
-    open(new_dat_name, "wb").write(bytes(new_dat[0][: sizes.dat]))
-    print(f"written: {sizes.cfg} and {sizes.dat} bytes")
+def main(cfg, dat, new_cfg, new_dat):
+    rec = dfr_comtrade.read(cfg, dat)
+    print(f"{rec.station_name}, {rec.rec_dev_id}: {rec.analog_count} analogue, {rec.status_count} status, {len(rec)} rows, {rec.ft}")
+    print(f"{rec.frequency:.3f} Hz, times {rec.timemult:.3f}, from {micros(rec.start_timestamp)}, trigger {micros(rec.trigger_timestamp)}")
+    for rate in rec.rates:
+        print(f"rate {rate.samp:.3f} to row {rate.endsamp}")
+    for ch in rec.analog:
+        samples = [int(x) for x in ch.samples]
+        held = [x for x in samples if x != NO_SAMPLE]
+        most = max([0.0] + [float(v) for x, v in zip(samples, ch.values) if x != NO_SAMPLE])
+        side = "S" if ch.on_secondary else "P"
+        print(f"{ch.id}|{ch.phase}|{ch.component}|{ch.unit}: {ch.a:.6f} {ch.b:.6f} {ch.skew:.6f} {ch.primary:.3f}:{ch.secondary:.3f}{side} {ch.min} to {ch.max}: "
+              f"{len(samples) - len(held)} missing, sum {sum(held)}, most {most:.6f}")
+    for ch in rec.status:
+        print(f"{ch.id}|{ch.phase}|{ch.component}: {ch.normal}: {sum(int(b) for b in ch.bits)} of {len(ch.bits)}")
+    for row in (0, len(rec) // 2, len(rec) - 1):
+        values = (float(ch.values[row]) for ch in rec.analog)
+        print(f"row {row}: {int(rec.times_ns[row])} ns:" + "".join(f" {v:.6f}" if v == v else " -" for v in values) + " /"
+              + "".join(f" {ch.bits[row]}" for ch in rec.status))
+    made = Path(new_cfg)
+    dfr_comtrade.write(made, rec)
+    made.with_suffix(".dat").replace(new_dat)
 
 
 if __name__ == "__main__":

@@ -1,7 +1,8 @@
-/* What each call leaves alone, whatever it answers, and that it answers COMTRADE_NO_MEMORY where an allocation fails: each call is made with
- * all memory, and then again with its first, second, .. allocation refused, until none is: with all after it too, and then that one
- * alone, for which another may make up. memory CFG DAT
- * Linked with -Wl,--wrap=malloc,--wrap=realloc,--wrap=free, so that the library's allocations come by here. */
+/* What the calls answer where an allocation fails, and at their edges: NULL, lengths of 0, short buffers, structs of other sizes, rows and
+ * channels that aren't there: memory CFG DAT
+ * comtrade_open and comtrade_write are made with all memory, and then again with their first, second, .. allocation refused, until none is:
+ * with all after it too, and then that one alone, for which another may make up. Linked with -Wl,--wrap=malloc,--wrap=calloc,--wrap=realloc,
+ * --wrap=free, so that the library's allocations come by here. */
 #include <stdio.h>
 #include <stdlib.h>
 #include <string.h>
@@ -9,6 +10,7 @@
 #include "comtrade.h"
 
 void *__real_malloc(size_t size);
+void *__real_calloc(size_t count, size_t size);
 void *__real_realloc(void *at, size_t size);
 void __real_free(void *at);
 
@@ -28,18 +30,19 @@ static bool refuse(void) {
     return true;
 }
 
-void *__wrap_malloc(size_t size) {
-    if (refuse()) return NULL;
-    void *at = __real_malloc(size);
+static void *counted(void *at) {
     if (in_call && at) held++;
     return at;
 }
 
+void *__wrap_malloc(size_t size) { return refuse() ? NULL : counted(__real_malloc(size)); }
+
+void *__wrap_calloc(size_t count, size_t size) { return refuse() ? NULL : counted(__real_calloc(count, size)); }
+
 void *__wrap_realloc(void *at, size_t size) {
     if (refuse()) return NULL;
     void *moved = __real_realloc(at, size);
-    if (in_call && moved && !at) held++;
-    return moved;
+    return at ? moved : counted(moved);
 }
 
 void __wrap_free(void *at) {
@@ -47,107 +50,127 @@ void __wrap_free(void *at) {
     __real_free(at);
 }
 
-enum { ROWS = 50, ANALOG = 3, STATUS = 1, TEXT = 4096 }; /* of the pair, and of the longest of its texts */
-
-/* Everything that some call may write. */
-struct outs {
-    struct comtrade_fault fault;
-    struct comtrade_summary summary;
-    struct comtrade_analog analog;
-    struct comtrade_status status;
-    struct comtrade_sizes sizes;
-    uint8_t id[TEXT], unit[TEXT], new_cfg[TEXT], new_dat[TEXT];
-    uint64_t stamps[ROWS];
-    int32_t samples[ROWS * ANALOG];
-    uint8_t bits[ROWS * STATUS];
-};
-
-enum call { SUMMARIZE, CHANNEL, STATE, READ, WRITE };
-static const char *const names[] = {"comtrade_summary", "comtrade_analog", "comtrade_status", "comtrade_rows", "comtrade_write"};
-
-/* A call, what it must answer with all memory, and the one part of `outs` that it may write unless it is done. */
-struct request {
-    enum call call;
-    int32_t answer;
-    size_t from, length;
-    size_t cfg_cut, dat_cut, channel, left_room, right_room, rows; /* how much the files are cut by; the buffers' room; the stamps' length */
-    int32_t sample;                                               /* the first one that is written */
-};
-
+enum { TEXT = 65536 };
 static uint8_t cfg[TEXT], dat[TEXT];
 static size_t cfg_length, dat_length;
-static uint64_t stamps[ROWS];
-static int32_t samples[ROWS * ANALOG];
-static uint8_t bits[ROWS * STATUS];
+static struct comtrade_setup setup;
 
-static int32_t made(const struct request *r, struct outs *o) {
-    size_t c = cfg_length - r->cfg_cut, d = dat_length - r->dat_cut;
-    samples[0] = r->sample;
-    switch (r->call) {
-    case SUMMARIZE: return comtrade_summary(cfg, c, dat, d, &o->summary, &o->fault);
-    case CHANNEL: return comtrade_analog(cfg, c, r->channel, &o->analog, o->id, r->left_room, o->unit, r->right_room, &o->fault);
-    case STATE: return comtrade_status(cfg, c, r->channel, &o->status, o->id, r->left_room, &o->fault);
-    case READ: return comtrade_rows(cfg, c, dat, d, o->stamps, r->rows, o->samples, ROWS * ANALOG, o->bits, ROWS * STATUS, &o->fault);
-    default: return comtrade_write(cfg, c, true, stamps, ROWS, samples, ROWS * ANALOG, bits, ROWS * STATUS, o->new_cfg, r->left_room,
-                                   o->new_dat, r->right_room, &o->sizes, &o->fault);
-    }
+/* What a call made: a record, or both files. */
+struct made {
+    comtrade *record;
+    uint8_t *cfg, *dat;
+    size_t cfg_length, dat_length;
+    struct comtrade_fault fault;
+};
+
+static int32_t opens(struct made *m) { return comtrade_open(cfg, cfg_length, dat, dat_length, &m->record, &m->fault); }
+static int32_t opens_short(struct made *m) { return comtrade_open(cfg, cfg_length, dat, dat_length - 1, &m->record, &m->fault); }
+static int32_t opens_ill(struct made *m) { return comtrade_open(cfg, 20, dat, dat_length, &m->record, &m->fault); }
+static int32_t opens_nothing(struct made *m) { return comtrade_open(NULL, 0, NULL, 0, &m->record, &m->fault); }
+static int32_t writes(struct made *m) { return comtrade_write(&setup, &m->cfg, &m->cfg_length, &m->dat, &m->dat_length, &m->fault); }
+static int32_t writes_ill(struct made *m) {
+    struct comtrade_setup ill = setup;
+    ill.station = "a,b";
+    return comtrade_write(&ill, &m->cfg, &m->cfg_length, &m->dat, &m->dat_length, &m->fault);
+}
+static int32_t writes_beyond(struct made *m) {
+    static const int32_t far[2] = {1, 40000};
+    struct comtrade_setup ill = setup;
+    ill.samples = far;
+    return comtrade_write(&ill, &m->cfg, &m->cfg_length, &m->dat, &m->dat_length, &m->fault);
 }
 
-static int32_t answer_of(const struct request *r, struct outs *o, long refusal) {
-    memset(o, 0xA5, sizeof *o);
-    until_refused = refusal;
-    refused = 0;
-    in_call = true;
-    int32_t answer = made(r, o);
+/* The call frees what it made, and nothing else is held then. */
+static int32_t answer_of(int32_t (*call)(struct made *), struct made *m, long refusal) {
+    memset(m, 0, sizeof *m);
+    until_refused = refusal, refused = 0, in_call = true;
+    int32_t answer = call(m);
+    if (answer != COMTRADE_DONE && (m->record || m->cfg || m->dat)) held += 1000;
+    until_refused = 0;
+    comtrade_close(m->record);
+    comtrade_free(m->cfg);
+    comtrade_free(m->dat);
     in_call = false;
     return answer;
 }
 
-/* Nothing was written but these bytes. */
-static bool kept(const struct outs *o, size_t from, size_t length) {
-    for (size_t k = 0; k < sizeof *o; k++)
-        if ((k < from || from + length <= k) && ((const uint8_t *)o)[k] != 0xA5) return false;
-    return true;
-}
-
-/* Field by field, since the bytes between two fields have no value. */
-static bool same(const struct outs *x, const struct outs *y) {
-    return x->fault.place == y->fault.place && x->fault.field == y->fault.field && x->fault.kind == y->fault.kind
-        && x->summary.analog == y->summary.analog && x->summary.status == y->summary.status && x->summary.rows == y->summary.rows
-        && x->summary.first == y->summary.first && x->summary.trigger == y->summary.trigger
-        && !memcmp(&x->summary.binary, &y->summary.binary, 1) && !memcmp(&x->analog.a, &y->analog.a, 8)
-        && !memcmp(&x->analog.b, &y->analog.b, 8) && x->analog.min == y->analog.min && x->analog.max == y->analog.max
-        && !memcmp(&x->analog.secondary, &y->analog.secondary, 1) && x->analog.id == y->analog.id && x->analog.unit == y->analog.unit
-        && !memcmp(&x->status.normal, &y->status.normal, 1) && x->status.id == y->status.id
-        && x->sizes.cfg == y->sizes.cfg && x->sizes.dat == y->sizes.dat
-        && !memcmp(x->id, y->id, sizeof *x - offsetof(struct outs, id));
-}
-
-static struct outs all, now; /* with all memory, and with an allocation refused */
-
-static bool refuses(const struct request *r) {
-    for (long n = 1;; n++) {
-        int32_t answer = answer_of(r, &now, n);
-        bool untouched = answer == COMTRADE_NO_MEMORY && kept(&now, 0, 0);
-        bool as_before = answer == r->answer && same(&now, &all);
-        if (held || !(refused ? untouched || (alone && as_before) : as_before)) {
-            printf("%s: answer %d with allocation %ld refused; %ld blocks held\n", names[r->call], answer, n, held);
+static bool refuses(const char *name, int32_t (*call)(struct made *), int32_t wanted) {
+    struct made made;
+    for (long n = 0;; n++) {
+        int32_t answer = answer_of(call, &made, n);
+        bool well = answer == (n && refused ? COMTRADE_NO_MEMORY : wanted) || (refused && alone && answer == wanted);
+        bool fault_kept = answer == wanted || made.fault.kind == 0;
+        if (!well || !fault_kept || held) {
+            printf("%s: answer %d with allocation %ld refused; %ld blocks held\n", name, answer, n, held);
             return false;
         }
-        if (!refused) return n > 1;
+        if (n && !refused) return true;
     }
 }
 
-static bool holds(const struct request *r) {
-    int32_t answer = answer_of(r, &all, 0);
-    if (answer != r->answer || held || (answer != COMTRADE_DONE && !kept(&all, r->from, r->length))) {
-        printf("%s: answer %d, wanted %d; %ld blocks held\n", names[r->call], answer, r->answer, held);
-        return false;
-    }
-    alone = false;
-    if (!refuses(r)) return false;
-    alone = true;
-    return refuses(r);
+static int ill;
+
+static void want(const char *name, long got, long wanted) {
+    if (got == wanted) return;
+    printf("%s: %ld, wanted %ld\n", name, got, wanted);
+    ill++;
+}
+#define WANT(call, wanted) want(#call, (long)(call), wanted)
+
+static void edges(const comtrade *r) {
+    struct comtrade_head head;
+    struct comtrade_analog analog;
+    struct comtrade_status status;
+    struct comtrade_rate rate;
+    struct comtrade_fault fault = {3, 2, COMTRADE_NUMBER}, unknown = {1, 1, 99};
+    char text[8];
+    size_t needed = 0;
+    double values[4];
+    uint64_t stamps[4];
+
+    head.size = sizeof head - 1;
+    WANT(comtrade_head(r, &head), COMTRADE_BAD_SIZE);
+    head.size = sizeof head + 8; /* a later header's */
+    WANT(comtrade_head(r, &head), COMTRADE_DONE);
+    WANT(head.size, sizeof head + 8);
+    head.size = sizeof head;
+    WANT(comtrade_head(NULL, &head), COMTRADE_BAD_CALL);
+    WANT(comtrade_head(r, NULL), COMTRADE_BAD_CALL);
+    analog.size = 0, status.size = 0, rate.size = 0;
+    WANT(comtrade_analog(r, 0, &analog), COMTRADE_BAD_SIZE);
+    WANT(comtrade_status(r, 0, &status), COMTRADE_BAD_SIZE);
+    WANT(comtrade_rate(r, 0, &rate), COMTRADE_BAD_SIZE);
+    WANT(comtrade_analog(r, head.analog, &analog), COMTRADE_NO_ITEM);
+    WANT(comtrade_status(r, head.status, &status), COMTRADE_NO_ITEM);
+    WANT(comtrade_rate(r, head.rates, &rate), COMTRADE_NO_ITEM);
+
+    WANT(comtrade_text(r, COMTRADE_ANALOG_ID, 0, NULL, 0, &needed), COMTRADE_NO_ROOM);
+    WANT(needed, 2);
+    WANT(comtrade_text(r, COMTRADE_ANALOG_ID, 0, text, 2, NULL), COMTRADE_NO_ROOM);
+    WANT(comtrade_text(r, COMTRADE_ANALOG_ID, 0, text, 3, NULL), COMTRADE_DONE);
+    WANT(strcmp(text, "UA"), 0);
+    WANT(comtrade_text(r, COMTRADE_ANALOG_ID, 0, NULL, 3, NULL), COMTRADE_BAD_CALL);
+    WANT(comtrade_text(r, COMTRADE_ANALOG_ID, 99, text, 3, NULL), COMTRADE_NO_ITEM);
+    WANT(comtrade_text(r, COMTRADE_STATION, 1, text, 3, NULL), COMTRADE_NO_ITEM);
+    WANT(comtrade_text(r, -1, 0, text, 3, NULL), COMTRADE_BAD_CALL);
+    WANT(comtrade_text(r, 9, 0, text, 3, NULL), COMTRADE_BAD_CALL);
+    WANT(comtrade_fault_text(&fault, NULL, 0, &needed), COMTRADE_NO_ROOM);
+    WANT(needed, (long)strlen("line 3, field 2 can't be read or is out of its range"));
+    WANT(comtrade_fault_text(&unknown, text, sizeof text, NULL), COMTRADE_BAD_CALL);
+    WANT(comtrade_fault_text(NULL, text, sizeof text, NULL), COMTRADE_BAD_CALL);
+
+    WANT(comtrade_values(r, 0, head.rows, 0, NULL), COMTRADE_DONE);
+    WANT(comtrade_values(r, 0, head.rows, 1, values), COMTRADE_NO_ITEM);
+    WANT(comtrade_values(r, 0, 1, SIZE_MAX, values), COMTRADE_NO_ITEM);
+    WANT(comtrade_values(r, head.analog, 0, 1, values), COMTRADE_NO_ITEM);
+    WANT(comtrade_values(r, 0, 0, 1, NULL), COMTRADE_BAD_CALL);
+    WANT(comtrade_values(NULL, 0, 0, 0, NULL), COMTRADE_BAD_CALL);
+    WANT(comtrade_values(r, COMTRADE_ALL, head.rows - 1, 1, values), COMTRADE_DONE);
+    WANT(comtrade_samples(r, 0, 0, 0, NULL), COMTRADE_DONE);
+    WANT(comtrade_bits(r, COMTRADE_ALL, 0, 0, NULL), COMTRADE_DONE);
+    WANT(comtrade_stamps(r, head.rows - 4, 4, stamps), COMTRADE_DONE);
+    WANT(comtrade_stamps(r, head.rows - 3, 4, stamps), COMTRADE_NO_ITEM);
+    WANT(comtrade_times(r, head.rows, 0, NULL), COMTRADE_DONE);
 }
 
 static size_t contents(const char *name, uint8_t *to) {
@@ -158,36 +181,37 @@ static size_t contents(const char *name, uint8_t *to) {
     return length;
 }
 
-#define PART(name) offsetof(struct outs, name), sizeof(((struct outs *)0)->name)
-
 int main(int argc, char **argv) {
+    static const struct comtrade_analog_setup channel = {"UA", "A", NULL, "kV", 0.1, 0, 0, 1, 1, -32767, 32767, false};
+    static const int32_t samples[2] = {1, -2};
+    static const struct comtrade_rate rate = {sizeof rate, 1000, 2};
+    comtrade *record = NULL;
+    uint8_t *to;
+    size_t length;
     if (argc < 3) return 2;
     cfg_length = contents(argv[1], cfg), dat_length = contents(argv[2], dat);
-    size_t short_cfg = cfg_length - 20; /* so much cut off leaves the first lines */
-    const struct request requests[] = {
-        {SUMMARIZE, COMTRADE_DONE, 0, 0},
-        {SUMMARIZE, COMTRADE_CFG_FAULT, PART(fault), .cfg_cut = short_cfg},
-        {SUMMARIZE, COMTRADE_DAT_FAULT, PART(fault), .dat_cut = 1},
-        {CHANNEL, COMTRADE_DONE, 0, 0, .left_room = TEXT, .right_room = TEXT},
-        {CHANNEL, COMTRADE_CFG_FAULT, PART(fault), .cfg_cut = short_cfg, .left_room = TEXT, .right_room = TEXT},
-        {CHANNEL, COMTRADE_NO_ROOM, PART(analog), .left_room = 0, .right_room = TEXT},
-        {CHANNEL, COMTRADE_NO_ROOM, PART(analog), .left_room = TEXT, .right_room = 0},
-        {CHANNEL, COMTRADE_NO_CHANNEL, 0, 0, .channel = ANALOG, .left_room = TEXT, .right_room = TEXT},
-        {STATE, COMTRADE_DONE, 0, 0, .left_room = TEXT},
-        {STATE, COMTRADE_CFG_FAULT, PART(fault), .cfg_cut = short_cfg, .left_room = TEXT},
-        {STATE, COMTRADE_NO_ROOM, PART(status), .left_room = 0},
-        {STATE, COMTRADE_NO_CHANNEL, 0, 0, .channel = STATUS, .left_room = TEXT},
-        {READ, COMTRADE_DONE, 0, 0, .rows = ROWS},
-        {READ, COMTRADE_CFG_FAULT, PART(fault), .cfg_cut = short_cfg, .rows = ROWS},
-        {READ, COMTRADE_DAT_FAULT, PART(fault), .dat_cut = 1, .rows = ROWS},
-        {READ, COMTRADE_NO_ROOM, 0, 0, .rows = ROWS - 1},
-        {WRITE, COMTRADE_DONE, 0, 0, .left_room = TEXT, .right_room = TEXT},
-        {WRITE, COMTRADE_CFG_FAULT, PART(fault), .cfg_cut = short_cfg, .left_room = TEXT, .right_room = TEXT},
-        {WRITE, COMTRADE_WRITE_FAULT, PART(fault), .left_room = TEXT, .right_room = TEXT, .sample = 99999},
-        {WRITE, COMTRADE_NO_ROOM, PART(sizes), .left_room = 0, .right_room = TEXT},
-        {WRITE, COMTRADE_NO_ROOM, PART(sizes), .left_room = TEXT, .right_room = 0},
-    };
-    int ill = 0;
-    for (size_t k = 0; k < sizeof requests / sizeof *requests; k++) ill += !holds(&requests[k]);
+    setup.size = sizeof setup, setup.analog = &channel, setup.analog_count = 1, setup.rates = &rate, setup.rate_count = 1;
+    setup.rows = 2, setup.samples = samples, setup.line_freq = 50, setup.timemult = 1, setup.binary = true;
+    for (int k = 0; k < 2; k++) {
+        alone = k != 0;
+        ill += !refuses("comtrade_open", opens, COMTRADE_DONE) + !refuses("comtrade_open, short data", opens_short, COMTRADE_DAT_FAULT)
+            + !refuses("comtrade_open, a cut head", opens_ill, COMTRADE_CFG_FAULT) + !refuses("comtrade_open, nothing", opens_nothing, COMTRADE_CFG_FAULT)
+            + !refuses("comtrade_write", writes, COMTRADE_DONE) + !refuses("comtrade_write, a comma", writes_ill, COMTRADE_WRITE_FAULT)
+            + !refuses("comtrade_write, a far sample", writes_beyond, COMTRADE_WRITE_FAULT);
+    }
+    WANT(comtrade_open(NULL, 1, dat, dat_length, &record, NULL), COMTRADE_BAD_CALL);
+    WANT(comtrade_open(cfg, cfg_length, dat, dat_length, NULL, NULL), COMTRADE_BAD_CALL);
+    WANT(comtrade_open(cfg, 20, NULL, 0, &record, NULL), COMTRADE_CFG_FAULT);
+    WANT(comtrade_open_files("/no such file", argv[2], &record, NULL), COMTRADE_NO_FILE);
+    WANT(comtrade_open_files(NULL, argv[2], &record, NULL), COMTRADE_BAD_CALL);
+    WANT(comtrade_write(NULL, &to, &length, &to, &length, NULL), COMTRADE_BAD_CALL);
+    setup.size--;
+    WANT(comtrade_write(&setup, &to, &length, &to, &length, NULL), COMTRADE_BAD_SIZE);
+    setup.size++, setup.samples = NULL;
+    WANT(comtrade_write(&setup, &to, &length, &to, &length, NULL), COMTRADE_BAD_CALL);
+    comtrade_close(NULL);
+    WANT(comtrade_open(cfg, cfg_length, dat, dat_length, &record, NULL), COMTRADE_DONE);
+    if (record) edges(record);
+    comtrade_close(record);
     return ill != 0;
 }

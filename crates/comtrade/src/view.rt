@@ -1,17 +1,57 @@
 //! What is said of a pair of files.
 
-use comtrade_cli::{Part, ToolFault, View, Viewed, put, put_safe};
+use comtrade_cli::{Part, Picture, ToolFault, View, Viewed, put, put_safe};
 use comtrade_diagnostics::{Pair, check_over, put_fault};
 use comtrade_format::File;
 use comtrade_part::{PartFault, is_whole, part_of};
+use comtrade_plot::{PlotOptions, page_over, plot_over};
 use comtrade_read::{Fault, ReadFault, read};
-use comtrade_views::{Spelling, csv_over, plot_over, show_over, times_since_trigger};
+use comtrade_views::{Spelling, csv_over, show_over, times_since_trigger};
 use std::alloc::Allocator;
 use std::io::Write;
 
 const NO_SPELLING: &str = "\
 comtrade: a separator is tab or one sign that isn't a letter, a digit, a minus or a quotation mark; a decimal sign is . or , and not the \
 separator\n";
+
+const NO_SIZE: &str =
+    "comtrade: --width and --height are whole numbers of pixels from 1 to 100000\n";
+
+/// How values are spelled, and how a picture is drawn.
+#[derive(Clone, Copy)]
+struct Look {
+    spelling: Spelling,
+    options: PlotOptions,
+}
+
+/// A number of pixels; none where the text isn't one.
+fn pixels_of(text: &str) -> Option<u32> {
+    match text.parse::<u32>() {
+        Ok(pixels) if 1 <= pixels && pixels <= 100_000 => Some(pixels),
+        _ => None,
+    }
+}
+
+/// Whether a size that was asked for is one.
+fn is_size(text: Option<&str>) -> bool {
+    match text {
+        Some(text) => pixels_of(text).is_some(),
+        None => true,
+    }
+}
+
+/// How a picture is drawn; none where a size isn't one.
+fn options_of(picture: Picture<'_>) -> Option<PlotOptions> {
+    if !is_size(picture.width) || !is_size(picture.height) {
+        return None;
+    }
+    Some(PlotOptions {
+        is_whole: picture.whole,
+        shows_all: picture.all,
+        width: pixels_of(picture.width.unwrap_or("")),
+        height: pixels_of(picture.height.unwrap_or("")),
+    })
+}
 
 /// The file that a pair reads to; None where it has a fault, whose line is put to `said`.
 pub(crate) fn file_in<A: Allocator + Copy>(
@@ -33,14 +73,15 @@ pub(crate) fn file_in<A: Allocator + Copy>(
 fn put_view<A: Allocator + Copy, W: Write>(
     alloc: A,
     view: View,
-    spelling: Spelling,
+    look: Look,
     file: &File<A>,
     times: &[Option<i64>],
     w: &mut W,
 ) -> Result<(), ToolFault> {
     match view {
-        View::Csv => csv_over(alloc, file, times, spelling, w),
-        View::Plot => plot_over(alloc, file, w),
+        View::Csv => csv_over(alloc, file, times, look.spelling, w),
+        View::Plot => plot_over(alloc, file, times, look.options, w),
+        View::Page => page_over(alloc, file, times, w),
         _ => show_over(alloc, file, times, w),
     }
 }
@@ -64,7 +105,7 @@ pub(crate) fn put_part_fault<A: Allocator + Copy>(
 fn put_part<A: Allocator + Copy, W: Write>(
     alloc: A,
     view: View,
-    spelling: Spelling,
+    look: Look,
     part: Part<'_>,
     file: &File<A>,
     times: &[Option<i64>],
@@ -77,7 +118,7 @@ fn put_part<A: Allocator + Copy, W: Write>(
                 Some(times) => times,
                 None => &[],
             };
-            put_view(alloc, view, spelling, &cut.file, times, w)?;
+            put_view(alloc, view, look, &cut.file, times, w)?;
             Ok(true)
         }
         Err(fault) => {
@@ -104,13 +145,18 @@ pub(crate) fn view_over<A: Allocator + Copy, W: Write>(
         put(said, NO_SPELLING)?;
         return Ok(false);
     };
+    let Some(options) = options_of(viewed.picture) else {
+        put(said, NO_SIZE)?;
+        return Ok(false);
+    };
+    let look = Look { spelling, options };
     let Some(file) = file_in(alloc, pair, said)? else {
         return Ok(false);
     };
     let times = times_since_trigger(alloc, &file)?;
     if is_whole(viewed.part) {
-        put_view(alloc, view, spelling, &file, &times, w)?;
+        put_view(alloc, view, look, &file, &times, w)?;
         return Ok(true);
     }
-    put_part(alloc, view, spelling, viewed.part, &file, &times, w, said)
+    put_part(alloc, view, look, viewed.part, &file, &times, w, said)
 }

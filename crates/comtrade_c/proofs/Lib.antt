@@ -1,2 +1,4 @@
 pub mod Tables
 pub mod Refused
+pub mod Lacking
+pub mod Laid

@@ -1,5 +1,7 @@
+pub mod Buffers
 pub mod Faults
-pub mod Summaries
-pub mod Channels
 pub mod Tables
+pub mod Channels
+pub mod Summaries
+pub mod Values
 pub mod Writing

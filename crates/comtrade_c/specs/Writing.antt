@@ -13,7 +13,7 @@ use Rattle.comtrade_format.specs.Cfg.{cfg}
 use Rattle.comtrade_format.specs.Data.{dat, dat_refusal}
 use Rattle.comtrade_format.specs.Refusals.{cfg_refusal}
 use Rattle.comtrade_read.specs.Reads.{Reads}
-use Rattle.comtrade_c.specs.Channels.{put}
+use Rattle.comtrade_c.specs.Buffers.{put}
 use Rattle.comtrade_c.specs.Faults.{of_write}
 use Rattle.comtrade_c.specs.declared.answer.Fault.{Fault}
 use Rattle.comtrade_c.specs.declared.write.Sizes.{Sizes}

@@ -4,7 +4,7 @@ ghost use Rattle.std.specs.Prelude.{◌≡◌, ◌≢◌, ◌<◌, ◌≤◌, �
 ghost use Rattle.comtrade_read.specs.declared.fault.ReadFault.TheVariants as reading;
 ghost use Rattle.comtrade_read.specs.declared.pair.Part.TheVariants as parts;
 ghost use Rattle.comtrade_format.specs.declared.fault.WriteFault.TheVariants as writing;
-ghost use Rattle.comtrade_c.specs.Channels as channels;
+ghost use Rattle.comtrade_c.specs.Buffers as buffers;
 ghost use Rattle.comtrade_c.specs.Faults as faults;
 
 use comtrade_format::WriteFault;
@@ -21,8 +21,6 @@ pub(crate) const WRITE_FAULT: i32 = 3;
 pub(crate) const NO_MEMORY: i32 = 4;
 /// A buffer is too short, or of another length than it must be.
 pub(crate) const NO_ROOM: i32 = 5;
-/// No channel has this number.
-pub(crate) const NO_CHANNEL: i32 = 6;
 
 /// A fault: its kind, and the line or row and the field or channel that have it, from 1; 0 where it has none.
 #[repr(C)]
@@ -117,22 +115,9 @@ pub(crate) fn refuse_write(why: WriteFault, said: &mut Fault) -> i32
 /// A text at the front of a buffer that has room for it.
 fn put_front(out: &mut [u8], text: &[u8])
     requires { length text.now ≤ length out.old }
-    ensures { out.new ≡ channels.put text.now out.old }
+    ensures { out.new ≡ buffers.put text.now out.old }
 {
     out[..text.len()].copy_from_slice(text);
-}
-
-/// A text at the front of a buffer; false where it has no room, and then the buffer is left alone.
-pub(crate) fn put(out: &mut [u8], text: &[u8]) -> bool
-    ensures text { IsTrue result → out.new ≡ channels.put text.now out.old }
-    ensures room { IsFalse result → length out.old < length text.now }
-    ensures kept { IsFalse result → out.new ≡ out.old }
-{
-    if out.len() < text.len() {
-        return false;
-    }
-    put_front(out, text);
-    true
 }
 
 /// Two texts, each at the front of its buffer; false where one of them has no room, and then both buffers are left alone.
@@ -142,8 +127,8 @@ pub(crate) fn put_both(
     right: &mut [u8],
     right_text: &[u8],
 ) -> bool
-    ensures left { IsTrue result → left.new ≡ channels.put left_text.now left.old }
-    ensures right { IsTrue result → right.new ≡ channels.put right_text.now right.old }
+    ensures left { IsTrue result → left.new ≡ buffers.put left_text.now left.old }
+    ensures right { IsTrue result → right.new ≡ buffers.put right_text.now right.old }
     ensures room { IsFalse result →
         (length left.old < length left_text.now) ⊎ (length right.old < length right_text.now) }
     ensures left_kept { IsFalse result → left.new ≡ left.old }

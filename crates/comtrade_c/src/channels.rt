@@ -1,41 +1,42 @@
-//! The channels of a configuration file.
+//! The channels, rates and texts of a configuration file, as tables.
 
-ghost use Rattle.std.specs.Prelude.{◌≡◌, ◌≢◌, ◌≤◌, ◌⊎◌, length};
+ghost use Rattle.std.specs.Prelude.{◌≡◌, ◌≢◌, ◌⊎◌, length, map, IfOk, IsTrue, IsFalse};
+ghost use Rattle.std.specs.List.{AllZip};
 ghost use Rattle.comtrade_c.specs.Channels as spec;
-ghost use Rattle.comtrade_c.specs.Channels.{Has, IsAnalog};
-ghost use Rattle.comtrade_c.specs.Channels.{AnalogLacksRoom, PutsAnalog};
-ghost use Rattle.comtrade_c.specs.Channels.{PutsStatus, StatusLacksRoom};
+ghost use Rattle.comtrade_c.specs.Channels.{IsAnalog, IsRate, IsTold, LacksRoom};
 ghost use Rattle.comtrade_c.specs.Faults.{IsHeadFault, OfHead};
-ghost use Rattle.comtrade_values.specs.Floats.{IsScale};
+ghost use Rattle.comtrade_c.specs.Tables.{bit_of};
 
-use crate::answer::{
-    CFG_FAULT, DONE, Fault, NO_CHANNEL, NO_MEMORY, NO_ROOM, put, put_both, refuse_head,
-};
-use comtrade_format::Head;
+use crate::answer::{CFG_FAULT, DONE, Fault, NO_MEMORY, NO_ROOM, refuse_head};
+use crate::rows::bit_of;
+use crate::texts::texts_of;
+use comtrade_format::{Head, Rate};
 use comtrade_read::read_cfg;
-use comtrade_values::{Scale, scale_of};
-use dfr_channels::{AnalogChannel, Side, StatusChannel};
-use std::alloc::Global;
+use comtrade_values::nearest_f64;
+use dfr_channels::{AnalogChannel, Memory, Side, StatusChannel};
+use std::alloc::{AllocError, Global};
 
-/// An analogue channel: its value is a·x + b of a sample x; the least and the greatest sample; how long its texts are.
+/// An analogue channel: its value is a·x + b of a sample x from min to max; the skew in microseconds; the transformer's ratio, and the
+/// side of it that the values are of.
 #[repr(C)]
 #[derive(Clone, Copy)]
 pub(crate) struct Analog {
     pub a: f64,
     pub b: f64,
+    pub skew: f64,
+    pub primary: f64,
+    pub secondary: f64,
     pub min: i32,
     pub max: i32,
-    pub secondary: bool,
-    pub id: usize,
-    pub unit: usize,
+    pub on_secondary: bool,
 }
 
-/// A status channel: its bit while nothing is wrong; how long its text is.
+/// A rate in scans a second, and the last row that was sampled at it.
 #[repr(C)]
 #[derive(Clone, Copy)]
-pub(crate) struct Status {
-    pub normal: bool,
-    pub id: usize,
+pub(crate) struct RateEnd {
+    pub samp: f64,
+    pub endsamp: u64,
 }
 
 fn is_secondary(side: Side) -> bool
@@ -47,158 +48,159 @@ fn is_secondary(side: Side) -> bool
     }
 }
 
-fn analog_of(channel: &AnalogChannel, scale: Scale) -> Analog
-    requires { IsScale channel.now scale }
-    ensures { IsAnalog channel.now result }
+fn analog_of(alloc: Global, channel: &AnalogChannel) -> Result<Analog, Memory>
+    ensures { IfOk result (λ s. IsAnalog channel.now s) }
 {
-    Analog {
-        a: scale.a,
-        b: scale.b,
+    Ok(Analog {
+        a: nearest_f64(alloc, channel.a)?,
+        b: nearest_f64(alloc, channel.b)?,
+        skew: nearest_f64(alloc, channel.skew)?,
+        primary: nearest_f64(alloc, channel.primary)?,
+        secondary: nearest_f64(alloc, channel.secondary)?,
         min: channel.min,
         max: channel.max,
-        secondary: is_secondary(channel.side),
-        id: channel.id.items().len(),
-        unit: channel.unit.items().len(),
-    }
+        on_secondary: is_secondary(channel.side),
+    })
 }
 
-fn put_analog(
-    alloc: Global,
-    channel: &AnalogChannel,
-    said: &mut Analog,
-    id: &mut [u8],
-    unit: &mut [u8],
-) -> i32
-    ensures answer { (result ≡ DONE) ⊎ (result ≡ NO_ROOM) ⊎ (result ≡ NO_MEMORY) }
-    ensures done { result ≡ DONE → PutsAnalog channel.now said.new id.old id.new unit.old unit.new }
-    ensures room { result ≡ NO_ROOM → AnalogLacksRoom channel.now said.new id.old unit.old }
-    ensures said_kept { (result ≢ DONE) → (result ≢ NO_ROOM) → said.new ≡ said.old }
-    ensures id_kept { (result ≢ DONE) → id.new ≡ id.old }
-    ensures unit_kept { (result ≢ DONE) → unit.new ≡ unit.old }
+fn analogs_of(alloc: Global, channels: &[AnalogChannel]) -> Result<Vec<Analog>, Memory>
+    ensures { IfOk result (λ v. AllZip IsAnalog channels.now v.items) }
 {
-    let Ok(scale) = scale_of(alloc, channel) else {
+    let mut said = Vec::with_capacity(alloc, channels.len())?;
+    for channel in channels {
+        said.push(analog_of(alloc, channel)?)?;
+    }
+    Ok(said)
+}
+
+fn rates_of(alloc: Global, rates: &[Rate]) -> Result<Vec<RateEnd>, Memory>
+    ensures { IfOk result (λ v. AllZip IsRate rates.now v.items) }
+{
+    let mut said = Vec::with_capacity(alloc, rates.len())?;
+    for rate in rates {
+        let samp = nearest_f64(alloc, rate.samp)?;
+        said.push(RateEnd {
+            samp,
+            endsamp: rate.endsamp,
+        })?;
+    }
+    Ok(said)
+}
+
+fn normals_of(alloc: Global, channels: &[StatusChannel]) -> Result<Vec<u8>, AllocError>
+    ensures { IfOk result (λ v. v.items ≡ map (λ c. bit_of c.normal) channels.now) }
+{
+    let mut said = Vec::with_capacity(alloc, channels.len())?;
+    for channel in channels {
+        said.push(bit_of(channel.normal))?;
+    }
+    Ok(said)
+}
+
+/// All tables of a configuration file.
+#[derive(Drop)]
+struct Tables {
+    analog: Vec<Analog>,
+    normal: Vec<u8>,
+    rates: Vec<RateEnd>,
+    lengths: Vec<usize>,
+    text: Vec<u8>,
+}
+
+fn tables_of(alloc: Global, head: &Head) -> Result<Tables, Memory>
+    ensures { IfOk result (λ t. IsTold head.now t.analog.items t.normal.items t.rates.items
+        t.lengths.items t.text.items) }
+{
+    let analog = analogs_of(alloc, head.analog.items())?;
+    let normal = normals_of(alloc, head.status.items())?;
+    let rates = rates_of(alloc, head.rates.items())?;
+    let texts = texts_of(alloc, head)?;
+    Ok(Tables {
+        analog,
+        normal,
+        rates,
+        lengths: texts.lengths,
+        text: texts.bytes,
+    })
+}
+
+/// Copies a head's tables into those of the caller; false where one of these isn't as long, and then all are left alone.
+fn fill(
+    all: &Tables,
+    analog: &mut [Analog],
+    normal: &mut [u8],
+    rates: &mut [RateEnd],
+    lengths: &mut [usize],
+    text: &mut [u8],
+) -> bool
+    ensures analog { IsTrue result → analog.new ≡ all.now.analog.items }
+    ensures normal { IsTrue result → normal.new ≡ all.now.normal.items }
+    ensures rates { IsTrue result → rates.new ≡ all.now.rates.items }
+    ensures lengths { IsTrue result → lengths.new ≡ all.now.lengths.items }
+    ensures text { IsTrue result → text.new ≡ all.now.text.items }
+    ensures room { IsFalse result → (length analog.old ≢ length all.now.analog.items)
+        ⊎ (length normal.old ≢ length all.now.normal.items)
+        ⊎ (length rates.old ≢ length all.now.rates.items)
+        ⊎ (length lengths.old ≢ length all.now.lengths.items)
+        ⊎ (length text.old ≢ length all.now.text.items) }
+    ensures analog_kept { IsFalse result → analog.new ≡ analog.old }
+    ensures normal_kept { IsFalse result → normal.new ≡ normal.old }
+    ensures rates_kept { IsFalse result → rates.new ≡ rates.old }
+    ensures lengths_kept { IsFalse result → lengths.new ≡ lengths.old }
+    ensures text_kept { IsFalse result → text.new ≡ text.old }
+{
+    if analog.len() != all.analog.len()
+        || normal.len() != all.normal.len()
+        || rates.len() != all.rates.len()
+        || lengths.len() != all.lengths.len()
+        || text.len() != all.text.len()
+    {
+        return false;
+    }
+    analog.copy_from_slice(&all.analog);
+    normal.copy_from_slice(&all.normal);
+    rates.copy_from_slice(&all.rates);
+    lengths.copy_from_slice(&all.lengths);
+    text.copy_from_slice(&all.text);
+    true
+}
+
+/// All channels, rates and texts of a configuration file, in tables of the caller.
+#[unsafe(no_mangle)]
+pub extern "C" fn comtrade_core_channels(
+    alloc: Global,
+    cfg: &[u8],
+    analog: &mut [Analog],
+    normal: &mut [u8],
+    rates: &mut [RateEnd],
+    lengths: &mut [usize],
+    text: &mut [u8],
+    fault: &mut Fault,
+) -> i32
+    ensures answer { (result ≡ DONE) ⊎ (result ≡ CFG_FAULT) ⊎ (result ≡ NO_ROOM)
+        ⊎ (result ≡ NO_MEMORY) }
+    ensures done { result ≡ DONE → OfHead cfg.now (λ h.
+        IsTold h analog.new normal.new rates.new lengths.new text.new) }
+    ensures room { result ≡ NO_ROOM → OfHead cfg.now (λ h.
+        LacksRoom h analog.old normal.old rates.old lengths.old text.old) }
+    ensures cfg_fault { result ≡ CFG_FAULT → IsHeadFault cfg.now fault.new }
+    ensures analog_kept { (result ≢ DONE) → analog.new ≡ analog.old }
+    ensures normal_kept { (result ≢ DONE) → normal.new ≡ normal.old }
+    ensures rates_kept { (result ≢ DONE) → rates.new ≡ rates.old }
+    ensures lengths_kept { (result ≢ DONE) → lengths.new ≡ lengths.old }
+    ensures text_kept { (result ≢ DONE) → text.new ≡ text.old }
+    ensures fault_kept { (result ≢ CFG_FAULT) → fault.new ≡ fault.old }
+{
+    let head = match read_cfg(alloc, cfg) {
+        Ok(head) => head,
+        Err(why) => return refuse_head(why, fault),
+    };
+    let Ok(all) = tables_of(alloc, &head) else {
         return NO_MEMORY;
     };
-    *said = analog_of(channel, scale);
-    if put_both(id, channel.id.items(), unit, channel.unit.items()) {
+    if fill(&all, analog, normal, rates, lengths, text) {
         DONE
     } else {
         NO_ROOM
-    }
-}
-
-fn analog_in(
-    alloc: Global,
-    head: &Head,
-    channel: usize,
-    said: &mut Analog,
-    id: &mut [u8],
-    unit: &mut [u8],
-) -> i32
-    ensures answer { (result ≡ DONE) ⊎ (result ≡ NO_CHANNEL) ⊎ (result ≡ NO_ROOM)
-        ⊎ (result ≡ NO_MEMORY) }
-    ensures done { result ≡ DONE → Has head.now.analog channel
-        (λ c. PutsAnalog c said.new id.old id.new unit.old unit.new) }
-    ensures room { result ≡ NO_ROOM → Has head.now.analog channel
-        (λ c. AnalogLacksRoom c said.new id.old unit.old) }
-    ensures lacking { result ≡ NO_CHANNEL → length head.now.analog ≤ channel }
-    ensures said_kept { (result ≢ DONE) → (result ≢ NO_ROOM) → said.new ≡ said.old }
-    ensures id_kept { (result ≢ DONE) → id.new ≡ id.old }
-    ensures unit_kept { (result ≢ DONE) → unit.new ≡ unit.old }
-{
-    match head.analog.items().get(channel) {
-        Some(channel) => put_analog(alloc, channel, said, id, unit),
-        None => NO_CHANNEL,
-    }
-}
-
-/// An analogue channel, counted from 0, with its id and its unit in buffers of the caller.
-#[unsafe(no_mangle)]
-pub extern "C" fn comtrade_analog(
-    alloc: Global,
-    cfg: &[u8],
-    channel: usize,
-    said: &mut Analog,
-    id: &mut [u8],
-    unit: &mut [u8],
-    fault: &mut Fault,
-) -> i32
-    ensures answer { (result ≡ DONE) ⊎ (result ≡ CFG_FAULT) ⊎ (result ≡ NO_CHANNEL)
-        ⊎ (result ≡ NO_ROOM) ⊎ (result ≡ NO_MEMORY) }
-    ensures done { result ≡ DONE → OfHead cfg.now (λ h. Has h.analog channel
-        (λ c. PutsAnalog c said.new id.old id.new unit.old unit.new)) }
-    ensures room { result ≡ NO_ROOM → OfHead cfg.now (λ h. Has h.analog channel
-        (λ c. AnalogLacksRoom c said.new id.old unit.old)) }
-    ensures lacking { result ≡ NO_CHANNEL → OfHead cfg.now (λ h. length h.analog ≤ channel) }
-    ensures fault { result ≡ CFG_FAULT → IsHeadFault cfg.now fault.new }
-    ensures said_kept { (result ≢ DONE) → (result ≢ NO_ROOM) → said.new ≡ said.old }
-    ensures id_kept { (result ≢ DONE) → id.new ≡ id.old }
-    ensures unit_kept { (result ≢ DONE) → unit.new ≡ unit.old }
-    ensures fault_kept { (result ≢ CFG_FAULT) → fault.new ≡ fault.old }
-{
-    match read_cfg(alloc, cfg) {
-        Err(why) => refuse_head(why, fault),
-        Ok(head) => analog_in(alloc, &head, channel, said, id, unit),
-    }
-}
-
-fn put_status(channel: &StatusChannel, said: &mut Status, id: &mut [u8]) -> i32
-    ensures answer { (result ≡ DONE) ⊎ (result ≡ NO_ROOM) }
-    ensures done { result ≡ DONE → PutsStatus channel.now said.new id.old id.new }
-    ensures room { result ≡ NO_ROOM → StatusLacksRoom channel.now said.new id.old }
-    ensures id_kept { (result ≢ DONE) → id.new ≡ id.old }
-{
-    *said = Status {
-        normal: channel.normal,
-        id: channel.id.items().len(),
-    };
-    if put(id, channel.id.items()) {
-        DONE
-    } else {
-        NO_ROOM
-    }
-}
-
-fn status_in(head: &Head, channel: usize, said: &mut Status, id: &mut [u8]) -> i32
-    ensures answer { (result ≡ DONE) ⊎ (result ≡ NO_CHANNEL) ⊎ (result ≡ NO_ROOM) }
-    ensures done { result ≡ DONE → Has head.now.status channel
-        (λ c. PutsStatus c said.new id.old id.new) }
-    ensures room { result ≡ NO_ROOM → Has head.now.status channel
-        (λ c. StatusLacksRoom c said.new id.old) }
-    ensures lacking { result ≡ NO_CHANNEL → length head.now.status ≤ channel }
-    ensures said_kept { (result ≢ DONE) → (result ≢ NO_ROOM) → said.new ≡ said.old }
-    ensures id_kept { (result ≢ DONE) → id.new ≡ id.old }
-{
-    match head.status.items().get(channel) {
-        Some(channel) => put_status(channel, said, id),
-        None => NO_CHANNEL,
-    }
-}
-
-/// A status channel, counted from 0, with its id in a buffer of the caller.
-#[unsafe(no_mangle)]
-pub extern "C" fn comtrade_status(
-    alloc: Global,
-    cfg: &[u8],
-    channel: usize,
-    said: &mut Status,
-    id: &mut [u8],
-    fault: &mut Fault,
-) -> i32
-    ensures answer { (result ≡ DONE) ⊎ (result ≡ CFG_FAULT) ⊎ (result ≡ NO_CHANNEL)
-        ⊎ (result ≡ NO_ROOM) ⊎ (result ≡ NO_MEMORY) }
-    ensures done { result ≡ DONE → OfHead cfg.now (λ h. Has h.status channel
-        (λ c. PutsStatus c said.new id.old id.new)) }
-    ensures room { result ≡ NO_ROOM → OfHead cfg.now (λ h. Has h.status channel
-        (λ c. StatusLacksRoom c said.new id.old)) }
-    ensures lacking { result ≡ NO_CHANNEL → OfHead cfg.now (λ h. length h.status ≤ channel) }
-    ensures fault { result ≡ CFG_FAULT → IsHeadFault cfg.now fault.new }
-    ensures said_kept { (result ≢ DONE) → (result ≢ NO_ROOM) → said.new ≡ said.old }
-    ensures id_kept { (result ≢ DONE) → id.new ≡ id.old }
-    ensures fault_kept { (result ≢ CFG_FAULT) → fault.new ≡ fault.old }
-{
-    match read_cfg(alloc, cfg) {
-        Err(why) => refuse_head(why, fault),
-        Ok(head) => status_in(&head, channel, said, id),
     }
 }

@@ -6,4 +6,6 @@ mod answer;
 mod channels;
 mod rows;
 mod summary;
+mod texts;
+mod values;
 mod write;

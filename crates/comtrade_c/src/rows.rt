@@ -27,7 +27,7 @@ fn sample_of(reading: Reading) -> i32
     }
 }
 
-fn bit_of(bit: bool) -> u8
+pub(crate) fn bit_of(bit: bool) -> u8
     ensures { result ≡ tables.bit_of bit }
 {
     if bit { 1 } else { 0 }
@@ -140,7 +140,7 @@ fn fill(all: &Tables, stamps: &mut [u64], samples: &mut [i32], bits: &mut [u8]) 
 
 /// The rows of a pair: a stamp for each row, and row by row a sample for each analogue channel and a bit for each status channel.
 #[unsafe(no_mangle)]
-pub extern "C" fn comtrade_rows(
+pub extern "C" fn comtrade_core_rows(
     alloc: Global,
     cfg: &[u8],
     dat: &[u8],

@@ -205,7 +205,7 @@ fn file_of(
 
 /// Writes a pair with the head that a configuration file says and these rows: what is written reads to that very file.
 #[unsafe(no_mangle)]
-pub extern "C" fn comtrade_write(
+pub extern "C" fn comtrade_core_write(
     alloc: Global,
     cfg: &[u8],
     binary: bool,

@@ -47,12 +47,14 @@ view_isnt_convert view.Show e = below 99 115 (letter 0 _ _ (sym e)) refl
 view_isnt_convert view.Check e = below 104 111 (letter 1 _ _ e) refl
 view_isnt_convert view.Csv e = below 111 115 (letter 1 _ _ (sym e)) refl
 view_isnt_convert view.Plot e = below 99 112 (letter 0 _ _ (sym e)) refl
+view_isnt_convert view.Page e = below 99 112 (letter 0 _ _ (sym e)) refl
 
 view_isnt_extract : (v : View) → view_name v ≡ codes "extract" → ⊥
 view_isnt_extract view.Show e = below 101 115 (letter 0 _ _ (sym e)) refl
 view_isnt_extract view.Check e = below 99 101 (letter 0 _ _ e) refl
 view_isnt_extract view.Csv e = below 99 101 (letter 0 _ _ e) refl
 view_isnt_extract view.Plot e = below 101 112 (letter 0 _ _ (sym e)) refl
+view_isnt_extract view.Page e = below 101 112 (letter 0 _ _ (sym e)) refl
 
 survey_isnt_convert : (s : Survey) → survey_name s ≡ codes "convert" → ⊥
 survey_isnt_convert survey.List e = below 99 108 (letter 0 _ _ (sym e)) refl
@@ -67,10 +69,12 @@ survey_isnt_view survey.List view.Show e = below 108 115 (letter 0 _ _ e) refl
 survey_isnt_view survey.List view.Check e = below 99 108 (letter 0 _ _ (sym e)) refl
 survey_isnt_view survey.List view.Csv e = below 99 108 (letter 0 _ _ (sym e)) refl
 survey_isnt_view survey.List view.Plot e = below 108 112 (letter 0 _ _ e) refl
+survey_isnt_view survey.List view.Page e = below 108 112 (letter 0 _ _ e) refl
 survey_isnt_view survey.Events view.Show e = below 101 115 (letter 0 _ _ e) refl
 survey_isnt_view survey.Events view.Check e = below 99 101 (letter 0 _ _ (sym e)) refl
 survey_isnt_view survey.Events view.Csv e = below 99 101 (letter 0 _ _ (sym e)) refl
 survey_isnt_view survey.Events view.Plot e = below 101 112 (letter 0 _ _ e) refl
+survey_isnt_view survey.Events view.Page e = below 101 112 (letter 0 _ _ e) refl
 
 extract_isnt_convert : codes "extract" ≡ codes "convert" → ⊥
 extract_isnt_convert e = below 99 101 (letter 0 _ _ (sym e)) refl

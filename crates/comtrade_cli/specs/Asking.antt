@@ -8,6 +8,7 @@ use Rattle.comtrade_format.specs.declared.file.Kind.TheVariants as kind
 use Rattle.comtrade_cli.specs.declared.words.Names.{Names}
 use Rattle.comtrade_cli.specs.declared.words.Part.{Part}
 use Rattle.comtrade_cli.specs.declared.words.Form.{Form}
+use Rattle.comtrade_cli.specs.declared.words.Picture.{Picture}
 use Rattle.comtrade_cli.specs.declared.words.View.{View}
 use Rattle.comtrade_cli.specs.declared.words.View.TheVariants as view
 use Rattle.comtrade_cli.specs.declared.words.Viewed.{Viewed}
@@ -52,11 +53,19 @@ pub record AreForm (rows : List Row) (form : Form) : Type 0 where
   pub separator : IsOption rows (codes "separator") form.separator
   pub decimal : IsOption rows (codes "decimal") form.decimal
 
+-- how a picture is drawn
+pub record ArePicture (rows : List Row) (picture : Picture) : Type 0 where
+  pub whole : IsFlag rows (codes "whole") picture.whole
+  pub all : IsFlag rows (codes "all") picture.all
+  pub width : IsOption rows (codes "width") picture.width
+  pub height : IsOption rows (codes "height") picture.height
+
 abbrev pub view_name : View → Text
 view_name view.Show = codes "show"
 view_name view.Check = codes "check"
 view_name view.Csv = codes "csv"
 view_name view.Plot = codes "plot"
+view_name view.Page = codes "page"
 
 abbrev pub survey_name : Survey → Text
 survey_name survey.List = codes "list"
@@ -66,6 +75,7 @@ pub record IsViewed (rows : List Row) (v : Viewed) : Type 0 where
   pub names : AreNames rows v.names
   pub part : ArePart rows v.part
   pub form : AreForm rows v.form
+  pub picture : ArePicture rows v.picture
 
 -- the last of two or three names is the new pair's, the second of three the data file's
 pub record IsConverted (rows : List Row) (made : Converted) : Type 0 where

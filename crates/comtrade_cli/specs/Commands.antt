@@ -41,6 +41,11 @@ with_part a = with_rule (with_rule (with_rule (with_rule (with_rule (with_rule a
     (option (codes "from"))) (option (codes "to"))) (option (codes "channels")))
     (flag (codes "changed"))) (flag (codes "primary"))) (flag (codes "secondary"))
 
+-- how a picture is drawn
+abbrev pub with_picture : App → App
+with_picture a = with_rule (with_rule (with_rule (with_rule a
+    (flag (codes "whole"))) (flag (codes "all"))) (option (codes "width"))) (option (codes "height"))
+
 -- how a table of values is written
 abbrev pub with_table : App → App
 with_table a = with_rule (with_rule a (option (codes "separator"))) (option (codes "decimal"))
@@ -60,7 +65,10 @@ abbrev pub csv : App
 csv = with_table (with_part (over_pair (codes "csv")))
 
 abbrev pub plot : App
-plot = with_part (over_pair (codes "plot"))
+plot = with_picture (with_part (over_pair (codes "plot")))
+
+abbrev pub page : App
+page = with_part (over_pair (codes "page"))
 
 -- with three names the second is the data file's
 abbrev pub convert_names : App
@@ -96,8 +104,8 @@ top = on_top (λ s. record s {
 
 -- the program's commands
 abbrev pub views : App → App
-views a = with_subcommand (with_subcommand (with_subcommand (with_subcommand a
-    show.top) check.top) csv.top) plot.top
+views a = with_subcommand (with_subcommand (with_subcommand (with_subcommand (with_subcommand a
+    show.top) check.top) csv.top) plot.top) page.top
 
 abbrev pub surveys : App → App
 surveys a = with_subcommand (with_subcommand a list.top) events.top

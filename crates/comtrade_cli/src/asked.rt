@@ -6,7 +6,7 @@ ghost use Rattle.comtrade_cli.specs.Asking.{AnswersTo, Asks, AsksAs, Does, FitsN
 ghost use Rattle.comtrade_cli.specs.Asking as Spec;
 
 use crate::commands::comtrade;
-use crate::matched::{form_of, kind_of, named, names_of, part_of, text_of, texts_of};
+use crate::matched::{form_of, kind_of, named, names_of, part_of, picture_of, text_of, texts_of};
 use crate::words::{Asked, Converted, Survey, View, Viewed};
 use clap::error::ErrorKind;
 use clap::{ArgMatches, Error};
@@ -39,6 +39,9 @@ fn view_of(verb: &str) -> Option<View>
     if verb == "plot" {
         return Some(View::Plot);
     }
+    if verb == "page" {
+        return Some(View::Page);
+    }
     None
 }
 
@@ -69,6 +72,7 @@ fn viewed_of<'a>(view: View, found: &ArgMatches<'a>) -> Option<Asked<'a>>
             names,
             part: part_of(found),
             form: form_of(found),
+            picture: picture_of(found),
         },
     ))
 }

@@ -6,7 +6,7 @@ ghost use Rattle.clap.specs.Words.{App};
 ghost use Rattle.comtrade_cli.specs.Commands.{IsCommand, IsKinded};
 ghost use Rattle.comtrade_cli.specs.Commands as Spec;
 
-use crate::options::{free_word, with_part, with_table, word, words};
+use crate::options::{free_word, with_part, with_picture, with_table, word, words};
 use clap::Command;
 use std::alloc::{AllocError, Global};
 
@@ -70,6 +70,15 @@ fn plot<'a>(alloc: Global) -> Result<Command<'a>, AllocError>
     ensures { IfOk result (IsCommand Spec.plot) }
 {
     let pair = over_pair(alloc, "plot", "Prints a picture, as SVG")?;
+    let part = with_part(alloc, pair)?;
+    with_picture(alloc, part)
+}
+
+fn page<'a>(alloc: Global) -> Result<Command<'a>, AllocError>
+    ensures { IfOk result (IsCommand Spec.page) }
+{
+    let about = "Prints a page that shows the record in a browser, in one file";
+    let pair = over_pair(alloc, "page", about)?;
     with_part(alloc, pair)
 }
 
@@ -165,7 +174,8 @@ fn views<'a>(alloc: Global, program: Command<'a>) -> Result<Command<'a>, AllocEr
         .subcommand(show(alloc)?)?
         .subcommand(check(alloc)?)?
         .subcommand(csv(alloc)?)?
-        .subcommand(plot(alloc)?)
+        .subcommand(plot(alloc)?)?
+        .subcommand(page(alloc)?)
 }
 
 /// The commands over many pairs.

@@ -2,9 +2,9 @@
 
 ghost use Rattle.std.specs.Prelude.{◌≡◌, ◌↔◌, IfOk, IsTrue, MatchOption, Some, codes, map, option_map, unwrap_or, []};
 ghost use Rattle.clap.specs.Words.{all_of, first_of, found_of, rows_of};
-ghost use Rattle.comtrade_cli.specs.Asking.{AreForm, AreNames, ArePart, IsFlag, IsNamed, IsOption};
+ghost use Rattle.comtrade_cli.specs.Asking.{AreForm, AreNames, ArePart, ArePicture, IsFlag, IsNamed, IsOption};
 
-use crate::words::{Form, Names, Part};
+use crate::words::{Form, Names, Part, Picture};
 use clap::ArgMatches;
 use comtrade_format::Kind;
 use std::alloc::{AllocError, Global};
@@ -77,6 +77,18 @@ pub(crate) fn part_of<'a>(found: &ArgMatches<'a>) -> Part<'a>
         changed: is_set(found, "changed"),
         primary: is_set(found, "primary"),
         secondary: is_set(found, "secondary"),
+    }
+}
+
+/// How a picture is drawn.
+pub(crate) fn picture_of<'a>(found: &ArgMatches<'a>) -> Picture<'a>
+    ensures { ArePicture (rows_of (found_of found.now)) result }
+{
+    Picture {
+        whole: is_set(found, "whole"),
+        all: is_set(found, "all"),
+        width: text_of(found, "width"),
+        height: text_of(found, "height"),
     }
 }
 

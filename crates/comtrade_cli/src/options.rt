@@ -92,6 +92,28 @@ pub(crate) fn with_part<'a>(alloc: Global, command: Command<'a>) -> Result<Comma
     Ok(six)
 }
 
+/// How a picture is drawn.
+pub(crate) fn with_picture<'a>(
+    alloc: Global,
+    command: Command<'a>,
+) -> Result<Command<'a>, AllocError>
+    ensures { (a : App) → IsCommand a command.entry → IfOk result (IsCommand (Spec.with_picture a)) }
+{
+    let whole = "All of a long record, of which else the part around the trigger is drawn";
+    let all = "A bar for each contact, also for those that don't change";
+    let one = with(command, flag(alloc, "whole", whole))?;
+    let two = with(one, flag(alloc, "all", all))?;
+    let three = with(
+        two,
+        option(alloc, "width", "PIXELS", "How wide it is shown"),
+    )?;
+    let four = with(
+        three,
+        option(alloc, "height", "PIXELS", "How high it is shown"),
+    )?;
+    Ok(four)
+}
+
 /// How a table of values is written.
 pub(crate) fn with_table<'a>(alloc: Global, command: Command<'a>) -> Result<Command<'a>, AllocError>
     ensures { (a : App) → IsCommand a command.entry → IfOk result (IsCommand (Spec.with_table a)) }

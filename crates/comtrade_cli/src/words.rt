@@ -47,6 +47,21 @@ pub enum View {
     Csv,
     /// A picture of it.
     Plot,
+    /// A page that shows it in a browser.
+    Page,
+}
+
+/// How a picture is drawn, its sizes as texts that are not parsed yet.
+#[derive(Clone, Copy, Debug)]
+pub struct Picture<'a> {
+    /// All of a long record.
+    pub whole: bool,
+    /// A bar for each contact.
+    pub all: bool,
+    /// How wide it is shown, in pixels.
+    pub width: Option<&'a str>,
+    /// How high it is shown.
+    pub height: Option<&'a str>,
 }
 
 /// A pair of files, and what is printed of it. An option that a command doesn't have is none.
@@ -55,6 +70,7 @@ pub struct Viewed<'a> {
     pub names: Names<'a>,
     pub part: Part<'a>,
     pub form: Form<'a>,
+    pub picture: Picture<'a>,
 }
 
 /// A pair of files, and the pair that is written in its place.

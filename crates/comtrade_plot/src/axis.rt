@@ -1,0 +1,242 @@
+//! Times at round numbers, their lines through the panels, cycles, the trigger, gaps.
+
+use crate::frame::{Frame, LEFT, RIGHT};
+use crate::gaps::Gap;
+use crate::instant::{TimeUnit, put_places, put_span, time_unit};
+use crate::layout::Chart;
+use crate::legend::NAMES;
+use crate::sheet::Sheet;
+use std::alloc::Allocator;
+
+/// The least of 1, 2 and 5 times a power of ten that is at least so much.
+pub(crate) fn round_step(least: u64) -> u64 {
+    let mut power = 1u64;
+    for _ in 0..19 {
+        for digit in [1, 2, 5] {
+            let step = power.saturating_mul(digit);
+            if least <= step {
+                return step;
+            }
+        }
+        power = power.saturating_mul(10);
+    }
+    power
+}
+
+/// The step between ticks of a frame, of which it has ten at most.
+fn step_of(frame: Frame) -> i64 {
+    let step = round_step(frame.span().div_ceil(10).max(1));
+    i64::try_from(step).unwrap_or(i64::MAX)
+}
+
+/// The first multiple of a step that isn't before a time.
+fn first_tick(from: i64, step: i64) -> i64 {
+    let step = step.max(1);
+    let at = (from / step).saturating_mul(step);
+    if at < from {
+        at.saturating_add(step)
+    } else {
+        at
+    }
+}
+
+/// The frame, a bit longer where its ends are near ticks.
+pub(crate) fn rounded_out(frame: Frame) -> Frame {
+    let step = step_of(frame);
+    let near = i64::try_from(frame.span() / 40).unwrap_or(0);
+    let last = first_tick(frame.to, step);
+    let first = first_tick(frame.from, step).saturating_sub(step);
+    Frame {
+        from: if frame.from.saturating_sub(first) <= near {
+            first
+        } else {
+            frame.from
+        },
+        to: if last.saturating_sub(frame.to) <= near {
+            last
+        } else {
+            frame.to
+        },
+    }
+}
+
+/// What times of the chart are shown in: the numbers of rows have no unit.
+fn unit_of<A: Allocator>(chart: &Chart<'_, A>) -> TimeUnit {
+    if chart.is_timed {
+        return time_unit(chart.frame.span());
+    }
+    TimeUnit {
+        nanos: 1,
+        places: 0,
+        name: "",
+    }
+}
+
+/// The lines of the times through a panel.
+pub(crate) fn put_grid<A: Allocator>(sheet: &mut Sheet<A>, frame: Frame, top: u32, bottom: u32) {
+    let step = step_of(frame);
+    let mut tick = first_tick(frame.from, step);
+    sheet.text("<path class=\"g\" stroke=\"#e2e2e2\" d=\"");
+    for _ in 0..12 {
+        if frame.to < tick {
+            break;
+        }
+        sheet.point("M", frame.across(tick), top);
+        sheet.along("V", bottom);
+        tick = tick.saturating_add(step);
+    }
+    sheet.text("\"/>\n");
+}
+
+/// The times at a height.
+pub(crate) fn put_times<A: Allocator>(sheet: &mut Sheet<A>, chart: &Chart<'_, A>, y: u32) {
+    let unit = unit_of(chart);
+    let step = step_of(chart.frame);
+    let mut tick = first_tick(chart.frame.from, step);
+    for _ in 0..12 {
+        if chart.frame.to < tick {
+            break;
+        }
+        sheet.begin_text(chart.frame.across(tick), y, " text-anchor=\"middle\"");
+        put_places(sheet, tick, unit.places);
+        sheet.end_text();
+        tick = tick.saturating_add(step);
+    }
+}
+
+/// What the times at a height are.
+pub(crate) fn put_times_name<A: Allocator>(sheet: &mut Sheet<A>, chart: &Chart<'_, A>, y: u32) {
+    if chart.is_timed {
+        sheet.begin_text(NAMES, y, "");
+        sheet.texts(&[unit_of(chart).name, " since the trigger"]);
+        sheet.end_text();
+    } else {
+        sheet.label(NAMES, y, "", "row; the file has no times");
+    }
+}
+
+/// A mark at each cycle since the trigger, or at so many of them, below a height, and their numbers.
+fn put_cycle_marks<A: Allocator>(sheet: &mut Sheet<A>, frame: Frame, cycle: i64, top: u32) {
+    let cycles = frame.span() / cycle.unsigned_abs().max(1);
+    let each = i64::try_from(round_step(cycles.div_ceil(25).max(1))).unwrap_or(i64::MAX);
+    let step = cycle.saturating_mul(each);
+    let mut tick = first_tick(frame.from, step);
+    for _ in 0..40 {
+        if frame.to < tick {
+            break;
+        }
+        let x = frame.across(tick);
+        sheet.text("<path class=\"e\" stroke=\"#8a8f96\" d=\"");
+        sheet.point("M", x, top);
+        sheet.text("v4\"/>");
+        sheet.begin_text(
+            x,
+            top.saturating_add(140),
+            " text-anchor=\"middle\" font-size=\"10\" class=\"f\" fill=\"#55595f\"",
+        );
+        sheet.signed(tick / cycle.max(1));
+        sheet.end_text();
+        tick = tick.saturating_add(step);
+    }
+}
+
+/// The cycles of the line's frequency below a height, where it is known and the frame has one.
+pub(crate) fn put_cycles<A: Allocator>(sheet: &mut Sheet<A>, chart: &Chart<'_, A>, top: u32) {
+    let file = chart.file;
+    let Some(cycle) = chart.cycle else {
+        return;
+    };
+    if !chart.is_timed || chart.frame.span() < cycle.unsigned_abs() {
+        return;
+    }
+    put_cycle_marks(sheet, chart.frame, cycle, top);
+    sheet.begin_text(
+        NAMES,
+        top.saturating_add(140),
+        " class=\"f\" fill=\"#55595f\"",
+    );
+    sheet.text("cycles of ");
+    sheet.decimal(file.head.line_freq);
+    sheet.text(" Hz");
+    sheet.end_text();
+}
+
+/// The trigger's line through a panel.
+pub(crate) fn put_trigger<A: Allocator>(
+    sheet: &mut Sheet<A>,
+    chart: &Chart<'_, A>,
+    top: u32,
+    bottom: u32,
+) {
+    if !chart.is_timed || !chart.frame.has(0) {
+        return;
+    }
+    sheet.text("<path class=\"t\" stroke=\"#222222\" stroke-dasharray=\"4 3\" d=\"");
+    sheet.point("M", chart.frame.across(0), top);
+    sheet.along("V", bottom);
+    sheet.text("\"/>\n");
+}
+
+/// Where a gap begins, and how wide it is drawn: a pixel at least.
+fn drawn_gap(frame: Frame, gap: Gap) -> (u32, u32) {
+    let from = frame.across(gap.from);
+    let to = frame.across(gap.to);
+    let width = to.saturating_sub(from).max(10);
+    (from.min(RIGHT - 10).max(LEFT), width)
+}
+
+/// The gaps as shades through a panel; those that are no pixel apart are one.
+pub(crate) fn put_gaps<A: Allocator>(
+    sheet: &mut Sheet<A>,
+    chart: &Chart<'_, A>,
+    top: u32,
+    bottom: u32,
+) {
+    if chart.gaps.is_empty() {
+        return;
+    }
+    sheet.text("<path class=\"x\" fill=\"#dcd6c8\" d=\"");
+    let mut end = 0u32;
+    for gap in chart.gaps {
+        let (x, width) = drawn_gap(chart.frame, *gap);
+        if end <= x {
+            sheet.point("M", x, top);
+            sheet.along("h", width);
+            sheet.along("V", bottom);
+            sheet.along("H", x);
+            sheet.text("z");
+            end = x.saturating_add(width);
+        }
+    }
+    sheet.text("\"/>\n");
+}
+
+/// How long a gap is, or how many rows it has.
+fn put_length<A: Allocator>(sheet: &mut Sheet<A>, chart: &Chart<'_, A>, gap: Gap) {
+    sheet.text("gap ");
+    if chart.is_timed {
+        put_span(sheet, gap.to.saturating_sub(gap.from));
+    } else {
+        sheet.number(gap.rows);
+        sheet.text(if gap.rows == 1 { " row" } else { " rows" });
+    }
+}
+
+/// The lengths of gaps at a height, as far as there is room.
+pub(crate) fn put_gap_names<A: Allocator>(sheet: &mut Sheet<A>, chart: &Chart<'_, A>, y: u32) {
+    let mut end = 0u32;
+    for gap in chart.gaps {
+        let (x, width) = drawn_gap(chart.frame, *gap);
+        let middle = x.saturating_add(width / 2);
+        if end <= middle {
+            sheet.begin_text(
+                middle.clamp(LEFT + 300, RIGHT - 300),
+                y,
+                " text-anchor=\"middle\" font-size=\"10.5\" class=\"f\" fill=\"#55595f\"",
+            );
+            put_length(sheet, chart, *gap);
+            sheet.end_text();
+            end = middle.saturating_add(800);
+        }
+    }
+}

@@ -1,0 +1,107 @@
+//! The data of a page: samples, bits and times as bytes in base64.
+
+use crate::rows::{bit_at, reading_at};
+use crate::sheet::Sheet;
+use base64::engine::general_purpose::STANDARD;
+use comtrade_cli::{ToolFault, write_out};
+use comtrade_format::Row;
+use dfr_channels::Reading;
+use std::alloc::{AllocError, Allocator};
+use std::io::Write;
+use std::num::{f64_to_bits_with_nan, nearest_i64_to_f64};
+
+/// Writes a block of the page: a letter and a number are its name.
+pub(crate) fn write_block<A: Allocator + Copy, W: Write>(
+    alloc: A,
+    name: &Sheet<A>,
+    bytes: &[u8],
+    w: &mut W,
+) -> Result<(), ToolFault> {
+    let text = STANDARD.encode(alloc, bytes)?;
+    write_out(w, b"<script type=\"text/plain\" id=\"")?;
+    name.write(w)?;
+    write_out(w, b"\">")?;
+    write_out(w, text.as_bytes())?;
+    write_out(w, b"</script>\n")
+}
+
+/// A sample in 16 bits; a missing one, and one that has no room, is the least number.
+fn short_of(reading: Reading) -> i16 {
+    match reading {
+        Reading::Value(sample) => i16::try_from(sample).unwrap_or(i16::MIN),
+        Reading::Missing => i16::MIN,
+    }
+}
+
+/// A sample in 32 bits; a missing one is the least number.
+fn long_of(reading: Reading) -> i32 {
+    match reading {
+        Reading::Value(sample) => sample,
+        Reading::Missing => i32::MIN,
+    }
+}
+
+/// A channel's samples as little-endian integers of 16 bits, or of 32 bits.
+pub(crate) fn samples_of<A: Allocator + Copy>(
+    alloc: A,
+    rows: &[Row<A>],
+    channel: usize,
+    is_wide: bool,
+) -> Result<Vec<u8, A>, AllocError> {
+    let mut bytes = Vec::new(alloc);
+    for row in rows {
+        let reading = reading_at(row, channel);
+        if is_wide {
+            bytes.extend_from_slice(&long_of(reading).to_le_bytes())?;
+        } else {
+            bytes.extend_from_slice(&short_of(reading).to_le_bytes())?;
+        }
+    }
+    Ok(bytes)
+}
+
+/// A contact's bits, eight in a byte, the first one lowest.
+pub(crate) fn bits_of<A: Allocator + Copy>(
+    alloc: A,
+    rows: &[Row<A>],
+    channel: usize,
+) -> Result<Vec<u8, A>, AllocError> {
+    let mut bytes = Vec::new(alloc);
+    let mut byte = 0u8;
+    let mut mask = 1u8;
+    for row in rows {
+        if bit_at(row, channel) {
+            byte |= mask;
+        }
+        if mask == 128 {
+            bytes.push(byte)?;
+            byte = 0;
+            mask = 1;
+        } else {
+            mask = mask.saturating_mul(2);
+        }
+    }
+    bytes.push(byte)?;
+    Ok(bytes)
+}
+
+/// When rows were taken, as little-endian doubles; a row without a time, or with one that goes back, has the one before it.
+pub(crate) fn times_of_rows<A: Allocator + Copy>(
+    alloc: A,
+    times: &[Option<i64>],
+) -> Result<Vec<u8, A>, AllocError> {
+    let mut bytes = Vec::new(alloc);
+    let mut last: Option<i64> = None;
+    for time in times {
+        let time = match (*time, last) {
+            (Some(time), Some(last)) => time.max(last),
+            (Some(time), None) => time,
+            (None, Some(last)) => last,
+            (None, None) => 0,
+        };
+        last = Some(time);
+        let bits = f64_to_bits_with_nan(nearest_i64_to_f64(time));
+        bytes.extend_from_slice(&bits.to_le_bytes())?;
+    }
+    Ok(bytes)
+}

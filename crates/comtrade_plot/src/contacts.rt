@@ -1,0 +1,238 @@
+//! The bars of contacts, and the line for those that don't change.
+
+use crate::axis::{put_gaps, put_grid, put_trigger};
+use crate::frame::{LEFT, RIGHT};
+use crate::layout::{CONTACT, Chart, contact_height};
+use crate::legend::{NAMES, put_name};
+use crate::rows::bit_at;
+use crate::sheet::Sheet;
+use comtrade_cli::ToolFault;
+use comtrade_format::Row;
+use dfr_channels::StatusChannel;
+use std::alloc::Allocator;
+
+/// Marks the contacts whose bits differ.
+fn mark_changed(changed: &mut [bool], one: &[bool], other: &[bool]) {
+    for (mark, (a, b)) in changed.iter_mut().zip(one.iter().zip(other.iter())) {
+        *mark = *mark || a != b;
+    }
+}
+
+/// The first row that is drawn.
+fn first_drawn<'a, A: Allocator>(chart: &Chart<'a, A>) -> Option<&'a Row<A>> {
+    let file = chart.file;
+    let rows = file.rows.items();
+    for (row, place) in rows.iter().zip(chart.places.iter()) {
+        if place.is_some() {
+            return Some(row);
+        }
+    }
+    None
+}
+
+/// Of each contact whether it has a bar: where it changes in the rows that are drawn, or all are to be shown, or it would be
+/// the only one without.
+pub(crate) fn bars_of<A: Allocator + Copy>(
+    chart: &Chart<'_, A>,
+    shows_all: bool,
+) -> Result<Vec<bool, A>, ToolFault> {
+    let file = chart.file;
+    let count = file.head.status.items().len();
+    let mut changed = Vec::new(chart.alloc);
+    for _ in 0..count {
+        changed.push(shows_all)?;
+    }
+    let Some(first) = first_drawn(chart) else {
+        return Ok(changed);
+    };
+    let rows = file.rows.items();
+    for (row, place) in rows.iter().zip(chart.places.iter()) {
+        if place.is_some() {
+            mark_changed(&mut changed, first.bits.items(), row.bits.items());
+        }
+    }
+    if count_of(&changed, false) == 1 {
+        for mark in changed.iter_mut() {
+            *mark = true;
+        }
+    }
+    Ok(changed)
+}
+
+/// How many marks are so.
+pub(crate) fn count_of(marks: &[bool], wanted: bool) -> u32 {
+    let mut count = 0u32;
+    for mark in marks {
+        if *mark == wanted {
+            count = count.saturating_add(1);
+        }
+    }
+    count
+}
+
+/// How high the bars of contacts are.
+fn bars_height<A: Allocator>(chart: &Chart<'_, A>, bars: &[bool]) -> u32 {
+    let file = chart.file;
+    let mut height = 0u32;
+    for (channel, has_bar) in file.head.status.items().iter().zip(bars.iter()) {
+        if *has_bar {
+            height = height.saturating_add(contact_height(channel));
+        }
+    }
+    height
+}
+
+/// How high the bars of contacts are, with the line for the others.
+pub(crate) fn contacts_height<A: Allocator>(chart: &Chart<'_, A>, bars: &[bool]) -> u32 {
+    let others = count_of(bars, false).min(1);
+    bars_height(chart, bars).saturating_add(others.saturating_mul(CONTACT))
+}
+
+/// A bar that isn't drawn yet: where it begins, and where it ends so far.
+#[derive(Clone, Copy)]
+struct Bar {
+    from: u32,
+    to: u32,
+    is_open: bool,
+}
+
+impl Bar {
+    fn put<A: Allocator>(self, sheet: &mut Sheet<A>, top: u32) {
+        let width = self.to.saturating_sub(self.from).max(5);
+        sheet.point("M", self.from.min(RIGHT - 5), top.saturating_add(30));
+        sheet.along("h", width.min(RIGHT.saturating_sub(self.from).max(5)));
+        sheet.text("v12h-");
+        sheet.tenths(width.min(RIGHT.saturating_sub(self.from).max(5)));
+        sheet.text("z");
+    }
+}
+
+fn put_bar<A: Allocator>(sheet: &mut Sheet<A>, bar: Option<Bar>, top: u32) {
+    if let Some(bar) = bar {
+        bar.put(sheet, top);
+    }
+}
+
+/// The bar after a row whose bit is 1: it goes on where less than half a pixel is between.
+fn with_one<A: Allocator>(sheet: &mut Sheet<A>, top: u32, bar: Option<Bar>, x: u32) -> Option<Bar> {
+    match bar {
+        Some(bar) if bar.is_open || x <= bar.to.saturating_add(5) => Some(Bar {
+            from: bar.from,
+            to: x,
+            is_open: true,
+        }),
+        _ => {
+            put_bar(sheet, bar, top);
+            Some(Bar {
+                from: x,
+                to: x,
+                is_open: true,
+            })
+        }
+    }
+}
+
+/// The bar after a row whose bit is 0: it ends there, unless it has ended.
+fn with_zero(bar: Option<Bar>, x: u32) -> Option<Bar> {
+    match bar {
+        Some(bar) if bar.is_open => Some(Bar {
+            from: bar.from,
+            to: x,
+            is_open: false,
+        }),
+        _ => bar,
+    }
+}
+
+/// The bars of a contact, from each row in which its bit is 1 to the next in which it is 0; none over a gap.
+fn put_bars<A: Allocator>(sheet: &mut Sheet<A>, chart: &Chart<'_, A>, top: u32, channel: usize) {
+    let file = chart.file;
+    let rows = file.rows.items();
+    let mut bar = None;
+    for (row, place) in rows.iter().zip(chart.places.iter()) {
+        match *place {
+            Some(x) if bit_at(row, channel) => bar = with_one(sheet, top, bar, x),
+            Some(x) => bar = with_zero(bar, x),
+            None => {
+                put_bar(sheet, bar, top);
+                bar = None;
+            }
+        }
+    }
+    put_bar(sheet, bar, top);
+}
+
+/// A contact's name, and its bars.
+fn put_contact<A: Allocator>(
+    sheet: &mut Sheet<A>,
+    chart: &Chart<'_, A>,
+    channel: &StatusChannel<A>,
+    at: usize,
+    top: u32,
+) {
+    put_name(sheet, channel.id.items(), b"", top.saturating_add(130));
+    sheet.text("<path class=\"e\" stroke=\"#c4c8cc\" d=\"");
+    sheet.point("M", LEFT, top.saturating_add(150));
+    sheet.along("H", RIGHT);
+    sheet.text(if channel.normal {
+        "\"/>\n<path class=\"k\" fill=\"#8fb79a\" d=\""
+    } else {
+        "\"/>\n<path class=\"o\" fill=\"#2e6b38\" d=\""
+    });
+    put_bars(sheet, chart, top, at);
+    sheet.text("\"/>\n");
+}
+
+/// How many contacts don't change, and in which state they are.
+fn put_unchanged<A: Allocator>(
+    sheet: &mut Sheet<A>,
+    chart: &Chart<'_, A>,
+    bars: &[bool],
+    top: u32,
+) {
+    let Some(first) = first_drawn(chart) else {
+        return;
+    };
+    let mut ones = 0u64;
+    let mut zeros = 0u64;
+    for (has_bar, bit) in bars.iter().zip(first.bits.items().iter()) {
+        match (*has_bar, *bit) {
+            (false, true) => ones = ones.saturating_add(1),
+            (false, false) => zeros = zeros.saturating_add(1),
+            _ => {}
+        }
+    }
+    sheet.begin_text(NAMES, top.saturating_add(130), "");
+    sheet.number(ones.saturating_add(zeros));
+    sheet.text(" contacts unchanged: ");
+    sheet.number(ones);
+    sheet.text(" at 1, ");
+    sheet.number(zeros);
+    sheet.text(" at 0");
+    sheet.end_text();
+}
+
+/// The contacts from a height on.
+pub(crate) fn put_contacts<A: Allocator>(
+    sheet: &mut Sheet<A>,
+    chart: &Chart<'_, A>,
+    bars: &[bool],
+    top: u32,
+) {
+    let file = chart.file;
+    let bottom = top.saturating_add(bars_height(chart, bars));
+    put_gaps(sheet, chart, top, bottom);
+    put_grid(sheet, chart.frame, top, bottom);
+    let mut y = top;
+    let contacts = file.head.status.items().iter().zip(bars.iter());
+    for (i, (channel, has_bar)) in contacts.enumerate() {
+        if *has_bar {
+            put_contact(sheet, chart, channel, i, y);
+            y = y.saturating_add(contact_height(channel));
+        }
+    }
+    put_trigger(sheet, chart, top, bottom);
+    if count_of(bars, false) != 0 {
+        put_unchanged(sheet, chart, bars, y);
+    }
+}

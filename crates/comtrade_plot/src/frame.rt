@@ -1,0 +1,71 @@
+//! Where times and values stand in the picture, in tenths of a pixel.
+
+ghost use Rattle.std.specs.Prelude.{◌≡◌, ◌≤◌, ◌+◌};
+
+use std::num::{nearest_i64_to_f64, nearest_u64_to_f64, saturating_f64_to_u32};
+
+/// Where panels begin and end, and how wide they and the picture are.
+pub(crate) const LEFT: u32 = 760;
+
+pub(crate) const RIGHT: u32 = 9160;
+
+pub(crate) const ACROSS: u32 = 8400;
+
+pub(crate) const WIDTH: u32 = 12000;
+
+/// The times that are drawn, in nanoseconds since the trigger, or the numbers of the rows.
+#[derive(Clone, Copy, Debug, PartialEq, Eq)]
+pub(crate) struct Frame {
+    pub(crate) from: i64,
+    pub(crate) to: i64,
+}
+
+impl Frame {
+    pub(crate) fn has(self, time: i64) -> bool {
+        self.from <= time && time <= self.to
+    }
+
+    /// How long it lasts.
+    pub(crate) fn span(self) -> u64 {
+        self.to.saturating_sub(self.from).unsigned_abs()
+    }
+
+    /// Where a time stands: within the panels, also where it isn't drawn.
+    pub(crate) fn across(self, time: i64) -> u32
+        ensures left { 760 ≤ result }
+        ensures right { result ≤ 9160 }
+    {
+        let share = nearest_i64_to_f64(time.saturating_sub(self.from))
+            / nearest_u64_to_f64(self.span().max(1));
+        LEFT + saturating_f64_to_u32(share * 8400.0 + 0.5).min(ACROSS)
+    }
+}
+
+/// A panel's upper edge and height, and the values at its edges.
+#[derive(Clone, Copy, Debug)]
+pub(crate) struct Panel {
+    pub(crate) top: u32,
+    pub(crate) height: u32,
+    pub(crate) low: f64,
+    pub(crate) high: f64,
+}
+
+impl Panel {
+    /// Its lower edge.
+    pub(crate) fn bottom(self) -> u32
+        ensures { self.top ≤ result }
+    {
+        self.top.saturating_add(self.height)
+    }
+
+    /// Where a value stands: within the panel, whatever the value.
+    pub(crate) fn level(self, value: f64) -> u32
+        ensures top { self.top ≤ result }
+        ensures bottom { result ≤ self.top + self.height }
+    {
+        let share = (self.high - value) / (self.high - self.low);
+        let height = nearest_u64_to_f64(u64::from(self.height));
+        let down = saturating_f64_to_u32(share * height + 0.5);
+        self.top.saturating_add(down.min(self.height))
+    }
+}

@@ -1,0 +1,145 @@
+//! The head of a picture: its size, its colours, its names, and what it shows in words.
+
+use crate::frame::{LEFT, WIDTH};
+use crate::instant::{put_instant, put_range};
+use crate::layout::{Chart, panel_count};
+use crate::legend::peak_of;
+use crate::plot::PlotOptions;
+use crate::quantity::put_quantity;
+use crate::sheet::Sheet;
+use comtrade_format::Head;
+use std::alloc::Allocator;
+
+/// Colours for dark pages, and line styles for print.
+const STYLE: &str = "<style>@media (prefers-color-scheme:dark){\
+svg{fill:#e8eaed}.p{fill:#14171c}.f{fill:#a9b0b8}.g{stroke:#2c323a}.e{stroke:#7b838d}.t{stroke:#e8eaed}\
+.x{fill:#3d3a33}.k{fill:#4e7a5b}.o{fill:#7fd492}.q{stroke:#f0b429}\
+.a{stroke:#ff4038}.b{stroke:#ffcc38}.c{stroke:#0089ff}.n{stroke:#f0f2ef}\
+.u{stroke:#008c82}.v{stroke:#c0acff}.w{stroke:#a38d6a}.z{stroke:#f98abc}}\
+@media print{.b{stroke-dasharray:8 2}.c{stroke-dasharray:3 2}.n{stroke-dasharray:8 2 2 2}\
+.v{stroke-dasharray:8 2}.w{stroke-dasharray:3 2}.z{stroke-dasharray:8 2 2 2}}</style>\n";
+
+/// The height of a picture that is so wide and keeps its form.
+fn height_for(width: u32, height: u32) -> u32 {
+    let pixels = u64::from(width).saturating_mul(u64::from(height)) / 12_000;
+    u32::try_from(pixels).unwrap_or(u32::MAX)
+}
+
+/// The picture's tag: as high as it is wide where only one is asked for.
+fn put_tag<A: Allocator>(sheet: &mut Sheet<A>, options: PlotOptions, height: u32) {
+    let width = options.width.unwrap_or(WIDTH / 10);
+    let shown = options.height.unwrap_or(height_for(width, height));
+    sheet.text("<svg xmlns=\"http://www.w3.org/2000/svg\" width=\"");
+    sheet.number(u64::from(width));
+    sheet.text("\" height=\"");
+    sheet.number(u64::from(shown.max(1)));
+    sheet.text("\" viewBox=\"0 0 1200 ");
+    sheet.tenths(height);
+    sheet.text(
+        "\" role=\"img\" aria-labelledby=\"title desc\" font-family=\"sans-serif\" font-size=\"12\" fill=\"#1c1f23\">\n",
+    );
+}
+
+pub(crate) fn put_station<A: Allocator>(sheet: &mut Sheet<A>, head: &Head<A>) {
+    sheet.name(head.station.items());
+    if !head.device.items().is_empty() {
+        sheet.text(", ");
+        sheet.name(head.device.items());
+    }
+}
+
+/// So many of something.
+fn put_count<A: Allocator>(sheet: &mut Sheet<A>, n: usize, one: &str, more: &str) {
+    sheet.number(n as u64);
+    sheet.text(if n == 1 { one } else { more });
+}
+
+/// The peaks of the first channels, in words.
+fn put_peaks<A: Allocator>(sheet: &mut Sheet<A>, chart: &Chart<'_, A>) {
+    let file = chart.file;
+    let channels = file.head.analog.items();
+    let known = chart.surveys.iter().zip(chart.scales.iter());
+    sheet.text(" Peaks:");
+    for (channel, (survey, scale)) in channels.iter().zip(known).take(12) {
+        sheet.text(" ");
+        sheet.name(channel.id.items());
+        sheet.text(" ");
+        match peak_of(*survey, *scale) {
+            Some(peak) => put_quantity(sheet, peak, channel.unit.items()),
+            None => sheet.text("no readings"),
+        }
+        sheet.text(";");
+    }
+    sheet.text(if 12 < channels.len() {
+        " and others."
+    } else {
+        ""
+    });
+}
+
+/// What the picture shows, for those who hear it.
+fn put_description<A: Allocator>(sheet: &mut Sheet<A>, chart: &Chart<'_, A>) {
+    let file = chart.file;
+    let head = &file.head;
+    sheet.text("<desc id=\"desc\">Trigger ");
+    put_instant(sheet, head.trigger);
+    sheet.text(". ");
+    put_count(
+        sheet,
+        head.analog.items().len(),
+        " analogue channel",
+        " analogue channels",
+    );
+    sheet.text(" in ");
+    put_count(sheet, panel_count(chart.panels), " panel", " panels");
+    sheet.text(", ");
+    put_count(sheet, head.status.items().len(), " contact", " contacts");
+    if chart.is_timed {
+        sheet.text(", from ");
+        put_range(sheet, chart.frame.from, chart.frame.to);
+        sheet.text(" since the trigger");
+    }
+    sheet.text(".");
+    put_peaks(sheet, chart);
+    sheet.text("</desc>\n");
+}
+
+/// When the trigger was, and how many rows at which rates.
+fn put_facts<A: Allocator>(sheet: &mut Sheet<A>, chart: &Chart<'_, A>, y: u32) {
+    let file = chart.file;
+    let head = &file.head;
+    sheet.begin_text(LEFT, y, " class=\"f\" fill=\"#55595f\"");
+    sheet.text("trigger ");
+    put_instant(sheet, head.trigger);
+    sheet.text(", ");
+    put_count(sheet, file.rows.items().len(), " row", " rows");
+    if let [rate] = head.rates.items() {
+        if rate.samp.units() != 0 {
+            sheet.text(" at ");
+            sheet.decimal(rate.samp);
+            sheet.text(" Hz");
+        }
+    }
+    sheet.end_text();
+}
+
+/// The head of a picture of so many pixels.
+pub(crate) fn put_head<A: Allocator>(
+    sheet: &mut Sheet<A>,
+    chart: &Chart<'_, A>,
+    options: PlotOptions,
+    height: u32,
+) {
+    let file = chart.file;
+    put_tag(sheet, options, height);
+    sheet.text("<title id=\"title\">");
+    put_station(sheet, &file.head);
+    sheet.text("</title>\n");
+    put_description(sheet, chart);
+    sheet.text(STYLE);
+    sheet.text("<rect class=\"p\" width=\"100%\" height=\"100%\" fill=\"#ffffff\"/>\n");
+    sheet.begin_text(LEFT, 230, " font-size=\"15\"");
+    put_station(sheet, &file.head);
+    sheet.end_text();
+    put_facts(sheet, chart, 410);
+}

@@ -1,0 +1,121 @@
+//! Instants as dates, and spans of time.
+
+use crate::sheet::Sheet;
+use comtrade_values::civil_of;
+use jiff_core::civil::DateTime;
+use std::alloc::Allocator;
+
+fn put_two<A: Allocator>(sheet: &mut Sheet<A>, before: &str, n: u8) {
+    sheet.text(before);
+    sheet.padded(u64::from(n), 2);
+}
+
+fn put_civil<A: Allocator>(sheet: &mut Sheet<A>, civil: DateTime) {
+    sheet.padded(civil.date.year.unsigned_abs() as u64, 4);
+    put_two(sheet, "-", civil.date.month);
+    put_two(sheet, "-", civil.date.day);
+    put_two(sheet, " ", civil.time.hour);
+    put_two(sheet, ":", civil.time.minute);
+    put_two(sheet, ":", civil.time.second);
+    sheet.text(".");
+    sheet.padded((civil.time.subsec_nanosecond / 1000) as u64, 6);
+}
+
+/// Microseconds since 1970-01-01 00:00:00 as `yyyy-mm-dd hh:mm:ss.ssssss`.
+pub(crate) fn put_instant<A: Allocator>(sheet: &mut Sheet<A>, instant: i64) {
+    match civil_of(instant) {
+        Some(civil) => put_civil(sheet, civil),
+        None => sheet.text("?"),
+    }
+}
+
+/// What times are counted in: how many nanoseconds, its decimal places, its name.
+#[derive(Clone, Copy)]
+pub(crate) struct TimeUnit {
+    pub(crate) nanos: u64,
+    pub(crate) places: u32,
+    pub(crate) name: &'static str,
+}
+
+const MICROS: TimeUnit = TimeUnit {
+    nanos: 1000,
+    places: 3,
+    name: "\u{b5}s",
+};
+
+const MILLIS: TimeUnit = TimeUnit {
+    nanos: 1_000_000,
+    places: 6,
+    name: "ms",
+};
+
+const SECONDS: TimeUnit = TimeUnit {
+    nanos: 1_000_000_000,
+    places: 9,
+    name: "s",
+};
+
+/// The unit for times of a span: seconds from ten of them on, milliseconds from one on.
+pub(crate) fn time_unit(span: u64) -> TimeUnit {
+    if span < 1_000_000 {
+        MICROS
+    } else if span < 10_000_000_000 {
+        MILLIS
+    } else {
+        SECONDS
+    }
+}
+
+/// Units of a decimal with so many places, without zeros at its end.
+pub(crate) fn put_places<A: Allocator>(sheet: &mut Sheet<A>, units: i64, places: u32) {
+    if units < 0 {
+        sheet.text("-");
+    }
+    let mut left = units.unsigned_abs();
+    let mut kept = places;
+    for _ in 0..places {
+        if left % 10 != 0 || kept == 0 {
+            break;
+        }
+        left /= 10;
+        kept = kept.saturating_sub(1);
+    }
+    let mut power = 1u64;
+    for _ in 0..kept {
+        power = power.saturating_mul(10);
+    }
+    sheet.number(left / power.max(1));
+    if kept != 0 {
+        sheet.text(".");
+        sheet.padded(left % power.max(1), kept);
+    }
+}
+
+/// Nanoseconds rounded to so few digits that a reader needs: a thousandth of the unit or so.
+fn rounded(nanos: i64, unit: TimeUnit) -> i64 {
+    let grain = (unit.nanos / 1000).max(1);
+    let size = nanos.unsigned_abs();
+    let whole = size.saturating_add(grain / 2) / grain;
+    let whole = i64::try_from(whole.saturating_mul(grain)).unwrap_or(i64::MAX);
+    if nanos < 0 {
+        whole.saturating_neg()
+    } else {
+        whole
+    }
+}
+
+/// A time with its unit, to a thousandth of it.
+pub(crate) fn put_span<A: Allocator>(sheet: &mut Sheet<A>, nanos: i64) {
+    let unit = time_unit(nanos.unsigned_abs());
+    put_places(sheet, rounded(nanos, unit), unit.places);
+    sheet.texts(&[" ", unit.name]);
+}
+
+/// A span `from .. to`, both in the unit of the longer one.
+pub(crate) fn put_range<A: Allocator>(sheet: &mut Sheet<A>, from: i64, to: i64) {
+    let unit = time_unit(from.unsigned_abs().max(to.unsigned_abs()));
+    put_places(sheet, rounded(from, unit), unit.places);
+    sheet.text(" to ");
+    put_places(sheet, rounded(to, unit), unit.places);
+    sheet.texts(&[" ", unit.name]);
+}

@@ -1,0 +1,134 @@
+//! How much room panels and names have.
+
+use crate::frame::Frame;
+use crate::gaps::Gap;
+use crate::survey::Survey;
+use comtrade_format::File;
+use comtrade_values::Scale;
+use dfr_channels::{AnalogChannel, StatusChannel};
+use std::alloc::Allocator;
+
+/// What is drawn: a file; what turns samples into values; the number of each channel's panel; what the drawn rows say; the times
+/// that are drawn; where each row stands; the gaps; whether times are known.
+#[derive(Clone, Copy)]
+pub(crate) struct Chart<'a, A: Allocator> {
+    pub(crate) alloc: A,
+    pub(crate) file: &'a File<A>,
+    pub(crate) scales: &'a [Scale],
+    pub(crate) panels: &'a [usize],
+    pub(crate) surveys: &'a [Survey],
+    pub(crate) frame: Frame,
+    pub(crate) places: &'a [Option<u32>],
+    pub(crate) gaps: &'a [Gap],
+    pub(crate) cycle: Option<i64>,
+    pub(crate) is_timed: bool,
+}
+
+/// The most bytes of a line of a name.
+const LINE: usize = 32;
+
+/// The most lines of a name.
+const LINES: u32 = 3;
+
+/// How high a line of a legend is.
+pub(crate) const LINE_HEIGHT: u32 = 140;
+
+/// What stands above a panel, for its title.
+pub(crate) const TITLE: u32 = 210;
+
+/// How high a contact's bar is, with what is between two, where its name has one line.
+pub(crate) const CONTACT: u32 = 200;
+
+/// The first line of a name and what is left of it: it ends at a space of its last third, where there is one.
+pub(crate) fn first_line(name: &[u8]) -> (&[u8], &[u8]) {
+    if name.len() <= LINE {
+        return (name, &[]);
+    }
+    let front = match name.get(..LINE) {
+        Some(front) => front,
+        None => name,
+    };
+    let at = match front.iter().rposition(|b| *b == b' ') {
+        Some(space) if LINE * 2 / 3 <= space => space.saturating_add(1),
+        _ => LINE,
+    };
+    match (name.get(..at), name.get(at..)) {
+        (Some(line), Some(rest)) => (line, rest),
+        _ => (name, &[]),
+    }
+}
+
+/// How many lines a name takes.
+fn lines_of(name: &[u8]) -> u32 {
+    let mut left = first_line(name).1;
+    let mut lines = 1u32;
+    for _ in 1..LINES {
+        if left.is_empty() {
+            break;
+        }
+        lines = lines.saturating_add(1);
+        left = first_line(left).1;
+    }
+    lines
+}
+
+/// How high a contact's bar is with its name, and with what is between two.
+pub(crate) fn contact_height<A: Allocator>(channel: &StatusChannel<A>) -> u32 {
+    lines_of(channel.id.items())
+        .saturating_sub(1)
+        .saturating_mul(LINE_HEIGHT)
+        .saturating_add(CONTACT)
+}
+
+/// How high a channel's name and numbers beside its panel are.
+pub(crate) fn legend_height<A: Allocator>(channel: &AnalogChannel<A>) -> u32 {
+    lines_of(channel.id.items())
+        .saturating_add(1)
+        .saturating_mul(LINE_HEIGHT)
+        .saturating_add(20)
+}
+
+/// How high panels are where their legends don't need more.
+fn least_height(panels: usize) -> u32 {
+    if panels <= 3 {
+        1500
+    } else if panels <= 8 {
+        1200
+    } else {
+        800
+    }
+}
+
+/// How high a panel is, without its title.
+pub(crate) fn height_of<A: Allocator>(chart: &Chart<'_, A>, panel: usize, count: usize) -> u32 {
+    let file = chart.file;
+    let channels = file.head.analog.items();
+    let mut legend = 0u32;
+    for (channel, its) in channels.iter().zip(chart.panels.iter()) {
+        if *its == panel {
+            legend = legend.saturating_add(legend_height(channel));
+        }
+    }
+    legend.max(least_height(count))
+}
+
+/// How many panels there are.
+pub(crate) fn panel_count(panels: &[usize]) -> usize {
+    let mut count = 0usize;
+    for panel in panels {
+        count = count.max(panel.saturating_add(1));
+    }
+    count
+}
+
+/// Where the panels end that begin here.
+pub(crate) fn panels_end<A: Allocator>(chart: &Chart<'_, A>, top: u32) -> u32 {
+    let count = panel_count(chart.panels);
+    let mut end = top;
+    for panel in 0..count {
+        end = end
+            .saturating_add(TITLE)
+            .saturating_add(height_of(chart, panel, count));
+    }
+    end
+}

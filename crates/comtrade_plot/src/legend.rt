@@ -1,0 +1,138 @@
+//! Names of channels beside their panels, with their peaks and effective values.
+
+use crate::frame::RIGHT;
+use crate::layout::{Chart, LINE_HEIGHT, first_line, legend_height};
+use crate::phases::Hue;
+use crate::quantity::put_quantity;
+use crate::sheet::Sheet;
+use crate::survey::Survey;
+use crate::units::is_alternating;
+use comtrade_values::Scale;
+use dfr_channels::AnalogChannel;
+use std::alloc::Allocator;
+
+/// Where names begin.
+pub(crate) const NAMES: u32 = RIGHT + 320;
+
+/// A piece of a trace before its name.
+fn put_mark<A: Allocator>(sheet: &mut Sheet<A>, hue: Hue, y: u32) {
+    let y = y.saturating_sub(40);
+    sheet.texts(&["<path class=\"", hue.class(), "\" stroke=\"", hue.colour()]);
+    sheet.text("\" stroke-width=\"2.5\" fill=\"none\" d=\"");
+    sheet.point("M", RIGHT + 90, y);
+    sheet.along("h", 190);
+    sheet.text("\"/>\n");
+}
+
+/// A name in as many lines as it takes, three at most, and a phase after it; where it ends.
+pub(crate) fn put_name<A: Allocator>(
+    sheet: &mut Sheet<A>,
+    name: &[u8],
+    phase: &[u8],
+    y: u32,
+) -> u32 {
+    let mut y = y;
+    let (mut line, mut rest) = first_line(name);
+    for _ in 0..2 {
+        if rest.is_empty() {
+            break;
+        }
+        sheet.begin_text(NAMES, y, "");
+        sheet.name(line);
+        sheet.end_text();
+        y = y.saturating_add(LINE_HEIGHT);
+        (line, rest) = first_line(rest);
+    }
+    sheet.begin_text(NAMES, y, "");
+    sheet.name(line);
+    if !rest.is_empty() {
+        sheet.text("..");
+    }
+    if !phase.is_empty() {
+        sheet.text(" (");
+        sheet.name(phase);
+        sheet.text(")");
+    }
+    sheet.end_text();
+    y
+}
+
+/// The value of a channel that is farthest from 0.
+pub(crate) fn peak_of(survey: Survey, scale: Scale) -> Option<f64> {
+    let (low, high) = survey.values(scale)?;
+    Some(if high.abs() < low.abs() { low } else { high })
+}
+
+/// The effective values around the trigger, where they are known.
+fn put_rms<A: Allocator>(sheet: &mut Sheet<A>, survey: Survey, unit: &[u8]) {
+    if !is_alternating(unit) {
+        return;
+    }
+    match (survey.before.rms(), survey.after.rms()) {
+        (Some(before), Some(after)) => {
+            sheet.text(", rms ");
+            put_quantity(sheet, before, unit);
+            sheet.text(" \u{2192} ");
+            put_quantity(sheet, after, unit);
+        }
+        (Some(before), None) => {
+            sheet.text(", rms ");
+            put_quantity(sheet, before, unit);
+            sheet.text(" \u{2192} ?");
+        }
+        _ => {}
+    }
+}
+
+/// A channel's peak and effective values.
+fn put_numbers<A: Allocator>(
+    sheet: &mut Sheet<A>,
+    channel: &AnalogChannel<A>,
+    survey: Survey,
+    scale: Scale,
+) {
+    let unit = channel.unit.items();
+    match peak_of(survey, scale) {
+        Some(peak) => {
+            sheet.text("peak ");
+            put_quantity(sheet, peak, unit);
+            put_rms(sheet, survey, unit);
+        }
+        None => sheet.text("no readings"),
+    }
+}
+
+/// A small text at a height, made narrower where there is no room for it.
+fn put_small<A: Allocator>(sheet: &mut Sheet<A>, y: u32, text: &Sheet<A>) {
+    let small = " class=\"f\" font-size=\"10.5\" fill=\"#55595f\"";
+    let narrow =
+        " class=\"f\" font-size=\"10.5\" fill=\"#55595f\" textLength=\"246\" lengthAdjust=\"spacingAndGlyphs\"";
+    sheet.begin_text(NAMES, y, if text.len() < 45 { small } else { narrow });
+    sheet.append(text);
+    sheet.end_text();
+}
+
+/// A channel's legend at a height; the height of the next one.
+pub(crate) fn put_legend<A: Allocator + Copy>(
+    sheet: &mut Sheet<A>,
+    chart: &Chart<'_, A>,
+    at: usize,
+    hue: Hue,
+    y: u32,
+) -> u32 {
+    let file = chart.file;
+    let channels = file.head.analog.items();
+    let (Some(channel), Some(survey), Some(scale)) = (
+        channels.get(at),
+        chart.surveys.get(at),
+        chart.scales.get(at),
+    ) else {
+        return y;
+    };
+    put_mark(sheet, hue, y);
+    let end = put_name(sheet, channel.id.items(), channel.phase.items(), y);
+    let mut numbers = Sheet::new(chart.alloc);
+    put_numbers(&mut numbers, channel, *survey, *scale);
+    put_small(sheet, end.saturating_add(LINE_HEIGHT - 10), &numbers);
+    y.saturating_add(legend_height(channel))
+}

@@ -1,0 +1,123 @@
+//! The values at a panel's left, at round numbers.
+
+use crate::frame::{LEFT, Panel, RIGHT};
+use crate::instant::put_places;
+use crate::layout::Chart;
+use crate::sheet::Sheet;
+use crate::units::power_of_ten;
+use std::alloc::Allocator;
+use std::num::{nearest_i64_to_f64, nearest_u64_to_f64, saturating_f64_to_i64};
+
+/// A step of 1, 2 or 5 times a power of ten.
+#[derive(Clone, Copy)]
+struct Step {
+    digit: i64,
+    exponent: i32,
+    size: f64,
+}
+
+/// The digit 1, 2 or 5 with which a step of this power is at least the size, where one is.
+fn digit_of(size: f64, power: f64) -> Option<i64> {
+    if size <= power {
+        Some(1)
+    } else if size <= power * 2.0 {
+        Some(2)
+    } else if size <= power * 5.0 {
+        Some(5)
+    } else {
+        None
+    }
+}
+
+/// The least such step of at least this size, from 1E-16 on.
+fn step_of(size: f64) -> Step {
+    let mut power = 1e-16;
+    for exponent in -16..20 {
+        if let Some(digit) = digit_of(size, power) {
+            return Step {
+                digit,
+                exponent,
+                size: power * nearest_i64_to_f64(digit),
+            };
+        }
+        power *= 10.0;
+    }
+    Step {
+        digit: 1,
+        exponent: 20,
+        size: power,
+    }
+}
+
+/// The index of the first tick that isn't below the value.
+fn first_tick(step: Step, low: f64) -> i64 {
+    let at = saturating_f64_to_i64(low / step.size);
+    if nearest_i64_to_f64(at) * step.size < low - step.size * 1e-6 {
+        at.saturating_add(1)
+    } else {
+        at
+    }
+}
+
+fn put_tick<A: Allocator>(sheet: &mut Sheet<A>, step: Step, tick: i64) {
+    let units = tick.saturating_mul(step.digit);
+    if step.exponent < 0 {
+        return put_places(sheet, units, step.exponent.unsigned_abs());
+    }
+    let mut units = units;
+    for _ in 0..step.exponent {
+        units = units.saturating_mul(10);
+    }
+    sheet.signed(units);
+}
+
+/// How many steps a panel has: one for each 20 pixels, five at most.
+fn steps_in(panel: Panel) -> f64 {
+    nearest_u64_to_f64(u64::from((panel.height / 200).clamp(1, 5)))
+}
+
+/// A level's line, and its value, which is made narrower where it has more than ten characters.
+fn put_level<A: Allocator + Copy>(
+    sheet: &mut Sheet<A>,
+    chart: &Chart<'_, A>,
+    step: Step,
+    tick: i64,
+    y: u32,
+) {
+    sheet.text("<path class=\"g\" stroke=\"#e2e2e2\" d=\"");
+    sheet.point("M", LEFT, y);
+    sheet.along("H", RIGHT);
+    sheet.text("\"/>");
+    let mut label = Sheet::new(chart.alloc);
+    put_tick(&mut label, step, tick);
+    let narrow = " text-anchor=\"end\" textLength=\"68\" lengthAdjust=\"spacingAndGlyphs\"";
+    let rest = if 10 < label.len() {
+        narrow
+    } else {
+        " text-anchor=\"end\""
+    };
+    sheet.begin_text(LEFT - 60, y.saturating_add(40), rest);
+    sheet.append(&label);
+    sheet.end_text();
+}
+
+/// The level lines of a panel, whose values are shown divided by a power of ten.
+pub(crate) fn put_levels<A: Allocator + Copy>(
+    sheet: &mut Sheet<A>,
+    chart: &Chart<'_, A>,
+    panel: Panel,
+    exponent: i32,
+) {
+    let power = power_of_ten(exponent);
+    let (low, high) = (panel.low / power, panel.high / power);
+    let step = step_of((high - low) / steps_in(panel));
+    let first = first_tick(step, low);
+    for i in 0..6i64 {
+        let tick = first.saturating_add(i);
+        let value = nearest_i64_to_f64(tick) * step.size;
+        if high < value {
+            break;
+        }
+        put_level(sheet, chart, step, tick, panel.level(value * power));
+    }
+}

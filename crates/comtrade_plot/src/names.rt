@@ -1,0 +1,101 @@
+//! Whether names of channels tell that they are of one bay.
+
+use dfr_channels::AnalogChannel;
+use std::alloc::Allocator;
+
+/// How well a channel goes with another.
+#[derive(Clone, Copy, Debug, PartialEq, Eq)]
+pub(crate) enum Likeness {
+    /// Not at all.
+    None,
+    /// Nothing says that they are of different bays.
+    Loose,
+    /// Their names differ in their phases alone.
+    Close,
+}
+
+/// How many bytes two names have in common at their front.
+fn common_front(one: &[u8], other: &[u8]) -> usize {
+    one.iter()
+        .zip(other.iter())
+        .take_while(|(a, b)| a == b)
+        .count()
+}
+
+/// How many bytes two names have in common at their end.
+fn common_end(one: &[u8], other: &[u8]) -> usize {
+    one.iter()
+        .rev()
+        .zip(other.iter().rev())
+        .take_while(|(a, b)| a == b)
+        .count()
+}
+
+/// What is left of a name without so many bytes in front and at its end.
+fn middle(name: &[u8], front: usize, end: usize) -> &[u8] {
+    let Some(rest) = name.get(front..) else {
+        return &[];
+    };
+    match rest.get(..rest.len().saturating_sub(end)) {
+        Some(middle) => middle,
+        None => &[],
+    }
+}
+
+/// Whether a part of a name is that of a phase.
+fn is_of_phase(part: &[u8], phase: &[u8]) -> bool {
+    if phase.is_empty() {
+        return part.len() <= 1;
+    }
+    part.eq_ignore_ascii_case(phase)
+        || match (part, phase.last()) {
+            ([one], Some(last)) => one.eq_ignore_ascii_case(last),
+            _ => false,
+        }
+}
+
+fn differ_in_phase<A: Allocator>(one: &AnalogChannel<A>, other: &AnalogChannel<A>) -> bool {
+    let (first, second) = (one.id.items(), other.id.items());
+    let front = common_front(first, second);
+    let end = common_end(first, second).min(first.len().min(second.len()).saturating_sub(front));
+    is_of_phase(middle(first, front, end), one.phase.items())
+        && is_of_phase(middle(second, front, end), other.phase.items())
+}
+
+fn is_separator(b: u8) -> bool {
+    b" _-.:/".contains(&b)
+}
+
+/// The first and the last word of a name; None where it has one alone.
+fn outer_words(name: &[u8]) -> Option<(&[u8], &[u8])> {
+    let first = name.iter().position(|b| is_separator(*b))?;
+    let last = name.iter().rposition(|b| is_separator(*b))?;
+    Some((name.get(..first)?, name.get(last..)?))
+}
+
+fn share_a_word(one: &[u8], other: &[u8]) -> bool {
+    match (outer_words(one), outer_words(other)) {
+        (Some(one), Some(other)) => one.0 == other.0 || one.1 == other.1,
+        _ => true,
+    }
+}
+
+/// How well two channels go together: those of different units, components or sides don't.
+pub(crate) fn likeness_of<A: Allocator>(
+    one: &AnalogChannel<A>,
+    other: &AnalogChannel<A>,
+) -> Likeness {
+    if one.unit.items() != other.unit.items()
+        || one.component.items() != other.component.items()
+        || one.side != other.side
+    {
+        return Likeness::None;
+    }
+    if differ_in_phase(one, other) {
+        return Likeness::Close;
+    }
+    if !one.component.items().is_empty() || share_a_word(one.id.items(), other.id.items()) {
+        return Likeness::Loose;
+    }
+    Likeness::None
+}

@@ -1,0 +1,238 @@
+//! A page that shows a record in a browser: one file, with its data and what draws them.
+
+use crate::blocks::{bits_of, samples_of, times_of_rows, write_block};
+use crate::groups::hue_in;
+use crate::head::put_station;
+use crate::instant::put_instant;
+use crate::record::{Choice, Part, Record, choice_of, part_of, record_of};
+use crate::sheet::Sheet;
+use crate::survey::Survey;
+use comtrade_cli::ToolFault;
+use comtrade_format::File;
+use comtrade_viewer::{script, style};
+use dfr_channels::{AnalogChannel, Side, StatusChannel};
+use std::alloc::Allocator;
+use std::io::Write;
+
+/// What stands in a page between its names and its data.
+const BODY: &str = "<p><button data-key=\"0\" title=\"key 0\">whole record</button> \
+<button data-key=\"t\" title=\"key T\">around the trigger</button> \
+<button data-key=\"+\" title=\"key +\">+</button> <button data-key=\"-\" title=\"key -\">&minus;</button> \
+<button data-key=\"p\" title=\"key P\" id=\"side\"></button> <output id=\"cursors\"></output></p>\n\
+<details><summary>Keys</summary><p>Wheel, pinch or + and &minus;: zoom. Drag, Page Up, Page Down, Home, End: move. \
+Click: cursor A; Shift and click: cursor B; drag a cursor. A, B: the cursor that the arrows move by a row, with Shift by ten. \
+0: the whole record. T: around the trigger. P: values as in the file, primary, secondary. Tab and space: channels in and out. \
+rms and phasor: of the cycle that ends at the cursor that the arrows move; angles since that of the first channel drawn.</p></details>\n\
+</header>\n<main><div><canvas id=\"picture\" tabindex=\"0\" role=\"img\" aria-label=\"traces and contacts\"></canvas></div>\n\
+<aside><table><thead><tr><th></th><th>channel</th><th>A</th><th>B</th><th>B&minus;A</th><th>rms</th><th>phasor</th></tr></thead>\
+<tbody id=\"channels\"></tbody></table></aside></main>\n";
+
+fn put_flag<A: Allocator>(sheet: &mut Sheet<A>, name: &str, is_so: bool) {
+    sheet.texts(&[",\"", name, "\":", if is_so { "true" } else { "false" }]);
+}
+
+/// A member of an object whose value is a text of the file.
+fn put_text<A: Allocator>(sheet: &mut Sheet<A>, before: &str, text: &[u8]) {
+    sheet.text(before);
+    sheet.json(text);
+}
+
+/// Whether a channel's samples need more than 16 bits.
+fn is_wide(survey: Survey) -> bool {
+    match survey.bounds {
+        Some((least, greatest)) => least < -32_767 || 32_767 < greatest,
+        None => false,
+    }
+}
+
+/// What the page has to know of an analogue channel.
+fn put_analog<A: Allocator>(
+    sheet: &mut Sheet<A>,
+    channel: &AnalogChannel<A>,
+    panel: usize,
+    hue: &str,
+    is_wide: bool,
+) {
+    put_text(sheet, "{\"id\":", channel.id.items());
+    put_text(sheet, ",\"phase\":", channel.phase.items());
+    put_text(sheet, ",\"component\":", channel.component.items());
+    put_text(sheet, ",\"unit\":", channel.unit.items());
+    for (name, number) in [
+        (",\"a\":", channel.a),
+        (",\"b\":", channel.b),
+        (",\"primary\":", channel.primary),
+        (",\"secondary\":", channel.secondary),
+    ] {
+        sheet.text(name);
+        sheet.decimal(number);
+    }
+    sheet.text(match channel.side {
+        Side::Primary => ",\"side\":\"P\"",
+        Side::Secondary => ",\"side\":\"S\"",
+    });
+    sheet.texts(&[",\"hue\":\"", hue, "\",\"panel\":"]);
+    sheet.number(panel as u64);
+    put_flag(sheet, "wide", is_wide);
+    sheet.text("}");
+}
+
+/// What the page has to know of the analogue channel of this index.
+fn put_analog_at<A: Allocator>(
+    sheet: &mut Sheet<A>,
+    channels: &[AnalogChannel<A>],
+    part: &Part<A>,
+    at: usize,
+) {
+    let (Some(channel), Some(panel), Some(survey)) = (
+        channels.get(at),
+        part.panels.get(at),
+        part.surveys.get(at),
+    ) else {
+        return;
+    };
+    let hue = hue_in(channels, &part.panels, at);
+    put_analog(sheet, channel, *panel, hue.class(), is_wide(*survey));
+}
+
+fn put_analogs<A: Allocator>(sheet: &mut Sheet<A>, channels: &[AnalogChannel<A>], part: &Part<A>) {
+    sheet.text(",\"analog\":[");
+    for i in 0..channels.len() {
+        sheet.text(if i == 0 { "" } else { ",\n" });
+        put_analog_at(sheet, channels, part, i);
+    }
+    sheet.text("]");
+}
+
+fn put_statuses<A: Allocator>(sheet: &mut Sheet<A>, channels: &[StatusChannel<A>]) {
+    sheet.text(",\"status\":[");
+    for (i, channel) in channels.iter().enumerate() {
+        put_text(
+            sheet,
+            if i == 0 { "{\"id\":" } else { ",\n{\"id\":" },
+            channel.id.items(),
+        );
+        sheet.text(if channel.normal {
+            ",\"normal\":1}"
+        } else {
+            ",\"normal\":0}"
+        });
+    }
+    sheet.text("]");
+}
+
+/// The record's head as JSON.
+fn put_json<A: Allocator>(
+    sheet: &mut Sheet<A>,
+    file: &File<A>,
+    record: &Record<A>,
+    part: &Part<A>,
+    choice: Choice,
+) {
+    sheet.text("<script type=\"application/json\" id=\"head\">{\"rows\":");
+    sheet.number(file.rows.items().len() as u64);
+    sheet.text(",\"hertz\":");
+    sheet.decimal(file.head.line_freq);
+    put_flag(sheet, "isTimed", record.is_timed);
+    if choice.is_part {
+        sheet.text(",\"from\":");
+        sheet.signed(choice.drawn.from);
+        sheet.text(",\"to\":");
+        sheet.signed(choice.drawn.to);
+    }
+    put_analogs(sheet, file.head.analog.items(), part);
+    put_statuses(sheet, file.head.status.items());
+    sheet.text("}</script>\n");
+}
+
+/// The page up to its data.
+fn put_begin<A: Allocator>(sheet: &mut Sheet<A>, file: &File<A>) {
+    sheet.text("<!doctype html>\n<html lang=\"en\"><head><meta charset=\"utf-8\">");
+    sheet.text("<meta name=\"viewport\" content=\"width=device-width, initial-scale=1\"><title>");
+    put_station(sheet, &file.head);
+    sheet.texts(&[
+        "</title>\n<style>\n",
+        style(),
+        "</style></head><body>\n<header><h1>",
+    ]);
+    put_station(sheet, &file.head);
+    sheet.text("</h1><p>trigger ");
+    put_instant(sheet, file.head.trigger);
+    sheet.text(", ");
+    sheet.number(file.rows.items().len() as u64);
+    sheet.text(" rows</p>\n");
+    sheet.text(BODY);
+}
+
+/// The name of a block: a letter and a number.
+fn name_of<A: Allocator + Copy>(alloc: A, letter: &str, n: usize) -> Sheet<A> {
+    let mut name = Sheet::new(alloc);
+    name.text(letter);
+    name.number(n as u64);
+    name
+}
+
+/// Writes the samples of all channels.
+fn write_samples<A: Allocator + Copy, W: Write>(
+    alloc: A,
+    file: &File<A>,
+    part: &Part<A>,
+    w: &mut W,
+) -> Result<(), ToolFault> {
+    for (i, survey) in part.surveys.iter().enumerate() {
+        let bytes = samples_of(alloc, file.rows.items(), i, is_wide(*survey))?;
+        write_block(alloc, &name_of(alloc, "s", i), &bytes, w)?;
+    }
+    Ok(())
+}
+
+/// Writes the bits of all contacts.
+fn write_bits<A: Allocator + Copy, W: Write>(
+    alloc: A,
+    file: &File<A>,
+    w: &mut W,
+) -> Result<(), ToolFault> {
+    for (i, _) in file.head.status.items().iter().enumerate() {
+        let bytes = bits_of(alloc, file.rows.items(), i)?;
+        write_block(alloc, &name_of(alloc, "d", i), &bytes, w)?;
+    }
+    Ok(())
+}
+
+fn write_times<A: Allocator + Copy, W: Write>(
+    alloc: A,
+    record: &Record<A>,
+    w: &mut W,
+) -> Result<(), ToolFault> {
+    let bytes = times_of_rows(alloc, &record.times)?;
+    let mut name = Sheet::new(alloc);
+    name.text("times");
+    write_block(alloc, &name, &bytes, w)
+}
+
+/// Writes the page's end, with the script.
+fn write_end<A: Allocator + Copy, W: Write>(alloc: A, w: &mut W) -> Result<(), ToolFault> {
+    let mut sheet = Sheet::new(alloc);
+    sheet.texts(&["<script>\n", script(), "</script>\n</body></html>\n"]);
+    sheet.write(w)
+}
+
+/// Prints a page that shows a file in a browser, without a network; its rows were taken at these times, in nanoseconds since the
+/// trigger.
+pub fn page_over<A: Allocator + Copy, W: Write>(
+    alloc: A,
+    file: &File<A>,
+    times: &[Option<i64>],
+    w: &mut W,
+) -> Result<(), ToolFault> {
+    let record = record_of(alloc, file, times)?;
+    let choice = choice_of(file, &record, false);
+    let part = part_of(alloc, file, &record, choice.whole)?;
+    let mut sheet = Sheet::new(alloc);
+    put_begin(&mut sheet, file);
+    put_json(&mut sheet, file, &record, &part, choice);
+    sheet.write(w)?;
+    write_times(alloc, &record, w)?;
+    write_samples(alloc, file, &part, w)?;
+    write_bits(alloc, file, w)?;
+    write_end(alloc, w)
+}

@@ -1,0 +1,142 @@
+//! A picture of a pair of files, as SVG.
+
+use crate::axis::{put_cycles, put_gap_names, put_times, put_times_name};
+use crate::contacts::{bars_of, contacts_height, put_contacts};
+use crate::frame::{Frame, LEFT};
+use crate::head::put_head;
+use crate::layout::{Chart, panels_end};
+use crate::overview::{STRIP, put_overview};
+use crate::panels::put_panels;
+use crate::record::{Part, Record, chart_of, choice_of, part_of, record_of, whole_of};
+use crate::sheet::Sheet;
+use comtrade_cli::ToolFault;
+use comtrade_format::File;
+use std::alloc::Allocator;
+use std::io::Write;
+
+/// How a picture is drawn: all of the record; every contact with a bar of its own; how wide and how high it is shown, in pixels.
+#[derive(Clone, Copy, Debug, Default, PartialEq, Eq)]
+pub struct PlotOptions {
+    pub is_whole: bool,
+    pub shows_all: bool,
+    pub width: Option<u32>,
+    pub height: Option<u32>,
+}
+
+/// The note about effective values, below all.
+fn put_note<A: Allocator>(sheet: &mut Sheet<A>, chart: &Chart<'_, A>, y: u32) {
+    if chart.cycle.is_some() {
+        sheet.label(
+            LEFT,
+            y,
+            " class=\"f\" font-size=\"10.5\" fill=\"#55595f\"",
+            "peak: of what is drawn; rms: of the last cycle before the trigger \u{2192} of the first cycle after it",
+        );
+    }
+}
+
+/// Where the parts of a picture are: the times above, the panels, the contacts, their end.
+#[derive(Clone, Copy)]
+struct Places {
+    names: u32,
+    panels: u32,
+    contacts: u32,
+    end: u32,
+}
+
+fn places_in<A: Allocator>(chart: &Chart<'_, A>, bars: &[bool], is_part: bool) -> Places {
+    let strip = if is_part { STRIP } else { 0 };
+    let gaps = if chart.gaps.is_empty() { 0 } else { 150 };
+    let names = 620u32.saturating_add(strip).saturating_add(gaps);
+    let panels = names.saturating_add(40);
+    let contacts = panels_end(chart, panels).saturating_add(120);
+    Places {
+        names,
+        panels,
+        contacts,
+        end: contacts.saturating_add(contacts_height(chart, bars)),
+    }
+}
+
+/// What is drawn beside panels and contacts: times, cycles, gaps, the note.
+fn put_scales<A: Allocator>(sheet: &mut Sheet<A>, chart: &Chart<'_, A>, places: Places) {
+    put_times(sheet, chart, places.names);
+    put_times_name(sheet, chart, places.names);
+    put_gap_names(sheet, chart, places.names.saturating_sub(150));
+    put_times(sheet, chart, places.end.saturating_add(170));
+    put_times_name(sheet, chart, places.end.saturating_add(170));
+    put_cycles(sheet, chart, places.end.saturating_add(240));
+    put_note(sheet, chart, places.end.saturating_add(580));
+}
+
+/// The picture of a chart up to its end, with room for the strip where it is a part of a record.
+fn put_picture<A: Allocator + Copy>(
+    sheet: &mut Sheet<A>,
+    chart: &Chart<'_, A>,
+    is_part: bool,
+    options: PlotOptions,
+) -> Result<(), ToolFault> {
+    let bars = bars_of(chart, options.shows_all)?;
+    let places = places_in(chart, &bars, is_part);
+    put_head(sheet, chart, options, places.end.saturating_add(640));
+    put_panels(sheet, chart, places.panels);
+    put_contacts(sheet, chart, &bars, places.contacts);
+    put_scales(sheet, chart, places);
+    Ok(())
+}
+
+/// The picture of what is drawn of a record.
+fn put_drawn<'a, A: Allocator + Copy>(
+    alloc: A,
+    sheet: &mut Sheet<A>,
+    file: &'a File<A>,
+    record: &'a Record<A>,
+    part: &'a Part<A>,
+    is_part: bool,
+    options: PlotOptions,
+) -> Result<(), ToolFault> {
+    let chart = chart_of(alloc, file, record, part);
+    put_picture(sheet, &chart, is_part, options)
+}
+
+/// The strip of the whole record, of which these times are drawn.
+fn put_strip<'a, A: Allocator + Copy>(
+    alloc: A,
+    sheet: &mut Sheet<A>,
+    file: &'a File<A>,
+    record: &'a Record<A>,
+    all: &'a Part<A>,
+    drawn: Frame,
+) {
+    let chart = chart_of(alloc, file, record, all);
+    put_overview(sheet, &chart, drawn, 560);
+}
+
+/// Prints a picture of a file, whose rows were taken at these times, in nanoseconds since the trigger.
+pub fn plot_over<A: Allocator + Copy, W: Write>(
+    alloc: A,
+    file: &File<A>,
+    times: &[Option<i64>],
+    options: PlotOptions,
+    w: &mut W,
+) -> Result<(), ToolFault> {
+    let record = record_of(alloc, file, times)?;
+    let choice = choice_of(file, &record, options.is_whole);
+    let part = part_of(alloc, file, &record, choice.drawn)?;
+    let mut sheet = Sheet::new(alloc);
+    put_drawn(
+        alloc,
+        &mut sheet,
+        file,
+        &record,
+        &part,
+        choice.is_part,
+        options,
+    )?;
+    if choice.is_part {
+        let all = whole_of(alloc, file, &record, &part, choice.whole)?;
+        put_strip(alloc, &mut sheet, file, &record, &all, choice.drawn);
+    }
+    sheet.text("</svg>\n");
+    sheet.write(w)
+}

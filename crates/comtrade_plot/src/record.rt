@@ -1,0 +1,197 @@
+//! What is worked out of a file before it is drawn.
+
+use crate::axis::rounded_out;
+use crate::frame::Frame;
+use crate::gaps::{Gap, gaps_of};
+use crate::groups::panels_of;
+use crate::layout::Chart;
+use crate::rows::{kept_times, last_change, numbers_of, places_of, whole_frame};
+use crate::survey::{Survey, add_cycles, drop_partial, surveys_of};
+use crate::times::cycle_of;
+use crate::windows::window_of;
+use comtrade_cli::ToolFault;
+use comtrade_format::File;
+use comtrade_values::{Scale, scale_of};
+use dfr_channels::AnalogChannel;
+use std::alloc::Allocator;
+
+/// A cycle of 50 Hz, in nanoseconds.
+const USUAL_CYCLE: i64 = 20_000_000;
+
+/// What turns each channel's samples into values.
+fn scales_of<A: Allocator + Copy>(
+    alloc: A,
+    channels: &[AnalogChannel<A>],
+) -> Result<Vec<Scale, A>, ToolFault> {
+    let mut scales = Vec::new(alloc);
+    for channel in channels {
+        scales.push(scale_of(alloc, channel)?)?;
+    }
+    Ok(scales)
+}
+
+/// What is known of a file whichever part of it is drawn: when its rows were taken, and those that weren't lost, in nanoseconds since the
+/// trigger, or their numbers where the file has no times; what turns samples into values; how long a cycle is.
+#[derive(Drop)]
+pub(crate) struct Record<A: Allocator> {
+    pub(crate) times: Vec<Option<i64>, A>,
+    pub(crate) kept: Vec<Option<i64>, A>,
+    pub(crate) scales: Vec<Scale, A>,
+    pub(crate) cycle: Option<i64>,
+    pub(crate) is_timed: bool,
+}
+
+pub(crate) fn record_of<A: Allocator + Copy>(
+    alloc: A,
+    file: &File<A>,
+    times: &[Option<i64>],
+) -> Result<Record<A>, ToolFault> {
+    let is_timed = whole_frame(times).is_some();
+    let times = if is_timed {
+        Vec::from_slice(alloc, times)?
+    } else {
+        numbers_of(alloc, file.rows.items().len())?
+    };
+    let kept = kept_times(alloc, file, &times)?;
+    let scales = scales_of(alloc, file.head.analog.items())?;
+    let cycle = cycle_of(alloc, file)?;
+    Ok(Record {
+        times,
+        kept,
+        scales,
+        cycle: if is_timed { cycle } else { None },
+        is_timed,
+    })
+}
+
+/// The times that are drawn of a record.
+#[derive(Clone, Copy)]
+pub(crate) struct Choice {
+    pub(crate) whole: Frame,
+    pub(crate) drawn: Frame,
+    pub(crate) is_part: bool,
+}
+
+/// A frame that lasts: around a single time as much as is told.
+fn lasting(frame: Option<Frame>, least: i64) -> Frame {
+    match frame {
+        Some(frame) if frame.from < frame.to => frame,
+        Some(frame) => Frame {
+            from: frame.from.saturating_sub(least),
+            to: frame.to.saturating_add(least),
+        },
+        None => Frame { from: 0, to: 1 },
+    }
+}
+
+/// Which times are drawn of a file.
+pub(crate) fn choice_of<A: Allocator>(
+    file: &File<A>,
+    record: &Record<A>,
+    is_whole: bool,
+) -> Choice {
+    let cycle = record.cycle.unwrap_or(USUAL_CYCLE);
+    let least = if record.is_timed { cycle } else { 1 };
+    let whole = lasting(whole_frame(&record.kept), least);
+    if record.is_timed && !is_whole {
+        let change = last_change(file, &record.kept, cycle);
+        if let Some(drawn) = window_of(whole, cycle, change) {
+            return Choice {
+                whole,
+                drawn,
+                is_part: true,
+            };
+        }
+    }
+    Choice {
+        whole,
+        drawn: rounded_out(whole),
+        is_part: false,
+    }
+}
+
+/// What is known of the part of a file that is drawn: the number of each channel's panel, what the rows say, where they stand,
+/// the gaps.
+#[derive(Drop)]
+pub(crate) struct Part<A: Allocator> {
+    frame: Frame,
+    pub(crate) panels: Vec<usize, A>,
+    pub(crate) surveys: Vec<Survey, A>,
+    places: Vec<Option<u32>, A>,
+    gaps: Vec<Gap, A>,
+}
+
+/// The length of a cycle, where the record has a whole one before the trigger and after it, but for a twentieth.
+fn whole_cycle<A: Allocator>(record: &Record<A>) -> Option<i64> {
+    let cycle = record.cycle?;
+    let whole = whole_frame(&record.kept)?;
+    let most = cycle.saturating_sub(cycle / 20);
+    if whole.from <= most.saturating_neg() && most <= whole.to {
+        Some(cycle)
+    } else {
+        None
+    }
+}
+
+pub(crate) fn part_of<A: Allocator + Copy>(
+    alloc: A,
+    file: &File<A>,
+    record: &Record<A>,
+    frame: Frame,
+) -> Result<Part<A>, ToolFault> {
+    let mut surveys = surveys_of(alloc, file, &record.kept, frame)?;
+    if let Some(cycle) = whole_cycle(record) {
+        add_cycles(&mut surveys, &record.scales, file, &record.kept, cycle);
+        drop_partial(&mut surveys, &record.times, cycle);
+    }
+    let panels = panels_of(alloc, file.head.analog.items(), &surveys, &record.scales)?;
+    let places = places_of(alloc, frame, &record.kept)?;
+    let gaps = gaps_of(alloc, frame, &record.kept)?;
+    Ok(Part {
+        frame,
+        panels,
+        surveys,
+        places,
+        gaps,
+    })
+}
+
+/// The whole of a file of which a part is drawn, with the same panels.
+pub(crate) fn whole_of<A: Allocator + Copy>(
+    alloc: A,
+    file: &File<A>,
+    record: &Record<A>,
+    part: &Part<A>,
+    frame: Frame,
+) -> Result<Part<A>, ToolFault> {
+    let surveys = surveys_of(alloc, file, &record.kept, frame)?;
+    let panels = Vec::from_slice(alloc, &part.panels)?;
+    let places = places_of(alloc, frame, &record.kept)?;
+    Ok(Part {
+        frame,
+        panels,
+        surveys,
+        places,
+        gaps: Vec::new(alloc),
+    })
+}
+
+pub(crate) fn chart_of<'a, A: Allocator>(
+    alloc: A,
+    file: &'a File<A>,
+    record: &'a Record<A>,
+    part: &'a Part<A>,
+) -> Chart<'a, A> {
+    Chart {
+        alloc,
+        file,
+        scales: &record.scales,
+        panels: &part.panels,
+        surveys: &part.surveys,
+        frame: part.frame,
+        places: &part.places,
+        gaps: &part.gaps,
+        cycle: record.cycle,
+        is_timed: record.is_timed,
+    }
+}

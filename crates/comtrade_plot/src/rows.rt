@@ -1,0 +1,115 @@
+//! What rows say: readings, bits, which rows are lost, where they stand.
+
+use crate::frame::Frame;
+use comtrade_cli::ToolFault;
+use comtrade_format::{File, Row};
+use dfr_channels::Reading;
+use std::alloc::Allocator;
+
+/// The reading of a channel, counted from 0.
+pub(crate) fn reading_at<A: Allocator>(row: &Row<A>, channel: usize) -> Reading {
+    match row.values.items().get(channel) {
+        Some(reading) => *reading,
+        None => Reading::Missing,
+    }
+}
+
+/// The bit of a status channel, counted from 0.
+pub(crate) fn bit_at<A: Allocator>(row: &Row<A>, channel: usize) -> bool {
+    match row.bits.items().get(channel) {
+        Some(bit) => *bit,
+        None => false,
+    }
+}
+
+/// Whether a scan was lost: the row has no reading, though there are channels.
+fn is_lost<A: Allocator>(row: &Row<A>) -> bool {
+    let readings = row.values.items();
+    for reading in readings {
+        if let Reading::Value(_) = *reading {
+            return false;
+        }
+    }
+    !readings.is_empty()
+}
+
+/// When each row was taken, and None for those that were lost.
+pub(crate) fn kept_times<A: Allocator + Copy>(
+    alloc: A,
+    file: &File<A>,
+    times: &[Option<i64>],
+) -> Result<Vec<Option<i64>, A>, ToolFault> {
+    let mut kept = Vec::new(alloc);
+    for (row, time) in file.rows.items().iter().zip(times.iter()) {
+        kept.push(if is_lost(row) { None } else { *time })?;
+    }
+    Ok(kept)
+}
+
+/// Where each row stands in a frame; None where it isn't drawn.
+pub(crate) fn places_of<A: Allocator + Copy>(
+    alloc: A,
+    frame: Frame,
+    kept: &[Option<i64>],
+) -> Result<Vec<Option<u32>, A>, ToolFault> {
+    let mut places = Vec::new(alloc);
+    for time in kept {
+        let place = match *time {
+            Some(time) if frame.has(time) => Some(frame.across(time)),
+            _ => None,
+        };
+        places.push(place)?;
+    }
+    Ok(places)
+}
+
+/// The first and the last time of rows.
+pub(crate) fn whole_frame(times: &[Option<i64>]) -> Option<Frame> {
+    let mut bounds: Option<Frame> = None;
+    for time in times {
+        if let Some(time) = *time {
+            bounds = Some(match bounds {
+                None => Frame {
+                    from: time,
+                    to: time,
+                },
+                Some(frame) => Frame {
+                    from: frame.from.min(time),
+                    to: frame.to.max(time),
+                },
+            });
+        }
+    }
+    bounds
+}
+
+/// The numbers of rows from 1 on, for files that don't say when their rows were taken.
+pub(crate) fn numbers_of<A: Allocator + Copy>(
+    alloc: A,
+    count: usize,
+) -> Result<Vec<Option<i64>, A>, ToolFault> {
+    let mut numbers = Vec::new(alloc);
+    let mut number = 0i64;
+    for _ in 0..count {
+        number = number.saturating_add(1);
+        numbers.push(Some(number))?;
+    }
+    Ok(numbers)
+}
+
+/// When the last contact changed of those changes that belong to the fault.
+pub(crate) fn last_change<A: Allocator>(file: &File<A>, kept: &[Option<i64>], cycle: i64) -> i64 {
+    let mut last = 0;
+    let mut before: Option<&Row<A>> = None;
+    for (row, time) in file.rows.items().iter().zip(kept.iter()) {
+        if let Some(time) = *time {
+            if let Some(before) = before {
+                if before.bits.items() != row.bits.items() {
+                    last = crate::windows::later_change(last, time, cycle);
+                }
+            }
+            before = Some(row);
+        }
+    }
+    last
+}

@@ -1,0 +1,207 @@
+//! Text that is made piece by piece, and the parts of an SVG picture. An allocation that fails is kept in mind until the end.
+
+use comtrade_cli::{ToolFault, put, put_number, put_safe, put_signed, write_out};
+use comtrade_format::put_decimal;
+use dfr_channels::Decimal;
+use std::alloc::{AllocError, Allocator};
+use std::io::Write;
+
+/// The hexadecimal digit of a number below 16.
+fn hex_digit(n: u8) -> u8 {
+    if n < 10 {
+        b'0'.saturating_add(n)
+    } else {
+        b'a'.saturating_add(n.saturating_sub(10))
+    }
+}
+
+/// What was made so far, and whether an allocation failed on the way.
+#[derive(Drop)]
+pub(crate) struct Sheet<A: Allocator> {
+    bytes: Vec<u8, A>,
+    is_cut: bool,
+}
+
+impl<A: Allocator> Sheet<A> {
+    pub(crate) fn new(alloc: A) -> Sheet<A> {
+        Sheet {
+            bytes: Vec::new(alloc),
+            is_cut: false,
+        }
+    }
+
+    fn keep(&mut self, outcome: Result<(), AllocError>) {
+        if outcome.is_err() {
+            self.is_cut = true;
+        }
+    }
+
+    /// A text as it is.
+    pub(crate) fn text(&mut self, text: &str) {
+        let outcome = put(&mut self.bytes, text);
+        self.keep(outcome);
+    }
+
+    /// Texts as they are, one after the other.
+    pub(crate) fn texts(&mut self, texts: &[&str]) {
+        for text in texts {
+            self.text(text);
+        }
+    }
+
+    pub(crate) fn number(&mut self, n: u64) {
+        let outcome = put_number(&mut self.bytes, n);
+        self.keep(outcome);
+    }
+
+    pub(crate) fn signed(&mut self, n: i64) {
+        let outcome = put_signed(&mut self.bytes, n);
+        self.keep(outcome);
+    }
+
+    /// A decimal of a file.
+    pub(crate) fn decimal(&mut self, decimal: Decimal) {
+        let outcome = put_decimal(&mut self.bytes, decimal);
+        self.keep(outcome);
+    }
+
+    /// A number with zeros in front, `width` digits at least.
+    pub(crate) fn padded(&mut self, n: u64, width: u32) {
+        let mut bound = 10u64;
+        for _ in 1..width {
+            if n < bound {
+                self.text("0");
+            }
+            bound = bound.saturating_mul(10);
+        }
+        self.number(n);
+    }
+
+    /// Tenths of a pixel, in pixels.
+    pub(crate) fn tenths(&mut self, n: u32) {
+        self.number(u64::from(n / 10));
+        if n % 10 != 0 {
+            self.text(".");
+            self.number(u64::from(n % 10));
+        }
+    }
+
+    fn xml_byte(&mut self, b: u8) {
+        match b {
+            b'&' => self.text("&amp;"),
+            b'<' => self.text("&lt;"),
+            b'>' => self.text("&gt;"),
+            b'"' => self.text("&quot;"),
+            _ => {
+                let outcome = put_safe(&mut self.bytes, &[b]);
+                self.keep(outcome);
+            }
+        }
+    }
+
+    /// A text of a file, as printable characters of XML.
+    pub(crate) fn name(&mut self, text: &[u8]) {
+        for b in text {
+            self.xml_byte(*b);
+        }
+    }
+
+    fn json_byte(&mut self, b: u8) {
+        match b {
+            b'"' | b'\\' | b'<' | b'&' | 0..=31 | 127..=255 => {
+                let digits = [
+                    b'\\',
+                    b'u',
+                    b'0',
+                    b'0',
+                    hex_digit(b / 16),
+                    hex_digit(b % 16),
+                ];
+                let outcome = self.bytes.extend_from_slice(&digits);
+                self.keep(outcome);
+            }
+            _ => {
+                let outcome = self.bytes.extend_from_slice(&[b]);
+                self.keep(outcome);
+            }
+        }
+    }
+
+    /// A text of a file as one of JSON, which can stand in a page.
+    pub(crate) fn json(&mut self, text: &[u8]) {
+        self.text("\"");
+        for b in text {
+            self.json_byte(*b);
+        }
+        self.text("\"");
+    }
+
+    /// `<text x=.. y=..` and what stands after it, up to the text.
+    pub(crate) fn begin_text(&mut self, x: u32, y: u32, rest: &str) {
+        self.text("<text x=\"");
+        self.tenths(x);
+        self.text("\" y=\"");
+        self.tenths(y);
+        self.texts(&["\"", rest, ">"]);
+    }
+
+    pub(crate) fn end_text(&mut self) {
+        self.text("</text>\n");
+    }
+
+    /// A text at a place.
+    pub(crate) fn label(&mut self, x: u32, y: u32, rest: &str, text: &str) {
+        self.begin_text(x, y, rest);
+        self.text(text);
+        self.end_text();
+    }
+
+    /// A point of a path, after its letter.
+    pub(crate) fn point(&mut self, letter: &str, x: u32, y: u32) {
+        self.text(letter);
+        self.tenths(x);
+        self.text(" ");
+        self.tenths(y);
+    }
+
+    /// A step of a path along one axis, after its letter.
+    pub(crate) fn along(&mut self, letter: &str, n: u32) {
+        self.text(letter);
+        self.tenths(n);
+    }
+
+    /// ` name="n"`, with n in tenths of a pixel.
+    pub(crate) fn attribute(&mut self, name: &str, n: u32) {
+        self.texts(&[" ", name, "=\""]);
+        self.tenths(n);
+        self.text("\"");
+    }
+
+    /// A rectangle from its corner on, so wide and so high, up to what follows in its tag.
+    pub(crate) fn begin_box(&mut self, (x, y): (u32, u32), (width, height): (u32, u32)) {
+        self.text("<rect");
+        self.attribute("x", x);
+        self.attribute("y", y);
+        self.attribute("width", width);
+        self.attribute("height", height);
+    }
+
+    /// What was made by another sheet.
+    pub(crate) fn append(&mut self, other: &Sheet<A>) {
+        let outcome = self.bytes.extend_from_slice(&other.bytes);
+        self.keep(outcome);
+        self.is_cut = self.is_cut || other.is_cut;
+    }
+
+    pub(crate) fn len(&self) -> usize {
+        self.bytes.len()
+    }
+
+    /// Writes what was made, unless an allocation failed on the way.
+    pub(crate) fn write<W: Write>(&self, w: &mut W) -> Result<(), ToolFault> {
+        if self.is_cut {
+            return Err(ToolFault::Memory);
+        }
+        write_out(w, &self.bytes)
+    }
+}

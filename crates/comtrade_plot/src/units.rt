@@ -1,0 +1,154 @@
+//! Units, with or without a prefix, and the prefixes of large and small values.
+
+use crate::sheet::Sheet;
+use std::alloc::Allocator;
+
+/// A unit of a channel: its name without a prefix, the power of ten of the prefix that it has, and whether it takes prefixes.
+#[derive(Clone, Copy)]
+pub(crate) struct Unit<'a> {
+    pub(crate) base: &'a [u8],
+    pub(crate) exponent: i32,
+    pub(crate) takes_prefixes: bool,
+}
+
+/// Whether a unit is one that takes prefixes.
+fn is_base(unit: &[u8]) -> bool {
+    let bases: [&[u8]; 11] = [
+        b"A", b"V", b"W", b"VA", b"var", b"VAr", b"VAR", b"Hz", b"Ohm", b"ohm", b"s",
+    ];
+    for base in bases {
+        if unit == base {
+            return true;
+        }
+    }
+    false
+}
+
+fn exponent_of(prefix: u8) -> Option<i32> {
+    match prefix {
+        b'n' => Some(-9),
+        b'u' => Some(-6),
+        b'm' => Some(-3),
+        b'k' | b'K' => Some(3),
+        b'M' => Some(6),
+        b'G' => Some(9),
+        _ => None,
+    }
+}
+
+/// The unit with a prefix taken off.
+fn without_prefix(unit: &[u8]) -> Option<Unit<'_>> {
+    let (first, base) = unit.split_first()?;
+    let exponent = exponent_of(*first)?;
+    if !is_base(base) {
+        return None;
+    }
+    Some(Unit {
+        base,
+        exponent,
+        takes_prefixes: true,
+    })
+}
+
+pub(crate) fn unit_of(unit: &[u8]) -> Unit<'_> {
+    let plain = Unit {
+        base: unit,
+        exponent: 0,
+        takes_prefixes: is_base(unit),
+    };
+    if plain.takes_prefixes {
+        return plain;
+    }
+    match without_prefix(unit) {
+        Some(unit) => unit,
+        None => plain,
+    }
+}
+
+/// Whether a unit is one of currents or voltages, whose effective values are told.
+pub(crate) fn is_alternating(unit: &[u8]) -> bool {
+    let base = unit_of(unit).base;
+    base == b"A".as_slice() || base == b"V".as_slice()
+}
+
+pub(crate) fn is_current(unit: &[u8]) -> bool {
+    unit_of(unit).base == b"A".as_slice()
+}
+
+fn prefix_of(exponent: i32) -> Option<&'static str> {
+    match exponent {
+        -24 => Some("y"),
+        -21 => Some("z"),
+        -18 => Some("a"),
+        -15 => Some("f"),
+        -12 => Some("p"),
+        -9 => Some("n"),
+        -6 => Some("\u{b5}"),
+        -3 => Some("m"),
+        0 => Some(""),
+        3 => Some("k"),
+        6 => Some("M"),
+        9 => Some("G"),
+        12 => Some("T"),
+        15 => Some("P"),
+        18 => Some("E"),
+        21 => Some("Z"),
+        24 => Some("Y"),
+        _ => None,
+    }
+}
+
+/// The power of a thousand that brings a size between 1 and 1000, as a power of ten.
+fn thousands(size: f64) -> i32 {
+    let mut left = size;
+    let mut exponent = 0i32;
+    for _ in 0..110 {
+        if left < 1000.0 {
+            break;
+        }
+        left /= 1000.0;
+        exponent = exponent.saturating_add(3);
+    }
+    for _ in 0..110 {
+        if 1.0 <= left || left <= 0.0 {
+            break;
+        }
+        left *= 1000.0;
+        exponent = exponent.saturating_sub(3);
+    }
+    exponent
+}
+
+/// The power of ten by which values of a size are divided where they are shown in a unit: none where a unit that takes no
+/// prefix needs none.
+pub(crate) fn shown_exponent(unit: Unit<'_>, size: f64) -> i32 {
+    if !unit.takes_prefixes && 0.001 <= size && size < 1e6 {
+        return 0;
+    }
+    thousands(size)
+}
+
+/// 10^exponent, near it where that is no whole power.
+pub(crate) fn power_of_ten(exponent: i32) -> f64 {
+    let mut power = 1.0;
+    for _ in 0..exponent.unsigned_abs().min(300) {
+        power *= 10.0;
+    }
+    if exponent < 0 { 1.0 / power } else { power }
+}
+
+/// A unit of values that were divided by a power of ten.
+pub(crate) fn put_unit<A: Allocator>(sheet: &mut Sheet<A>, unit: Unit<'_>, exponent: i32) {
+    let whole = exponent.saturating_add(unit.exponent);
+    match prefix_of(whole) {
+        Some(prefix) if unit.takes_prefixes => sheet.text(prefix),
+        _ => {
+            if whole != 0 {
+                sheet.text("1E");
+                sheet.signed(i64::from(whole));
+                sheet.text(" ");
+            }
+        }
+    }
+    sheet.name(unit.base);
+}

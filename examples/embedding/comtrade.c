@@ -1,0 +1,570 @@
+/* The calls of comtrade.h over those of crates/comtrade_c, which are proved: what is read and written is theirs. Here a record is kept in
+ * tables on the heap, which the proved calls fill; looked into; and a configuration file is composed of a setup, which the proved
+ * writer reads by the grammar of the standard before it writes a byte. */
+#include "comtrade.h"
+
+#include <locale.h>
+#include <math.h>
+#include <stdarg.h>
+#include <stdio.h>
+#include <stdlib.h>
+#include <string.h>
+
+/* The proved calls: crates/comtrade_c/src says by contract what each answers. No pointer may be NULL. */
+struct core_head {
+    uint64_t rows;
+    size_t analog, status, rates, text;
+    int64_t first, trigger;
+    double line_freq, timemult;
+    uint32_t nrates;
+    bool binary;
+};
+struct core_analog {
+    double a, b, skew, primary, secondary;
+    int32_t min, max;
+    bool on_secondary;
+};
+struct core_rate {
+    double samp;
+    uint64_t endsamp;
+};
+struct core_sizes {
+    size_t cfg, dat;
+};
+int32_t comtrade_core_head(const uint8_t *cfg, size_t, struct core_head *, struct comtrade_fault *);
+int32_t comtrade_core_channels(const uint8_t *cfg, size_t, struct core_analog *, size_t, uint8_t *normal, size_t, struct core_rate *, size_t,
+                               size_t *lengths, size_t, uint8_t *text, size_t, struct comtrade_fault *);
+int32_t comtrade_core_rows(const uint8_t *cfg, size_t, const uint8_t *dat, size_t, uint64_t *stamps, size_t, int32_t *samples, size_t,
+                           uint8_t *bits, size_t, struct comtrade_fault *);
+int32_t comtrade_core_values(double a, double b, const int32_t *samples, size_t, double *values, size_t);
+int32_t comtrade_core_write(const uint8_t *cfg, size_t, bool binary, const uint64_t *stamps, size_t, const int32_t *samples, size_t,
+                            const uint8_t *bits, size_t, uint8_t *new_cfg, size_t, uint8_t *new_dat, size_t, struct core_sizes *,
+                            struct comtrade_fault *);
+
+struct comtrade {
+    struct core_head head;
+    size_t rows;
+    struct core_analog *analog;
+    uint8_t *normal;
+    struct core_rate *rates;
+    size_t *ends; /* where each text ends in `text` */
+    uint8_t *text;
+    uint64_t *stamps;
+    int32_t *samples;
+    uint8_t *bits;
+};
+
+enum { ANALOG_TEXTS = 4, STATUS_TEXTS = 3, RECORD_TEXTS = 2 };
+
+int32_t comtrade_version(void) { return COMTRADE_VERSION; }
+
+const char *comtrade_answer_text(int32_t answer) {
+    static const char *const words[] = {
+        "done", "the configuration file has a fault", "the data file has a fault", "no file can hold this", "out of memory",
+        "the buffer is too short", "there is no such channel, rate or row", "a file can't be read or written",
+        "a struct has the size of no version", "an argument isn't one that the call takes",
+    };
+    return 0 <= answer && answer < (int32_t)(sizeof words / sizeof *words) ? words[answer] : "no answer of this library";
+}
+
+static int32_t put_text(const void *text, size_t length, char *buffer, size_t room, size_t *needed) {
+    if (needed) *needed = length;
+    if (room <= length) return COMTRADE_NO_ROOM;
+    if (!buffer) return COMTRADE_BAD_CALL;
+    if (length) memcpy(buffer, text, length);
+    buffer[length] = 0;
+    return COMTRADE_DONE;
+}
+
+int32_t comtrade_fault_text(const struct comtrade_fault *fault, char *buffer, size_t room, size_t *needed) {
+    static const char *const words[] = {
+        "no fault", "the first line isn't that of the revision of 1999", "line %llu has another number of fields than its kind wants",
+        "line %llu, field %lu can't be read or is out of its range",
+        "line %llu has a number that contradicts the lines before it or its own fields", "line %llu isn't a date and a time of day",
+        "the type of the data is neither ASCII nor BINARY", "line %llu is missing", "line %llu stands after the last line",
+        "the binary data aren't as long as their rows", "the parts of the file don't fit each other",
+        "line %llu, field %lu of the configuration file would be a text that it can't hold",
+        "row %llu has a value of channel %lu that the data file can't hold",
+        "row %llu has a number or a time stamp that the data file can't hold",
+    };
+    char text[160];
+    if (!fault || fault->kind >= sizeof words / sizeof *words) return COMTRADE_BAD_CALL;
+    int length = snprintf(text, sizeof text, words[fault->kind], (unsigned long long)fault->place, (unsigned long)fault->field);
+    return put_text(text, (size_t)length, buffer, room, needed);
+}
+
+/* Something to point to where a length is 0. */
+static const uint8_t *some(const void *at) {
+    static const uint64_t nothing[2] = {0, 0};
+    return at ? (const uint8_t *)at : (const uint8_t *)nothing;
+}
+
+/* Room for so many; for one where there are none. NULL where that is more than there is. */
+static void *room_for(size_t count, size_t size) { return count > SIZE_MAX / size ? NULL : malloc(count ? count * size : 16); }
+
+void comtrade_close(comtrade *record) {
+    if (!record) return;
+    free(record->analog);
+    free(record->normal);
+    free(record->rates);
+    free(record->ends);
+    free(record->text);
+    free(record->stamps);
+    free(record->samples);
+    free(record->bits);
+    free(record);
+}
+
+static size_t texts_of(const struct core_head *head) { return RECORD_TEXTS + ANALOG_TEXTS * head->analog + STATUS_TEXTS * head->status; }
+
+static int32_t read_channels(comtrade *r, const uint8_t *cfg, size_t cfg_length, struct comtrade_fault *fault) {
+    const struct core_head *head = &r->head;
+    size_t texts = texts_of(head);
+    r->analog = (struct core_analog *)room_for(head->analog, sizeof *r->analog);
+    r->normal = (uint8_t *)room_for(head->status, 1);
+    r->rates = (struct core_rate *)room_for(head->rates, sizeof *r->rates);
+    r->ends = (size_t *)room_for(texts, sizeof *r->ends);
+    r->text = (uint8_t *)room_for(head->text, 1);
+    if (!r->analog || !r->normal || !r->rates || !r->ends || !r->text) return COMTRADE_NO_MEMORY;
+    int32_t answer = comtrade_core_channels(cfg, cfg_length, r->analog, head->analog, r->normal, head->status, r->rates, head->rates,
+                                            r->ends, texts, r->text, head->text, fault);
+    if (answer == COMTRADE_DONE)
+        for (size_t k = 1; k < texts; k++) r->ends[k] += r->ends[k - 1];
+    return answer;
+}
+
+static int32_t read_rows(comtrade *r, const uint8_t *cfg, size_t cfg_length, const uint8_t *dat, size_t dat_length, struct comtrade_fault *fault) {
+    /* a row takes a byte and one for each sample at least, in either form: where the data are shorter, their fault is asked for alone */
+    bool fits = r->head.rows <= dat_length / (1 + r->head.analog);
+    size_t rows = fits ? (size_t)r->head.rows : 0, analog = rows * r->head.analog, status = 0;
+    if (r->head.status) fits = fits && rows <= SIZE_MAX / r->head.status, status = fits ? rows * r->head.status : 0;
+    r->rows = rows;
+    r->stamps = (uint64_t *)room_for(rows, sizeof *r->stamps);
+    r->samples = (int32_t *)room_for(analog, sizeof *r->samples);
+    r->bits = (uint8_t *)room_for(status, 1);
+    if (!r->stamps || !r->samples || !r->bits) return COMTRADE_NO_MEMORY;
+    return comtrade_core_rows(cfg, cfg_length, dat, dat_length, r->stamps, rows, r->samples, analog, r->bits, status, fault);
+}
+
+int32_t comtrade_open(const uint8_t *cfg, size_t cfg_length, const uint8_t *dat, size_t dat_length, comtrade **record,
+                      struct comtrade_fault *fault) {
+    struct comtrade_fault unsaid;
+    if (!record || (cfg_length && !cfg) || (dat_length && !dat)) return COMTRADE_BAD_CALL;
+    if (!fault) fault = &unsaid;
+    cfg = some(cfg), dat = some(dat);
+    comtrade *r = (comtrade *)calloc(1, sizeof *r);
+    if (!r) return COMTRADE_NO_MEMORY;
+    int32_t answer = comtrade_core_head(cfg, cfg_length, &r->head, fault);
+    if (answer == COMTRADE_DONE) answer = read_channels(r, cfg, cfg_length, fault);
+    if (answer == COMTRADE_DONE) answer = read_rows(r, cfg, cfg_length, dat, dat_length, fault);
+    if (answer == COMTRADE_DONE)
+        *record = r;
+    else
+        comtrade_close(r);
+    return answer;
+}
+
+static int32_t contents(const char *name, uint8_t **at, size_t *length) {
+    size_t room = 65536, got = 0, more;
+    uint8_t *bytes = NULL, *longer;
+    FILE *file = fopen(name, "rb");
+    int32_t answer = file ? COMTRADE_DONE : COMTRADE_NO_FILE;
+    while (answer == COMTRADE_DONE) {
+        longer = (uint8_t *)realloc(bytes, room);
+        if (!longer) {
+            answer = COMTRADE_NO_MEMORY;
+            break;
+        }
+        bytes = longer;
+        more = fread(bytes + got, 1, room - got, file);
+        got += more;
+        if (ferror(file)) answer = COMTRADE_NO_FILE;
+        if (got < room) break;
+        room += room;
+    }
+    if (file) fclose(file);
+    if (answer == COMTRADE_DONE)
+        *at = bytes, *length = got;
+    else
+        free(bytes);
+    return answer;
+}
+
+int32_t comtrade_open_files(const char *cfg_name, const char *dat_name, comtrade **record, struct comtrade_fault *fault) {
+    uint8_t *cfg = NULL, *dat = NULL;
+    size_t cfg_length = 0, dat_length = 0;
+    if (!cfg_name || !dat_name || !record) return COMTRADE_BAD_CALL;
+    int32_t answer = contents(cfg_name, &cfg, &cfg_length);
+    if (answer == COMTRADE_DONE) answer = contents(dat_name, &dat, &dat_length);
+    if (answer == COMTRADE_DONE) answer = comtrade_open(cfg, cfg_length, dat, dat_length, record, fault);
+    free(cfg);
+    free(dat);
+    return answer;
+}
+
+/* A struct of the caller's that is long enough for what the first version has. */
+static int32_t give(void *to, const void *from, size_t size) {
+    size_t given;
+    if (!to) return COMTRADE_BAD_CALL;
+    memcpy(&given, to, sizeof given);
+    if (given < size) return COMTRADE_BAD_SIZE;
+    memcpy((uint8_t *)to + sizeof given, (const uint8_t *)from + sizeof given, size - sizeof given);
+    return COMTRADE_DONE;
+}
+
+int32_t comtrade_head(const comtrade *r, struct comtrade_head *head) {
+    if (!r) return COMTRADE_BAD_CALL;
+    struct comtrade_head said;
+    memset(&said, 0, sizeof said);
+    said.analog = r->head.analog, said.status = r->head.status, said.rates = r->head.rates, said.rows = r->rows;
+    said.first = r->head.first, said.trigger = r->head.trigger;
+    said.line_freq = r->head.line_freq, said.timemult = r->head.timemult;
+    said.nrates = r->head.nrates, said.binary = r->head.binary;
+    return give(head, &said, sizeof said);
+}
+
+int32_t comtrade_text(const comtrade *r, int32_t which, size_t channel, char *buffer, size_t room, size_t *needed) {
+    if (!r || which < COMTRADE_STATION || COMTRADE_STATUS_COMPONENT < which || (room && !buffer)) return COMTRADE_BAD_CALL;
+    size_t channels = which < COMTRADE_ANALOG_ID ? 1 : which < COMTRADE_STATUS_ID ? r->head.analog : r->head.status, at;
+    if (channels <= channel) return COMTRADE_NO_ITEM;
+    if (which < COMTRADE_ANALOG_ID)
+        at = (size_t)which;
+    else if (which < COMTRADE_STATUS_ID)
+        at = RECORD_TEXTS + ANALOG_TEXTS * channel + (size_t)(which - COMTRADE_ANALOG_ID);
+    else
+        at = RECORD_TEXTS + ANALOG_TEXTS * r->head.analog + STATUS_TEXTS * channel + (size_t)(which - COMTRADE_STATUS_ID);
+    size_t from = at ? r->ends[at - 1] : 0;
+    return put_text(r->text + from, r->ends[at] - from, buffer, room, needed);
+}
+
+int32_t comtrade_analog(const comtrade *r, size_t channel, struct comtrade_analog *analog) {
+    if (!r) return COMTRADE_BAD_CALL;
+    if (r->head.analog <= channel) return COMTRADE_NO_ITEM;
+    const struct core_analog *c = &r->analog[channel];
+    struct comtrade_analog said;
+    memset(&said, 0, sizeof said);
+    said.a = c->a, said.b = c->b, said.skew = c->skew, said.primary = c->primary, said.secondary = c->secondary;
+    said.min = c->min, said.max = c->max, said.on_secondary = c->on_secondary;
+    return give(analog, &said, sizeof said);
+}
+
+int32_t comtrade_status(const comtrade *r, size_t channel, struct comtrade_status *status) {
+    if (!r) return COMTRADE_BAD_CALL;
+    if (r->head.status <= channel) return COMTRADE_NO_ITEM;
+    struct comtrade_status said;
+    memset(&said, 0, sizeof said);
+    said.normal = r->normal[channel] != 0;
+    return give(status, &said, sizeof said);
+}
+
+int32_t comtrade_rate(const comtrade *r, size_t rate, struct comtrade_rate *to) {
+    if (!r) return COMTRADE_BAD_CALL;
+    if (r->head.rates <= rate) return COMTRADE_NO_ITEM;
+    struct comtrade_rate said;
+    memset(&said, 0, sizeof said);
+    said.samp = r->rates[rate].samp, said.endsamp = r->rates[rate].endsamp;
+    return give(to, &said, sizeof said);
+}
+
+/* Whether these rows and this channel of so many are there, and something to write them to. */
+static int32_t asked(const comtrade *r, size_t channel, size_t channels, size_t first, size_t count, const void *to) {
+    if (!r) return COMTRADE_BAD_CALL;
+    if (r->rows < first || r->rows - first < count || (channel != COMTRADE_ALL && channels <= channel)) return COMTRADE_NO_ITEM;
+    if (!to && count && (channel != COMTRADE_ALL || channels)) return COMTRADE_BAD_CALL;
+    return COMTRADE_DONE;
+}
+
+int32_t comtrade_samples(const comtrade *r, size_t channel, size_t first, size_t count, int32_t *to) {
+    size_t n = r ? r->head.analog : 0;
+    int32_t answer = asked(r, channel, n, first, count, to);
+    if (answer != COMTRADE_DONE) return answer;
+    if (channel != COMTRADE_ALL)
+        for (size_t k = 0; k < count; k++) to[k] = r->samples[(first + k) * n + channel];
+    else if (count && n)
+        memcpy(to, r->samples + first * n, count * n * sizeof *to);
+    return COMTRADE_DONE;
+}
+
+/* The values of a channel in these rows, to every `step`-th place; a block at a time. */
+static int32_t put_values(const comtrade *r, size_t channel, size_t first, size_t count, double *to, size_t step) {
+    enum { BLOCK = 1024 };
+    int32_t samples[BLOCK];
+    double values[BLOCK];
+    for (size_t k = 0, now; k < count; k += now) {
+        now = count - k < BLOCK ? count - k : BLOCK;
+        for (size_t j = 0; j < now; j++) samples[j] = r->samples[(first + k + j) * r->head.analog + channel];
+        int32_t answer = comtrade_core_values(r->analog[channel].a, r->analog[channel].b, samples, now, values, now);
+        if (answer != COMTRADE_DONE) return answer;
+        for (size_t j = 0; j < now; j++) to[(k + j) * step] = values[j];
+    }
+    return COMTRADE_DONE;
+}
+
+int32_t comtrade_values(const comtrade *r, size_t channel, size_t first, size_t count, double *to) {
+    size_t n = r ? r->head.analog : 0;
+    int32_t answer = asked(r, channel, n, first, count, to);
+    if (answer != COMTRADE_DONE) return answer;
+    if (channel != COMTRADE_ALL) return put_values(r, channel, first, count, to, 1);
+    enum { BLOCK = 64 }; /* so many rows of all channels are in the cache */
+    for (size_t k = 0, now; k < count; k += now) {
+        now = count - k < BLOCK ? count - k : BLOCK;
+        for (size_t c = 0; c < n && answer == COMTRADE_DONE; c++) answer = put_values(r, c, first + k, now, to + k * n + c, n);
+    }
+    return answer;
+}
+
+int32_t comtrade_bits(const comtrade *r, size_t channel, size_t first, size_t count, uint8_t *to) {
+    size_t m = r ? r->head.status : 0;
+    int32_t answer = asked(r, channel, m, first, count, to);
+    if (answer != COMTRADE_DONE) return answer;
+    if (channel != COMTRADE_ALL)
+        for (size_t k = 0; k < count; k++) to[k] = r->bits[(first + k) * m + channel];
+    else if (count && m)
+        memcpy(to, r->bits + first * m, count * m);
+    return COMTRADE_DONE;
+}
+
+int32_t comtrade_stamps(const comtrade *r, size_t first, size_t count, uint64_t *to) {
+    int32_t answer = asked(r, 0, 1, first, count, to);
+    if (answer == COMTRADE_DONE && count) memcpy(to, r->stamps + first, count * sizeof *to);
+    return answer;
+}
+
+/* So many of `of` a second or a stamp, in nanoseconds, rounded down: exact where that is a whole number; -1 where it is beyond 2^63. */
+static int64_t nanos(uint64_t count, double of, bool a_second) {
+    double found = a_second ? (double)count * 1e9 / of : (double)count * of * 1000;
+    if (!(0 <= found && found < 9.2e18)) return -1;
+    if (of >= 9e15 || of != (double)(uint64_t)of) return (int64_t)found;
+    if (a_second) return (int64_t)(count / (uint64_t)of * UINT64_C(1000000000) + count % (uint64_t)of * UINT64_C(1000000000) / (uint64_t)of);
+    return (int64_t)(count * (uint64_t)of * 1000);
+}
+
+/* Whether the rates decide: the file says some, and none of them is 0. */
+static bool has_rates(const comtrade *r) {
+    for (size_t k = 0; k < r->head.rates; k++)
+        if (!(r->rates[k].samp > 0)) return false;
+    return r->head.nrates != 0;
+}
+
+int32_t comtrade_times(const comtrade *r, size_t first, size_t count, int64_t *to) {
+    int32_t answer = asked(r, 0, 1, first, count, to);
+    if (answer != COMTRADE_DONE) return answer;
+    bool by_rates = has_rates(r);
+    size_t rate = 0, from = 0;
+    int64_t begun = 0, passed;
+    for (size_t k = 0; k < count; k++) {
+        size_t row = first + k;
+        for (; by_rates && r->rates[rate].endsamp <= row; rate++) { /* the last rate ends with the last row */
+            passed = nanos(r->rates[rate].endsamp - from, r->rates[rate].samp, true);
+            begun = begun < 0 || passed < 0 || INT64_MAX - passed < begun ? -1 : begun + passed;
+            from = (size_t)r->rates[rate].endsamp;
+        }
+        if (by_rates) {
+            passed = nanos(row - from, r->rates[rate].samp, true);
+            to[k] = begun < 0 || passed < 0 || INT64_MAX - passed < begun ? COMTRADE_NO_TIME : begun + passed;
+        } else {
+            passed = r->stamps[row] == COMTRADE_NO_STAMP ? -1 : nanos(r->stamps[row], r->head.timemult, false);
+            to[k] = passed < 0 ? COMTRADE_NO_TIME : passed;
+        }
+    }
+    return COMTRADE_DONE;
+}
+
+/* A configuration file that is being composed; `fault` has a kind as soon as something can't be written. */
+struct lines {
+    char *at;
+    size_t length, room;
+    uint64_t line;
+    uint32_t field;
+    bool out_of_memory;
+    struct comtrade_fault fault;
+};
+
+static void put(struct lines *to, const char *text, size_t length) {
+    if (to->out_of_memory || !length) return;
+    if (to->room - to->length < length) {
+        size_t room = 2 * to->room + length;
+        char *longer = (char *)realloc(to->at, room);
+        to->out_of_memory = !longer;
+        if (!longer) return;
+        to->at = longer, to->room = room;
+    }
+    memcpy(to->at + to->length, text, length);
+    to->length += length;
+}
+
+static void put_words(struct lines *to, const char *form, ...) {
+    char text[96];
+    va_list words;
+    va_start(words, form);
+    int length = vsnprintf(text, sizeof text, form, words);
+    va_end(words);
+    if (to->field++) put(to, ",", 1);
+    put(to, text, (size_t)length);
+}
+
+static void end_line(struct lines *to) {
+    put(to, "\r\n", 2);
+    to->line++;
+    to->field = 0;
+}
+
+static void refuse(struct lines *to, uint32_t kind) {
+    if (to->fault.kind) return;
+    to->fault.kind = kind, to->fault.place = to->line, to->fault.field = to->field;
+}
+
+/* A text of so many bytes 20 to 7E without a comma and without a blank at either end (5.3.1, 5.3.3, 5.3.4). */
+static void put_name(struct lines *to, const char *text, size_t least, size_t most) {
+    if (!text) text = "";
+    size_t length = strlen(text);
+    bool ill = length < least || most < length || (length && (text[0] == ' ' || text[length - 1] == ' '));
+    for (size_t k = 0; k < length; k++) ill = ill || text[k] < 0x20 || 0x7E < text[k] || text[k] == ',';
+    if (to->field++) put(to, ",", 1);
+    if (ill) refuse(to, COMTRADE_TEXT);
+    put(to, text, length);
+}
+
+/* The shortest decimal whose nearest double this is. */
+static void put_number(struct lines *to, double number) {
+    char text[48];
+    int digits = 1;
+    if (to->field++) put(to, ",", 1);
+    if (!isfinite(number)) {
+        refuse(to, COMTRADE_NUMBER);
+        number = 0;
+    }
+    do snprintf(text, sizeof text, "%.*g", digits, number);
+    while (digits++ < 17 && strtod(text, NULL) != number);
+    const char *point = localeconv()->decimal_point, *stands = strstr(text, point);
+    if (stands) {
+        put(to, text, (size_t)(stands - text));
+        put(to, ".", 1);
+        stands += strlen(point);
+        put(to, stands, strlen(stands));
+    } else
+        put(to, text, strlen(text));
+}
+
+/* dd/mm/yyyy,hh:mm:ss.ssssss (5.3.7); a year that no file has is left for the writer to refuse. */
+static void put_instant(struct lines *to, int64_t instant) {
+    const int64_t day = INT64_C(86400000000);
+    int64_t days = instant / day, rest = instant % day;
+    if (rest < 0) rest += day, days--;
+    int64_t z = days + 719468, era = (z < 0 ? z - 146096 : z) / 146097, doe = z - era * 146097;
+    int64_t yoe = (doe - doe / 1460 + doe / 36524 - doe / 146096) / 365, doy = doe - (365 * yoe + yoe / 4 - yoe / 100), mp = (5 * doy + 2) / 153;
+    int month = (int)(mp < 10 ? mp + 3 : mp - 9);
+    long long year = (long long)(yoe + era * 400 + (month <= 2));
+    if (year < 1 || 9999 < year) refuse(to, COMTRADE_INSTANT), year = 1;
+    put_words(to, "%02d/%02d/%04lld", (int)(doy - (153 * mp + 2) / 5 + 1), month, year);
+    put_words(to, "%02d:%02d:%02d.%06d", (int)(rest / INT64_C(3600000000)), (int)(rest / 60000000 % 60), (int)(rest / 1000000 % 60), (int)(rest % 1000000));
+    end_line(to);
+}
+
+static void put_setup(struct lines *to, const struct comtrade_setup *s) {
+    put_name(to, s->station, 0, 64), put_name(to, s->device, 0, 64), put_words(to, "1999");
+    end_line(to);
+    put_words(to, "%llu", (unsigned long long)s->analog_count + s->status_count);
+    put_words(to, "%lluA", (unsigned long long)s->analog_count), put_words(to, "%lluD", (unsigned long long)s->status_count);
+    end_line(to);
+    for (size_t k = 0; k < s->analog_count; k++) {
+        const struct comtrade_analog_setup *c = &s->analog[k];
+        put_words(to, "%llu", (unsigned long long)k + 1);
+        put_name(to, c->id, 0, 64), put_name(to, c->phase, 0, 2), put_name(to, c->component, 0, 64), put_name(to, c->unit, 1, 32);
+        put_number(to, c->a), put_number(to, c->b), put_number(to, c->skew);
+        put_words(to, "%ld", (long)c->min), put_words(to, "%ld", (long)c->max);
+        put_number(to, c->primary), put_number(to, c->secondary), put_words(to, c->on_secondary ? "S" : "P");
+        end_line(to);
+    }
+    for (size_t k = 0; k < s->status_count; k++) {
+        const struct comtrade_status_setup *c = &s->status[k];
+        put_words(to, "%llu", (unsigned long long)k + 1);
+        put_name(to, c->id, 0, 64), put_name(to, c->phase, 0, 2), put_name(to, c->component, 0, 64), put_words(to, c->normal ? "1" : "0");
+        end_line(to);
+    }
+    put_number(to, s->line_freq), end_line(to);
+    put_words(to, "%llu", (unsigned long long)s->rate_count), end_line(to);
+    if (!s->rate_count) put_words(to, "0"), put_words(to, "%llu", (unsigned long long)s->rows), end_line(to);
+    for (size_t k = 0; k < s->rate_count; k++) {
+        uint64_t end = k + 1 < s->rate_count ? s->rates[k].endsamp : s->rows;
+        put_number(to, s->rates[k].samp), put_words(to, "%llu", (unsigned long long)end), end_line(to);
+    }
+    put_instant(to, s->first), put_instant(to, s->trigger);
+    put_words(to, s->binary ? "BINARY" : "ASCII"), end_line(to);
+    put_number(to, s->timemult), end_line(to);
+}
+
+static bool is_whole(const struct comtrade_setup *s) {
+    return (s->analog || !s->analog_count) && (s->status || !s->status_count) && (s->rates || !s->rate_count)
+        && (s->samples || !s->rows || !s->analog_count) && (s->bits || !s->rows || !s->status_count);
+}
+
+/* Both files of a head and the setup's rows: first how long they are, then the bytes. */
+static int32_t write_rows(const struct comtrade_setup *s, const struct lines *head, const uint64_t *stamps, uint8_t **cfg, size_t *cfg_length,
+                          uint8_t **dat, size_t *dat_length, struct comtrade_fault *fault) {
+    struct core_sizes sizes = {0, 0};
+    uint8_t none[1];
+    const uint8_t *text = (const uint8_t *)head->at;
+    size_t samples = s->rows * s->analog_count, bits = s->rows * s->status_count;
+    const int32_t *sample = samples ? s->samples : (const int32_t *)some(NULL);
+    int32_t answer = comtrade_core_write(text, head->length, s->binary, stamps, s->rows, sample, samples, some(s->bits), bits, none, 0, none, 0, &sizes, fault);
+    if (answer == COMTRADE_CFG_FAULT) answer = COMTRADE_WRITE_FAULT;
+    if (answer != COMTRADE_NO_ROOM) return answer;
+    uint8_t *new_cfg = (uint8_t *)room_for(sizes.cfg, 1), *new_dat = (uint8_t *)room_for(sizes.dat, 1);
+    answer = COMTRADE_NO_MEMORY;
+    if (new_cfg && new_dat)
+        answer = comtrade_core_write(text, head->length, s->binary, stamps, s->rows, sample, samples, some(s->bits), bits, new_cfg, sizes.cfg,
+                                     new_dat, sizes.dat, &sizes, fault);
+    if (answer == COMTRADE_DONE) {
+        *cfg = new_cfg, *cfg_length = sizes.cfg, *dat = new_dat, *dat_length = sizes.dat;
+        return answer;
+    }
+    free(new_cfg);
+    free(new_dat);
+    return answer;
+}
+
+int32_t comtrade_write(const struct comtrade_setup *setup, uint8_t **cfg, size_t *cfg_length, uint8_t **dat, size_t *dat_length,
+                       struct comtrade_fault *fault) {
+    struct comtrade_fault unsaid;
+    struct lines head = {NULL, 0, 0, 1, 0, false, {0, 0, 0}};
+    uint64_t *none = NULL;
+    if (!setup || !cfg || !cfg_length || !dat || !dat_length) return COMTRADE_BAD_CALL;
+    if (setup->size < sizeof *setup) return COMTRADE_BAD_SIZE;
+    if (!is_whole(setup)) return COMTRADE_BAD_CALL;
+    if (!fault) fault = &unsaid;
+    put_setup(&head, setup);
+    int32_t answer = head.out_of_memory ? COMTRADE_NO_MEMORY : head.fault.kind ? COMTRADE_WRITE_FAULT : COMTRADE_DONE;
+    if (answer == COMTRADE_WRITE_FAULT) *fault = head.fault;
+    if (answer == COMTRADE_DONE && !setup->stamps) {
+        none = (uint64_t *)room_for(setup->rows, sizeof *none);
+        if (!none) answer = COMTRADE_NO_MEMORY;
+        for (size_t k = 0; none && k < setup->rows; k++) none[k] = COMTRADE_NO_STAMP;
+    }
+    if (answer == COMTRADE_DONE)
+        answer = write_rows(setup, &head, setup->stamps ? setup->stamps : none, cfg, cfg_length, dat, dat_length, fault);
+    free(none);
+    free(head.at);
+    return answer;
+}
+
+static int32_t keep(const char *name, const uint8_t *at, size_t length) {
+    FILE *file = fopen(name, "wb");
+    if (!file) return COMTRADE_NO_FILE;
+    bool written = fwrite(at, 1, length, file) == length;
+    return fclose(file) == 0 && written ? COMTRADE_DONE : COMTRADE_NO_FILE;
+}
+
+int32_t comtrade_write_files(const struct comtrade_setup *setup, const char *cfg_name, const char *dat_name, struct comtrade_fault *fault) {
+    uint8_t *cfg = NULL, *dat = NULL;
+    size_t cfg_length = 0, dat_length = 0;
+    if (!cfg_name || !dat_name) return COMTRADE_BAD_CALL;
+    int32_t answer = comtrade_write(setup, &cfg, &cfg_length, &dat, &dat_length, fault);
+    if (answer == COMTRADE_DONE) answer = keep(cfg_name, cfg, cfg_length);
+    if (answer == COMTRADE_DONE) answer = keep(dat_name, dat, dat_length);
+    free(cfg);
+    free(dat);
+    return answer;
+}
+
+void comtrade_free(void *at) { free(at); }

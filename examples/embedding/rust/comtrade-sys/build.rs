@@ -1,0 +1,8 @@
+//! Links libcomtrade.a of the folder COMTRADE_LIB, as `install PREFIX` leaves it in PREFIX/lib.
+fn main() {
+    println!("cargo:rerun-if-env-changed=COMTRADE_LIB");
+    if let Ok(folder) = std::env::var("COMTRADE_LIB") {
+        println!("cargo:rustc-link-search=native={folder}");
+    }
+    println!("cargo:rustc-link-lib=static=comtrade");
+}

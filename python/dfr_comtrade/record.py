@@ -1,0 +1,291 @@
+"""A record that was read, and its channels."""
+import array
+import ctypes
+import datetime
+from typing import Any, Dict, Iterator, List, NamedTuple, Sequence
+
+from . import _library as c
+from .errors import need
+
+try:
+    import numpy
+except ImportError:
+    numpy = None  # type: ignore[assignment]
+
+_EPOCH = datetime.datetime(1970, 1, 1)
+_NUMBERS = {"i": "int32", "d": "float64", "B": "uint8", "Q": "uint64", "q": "int64"}
+
+
+def _filled(code: str, count: int, call: Any) -> Any:
+    """An array of so many numbers that a call fills: numpy's where it is, else `array.array`."""
+    if numpy is not None:
+        found = numpy.empty(count, _NUMBERS[code])
+        need(call(found.ctypes.data if count else None))
+        return found
+    found = array.array(code, bytes(count * array.array(code).itemsize))
+    need(call(found.buffer_info()[0] if count else None))
+    return found
+
+
+class Rate(NamedTuple):
+    """A rate in rows a second, and the number (from 1) of the last row that was sampled at it."""
+
+    samp: float
+    endsamp: int
+
+
+class _Kept:
+    """The library's record, which goes with the last that looks into it: a `Record` or one of its channels."""
+
+    def __init__(self, at: ctypes.c_void_p):
+        self.at = at
+        self.head = c.Head()
+        need(c.library.comtrade_head(at, ctypes.byref(self.head)))
+        self.rows: int = self.head.rows
+
+    def __del__(self) -> None:
+        c.library.comtrade_close(self.at)
+
+    def text(self, which: int, channel: int) -> str:
+        needed = ctypes.c_size_t()
+        c.library.comtrade_text(self.at, which, channel, None, 0, ctypes.byref(needed))
+        text = ctypes.create_string_buffer(needed.value + 1)
+        need(c.library.comtrade_text(self.at, which, channel, text, len(text), None))
+        return text.raw[: needed.value].decode("utf-8", "surrogateescape")
+
+    def rate(self, number: int) -> Rate:
+        said = c.Rate()
+        need(c.library.comtrade_rate(self.at, number, ctypes.byref(said)))
+        return Rate(said.samp, said.endsamp)
+
+
+class _Channel(Sequence):
+    """A channel of a record; as a sequence it is its values or bits."""
+
+    def __init__(self, kept: _Kept, number: int, texts: Sequence[int]):
+        self._record, self._number = kept, number
+        self.id, self.phase, self.component = (kept.text(which, number) for which in texts)
+        self._read: Dict[str, Any] = {}
+
+    def _rows(self, name: str, code: str) -> Any:
+        if name not in self._read:
+            call = getattr(c.library, "comtrade_" + name)
+            self._read[name] = _filled(code, len(self), lambda to: call(self._record.at, self._number, 0, len(self), to))
+        return self._read[name]
+
+    @property
+    def name(self) -> str:
+        """The same text as `id`."""
+        return self.id
+
+    def _items(self) -> Any:
+        raise NotImplementedError
+
+    def __len__(self) -> int:
+        return self._record.rows
+
+    def __getitem__(self, at: Any) -> Any:
+        return self._items()[at]
+
+    def __iter__(self) -> Iterator[Any]:
+        return iter(self._items())
+
+    def __array__(self, dtype: Any = None, copy: Any = None) -> Any:
+        return numpy.asarray(self._items(), dtype=dtype)
+
+    def __repr__(self) -> str:
+        return f"<{type(self).__name__} {self.id!r}: {len(self)} rows>"
+
+
+class AnalogChannel(_Channel):
+    """An analogue channel. The value of a sample x is a * x + b in `unit`; a missing sample is NO_SAMPLE, and its value a NaN."""
+
+    def __init__(self, kept: _Kept, number: int):
+        super().__init__(kept, number, (c.ANALOG_ID, c.ANALOG_PHASE, c.ANALOG_COMPONENT))
+        said = c.Analog()
+        need(c.library.comtrade_analog(kept.at, number, ctypes.byref(said)))
+        self.unit = kept.text(c.ANALOG_UNIT, number)
+        self.a, self.b, self.skew, self.primary, self.secondary = said.a, said.b, said.skew, said.primary, said.secondary
+        self.min, self.max, self.on_secondary = said.min, said.max, said.on_secondary
+
+    @property
+    def samples(self) -> Any:
+        """The sample of each row, as int32."""
+        return self._rows("samples", "i")
+
+    @property
+    def values(self) -> Any:
+        """The value of each row in `unit`, as float64."""
+        return self._rows("values", "d")
+
+    _items = values.fget  # type: ignore[assignment]
+
+
+class StatusChannel(_Channel):
+    """A status channel; `normal` is its bit while nothing is wrong."""
+
+    def __init__(self, kept: _Kept, number: int):
+        super().__init__(kept, number, (c.STATUS_ID, c.STATUS_PHASE, c.STATUS_COMPONENT))
+        said = c.Status()
+        need(c.library.comtrade_status(kept.at, number, ctypes.byref(said)))
+        self.normal = int(said.normal)
+
+    @property
+    def bits(self) -> Any:
+        """The bit of each row, as uint8."""
+        return self._rows("bits", "B")
+
+    _items = bits.fget  # type: ignore[assignment]
+
+
+class Channels(Sequence):
+    """Channels by their number, or by their id: the first that has it."""
+
+    def __init__(self, channels: List[Any]):
+        self._channels = channels
+        self._by_id: Dict[str, Any] = {}
+        for channel in channels:
+            self._by_id.setdefault(channel.id, channel)
+
+    def __getitem__(self, at: Any) -> Any:
+        return self._by_id[at] if isinstance(at, str) else self._channels[at]
+
+    def __len__(self) -> int:
+        return len(self._channels)
+
+    def __contains__(self, at: object) -> bool:
+        return at in self._by_id if isinstance(at, str) else at in self._channels
+
+    def keys(self) -> List[str]:
+        """The ids, in order."""
+        return [channel.id for channel in self._channels]
+
+    def __repr__(self) -> str:
+        return f"<{len(self)} channels: {', '.join(self.keys()[:8])}{', ..' if len(self) > 8 else ''}>"
+
+
+class Record:
+    """A pair of files that was read. Times count from the first row; rows from 0."""
+
+    def __init__(self, at: ctypes.c_void_p):
+        self._record = kept = _Kept(at)
+        head = kept.head
+        self.line_freq, self.timemult, self.binary, self.nrates = head.line_freq, head.timemult, head.binary, head.nrates
+        self.station, self.device = kept.text(c.STATION, 0), kept.text(c.DEVICE, 0)
+        self.analog = Channels([AnalogChannel(kept, k) for k in range(head.analog)])
+        self.status = Channels([StatusChannel(kept, k) for k in range(head.status)])
+        self.rates = [kept.rate(k) for k in range(head.rates)]
+        self._read: Dict[str, Any] = {}
+
+    def __len__(self) -> int:
+        return self._record.rows
+
+    def __repr__(self) -> str:
+        kind = "BINARY" if self.binary else "ASCII"
+        return f"<Record {self.station!r}: {len(self.analog)} analogue, {len(self.status)} status channels, {len(self)} rows, {kind}>"
+
+    def _of_rows(self, name: str, code: str) -> Any:
+        if name not in self._read:
+            call = getattr(c.library, "comtrade_" + name)
+            self._read[name] = _filled(code, len(self), lambda to: call(self._record.at, 0, len(self), to))
+        return self._read[name]
+
+    @property
+    def stamps(self) -> Any:
+        """The stamp of each row as the data file has it, as uint64; NO_STAMP where it has none."""
+        return self._of_rows("stamps", "Q")
+
+    @property
+    def times_ns(self) -> Any:
+        """Nanoseconds since the first row, as int64; NO_TIME where a row has neither a rate nor a stamp."""
+        return self._of_rows("times", "q")
+
+    @property
+    def times(self) -> Any:
+        """Seconds since the first row, as float64; a NaN where a row has neither a rate nor a stamp."""
+        if "seconds" not in self._read:
+            times = self.times_ns
+            if numpy is not None:
+                self._read["seconds"] = numpy.where(times == c.NO_TIME, numpy.nan, times / 1e9)
+            else:
+                self._read["seconds"] = array.array("d", (t / 1e9 if t != c.NO_TIME else float("nan") for t in times))
+        return self._read["seconds"]
+
+    @property
+    def first(self) -> datetime.datetime:
+        """The instant of the first row, without a zone, to the microsecond."""
+        return _EPOCH + datetime.timedelta(microseconds=self._record.head.first)
+
+    @property
+    def trigger(self) -> datetime.datetime:
+        """The instant of the trigger, without a zone, to the microsecond."""
+        return _EPOCH + datetime.timedelta(microseconds=self._record.head.trigger)
+
+    def to_pandas(self) -> Any:
+        """A pandas table of all values and bits, a column for each channel, by seconds since the first row. Columns of channels that share
+        an id are told apart by `#2`, `#3` ..."""
+        import pandas
+
+        columns: Dict[str, Any] = {}
+        for channel in [*self.analog, *self.status]:
+            name, again = channel.id, 1
+            while name in columns:
+                again += 1
+                name = f"{channel.id}#{again}"
+            columns[name] = channel._items()
+        return pandas.DataFrame(columns, index=pandas.Index(self.times, name="time"))
+
+    # The names that users of other Python readers know.
+
+    @property
+    def station_name(self) -> str:
+        return self.station
+
+    @property
+    def rec_dev_id(self) -> str:
+        return self.device
+
+    @property
+    def analog_channel_ids(self) -> List[str]:
+        return self.analog.keys()
+
+    @property
+    def status_channel_ids(self) -> List[str]:
+        return self.status.keys()
+
+    @property
+    def analog_count(self) -> int:
+        return len(self.analog)
+
+    @property
+    def status_count(self) -> int:
+        return len(self.status)
+
+    @property
+    def total_samples(self) -> int:
+        return self._record.rows
+
+    @property
+    def frequency(self) -> float:
+        return self.line_freq
+
+    @property
+    def time(self) -> Any:
+        return self.times
+
+    @property
+    def start_timestamp(self) -> datetime.datetime:
+        return self.first
+
+    @property
+    def trigger_timestamp(self) -> datetime.datetime:
+        return self.trigger
+
+    @property
+    def trigger_time(self) -> float:
+        """Seconds from the first row to the trigger."""
+        return (self._record.head.trigger - self._record.head.first) / 1e6
+
+    @property
+    def ft(self) -> str:
+        return "BINARY" if self.binary else "ASCII"
