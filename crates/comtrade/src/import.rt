@@ -1,8 +1,9 @@
 //! `comtrade import`: files as relays write them become a pair of 1999.
 
+use crate::source::{Source, read_source};
 use crate::write::{is_name, write_named};
-use crate::{complain, out_of_memory, read_input, read_named, say};
-use comtrade_cli::{ToolFault, put, put_safe, write_out};
+use crate::{complain, out_of_memory, say};
+use comtrade_cli::{put, put_safe, write_out};
 use comtrade_import::{Choices, ImportFault, Imported, Key, Order, import, import_single};
 use std::alloc::AllocError;
 use std::io;
@@ -123,94 +124,6 @@ fn wanted_of<'a, R: AllocGlobal>(rt: &R, words: &[&'a str]) -> Result<Wanted<'a>
         Err(Wrong::Words)
     } else {
         Ok(wanted)
-    }
-}
-
-/// The bytes that are imported.
-#[derive(Drop)]
-enum Source {
-    Pair(Vec<u8>, Vec<u8>),
-    Single(Vec<u8>),
-}
-
-/// The name without an ending of three letters, in any case.
-fn without<'a>(name: &'a str, ending: &str) -> Option<&'a str> {
-    let at = name.len().checked_sub(4)?;
-    let back = name.get(at..)?;
-    if back.eq_ignore_ascii_case(ending) {
-        name.get(..at)
-    } else {
-        None
-    }
-}
-
-/// The first file that is there of a name with one of these endings.
-fn read_ended<R: Files + Input + Eprint + AllocGlobal>(
-    rt: &R,
-    stem: &str,
-    endings: &[&str],
-) -> Result<Vec<u8>, ToolFault> {
-    let mut last = ToolFault::NoFile;
-    for ending in endings {
-        let Ok(name) = format!(in rt.alloc(); "{stem}{ending}") else {
-            return Err(ToolFault::Memory);
-        };
-        match read_named(rt, name.as_str()) {
-            Ok(bytes) => return Ok(bytes),
-            Err(ToolFault::NoFile) => {}
-            Err(fault) => last = fault,
-        }
-    }
-    Err(last)
-}
-
-/// The data file beside a configuration file.
-fn read_partner<R: Files + Input + Eprint + AllocGlobal>(
-    rt: &R,
-    cfg: Vec<u8>,
-    stem: &str,
-) -> Option<Source> {
-    match read_ended(rt, stem, &[".dat", ".DAT", ".Dat"]) {
-        Ok(dat) => Some(Source::Pair(cfg, dat)),
-        Err(fault) => {
-            if let Ok(name) = format!(in rt.alloc(); "{stem}.dat") {
-                complain(rt, name.as_str(), fault);
-            }
-            None
-        }
-    }
-}
-
-/// What a name without an ending is called with.
-fn read_stem<R: Files + Input + Eprint + AllocGlobal>(rt: &R, stem: &str) -> Option<Source> {
-    if let Ok(cfg) = read_ended(rt, stem, &[".cfg", ".CFG", ".Cfg"]) {
-        return read_partner(rt, cfg, stem);
-    }
-    match read_ended(rt, stem, &[".cff", ".CFF", ".Cff"]) {
-        Ok(cff) => Some(Source::Single(cff)),
-        Err(_) => Some(Source::Single(read_input(rt, stem)?)),
-    }
-}
-
-/// The files that are named.
-fn read_source<R: Files + Input + Eprint + AllocGlobal>(
-    rt: &R,
-    file: &str,
-    dat: Option<&str>,
-) -> Option<Source> {
-    if let Some(dat) = dat {
-        let cfg = read_input(rt, file)?;
-        return Some(Source::Pair(cfg, read_input(rt, dat)?));
-    }
-    if without(file, ".cff").is_some() {
-        return Some(Source::Single(read_input(rt, file)?));
-    }
-    match without(file, ".cfg") {
-        Some(stem) => {
-            let cfg = read_input(rt, file)?;
-            read_partner(rt, cfg, stem)
-        }
-        None => read_stem(rt, file),
     }
 }
 

@@ -5,6 +5,7 @@
 mod extract;
 mod find;
 mod import;
+mod source;
 mod survey;
 mod view;
 mod write;
@@ -152,7 +153,10 @@ pub(crate) struct Inputs {
 }
 
 /// Reads a file; none where that was refused, which is said.
-fn read_input<R: Files + Input + Eprint + AllocGlobal>(rt: &R, name: &str) -> Option<Vec<u8>> {
+pub(crate) fn read_input<R: Files + Input + Eprint + AllocGlobal>(
+    rt: &R,
+    name: &str,
+) -> Option<Vec<u8>> {
     match read_named(rt, name) {
         Ok(bytes) => Some(bytes),
         Err(fault) => {
