@@ -19,6 +19,15 @@ letters. With DAT both are named; one of them may be -, which is standard input.
 
 Status: 0 all of it was done; 1 a fault of the files, or what can't be read or written; 2 words that ask for nothing.";
 
+const TOP_HELP: &str = "\
+comtrade import FILE [DAT] NAME makes a pair of 1999 of what relays write: of 1991, 1999 or 2013, a pair or a single file (.cff); \
+comtrade import --help says how.
+
+FILE is a configuration file (.cfg), a data file (.dat) or what both are called: its partner is found by its name, in any case of \
+letters. With DAT both are named; one of them may be -, which is standard input.
+
+Status: 0 all of it was done; 1 a fault of the files, or what can't be read or written; 2 words that ask for nothing.";
+
 const SURVEY_STATUS: &str = "\
 Status: 0 all of it was done; 1 a fault of the files, or what can't be read or written; 2 words that ask for nothing.";
 
@@ -192,7 +201,7 @@ fn top<'a>(alloc: Global) -> Result<Command<'a>, AllocError>
     let program = Command::new(alloc, "comtrade")
         .version("0.1")
         .about(ABOUT)
-        .after_help(STATUS)
+        .after_help(TOP_HELP)
         .bin_name("comtrade")?;
     Ok(
         program
