@@ -1,4 +1,5 @@
-# 256 channels of each kind with the longest texts, and 32 rules of which the last one fires; the record in both forms
+# 256 channels of each kind with the longest texts, and 32 rules of which the last one fires; the record in both forms; one channel more
+# of a kind
 folder=$(mktemp -d)
 trap 'rm -r "$folder"' EXIT
 long=$(printf 'x%.0s' {1..64})
@@ -43,4 +44,8 @@ for kind in ascii binary; do
     "$dfr" replay --kind "$kind" < "$folder/script" > "$folder/printed"
     echo "$kind $? $(cmp "$folder/printed" "$folder/expected" 2>&1 && echo same)"
     "$dfr" read "$folder/cfg" "$folder/$kind"
+done
+for kind in analog status; do
+    awk -v kind="$kind" '$1 == kind && !once++ { print } { print }' "$folder/script" | "$dfr"
+    echo "$kind $?"
 done
