@@ -1,0 +1,135 @@
+//! A recording from the set-up file to its end.
+
+use crate::folder::Keep;
+use crate::outcome::{complain, out_of_memory};
+use crate::words::Asked;
+use comtrade_cli::{ToolFault, fault_of, read_up_to};
+use dfr_recorder::Recorder;
+use dfr_station::{Printer, Station, Store, frame_len, now, read_first, recorder_of, run_station};
+use rtrb::Consumer;
+use std::alloc::Global;
+use std::fs::File;
+use std::io::Read;
+use std::rt::Files;
+use std::sync::Wait;
+use std::thread::Threads;
+use std::time::Clock;
+
+/// The most bytes of a set-up file: 1 GiB.
+const LIMIT: usize = 1_073_741_824;
+
+/// A set-up that was judged.
+#[derive(Drop)]
+pub(crate) struct Plan {
+    pub(crate) setup: Vec<u8>,
+    /// How many bytes a frame has.
+    pub(crate) frame: usize,
+}
+
+/// The bytes of the set-up file.
+fn read_setup<R: Files + AllocGlobal>(rt: &R, path: &str) -> Result<Vec<u8>, ToolFault> {
+    match File::open(rt, path) {
+        Ok(mut file) => read_up_to(rt.alloc(), &mut file, LIMIT),
+        Err(error) => Err(fault_of(error.kind(), ToolFault::Input)),
+    }
+}
+
+/// How many bytes a frame of the set-up has.
+fn frame_of(recorder: &Recorder<Global>) -> usize {
+    let layout = recorder.layout();
+    let _rate = layout.rate();
+    frame_len(layout.analog().len(), layout.status().len())
+}
+
+/// Prints what would be recorded.
+pub(crate) fn print_judged<R: Print>(rt: &R, recorder: &Recorder<Global>) {
+    let layout = recorder.layout();
+    let limits = recorder.limits();
+    let analog = layout.analog().len();
+    let status = layout.status().len();
+    let rate = layout.rate();
+    let rules = recorder.rules().list().len();
+    let pre = limits.pre();
+    let post = limits.post();
+    let longest = limits.longest();
+    let shelf = limits.shelf();
+    let frame = frame_of(recorder);
+    let _ = println!(rt; "analog {analog} status {status} rate {rate} rules {rules} frame {frame}");
+    let _ = println!(rt; "pre {pre} post {post} longest {longest} shelf {shelf}");
+}
+
+/// Reads and judges the set-up; prints what would be recorded where only that is asked. None where it is refused, which is
+/// said.
+pub(crate) fn plan_of<R: Files + Print + Eprint + AllocGlobal>(
+    rt: &R,
+    asked: &Asked<'_>,
+) -> Option<Plan> {
+    let setup = match read_setup(rt, asked.setup) {
+        Ok(setup) => setup,
+        Err(fault) => {
+            complain(rt, asked.setup, fault);
+            return None;
+        }
+    };
+    match recorder_of(rt.alloc(), &setup, asked.start.unwrap_or(0)) {
+        Ok(recorder) => {
+            if asked.is_check {
+                print_judged(rt, &recorder);
+            }
+            let frame = frame_of(&recorder);
+            Some(Plan { setup, frame })
+        }
+        Err(refusal) => {
+            complain(rt, asked.setup, refusal);
+            None
+        }
+    }
+}
+
+/// What is kept of older pairs.
+pub(crate) fn keep_of(asked: &Asked<'_>) -> Keep {
+    match (asked.pairs, asked.bytes) {
+        (Some(n), _) => Keep::Pairs(n),
+        (None, Some(n)) => Keep::Bytes(n),
+        (None, None) => Keep::All,
+    }
+}
+
+/// Records what comes until the input ends. The program's status.
+pub(crate) fn record<
+    I: Read + Send,
+    K: Store + Send,
+    P: Printer + Send,
+    R: Eprint + AllocGlobal + Threads + Wait + Clock + Sync,
+>(
+    rt: &R,
+    asked: &Asked<'_>,
+    plan: Plan,
+    operator: Option<Consumer<u8>>,
+    input: &mut I,
+    store: &mut K,
+    printer: &mut P,
+) -> u8 {
+    let Ok(first) = read_first(rt.alloc(), input, asked.input, plan.frame) else {
+        return out_of_memory(rt);
+    };
+    let start = match asked.start {
+        Some(start) => start,
+        None => now(rt),
+    };
+    let recorder = match recorder_of(rt.alloc(), &plan.setup, start) {
+        Ok(recorder) => recorder,
+        Err(refusal) => return complain(rt, asked.setup, refusal),
+    };
+    let station = Station {
+        recorder,
+        input: asked.input,
+        kind: asked.kind,
+        minutes: !asked.is_quiet,
+        operator,
+    };
+    match run_station(rt, rt.alloc(), station, first, input, store, printer) {
+        Ok(recorded) => { if recorded.unwritten > 0 { 1 } else { 0 } }
+        Err(fault) => complain(rt, "recording", fault),
+    }
+}
