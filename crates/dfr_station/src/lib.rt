@@ -3,6 +3,7 @@
 #![tactic(auto)]
 
 mod acquire;
+mod begin;
 mod event;
 mod export;
 mod feed;
@@ -24,6 +25,7 @@ mod station;
 mod tasks;
 mod teller;
 mod telling;
+mod text_buffer;
 mod text_lines;
 
 pub use event::{Asked, Event, Replied, Skipped, Trouble};

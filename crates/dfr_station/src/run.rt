@@ -5,29 +5,21 @@ ghost use Rattle.dfr_recorder.specs.History.{Opening};
 ghost use Rattle.dfr_live.specs.Seen.{opening_of};
 ghost use Rattle.dfr_station.specs.Runs.{Leaves};
 
-use crate::acquire::Acquisition;
+use crate::begin::{How, queues_in, tasks_of};
 use crate::event::Event;
-use crate::export::Exports;
 use crate::first::First;
-use crate::operator::Operator;
-use crate::orders::{Placed, Trigger};
-use crate::printed::put_event;
-use crate::scans::Scans;
-use crate::signals::Signals;
-use crate::station::{Input, Printer, Station, Store};
+use crate::station::{Printer, Station, Store};
 use crate::tasks::{Tasks, in_threads};
-use crate::teller::{Teller, telling_of};
-use crate::telling::{Telling, minute, now};
-use comtrade_write::Kind;
+use crate::teller::put_line;
+use crate::telling::now;
 use dfr_live::{
     EndFault, Ended, Inner, OpenFault, Opened, Session, Shared, Source, Token, end, open,
 };
-use rtrb::{Consumer, Producer, RingBuffer};
-use std::alloc::{AllocError, Allocator, Global};
+use std::alloc::{Allocator, Global};
 use std::io::Read;
 use std::marker::Brand;
+use std::sync::Wait;
 use std::sync::atomic::Ordering;
-use std::sync::{Mutex, Wait};
 use std::thread::Threads;
 use std::time::Clock;
 use thiserror::Error;
@@ -35,8 +27,8 @@ use thiserror::Error;
 /// How many scans wait at most for the trigger thread.
 const LANE: usize = 65_536;
 
-/// How many orders of the input wait at most.
-const ORDERS: usize = 1_024;
+/// How many bytes an event's line has at most.
+const LINE: usize = 512;
 
 /// Why a station wasn't recorded, or not to its end.
 #[derive(Clone, Copy, Debug, PartialEq, Eq, Error)]
@@ -59,26 +51,6 @@ pub enum RunFault {
 pub struct Recorded<A: Allocator = Global> {
     pub ended: Ended<A>,
     pub unwritten: u64,
-}
-
-/// The queues between the threads.
-#[derive(Drop)]
-struct Queues<A: Allocator> {
-    tellers: (Teller<A>, Teller<A>, Teller<A>),
-    events: (Consumer<Event, A>, Consumer<Event, A>, Consumer<Event, A>),
-    orders: (Producer<Placed<A>, A>, Consumer<Placed<A>, A>),
-}
-
-fn queues_in<A: Allocator + Copy>(alloc: A) -> Result<Queues<A>, AllocError> {
-    let (scans, of_scans) = telling_of(alloc)?;
-    let (triggers, of_triggers) = telling_of(alloc)?;
-    let (exports, of_exports) = telling_of(alloc)?;
-    let orders = RingBuffer::new(alloc, ORDERS)?;
-    Ok(Queues {
-        tellers: (scans, triggers, exports),
-        events: (of_scans, of_triggers, of_exports),
-        orders,
-    })
 }
 
 /// Records what comes on the input until it ends, in four threads: the acquisition offers each scan, and waits in its reads alone;
@@ -116,56 +88,20 @@ pub fn run_station<
         operator,
         first,
     };
+    let Ok(mut text) = Vec::with_capacity(alloc, LINE) else {
+        return Err(RunFault::Memory);
+    };
     match open(alloc, recorder, LANE, 2) {
         Ok(opened) => {
             let left = run_named::<Brand, A, I, K, P, R>(
-                rt, alloc, opened, how, input, store, printer,
+                rt, alloc, opened, how, input, store, printer, &mut text,
             )?;
             if left.ended.recorder.is_recording() {
-                print_one(rt, alloc, printer, Event::Unfinished);
+                print_one(rt, &mut text, printer, Event::Unfinished);
             }
             Ok(left)
         }
         Err((fault, _)) => Err(RunFault::Open(fault)),
-    }
-}
-
-/// How a station is run.
-#[derive(Drop)]
-struct How<A: Allocator> {
-    form: Input,
-    kind: Kind,
-    minutes: bool,
-    operator: Option<Consumer<u8, A>>,
-    first: First<A>,
-}
-
-/// The trigger thread's work.
-fn trigger_of<A: Allocator>(
-    alloc: A,
-    token: Token<A>,
-    orders: Consumer<Placed<A>, A>,
-    operator: Option<Operator<A>>,
-    teller: Teller<A>,
-    shelf: u32,
-) -> Trigger<A> {
-    Trigger {
-        alloc,
-        token,
-        orders,
-        next: None,
-        operator,
-        teller,
-        shelf,
-        is_full: false,
-    }
-}
-
-/// The operator's lines, where there is one.
-fn operator_of<A: Allocator>(alloc: A, bytes: Option<Consumer<u8, A>>) -> Option<Operator<A>> {
-    match bytes {
-        Some(bytes) => Some(Operator::new(alloc, bytes)),
-        None => None,
     }
 }
 
@@ -185,6 +121,7 @@ fn run_named<
     input: &mut I,
     store: &mut K,
     printer: &mut P,
+    text: &mut Vec<u8, A>,
 ) -> Result<Recorded<A>, RunFault>
     requires named { (opened.opening ≡ N.opening) × (opened.lane ≡ N.lane)
         × (opened.seats ≡ N.seats) }
@@ -205,7 +142,7 @@ fn run_named<
         rt, alloc, how, queues, shared, source, first, second, input, store, printer,
     );
     let started = in_threads(rt, &tasks);
-    let (shared, source, first, second, unwritten) = taken_apart(rt, tasks, started)?;
+    let (shared, source, first, second, unwritten) = taken_apart(rt, tasks, started, text)?;
     tokens.push_reserved(first);
     tokens.push_reserved(second);
     ended_of(alloc, shared.unlock(), source, tokens, unwritten)
@@ -235,6 +172,7 @@ fn taken_apart<N: Session<A>, A: Allocator + Copy, I, K, P: Printer, R: Clock>(
     rt: &R,
     tasks: Tasks<'_, '_, '_, N, I, K, P, A>,
     started: bool,
+    text: &mut Vec<u8, A>,
 ) -> Result<(Shared<N, A>, Source<N, A>, Token<A>, Token<A>, u64), RunFault> {
     if !started {
         return Err(RunFault::Thread);
@@ -252,7 +190,7 @@ fn taken_apart<N: Session<A>, A: Allocator + Copy, I, K, P: Printer, R: Clock>(
         records,
         left: scans.saturating_sub(trigger.token.pumped()),
     };
-    print_one(rt, tasks.alloc, telling.printer, ended);
+    print_one(rt, text, telling.printer, ended);
     if failed {
         return Err(RunFault::Counter);
     }
@@ -265,91 +203,14 @@ fn taken_apart<N: Session<A>, A: Allocator + Copy, I, K, P: Printer, R: Clock>(
     ))
 }
 
-/// Prints an event.
+/// Prints an event, whose line has room in the text.
 fn print_one<A: Allocator, P: Printer>(
     clock: &impl Clock,
-    alloc: A,
+    text: &mut Vec<u8, A>,
     printer: &mut P,
     event: Event,
 ) {
-    let mut text = Vec::new(alloc);
-    if put_event(&mut text, now(clock), event).is_ok() {
-        printer.print(&text);
-    }
-}
-
-/// What all threads work on.
-fn tasks_of<
-    'x,
-    'y,
-    'z,
-    N: Session<A>,
-    A: Allocator + Copy,
-    I: Read,
-    K: Store,
-    P: Printer,
-    R: Clock,
->(
-    rt: &R,
-    alloc: A,
-    how: How<A>,
-    queues: Queues<A>,
-    shared: Shared<N, A>,
-    source: Source<N, A>,
-    first: Token<A>,
-    second: Token<A>,
-    input: &'x mut I,
-    store: &'y mut K,
-    printer: &'z mut P,
-) -> Tasks<'x, 'y, 'z, N, I, K, P, A> {
-    let Queues {
-        tellers: (mut scans, triggers, exports),
-        events,
-        orders,
-    } = queues;
-    let layout = shared.opening().layout();
-    let rate = layout.rate();
-    scans.tell(Event::Started {
-        start: layout.start(),
-        rate,
-    });
-    let shelf = shared.opening().limits().shelf();
-    Tasks {
-        alloc,
-        signals: Signals::new(),
-        shared,
-        acquisition: Mutex::new(Acquisition {
-            input,
-            source,
-            scans: Scans::new(scans, rate),
-            orders: orders.0,
-            form: how.form,
-            buffer: how.first.buffer,
-            held: how.first.held,
-        }),
-        trigger: Mutex::new(trigger_of(
-            alloc,
-            first,
-            orders.1,
-            operator_of(alloc, how.operator),
-            triggers,
-            shelf,
-        )),
-        exports: Mutex::new(Exports {
-            store,
-            token: second,
-            teller: exports,
-            kind: how.kind,
-            is_in_trouble: false,
-            unwritten: 0,
-        }),
-        telling: Mutex::new(Telling {
-            printer,
-            scans: events.0,
-            triggers: events.1,
-            exports: events.2,
-            minutes: how.minutes,
-            minute: minute(rt),
-        }),
-    }
+    text.clear();
+    put_line(text, now(clock), event);
+    printer.print(text);
 }

@@ -63,7 +63,7 @@ fn run_telling<N: Session<A>, A: Allocator + Copy, I, K, P: Printer, R: Wait + C
     tasks: &Tasks<'_, '_, '_, N, I, K, P, A>,
 ) {
     let mut held = tasks.telling.lock(rt);
-    print_events(rt, tasks.alloc, &tasks.signals, &mut *held);
+    print_events(rt, &tasks.signals, &mut *held);
 }
 
 /// Starts the trigger thread. False where it can't be started.

@@ -1,10 +1,9 @@
 //! The thread that prints what the others tell.
 
 use crate::event::Event;
-use crate::printed::put_event;
 use crate::signals::Signals;
 use crate::station::Printer;
-use rtrb::Consumer;
+use crate::teller::{Waiting, put_line};
 use std::alloc::{Allocator, Global};
 use std::sync::Wait;
 use std::sync::atomic::Ordering;
@@ -14,16 +13,13 @@ use std::time::{Clock, Duration};
 /// How long the thread sleeps where nothing is told, in milliseconds.
 const NAP: u64 = 20;
 
-/// How many events are printed at once at most.
-const BATCH: usize = 256;
-
 /// What the printing thread works on.
 #[derive(Drop)]
 pub(crate) struct Telling<'x, P, A: Allocator = Global> {
     pub(crate) printer: &'x mut P,
-    pub(crate) scans: Consumer<Event, A>,
-    pub(crate) triggers: Consumer<Event, A>,
-    pub(crate) exports: Consumer<Event, A>,
+    pub(crate) scans: Waiting<A>,
+    pub(crate) triggers: Waiting<A>,
+    pub(crate) exports: Waiting<A>,
     pub(crate) minutes: bool,
     /// The last whole minute that was told, of the clock that never goes back.
     pub(crate) minute: u64,
@@ -43,23 +39,6 @@ pub(crate) fn minute(clock: &impl Clock) -> u64 {
         Ok(time) => time.as_secs() / 60,
         Err(_) => 0,
     }
-}
-
-/// Appends the lines of events that wait. How many there were.
-fn put_waiting<A: Allocator + Copy>(
-    text: &mut Vec<u8, A>,
-    at: i64,
-    events: &mut Consumer<Event, A>,
-) -> usize {
-    for count in 0..BATCH {
-        match events.pop() {
-            Ok(event) => {
-                let _ = put_event(text, at, event);
-            }
-            Err(_) => return count,
-        }
-    }
-    BATCH
 }
 
 /// How it stands.
@@ -85,36 +64,37 @@ impl<P: Printer, A: Allocator + Copy> Telling<'_, P, A> {
 
     /// Prints what waits. Whether there was anything. A record's event is popped before that of its trigger is looked for, and
     /// printed after it: no effect stands before its cause.
-    fn print(&mut self, clock: &impl Clock, alloc: A, signals: &Signals) -> bool {
+    fn print(&mut self, clock: &impl Clock, signals: &Signals) -> bool {
         let at = now(clock);
-        let mut exported = Vec::new(alloc);
-        let mut triggered = Vec::new(alloc);
-        let mut came = Vec::new(alloc);
-        let exports = put_waiting(&mut exported, at, &mut self.exports);
-        let triggers = put_waiting(&mut triggered, at, &mut self.triggers);
-        let scans = put_waiting(&mut came, at, &mut self.scans);
+        let exports = self.exports.fill(at);
+        let triggers = self.triggers.fill(at);
+        let scans = self.scans.fill(at);
         if self.is_due(clock) {
-            let _ = put_event(&mut exported, at, standing(signals));
+            put_line(&mut self.exports.text, at, standing(signals));
         }
-        for text in [&came, &triggered, &exported] {
-            if !text.is_empty() {
-                self.printer.print(text);
-            }
-        }
+        print_lines(self.printer, &self.scans.text);
+        print_lines(self.printer, &self.triggers.text);
+        print_lines(self.printer, &self.exports.text);
         exports > 0 || triggers > 0 || scans > 0
+    }
+}
+
+/// Prints lines, if there are any.
+fn print_lines<P: Printer>(printer: &mut P, text: &[u8]) {
+    if !text.is_empty() {
+        printer.print(text);
     }
 }
 
 /// Prints what is told until all threads have ended and all of it is printed.
 pub(crate) fn print_events<A: Allocator + Copy, P: Printer, R: Wait + Clock>(
     rt: &R,
-    alloc: A,
     signals: &Signals,
     telling: &mut Telling<'_, P, A>,
 ) {
     for _ in rt.forever() {
         let ended = signals.exported.load(Ordering::SeqCst);
-        if telling.print(rt, alloc, signals) {
+        if telling.print(rt, signals) {
             continue;
         }
         if ended {

@@ -2,15 +2,17 @@
 
 use crate::event::{Event, Skipped};
 use crate::feed::{Came, Tally, Why, give, lose};
-use crate::frames::moved_up;
-use crate::lines::{HEAD, HEAD_LEN, HEAD_LINES, commands_of, is_scan_line};
+use crate::lines::{HEAD_LEN, HEAD_LINES, commands_of, is_scan_line};
 use crate::orders::Placed;
 use crate::scans::Scans;
 use crate::signals::Signals;
+use crate::text_buffer::{
+    feeds_in, kept_after, line_at, line_end, piece_end, whole_end, with_head,
+};
 use dfr_channels::{Layout, Rule, RuleFault, Rules};
 use dfr_live::{LossFault, Order, Session, Source};
 use dfr_script::{Command, ScriptFault, ScriptRefusal, Word};
-use memchr::{memchr, memrchr};
+use memchr::memchr;
 use rtrb::Producer;
 use std::alloc::{Allocator, Global};
 use std::io::Read;
@@ -100,70 +102,7 @@ impl<N: Session<A>, A: Allocator + Copy> Lane<'_, N, A> {
     }
 }
 
-/// How many line feeds a text has.
-fn feeds_in(text: &[u8]) -> u64 {
-    let mut count = 0u64;
-    for b in text {
-        if *b == b'\n' {
-            count = count.saturating_add(1);
-        }
-    }
-    count
-}
-
-/// Where the line at a place, from 0, begins; the end where there are fewer.
-fn line_at(text: &[u8], place: u64) -> usize {
-    let mut at = 0usize;
-    for _ in 0..place {
-        let Some(rest) = text.get(at..) else {
-            return text.len();
-        };
-        match memchr(b'\n', rest) {
-            Some(feed) => at = at.saturating_add(feed).saturating_add(1),
-            None => return text.len(),
-        }
-    }
-    at.min(text.len())
-}
-
-/// Where the line that begins a text ends, with its line feed.
-fn line_end(text: &[u8]) -> usize {
-    match memchr(b'\n', text) {
-        Some(feed) => feed.saturating_add(1),
-        None => text.len(),
-    }
-}
-
-/// Puts the shortest set-up before a place of the buffer, over bytes that were read. None where there is no room.
-fn with_head(buffer: &mut [u8], at: usize, end: usize) -> Option<&[u8]> {
-    let from = at.checked_sub(HEAD_LEN)?;
-    for (slot, b) in buffer.get_mut(from..at)?.iter_mut().zip(HEAD) {
-        *slot = *b;
-    }
-    buffer.get(from..end)
-}
-
-/// Where the lines of scans end that a text begins with; where it begins with none, the end of its first line, which is
-/// carried out by itself, so that its number is known.
-fn piece_end(text: &[u8]) -> usize {
-    let mut at = 0usize;
-    for _ in 0..text.len() {
-        let Some(rest) = text.get(at..) else {
-            break;
-        };
-        if rest.is_empty() || !is_scan_line(rest) {
-            break;
-        }
-        at = at.saturating_add(line_end(rest));
-    }
-    if at == 0 {
-        line_end(text)
-    } else {
-        at.min(text.len())
-    }
-}
-
-/// Carries out lines that can all be read. False where they can't.
+/// Carries out lines, if all of them can be read; else their first fault.
 fn carry_read<N: Session<A>, A: Allocator + Copy>(
     alloc: A,
     lane: &mut Lane<'_, N, A>,
@@ -190,8 +129,8 @@ fn carry_read<N: Session<A>, A: Allocator + Copy>(
     }
 }
 
-/// Carries out the first lines from `at` to `end`: those of scans up to the first that can't be read, or one other line. Where
-/// the next line begins.
+/// Carries out the first lines from `at` to `end`: those of scans up to the first that can't be read, or one line. Where the
+/// next line begins.
 fn carry_some<N: Session<A>, A: Allocator + Copy>(
     alloc: A,
     lane: &mut Lane<'_, N, A>,
@@ -208,12 +147,28 @@ fn carry_some<N: Session<A>, A: Allocator + Copy>(
     let bad = at
         .saturating_add(line_at(buffer.get(at..to).unwrap_or(&[]), place))
         .min(to);
-    if at < bad {
-        carry_read(alloc, lane, buffer, at, bad)?;
+    if bad <= at {
+        return refuse_first(lane, buffer, at, to, fault.word);
     }
-    refuse_line(lane, buffer.get(bad..to).unwrap_or(&[]), fault.word)?;
-    let len = line_end(buffer.get(bad..to).unwrap_or(&[]));
-    Ok(bad.saturating_add(len.max(1)).min(end))
+    match carry_read(alloc, lane, buffer, at, bad)? {
+        None => Ok(bad),
+        // they could be read before: an allocation failed
+        Some(fault) => refuse_first(lane, buffer, at, bad, fault.word),
+    }
+}
+
+/// Refuses the line that begins at `at`. Where the next one begins.
+fn refuse_first<N: Session<A>, A: Allocator + Copy>(
+    lane: &mut Lane<'_, N, A>,
+    buffer: &[u8],
+    at: usize,
+    to: usize,
+    word: Word,
+) -> Result<usize, LossFault> {
+    let rest = buffer.get(at..to).unwrap_or(&[]);
+    let len = line_end(rest).max(1).min(rest.len());
+    refuse_line(lane, rest.get(..len).unwrap_or(rest), word)?;
+    Ok(at.saturating_add(len.max(1)))
 }
 
 /// Refuses the line that a text begins with.
@@ -250,14 +205,6 @@ fn carry_lines<N: Session<A>, A: Allocator + Copy>(
     Ok(())
 }
 
-/// Where the buffer's last whole line ends.
-fn whole_end(buffer: &[u8], held: usize) -> usize {
-    match memrchr(b'\n', buffer.get(HEAD_LEN..held).unwrap_or(&[])) {
-        Some(feed) => feed.saturating_add(HEAD_LEN).saturating_add(1),
-        None => HEAD_LEN,
-    }
-}
-
 /// What of a line that is too long was read.
 #[derive(Clone, Copy, PartialEq, Eq)]
 enum Reading {
@@ -282,19 +229,6 @@ fn skip_on(buffer: &mut [u8], held: usize, reading: &mut Reading) -> usize {
                 held,
             )
         }
-    }
-}
-
-/// Moves the bytes from `from` to `held` to the front, after the room for the head. Where they end.
-fn kept_after(buffer: &mut [u8], from: usize, held: usize) -> usize {
-    match buffer.get_mut(HEAD_LEN..) {
-        Some(data) => moved_up(
-            data,
-            from.saturating_sub(HEAD_LEN),
-            held.saturating_sub(HEAD_LEN),
-        )
-        .saturating_add(HEAD_LEN),
-        None => HEAD_LEN,
     }
 }
 

@@ -4,6 +4,7 @@
 mod folder;
 mod found;
 mod operator;
+mod options;
 mod outcome;
 mod printer;
 mod record;
