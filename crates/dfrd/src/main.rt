@@ -6,14 +6,14 @@ mod found;
 mod operator;
 mod options;
 mod outcome;
-mod printer;
+mod output;
 mod record;
 mod words;
 
 use crate::folder::{Folder, Records};
 use crate::operator::{WAITING, follow, open_orders};
 use crate::outcome::{complain, out_of_memory};
-use crate::printer::Lines;
+use crate::output::Lines;
 use crate::record::{keep_of, plan_of, record};
 use crate::words::{Answer, Asked, answer_of};
 use comtrade_cli::{ToolFault, fault_of, put, put_safe};

@@ -2,7 +2,7 @@
 
 use rtrb::Producer;
 use std::fs::{File, OpenOptions};
-use std::io::Read;
+use std::io::{Read, Seek, SeekFrom};
 use std::rt::Files;
 use std::sync::Wait;
 use std::time::{Clock, Duration};
@@ -14,11 +14,22 @@ pub(crate) const WAITING: usize = 65_536;
 /// How long the thread sleeps where nothing comes, in milliseconds.
 const NAP: u64 = 50;
 
-/// Opens the operator's file. A FIFO is opened for writing too, so that it doesn't end where a writer closes it.
-pub(crate) fn open_orders<R: Files>(rt: &R, path: &str) -> io::Result<R::File> {
+/// Opens a file for writing too where it can be, so that a FIFO doesn't end where a writer closes it.
+fn open_both<R: Files>(rt: &R, path: &str) -> io::Result<R::File> {
     match OpenOptions::new().read(true).write(true).open(rt, path) {
         Ok(file) => Ok(file),
         Err(_) => File::open(rt, path),
+    }
+}
+
+/// Opens the operator's file at its end: what stands in it already was for an earlier recording. A FIFO has no such place.
+pub(crate) fn open_orders<R: Files>(rt: &R, path: &str) -> io::Result<R::File> {
+    match open_both(rt, path) {
+        Ok(mut file) => {
+            let _ = file.seek(SeekFrom::End(0));
+            Ok(file)
+        }
+        Err(error) => Err(error),
     }
 }
 
