@@ -9,3 +9,5 @@ once --start 1719829800000000 --keep 3
 names
 once --start 1719829900000000 --keep-bytes 1
 names
+once --start 0 --keep 1 # the clock was set back
+names

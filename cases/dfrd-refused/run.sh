@@ -21,3 +21,4 @@ echo 'rules level 1 over 1' >> "$work/setup"
 try "$work/setup" "$folder"
 try first/in "$work/none"
 try first/in first/in
+try first/in /sys

@@ -40,7 +40,8 @@ pub enum FolderFault {
     Other,
 }
 
-/// The folder, and the names of the pairs in it, the oldest first, with their sizes in bytes.
+/// The folder, and the names of the pairs in it with their sizes in bytes, the oldest first: those of earlier recordings by their
+/// names, then ours as they were written, so that a clock that was set back makes no new pair an old one.
 #[derive(Drop)]
 pub struct Folder<'a, R> {
     pub(crate) rt: &'a R,
@@ -203,14 +204,12 @@ impl<R: Files + AllocGlobal> Folder<'_, R> {
         Err(Trouble::Other)
     }
 
-    /// Notes a pair that stands in the folder, where it may have to go some day.
+    /// Notes the pair that was just written, where it may have to go some day.
     fn note(&mut self, key: Key, size: u64) {
         if let Keep::All = self.keep {
             return;
         }
-        if self.pairs.push((key, size)).is_ok() {
-            self.pairs.sort_unstable();
-        }
+        let _ = self.pairs.push((key, size));
     }
 
     /// How many of the oldest pairs have to go.
@@ -229,24 +228,36 @@ impl<R: Files + AllocGlobal> Folder<'_, R> {
         }
     }
 
+    /// Removes the oldest pair, and forgets it. Whether it was there; None where it can't be removed.
+    fn remove_oldest(&mut self) -> Option<bool> {
+        let (key, _) = *self.pairs.first()?;
+        let was_there = removed(self.rt, self.path.as_str(), key)?;
+        self.pairs.remove(0);
+        Some(was_there)
+    }
+
     /// Removes the oldest pairs where there are too many. How many went.
     pub fn remove_surplus(&mut self) -> u64 {
-        let surplus = self.surplus();
-        let mut removed = 0u64;
-        for _ in 0..surplus {
-            let Some((key, _)) = self.pairs.first() else {
-                break;
-            };
-            let Ok(paths) = paths_of(self.rt.alloc(), self.path.as_str(), *key) else {
-                break;
-            };
-            if remove_pair(self.rt, &paths).is_err() {
-                break;
+        let mut count = 0u64;
+        for _ in 0..self.surplus() {
+            match self.remove_oldest() {
+                Some(true) => count = count.saturating_add(1),
+                Some(false) => {}
+                None => break,
             }
-            self.pairs.remove(0);
-            removed = removed.saturating_add(1);
         }
-        removed
+        count
+    }
+}
+
+/// Removes a pair. False where somebody did already; None where it can't be removed.
+fn removed<R: Files + AllocGlobal>(rt: &R, folder: &str, key: Key) -> Option<bool> {
+    let Ok(paths) = paths_of(rt.alloc(), folder, key) else {
+        return None;
+    };
+    match remove_pair(rt, &paths) {
+        Ok(()) => Some(true),
+        Err(error) => (error.kind() == ErrorKind::NotFound).then_some(false),
     }
 }
 

@@ -5,7 +5,7 @@ use crate::folder::{
     take_back,
 };
 use dfr_station::{Key, key_in};
-use std::fs::{File, TryLockError};
+use std::fs::{File, OpenOptions, TryLockError};
 use std::io::ErrorKind;
 use std::rt::Files;
 use std::{fs, io};
@@ -101,6 +101,28 @@ impl<R: Files + AllocGlobal + Clone + Drop> Folder<'_, R> {
         Ok(())
     }
 
+    /// Makes a file in the folder, and removes it.
+    fn probe(&self) -> io::Result<()> {
+        let mut path = String::from_str(self.rt.alloc(), self.path.as_str())?;
+        path.push_str("/.dfrd.part")?;
+        match OpenOptions::new()
+            .write(true)
+            .create_new(true)
+            .open(self.rt, path.as_str())
+        {
+            Ok(_) => fs::remove_file(self.rt, path.as_str()),
+            Err(error) => Err(error),
+        }
+    }
+
+    /// Whether no file may be made in the folder. A full disk is no such fault: it may have room when the first record comes.
+    fn is_denied(&self) -> bool {
+        match self.probe() {
+            Ok(()) => false,
+            Err(error) => fault_of(&error) == FolderFault::Denied,
+        }
+    }
+
     /// How many bytes a pair has.
     fn size_of_pair(&self, key: Key) -> io::Result<u64> {
         let paths = paths_of(self.rt.alloc(), self.path.as_str(), key)?;
@@ -141,6 +163,9 @@ impl<R: Files<File = File> + AllocGlobal + Clone + Drop> Records for Folder<'_, 
         };
         self.path = path;
         self.keep = keep;
+        if self.is_denied() {
+            return Err(FolderFault::Denied);
+        }
         match self.find_pairs() {
             Ok(()) => Ok(()),
             Err(error) => Err(fault_of(&error)),

@@ -156,7 +156,7 @@ where
         return 0;
     }
     match operator_of(rt, asked) {
-        Ok(operator) => record(rt, asked, plan, operator, input, records, printer),
+        Ok(operator) => record(rt, asked, &plan, operator, input, records, printer),
         Err(status) => status,
     }
 }

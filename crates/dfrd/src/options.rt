@@ -21,7 +21,10 @@ fn word<'a>(alloc: Global, name: &'a str, help: &'a str) -> Arg<'a> {
 
 /// An option with a value.
 fn choice<'a>(alloc: Global, long: &'a str, value: &'a str, help: &'a str) -> Arg<'a> {
-    Arg::new(alloc, long).long(long).value_name(value).help(help)
+    Arg::new(alloc, long)
+        .long(long)
+        .value_name(value)
+        .help(help)
 }
 
 /// An option without a value.
@@ -59,8 +62,7 @@ fn with_forms<'a>(alloc: Global, command: Command<'a>) -> Result<Command<'a>, Al
 
 /// An operator's orders, and which pairs are kept.
 fn with_paths<'a>(alloc: Global, command: Command<'a>) -> Result<Command<'a>, AllocError> {
-    let orders =
-        "A FIFO, or a file that grows, with lines `trigger` and `rules ..` of an operator";
+    let orders = "A FIFO, or a file that grows, with lines `trigger` and `rules ..` of an operator";
     let one = with(command, choice(alloc, "orders", "PATH", orders))?;
     let two = with(
         one,
