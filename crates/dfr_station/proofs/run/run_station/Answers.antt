@@ -5,4 +5,4 @@ use Rattle.dfr_station.proofs.run.run_station.Goals as goal
 
 pub returns-after-is_recording : goal.returns-after-is_recording
 returns-after-is_recording g c =
-    subst (λ (o : Opening). Leaves o c.in_ok-left-in-Ok.left.ended) c.in-Ok.ensures.opened.0 c.in_ok-left-in-Ok.ensures
+    subst (λ (o : Opening). Leaves o c.in_ok-left-in-Ok-open.left.ended) c.in-Ok-open.ensures.opened.0 c.in_ok-left-in-Ok-open.ensures
