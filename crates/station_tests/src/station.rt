@@ -76,7 +76,17 @@ impl Printer for Told {
 
 /// Whether a text was printed.
 pub fn is_told(told: &Told, text: &[u8]) -> bool {
-    told.text.windows(text.len()).any(|part| part == text)
+    let mut rest = told.text.as_slice();
+    for _ in 0..told.text.len() {
+        if rest.starts_with(text) {
+            return true;
+        }
+        match rest {
+            [_, tail @ ..] => rest = tail,
+            [] => return false,
+        }
+    }
+    false
 }
 
 /// What a station leaves in the store and at the printer.
