@@ -13,6 +13,7 @@ made() {
 }
 seen() { # a folder, and what the record in it is called
     local of=$folder/$1 verb
+    rm -f "$of"/new.* "$of"/same.*
     for verb in show csv plot page 'csv --to 1 --channels IA' events; do
         "$comtrade" $verb "$of/$2" > "$of/got" 2> "$of/told"
         local status=$?

@@ -119,6 +119,30 @@ fn put_head_counts<A: Allocator>(
     put_count(out, rows, " row", " rows")
 }
 
+/// Puts the first fault of a pair in words, and whether `import` reads it; or that it has none, and what is odd about it: whether it has none.
+fn put_verdict<A: Allocator + Copy>(
+    alloc: A,
+    out: &mut Vec<u8, A>,
+    pair: Pair<'_>,
+) -> Result<bool, ToolFault>
+    ensures sound { IfOk result (λ r. r ≡ true → IsFile pair.entry.cfg.now pair.entry.dat.now) }
+    ensures faulty { IfOk result (λ r. r ≡ false → IsNoFile pair.entry.cfg.now pair.entry.dat.now) }
+{
+    match read(alloc, pair.cfg, pair.dat) {
+        Ok(file) => {
+            put_sound(out, pair, &file.head)?;
+            put_remarks(alloc, out, pair, &file)?;
+            Ok(true)
+        }
+        Err((_, ReadFault::Memory)) => Err(ToolFault::Memory),
+        Err((part, fault)) => {
+            put_fault(alloc, out, pair, Fault { part, fault })?;
+            put_hint(alloc, out, pair)?;
+            Ok(false)
+        }
+    }
+}
+
 /// Prints the first fault of a pair in words, and whether `import` reads it; or that it has none, and what is odd about it. True where it
 /// has none, and then the pair reads to a file; false where it has one, and then it reads to none.
 pub fn check_over<A: Allocator + Copy, W: Write>(
@@ -130,19 +154,7 @@ pub fn check_over<A: Allocator + Copy, W: Write>(
     ensures faulty { IfOk result (λ r. r ≡ false → IsNoFile pair.entry.cfg.now pair.entry.dat.now) }
 {
     let mut out = Vec::new(alloc);
-    let is_sound = match read(alloc, pair.cfg, pair.dat) {
-        Ok(file) => {
-            put_sound(&mut out, pair, &file.head)?;
-            put_remarks(alloc, &mut out, pair, &file)?;
-            true
-        }
-        Err((_, ReadFault::Memory)) => return Err(ToolFault::Memory),
-        Err((part, fault)) => {
-            put_fault(alloc, &mut out, pair, Fault { part, fault })?;
-            put_hint(alloc, &mut out, pair)?;
-            false
-        }
-    };
+    let is_sound = put_verdict(alloc, &mut out, pair)?;
     write_out(w, &out)?;
     Ok(is_sound)
 }

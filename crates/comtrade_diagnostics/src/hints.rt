@@ -67,7 +67,11 @@ fn put_natures<A: Allocator>(
 
 /// That `import` reads the files, with the keys of its repairs.
 fn put_reads<A: Allocator>(out: &mut Vec<u8, A>, notes: &[Note<A>]) -> Result<(), AllocError> {
-    put(out, "`comtrade import` reads it (")?;
+    put(out, "`comtrade import` reads it")?;
+    if notes.is_empty() {
+        return put(out, "\n");
+    }
+    put(out, " (")?;
     let mut is_first = true;
     for note in notes {
         put_piece(out, &mut is_first, note.key().name())?;
