@@ -119,7 +119,8 @@ fn put_head_counts<A: Allocator>(
     put_count(out, rows, " row", " rows")
 }
 
-/// Puts the first fault of a pair in words, and whether `import` reads it; or that it has none, and what is odd about it: whether it has none.
+/// Puts the first fault of a pair in words, and whether `import` reads it; or that it has none, and what is odd about it. True where it has
+/// none.
 fn put_verdict<A: Allocator + Copy>(
     alloc: A,
     out: &mut Vec<u8, A>,
