@@ -44,8 +44,10 @@ refused() { # what is tried, standard input, the program's words
 }
 first="files/first.cfg files/first.dat"
 refused show /dev/null show $first
-refused 'show a fault' /dev/null show files/first.cfg files/cut.dat
+refused 'show a fault' /dev/null show --strict files/first.cfg files/cut.dat
+refused 'show repairs' /dev/null show files/first.cfg files/cut.dat
 refused check /dev/null check $first
+refused 'check a fault' /dev/null check files/first.cfg files/cut.dat
 refused csv files/first.dat csv files/first.cfg -
 refused plot /dev/null plot $first
 refused convert /dev/null convert --kind binary $first "$folder/made/pair"

@@ -27,7 +27,7 @@ said extract
 said show "$(printf 'no\033file')" files/first.dat
 said show files/first.cfg files/no-file
 said show files files/first.dat
-said show files/counts.cfg files/first.dat
+said show --strict files/counts.cfg files/first.dat
 # what could be taken for an option stands after --
 said check -- --loud files/first.dat
 exec 3>&1

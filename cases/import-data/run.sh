@@ -2,9 +2,11 @@
 . files/import/pair.sh
 pair row-cut '' '$d;4s/871.*/87/' '9s/4/3/' '4d'
 pair numbers-from-0 '' '1s/^1/0/;2s/^2/1/;3s/^3/2/;4s/^4/3/' '' ''
+pair numbers-empty '' 's/^[0-9]*,/,/' '' ''
 pair rows-lost '9s/4/7/' '3s/3,2000/6,5000/;4s/4,3000/7,6000/' '8s/1/0/;9s/1000/0/' '3s/2000/5000/;4s/3000/6000/'
 pair stamps-again '' '3s/2000/0/;4s/3000/1000/' '' ''
 pair stamps-of-ms '' 's/000,/,/' '' ''
+pair timemult-of-ms '13s/1/1000/' '' '' ''
 pair stamps-all-0 '' 's/,[0-9]*,/,0,/' '' ''
 pair stamps-of-ns '' '2,4s/000,/000000,/' '' ''
 pair stamps-from-5000 '' '1s/,0,/,5000,/;2s/1000/6000/;3s/2000/7000/;4s/3000/8000/' '' ''

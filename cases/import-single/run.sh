@@ -11,6 +11,7 @@ single() {
 single text '--- file type: CFG ---\r\n' '--- file type: INF ---\r\n--- file type: HDR ---\r\n--- file type: DAT ASCII ---\r\n' ''
 single with-texts '--- file type: CFG ---\r\n' '--- file type: INF ---\r\n[A]\r\n--- file type: HDR ---\r\n--- told ---\r\n--- file type: DAT ASCII ---\r\n' ''
 single spelled '---file type: cfg---\r\n' '---FILE TYPE: DAT ASCII---\r\n' '\x1a'
+single dat-without-kind '--- file type: CFG ---\r\n' '--- file type: DAT ---\r\n' ''
 binary() { # name; the count that is said; what stands after the data
     mkdir "$folder/$1"
     cp $binary.cfg "$folder/$1/want.cfg"

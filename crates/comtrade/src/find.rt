@@ -6,18 +6,20 @@ use std::alloc::{AllocError, Global};
 use std::fs;
 use std::rt::Files;
 
-/// What both files of a pair are called.
+/// What the files of a record are called; of a single file one name.
 #[derive(Drop)]
 pub(crate) struct Pairing {
     pub(crate) cfg: String,
-    pub(crate) dat: String,
+    pub(crate) dat: Option<String>,
 }
 
-/// Which file of a pair.
+/// Which file of a record.
 #[derive(Clone, Copy, PartialEq, Eq)]
 enum Ending {
     Cfg,
     Dat,
+    /// Both in a single file.
+    Cff,
 }
 
 impl Ending {
@@ -25,6 +27,7 @@ impl Ending {
         match self {
             Ending::Cfg => ".cfg",
             Ending::Dat => ".dat",
+            Ending::Cff => ".cff",
         }
     }
 }
@@ -41,10 +44,13 @@ fn without_ending(name: &str, ending: Ending) -> Option<&str> {
     }
 }
 
-/// Which file of a pair a name is, and what both are called; a name of neither is what both are called.
+/// Which file of a record a name is, and what all are called; a name of none is what all are called.
 fn stem_of(name: &str) -> (Option<Ending>, &str) {
     if let Some(stem) = without_ending(name, Ending::Cfg) {
         return (Some(Ending::Cfg), stem);
+    }
+    if let Some(stem) = without_ending(name, Ending::Cff) {
+        return (Some(Ending::Cff), stem);
     }
     match without_ending(name, Ending::Dat) {
         Some(stem) => (Some(Ending::Dat), stem),
@@ -160,16 +166,42 @@ fn refuse_partner<R: Eprint + AllocGlobal>(rt: &R, name: &str, ending: Ending) -
     None
 }
 
-/// The files of a pair by one name; none where one isn't there, which is said.
+/// The single file of a name that is its own, or that has no ending; standard input is one.
+fn found_single<R: Files + AllocGlobal + Clone + Drop>(
+    rt: &R,
+    name: &str,
+) -> Result<Option<Pairing>, AllocError> {
+    let found = match stem_of(name).0 {
+        None if name == "-" => Some(String::from_str(rt.alloc(), name)?),
+        None | Some(Ending::Cff) => file_for(rt, name, Ending::Cff)?,
+        _ => None,
+    };
+    match found {
+        Some(cfg) => Ok(Some(Pairing { cfg, dat: None })),
+        None => Ok(None),
+    }
+}
+
+/// The files of a record by one name; none where one isn't there, which is said.
 fn found_pair<R: Files + Eprint + AllocGlobal + Clone + Drop>(
     rt: &R,
     name: &str,
 ) -> Result<Option<Pairing>, AllocError> {
+    if stem_of(name).0 == Some(Ending::Cff) {
+        return found_single(rt, name);
+    }
     let Some(cfg) = file_for(rt, name, Ending::Cfg)? else {
-        return Ok(refuse_partner(rt, name, Ending::Cfg));
+        let single = found_single(rt, name)?;
+        return Ok(match single {
+            Some(single) => Some(single),
+            None => refuse_partner(rt, name, Ending::Cfg),
+        });
     };
     match file_for(rt, name, Ending::Dat)? {
-        Some(dat) => Ok(Some(Pairing { cfg, dat })),
+        Some(dat) => Ok(Some(Pairing {
+            cfg,
+            dat: Some(dat),
+        })),
         None => Ok(refuse_partner(rt, name, Ending::Dat)),
     }
 }
@@ -194,6 +226,6 @@ pub(crate) fn pairing_of<R: Files + Eprint + AllocGlobal + Clone + Drop>(
 
 fn named_pair(alloc: Global, cfg: &str, dat: &str) -> Result<Option<Pairing>, AllocError> {
     let cfg = String::from_str(alloc, cfg)?;
-    let dat = String::from_str(alloc, dat)?;
+    let dat = Some(String::from_str(alloc, dat)?);
     Ok(Some(Pairing { cfg, dat }))
 }

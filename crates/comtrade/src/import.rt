@@ -1,10 +1,10 @@
 //! `comtrade import`: files as relays write them become a pair of 1999.
 
-use crate::source::{Source, read_source};
+use crate::load::{put_notes, read_inputs, refuse_import};
 use crate::write::{is_name, write_named};
-use crate::{complain, out_of_memory, say};
-use comtrade_cli::{put, put_safe, write_out};
-use comtrade_import::{Choices, ImportFault, Imported, Key, Order, import, import_single};
+use crate::{complain, out_of_memory};
+use comtrade_cli::{Names, write_out};
+use comtrade_import::{Choices, Imported, Key, Order, import, import_single};
 use std::alloc::AllocError;
 use std::io;
 use std::rt::Files;
@@ -127,30 +127,6 @@ fn wanted_of<'a, R: AllocGlobal>(rt: &R, words: &[&'a str]) -> Result<Wanted<'a>
     }
 }
 
-/// Why files can't be imported, on standard error.
-fn refuse<R: Eprint + AllocGlobal>(rt: &R, file: &str, fault: ImportFault) -> u8 {
-    if let ImportFault::Memory = fault {
-        return out_of_memory(rt);
-    }
-    let mut text = Vec::new(rt.alloc());
-    if put_safe(&mut text, file.as_bytes()).is_err() {
-        return out_of_memory(rt);
-    }
-    let _ = eprint!(rt; "comtrade: ");
-    say(rt, &text);
-    let _ = eprintln!(rt; ": {fault}");
-    1
-}
-
-/// The repairs, a line each.
-pub(crate) fn put_notes(out: &mut Vec<u8>, imported: &Imported) -> Result<(), AllocError> {
-    for note in imported.notes.iter() {
-        note.put_line(out)?;
-        put(out, "\n")?;
-    }
-    Ok(())
-}
-
 /// The first repair that isn't wanted.
 fn unwanted(imported: &Imported, refused: &[Key]) -> Option<Key> {
     for note in imported.notes.iter() {
@@ -176,7 +152,7 @@ fn write<R: Files + Print + Eprint + AllocGlobal>(
         return 1;
     }
     let mut lines = Vec::new(rt.alloc());
-    if put_notes(&mut lines, imported).is_err() {
+    if put_notes(&mut lines, &imported.notes).is_err() {
         return out_of_memory(rt);
     }
     let status = write_named(rt, name, &imported.cfg, &imported.dat);
@@ -190,7 +166,7 @@ fn write<R: Files + Print + Eprint + AllocGlobal>(
 }
 
 /// Imports what two or three names name.
-fn run_wanted<R: Files + Input + Print + Eprint + AllocGlobal>(
+fn run_wanted<R: Files + Input + Print + Eprint + AllocGlobal + Clone + Drop>(
     rt: &R,
     wanted: &Wanted<'_>,
     file: &str,
@@ -203,16 +179,17 @@ fn run_wanted<R: Files + Input + Print + Eprint + AllocGlobal>(
     let choices = Choices {
         dates: wanted.dates,
     };
-    let Some(source) = read_source(rt, file, dat) else {
+    let Some(inputs) = read_inputs(rt, Names { file, dat }) else {
         return 1;
     };
-    let done = match source {
-        Source::Pair(cfg, dat) => import(rt.alloc(), &cfg, &dat, choices),
-        Source::Single(cff) => import_single(rt.alloc(), &cff, choices),
+    let done = if inputs.is_single() {
+        import_single(rt.alloc(), &inputs.cfg, choices)
+    } else {
+        import(rt.alloc(), &inputs.cfg, &inputs.dat, choices)
     };
     match done {
         Ok(imported) => write(rt, &imported, wanted, name),
-        Err(fault) => refuse(rt, file, fault),
+        Err(fault) => refuse_import(rt, file, fault),
     }
 }
 
@@ -224,7 +201,7 @@ fn refuse_words<R: Eprint>(rt: &R) -> u8 {
 }
 
 /// Does what the words after `import` ask for.
-pub(crate) fn run_import<R: Files + Input + Print + Eprint + AllocGlobal>(
+pub(crate) fn run_import<R: Files + Input + Print + Eprint + AllocGlobal + Clone + Drop>(
     rt: &R,
     words: &[&str],
 ) -> u8 {

@@ -5,22 +5,22 @@
 mod extract;
 mod find;
 mod import;
-mod source;
+mod load;
 mod survey;
 mod view;
 mod write;
 
 use crate::extract::run_extract;
-use crate::find::{Pairing, pairing_of};
 use crate::import::run_import;
+use crate::load::{Inputs, pair_of, read_inputs, read_pair};
 use crate::survey::run_survey;
 use crate::view::view_over;
 use crate::write::run_convert;
 use comtrade_cli::{
-    Answer, Asked, Names, ToolFault, View, Viewed, answer_of, fault_of, put, put_safe, read_up_to,
+    Answer, Asked, ToolFault, View, Viewed, answer_of, fault_of, put, put_safe, read_up_to,
     write_out,
 };
-use comtrade_diagnostics::Pair;
+use comtrade_diagnostics::{Pair, put_single};
 use comtrade_read::{read_cfg, verdict_of};
 use std::alloc::{AllocError, Allocator};
 use std::fs::File;
@@ -115,7 +115,10 @@ fn print_view<R: Print + Eprint + AllocGlobal>(
         &mut io::writer(rt),
         &mut said,
     ) {
-        Ok(true) => 0,
+        Ok(true) => {
+            say(rt, &said);
+            0
+        }
         Ok(false) => {
             say(rt, &said);
             note_swapped(rt, pair);
@@ -144,39 +147,6 @@ fn verdict<R: Eprint + AllocGlobal>(rt: &R, pair: Pair<'_>) -> u8 {
     }
 }
 
-/// What both files of a pair are called, and their bytes.
-#[derive(Drop)]
-pub(crate) struct Inputs {
-    names: Pairing,
-    cfg: Vec<u8>,
-    dat: Vec<u8>,
-}
-
-/// Reads a file; none where that was refused, which is said.
-pub(crate) fn read_input<R: Files + Input + Eprint + AllocGlobal>(
-    rt: &R,
-    name: &str,
-) -> Option<Vec<u8>> {
-    match read_named(rt, name) {
-        Ok(bytes) => Some(bytes),
-        Err(fault) => {
-            complain(rt, shown(name), fault);
-            None
-        }
-    }
-}
-
-/// Reads a pair; none where that was refused, which is said.
-pub(crate) fn read_inputs<R: Files + Input + Eprint + AllocGlobal + Clone + Drop>(
-    rt: &R,
-    names: Names<'_>,
-) -> Option<Inputs> {
-    let names = pairing_of(rt, names)?;
-    let cfg = read_input(rt, names.cfg.as_str())?;
-    let dat = read_input(rt, names.dat.as_str())?;
-    Some(Inputs { names, cfg, dat })
-}
-
 /// Says how much there is to do, where it may last over a second and someone sees it.
 pub(crate) fn note_size<R: Eprint>(rt: &R, is_watched: bool, inputs: &Inputs) {
     let bytes = inputs.cfg.len().saturating_add(inputs.dat.len());
@@ -186,17 +156,15 @@ pub(crate) fn note_size<R: Eprint>(rt: &R, is_watched: bool, inputs: &Inputs) {
     }
 }
 
-/// What a file is called in messages.
-fn shown(name: &str) -> &str {
-    if name == "-" { "standard input" } else { name }
-}
-
-pub(crate) fn pair_of(inputs: &Inputs) -> Pair<'_> {
-    Pair {
-        cfg_name: shown(inputs.names.cfg.as_str()).as_bytes(),
-        cfg: &inputs.cfg,
-        dat_name: shown(inputs.names.dat.as_str()).as_bytes(),
-        dat: &inputs.dat,
+/// Says that a single file is no pair, and whether `import` reads it.
+fn check_single<R: Print + Eprint + AllocGlobal>(rt: &R, inputs: &Inputs) -> u8 {
+    let mut out = Vec::new(rt.alloc());
+    match put_single(rt.alloc(), &mut out, pair_of(inputs)) {
+        Ok(()) => {
+            print_bytes(rt, &out);
+            1
+        }
+        Err(_) => out_of_memory(rt),
     }
 }
 
@@ -207,8 +175,15 @@ fn run_view<R: Files + Input + Print + Eprint + AllocGlobal + Clone + Drop>(
     view: View,
     viewed: Viewed<'_>,
 ) -> u8 {
-    match read_inputs(rt, viewed.names) {
+    let inputs = if view == View::Check {
+        read_inputs(rt, viewed.names)
+    } else {
+        read_pair(rt, viewed.names, viewed.part.strict)
+    };
+    match inputs {
+        Some(inputs) if inputs.is_single() && view == View::Check => check_single(rt, &inputs),
         Some(inputs) => {
+            say(rt, &inputs.said);
             note_size(rt, is_watched, &inputs);
             print_view(rt, view, viewed, pair_of(&inputs))
         }

@@ -1,28 +1,32 @@
 //! The commands over many pairs.
 
-use crate::view::file_in;
-use crate::{Inputs, complain, is_folder, pair_of, print_bytes, read_inputs, say};
-use comtrade_cli::{Names, Survey, ToolFault, fault_of};
+use crate::load::{Inputs, file_in, pair_of, read_pair};
+use crate::{complain, is_folder, print_bytes, say};
+use comtrade_cli::{Names, Survey, ToolFault, fault_of, put, put_safe};
+use comtrade_format::File;
 use comtrade_views::{
     Event, Summary, add_events, fault_summary, put_events, put_summaries, sort_events,
     sort_summaries, summary_of,
 };
-use std::alloc::AllocError;
+use std::alloc::{AllocError, Global};
 use std::fs;
 use std::rt::Files;
 
-/// Whether a name is that of a configuration file.
+/// Whether a name is that of a configuration file, or of a single file.
 fn is_cfg(name: &str) -> bool {
     match name.len().checked_sub(4) {
         Some(at) => match name.get(at..) {
-            Some(ending) => 0 < at && ending.eq_ignore_ascii_case(".cfg"),
+            Some(ending) => {
+                0 < at
+                    && (ending.eq_ignore_ascii_case(".cfg") || ending.eq_ignore_ascii_case(".cff"))
+            }
             None => false,
         },
         None => false,
     }
 }
 
-/// The configuration files of a folder, in the order of their names.
+/// The configuration files and single files of a folder, in the order of their names.
 fn cfgs_of<R: Files + AllocGlobal + Clone + Drop>(
     rt: &R,
     folder: &str,
@@ -89,6 +93,40 @@ struct Found {
     is_sound: bool,
 }
 
+/// Says what was repaired of a record: lines, each after its name.
+fn say_repairs<R: Eprint + AllocGlobal>(rt: &R, name: &str, lines: &[u8]) -> Result<(), ToolFault> {
+    let mut text = Vec::new(rt.alloc());
+    for line in str::from_utf8(lines).unwrap_or("").lines() {
+        put_safe(&mut text, name.as_bytes())?;
+        put(&mut text, ": ")?;
+        put_safe(&mut text, line.as_bytes())?;
+        put(&mut text, "\n")?;
+    }
+    say(rt, &text);
+    Ok(())
+}
+
+/// Adds a record that was read.
+fn add_file(
+    alloc: Global,
+    survey: Survey,
+    found: &mut Found,
+    file: &File,
+    name: &str,
+) -> Result<(), ToolFault> {
+    match survey {
+        Survey::List => found
+            .records
+            .push(summary_of(alloc, file, name.as_bytes())?)?,
+        Survey::Events => {
+            let place = found.names.len();
+            found.names.push(String::from_str(alloc, name)?)?;
+            add_events(alloc, &mut found.events, file, place)?;
+        }
+    }
+    Ok(())
+}
+
 /// Adds one pair that was read.
 fn add_pair<R: AllocGlobal + Eprint>(
     rt: &R,
@@ -99,17 +137,12 @@ fn add_pair<R: AllocGlobal + Eprint>(
 ) -> Result<(), ToolFault> {
     let alloc = rt.alloc();
     let mut said = Vec::new(alloc);
-    match file_in(alloc, pair_of(inputs), &mut said)? {
-        Some(file) => match survey {
-            Survey::List => found
-                .records
-                .push(summary_of(alloc, &file, name.as_bytes())?)?,
-            Survey::Events => {
-                let place = found.names.len();
-                found.names.push(String::from_str(alloc, name)?)?;
-                add_events(alloc, &mut found.events, &file, place)?;
-            }
-        },
+    say_repairs(rt, name, &inputs.said)?;
+    match file_in(alloc, pair_of(inputs), false, &mut said)? {
+        Some(file) => {
+            say_repairs(rt, name, &said)?;
+            add_file(alloc, survey, found, &file, name)?;
+        }
         None => {
             found.is_sound = false;
             match survey {
@@ -135,7 +168,7 @@ fn add_pairs<R: Files + Input + Eprint + AllocGlobal + Clone + Drop>(
             file: pair.as_str(),
             dat: None,
         };
-        match read_inputs(rt, name) {
+        match read_pair(rt, name, false) {
             Some(inputs) => add_pair(rt, survey, found, &inputs, pair.as_str())?,
             None => found.is_sound = false,
         }

@@ -1,11 +1,11 @@
 //! What is said of a pair of files.
 
+use crate::load::file_in;
 use comtrade_cli::{Part, Picture, ToolFault, View, Viewed, put, put_safe};
-use comtrade_diagnostics::{Pair, check_over, put_fault};
+use comtrade_diagnostics::{Pair, check_over};
 use comtrade_format::File;
 use comtrade_part::{PartFault, is_whole, part_of};
 use comtrade_plot::{PlotOptions, page_over, plot_over};
-use comtrade_read::{Fault, ReadFault, read};
 use comtrade_views::{Spelling, csv_over, show_over, times_since_trigger};
 use std::alloc::Allocator;
 use std::io::Write;
@@ -51,22 +51,6 @@ fn options_of(picture: Picture<'_>) -> Option<PlotOptions> {
         width: pixels_of(picture.width.unwrap_or("")),
         height: pixels_of(picture.height.unwrap_or("")),
     })
-}
-
-/// The file that a pair reads to; None where it has a fault, whose line is put to `said`.
-pub(crate) fn file_in<A: Allocator + Copy>(
-    alloc: A,
-    pair: Pair<'_>,
-    said: &mut Vec<u8, A>,
-) -> Result<Option<File<A>>, ToolFault> {
-    match read(alloc, pair.cfg, pair.dat) {
-        Ok(file) => Ok(Some(file)),
-        Err((_, ReadFault::Memory)) => Err(ToolFault::Memory),
-        Err((part, fault)) => {
-            put_fault(alloc, said, pair, Fault { part, fault })?;
-            Ok(None)
-        }
-    }
 }
 
 /// Prints what is asked of a file, whose rows were taken at these times, in nanoseconds since the trigger.
@@ -129,7 +113,7 @@ fn put_part<A: Allocator + Copy, W: Write>(
 }
 
 /// Prints what is asked of a part of a pair: false where the pair has a fault, or no such part. The fault's line is what `Check` prints;
-/// the others put it to `said` and print nothing.
+/// the others put it to `said` and print nothing. The repairs of a pair that isn't read exactly are put to `said`, too.
 pub(crate) fn view_over<A: Allocator + Copy, W: Write>(
     alloc: A,
     view: View,
@@ -150,7 +134,7 @@ pub(crate) fn view_over<A: Allocator + Copy, W: Write>(
         return Ok(false);
     };
     let look = Look { spelling, options };
-    let Some(file) = file_in(alloc, pair, said)? else {
+    let Some(file) = file_in(alloc, pair, viewed.part.strict, said)? else {
         return Ok(false);
     };
     let times = times_since_trigger(alloc, &file)?;

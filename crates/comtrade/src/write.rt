@@ -1,9 +1,10 @@
 //! Writing pairs of files that are not there yet.
 
-use crate::view::{file_in, put_part_fault};
-use crate::{Inputs, complain, note_size, out_of_memory, pair_of, read_inputs, say};
+use crate::load::{Inputs, file_in, pair_of, read_pair};
+use crate::view::put_part_fault;
+use crate::{complain, note_size, out_of_memory, say};
 use comtrade_cli::{Converted, ToolFault, fault_of, put_safe, write_out};
-use comtrade_diagnostics::{Pair, put_fault, put_refusal};
+use comtrade_diagnostics::{Pair, put_refusal};
 use comtrade_format::{File as Record, Kind, WriteFault};
 use comtrade_part::{PartFault, is_whole, part_of, written_of};
 use comtrade_read::{ConvertFault, converted};
@@ -82,9 +83,8 @@ fn refuse_pair<R: Eprint + AllocGlobal>(
 ) -> u8 {
     let mut said = Vec::new(rt.alloc());
     let put = match fault {
-        ConvertFault::Read(fault) => put_fault(rt.alloc(), &mut said, pair, fault),
         ConvertFault::Write(fault) => put_refusal(rt.alloc(), &mut said, pair, kind, fault),
-        ConvertFault::Memory => Err(AllocError),
+        _ => Err(AllocError),
     };
     match put {
         Ok(()) => {
@@ -127,15 +127,18 @@ fn write_part<R: Files + Eprint + AllocGlobal>(rt: &R, asked: Converted<'_>, fil
     }
 }
 
-/// Converts a part of a pair.
+/// Converts a part of a pair, or a pair that isn't read exactly.
 fn convert_part<R: Files + Eprint + AllocGlobal>(
     rt: &R,
     asked: Converted<'_>,
     inputs: &Inputs,
 ) -> u8 {
     let mut said = Vec::new(rt.alloc());
-    match file_in(rt.alloc(), pair_of(inputs), &mut said) {
-        Ok(Some(file)) => write_part(rt, asked, &file),
+    match file_in(rt.alloc(), pair_of(inputs), asked.part.strict, &mut said) {
+        Ok(Some(file)) => {
+            say(rt, &said);
+            write_part(rt, asked, &file)
+        }
         Ok(None) => {
             say(rt, &said);
             1
@@ -152,6 +155,7 @@ fn convert_whole<R: Files + Eprint + AllocGlobal>(
 ) -> u8 {
     match converted(rt.alloc(), &inputs.cfg, &inputs.dat, asked.kind) {
         Ok(made) => write_named(rt, asked.name, &made.cfg, &made.dat),
+        Err(ConvertFault::Read(_)) => convert_part(rt, asked, inputs),
         Err(fault) => refuse_pair(rt, asked.kind, pair_of(inputs), fault),
     }
 }
@@ -195,9 +199,10 @@ pub(crate) fn run_convert<R: Files + Input + Eprint + AllocGlobal + Clone + Drop
     if !is_name(rt, asked.name) {
         return 2;
     }
-    let Some(inputs) = read_inputs(rt, asked.names) else {
+    let Some(inputs) = read_pair(rt, asked.names, asked.part.strict) else {
         return 1;
     };
+    say(rt, &inputs.said);
     note_size(rt, is_watched, &inputs);
     if is_whole(asked.part) {
         convert_whole(rt, asked, &inputs)

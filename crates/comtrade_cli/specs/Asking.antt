@@ -39,7 +39,7 @@ pub record AreNames (rows : List Row) (names : Names) : Type 0 where
   pub dat : IsOption rows (codes "DAT") names.dat
   pub named : IsNamed names.file.now (option_map (λ s. s.now) names.dat)
 
--- which part of a record is meant
+-- which part of a record is meant, and how its files are read
 pub record ArePart (rows : List Row) (part : Part) : Type 0 where
   pub from : IsOption rows (codes "from") part.from
   pub to : IsOption rows (codes "to") part.to
@@ -47,6 +47,7 @@ pub record ArePart (rows : List Row) (part : Part) : Type 0 where
   pub changed : IsFlag rows (codes "changed") part.changed
   pub primary : IsFlag rows (codes "primary") part.primary
   pub secondary : IsFlag rows (codes "secondary") part.secondary
+  pub strict : IsFlag rows (codes "strict") part.strict
 
 -- how a table of values is written
 pub record AreForm (rows : List Row) (form : Form) : Type 0 where

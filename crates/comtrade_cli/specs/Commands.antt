@@ -35,11 +35,11 @@ kind_word kinds = record (word (codes "KIND")) {
   parser = Some (Names kinds);
 }
 
--- which part of a record is meant, and on which side
+-- which part of a record is meant, on which side, and how its files are read
 abbrev pub with_part : App → App
-with_part a = with_rule (with_rule (with_rule (with_rule (with_rule (with_rule a
+with_part a = with_rule (with_rule (with_rule (with_rule (with_rule (with_rule (with_rule a
     (option (codes "from"))) (option (codes "to"))) (option (codes "channels")))
-    (flag (codes "changed"))) (flag (codes "primary"))) (flag (codes "secondary"))
+    (flag (codes "changed"))) (flag (codes "primary"))) (flag (codes "secondary"))) (flag (codes "strict"))
 
 -- how a picture is drawn
 abbrev pub with_picture : App → App

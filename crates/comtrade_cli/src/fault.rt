@@ -23,6 +23,9 @@ pub enum ToolFault {
     /// A folder stands in a file's place.
     #[error("is a folder")]
     Folder,
+    /// A single file, where a pair is asked for.
+    #[error("is a single file, and no pair of 1999")]
+    Single,
     /// Links lead back to themselves.
     #[error("is a link that leads back to itself")]
     Loop,

@@ -77,6 +77,7 @@ pub(crate) fn part_of<'a>(found: &ArgMatches<'a>) -> Part<'a>
         changed: is_set(found, "changed"),
         primary: is_set(found, "primary"),
         secondary: is_set(found, "secondary"),
+        strict: is_set(found, "strict"),
     }
 }
 

@@ -89,7 +89,9 @@ pub(crate) fn with_part<'a>(alloc: Global, command: Command<'a>) -> Result<Comma
         five,
         flag(alloc, "secondary", "Values of the secondary side"),
     )?;
-    Ok(six)
+    let strict = "Only files of 1999 as the standard spells them, nothing repaired";
+    let seven = with(six, flag(alloc, "strict", strict))?;
+    Ok(seven)
 }
 
 /// How a picture is drawn.

@@ -10,7 +10,7 @@ pub struct Names<'a> {
     pub dat: Option<&'a str>,
 }
 
-/// Which part of a record is meant, and on which side of the transformers, as texts that are not parsed yet.
+/// Which part of a record is meant, on which side of the transformers, and how its files are read, as texts that are not parsed yet.
 #[derive(Clone, Copy, Debug)]
 pub struct Part<'a> {
     /// The first moment: milliseconds since the trigger, an instant, or `row N`.
@@ -25,6 +25,8 @@ pub struct Part<'a> {
     pub primary: bool,
     /// Values of the secondary side.
     pub secondary: bool,
+    /// Only files of 1999, as the standard spells them.
+    pub strict: bool,
 }
 
 /// How a table of values is written, as texts that are not parsed yet.

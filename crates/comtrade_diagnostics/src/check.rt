@@ -6,10 +6,12 @@ ghost use Rattle.comtrade_read.specs.Reads.{IsNoFile};
 
 use crate::describe::put_cfg_fault;
 use crate::describe_data::put_dat_fault;
+use crate::hints::put_hint;
 use crate::names::Counts;
+use crate::remarks::put_remarks;
 use comtrade_cli::{ToolFault, kind_name, put, put_count, put_safe, write_out};
-use comtrade_format::{Head, Kind};
-use comtrade_read::{Fault, Part, ReadFault, read_cfg, verdict_of};
+use comtrade_format::Head;
+use comtrade_read::{Fault, Part, ReadFault, read, read_cfg};
 use std::alloc::{AllocError, Allocator};
 use std::io::Write;
 
@@ -80,41 +82,19 @@ pub fn put_fault<A: Allocator + Copy>(
     put(out, "\n")
 }
 
-/// What is said of a pair that can be read.
-#[derive(Clone, Copy)]
-struct Sound {
-    kind: Kind,
-    counts: Counts,
-    rows: u64,
-}
-
-fn sound_of<A: Allocator + Copy>(alloc: A, cfg: &[u8]) -> Option<Sound> {
-    match read_cfg(alloc, cfg) {
-        Ok(head) => Some(Sound {
-            kind: head.kind,
-            counts: counts_of(&head),
-            rows: rows_of(&head),
-        }),
-        Err(_) => None,
-    }
-}
-
-/// The line of a pair that can be read.
-fn put_sound<A: Allocator + Copy>(
-    alloc: A,
+/// The line of a pair that can be read, with this head.
+fn put_sound<A: Allocator>(
     out: &mut Vec<u8, A>,
     pair: Pair<'_>,
+    head: &Head<A>,
 ) -> Result<(), AllocError> {
-    let Some(sound) = sound_of(alloc, pair.cfg) else {
-        return Err(AllocError);
-    };
     put_safe(out, pair.cfg_name)?;
     put(out, ", ")?;
     put_safe(out, pair.dat_name)?;
     put(out, ": no fault; ")?;
-    put(out, kind_name(sound.kind))?;
+    put(out, kind_name(head.kind))?;
     put(out, " data, ")?;
-    put_head_counts(out, sound.counts, sound.rows)?;
+    put_head_counts(out, counts_of(head), rows_of(head))?;
     put(out, "\n")
 }
 
@@ -139,8 +119,33 @@ fn put_head_counts<A: Allocator>(
     put_count(out, rows, " row", " rows")
 }
 
-/// Prints the first fault of a pair in words, or that it has none: true where it has none, and then the pair reads to a file;
-/// false where it has one, and then it reads to none.
+/// Puts the first fault of a pair in words, and whether `import` reads it; or that it has none, and what is odd about it. True where it has
+/// none.
+fn put_verdict<A: Allocator + Copy>(
+    alloc: A,
+    out: &mut Vec<u8, A>,
+    pair: Pair<'_>,
+) -> Result<bool, ToolFault>
+    ensures sound { IfOk result (λ r. r ≡ true → IsFile pair.entry.cfg.now pair.entry.dat.now) }
+    ensures faulty { IfOk result (λ r. r ≡ false → IsNoFile pair.entry.cfg.now pair.entry.dat.now) }
+{
+    match read(alloc, pair.cfg, pair.dat) {
+        Ok(file) => {
+            put_sound(out, pair, &file.head)?;
+            put_remarks(alloc, out, pair, &file)?;
+            Ok(true)
+        }
+        Err((_, ReadFault::Memory)) => Err(ToolFault::Memory),
+        Err((part, fault)) => {
+            put_fault(alloc, out, pair, Fault { part, fault })?;
+            put_hint(alloc, out, pair)?;
+            Ok(false)
+        }
+    }
+}
+
+/// Prints the first fault of a pair in words, and whether `import` reads it; or that it has none, and what is odd about it. True where it
+/// has none, and then the pair reads to a file; false where it has one, and then it reads to none.
 pub fn check_over<A: Allocator + Copy, W: Write>(
     alloc: A,
     pair: Pair<'_>,
@@ -150,11 +155,7 @@ pub fn check_over<A: Allocator + Copy, W: Write>(
     ensures faulty { IfOk result (λ r. r ≡ false → IsNoFile pair.entry.cfg.now pair.entry.dat.now) }
 {
     let mut out = Vec::new(alloc);
-    let found = verdict_of(alloc, pair.cfg, pair.dat)?;
-    match found {
-        None => put_sound(alloc, &mut out, pair)?,
-        Some(fault) => put_fault(alloc, &mut out, pair, fault)?,
-    }
+    let is_sound = put_verdict(alloc, &mut out, pair)?;
     write_out(w, &out)?;
-    Ok(found.is_none())
+    Ok(is_sound)
 }

@@ -5,8 +5,11 @@ mod check;
 mod describe;
 mod describe_data;
 mod forms;
+mod hints;
 mod names;
 mod refuse;
+mod remarks;
 
 pub use check::{Pair, check_over, put_fault};
+pub use hints::put_single;
 pub use refuse::put_refusal;

@@ -2,10 +2,10 @@
 
 use crate::check::Pair;
 use crate::describe::put_line_of;
+use crate::remarks::sample_in;
 use comtrade_cli::{put, put_safe, put_signed, put_with};
-use comtrade_format::{File, Kind, WriteFault};
+use comtrade_format::{Kind, WriteFault};
 use comtrade_read::read;
-use dfr_channels::Reading;
 use std::alloc::{AllocError, Allocator};
 
 /// A text's name by its field, and what a file can hold there.
@@ -34,20 +34,10 @@ fn put_text<A: Allocator + Copy>(
     put(out, " there")
 }
 
-/// The sample of a row and a channel, both counted from 1.
-fn sample_in<A: Allocator>(file: &File<A>, row: u64, channel: u32) -> Option<i32> {
-    let row = usize::try_from(row.checked_sub(1)?).ok()?;
-    let at = (channel as usize).checked_sub(1)?;
-    match file.rows.items().get(row)?.values.items().get(at)? {
-        Reading::Value(sample) => Some(*sample),
-        Reading::Missing => None,
-    }
-}
-
-/// The same of the file that a pair reads to.
+/// The sample of a row and a channel, both counted from 1, of the file that a pair reads to.
 fn sample_at<A: Allocator + Copy>(alloc: A, pair: Pair<'_>, row: u64, channel: u32) -> Option<i32> {
     match read(alloc, pair.cfg, pair.dat) {
-        Ok(file) => sample_in(&file, row, channel),
+        Ok(file) => sample_in(&file, row, u64::from(channel)),
         Err(_) => None,
     }
 }

@@ -4,17 +4,17 @@ use crate::draft::{Range, Said};
 use crate::fault::{ImportFault, Why};
 use crate::field::{Parts, joint_of};
 use crate::key::Key;
-use crate::lines::{Row, at, decimal_of, decimal_or, phase_of, tell_empty, text_of};
+use crate::lines::{Row, at, decimal_of, decimal_or, phase_of, text_of};
 use crate::note::{Notes, Place};
-use crate::num::spelled_of;
+use crate::range::range_of;
 use dfr_channels::{AnalogChannel, Decimal, Items, Side, integer_of};
 use std::alloc::Allocator;
 
 /// Where the fields of a line stand: those after the texts are so many to the right.
 #[derive(Clone, Copy)]
-struct Shape<'a> {
-    parts: Parts<'a>,
-    line: u64,
+pub(crate) struct Shape<'a> {
+    pub parts: Parts<'a>,
+    pub line: u64,
     /// Ten fields: no ratio and no side.
     is_short: bool,
 }
@@ -51,62 +51,6 @@ fn side_of<A: Allocator + Copy>(
         [b'P' | b'p'] => Ok(Side::Primary),
         [b'S' | b's'] => Ok(Side::Secondary),
         _ => Err(at(shape.line, Why::Side)),
-    }
-}
-
-/// A bound of the samples: a whole number that 1999 can hold.
-fn bound_of(text: &[u8]) -> Option<i32> {
-    let n = integer_of(text)?;
-    if -99_999 <= n && n <= 99_999 {
-        i32::try_from(n).ok()
-    } else {
-        None
-    }
-}
-
-/// A bound in another form, as a whole number where it is one that 1999 can hold.
-fn loose_bound(mark: u8, line: u64, text: &[u8]) -> Result<Option<i32>, ImportFault> {
-    let Some(spelled) = spelled_of(text, mark == b';') else {
-        return Err(at(line, Why::Number));
-    };
-    match spelled.num.whole() {
-        Some(n) if -99_999 <= n && n <= 99_999 => Ok(i32::try_from(n).ok()),
-        _ => Ok(None),
-    }
-}
-
-/// The least and the greatest sample, and how they are said.
-fn range_of<A: Allocator + Copy>(
-    notes: &mut Notes<A>,
-    mark: u8,
-    shape: Shape<'_>,
-) -> Result<(i32, i32, Range), ImportFault> {
-    let (low, high) = (shape.parts.at(8), shape.parts.at(9));
-    if low.is_empty() || high.is_empty() {
-        tell_empty(notes, shape.line, "min or max: as the data need")?;
-        return Ok((-32_767, 32_767, Range::Empty));
-    }
-    if let (Some(low), Some(high)) = (bound_of(low), bound_of(high)) {
-        if high < low {
-            notes.tell(Key::RangeSwapped, Place::Cfg(shape.line), &[])?;
-            return Ok((high, low, Range::Said));
-        }
-        let is_unsigned = 0 <= low && 32_767 < high;
-        return Ok((
-            low,
-            high,
-            if is_unsigned {
-                Range::Unsigned
-            } else {
-                Range::Said
-            },
-        ));
-    }
-    let low = loose_bound(mark, shape.line, low)?;
-    let high = loose_bound(mark, shape.line, high)?;
-    match (low, high) {
-        (Some(low), Some(high)) => Ok((low.min(high), low.max(high), Range::Other)),
-        _ => Ok((-32_767, 32_767, Range::Other)),
     }
 }
 

@@ -44,6 +44,14 @@ fn counted(row: Row<'_>) -> Option<Counts> {
         let (n, letter, is_odd) = count_of(row.parts.at(i))?;
         counts.is_odd = counts.is_odd || is_odd;
         match letter {
+            b'T' if i == 1 && counts.analog.is_none() => {
+                counts.analog = Some(n);
+                counts.is_odd = true;
+            }
+            b'T' if i == 2 && counts.status.is_none() => {
+                counts.status = Some(n);
+                counts.is_odd = true;
+            }
             b'T' if counts.total.is_none() => {
                 counts.total = Some(n);
                 counts.is_odd = counts.is_odd || i != 0;

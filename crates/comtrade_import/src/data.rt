@@ -5,65 +5,14 @@ use crate::draft::Draft;
 use crate::fault::{ImportFault, Why};
 use crate::key::Key;
 use crate::kinds::Form;
+use crate::look::{Look, look_as, look_at};
 use crate::note::{Notes, Place};
-use crate::packed_row::number_at;
-use crate::row::{Cells, Counts, Packed, Plan};
-use crate::text::has_only;
+use crate::row::{Cells, Counts, Plan};
+use crate::text::{has_only, without_empty_end};
 use crate::text_row::read_line;
 use dfr_channels::trim;
 use memchr::memchr;
 use std::alloc::Allocator;
-
-/// What data prove of a form.
-#[derive(Clone, Copy)]
-struct Look<'a> {
-    packed: Packed<'a>,
-    /// The data are whole rows.
-    is_whole: bool,
-    /// A byte 1A stands after whole rows.
-    has_mark: bool,
-    /// The numbers of the rows go on by one.
-    runs: bool,
-}
-
-/// Whether the numbers of all rows go on by one, from 0 or 1 where there is one row.
-fn runs(bytes: &[u8], size: usize, is_big: bool) -> bool {
-    let first = number_at(bytes, 0, is_big);
-    let mut wanted = first;
-    let mut count = 0usize;
-    for row in bytes.chunks_exact(size.max(8)) {
-        if number_at(row, 0, is_big) != wanted {
-            return false;
-        }
-        wanted = wanted.wrapping_add(1);
-        count = count.saturating_add(1);
-    }
-    1 < count || count == 1 && first < 2
-}
-
-fn look_at(dat: &[u8], form: Form, size: usize, is_big: bool) -> Look<'_> {
-    let size = size.max(8);
-    let rest = dat.len().wrapping_rem(size);
-    let whole = before(dat, dat.len().saturating_sub(rest));
-    let has_mark = rest == 1 && dat.last().copied() == Some(0x1a);
-    Look {
-        packed: Packed {
-            bytes: whole,
-            form,
-            is_big,
-            size,
-        },
-        is_whole: !whole.is_empty() && (rest == 0 || has_mark),
-        has_mark,
-        runs: runs(whole, size, is_big),
-    }
-}
-
-impl Look<'_> {
-    fn is_proved(&self) -> bool {
-        self.is_whole && self.runs
-    }
-}
 
 /// What stands before the first byte 1A.
 fn before_mark(dat: &[u8]) -> &[u8] {
@@ -128,7 +77,11 @@ fn text_plan<'a, A: Allocator + Copy>(
     if Cursor::new(text).ends_in_returns() {
         tell_whole(notes, Key::LineEndsCr, "")?;
     }
-    Ok(Plan::Text(text, mark))
+    let meant = without_empty_end(text, mark);
+    if text.get(meant.len()..).unwrap_or(&[]).contains(&mark) {
+        tell_whole(notes, Key::TrailingCommas, "")?;
+    }
+    Ok(Plan::Text(meant, mark))
 }
 
 /// The data where the configuration file says that they are text.
@@ -142,22 +95,12 @@ fn said_text<'a, A: Allocator + Copy>(
     if is_text(alloc, text, mark_of(text), counts) {
         return text_plan(notes, dat);
     }
-    let short = look_at(
-        dat,
-        Form::Binary,
-        Form::Binary.row_size(counts.k, counts.m),
-        false,
-    );
+    let short = look_as(dat, Form::Binary, counts);
     if short.is_proved() {
         tell_whole(notes, Key::KindOther, "ASCII is said, BINARY is there")?;
         return packed(notes, short);
     }
-    let long = look_at(
-        dat,
-        Form::Binary32,
-        Form::Binary32.row_size(counts.k, counts.m),
-        false,
-    );
+    let long = look_as(dat, Form::Binary32, counts);
     if long.is_proved() {
         return Err(ImportFault::Whole(Why::NoKind));
     }
@@ -195,12 +138,7 @@ fn proved<'a, A: Allocator + Copy>(
     if form == Form::Binary {
         return Ok(None);
     }
-    let short = look_at(
-        dat,
-        Form::Binary,
-        Form::Binary.row_size(counts.k, counts.m),
-        false,
-    );
+    let short = look_as(dat, Form::Binary, counts);
     if short.is_proved() {
         tell_whole(
             notes,
@@ -220,7 +158,7 @@ fn said_packed<'a, A: Allocator + Copy>(
     form: Form,
     counts: Counts,
 ) -> Result<Plan<'a>, ImportFault> {
-    let own = look_at(dat, form, form.row_size(counts.k, counts.m), false);
+    let own = look_as(dat, form, counts);
     if own.is_proved() {
         return packed(notes, own);
     }
@@ -249,12 +187,7 @@ fn unsaid<'a, A: Allocator + Copy>(
     if is_text(alloc, text, mark_of(text), counts) {
         return text_plan(notes, dat);
     }
-    let short = look_at(
-        dat,
-        Form::Binary,
-        Form::Binary.row_size(counts.k, counts.m),
-        false,
-    );
+    let short = look_as(dat, Form::Binary, counts);
     if short.is_proved() {
         return packed(notes, short);
     }

@@ -1,6 +1,7 @@
 //! Dates and times of day in the spellings that are met.
 
 use crate::text::{DIGITS, has_only, place_of};
+use dfr_channels::trim;
 use jiff_core::civil::Date;
 
 /// Which of day and month stands first in the dates of a file.
@@ -36,8 +37,9 @@ pub(crate) struct Clock {
     pub has_comma: bool,
 }
 
-/// A whole number of at most nine digits.
+/// A whole number of at most nine digits, with blanks around it.
 fn small(text: &[u8]) -> Option<u32> {
+    let text = trim(text);
     if text.is_empty() || 9 < text.len() {
         return None;
     }
@@ -120,8 +122,9 @@ fn full_year(year: u32, digits: usize) -> u32 {
 pub(crate) fn civil_of(text: &[u8]) -> Option<Civil> {
     let marks = b"/-. ";
     let (a, rest) = cut_at(text, marks)?;
-    let (b, c) = cut_at(rest, marks)?;
-    let is_slashed = has_only(text, b"0123456789/");
+    let (b, c) = cut_at(trim(rest), marks)?;
+    let c = trim(c);
+    let is_slashed = has_only(text, b"0123456789/ ") && text.contains(&b'/');
     if let Some(month) = month_of(b) {
         return Some(Civil {
             first: small(a)?,
@@ -210,8 +213,12 @@ fn micros_of(digits: &[u8]) -> Option<i64> {
     }
 }
 
-/// A time of day, as hh:mm:ss.ssssss.
+/// A time of day, as hh:mm:ss.ssssss; the mark of UTC may stand after it.
 pub(crate) fn clock_of(text: &[u8]) -> Option<Clock> {
+    let text = match text {
+        [front @ .., b'Z' | b'z'] => front,
+        _ => text,
+    };
     let (hours, rest) = cut_at(text, b":")?;
     let (minutes, rest) = cut_at(rest, b":")?;
     let (seconds, digits, has_point) = match cut_at(rest, b".,:") {

@@ -12,14 +12,13 @@ pub(crate) struct Fields<'a> {
     mark: u8,
 }
 
-/// A field in quotation marks, and what stands after it, where one stands at the front that holds a mark between fields.
+/// A field in quotation marks, and what stands after it, where one stands at the front.
 fn quoted(text: &[u8], mark: u8) -> Option<(&[u8], Option<&[u8]>)> {
     let [b'"', rest @ ..] = trim_front(text) else {
         return None;
     };
     let at = memchr(b'"', rest)?;
     let inside = before(rest, at);
-    memchr(mark, inside)?;
     let left = trim_front(after(rest, at));
     if left.is_empty() {
         return Some((inside, None));

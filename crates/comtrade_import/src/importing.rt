@@ -12,9 +12,8 @@ use crate::fault::{ImportFault, Why};
 use crate::head::draft_of;
 use crate::key::Key;
 use crate::note::{Note, Notes, Place};
-use crate::sections::{Sections, cut};
 use crate::sound::is_sound;
-use crate::text::{put, put_number};
+use crate::text::without_empty_end;
 use comtrade_format::{File, WriteFault, cfg_bytes, dat_bytes};
 use comtrade_read::{ReadFault, Written, file_reads_back, read};
 use memchr::memchr;
@@ -88,22 +87,28 @@ fn unwritten(fault: WriteFault) -> ImportFault {
     }
 }
 
-/// What stands before the first byte 1A of a configuration file.
+/// What stands before the first byte 1A of a configuration file, without empty lines at its end.
 fn before_end<'a, A: Allocator + Copy>(
     notes: &mut Notes<A>,
     text: &'a [u8],
 ) -> Result<&'a [u8], ImportFault> {
-    match memchr(0x1a, text) {
+    let place = Place::Whole("configuration file");
+    let text = match memchr(0x1a, text) {
         Some(at) => {
-            notes.tell(Key::Cfg1a, Place::Whole("configuration file"), &[])?;
-            Ok(before(text, at))
+            notes.tell(Key::Cfg1a, place, &[])?;
+            before(text, at)
         }
-        None => Ok(text),
+        None => text,
+    };
+    let meant = without_empty_end(text, b',');
+    if text.get(meant.len()..).unwrap_or(&[]).contains(&b',') {
+        notes.tell(Key::TrailingCommas, place, &[])?;
     }
+    Ok(meant)
 }
 
 /// A text without the mark of UTF-8.
-fn unmarked<'a, A: Allocator + Copy>(
+pub(crate) fn unmarked<'a, A: Allocator + Copy>(
     notes: &mut Notes<A>,
     name: &'static str,
     text: &'a [u8],
@@ -187,7 +192,7 @@ fn repaired<A: Allocator + Copy>(
 }
 
 /// The pair, read with all repairs that it needs.
-fn loose<A: Allocator + Copy>(
+pub(crate) fn loose<A: Allocator + Copy>(
     alloc: A,
     mut notes: Notes<A>,
     cfg: &[u8],
@@ -241,67 +246,4 @@ pub fn import<A: Allocator + Copy>(
         return Ok(imported);
     }
     loose(alloc, Notes::new(alloc), cfg, dat, choices)
-}
-
-/// Tells what was left out of a single file.
-fn tell_sections<A: Allocator + Copy>(
-    alloc: A,
-    notes: &mut Notes<A>,
-    sections: Sections<'_>,
-) -> Result<(), ImportFault> {
-    let place = Place::Whole("single file");
-    notes.tell(Key::Cff, place, &[])?;
-    if sections.has_odd_separator {
-        notes.tell(Key::CffForm, place, &[])?;
-    }
-    if let Some((said, there)) = sections.wrong_count {
-        let mut piece = Vec::new(alloc);
-        put_number(&mut piece, said)?;
-        put(&mut piece, " said, ")?;
-        put_number(&mut piece, there)?;
-        put(&mut piece, " there")?;
-        notes.tell(Key::CffCount, place, &piece)?;
-    }
-    if sections.has_inf {
-        notes.tell(Key::InfDropped, place, &[])?;
-    }
-    if sections.has_hdr {
-        notes.tell(Key::HdrDropped, place, &[])?;
-    }
-    Ok(())
-}
-
-/// The pair in a single file, whose text is ASCII or UTF-8.
-fn single<A: Allocator + Copy>(
-    alloc: A,
-    mut notes: Notes<A>,
-    text: &[u8],
-    choices: Choices,
-) -> Result<Imported<A>, ImportFault>
-    ensures { IfOk result (λ done. Reads done.cfg.items done.dat.items done.file) }
-{
-    let sections = cut(text)?;
-    tell_sections(alloc, &mut notes, sections)?;
-    loose(alloc, notes, sections.cfg, sections.dat, choices)
-}
-
-/// A single file as a file of 1999 that says the same, with each repair told. Both texts that come out read to that file.
-pub fn import_single<A: Allocator + Copy>(
-    alloc: A,
-    cff: &[u8],
-    choices: Choices,
-) -> Result<Imported<A>, ImportFault>
-    ensures { IfOk result (λ done. Reads done.cfg.items done.dat.items done.file) }
-{
-    let mut notes = Notes::new(alloc);
-    match narrow(alloc, cff)? {
-        Some(text) => {
-            notes.tell(Key::Utf16, Place::Whole("single file"), &[])?;
-            single(alloc, notes, text.as_slice(), choices)
-        }
-        None => {
-            let text = unmarked(&mut notes, "single file", cff)?;
-            single(alloc, notes, text, choices)
-        }
-    }
 }

@@ -133,7 +133,8 @@ fn is_usual(line: &[u8], section: Section) -> bool {
     let front = b"--- file type: ";
     let is_framed = line.starts_with(front) && line.ends_with(b" ---");
     let body = line.get(front.len()..).unwrap_or(&[]);
-    is_framed && section != Section::Bytes(None) && !has_lowercase(body)
+    let names_kind = section != Section::Text || body.starts_with(b"DAT ASCII");
+    is_framed && names_kind && section != Section::Bytes(None) && !has_lowercase(body)
 }
 
 /// The separator at the front of a text.

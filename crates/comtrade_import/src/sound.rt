@@ -1,8 +1,7 @@
 //! Whether a file that reads exactly is also meant as it reads.
 
-use crate::clock::{Clock, time_of_stamp};
 use crate::cursor::after;
-use crate::num::Num;
+use crate::doubts::{Doubts, add_times, clock_of};
 use crate::text::has_only;
 use comtrade_format::{File, Head, Kind, Row};
 use dfr_channels::{AnalogChannel, Reading};
@@ -31,50 +30,35 @@ fn is_head_sound<A: Allocator>(head: &Head<A>) -> bool {
     head.first <= head.trigger
 }
 
-fn are_numbered<A: Allocator>(rows: &[Row<A>]) -> bool {
-    let mut wanted = 1u64;
-    for row in rows {
-        if row.number != wanted {
-            return false;
-        }
-        wanted = wanted.saturating_add(1);
-    }
-    true
-}
-
-/// Whether a stamp, as a number of the samples' kind.
-fn num_of(stamp: u64) -> Num {
-    Num::of(i64::try_from(stamp).unwrap_or(i64::MAX))
-}
-
-/// Whether all stamps are there, from 0 on, and agree with the rates within half an interval or what a stamp counts; without rates they don't fall
-/// and aren't all the same.
-fn are_stamps_sound<A: Allocator + Copy>(file: &File<A>, clock: &Option<Clock<A>>) -> bool {
-    let unit = time_of_stamp(num_of(1), file.head.timemult).unwrap_or(0);
-    let mut at = 0usize;
+/// Whether all rows are numbered from 1 on and have stamps from 0 on, which aren't all the same where no rate says the times.
+fn are_rows_sound<A: Allocator>(rows: &[Row<A>], has_clock: bool) -> bool {
+    let mut number = 0u64;
     let mut last = 0u64;
-    for (i, row) in file.rows.items().iter().enumerate() {
+    for row in rows {
+        number = number.saturating_add(1);
         let Some(stamp) = row.stamp else {
             return false;
         };
-        if stamp < last || i == 0 && stamp != 0 {
+        if row.number != number || number == 1 && stamp != 0 {
             return false;
         }
-        last = stamp;
-        let Some(clock) = clock else {
-            continue;
-        };
-        let (Some((wanted, half)), Some(time)) = (
-            clock.time_of(&mut at, i as u64),
-            time_of_stamp(num_of(stamp), file.head.timemult),
-        ) else {
-            return false;
-        };
-        if half.max(unit) < time.saturating_sub(wanted).saturating_abs() {
-            return false;
-        }
+        last = last.max(stamp);
     }
-    clock.is_some() || 0 < last || file.rows.items().len() < 2
+    has_clock || 0 < last || number < 2
+}
+
+/// Whether numbers and stamps of all rows are meant as they stand.
+fn are_times_sound<A: Allocator + Copy>(alloc: A, file: &File<A>) -> Result<bool, AllocError> {
+    let clock = clock_of(alloc, file)?;
+    if file.head.nrates != 0 && clock.is_none() {
+        return Ok(false);
+    }
+    if !are_rows_sound(file.rows.items(), clock.is_some()) {
+        return Ok(false);
+    }
+    let mut doubts = Doubts::default();
+    add_times(&mut doubts, file, &clock);
+    Ok(doubts.off.is_none() && doubts.falling.is_none())
 }
 
 /// Whether an empty field stands in ASCII rows, or something after their end.
@@ -153,15 +137,8 @@ pub(crate) fn is_sound<A: Allocator + Copy>(
     file: &File<A>,
     dat: &[u8],
 ) -> Result<bool, AllocError> {
-    if !is_head_sound(&file.head)
-        || !are_numbered(file.rows.items())
-        || !are_data_sound(file, dat)
-    {
+    if !is_head_sound(&file.head) || !are_data_sound(file, dat) {
         return Ok(false);
     }
-    if file.head.nrates == 0 {
-        return Ok(are_stamps_sound(file, &None));
-    }
-    let clock = Clock::new(alloc, file.head.rates.items())?;
-    Ok(clock.is_some() && are_stamps_sound(file, &clock))
+    are_times_sound(alloc, file)
 }

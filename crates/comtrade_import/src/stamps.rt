@@ -2,7 +2,8 @@
 
 use crate::clock::{Clock, rounded, time_of_stamp};
 use crate::draft::{Draft, Revision};
-use crate::fault::{ImportFault, Why};
+use crate::fault::ImportFault;
+use crate::kept_stamps::{kept, stamps_by_rate};
 use crate::key::Key;
 use crate::note::{Notes, Place};
 use crate::num::Num;
@@ -128,14 +129,12 @@ fn beside_rates<A: Allocator + Copy>(
     if track.ticks.len() < 2 || agrees(track, clock, plain) {
         return Ok(Found::Kept(1));
     }
-    if agrees(
-        track,
-        clock,
-        Sight {
-            part: 1_000,
-            by_number: false,
-        },
-    ) {
+    let nanos = Sight {
+        part: 1_000,
+        by_number: false,
+    };
+    let is_micro = time_of_stamp(Num::of(1), track.timemult) == Some(1_000_000);
+    if is_micro && agrees(track, clock, nanos) {
         notes.tell(Key::StampsNs, track.place, &[])?;
         return Ok(Found::Kept(1_000));
     }
@@ -191,90 +190,6 @@ fn found_of<A: Allocator + Copy>(
         Some(clock) => beside_rates(notes, track, clock),
         None => without_rates(notes, track, draft),
     }
-}
-
-/// The stamps that the rates give, in whole microseconds; none at all where one is over what the form holds.
-fn stamps_by_rate<A: Allocator + Copy>(
-    alloc: A,
-    track: &Track<'_>,
-    clock: &Clock<A>,
-) -> Result<Vec<Option<u64>, A>, ImportFault> {
-    let mut list = Vec::new(alloc);
-    let mut at = 0usize;
-    let mut fits = true;
-    for i in 0..track.ticks.len() {
-        let stamp = match clock.time_of(&mut at, i as u64) {
-            Some((time, _)) => rounded(time, 1_000_000),
-            None => i128::MAX,
-        };
-        fits = fits && stamp <= track.most;
-        list.push(u64::try_from(stamp).ok())?;
-    }
-    if !fits {
-        for stamp in list.iter_mut() {
-            *stamp = None;
-        }
-    }
-    Ok(list)
-}
-
-/// The time from which stamps are counted: the first, or the least where one is before it.
-fn start_of(track: &Track<'_>) -> i128 {
-    let mut start: Option<i128> = None;
-    for tick in track.ticks {
-        if let Some(stamp) = tick.stamp {
-            let time = time_of_stamp(stamp, track.timemult).unwrap_or(0);
-            start = Some(match start {
-                Some(start) => start.min(time),
-                None => time,
-            });
-        }
-    }
-    start.unwrap_or(0)
-}
-
-/// What a whole stamp counts, in picoseconds; a microsecond where stamps with a point would lose more.
-fn unit_of(track: &Track<'_>) -> (i128, Decimal) {
-    let unit = time_of_stamp(Num::of(1), track.timemult).unwrap_or(0);
-    let micro = 1_000_000i128;
-    match Decimal::new(1, 0) {
-        Some(one) if unit < 1 || track.is_pointed && micro < unit => (micro, one),
-        _ => (unit, track.timemult),
-    }
-}
-
-/// The stamps that stay, from 0 on, and their factor.
-fn kept<A: Allocator + Copy>(
-    alloc: A,
-    notes: &mut Notes<A>,
-    track: &Track<'_>,
-    part: i128,
-) -> Result<(Vec<Option<u64>, A>, Decimal), ImportFault> {
-    let start = start_of(track);
-    if start != 0 {
-        notes.tell(Key::StampsShifted, track.place, &[])?;
-    }
-    if track.is_pointed {
-        notes.tell(Key::StampsDecimal, track.place, &[])?;
-    }
-    let (unit, timemult) = unit_of(track);
-    let step = unit.saturating_mul(part);
-    let mut list = Vec::new(alloc);
-    for (i, tick) in track.ticks.iter().enumerate() {
-        let stamp = match tick.stamp {
-            None => None,
-            Some(stamp) => {
-                let time = time_of_stamp(stamp, track.timemult).unwrap_or(i128::MAX);
-                let n = rounded(time.saturating_sub(start), step);
-                if track.most < n {
-                    return Err(ImportFault::Dat((i as u64).saturating_add(1), Why::Value));
-                }
-                u64::try_from(n).ok()
-            }
-        };
-        list.push(stamp)?;
-    }
-    Ok((list, timemult))
 }
 
 /// Whether rows are lost: the numbers have gaps, and the stamps have them too.

@@ -21,6 +21,31 @@ pub(crate) fn has_only(text: &[u8], bytes: &[u8]) -> bool {
     true
 }
 
+/// A text without the lines at its end that have no byte but blanks, zeros and the mark between fields.
+pub(crate) fn without_empty_end(text: &[u8], mark: u8) -> &[u8] {
+    let mut end = 0usize;
+    let mut is_empty = true;
+    let mut before = b'\n';
+    for (i, b) in text.iter().enumerate() {
+        match *b {
+            b'\r' | b'\n' => {
+                if !is_empty || before == b'\r' && end == i {
+                    end = i.saturating_add(1);
+                }
+                is_empty = true;
+            }
+            b' ' | b'\t' | 0 => {}
+            other => is_empty = is_empty && other == mark,
+        }
+        before = *b;
+    }
+    if is_empty {
+        text.get(..end).unwrap_or(text)
+    } else {
+        text
+    }
+}
+
 /// Where the first of these bytes stands.
 pub(crate) fn place_of(text: &[u8], bytes: &[u8]) -> Option<usize> {
     for (i, b) in text.iter().enumerate() {

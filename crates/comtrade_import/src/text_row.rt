@@ -64,6 +64,7 @@ fn read_front<A: Allocator>(
 ) -> Result<(), Stop> {
     let number = fields.next_field().unwrap_or(&[]);
     match spelled_of(number, false) {
+        None if number.is_empty() => cells.number = 0,
         Some(spelled) => match spelled.num.whole() {
             Some(n) => cells.number = n,
             None => return Err(Stop::Why(Why::Value)),

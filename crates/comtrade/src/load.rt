@@ -1,0 +1,216 @@
+//! The record that names name: its files, and the `File` that they read to. What the exact reader refuses is read as `import` reads it,
+//! and the repairs are told.
+
+use crate::find::{Pairing, pairing_of};
+use crate::{complain, out_of_memory, read_named, say};
+use comtrade_cli::{Names, ToolFault, put, put_safe};
+use comtrade_diagnostics::{Pair, put_fault};
+use comtrade_format::File;
+use comtrade_import::{Choices, ImportFault, Imported, Note, import, import_single};
+use comtrade_read::{Fault, Part, ReadFault, read};
+use std::alloc::{AllocError, Allocator};
+use std::rt::Files;
+
+/// What the files of a record are called, and their bytes; a single file has no data beside it.
+#[derive(Drop)]
+pub(crate) struct Inputs {
+    names: Pairing,
+    pub(crate) cfg: Vec<u8>,
+    pub(crate) dat: Vec<u8>,
+    /// The repairs of a single file that was made a pair, a line each.
+    pub(crate) said: Vec<u8>,
+}
+
+impl Inputs {
+    /// Whether both files of the record are one.
+    pub(crate) fn is_single(&self) -> bool {
+        self.names.dat.is_none()
+    }
+}
+
+/// What a file is called in messages.
+fn shown(name: &str) -> &str {
+    if name == "-" { "standard input" } else { name }
+}
+
+/// What the record is called in messages.
+pub(crate) fn name_of(inputs: &Inputs) -> &str {
+    shown(inputs.names.cfg.as_str())
+}
+
+pub(crate) fn pair_of(inputs: &Inputs) -> Pair<'_> {
+    let dat_name = match &inputs.names.dat {
+        Some(name) => shown(name.as_str()),
+        None => name_of(inputs),
+    };
+    Pair {
+        cfg_name: name_of(inputs).as_bytes(),
+        cfg: &inputs.cfg,
+        dat_name: dat_name.as_bytes(),
+        dat: &inputs.dat,
+    }
+}
+
+/// Reads a file; none where that was refused, which is said.
+fn read_input<R: Files + Input + Eprint + AllocGlobal>(rt: &R, name: &str) -> Option<Vec<u8>> {
+    match read_named(rt, name) {
+        Ok(bytes) => Some(bytes),
+        Err(fault) => {
+            complain(rt, shown(name), fault);
+            None
+        }
+    }
+}
+
+/// Reads the files of a record; none where that was refused, which is said.
+pub(crate) fn read_inputs<R: Files + Input + Eprint + AllocGlobal + Clone + Drop>(
+    rt: &R,
+    names: Names<'_>,
+) -> Option<Inputs> {
+    let names = pairing_of(rt, names)?;
+    let cfg = read_input(rt, names.cfg.as_str())?;
+    let dat = match &names.dat {
+        Some(name) => read_input(rt, name.as_str())?,
+        None => Vec::new(rt.alloc()),
+    };
+    Some(Inputs {
+        names,
+        cfg,
+        dat,
+        said: Vec::new(rt.alloc()),
+    })
+}
+
+/// The repairs, a line each.
+pub(crate) fn put_notes<A: Allocator>(
+    out: &mut Vec<u8, A>,
+    notes: &[Note<A>],
+) -> Result<(), AllocError> {
+    for note in notes {
+        note.put_line(out)?;
+        put(out, "\n")?;
+    }
+    Ok(())
+}
+
+/// Why files can't be imported, as a line.
+fn put_import_fault<A: Allocator + Copy>(
+    out: &mut Vec<u8, A>,
+    name: &[u8],
+    fault: ImportFault,
+) -> Result<(), AllocError> {
+    let text = format!(in *out.allocator(); "{fault}")?;
+    put(out, "comtrade: ")?;
+    put_safe(out, name)?;
+    put(out, ": ")?;
+    put_safe(out, text.as_str().as_bytes())?;
+    put(out, "\n")
+}
+
+/// Says why files can't be imported.
+pub(crate) fn refuse_import<R: Eprint + AllocGlobal>(rt: &R, name: &str, fault: ImportFault) -> u8 {
+    if let ImportFault::Memory = fault {
+        return out_of_memory(rt);
+    }
+    let mut text = Vec::new(rt.alloc());
+    if put_import_fault(&mut text, name.as_bytes(), fault).is_err() {
+        return out_of_memory(rt);
+    }
+    say(rt, &text);
+    1
+}
+
+/// A single file as a pair.
+fn as_pair<R: Eprint + AllocGlobal>(rt: &R, inputs: Inputs, imported: Imported) -> Option<Inputs> {
+    let mut said = Vec::new(rt.alloc());
+    if put_notes(&mut said, &imported.notes).is_err() {
+        out_of_memory(rt);
+        return None;
+    }
+    Some(Inputs {
+        names: inputs.names,
+        cfg: imported.cfg,
+        dat: imported.dat,
+        said,
+    })
+}
+
+/// A pair as it stands, a single file as the pair that says the same; none where that was refused, which is said.
+fn unpacked<R: Eprint + AllocGlobal>(rt: &R, inputs: Inputs, is_strict: bool) -> Option<Inputs> {
+    if !inputs.is_single() {
+        return Some(inputs);
+    }
+    if is_strict {
+        complain(rt, name_of(&inputs), ToolFault::Single);
+        return None;
+    }
+    match import_single(rt.alloc(), &inputs.cfg, Choices::default()) {
+        Ok(imported) => as_pair(rt, inputs, imported),
+        Err(fault) => {
+            refuse_import(rt, name_of(&inputs), fault);
+            None
+        }
+    }
+}
+
+/// Reads a record as a pair; none where that was refused, which is said.
+pub(crate) fn read_pair<R: Files + Input + Eprint + AllocGlobal + Clone + Drop>(
+    rt: &R,
+    names: Names<'_>,
+    is_strict: bool,
+) -> Option<Inputs> {
+    let inputs = read_inputs(rt, names)?;
+    unpacked(rt, inputs, is_strict)
+}
+
+/// Whether a fault is that of the first line, by which files of other years and other texts are refused.
+fn is_first(part: Part, fault: ReadFault) -> bool {
+    part == Part::Cfg && matches!(fault, ReadFault::Revision | ReadFault::Fields(1))
+}
+
+/// The file that `import` makes of a pair that the exact reader refuses, with its repairs put to `said`; None where it refuses the
+/// pair, too.
+fn loose_file<A: Allocator + Copy>(
+    alloc: A,
+    pair: Pair<'_>,
+    found: Fault,
+    said: &mut Vec<u8, A>,
+) -> Result<Option<File<A>>, ToolFault> {
+    match import(alloc, pair.cfg, pair.dat, Choices::default()) {
+        Ok(imported) => {
+            let Imported { file, notes, .. } = imported;
+            put_notes(said, &notes)?;
+            Ok(Some(file))
+        }
+        Err(ImportFault::Memory) => Err(ToolFault::Memory),
+        Err(fault) => {
+            if is_first(found.part, found.fault) && !matches!(fault, ImportFault::Cfg(1, _)) {
+                put_import_fault(said, pair.cfg_name, fault)?;
+            } else {
+                put_fault(alloc, said, pair, found)?;
+            }
+            Ok(None)
+        }
+    }
+}
+
+/// The file that a pair reads to: exactly, or where the exact reader refuses it and `is_strict` isn't asked for, as `import` reads it. What
+/// is said of it is put to `said`: each repair, a line each, or of None why it can't be read.
+pub(crate) fn file_in<A: Allocator + Copy>(
+    alloc: A,
+    pair: Pair<'_>,
+    is_strict: bool,
+    said: &mut Vec<u8, A>,
+) -> Result<Option<File<A>>, ToolFault> {
+    match read(alloc, pair.cfg, pair.dat) {
+        Ok(file) => Ok(Some(file)),
+        Err((_, ReadFault::Memory)) => Err(ToolFault::Memory),
+        Err((part, fault)) => {
+            if !is_strict {
+                return loose_file(alloc, pair, Fault { part, fault }, said);
+            }
+            put_fault(alloc, said, pair, Fault { part, fault })?;
+            Ok(None)
+        }
+    }
+}

@@ -1,0 +1,131 @@
+//! Which files `import` reads that the exact reader refuses, and what they are.
+
+use crate::check::Pair;
+use comtrade_cli::{put, put_safe};
+use comtrade_import::{Choices, ImportFault, Imported, Key, Note, import, import_single};
+use std::alloc::{AllocError, Allocator};
+
+/// What files are by a repair that they need.
+fn nature_of(key: Key) -> Option<&'static str> {
+    match key {
+        Key::Revision1991 => Some("a file of 1991"),
+        Key::Revision2013 => Some("a file of 2013"),
+        Key::KindBinary32 => Some("BINARY32 data"),
+        Key::KindFloat32 => Some("FLOAT32 data"),
+        _ => None,
+    }
+}
+
+/// What a text is by its bytes, where it isn't ASCII with lines of its own.
+fn nature_of_text(text: &[u8]) -> Option<&'static str> {
+    match text {
+        [0xff, 0xfe, ..] | [0xfe, 0xff, ..] | [_, 0, _, 0, ..] | [0, _, 0, _, ..] => {
+            return Some("UTF-16");
+        }
+        _ => {}
+    }
+    let mut before = (0u8, 0u8);
+    for b in text {
+        if *b == b'\n' && before == (b'\r', b'\r') {
+            return Some("lines that end in CR CR LF");
+        }
+        before = (before.1, *b);
+    }
+    None
+}
+
+/// A piece of a list.
+fn put_piece<A: Allocator>(
+    out: &mut Vec<u8, A>,
+    is_first: &mut bool,
+    text: &str,
+) -> Result<(), AllocError> {
+    if !*is_first {
+        put(out, ", ")?;
+    }
+    *is_first = false;
+    put(out, text)
+}
+
+/// What the files are, by their bytes and by their repairs: whether anything is put.
+fn put_natures<A: Allocator>(
+    out: &mut Vec<u8, A>,
+    text: Option<&'static str>,
+    notes: &[Note<A>],
+) -> Result<bool, AllocError> {
+    let mut is_first = true;
+    if let Some(nature) = text {
+        put_piece(out, &mut is_first, nature)?;
+    }
+    for note in notes {
+        if let Some(nature) = nature_of(note.key()) {
+            put_piece(out, &mut is_first, nature)?;
+        }
+    }
+    Ok(!is_first)
+}
+
+/// That `import` reads the files, with the keys of its repairs.
+fn put_reads<A: Allocator>(out: &mut Vec<u8, A>, notes: &[Note<A>]) -> Result<(), AllocError> {
+    put(out, "`comtrade import` reads it")?;
+    if notes.is_empty() {
+        return put(out, "\n");
+    }
+    put(out, " (")?;
+    let mut is_first = true;
+    for note in notes {
+        put_piece(out, &mut is_first, note.key().name())?;
+    }
+    put(out, ")\n")
+}
+
+/// The line on a pair that has a fault, where `import` reads it, or where its text is of another kind.
+pub(crate) fn put_hint<A: Allocator + Copy>(
+    alloc: A,
+    out: &mut Vec<u8, A>,
+    pair: Pair<'_>,
+) -> Result<(), AllocError> {
+    let text = nature_of_text(pair.cfg);
+    let notes = match import(alloc, pair.cfg, pair.dat, Choices::default()) {
+        Ok(imported) => Some(imported.notes),
+        Err(ImportFault::Memory) => return Err(AllocError),
+        Err(_) => None,
+    };
+    if text.is_none() && notes.is_none() {
+        return Ok(());
+    }
+    put_safe(out, pair.cfg_name)?;
+    put(out, ": ")?;
+    match notes {
+        Some(notes) => {
+            if put_natures(out, text, &notes)? {
+                put(out, "; ")?;
+            }
+            put_reads(out, &notes)
+        }
+        None => {
+            put_natures(out, text, &[])?;
+            put(out, "\n")
+        }
+    }
+}
+
+/// The line on a single file: what it is, and that `import` reads it, or why it doesn't.
+pub fn put_single<A: Allocator + Copy>(
+    alloc: A,
+    out: &mut Vec<u8, A>,
+    pair: Pair<'_>,
+) -> Result<(), AllocError> {
+    put_safe(out, pair.cfg_name)?;
+    put(out, ": a single file; ")?;
+    match import_single(alloc, pair.cfg, Choices::default()) {
+        Ok(Imported { notes, .. }) => put_reads(out, &notes),
+        Err(ImportFault::Memory) => Err(AllocError),
+        Err(fault) => {
+            let text = format!(in alloc; "{fault}")?;
+            put(out, "`comtrade import` doesn't read it: ")?;
+            put_safe(out, text.as_str().as_bytes())?;
+            put(out, "\n")
+        }
+    }
+}

@@ -1,0 +1,146 @@
+//! What is odd about a file that reads exactly: it says the same in two ways that disagree, or what can hardly be meant.
+
+use crate::clock::{Clock, time_of_stamp};
+use crate::num::Num;
+use comtrade_format::{File, Row};
+use dfr_channels::{AnalogChannel, Reading};
+use std::alloc::{AllocError, Allocator};
+
+/// The first place where something is odd, and how many places there are. Rows and channels count from 1; 0 is none.
+#[derive(Clone, Copy, Debug, Default)]
+pub struct Doubt {
+    pub row: u64,
+    pub channel: u64,
+    pub count: u64,
+}
+
+/// What is odd about a file, each kind by its first place.
+#[derive(Clone, Copy, Debug, Default)]
+pub struct Doubts {
+    /// Stamps that disagree with the rates by over half an interval, and by over what a stamp counts.
+    pub off: Doubt,
+    /// Stamps below that of the row before.
+    pub falling: Doubt,
+    /// Row numbers that aren't above that of the row before.
+    pub repeated: Doubt,
+    /// Samples outside their channel's range.
+    pub outside: Doubt,
+    /// Channels whose min is over their max.
+    pub turned: Doubt,
+}
+
+impl Doubt {
+    fn add(&mut self, row: u64, channel: u64) {
+        if self.count == 0 {
+            self.row = row;
+            self.channel = channel;
+        }
+        self.count = self.count.saturating_add(1);
+    }
+
+    pub(crate) fn is_none(&self) -> bool {
+        self.count == 0
+    }
+}
+
+/// The instants of rows by the rates, where there are some.
+pub(crate) fn clock_of<A: Allocator + Copy>(
+    alloc: A,
+    file: &File<A>,
+) -> Result<Option<Clock<A>>, AllocError> {
+    if file.head.nrates == 0 {
+        return Ok(None);
+    }
+    Clock::new(alloc, file.head.rates.items())
+}
+
+/// A stamp as a number of the samples' kind.
+fn num_of(stamp: u64) -> Num {
+    Num::of(i64::try_from(stamp).unwrap_or(i64::MAX))
+}
+
+/// Adds what is odd about numbers and stamps.
+pub(crate) fn add_times<A: Allocator + Copy>(
+    doubts: &mut Doubts,
+    file: &File<A>,
+    clock: &Option<Clock<A>>,
+) {
+    let timemult = file.head.timemult;
+    let unit = time_of_stamp(num_of(1), timemult).unwrap_or(0);
+    let mut at = 0usize;
+    let mut start: Option<i128> = None;
+    let mut before: Option<u64> = None;
+    let mut number = 0u64;
+    let mut index = 0u64;
+    for row in file.rows.items() {
+        let place = index.saturating_add(1);
+        if 0 < index && row.number <= number {
+            doubts.repeated.add(place, 0);
+        }
+        number = row.number;
+        if let Some(stamp) = row.stamp {
+            if stamp < before.unwrap_or(0) {
+                doubts.falling.add(place, 0);
+            }
+            before = Some(stamp);
+            let time = time_of_stamp(num_of(stamp), timemult).unwrap_or(i128::MAX);
+            if let Some(clock) = clock {
+                let (wanted, half) = clock.time_of(&mut at, index).unwrap_or((0, 0));
+                let first = start.unwrap_or(time.saturating_sub(wanted));
+                start = Some(first);
+                let off = time.saturating_sub(first).saturating_sub(wanted);
+                if half.max(unit) < off.saturating_abs() {
+                    doubts.off.add(place, 0);
+                }
+            }
+        }
+        index = place;
+    }
+}
+
+/// Whether a sample is outside the range of its channel, in whichever order that is said.
+fn is_outside<A: Allocator>(value: &Reading, channel: &AnalogChannel<A>) -> bool {
+    match value {
+        Reading::Value(x) => {
+            *x < channel.min.min(channel.max) || channel.min.max(channel.max) < *x
+        }
+        Reading::Missing => false,
+    }
+}
+
+/// Adds the samples of a row that are outside their range.
+fn add_outside<A: Allocator>(
+    doubt: &mut Doubt,
+    row: &Row<A>,
+    place: u64,
+    channels: &[AnalogChannel<A>],
+) {
+    let mut number = 0u64;
+    for (value, channel) in row.values.items().iter().zip(channels.iter()) {
+        number = number.saturating_add(1);
+        if is_outside(value, channel) {
+            doubt.add(place, number);
+        }
+    }
+}
+
+/// What is odd about a file.
+pub fn doubts_of<A: Allocator + Copy>(alloc: A, file: &File<A>) -> Result<Doubts, AllocError> {
+    let mut doubts = Doubts::default();
+    let channels = file.head.analog.items();
+    let mut number = 0u64;
+    for channel in channels {
+        number = number.saturating_add(1);
+        if channel.max < channel.min {
+            doubts.turned.add(0, number);
+        }
+    }
+    let clock = clock_of(alloc, file)?;
+    add_times(&mut doubts, file, &clock);
+    let mut place = 0u64;
+    for row in file.rows.items() {
+        place = place.saturating_add(1);
+        add_outside(&mut doubts.outside, row, place, channels);
+    }
+    Ok(doubts)
+}

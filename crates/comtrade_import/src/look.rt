@@ -1,0 +1,62 @@
+//! What bytes prove of the form in which their rows stand.
+
+use crate::cursor::before;
+use crate::kinds::Form;
+use crate::packed_row::number_at;
+use crate::row::{Counts, Packed};
+
+/// What data prove of a form.
+#[derive(Clone, Copy)]
+pub(crate) struct Look<'a> {
+    pub packed: Packed<'a>,
+    /// The data are whole rows.
+    pub is_whole: bool,
+    /// A byte 1A stands after whole rows.
+    pub has_mark: bool,
+    /// The numbers of the rows go on by one.
+    pub runs: bool,
+}
+
+/// Whether the numbers of all rows go on by one, from 0 or 1 where there is one row.
+fn runs(bytes: &[u8], size: usize, is_big: bool) -> bool {
+    let first = number_at(bytes, 0, is_big);
+    let mut wanted = first;
+    let mut count = 0usize;
+    for row in bytes.chunks_exact(size.max(8)) {
+        if number_at(row, 0, is_big) != wanted {
+            return false;
+        }
+        wanted = wanted.wrapping_add(1);
+        count = count.saturating_add(1);
+    }
+    1 < count || count == 1 && first < 2
+}
+
+pub(crate) fn look_at(dat: &[u8], form: Form, size: usize, is_big: bool) -> Look<'_> {
+    let size = size.max(8);
+    let rest = dat.len().wrapping_rem(size);
+    let whole = before(dat, dat.len().saturating_sub(rest));
+    let has_mark = rest == 1 && dat.last().copied() == Some(0x1a);
+    Look {
+        packed: Packed {
+            bytes: whole,
+            form,
+            is_big,
+            size,
+        },
+        is_whole: !whole.is_empty() && (rest == 0 || has_mark),
+        has_mark,
+        runs: runs(whole, size, is_big),
+    }
+}
+
+impl Look<'_> {
+    pub(crate) fn is_proved(&self) -> bool {
+        self.is_whole && self.runs
+    }
+}
+
+/// What data prove of a form whose rows have the size that it gives them.
+pub(crate) fn look_as(dat: &[u8], form: Form, counts: Counts) -> Look<'_> {
+    look_at(dat, form, form.row_size(counts.k, counts.m), false)
+}

@@ -1,0 +1,67 @@
+//! The range of samples that the line of an analogue channel says.
+
+use crate::analog::Shape;
+use crate::draft::Range;
+use crate::fault::{ImportFault, Why};
+use crate::key::Key;
+use crate::lines::{at, tell_empty};
+use crate::note::{Notes, Place};
+use crate::num::spelled_of;
+use dfr_channels::integer_of;
+use std::alloc::Allocator;
+
+/// A bound of the samples: a whole number that 1999 can hold.
+fn bound_of(text: &[u8]) -> Option<i32> {
+    let n = integer_of(text)?;
+    if -99_999 <= n && n <= 99_999 {
+        i32::try_from(n).ok()
+    } else {
+        None
+    }
+}
+
+/// A bound in another form, as a whole number where it is one that 1999 can hold.
+fn loose_bound(mark: u8, line: u64, text: &[u8]) -> Result<Option<i32>, ImportFault> {
+    let Some(spelled) = spelled_of(text, mark == b';') else {
+        return Err(at(line, Why::Number));
+    };
+    match spelled.num.whole() {
+        Some(n) if -99_999 <= n && n <= 99_999 => Ok(i32::try_from(n).ok()),
+        _ => Ok(None),
+    }
+}
+
+/// The least and the greatest sample, and how they are said.
+pub(crate) fn range_of<A: Allocator + Copy>(
+    notes: &mut Notes<A>,
+    mark: u8,
+    shape: Shape<'_>,
+) -> Result<(i32, i32, Range), ImportFault> {
+    let (low, high) = (shape.parts.at(8), shape.parts.at(9));
+    if low.is_empty() || high.is_empty() {
+        tell_empty(notes, shape.line, "min or max: as the data need")?;
+        return Ok((-32_767, 32_767, Range::Empty));
+    }
+    if let (Some(low), Some(high)) = (bound_of(low), bound_of(high)) {
+        if high < low {
+            notes.tell(Key::RangeSwapped, Place::Cfg(shape.line), &[])?;
+            return Ok((high, low, Range::Said));
+        }
+        let is_unsigned = 0 <= low && 32_767 < high;
+        return Ok((
+            low,
+            high,
+            if is_unsigned {
+                Range::Unsigned
+            } else {
+                Range::Said
+            },
+        ));
+    }
+    let low = loose_bound(mark, shape.line, low)?;
+    let high = loose_bound(mark, shape.line, high)?;
+    match (low, high) {
+        (Some(low), Some(high)) => Ok((low.min(high), low.max(high), Range::Other)),
+        _ => Ok((-32_767, 32_767, Range::Other)),
+    }
+}

@@ -1,0 +1,206 @@
+//! A line of an instant, before the order of its date is known.
+
+use crate::cursor::Cursor;
+use crate::dates::{Civil, Clock, Order, civil_of, clock_of, is_like_instant};
+use crate::fault::{ImportFault, Why};
+use crate::key::Key;
+use crate::lines::{Reader, Row, at, next_row};
+use crate::note::{Notes, Place};
+use crate::text::{place_of, put, put_number, put_quoted};
+use dfr_channels::trim;
+use std::alloc::Allocator;
+
+/// A line of an instant; no date or time of day where none stands there.
+#[derive(Clone, Copy)]
+pub(crate) struct Said {
+    civil: Option<Civil>,
+    clock: Option<Clock>,
+    pub line: u64,
+}
+
+/// The texts of date and time of day of a line. They may stand in one field, with a blank between them.
+fn texts_of<'a>(row: Row<'a>, mark: u8) -> (&'a [u8], &'a [u8], bool) {
+    let field = row.parts.at(0);
+    if 1 < row.parts.full || field.is_empty() || mark == 0 {
+        let time = if row.parts.full == 3 {
+            rest_after(row.text, mark)
+        } else {
+            row.parts.at(1)
+        };
+        return (field, time, false);
+    }
+    match place_of(field, b" \t").or(place_of(field, b"T")) {
+        Some(at) => (
+            field.get(..at).unwrap_or(&[]),
+            trim(field.get(at.wrapping_add(1)..).unwrap_or(&[])),
+            true,
+        ),
+        None => (field, &field[field.len()..], false),
+    }
+}
+
+/// What stands after the first mark of a line.
+fn rest_after(line: &[u8], mark: u8) -> &[u8] {
+    match place_of(line, &[mark]) {
+        Some(at) => trim(line.get(at.wrapping_add(1)..).unwrap_or(&[])),
+        None => line,
+    }
+}
+
+fn tell_clock<A: Allocator + Copy>(
+    notes: &mut Notes<A>,
+    line: u64,
+    clock: Clock,
+    text: &[u8],
+) -> Result<(), ImportFault> {
+    let place = Place::Cfg(line);
+    if clock.is_24 {
+        notes.tell_text(Key::Time24, place, text)?;
+    }
+    if clock.is_leap {
+        notes.tell_text(Key::LeapSecond, place, text)?;
+    }
+    if clock.is_long {
+        notes.tell_text(Key::FractionLong, place, text)?;
+    }
+    if clock.is_odd {
+        notes.tell_text(Key::FractionForm, place, text)?;
+    }
+    if clock.has_comma {
+        notes.tell_text(Key::DecimalComma, place, text)?;
+    }
+    Ok(())
+}
+
+fn tell_civil<A: Allocator + Copy>(
+    notes: &mut Notes<A>,
+    line: u64,
+    civil: Civil,
+    is_other: bool,
+    text: &[u8],
+) -> Result<(), ImportFault> {
+    if civil.is_unset() {
+        return Ok(());
+    }
+    if civil.is_other || is_other {
+        notes.tell_text(Key::DateForm, Place::Cfg(line), text)?;
+    }
+    if civil.has_short_year {
+        let mut piece = Vec::new(notes.allocator());
+        put_quoted(&mut piece, text)?;
+        put(&mut piece, " is of ")?;
+        put_number(&mut piece, u64::from(civil.year))?;
+        notes.tell(Key::Years2Digits, Place::Cfg(line), &piece)?;
+    }
+    Ok(())
+}
+
+/// Whether the next line can be that of an instant; none where there is no line.
+fn is_next(cursor: Cursor<'_>, mark: u8) -> Option<bool> {
+    let mut ahead = cursor;
+    let line = ahead.next_line()?;
+    Some(is_like_instant(line.text, mark))
+}
+
+/// The date and the time of day of a line, with their oddities told.
+fn said_in<A: Allocator + Copy>(
+    notes: &mut Notes<A>,
+    row: Row<'_>,
+    mark: u8,
+) -> Result<Said, ImportFault> {
+    let line = row.number;
+    let (date, time, is_joined) = texts_of(row, mark);
+    let civil = civil_of(date);
+    let clock = clock_of(time);
+    if civil.is_none() && !date.is_empty()
+        || clock.is_none() && !time.is_empty()
+        || 3 < row.parts.full
+    {
+        return Err(at(line, Why::Instant));
+    }
+    if let Some(clock) = clock {
+        tell_clock(notes, line, clock, time)?;
+    }
+    if let Some(civil) = civil {
+        if clock.is_none() && !civil.is_unset() {
+            return Err(at(line, Why::Instant));
+        }
+        tell_civil(notes, line, civil, is_joined, date)?;
+    }
+    Ok(Said { civil, clock, line })
+}
+
+/// The next line, which is that of an instant.
+fn said_there<A: Allocator + Copy>(reader: &mut Reader<'_, '_, A>) -> Result<Said, ImportFault> {
+    let row = next_row(&mut reader.cursor, reader.mark, reader.notes, 2)?;
+    said_in(reader.notes, row, reader.mark)
+}
+
+/// The next line, where it is that of an instant.
+pub(crate) fn said_of<A: Allocator + Copy>(
+    reader: &mut Reader<'_, '_, A>,
+) -> Result<Said, ImportFault> {
+    let mut ahead = reader.cursor;
+    let line = ahead.next_number();
+    let Some(is_instant) = is_next(ahead, reader.mark) else {
+        return Err(at(line, Why::Missing));
+    };
+    if is_instant {
+        return said_there(reader);
+    }
+    ahead.skip_blanks();
+    reader.cursor = ahead;
+    Ok(Said {
+        civil: None,
+        clock: None,
+        line,
+    })
+}
+
+impl Said {
+    /// The date, where one is set.
+    pub(crate) fn date(self) -> Option<Civil> {
+        match self.civil {
+            Some(civil) if !civil.is_unset() => Some(civil),
+            _ => None,
+        }
+    }
+
+    pub(crate) fn micros(self) -> i64 {
+        match self.clock {
+            Some(clock) => clock.micros,
+            None => 0,
+        }
+    }
+
+    pub(crate) fn is_long(self) -> bool {
+        match self.clock {
+            Some(clock) => clock.is_long,
+            None => false,
+        }
+    }
+
+    /// Whether the date, if one is set, is valid in this order.
+    pub(crate) fn fits(self, order: Order) -> bool {
+        match self.date() {
+            Some(civil) => civil.day_in(order).is_some(),
+            None => true,
+        }
+    }
+
+    /// Whether a date is set that doesn't say its order by itself.
+    pub(crate) fn is_open(self) -> bool {
+        match self.date() {
+            Some(civil) => !civil.is_fixed(),
+            None => false,
+        }
+    }
+
+    /// Whether both orders say the same.
+    pub(crate) fn is_same_in_both(self) -> bool {
+        match self.date() {
+            Some(civil) => civil.day_in(Order::DayFirst) == civil.day_in(Order::MonthFirst),
+            None => true,
+        }
+    }
+}
