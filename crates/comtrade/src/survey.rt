@@ -4,8 +4,8 @@ use crate::view::file_in;
 use crate::{Inputs, complain, is_folder, pair_of, print_bytes, read_inputs, say};
 use comtrade_cli::{Names, Survey, ToolFault, fault_of};
 use comtrade_views::{
-    Event, Summary, add_events, fault_summary, put_events, put_summaries, sort_events,
-    sort_summaries, summary_of,
+    Event, Summary, add_events, fault_summary, put_events, put_events_json, put_summaries,
+    put_summaries_json, sort_events, sort_summaries, summary_of,
 };
 use std::alloc::AllocError;
 use std::fs;
@@ -143,22 +143,34 @@ fn add_pairs<R: Files + Input + Eprint + AllocGlobal + Clone + Drop>(
     Ok(())
 }
 
-/// The text of what was found.
+/// Brings what was found into its order.
+fn sort(survey: Survey, found: &mut Found) -> Result<(), ToolFault> {
+    match survey {
+        Survey::List => sort_summaries(&mut found.records),
+        Survey::Events => sort_events(&mut found.events),
+    }
+}
+
+/// The text of what was found, or the same as JSON.
 fn text_of<R: AllocGlobal>(
     rt: &R,
     survey: Survey,
+    json: bool,
     found: &mut Found,
 ) -> Result<Vec<u8>, ToolFault> {
     let mut out = Vec::new(rt.alloc());
+    sort(survey, found)?;
     match survey {
+        Survey::List if json => put_summaries_json(rt.alloc(), &mut out, &found.records)?,
+        Survey::Events if json => {
+            put_events_json(rt.alloc(), &mut out, &found.events, &found.names)?
+        }
         Survey::List if found.records.is_empty() => {}
         Survey::List => {
-            sort_summaries(&mut found.records)?;
             put_summaries(rt.alloc(), &mut out, &found.records)?;
         }
         Survey::Events if found.names.is_empty() => {}
         Survey::Events => {
-            sort_events(&mut found.events)?;
             put_events(rt.alloc(), &mut out, &found.events, &found.names)?;
         }
     }
@@ -168,6 +180,7 @@ fn text_of<R: AllocGlobal>(
 fn survey_pairs<R: Files + Input + Eprint + AllocGlobal + Clone + Drop>(
     rt: &R,
     survey: Survey,
+    json: bool,
     pairs: &[String],
 ) -> Result<(Vec<u8>, bool), ToolFault> {
     let mut found = Found {
@@ -177,7 +190,7 @@ fn survey_pairs<R: Files + Input + Eprint + AllocGlobal + Clone + Drop>(
         is_sound: true,
     };
     add_pairs(rt, survey, &mut found, pairs)?;
-    let text = text_of(rt, survey, &mut found)?;
+    let text = text_of(rt, survey, json, &mut found)?;
     Ok((text, found.is_sound))
 }
 
@@ -185,12 +198,13 @@ fn survey_pairs<R: Files + Input + Eprint + AllocGlobal + Clone + Drop>(
 pub(crate) fn run_survey<R: Files + Input + Print + Eprint + AllocGlobal + Clone + Drop>(
     rt: &R,
     survey: Survey,
+    json: bool,
     names: &[&str],
 ) -> u8 {
     let Ok(pairs) = pairs_of(rt, names) else {
         return 1;
     };
-    match survey_pairs(rt, survey, &pairs) {
+    match survey_pairs(rt, survey, json, &pairs) {
         Ok((text, is_sound)) => {
             let status = print_bytes(rt, &text);
             if is_sound { status } else { 1 }
