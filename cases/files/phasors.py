@@ -99,7 +99,8 @@ def main(comtrade, stems):
     for stem in stems:
         record = Record(stem)
         lines = open(stem + ".cfg", newline="").read().split("\r\n")
-        frequency, rate = lines[2 + len(record.analog)], lines[4 + len(record.analog)].split(",")[0]
+        at = 2 + len(record.analog) + len(record.status)
+        frequency, rate = lines[at], lines[at + 2].split(",")[0]
         a_cycle = Fraction(rate) / Fraction(frequency)
         cycles = 1
         while int(a_cycle * (cycles + 1)) <= len(record.rows):
