@@ -17,6 +17,9 @@ completed() {
 }
 completed sho
 completed conv
+completed measure --r
+completed imp
+completed import --da
 completed csv --s
 completed show --from --c
 ../install

@@ -1,4 +1,4 @@
-//! The program: `comtrade show|check|csv|plot FILE [DAT]`, `comtrade convert --kind ascii|binary FILE [DAT] NAME`,
+//! The program: `comtrade show|check|csv|plot|page|measure FILE [DAT]`, `comtrade convert --kind ascii|binary FILE [DAT] NAME`,
 //! `comtrade import FILE [DAT] NAME`, `comtrade extract DIR`.
 #![tactic(auto)]
 
@@ -6,6 +6,8 @@ mod extract;
 mod find;
 mod import;
 mod load;
+mod measure;
+mod source;
 mod survey;
 mod view;
 mod write;
@@ -200,7 +202,7 @@ fn run<R: Files + Input + Print + Eprint + AllocGlobal + Clone + Drop>(
         Asked::View(view, viewed) => run_view(rt, is_watched, view, viewed),
         Asked::Convert(made) => run_convert(rt, is_watched, made),
         Asked::Extract(folder) => run_extract(rt, folder),
-        Asked::Survey(survey, names) => run_survey(rt, survey, &names),
+        Asked::Survey(survey, json, names) => run_survey(rt, survey, json, &names),
     }
 }
 
@@ -235,7 +237,7 @@ fn is_negative(word: &str) -> bool {
 
 /// Whether the value of this option may be below 0.
 fn takes_moment(word: &str) -> bool {
-    word == "--from" || word == "--to"
+    word == "--from" || word == "--to" || word == "--at"
 }
 
 /// Joins a value to the option before it.

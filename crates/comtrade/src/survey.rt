@@ -5,8 +5,8 @@ use crate::{complain, is_folder, print_bytes, say};
 use comtrade_cli::{Names, Survey, ToolFault, fault_of, put, put_safe};
 use comtrade_format::File;
 use comtrade_views::{
-    Event, Summary, add_events, fault_summary, put_events, put_summaries, sort_events,
-    sort_summaries, summary_of,
+    Event, Summary, add_events, fault_summary, put_events, put_events_json, put_summaries,
+    put_summaries_json, sort_events, sort_summaries, summary_of,
 };
 use std::alloc::{AllocError, Global};
 use std::fs;
@@ -176,22 +176,34 @@ fn add_pairs<R: Files + Input + Eprint + AllocGlobal + Clone + Drop>(
     Ok(())
 }
 
-/// The text of what was found.
+/// Brings what was found into its order.
+fn sort(survey: Survey, found: &mut Found) -> Result<(), ToolFault> {
+    match survey {
+        Survey::List => sort_summaries(&mut found.records),
+        Survey::Events => sort_events(&mut found.events),
+    }
+}
+
+/// The text of what was found, or the same as JSON.
 fn text_of<R: AllocGlobal>(
     rt: &R,
     survey: Survey,
+    json: bool,
     found: &mut Found,
 ) -> Result<Vec<u8>, ToolFault> {
     let mut out = Vec::new(rt.alloc());
+    sort(survey, found)?;
     match survey {
+        Survey::List if json => put_summaries_json(rt.alloc(), &mut out, &found.records)?,
+        Survey::Events if json => {
+            put_events_json(rt.alloc(), &mut out, &found.events, &found.names)?
+        }
         Survey::List if found.records.is_empty() => {}
         Survey::List => {
-            sort_summaries(&mut found.records)?;
             put_summaries(rt.alloc(), &mut out, &found.records)?;
         }
         Survey::Events if found.names.is_empty() => {}
         Survey::Events => {
-            sort_events(&mut found.events)?;
             put_events(rt.alloc(), &mut out, &found.events, &found.names)?;
         }
     }
@@ -201,6 +213,7 @@ fn text_of<R: AllocGlobal>(
 fn survey_pairs<R: Files + Input + Eprint + AllocGlobal + Clone + Drop>(
     rt: &R,
     survey: Survey,
+    json: bool,
     pairs: &[String],
 ) -> Result<(Vec<u8>, bool), ToolFault> {
     let mut found = Found {
@@ -210,7 +223,7 @@ fn survey_pairs<R: Files + Input + Eprint + AllocGlobal + Clone + Drop>(
         is_sound: true,
     };
     add_pairs(rt, survey, &mut found, pairs)?;
-    let text = text_of(rt, survey, &mut found)?;
+    let text = text_of(rt, survey, json, &mut found)?;
     Ok((text, found.is_sound))
 }
 
@@ -218,12 +231,13 @@ fn survey_pairs<R: Files + Input + Eprint + AllocGlobal + Clone + Drop>(
 pub(crate) fn run_survey<R: Files + Input + Print + Eprint + AllocGlobal + Clone + Drop>(
     rt: &R,
     survey: Survey,
+    json: bool,
     names: &[&str],
 ) -> u8 {
     let Ok(pairs) = pairs_of(rt, names) else {
         return 1;
     };
-    match survey_pairs(rt, survey, &pairs) {
+    match survey_pairs(rt, survey, json, &pairs) {
         Ok((text, is_sound)) => {
             let status = print_bytes(rt, &text);
             if is_sound { status } else { 1 }

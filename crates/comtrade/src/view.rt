@@ -1,13 +1,14 @@
 //! What is said of a pair of files.
 
 use crate::load::file_in;
-use comtrade_cli::{Part, Picture, ToolFault, View, Viewed, put, put_safe};
+use crate::measure::measure_over;
+use comtrade_cli::{Part, Picture, ToolFault, View, Viewed, put, put_safe, write_out};
 use comtrade_diagnostics::{Pair, check_over};
 use comtrade_format::File;
 use comtrade_part::{PartFault, is_whole, part_of};
 use comtrade_plot::{PlotOptions, page_over, plot_over};
-use comtrade_views::{Spelling, csv_over, show_over, times_since_trigger};
-use std::alloc::Allocator;
+use comtrade_views::{Spelling, csv_over, put_text, show_json, show_over, times_since_trigger};
+use std::alloc::{AllocError, Allocator, Global};
 use std::io::Write;
 
 const NO_SPELLING: &str = "\
@@ -22,6 +23,7 @@ const NO_SIZE: &str =
 struct Look {
     spelling: Spelling,
     options: PlotOptions,
+    json: bool,
 }
 
 /// A number of pixels; none where the text isn't one.
@@ -54,11 +56,11 @@ fn options_of(picture: Picture<'_>) -> Option<PlotOptions> {
 }
 
 /// Prints what is asked of a file, whose rows were taken at these times, in nanoseconds since the trigger.
-fn put_view<A: Allocator + Copy, W: Write>(
-    alloc: A,
+fn put_view<W: Write>(
+    alloc: Global,
     view: View,
     look: Look,
-    file: &File<A>,
+    file: &File,
     times: &[Option<i64>],
     w: &mut W,
 ) -> Result<(), ToolFault> {
@@ -66,6 +68,7 @@ fn put_view<A: Allocator + Copy, W: Write>(
         View::Csv => csv_over(alloc, file, times, look.spelling, w),
         View::Plot => plot_over(alloc, file, times, look.options, w),
         View::Page => page_over(alloc, file, times, w),
+        _ if look.json => write_out(w, &show_json(alloc, file, times)?),
         _ => show_over(alloc, file, times, w),
     }
 }
@@ -86,15 +89,15 @@ pub(crate) fn put_part_fault<A: Allocator + Copy>(
 }
 
 /// Prints what is asked of a part of a file; false where it has none, which is put to `said`.
-fn put_part<A: Allocator + Copy, W: Write>(
-    alloc: A,
+fn put_part<W: Write>(
+    alloc: Global,
     view: View,
     look: Look,
     part: Part<'_>,
-    file: &File<A>,
+    file: &File,
     times: &[Option<i64>],
     w: &mut W,
-    said: &mut Vec<u8, A>,
+    said: &mut Vec<u8>,
 ) -> Result<bool, ToolFault> {
     match part_of(alloc, file, part) {
         Ok(cut) => {
@@ -112,18 +115,57 @@ fn put_part<A: Allocator + Copy, W: Write>(
     }
 }
 
+/// Prints the verdict on a pair, as text or as JSON.
+fn check<W: Write>(
+    alloc: Global,
+    viewed: Viewed<'_>,
+    pair: Pair<'_>,
+    w: &mut W,
+) -> Result<bool, ToolFault> {
+    if !viewed.json {
+        return check_over(alloc, pair, w);
+    }
+    let mut text = Vec::new(alloc);
+    let is_sound = check_over(alloc, pair, &mut text)?;
+    let out = verdict_json(alloc, is_sound, &text)?;
+    write_out(w, &out)?;
+    Ok(is_sound)
+}
+
+/// A verdict as an object of JSON.
+fn verdict_json(alloc: Global, is_sound: bool, text: &[u8]) -> Result<Vec<u8>, AllocError> {
+    let mut out = Vec::new(alloc);
+    put(
+        &mut out,
+        if is_sound {
+            "{\"sound\":true"
+        } else {
+            "{\"sound\":false"
+        },
+    )?;
+    put(&mut out, ",\"lines\":[")?;
+    let mut before = "";
+    for line in str::from_utf8(text).unwrap_or("").lines() {
+        put(&mut out, before)?;
+        put_text(alloc, &mut out, line.as_bytes())?;
+        before = ",";
+    }
+    put(&mut out, "]}\n")?;
+    Ok(out)
+}
+
 /// Prints what is asked of a part of a pair: false where the pair has a fault, or no such part. The fault's line is what `Check` prints;
 /// the others put it to `said` and print nothing. The repairs of a pair that isn't read exactly are put to `said`, too.
-pub(crate) fn view_over<A: Allocator + Copy, W: Write>(
-    alloc: A,
+pub(crate) fn view_over<W: Write>(
+    alloc: Global,
     view: View,
     viewed: Viewed<'_>,
     pair: Pair<'_>,
     w: &mut W,
-    said: &mut Vec<u8, A>,
+    said: &mut Vec<u8>,
 ) -> Result<bool, ToolFault> {
     if view == View::Check {
-        return check_over(alloc, pair, w);
+        return check(alloc, viewed, pair, w);
     }
     let Some(spelling) = Spelling::of(viewed.form.separator, viewed.form.decimal) else {
         put(said, NO_SPELLING)?;
@@ -133,11 +175,18 @@ pub(crate) fn view_over<A: Allocator + Copy, W: Write>(
         put(said, NO_SIZE)?;
         return Ok(false);
     };
-    let look = Look { spelling, options };
+    let look = Look {
+        spelling,
+        options,
+        json: viewed.json,
+    };
     let Some(file) = file_in(alloc, pair, viewed.part.strict, said)? else {
         return Ok(false);
     };
     let times = times_since_trigger(alloc, &file)?;
+    if view == View::Measure {
+        return measure_over(alloc, viewed, &file, &times, w, said);
+    }
     if is_whole(viewed.part) {
         put_view(alloc, view, look, &file, &times, w)?;
         return Ok(true);

@@ -48,6 +48,7 @@ view_isnt_convert view.Check e = below 104 111 (letter 1 _ _ e) refl
 view_isnt_convert view.Csv e = below 111 115 (letter 1 _ _ (sym e)) refl
 view_isnt_convert view.Plot e = below 99 112 (letter 0 _ _ (sym e)) refl
 view_isnt_convert view.Page e = below 99 112 (letter 0 _ _ (sym e)) refl
+view_isnt_convert view.Measure e = below 99 109 (letter 0 _ _ (sym e)) refl
 
 view_isnt_extract : (v : View) → view_name v ≡ codes "extract" → ⊥
 view_isnt_extract view.Show e = below 101 115 (letter 0 _ _ (sym e)) refl
@@ -55,6 +56,7 @@ view_isnt_extract view.Check e = below 99 101 (letter 0 _ _ e) refl
 view_isnt_extract view.Csv e = below 99 101 (letter 0 _ _ e) refl
 view_isnt_extract view.Plot e = below 101 112 (letter 0 _ _ (sym e)) refl
 view_isnt_extract view.Page e = below 101 112 (letter 0 _ _ (sym e)) refl
+view_isnt_extract view.Measure e = below 101 109 (letter 0 _ _ (sym e)) refl
 
 survey_isnt_convert : (s : Survey) → survey_name s ≡ codes "convert" → ⊥
 survey_isnt_convert survey.List e = below 99 108 (letter 0 _ _ (sym e)) refl
@@ -70,11 +72,13 @@ survey_isnt_view survey.List view.Check e = below 99 108 (letter 0 _ _ (sym e)) 
 survey_isnt_view survey.List view.Csv e = below 99 108 (letter 0 _ _ (sym e)) refl
 survey_isnt_view survey.List view.Plot e = below 108 112 (letter 0 _ _ e) refl
 survey_isnt_view survey.List view.Page e = below 108 112 (letter 0 _ _ e) refl
+survey_isnt_view survey.List view.Measure e = below 108 109 (letter 0 _ _ e) refl
 survey_isnt_view survey.Events view.Show e = below 101 115 (letter 0 _ _ e) refl
 survey_isnt_view survey.Events view.Check e = below 99 101 (letter 0 _ _ (sym e)) refl
 survey_isnt_view survey.Events view.Csv e = below 99 101 (letter 0 _ _ (sym e)) refl
 survey_isnt_view survey.Events view.Plot e = below 101 112 (letter 0 _ _ e) refl
 survey_isnt_view survey.Events view.Page e = below 101 112 (letter 0 _ _ e) refl
+survey_isnt_view survey.Events view.Measure e = below 101 109 (letter 0 _ _ e) refl
 
 extract_isnt_convert : codes "extract" ≡ codes "convert" → ⊥
 extract_isnt_convert e = below 99 101 (letter 0 _ _ (sym e)) refl
@@ -84,19 +88,19 @@ pub no_view : (r : List Row) (v : View) → ((names : Names) → AreNames r name
 no_view r v none (asks.View w viewed) h = none viewed.names h.1.names
 no_view r v none (asks.Convert made) h = view_isnt_convert v (sym h.0)
 no_view r v none (asks.Extract folder) h = view_isnt_extract v (sym h.0)
-no_view r v none (asks.Survey s surveyed) h = survey_isnt_view s v h.0
+no_view r v none (asks.Survey s json surveyed) h = survey_isnt_view s v h.0
 
 pub no_convert : (r : List Row) → ((made : Converted) → IsConverted r made → ⊥) → FitsNothing (Asks r (codes "convert"))
 no_convert r none (asks.View w viewed) h = view_isnt_convert w h.0
 no_convert r none (asks.Convert made) h = none made h.1
 no_convert r none (asks.Extract folder) h = extract_isnt_convert h.0
-no_convert r none (asks.Survey s surveyed) h = survey_isnt_convert s h.0
+no_convert r none (asks.Survey s json surveyed) h = survey_isnt_convert s h.0
 
 pub no_extract : (r : List Row) → None ≡ first_of (codes "DIR") r → FitsNothing (Asks r (codes "extract"))
 no_extract r none (asks.View w viewed) h = view_isnt_extract w h.0
 no_extract r none (asks.Convert made) h = extract_isnt_convert (sym h.0)
 no_extract r none (asks.Extract folder) h = absurd (let e = none ∙ h.1 in cc)
-no_extract r none (asks.Survey s surveyed) h = survey_isnt_extract s h.0
+no_extract r none (asks.Survey s json surveyed) h = survey_isnt_extract s h.0
 
 -- nor where no command has the name
 pub no_command : (r : List Row) (verb : Text) → ((v : View) → view_name v ≡ verb → ⊥) → ((s : Survey) → survey_name s ≡ verb → ⊥)
@@ -104,7 +108,7 @@ pub no_command : (r : List Row) (verb : Text) → ((v : View) → view_name v �
 no_command r verb view survey convert extract (asks.View w viewed) h = view w h.0
 no_command r verb view survey convert extract (asks.Convert made) h = convert h.0
 no_command r verb view survey convert extract (asks.Extract folder) h = extract h.0
-no_command r verb view survey convert extract (asks.Survey s surveyed) h = survey s h.0
+no_command r verb view survey convert extract (asks.Survey s json surveyed) h = survey s h.0
 
 -- a name and rows that are those of what a parse met
 pair : (o : Option (Text × List Row)) (verb : Text) (r : List Row) → Some verb ≡ option_map (λ p. p.0) o → Some r ≡ option_map (λ p. p.1) o → o ≡ Some (verb, r)

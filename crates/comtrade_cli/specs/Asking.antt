@@ -9,6 +9,7 @@ use Rattle.comtrade_cli.specs.declared.words.Names.{Names}
 use Rattle.comtrade_cli.specs.declared.words.Part.{Part}
 use Rattle.comtrade_cli.specs.declared.words.Form.{Form}
 use Rattle.comtrade_cli.specs.declared.words.Picture.{Picture}
+use Rattle.comtrade_cli.specs.declared.words.Cursor.{Cursor}
 use Rattle.comtrade_cli.specs.declared.words.View.{View}
 use Rattle.comtrade_cli.specs.declared.words.View.TheVariants as view
 use Rattle.comtrade_cli.specs.declared.words.Viewed.{Viewed}
@@ -54,6 +55,11 @@ pub record AreForm (rows : List Row) (form : Form) : Type 0 where
   pub separator : IsOption rows (codes "separator") form.separator
   pub decimal : IsOption rows (codes "decimal") form.decimal
 
+-- a moment, and the channel from which angles are counted
+pub record AreCursor (rows : List Row) (cursor : Cursor) : Type 0 where
+  pub at : IsOption rows (codes "at") cursor.at
+  pub reference : IsOption rows (codes "reference") cursor.reference
+
 -- how a picture is drawn
 pub record ArePicture (rows : List Row) (picture : Picture) : Type 0 where
   pub whole : IsFlag rows (codes "whole") picture.whole
@@ -67,6 +73,7 @@ view_name view.Check = codes "check"
 view_name view.Csv = codes "csv"
 view_name view.Plot = codes "plot"
 view_name view.Page = codes "page"
+view_name view.Measure = codes "measure"
 
 abbrev pub survey_name : Survey → Text
 survey_name survey.List = codes "list"
@@ -77,6 +84,8 @@ pub record IsViewed (rows : List Row) (v : Viewed) : Type 0 where
   pub part : ArePart rows v.part
   pub form : AreForm rows v.form
   pub picture : ArePicture rows v.picture
+  pub cursor : AreCursor rows v.cursor
+  pub json : IsFlag rows (codes "json") v.json
 
 -- the last of two or three names is the new pair's, the second of three the data file's
 pub record IsConverted (rows : List Row) (made : Converted) : Type 0 where
@@ -99,7 +108,7 @@ abbrev pub Asks : List Row → Text → Asked → Type 0
 Asks rows verb (asks.View v viewed) = (view_name v ≡ verb) × IsViewed rows viewed
 Asks rows verb (asks.Convert made) = (codes "convert" ≡ verb) × IsConverted rows made
 Asks rows verb (asks.Extract folder) = (codes "extract" ≡ verb) × (first_of (codes "DIR") rows ≡ Some folder.now)
-Asks rows verb (asks.Survey s names) = (survey_name s ≡ verb) × AreAll rows (map (λ s. s.now) names.items)
+Asks rows verb (asks.Survey s json names) = (survey_name s ≡ verb) × IsFlag rows (codes "json") json × AreAll rows (map (λ s. s.now) names.items)
 
 -- the same, of a command that a parse met
 abbrev pub AsksAs : Option (Text × List Row) → Asked → Type 0

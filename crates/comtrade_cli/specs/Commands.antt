@@ -46,6 +46,14 @@ abbrev pub with_picture : App → App
 with_picture a = with_rule (with_rule (with_rule (with_rule a
     (flag (codes "whole"))) (flag (codes "all"))) (option (codes "width"))) (option (codes "height"))
 
+-- a moment, and the channel from which angles are counted
+abbrev pub with_cursor : App → App
+with_cursor a = with_rule (with_rule a (option (codes "at"))) (option (codes "reference"))
+
+-- whether it is printed as JSON
+abbrev pub with_json : App → App
+with_json a = with_rule a (flag (codes "json"))
+
 -- how a table of values is written
 abbrev pub with_table : App → App
 with_table a = with_rule (with_rule a (option (codes "separator"))) (option (codes "decimal"))
@@ -56,10 +64,10 @@ over_pair name = with_rule (with_rule (new_app name) (word (codes "FILE"))) (fre
 
 -- the commands that print what is in a pair
 abbrev pub show : App
-show = with_part (over_pair (codes "show"))
+show = with_json (with_part (over_pair (codes "show")))
 
 abbrev pub check : App
-check = over_pair (codes "check")
+check = with_json (over_pair (codes "check"))
 
 abbrev pub csv : App
 csv = with_table (with_part (over_pair (codes "csv")))
@@ -69,6 +77,9 @@ plot = with_picture (with_part (over_pair (codes "plot")))
 
 abbrev pub page : App
 page = with_part (over_pair (codes "page"))
+
+abbrev pub measure : App
+measure = with_json (with_cursor (with_part (over_pair (codes "measure"))))
 
 -- with three names the second is the data file's
 abbrev pub convert_names : App
@@ -86,7 +97,7 @@ extract = with_rule (new_app (codes "extract")) (word (codes "DIR"))
 
 -- a command over folders and files
 abbrev pub over_names : Text → App
-over_names name = with_rule (new_app name) (words (codes "NAMES"))
+over_names name = with_json (with_rule (new_app name) (words (codes "NAMES")))
 
 abbrev pub list : App
 list = over_names (codes "list")
@@ -111,7 +122,7 @@ abbrev pub surveys : App → App
 surveys a = with_subcommand (with_subcommand a list.top) events.top
 
 abbrev pub program : Bor (List (Bor (List ℕ))) → App
-program kinds = with_subcommand (with_subcommand (surveys (views top)) (convert kinds).top) extract.top
+program kinds = with_subcommand (with_subcommand (with_subcommand (surveys (views top)) measure.top) (convert kinds).top) extract.top
 
 -- the words for kinds of data
 abbrev pub AreKinds : Bor (List (Bor (List ℕ))) → Type 0

@@ -6,7 +6,9 @@ ghost use Rattle.comtrade_cli.specs.Asking.{AnswersTo, Asks, AsksAs, Does, FitsN
 ghost use Rattle.comtrade_cli.specs.Asking as Spec;
 
 use crate::commands::comtrade;
-use crate::matched::{form_of, kind_of, named, names_of, part_of, picture_of, text_of, texts_of};
+use crate::matched::{
+    cursor_of, form_of, is_set, kind_of, named, names_of, part_of, picture_of, text_of, texts_of,
+};
 use crate::words::{Asked, Converted, Survey, View, Viewed};
 use clap::error::ErrorKind;
 use clap::{ArgMatches, Error};
@@ -42,6 +44,9 @@ fn view_of(verb: &str) -> Option<View>
     if verb == "page" {
         return Some(View::Page);
     }
+    if verb == "measure" {
+        return Some(View::Measure);
+    }
     None
 }
 
@@ -73,6 +78,8 @@ fn viewed_of<'a>(view: View, found: &ArgMatches<'a>) -> Option<Asked<'a>>
             part: part_of(found),
             form: form_of(found),
             picture: picture_of(found),
+            cursor: cursor_of(found),
+            json: is_set(found, "json"),
         },
     ))
 }
@@ -130,7 +137,7 @@ fn surveyed_of<'a>(
     ensures { IfOk result (Asks (rows_of (found_of found.now)) (Spec.survey_name survey)) }
 {
     let names = texts_of(alloc, found, "NAMES")?;
-    Ok(Asked::Survey(survey, names))
+    Ok(Asked::Survey(survey, is_set(found, "json"), names))
 }
 
 /// What a command's matches ask for.

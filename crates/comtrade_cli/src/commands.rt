@@ -6,7 +6,9 @@ ghost use Rattle.clap.specs.Words.{App};
 ghost use Rattle.comtrade_cli.specs.Commands.{IsCommand, IsKinded};
 ghost use Rattle.comtrade_cli.specs.Commands as Spec;
 
-use crate::options::{free_word, with_part, with_picture, with_table, word, words};
+use crate::options::{
+    free_word, with_cursor, with_json, with_part, with_picture, with_table, word, words,
+};
 use clap::Command;
 use std::alloc::{AllocError, Global};
 
@@ -20,8 +22,22 @@ letters. With DAT both are named; one of them may be -, which is standard input.
 Status: 0 all of it was done; 1 a fault of the files, or what can't be read or written; 2 words that ask for nothing.";
 
 const TOP_HELP: &str = "\
-comtrade import FILE [DAT] NAME makes a pair of 1999 of what relays write: of 1991, 1999 or 2013, a pair or a single file (.cff); \
-comtrade import --help says how.
+Many records, one after a storm:
+  comtrade list storm                            which record, by instant, with the greatest current
+  comtrade events storm/rec1 storm/rec2          what happened, in one list by time
+
+One record:
+  comtrade show rec1                             names, rates, channels, contacts, gaps
+  comtrade check rec1                            its first fault, or that it has none
+  comtrade measure --at 20 rec1                  rms values, phasors, sequence components at a moment
+  comtrade plot rec1 > rec1.svg                  a picture
+  comtrade page rec1 > rec1.html                 a page for a browser
+  comtrade csv --separator ';' --decimal ',' rec1 > rec1.csv
+
+Other files of it:
+  comtrade convert --kind binary --from -20 --to 100 rec1 report
+  comtrade import OLD.CFG new                    a pair of 1999 of what relays write, also of 1991, 2013 and single files (.cff)
+  dfr replay < script | comtrade extract records
 
 FILE is a configuration file (.cfg), a data file (.dat) or what both are called: its partner is found by its name, in any case of \
 letters. With DAT both are named; one of them may be -, which is standard input.
@@ -53,17 +69,16 @@ fn show<'a>(alloc: Global) -> Result<Command<'a>, AllocError>
 {
     let about = "Prints what is in a pair: names, instants, channels, extremes, changes, gaps";
     let pair = over_pair(alloc, "show", about)?;
-    with_part(alloc, pair)
+    let part = with_part(alloc, pair)?;
+    with_json(alloc, part)
 }
 
 fn check<'a>(alloc: Global) -> Result<Command<'a>, AllocError>
     ensures { IfOk result (IsCommand Spec.check) }
 {
-    over_pair(
-        alloc,
-        "check",
-        "Prints the first fault of a pair, or that it has none",
-    )
+    let about = "Prints the first fault of a pair, or that it has none";
+    let pair = over_pair(alloc, "check", about)?;
+    with_json(alloc, pair)
 }
 
 fn csv<'a>(alloc: Global) -> Result<Command<'a>, AllocError>
@@ -89,6 +104,17 @@ fn page<'a>(alloc: Global) -> Result<Command<'a>, AllocError>
     let about = "Prints a page that shows the record in a browser, in one file";
     let pair = over_pair(alloc, "page", about)?;
     with_part(alloc, pair)
+}
+
+fn measure<'a>(alloc: Global) -> Result<Command<'a>, AllocError>
+    ensures { IfOk result (IsCommand Spec.measure) }
+{
+    let about =
+        "Prints where currents left their course; of a moment or window phasors, harmonics, sequence components";
+    let pair = over_pair(alloc, "measure", about)?;
+    let part = with_part(alloc, pair)?;
+    let cursor = with_cursor(alloc, part)?;
+    with_json(alloc, cursor)
 }
 
 /// The names of `convert`: with three of them the second is the data file's.
@@ -149,10 +175,11 @@ fn extract<'a>(alloc: Global) -> Result<Command<'a>, AllocError>
 fn over_names<'a>(alloc: Global, name: &'a str, about: &'a str) -> Result<Command<'a>, AllocError>
     ensures { IfOk result (IsCommand (Spec.over_names name.entry.now)) }
 {
-    Command::new(alloc, name)
+    let named = Command::new(alloc, name)
         .about(about)
         .after_help(SURVEY_STATUS)
-        .arg(words(alloc, "NAMES", "Folders with pairs, and pairs"))
+        .arg(words(alloc, "NAMES", "Folders with pairs, and pairs"))?;
+    with_json(alloc, named)
 }
 
 fn list<'a>(alloc: Global) -> Result<Command<'a>, AllocError>
@@ -219,6 +246,7 @@ pub(crate) fn comtrade<'a>(alloc: Global) -> Result<Command<'a>, AllocError>
     let viewing = views(alloc, top)?;
     let surveying = surveys(alloc, viewing)?;
     surveying
+        .subcommand(measure(alloc)?)?
         .subcommand(convert(alloc)?)?
         .subcommand(extract(alloc)?)
 }

@@ -2,9 +2,9 @@
 
 ghost use Rattle.std.specs.Prelude.{◌≡◌, ◌↔◌, IfOk, IsTrue, MatchOption, Some, codes, map, option_map, unwrap_or, []};
 ghost use Rattle.clap.specs.Words.{all_of, first_of, found_of, rows_of};
-ghost use Rattle.comtrade_cli.specs.Asking.{AreForm, AreNames, ArePart, ArePicture, IsFlag, IsNamed, IsOption};
+ghost use Rattle.comtrade_cli.specs.Asking.{AreForm, AreNames, AreCursor, ArePart, ArePicture, IsFlag, IsNamed, IsOption};
 
-use crate::words::{Form, Names, Part, Picture};
+use crate::words::{Cursor, Form, Names, Part, Picture};
 use clap::ArgMatches;
 use comtrade_format::Kind;
 use std::alloc::{AllocError, Global};
@@ -90,6 +90,16 @@ pub(crate) fn picture_of<'a>(found: &ArgMatches<'a>) -> Picture<'a>
         all: is_set(found, "all"),
         width: text_of(found, "width"),
         height: text_of(found, "height"),
+    }
+}
+
+/// A moment, and the channel from which angles are counted.
+pub(crate) fn cursor_of<'a>(found: &ArgMatches<'a>) -> Cursor<'a>
+    ensures { AreCursor (rows_of (found_of found.now)) result }
+{
+    Cursor {
+        at: text_of(found, "at"),
+        reference: text_of(found, "reference"),
     }
 }
 

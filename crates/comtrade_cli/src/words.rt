@@ -38,6 +38,13 @@ pub struct Form<'a> {
     pub decimal: Option<&'a str>,
 }
 
+/// A moment of a record, and the channel from which angles are counted there, as texts that are not parsed yet.
+#[derive(Clone, Copy, Debug)]
+pub struct Cursor<'a> {
+    pub at: Option<&'a str>,
+    pub reference: Option<&'a str>,
+}
+
 /// The commands over one pair of files that print what is in it.
 #[derive(Clone, Copy, Debug, PartialEq, Eq)]
 pub enum View {
@@ -51,6 +58,8 @@ pub enum View {
     Plot,
     /// A page that shows it in a browser.
     Page,
+    /// What is measured in it.
+    Measure,
 }
 
 /// How a picture is drawn, its sizes as texts that are not parsed yet.
@@ -73,6 +82,9 @@ pub struct Viewed<'a> {
     pub part: Part<'a>,
     pub form: Form<'a>,
     pub picture: Picture<'a>,
+    pub cursor: Cursor<'a>,
+    /// As JSON.
+    pub json: bool,
 }
 
 /// A pair of files, and the pair that is written in its place.
@@ -103,6 +115,6 @@ pub enum Asked<'a> {
     Convert(Converted<'a>),
     /// The pairs that a replay printed, into a folder.
     Extract(&'a str),
-    /// What is in many pairs: those of these names, and those in folders of these names.
-    Survey(Survey, Vec<&'a str>),
+    /// What is in many pairs: those of these names, and those in folders of these names; as JSON where that is asked for.
+    Survey(Survey, bool, Vec<&'a str>),
 }

@@ -247,13 +247,12 @@ fn put_event<A: Allocator>(
     end_row(table)
 }
 
-/// The table of events of the records with these names.
-pub fn put_events<A: Allocator + Copy>(
+/// The table of events of the records with these names, a line of names above them.
+pub(crate) fn event_table<A: Allocator + Copy>(
     alloc: A,
-    out: &mut Vec<u8, A>,
     events: &[Event<A>],
     names: &[String],
-) -> Result<(), ToolFault> {
+) -> Result<Vec<u8, A>, AllocError> {
     let mut table = Vec::new(alloc);
     put_cell(&mut table, "instant")?;
     put_cell(&mut table, "ms since trigger")?;
@@ -268,6 +267,17 @@ pub fn put_events<A: Allocator + Copy>(
         put_event(&mut table, event, before, names)?;
         before = event.at.or(before);
     }
+    Ok(table)
+}
+
+/// The table of events of the records with these names.
+pub fn put_events<A: Allocator + Copy>(
+    alloc: A,
+    out: &mut Vec<u8, A>,
+    events: &[Event<A>],
+    names: &[String],
+) -> Result<(), ToolFault> {
+    let table = event_table(alloc, events, names)?;
     put_table(alloc, out, &table)?;
     Ok(())
 }

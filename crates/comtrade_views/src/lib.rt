@@ -3,18 +3,31 @@
 
 mod comma_separated;
 mod events;
+mod float;
+mod head_json;
 mod instant;
+mod json;
+mod measure;
+mod measure_record;
+mod measure_tables;
 mod number;
 mod peaks;
 mod show;
 mod show_analog;
 mod show_status;
+mod shown;
 mod summary;
+mod survey_json;
 mod table;
 mod times;
 
 pub use comma_separated::{Spelling, csv_over};
 pub use events::{Event, add_events, put_events, sort_events};
+pub use head_json::show_json;
+pub use json::put_text;
+pub use measure::{Measuring, measure_text};
 pub use show::show_over;
+pub use shown::Shown;
 pub use summary::{Summary, fault_summary, put_summaries, sort_summaries, summary_of};
+pub use survey_json::{put_events_json, put_summaries_json};
 pub use times::times_since_trigger;

@@ -126,7 +126,7 @@ fn put_peaks<A: Allocator>(
 }
 
 /// The rows of the table, a line of names above them.
-fn put_rows<A: Allocator>(
+pub(crate) fn put_rows<A: Allocator>(
     table: &mut Vec<u8, A>,
     file: &File<A>,
     clock: Clock<'_>,

@@ -76,6 +76,23 @@ fn put_contact<A: Allocator>(
     put_cell(table, if channel.normal { "1" } else { "0" })
 }
 
+/// The rows of the table, a line of names above them.
+pub(crate) fn put_contacts<A: Allocator>(
+    table: &mut Vec<u8, A>,
+    file: &File<A>,
+    clock: Clock<'_>,
+) -> Result<(), AllocError> {
+    put(
+        table,
+        "n\x1Fid\x1Fphase\x1Fcomponent\x1Fnormal\x1Fat first\x1Fchanges\n",
+    )?;
+    for (i, channel) in file.head.status.items().iter().enumerate() {
+        put_contact(table, channel, i.saturating_add(1))?;
+        put_changes(table, file.rows.items(), clock, i)?;
+    }
+    Ok(())
+}
+
 /// The status channels.
 pub(crate) fn put_status<A: Allocator + Copy>(
     alloc: A,
@@ -95,13 +112,6 @@ pub(crate) fn put_status<A: Allocator + Copy>(
         return Ok(());
     }
     let mut table = Vec::new(alloc);
-    put(
-        &mut table,
-        "n\x1Fid\x1Fphase\x1Fcomponent\x1Fnormal\x1Fat first\x1Fchanges\n",
-    )?;
-    for (i, channel) in channels.iter().enumerate() {
-        put_contact(&mut table, channel, i.saturating_add(1))?;
-        put_changes(&mut table, file.rows.items(), clock, i)?;
-    }
+    put_contacts(&mut table, file, clock)?;
     put_table(alloc, out, &table)
 }

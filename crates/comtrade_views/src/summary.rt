@@ -11,15 +11,28 @@ use comtrade_values::nearest_f64;
 use dfr_channels::{AnalogChannel, Side};
 use std::alloc::{AllocError, Allocator, Global};
 
+/// The columns of the table.
+const NAMES: [&str; 9] = [
+    "trigger",
+    "ms",
+    "scans/s",
+    "channels",
+    "changed",
+    "greatest current",
+    "station",
+    "device",
+    "record",
+];
+
 /// A record in one line, or why it has none.
 #[derive(Debug, Drop)]
 pub struct Summary<A: Allocator = Global> {
     /// The trigger, in microseconds since 1970-01-01 00:00:00; none of a pair with a fault.
-    trigger: Option<i64>,
+    pub(crate) trigger: Option<i64>,
     /// The name of the pair.
-    name: Vec<u8, A>,
+    pub(crate) name: Vec<u8, A>,
     /// The cells after the instant, or the fault's line.
-    text: Vec<u8, A>,
+    pub(crate) text: Vec<u8, A>,
 }
 
 /// How often a channel's greatest current is its nominal one, and the current.
@@ -223,32 +236,31 @@ fn put_summary<A: Allocator>(
     Ok(())
 }
 
+/// The table of the records without a fault, a line of names above them.
+pub(crate) fn summary_table<A: Allocator + Copy>(
+    alloc: A,
+    records: &[Summary<A>],
+) -> Result<Vec<u8, A>, AllocError> {
+    let mut table = Vec::new(alloc);
+    for name in NAMES {
+        put_cell(&mut table, name)?;
+    }
+    end_row(&mut table)?;
+    for record in records {
+        put_summary(&mut table, record)?;
+    }
+    Ok(table)
+}
+
 /// The table of records, then the faults, then how many there are.
 pub fn put_summaries<A: Allocator + Copy>(
     alloc: A,
     out: &mut Vec<u8, A>,
     records: &[Summary<A>],
 ) -> Result<(), ToolFault> {
-    let mut table = Vec::new(alloc);
-    for name in [
-        "trigger",
-        "ms",
-        "scans/s",
-        "channels",
-        "changed",
-        "greatest current",
-        "station",
-        "device",
-        "record",
-    ] {
-        put_cell(&mut table, name)?;
-    }
-    end_row(&mut table)?;
-    let mut faulty = 0u64;
-    for record in records {
-        put_summary(&mut table, record)?;
-    }
+    let table = summary_table(alloc, records)?;
     put_table(alloc, out, &table)?;
+    let mut faulty = 0u64;
     for record in records {
         if record.trigger.is_none() {
             faulty = faulty.saturating_add(1);

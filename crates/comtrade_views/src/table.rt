@@ -4,7 +4,7 @@ use comtrade_cli::put;
 use std::alloc::{AllocError, Allocator};
 
 /// Ends a cell; texts of a file hold no such byte once they are printable.
-const CELL: u8 = 0x1F;
+pub(crate) const CELL: u8 = 0x1F;
 
 pub(crate) fn end_cell<A: Allocator>(table: &mut Vec<u8, A>) -> Result<(), AllocError> {
     table.extend_from_slice(&[CELL])

@@ -7,9 +7,10 @@ returns c =
     let viewing = c.in_ok-viewing.ensures c.in_ok-top.ensures in
     let surveying = c.in_ok-surveying.ensures _ viewing in
     let kinded = c.in_ok-convert.ensures in
-    let converting = added _ _ _ _ _ surveying kinded.command c.in_ok-subcommand.ensures in
-    IfOk-weaker c.subcommand-2.result _ _ (λ r h. record {
+    let measuring = added _ _ _ _ _ surveying c.in_ok-measure.ensures c.in_ok-subcommand.ensures in
+    let converting = added _ _ _ _ _ measuring kinded.command c.in_ok-subcommand-2.ensures in
+    IfOk-weaker c.subcommand-3.result _ _ (λ r h. record {
       kinds = kinded.kinds;
       words = kinded.words;
       command = added _ _ _ _ _ converting c.in_ok-extract.ensures h;
-    }) c.subcommand-2.ensures
+    }) c.subcommand-3.ensures

@@ -1,0 +1,4 @@
+use Rattle.comtrade_cli.proofs.commands.measure.Goals as goal
+
+pub returns : goal.returns
+returns c = c.with_json.ensures _ (c.in_ok-cursor.ensures _ (c.in_ok-part.ensures _ c.in_ok-pair.ensures))

@@ -1,0 +1,58 @@
+//! Why rows can't be measured.
+
+use dfr_channels::Memory;
+use std::alloc::{AllocError, AllocFailed};
+use thiserror::Error;
+
+/// Why rows can't be measured.
+#[derive(Clone, Copy, Debug, PartialEq, Eq, Error)]
+pub enum MeasureFault {
+    /// An allocation failed.
+    #[error("out of memory")]
+    Memory,
+    /// The line frequency isn't over 0 (C37.111-1999, 5.3.5).
+    #[error("the configuration file says no line frequency: nothing is measured over its cycles")]
+    NoFrequency,
+    /// No rate says when rows were taken (5.3.6).
+    #[error("the configuration file says no rate: nothing is measured over cycles by stamps alone")]
+    NoRate,
+    /// The rows have more than one rate.
+    #[error("the rows have several rates: a window within one of them can be measured")]
+    ManyRates,
+    /// The rows of a cycle are no quotient of two numbers of 64 bits.
+    #[error("the rate and the line frequency have too many digits")]
+    Digits,
+    /// There are fewer than 3 rows a cycle.
+    #[error("the rate gives fewer than 3 rows a cycle")]
+    Slow,
+    /// There are fewer than 8 rows a cycle.
+    #[error("the rate gives fewer than 8 rows a cycle: too few to see where currents left their course")]
+    Coarse,
+    /// There are this many rows, and a cycle has more.
+    #[error("the rows of one rate are {0}, and a whole cycle has {1}")]
+    Short(u64, u64),
+    /// No channel that was measured is called so, or has this number.
+    #[error("no analogue channel is called as the reference is")]
+    NoReference,
+    /// The reference has no angle.
+    #[error("the reference has no angle: a reading is missing, or it has no part at the line frequency")]
+    NoAngle,
+}
+
+impl From<AllocError> for MeasureFault {
+    fn from(_error: AllocError) -> MeasureFault {
+        MeasureFault::Memory
+    }
+}
+
+impl From<Memory> for MeasureFault {
+    fn from(_error: Memory) -> MeasureFault {
+        MeasureFault::Memory
+    }
+}
+
+impl<T: Drop> From<AllocFailed<T>> for MeasureFault {
+    fn from(_error: AllocFailed<T>) -> MeasureFault {
+        MeasureFault::Memory
+    }
+}

@@ -1,0 +1,174 @@
+//! The channels of a file over a window's whole cycles.
+
+use crate::fault::MeasureFault;
+use crate::matrix::{Matrix, at, zeros};
+use crate::phasor::Phasor;
+use crate::readings::value_in;
+use crate::sums::{Turning, add_row, equations, place_of};
+use crate::window::Window;
+use comtrade_format::{File, Row};
+use comtrade_values::{Scale, nearest_f64, scale_of};
+use dfr_channels::{AnalogChannel, Decimal};
+use std::alloc::{Allocator, Global};
+use std::f64::consts::{SQRT_2, TAU};
+use std::num::nearest_usize_to_f64;
+
+/// A channel over whole cycles, in its unit.
+#[derive(Debug, Drop)]
+pub struct Measured<A: Allocator = Global> {
+    /// The square root of the mean square.
+    pub rms: f64,
+    /// The rms value and the angle at the line frequency; the angle is that of a cosine, at the window's first row.
+    pub phasor: Phasor,
+    /// The dc part.
+    pub dc: f64,
+    /// The value farthest from 0, the first of those, and the index of its row.
+    pub peak: f64,
+    pub peak_row: usize,
+    /// The rms values of the orders 1, 2, .., at most 25 and less than half the rows of a cycle.
+    pub orders: Vec<f64, A>,
+}
+
+impl<A: Allocator> Measured<A> {
+    /// Whether the part at the line frequency is over a 10^9th of the peak: else its angle says nothing.
+    pub fn has_angle(&self) -> bool {
+        self.peak.abs() * 1e-9 < self.phasor.magnitude()
+    }
+}
+
+/// What a channel's rows come to.
+#[derive(Debug, Drop)]
+struct Totals<A: Allocator> {
+    sums: Vec<f64, A>,
+    squares: f64,
+    peak: f64,
+    peak_row: usize,
+}
+
+/// The totals of a channel's rows; none where a reading is missing.
+fn totals_of<A: Allocator + Copy>(
+    alloc: A,
+    rows: &[Row<A>],
+    window: Window,
+    channel: usize,
+    scale: Scale,
+    count: usize,
+) -> Result<Option<Totals<A>>, MeasureFault> {
+    let mut totals = Totals {
+        sums: zeros(alloc, count)?,
+        squares: 0.0,
+        peak: 0.0,
+        peak_row: window.from,
+    };
+    let mut turning = Turning::new(window.cycle);
+    for (i, row) in rows.iter().enumerate() {
+        let Some(value) = value_in(row, channel, scale) else {
+            return Ok(None);
+        };
+        add_row(&mut totals.sums, turning.phasor(), value);
+        totals.squares += value * value;
+        if totals.peak.abs() < value.abs() {
+            totals.peak = value;
+            totals.peak_row = window.from.saturating_add(i);
+        }
+        turning = turning.next();
+    }
+    Ok(Some(totals))
+}
+
+/// The phasor of an order, of the solved equations.
+fn phasor_at(parts: &[f64], order: usize) -> Phasor {
+    let place = place_of(order);
+    Phasor {
+        re: at(parts, place) / SQRT_2,
+        im: -at(parts, place.saturating_add(1)) / SQRT_2,
+    }
+}
+
+/// The mean of the squares that the parts leave.
+fn rest_of(squares: f64, sums: &[f64], parts: &[f64], rows: usize) -> f64 {
+    let mut rest = squares;
+    for (i, sum) in sums.iter().enumerate() {
+        rest -= sum * at(parts, i);
+    }
+    rest.max(0.0) / nearest_usize_to_f64(rows)
+}
+
+/// What totals say of a channel.
+fn measured_of<A: Allocator + Copy>(
+    alloc: A,
+    matrix: &Matrix<A>,
+    totals: Totals<A>,
+    rows: usize,
+) -> Result<Measured<A>, MeasureFault> {
+    let mut parts = Vec::from_slice(alloc, &totals.sums)?;
+    matrix.solve(&mut parts);
+    let dc = at(&parts, 0);
+    let mut square = dc * dc + rest_of(totals.squares, &totals.sums, &parts, rows);
+    let mut orders = Vec::new(alloc);
+    for order in 1..=parts.len() / 2 {
+        let size = phasor_at(&parts, order).magnitude();
+        square += size * size;
+        orders.push(size)?;
+    }
+    Ok(Measured {
+        rms: square.sqrt(),
+        phasor: phasor_at(&parts, 1),
+        dc,
+        peak: totals.peak,
+        peak_row: totals.peak_row,
+        orders,
+    })
+}
+
+/// The phasor by which an angle is turned back, since the channel's samples were taken so much later (C37.111-1999, 5.3.3).
+fn skew_of<A: Allocator + Copy>(
+    alloc: A,
+    channel: &AnalogChannel<A>,
+    frequency: Decimal,
+) -> Result<Phasor, MeasureFault> {
+    let micros = nearest_f64(alloc, channel.skew)?;
+    let frequency = nearest_f64(alloc, frequency)?;
+    Ok(Phasor::unit(-(micros * 1e-6 * frequency * TAU)))
+}
+
+/// One channel over a window's rows.
+fn measure<A: Allocator + Copy>(
+    alloc: A,
+    file: &File<A>,
+    window: Window,
+    place: usize,
+    channel: &AnalogChannel<A>,
+    matrix: &Matrix<A>,
+) -> Result<Option<Measured<A>>, MeasureFault> {
+    let rows = match file.rows.items().get(window.from..window.to) {
+        Some(rows) => rows,
+        None => &[],
+    };
+    let scale = scale_of(alloc, channel)?;
+    let Some(totals) = totals_of(alloc, rows, window, place, scale, matrix.side())? else {
+        return Ok(None);
+    };
+    let skew = skew_of(alloc, channel, file.head.line_freq)?;
+    let mut measured = measured_of(alloc, matrix, totals, rows.len())?;
+    measured.phasor = measured.phasor.times(skew);
+    Ok(Some(measured))
+}
+
+/// The analogue channels of a file over whole cycles: by least squares, dc part, cosines and sines of the orders; none of a channel of which
+/// a reading is missing there. `Slow`: the rows don't tell the orders apart.
+pub fn measures_of<A: Allocator + Copy>(
+    alloc: A,
+    file: &File<A>,
+    window: Window,
+) -> Result<Vec<Option<Measured<A>>, A>, MeasureFault> {
+    let mut matrix = equations(alloc, window, window.orders())?;
+    if !matrix.factor() {
+        return Err(MeasureFault::Slow);
+    }
+    let mut measures = Vec::new(alloc);
+    for (place, channel) in file.head.analog.items().iter().enumerate() {
+        measures.push(measure(alloc, file, window, place, channel, &matrix)?)?;
+    }
+    Ok(measures)
+}

@@ -1,0 +1,24 @@
+//! What an engineer measures in a record: rms values, phasors at the line frequency, harmonics and dc part over whole cycles, sequence
+//! components of three phases, and where currents left their earlier course.
+#![tactic(auto)]
+
+mod course;
+mod cycle;
+mod fault;
+mod fit;
+mod matrix;
+mod phases;
+mod phasor;
+mod readings;
+mod reference;
+mod sums;
+mod window;
+
+pub use course::{Course, course_of, is_current};
+pub use cycle::{Cycle, cycle_of};
+pub use fault::MeasureFault;
+pub use fit::{Measured, measures_of};
+pub use phases::{Sequence, Three, sequence_of, threes_of};
+pub use phasor::Phasor;
+pub use reference::reference_in;
+pub use window::{Window, last_cycle, whole_cycles, whole_record};

@@ -1,0 +1,107 @@
+//! Square matrices, and the solution of their equations.
+
+use std::alloc::{AllocError, Allocator};
+
+/// A number of a list, or 0 where the list ends before it.
+pub(crate) fn at(list: &[f64], place: usize) -> f64 {
+    match list.get(place) {
+        Some(number) => *number,
+        None => 0.0,
+    }
+}
+
+/// So many zeros.
+pub(crate) fn zeros<A: Allocator>(alloc: A, count: usize) -> Result<Vec<f64, A>, AllocError> {
+    let mut list = Vec::with_capacity(alloc, count)?;
+    for _ in 0..count {
+        list.push(0.0)?;
+    }
+    Ok(list)
+}
+
+/// A square matrix, row by row.
+#[derive(Debug, Drop)]
+pub(crate) struct Matrix<A: Allocator> {
+    side: usize,
+    cells: Vec<f64, A>,
+}
+
+impl<A: Allocator> Matrix<A> {
+    /// A matrix of zeros.
+    pub(crate) fn new(alloc: A, side: usize) -> Result<Matrix<A>, AllocError> {
+        let cells = zeros(alloc, side.saturating_mul(side))?;
+        Ok(Matrix { side, cells })
+    }
+
+    pub(crate) fn side(&self) -> usize {
+        self.side
+    }
+
+    fn place(&self, row: usize, column: usize) -> usize {
+        row.saturating_mul(self.side).saturating_add(column)
+    }
+
+    fn cell(&self, row: usize, column: usize) -> f64 {
+        at(&self.cells, self.place(row, column))
+    }
+
+    pub(crate) fn put(&mut self, row: usize, column: usize, number: f64) {
+        let place = self.place(row, column);
+        if let Some(cell) = self.cells.get_mut(place) {
+            *cell = number;
+        }
+    }
+
+    /// A cell less the products of both rows in the columns before it.
+    fn reduced(&self, row: usize, column: usize) -> f64 {
+        let mut rest = self.cell(row, column);
+        for i in 0..column {
+            rest -= self.cell(row, i) * self.cell(column, i);
+        }
+        rest
+    }
+
+    /// A symmetric matrix, of which only the lower half counts, as a lower triangle times its mirror image (Cholesky); false where the
+    /// equations have no single solution. Each diagonal cell keeps at least this part of what it was.
+    pub(crate) fn factor(&mut self) -> bool {
+        for column in 0..self.side {
+            let least = self.cell(column, column) * 1e-10;
+            let square = self.reduced(column, column);
+            if !(least < square) {
+                return false;
+            }
+            let root = square.sqrt();
+            self.put(column, column, root);
+            for row in column + 1..self.side {
+                let number = self.reduced(row, column) / root;
+                self.put(row, column, number);
+            }
+        }
+        true
+    }
+
+    /// Solves the equations of a matrix that was factored, in place of their right sides.
+    pub(crate) fn solve(&self, sides: &mut [f64]) {
+        for row in 0..self.side {
+            let mut rest = at(sides, row);
+            for i in 0..row {
+                rest -= self.cell(row, i) * at(sides, i);
+            }
+            replace(sides, row, rest / self.cell(row, row));
+        }
+        for back in 0..self.side {
+            let row = self.side - 1 - back;
+            let mut rest = at(sides, row);
+            for i in row + 1..self.side {
+                rest -= self.cell(i, row) * at(sides, i);
+            }
+            replace(sides, row, rest / self.cell(row, row));
+        }
+    }
+}
+
+fn replace(list: &mut [f64], place: usize, number: f64) {
+    if let Some(cell) = list.get_mut(place) {
+        *cell = number;
+    }
+}

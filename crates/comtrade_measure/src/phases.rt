@@ -1,0 +1,136 @@
+//! Sequence components of three phases.
+
+use crate::fit::Measured;
+use crate::phasor::Phasor;
+use dfr_channels::{AnalogChannel, trim};
+use std::alloc::{AllocError, Allocator};
+
+/// The square root of 3, over 2.
+const HALF_ROOT: f64 = 0.8660254037844386;
+
+/// After how many channels the others of three phases aren't looked for.
+const NEAR: usize = 32;
+
+/// The places of three channels of the phases A, B and C.
+#[derive(Clone, Copy, Debug, PartialEq, Eq)]
+pub struct Three {
+    pub a: usize,
+    pub b: usize,
+    pub c: usize,
+}
+
+/// Rms values and angles of the three sequences.
+#[derive(Clone, Copy, Debug)]
+pub struct Sequence {
+    pub positive: Phasor,
+    pub negative: Phasor,
+    pub zero: Phasor,
+}
+
+/// Which phase a channel is of: 0, 1, 2 of A B C, R S T, 1 2 3, L1 L2 L3, in any case of letters.
+fn phase_of<A: Allocator>(channel: &AnalogChannel<A>) -> Option<u8> {
+    let letter = match trim(channel.phase.items()) {
+        [b'L' | b'l', digit] if digit.is_ascii_digit() => *digit,
+        [letter] => letter.to_ascii_uppercase(),
+        _ => return None,
+    };
+    match letter {
+        b'A' | b'R' | b'1' => Some(0),
+        b'B' | b'S' | b'2' => Some(1),
+        b'C' | b'T' | b'3' => Some(2),
+        _ => None,
+    }
+}
+
+/// Whether two channels are of one unit, one component and one side.
+fn is_like<A: Allocator>(one: &AnalogChannel<A>, other: &AnalogChannel<A>) -> bool {
+    one.unit.items() == other.unit.items()
+        && one.component.items() == other.component.items()
+        && one.side == other.side
+}
+
+/// The place of the first channel of a phase among these that is like another one; none where one of the phase A is before it.
+fn next_of<A: Allocator>(
+    channels: &[AnalogChannel<A>],
+    one: &AnalogChannel<A>,
+    phase: u8,
+) -> Option<usize> {
+    for (i, channel) in channels.iter().enumerate() {
+        if is_like(one, channel) {
+            match phase_of(channel) {
+                Some(found) if found == phase => return Some(i),
+                Some(0) => return None,
+                _ => {}
+            }
+        }
+    }
+    None
+}
+
+/// The three phases that begin with a channel.
+fn three_at<A: Allocator>(channels: &[AnalogChannel<A>], place: usize) -> Option<Three> {
+    let one = channels.get(place)?;
+    if phase_of(one) != Some(0) {
+        return None;
+    }
+    let after = place.saturating_add(1);
+    let near = channels.get(after..after.saturating_add(NEAR).min(channels.len()))?;
+    Some(Three {
+        a: place,
+        b: next_of(near, one, 1)?.saturating_add(after),
+        c: next_of(near, one, 2)?.saturating_add(after),
+    })
+}
+
+/// The channels that are three phases: one of the phase A, and the first ones of B and C of its unit, component and side that stand at most 32
+/// channels after it and before the next one of A. `AllocError`: an allocation failed.
+pub fn threes_of<A: Allocator + Copy>(
+    alloc: A,
+    channels: &[AnalogChannel<A>],
+) -> Result<Vec<Three, A>, AllocError> {
+    let mut threes = Vec::new(alloc);
+    for place in 0..channels.len() {
+        if let Some(three) = three_at(channels, place) {
+            threes.push(three)?;
+        }
+    }
+    Ok(threes)
+}
+
+/// The phasor of one channel, where it was measured.
+fn phasor_in<A: Allocator>(measures: &[Option<Measured<A>>], place: usize) -> Option<Phasor> {
+    match measures.get(place) {
+        Some(Some(measured)) => Some(measured.phasor),
+        _ => None,
+    }
+}
+
+/// A third of a + turn * b + turn^2 * c, where turn is 120 degrees ahead or behind.
+fn third(a: Phasor, b: Phasor, c: Phasor, half_root: f64) -> Phasor {
+    let ahead = Phasor {
+        re: -0.5,
+        im: half_root,
+    };
+    let behind = Phasor {
+        re: -0.5,
+        im: -half_root,
+    };
+    a.plus(b.times(ahead))
+        .plus(c.times(behind))
+        .scaled(1.0 / 3.0)
+}
+
+/// The sequence components of three phases; none where one of them wasn't measured.
+pub fn sequence_of<A: Allocator>(
+    measures: &[Option<Measured<A>>],
+    three: Three,
+) -> Option<Sequence> {
+    let a = phasor_in(measures, three.a)?;
+    let b = phasor_in(measures, three.b)?;
+    let c = phasor_in(measures, three.c)?;
+    Some(Sequence {
+        positive: third(a, b, c, HALF_ROOT),
+        negative: third(a, b, c, -HALF_ROOT),
+        zero: a.plus(b).plus(c).scaled(1.0 / 3.0),
+    })
+}

@@ -1,0 +1,56 @@
+//! The channel from which angles are counted.
+
+use crate::fault::MeasureFault;
+use crate::fit::Measured;
+use comtrade_format::Head;
+use std::alloc::Allocator;
+
+/// Whether a channel was measured, and has an angle.
+fn has_angle<A: Allocator>(measured: Option<&Option<Measured<A>>>) -> bool {
+    match measured {
+        Some(Some(measured)) => measured.has_angle(),
+        _ => false,
+    }
+}
+
+/// The place of the first channel that has an angle.
+fn first_with_angle<A: Allocator>(measures: &[Option<Measured<A>>]) -> Option<usize> {
+    for place in 0..measures.len() {
+        if has_angle(measures.get(place)) {
+            return Some(place);
+        }
+    }
+    None
+}
+
+/// The place of the first channel with this id, in any case of letters, else that of this number from 1.
+fn place_of<A: Allocator>(head: &Head<A>, name: &str) -> Option<usize> {
+    for (place, channel) in head.analog.items().iter().enumerate() {
+        if channel.id.items().eq_ignore_ascii_case(name.as_bytes()) {
+            return Some(place);
+        }
+    }
+    let place = name.parse::<usize>().ok()?.checked_sub(1)?;
+    if place < head.analog.items().len() {
+        Some(place)
+    } else {
+        None
+    }
+}
+
+/// The channel from which angles are counted: the one that is named, else the first that has an angle, where there is one. `NoReference`: no
+/// channel is called so; `NoAngle`: it has none.
+pub fn reference_in<A: Allocator>(
+    head: &Head<A>,
+    measures: &[Option<Measured<A>>],
+    name: Option<&str>,
+) -> Result<Option<usize>, MeasureFault> {
+    let Some(name) = name else {
+        return Ok(first_with_angle(measures));
+    };
+    match place_of(head, name) {
+        Some(place) if has_angle(measures.get(place)) => Ok(Some(place)),
+        Some(_) => Err(MeasureFault::NoAngle),
+        None => Err(MeasureFault::NoReference),
+    }
+}

@@ -1,0 +1,115 @@
+//! The rows that are measured.
+
+use crate::cycle::{Cycle, cycle_of};
+use crate::fault::MeasureFault;
+use comtrade_format::{File, Head};
+use dfr_channels::Decimal;
+use std::alloc::Allocator;
+
+/// Whole cycles of rows of one rate, by their indices from 0: from the first one on, and not from the second one on.
+#[derive(Clone, Copy, Debug)]
+pub struct Window {
+    pub from: usize,
+    pub to: usize,
+    /// How many cycles they are.
+    pub cycles: u64,
+    pub cycle: Cycle,
+}
+
+/// The highest order that is measured.
+const HIGHEST: usize = 25;
+
+impl Window {
+    /// How many orders are measured: those below half the rows of a cycle, at most 25.
+    pub fn orders(self) -> usize {
+        let rows = usize::try_from(self.cycle.rows_in(1)).unwrap_or(usize::MAX);
+        (rows.saturating_sub(1) / 2).min(HIGHEST)
+    }
+}
+
+/// The last rate that rows of a file have, and the index of its first row.
+#[derive(Clone, Copy, Debug)]
+struct Stretch {
+    rate: Decimal,
+    from: usize,
+}
+
+/// The rate of the last of so many rows.
+fn last_stretch<A: Allocator>(head: &Head<A>, rows: usize) -> Result<Stretch, MeasureFault> {
+    let mut from = 0usize;
+    if head.nrates == 0 {
+        return Err(MeasureFault::NoRate);
+    }
+    for rate in head.rates.items() {
+        let to = usize::try_from(rate.endsamp).unwrap_or(usize::MAX);
+        if rows <= to {
+            return Ok(Stretch {
+                rate: rate.samp,
+                from,
+            });
+        }
+        from = to;
+    }
+    Err(MeasureFault::NoRate)
+}
+
+/// The window of so many cycles at most from a row on, or up to a row.
+fn window_of(
+    cycle: Cycle,
+    from: usize,
+    to: usize,
+    most: u128,
+    is_last: bool,
+) -> Result<Window, MeasureFault> {
+    let rows = to.saturating_sub(from);
+    let cycles = cycle.cycles_in(rows as u64).min(most);
+    let cycles = u64::try_from(cycles).unwrap_or(u64::MAX);
+    let kept = usize::try_from(cycle.rows_in(cycles)).unwrap_or(usize::MAX);
+    if cycles == 0 || rows < kept {
+        let wanted = u64::try_from(cycle.rows_in(1)).unwrap_or(u64::MAX);
+        return Err(MeasureFault::Short(rows as u64, wanted));
+    }
+    let from = if is_last {
+        to.saturating_sub(kept)
+    } else {
+        from
+    };
+    Ok(Window {
+        from,
+        to: from.saturating_add(kept),
+        cycles,
+        cycle,
+    })
+}
+
+/// The last whole cycle of a file, at the rate of its last row. `NoFrequency`, `NoRate`, `Digits`, `Slow`: as of `cycle_of`; `Short`: that
+/// rate has fewer rows than a cycle.
+pub fn last_cycle<A: Allocator>(file: &File<A>) -> Result<Window, MeasureFault> {
+    let rows = file.rows.items().len();
+    let stretch = last_stretch(&file.head, rows)?;
+    let cycle = cycle_of(file.head.line_freq, stretch.rate)?;
+    window_of(cycle, stretch.from, rows, 1, true)
+}
+
+/// The whole cycles of a file from its first row on. `ManyRates`: its rows have several rates; else as `last_cycle`.
+pub fn whole_cycles<A: Allocator>(file: &File<A>) -> Result<Window, MeasureFault> {
+    let rows = file.rows.items().len();
+    let stretch = last_stretch(&file.head, rows)?;
+    if stretch.from != 0 {
+        return Err(MeasureFault::ManyRates);
+    }
+    let cycle = cycle_of(file.head.line_freq, stretch.rate)?;
+    window_of(cycle, 0, rows, u128::MAX, false)
+}
+
+/// All rows of a file, by whose course currents are judged. `Coarse`: there are fewer than 8 rows a cycle; else as `whole_cycles`.
+pub fn whole_record<A: Allocator>(file: &File<A>) -> Result<Window, MeasureFault> {
+    let window = whole_cycles(file)?;
+    if window.cycle.rows_in(1) < 8 {
+        return Err(MeasureFault::Coarse);
+    }
+    Ok(Window {
+        to: file.rows.items().len(),
+        ..window
+    })
+}

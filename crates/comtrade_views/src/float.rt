@@ -1,0 +1,90 @@
+//! Floats as decimals.
+
+use crate::number::{Number, put_value, rounded};
+use ryu::Buffer;
+use std::alloc::{AllocError, Allocator};
+use std::num::saturating_f64_to_i64;
+
+/// The number that digits are, one after another.
+fn units_of(whole: &str, places: &str) -> i128 {
+    let mut units = 0i128;
+    for b in whole.bytes().chain(places.bytes()) {
+        if b.is_ascii_digit() {
+            units = units
+                .saturating_mul(10)
+                .saturating_add(i128::from(b.saturating_sub(b'0')));
+        }
+    }
+    units
+}
+
+/// A float as its shortest decimal; none where it is no number.
+fn number_of(x: f64) -> Option<Number> {
+    if !x.is_finite() {
+        return None;
+    }
+    let mut buffer = Buffer::new();
+    let text = buffer.format_finite(x.abs());
+    let (digits, exponent) = text.split_once('e').unwrap_or((text, "0"));
+    let (whole, places) = digits.split_once('.').unwrap_or((digits, ""));
+    let exponent = exponent.parse::<i32>().ok()?;
+    let units = units_of(whole, places);
+    Some(Number {
+        units: if x < 0.0 { -units } else { units },
+        exponent: exponent.saturating_sub(i32::try_from(places.len()).ok()?),
+    })
+}
+
+/// How many digits a float has: six, and 0 where its size is at most a 10^9th of another one; or as many as read back to it.
+#[derive(Clone, Copy, Debug)]
+pub(crate) enum Digits {
+    Six(f64),
+    All,
+}
+
+/// A float with so many digits.
+pub(crate) fn put_float<A: Allocator>(
+    out: &mut Vec<u8, A>,
+    x: f64,
+    digits: Digits,
+) -> Result<(), AllocError> {
+    let beside = match digits {
+        Digits::Six(beside) => beside,
+        Digits::All => return put_all(out, x),
+    };
+    if x.abs() <= beside * 1e-9 {
+        return out.extend_from_slice(b"0");
+    }
+    match number_of(x) {
+        Some(number) => put_value(out, rounded(number)),
+        None => out.extend_from_slice(b"-"),
+    }
+}
+
+/// A float with all of its digits.
+fn put_all<A: Allocator>(out: &mut Vec<u8, A>, x: f64) -> Result<(), AllocError> {
+    if x.is_finite() {
+        return out.extend_from_slice(Buffer::new().format_finite(x).as_bytes());
+    }
+    out.extend_from_slice(b"-")
+}
+
+/// A float with so many places at most.
+pub(crate) fn put_places<A: Allocator>(
+    out: &mut Vec<u8, A>,
+    x: f64,
+    places: u8,
+) -> Result<(), AllocError> {
+    let mut scaled = x;
+    for _ in 0..places {
+        scaled *= 10.0;
+    }
+    let half = if scaled < 0.0 { -0.5 } else { 0.5 };
+    put_value(
+        out,
+        Number {
+            units: i128::from(saturating_f64_to_i64(scaled + half)),
+            exponent: -i32::from(places),
+        },
+    )
+}

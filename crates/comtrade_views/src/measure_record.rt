@@ -1,0 +1,117 @@
+//! Where the currents of a record left their earlier course, for people.
+
+use crate::float::{put_float, put_places};
+use crate::json::{Member, put_rows_json};
+use crate::show::put_row_time;
+use crate::shown::{Shown, put_channel, put_cycle};
+use crate::table::{end_cell, end_row, put_table};
+use comtrade_cli::{put, put_number};
+use comtrade_format::File;
+use comtrade_measure::{Course, MeasureFault, Window, course_of, is_current, whole_record};
+use comtrade_values::nearest_f64;
+use std::alloc::{AllocError, Allocator, Global};
+use std::num::nearest_u64_to_f64;
+
+/// How many milliseconds so many rows last: they are cycles of the line frequency.
+fn millis_of(window: Window, frequency: f64, rows: u64) -> f64 {
+    let cycles = nearest_u64_to_f64(window.cycle.cycles) / nearest_u64_to_f64(window.cycle.rows);
+    nearest_u64_to_f64(rows) * cycles / frequency * 1000.0
+}
+
+/// Where a current left its course, and what it was before and after that.
+fn put_course<A: Allocator>(
+    table: &mut Vec<u8, A>,
+    course: Course,
+    above: f64,
+    shown: Shown<'_>,
+) -> Result<(), AllocError> {
+    put_row_time(table, shown.clock(), course.row)?;
+    end_cell(table)?;
+    put_number(table, shown.number(course.row))?;
+    end_cell(table)?;
+    put_float(table, course.before, shown.digits(course.greatest))?;
+    end_cell(table)?;
+    put_float(table, course.greatest, shown.digits(0.0))?;
+    end_cell(table)?;
+    put_places(table, above, 3)?;
+    end_cell(table)?;
+    end_row(table)
+}
+
+/// The lines of all currents; how many there are.
+fn put_courses<A: Allocator + Copy>(
+    alloc: A,
+    table: &mut Vec<u8, A>,
+    file: &File<A>,
+    window: Window,
+    shown: Shown<'_>,
+) -> Result<u64, MeasureFault> {
+    let frequency = nearest_f64(alloc, file.head.line_freq)?;
+    let mut count = 0u64;
+    for (place, channel) in file.head.analog.items().iter().enumerate() {
+        if !is_current(channel) {
+            continue;
+        }
+        count = count.saturating_add(1);
+        put_channel(table, place, channel)?;
+        match course_of(alloc, file, window, place, channel)? {
+            Some(Some(course)) => {
+                let above = millis_of(window, frequency, course.rows_above);
+                put_course(table, course, above, shown)?;
+            }
+            Some(None) => put(table, "-\x1F-\x1F-\x1F-\x1Fstays on its course\x1F\n")?,
+            None => put(table, "-\x1F-\x1F-\x1F-\x1Freadings are missing\x1F\n")?,
+        }
+    }
+    Ok(count)
+}
+
+const COURSES: [Member; 9] = [
+    Member::Number("n"),
+    Member::Text("id"),
+    Member::Text("phase"),
+    Member::Text("unit"),
+    Member::Number("left_ms"),
+    Member::Number("left_row"),
+    Member::Number("rms_before"),
+    Member::Number("rms_greatest"),
+    Member::Number("above_ms"),
+];
+
+/// The table of currents as an object of JSON.
+fn put_record_json(alloc: Global, out: &mut Vec<u8>, table: &[u8]) -> Result<(), AllocError> {
+    put(out, "{\"currents\":")?;
+    put_rows_json(alloc, out, &COURSES, table)?;
+    put(out, "}\n")
+}
+
+/// Where the currents of a record first left their earlier course.
+pub(crate) fn put_record(
+    alloc: Global,
+    out: &mut Vec<u8>,
+    file: &File,
+    shown: Shown<'_>,
+) -> Result<(), MeasureFault> {
+    let window = whole_record(file)?;
+    let mut table = Vec::new(alloc);
+    put(
+        &mut table,
+        "n\x1Fid\x1Fphase\x1Funit\x1Fleft at ms\x1Frow\x1Frms before\x1Fgreatest rms\x1Fms above twice that before\x1F\n",
+    )?;
+    let count = put_courses(alloc, &mut table, file, window, shown)?;
+    if shown.json {
+        put_record_json(alloc, out, &table)?;
+        return Ok(());
+    }
+    if count == 0 {
+        put(
+            out,
+            "no channel is a current: none has the unit A, with or without a prefix\n",
+        )?;
+        return Ok(());
+    }
+    put(out, "where currents first left their earlier course; ")?;
+    put_cycle(out, window)?;
+    put_table(alloc, out, &table)?;
+    Ok(())
+}

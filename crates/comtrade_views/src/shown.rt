@@ -1,0 +1,74 @@
+//! The rows of a record that are measured, and their channels.
+
+use crate::float::{Digits, put_float};
+use crate::show::Clock;
+use crate::table::end_cell;
+use comtrade_cli::{put, put_number, put_safe};
+use comtrade_measure::Window;
+use dfr_channels::AnalogChannel;
+use std::alloc::{AllocError, Allocator};
+use std::num::nearest_u64_to_f64;
+
+/// The rows of a record that are shown: when they were taken, in nanoseconds since the trigger, and the index from 0 of the first of them;
+/// whether as JSON, with all digits.
+#[derive(Clone, Copy)]
+pub struct Shown<'a> {
+    pub times: &'a [Option<i64>],
+    pub first: usize,
+    pub json: bool,
+}
+
+impl<'a> Shown<'a> {
+    pub(crate) fn clock(self) -> Clock<'a> {
+        Clock {
+            times: self.times,
+            trigger: 0,
+        }
+    }
+
+    /// How many digits a value has, beside another one.
+    pub(crate) fn digits(self, beside: f64) -> Digits {
+        if self.json {
+            Digits::All
+        } else {
+            Digits::Six(beside)
+        }
+    }
+
+    /// The number of a row, from 1.
+    pub(crate) fn number(self, row: usize) -> u64 {
+        (self.first as u64)
+            .saturating_add(row as u64)
+            .saturating_add(1)
+    }
+}
+
+/// The rows of a cycle, to six digits.
+pub(crate) fn put_cycle<A: Allocator>(
+    out: &mut Vec<u8, A>,
+    window: Window,
+) -> Result<(), AllocError> {
+    let rows = nearest_u64_to_f64(window.cycle.rows);
+    put_float(
+        out,
+        rows / nearest_u64_to_f64(window.cycle.cycles),
+        Digits::Six(0.0),
+    )?;
+    put(out, " rows a cycle\n")
+}
+
+/// The names of a channel: number, id and phase.
+pub(crate) fn put_channel<A: Allocator>(
+    table: &mut Vec<u8, A>,
+    place: usize,
+    channel: &AnalogChannel<A>,
+) -> Result<(), AllocError> {
+    put_number(table, (place as u64).saturating_add(1))?;
+    end_cell(table)?;
+    put_safe(table, channel.id.items())?;
+    end_cell(table)?;
+    put_safe(table, channel.phase.items())?;
+    end_cell(table)?;
+    put_safe(table, channel.unit.items())?;
+    end_cell(table)
+}
