@@ -11,5 +11,5 @@ prlimit --pid "$(cat "$work/pid")" --fsize=unlimited
 until_told "$work/told" 'record 1'
 exec 3>&-
 wait
-told < "$work/told" | grep -v '^shelf'
+told < "$work/told"
 cmp "$folder/19700101T000000.003000-1.cfg" files/first.cfg && cmp "$folder/19700101T000000.003000-1.dat" files/first.dat && echo same

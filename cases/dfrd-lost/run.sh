@@ -24,4 +24,4 @@ go
 trigger
 scan 10/0
 END
-cat "$folder"/*.dat
+cat "$folder"/*.dat | tr -d "\r\032"

@@ -15,5 +15,5 @@ for i in 5 6; do echo "scan $i/" >&3; done
 until_told "$work/told" 'record 1'
 exec 3>&-
 wait
-told < "$work/told" | grep -v '^shelf'
+told < "$work/told"
 "$dfrd" --quiet --orders "$work/none" first/in "$folder" < /dev/null 2>&1 | sed "s|$work|WORK|"

@@ -13,4 +13,4 @@ frames <<'END' | "$dfrd" --raw --quiet --start 1719829800350625 "$work/setup" "$
 3 0/0 65535
 -4 5/0 0
 END
-cut -d, -f1-4,5,20,21 "$folder"/*.dat
+cat "$folder"/*.dat | tr -d "\r\032" | cut -d, -f1-4,5,20,21

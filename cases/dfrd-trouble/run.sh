@@ -17,6 +17,6 @@ mv "$folder.away" "$folder"
 until_told "$work/told" 'record 2'
 exec 3>&-
 wait
-told < "$work/told" | grep -v '^shelf free$'
-grep -c 'shelf free' "$work/told"
+told < "$work/told"
+grep -q ' shelf full 1$' "$work/told" && grep -q ' shelf free$' "$work/told" && echo 'full, and free'
 names

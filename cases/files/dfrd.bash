@@ -1,11 +1,12 @@
-# helps the cases of `dfrd`: a folder of records, gone in the end; lines without their instant; frames of a line's numbers
+# helps the cases of `dfrd`: a folder of records, gone in the end; lines without their instant, but for those of a shelf of one, which
+# is full for the moment in which a record waits to be written; frames of a line's numbers
 export LC_ALL=C
 work=$(mktemp -d)
 folder=$work/records
 mkdir "$folder"
 trap 'rm -rf "$work"' EXIT
 names() { (cd "$folder" && printf '%s\n' *); }
-told() { cut -d' ' -f2-; }
+told() { cut -d' ' -f2- | grep -v '^shelf'; }
 # each line `READINGS/GROUPS` of numbers becomes a frame of them, two bytes each
 frames() { python3 -c '
 import struct, sys

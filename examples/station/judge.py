@@ -43,7 +43,10 @@ def main(folder, told, seconds, fault):
     if [tuple(map(int, r[:3])) for r in records] != wanted:
         wrong.append(f"records {records}, wanted {wanted}")
     for first, _, last, cfg, dat in records:
-        rows = [line.split(",") for line in open(os.path.join(folder, dat))]
+        text = open(os.path.join(folder, dat)).read()
+        rows = [line.split(",") for line in text.removesuffix("\x1a").splitlines()]
+        if not text.endswith("\n\x1a"): # C37.111-1999, clause 6: the end of ASCII data
+            wrong.append(f"{dat} has no end")
         if len(rows) != int(last) - int(first) + 1:
             wrong.append(f"{dat} has {len(rows)} rows")
         for k, row in enumerate(rows, int(first)):

@@ -20,17 +20,22 @@ fn units_of(whole: &str, places: &str) -> i128 {
 
 /// A float as its shortest decimal; none where it is no number.
 fn number_of(x: f64) -> Option<Number> {
-    if !x.is_finite() {
+    let size = x.abs();
+    if !size.is_finite() {
         return None;
     }
     let mut buffer = Buffer::new();
-    let text = buffer.format_finite(x.abs());
+    let text = buffer.format_finite(size);
     let (digits, exponent) = text.split_once('e').unwrap_or((text, "0"));
     let (whole, places) = digits.split_once('.').unwrap_or((digits, ""));
     let exponent = exponent.parse::<i32>().ok()?;
     let units = units_of(whole, places);
     Some(Number {
-        units: if x < 0.0 { -units } else { units },
+        units: if x < 0.0 {
+            units.saturating_mul(-1)
+        } else {
+            units
+        },
         exponent: exponent.saturating_sub(i32::try_from(places.len()).ok()?),
     })
 }
