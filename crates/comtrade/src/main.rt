@@ -7,7 +7,6 @@ mod find;
 mod import;
 mod load;
 mod measure;
-mod source;
 mod survey;
 mod view;
 mod write;
