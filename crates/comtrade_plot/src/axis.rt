@@ -1,11 +1,11 @@
 //! Times at round numbers, their lines through the panels, cycles, the trigger, gaps.
 
-use crate::frame::{Frame, LEFT, RIGHT};
 use crate::gaps::Gap;
 use crate::instant::{TimeUnit, put_places, put_span, time_unit};
 use crate::layout::Chart;
 use crate::legend::NAMES;
 use crate::sheet::Sheet;
+use comtrade_frame::{Frame, LEFT, RIGHT};
 use std::alloc::Allocator;
 
 /// The least of 1, 2 and 5 times a power of ten that is at least so much.

@@ -1,13 +1,13 @@
 //! The bars of contacts, and the line for those that don't change.
 
 use crate::axis::{put_gaps, put_grid, put_trigger};
-use crate::frame::{LEFT, RIGHT};
 use crate::layout::{CONTACT, Chart, contact_height};
 use crate::legend::{NAMES, put_name};
 use crate::rows::bit_at;
 use crate::sheet::Sheet;
 use comtrade_cli::ToolFault;
 use comtrade_format::Row;
+use comtrade_frame::{LEFT, RIGHT};
 use dfr_channels::StatusChannel;
 use std::alloc::Allocator;
 

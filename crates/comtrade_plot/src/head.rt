@@ -1,6 +1,5 @@
 //! The head of a picture: its size, its colours, its names, and what it shows in words.
 
-use crate::frame::{LEFT, WIDTH};
 use crate::instant::{put_instant, put_range};
 use crate::layout::{Chart, panel_count};
 use crate::legend::peak_of;
@@ -8,6 +7,7 @@ use crate::plot::PlotOptions;
 use crate::quantity::put_quantity;
 use crate::sheet::Sheet;
 use comtrade_format::Head;
+use comtrade_frame::{LEFT, WIDTH};
 use std::alloc::Allocator;
 
 /// Colours for dark pages, and line styles for print.

@@ -1,9 +1,9 @@
 //! How much room panels and names have.
 
-use crate::frame::Frame;
 use crate::gaps::Gap;
 use crate::survey::Survey;
 use comtrade_format::File;
+use comtrade_frame::Frame;
 use comtrade_values::Scale;
 use dfr_channels::{AnalogChannel, StatusChannel};
 use std::alloc::Allocator;

@@ -1,12 +1,12 @@
 //! Names of channels beside their panels, with their peaks and effective values.
 
-use crate::frame::RIGHT;
 use crate::layout::{Chart, LINE_HEIGHT, first_line, legend_height};
 use crate::phases::Hue;
 use crate::quantity::put_quantity;
 use crate::sheet::Sheet;
 use crate::survey::Survey;
 use crate::units::is_alternating;
+use comtrade_frame::RIGHT;
 use comtrade_values::Scale;
 use dfr_channels::AnalogChannel;
 use std::alloc::Allocator;

@@ -1,10 +1,10 @@
 //! The values at a panel's left, at round numbers.
 
-use crate::frame::{LEFT, Panel, RIGHT};
 use crate::instant::put_places;
 use crate::layout::Chart;
 use crate::sheet::Sheet;
 use crate::units::power_of_ten;
+use comtrade_frame::{LEFT, Panel, RIGHT};
 use std::alloc::Allocator;
 use std::num::{nearest_i64_to_f64, nearest_u64_to_f64, saturating_f64_to_i64};
 

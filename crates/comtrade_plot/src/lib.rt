@@ -4,7 +4,6 @@
 mod axis;
 mod blocks;
 mod contacts;
-mod frame;
 mod gaps;
 mod groups;
 mod head;
@@ -26,7 +25,6 @@ mod survey;
 mod times;
 mod trace;
 mod units;
-mod windows;
 
 pub use page::page_over;
 pub use plot::{PlotOptions, plot_over};

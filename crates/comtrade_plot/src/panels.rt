@@ -1,7 +1,6 @@
 //! The panels of a picture.
 
 use crate::axis::{put_gaps, put_grid, put_trigger};
-use crate::frame::{ACROSS, LEFT, Panel, RIGHT};
 use crate::groups::hue_in;
 use crate::layout::{Chart, TITLE, height_of, panel_count};
 use crate::legend::put_legend;
@@ -10,6 +9,7 @@ use crate::phases::Hue;
 use crate::sheet::Sheet;
 use crate::trace::{put_dots, put_trace};
 use crate::units::{put_unit, shown_exponent, unit_of};
+use comtrade_frame::{ACROSS, LEFT, Panel, RIGHT};
 use comtrade_values::Scale;
 use dfr_channels::{AnalogChannel, Side};
 use std::alloc::Allocator;

@@ -2,7 +2,6 @@
 
 use crate::axis::{put_cycles, put_gap_names, put_times, put_times_name};
 use crate::contacts::{bars_of, contacts_height, put_contacts};
-use crate::frame::{Frame, LEFT};
 use crate::head::put_head;
 use crate::layout::{Chart, panels_end};
 use crate::overview::{STRIP, put_overview};
@@ -11,6 +10,7 @@ use crate::record::{Part, Record, chart_of, choice_of, part_of, record_of, whole
 use crate::sheet::Sheet;
 use comtrade_cli::ToolFault;
 use comtrade_format::File;
+use comtrade_frame::{Frame, LEFT};
 use std::alloc::Allocator;
 use std::io::Write;
 

@@ -1,16 +1,15 @@
 //! What is worked out of a file before it is drawn.
 
 use crate::axis::rounded_out;
-use crate::frame::Frame;
 use crate::gaps::{Gap, gaps_of};
 use crate::groups::panels_of;
 use crate::layout::Chart;
 use crate::rows::{kept_times, last_change, numbers_of, places_of, whole_frame};
 use crate::survey::{Survey, add_cycles, drop_partial, surveys_of};
 use crate::times::cycle_of;
-use crate::windows::window_of;
 use comtrade_cli::ToolFault;
 use comtrade_format::File;
+use comtrade_frame::{Frame, window_of};
 use comtrade_values::{Scale, scale_of};
 use dfr_channels::AnalogChannel;
 use std::alloc::Allocator;

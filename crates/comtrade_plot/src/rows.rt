@@ -1,8 +1,8 @@
 //! What rows say: readings, bits, which rows are lost, where they stand.
 
-use crate::frame::Frame;
 use comtrade_cli::ToolFault;
 use comtrade_format::{File, Row};
+use comtrade_frame::{Frame, later_change};
 use dfr_channels::Reading;
 use std::alloc::Allocator;
 
@@ -105,7 +105,7 @@ pub(crate) fn last_change<A: Allocator>(file: &File<A>, kept: &[Option<i64>], cy
         if let Some(time) = *time {
             if let Some(before) = before {
                 if before.bits.items() != row.bits.items() {
-                    last = crate::windows::later_change(last, time, cycle);
+                    last = later_change(last, time, cycle);
                 }
             }
             before = Some(row);

@@ -1,37 +1,40 @@
 //! Where times and values stand in the picture, in tenths of a pixel.
 
-ghost use Rattle.std.specs.Prelude.{◌≡◌, ◌≤◌, ◌+◌};
+ghost use Rattle.std.specs.Prelude.{◌≡◌, ◌≤◌, ◌+◌, ◌≤ℤ◌, ◌↔◌, IsTrue};
 
 use std::num::{nearest_i64_to_f64, nearest_u64_to_f64, saturating_f64_to_u32};
 
 /// Where panels begin and end, and how wide they and the picture are.
-pub(crate) const LEFT: u32 = 760;
+pub const LEFT: u32 = 760;
 
-pub(crate) const RIGHT: u32 = 9160;
+pub const RIGHT: u32 = 9160;
 
-pub(crate) const ACROSS: u32 = 8400;
+pub const ACROSS: u32 = 8400;
 
-pub(crate) const WIDTH: u32 = 12000;
+pub const WIDTH: u32 = 12000;
 
 /// The times that are drawn, in nanoseconds since the trigger, or the numbers of the rows.
 #[derive(Clone, Copy, Debug, PartialEq, Eq)]
-pub(crate) struct Frame {
-    pub(crate) from: i64,
-    pub(crate) to: i64,
+pub struct Frame {
+    pub from: i64,
+    pub to: i64,
 }
 
 impl Frame {
-    pub(crate) fn has(self, time: i64) -> bool {
+    /// Whether a time is drawn.
+    pub fn has(self, time: i64) -> bool
+        ensures { IsTrue result ↔ (self.from ≤ℤ time) × (time ≤ℤ self.to) }
+    {
         self.from <= time && time <= self.to
     }
 
-    /// How long it lasts.
-    pub(crate) fn span(self) -> u64 {
+    /// How long it lasts; where that has no number of 64 bits with a sign, the nearest one.
+    pub fn span(self) -> u64 {
         self.to.saturating_sub(self.from).unsigned_abs()
     }
 
     /// Where a time stands: within the panels, also where it isn't drawn.
-    pub(crate) fn across(self, time: i64) -> u32
+    pub fn across(self, time: i64) -> u32
         ensures left { 760 ≤ result }
         ensures right { result ≤ 9160 }
     {
@@ -43,23 +46,16 @@ impl Frame {
 
 /// A panel's upper edge and height, and the values at its edges.
 #[derive(Clone, Copy, Debug)]
-pub(crate) struct Panel {
-    pub(crate) top: u32,
-    pub(crate) height: u32,
-    pub(crate) low: f64,
-    pub(crate) high: f64,
+pub struct Panel {
+    pub top: u32,
+    pub height: u32,
+    pub low: f64,
+    pub high: f64,
 }
 
 impl Panel {
-    /// Its lower edge.
-    pub(crate) fn bottom(self) -> u32
-        ensures { self.top ≤ result }
-    {
-        self.top.saturating_add(self.height)
-    }
-
     /// Where a value stands: within the panel, whatever the value.
-    pub(crate) fn level(self, value: f64) -> u32
+    pub fn level(self, value: f64) -> u32
         ensures top { self.top ≤ result }
         ensures bottom { result ≤ self.top + self.height }
     {

@@ -1,6 +1,6 @@
 //! Which times of a long record are drawn.
 
-ghost use Rattle.std.specs.Prelude.{◌≡◌, ◌≤ℤ◌, IfSome, pos};
+ghost use Rattle.std.specs.Prelude.{◌≡◌, ◌≤ℤ◌, ◌⊎◌, IfSome, pos};
 
 use crate::frame::Frame;
 
@@ -17,8 +17,11 @@ const FAULT: i64 = 60;
 
 const ENDING: i64 = 5;
 
-/// The last change of a contact that belongs to the fault.
-pub(crate) fn later_change(last: i64, change: i64, cycle: i64) -> i64 {
+/// The last change of a contact that belongs to the fault: the one so far, or a later one.
+pub fn later_change(last: i64, change: i64, cycle: i64) -> i64
+    ensures one { (result ≡ last) ⊎ (result ≡ change) }
+    ensures later { last ≤ℤ result }
+{
     if last < change && change <= cycle.saturating_mul(FAULT) {
         change
     } else {
@@ -47,7 +50,7 @@ fn last_drawn(end: i64, cycle: i64, change: i64) -> i64
 
 /// The times that are drawn of a record around its trigger, which is at 0, where they are a small part of the record: `change`
 /// is when the last contact changed that belongs to the fault. They are part of the record, and the trigger is among them.
-pub(crate) fn window_of(whole: Frame, cycle: i64, change: i64) -> Option<Frame>
+pub fn window_of(whole: Frame, cycle: i64, change: i64) -> Option<Frame>
     ensures first { IfSome result (λ w. (whole.from ≤ℤ w.from) × (w.from ≤ℤ pos 0)) }
     ensures last { IfSome result (λ w. (pos 0 ≤ℤ w.to) × (w.to ≤ℤ whole.to)) }
 {
