@@ -31,6 +31,19 @@ said --at 0 --to 10 whole
 said --at 0 --reference IX whole
 said --at 0 --reference battery whole
 said --at 2 --channels spare whole
-said --at 0 --channels battery --json whole
-said --channels 'I*' --json gap
+# numbers to six digits: the last ones of a least square are those of its order of sums
+rounded() {
+    python3 -c '
+import json, sys
+def short(x):
+    if isinstance(x, float):
+        return float(f"{x:.6g}") if abs(x) > 1e-9 else 0.0
+    if isinstance(x, dict):
+        return {k: short(v) for k, v in x.items()}
+    return [short(v) for v in x] if isinstance(x, list) else x
+for line in sys.stdin:
+    print(json.dumps(short(json.loads(line))) if line.startswith("{") else line.rstrip())'
+}
+said --at 0 --channels battery --json whole | rounded
+said --channels 'I*' --json gap | rounded
 python3 files/phasors.py "$comtrade" "$folder"/random?
