@@ -96,8 +96,11 @@ abbrev pub extract : App
 extract = with_rule (new_app (codes "extract")) (word (codes "DIR"))
 
 -- a command over folders and files
+abbrev pub named : Text → App
+named name = with_rule (new_app name) (words (codes "NAMES"))
+
 abbrev pub over_names : Text → App
-over_names name = with_json (with_rule (new_app name) (words (codes "NAMES")))
+over_names name = with_json (named name)
 
 abbrev pub list : App
 list = over_names (codes "list")

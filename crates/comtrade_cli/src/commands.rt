@@ -171,14 +171,21 @@ fn extract<'a>(alloc: Global) -> Result<Command<'a>, AllocError>
         ))
 }
 
+/// A command over folders and files, without its options.
+fn named<'a>(alloc: Global, name: &'a str, about: &'a str) -> Result<Command<'a>, AllocError>
+    ensures { IfOk result (IsCommand (Spec.named name.entry.now)) }
+{
+    Command::new(alloc, name)
+        .about(about)
+        .after_help(SURVEY_STATUS)
+        .arg(words(alloc, "NAMES", "Folders with pairs, and pairs"))
+}
+
 /// A command over folders and files.
 fn over_names<'a>(alloc: Global, name: &'a str, about: &'a str) -> Result<Command<'a>, AllocError>
     ensures { IfOk result (IsCommand (Spec.over_names name.entry.now)) }
 {
-    let named = Command::new(alloc, name)
-        .about(about)
-        .after_help(SURVEY_STATUS)
-        .arg(words(alloc, "NAMES", "Folders with pairs, and pairs"))?;
+    let named = named(alloc, name, about)?;
     with_json(alloc, named)
 }
 
