@@ -1,0 +1,24 @@
+# words that ask for nothing, no set-up file, its faults, no folder, a file in its place
+. files/dfrd.bash
+try() { "$dfrd" "$@" < /dev/null 2>&1 | sed "s|$work|WORK|g" | head -1; echo "${PIPESTATUS[0]}"; }
+setup() { printf 'station S\ndevice D\nanalog A,,,A,1,0,0,-100,100,1,1,P\nfreq 50\n%s\nlimits 1,1,3,1\n' "$1" > "$work/setup"; }
+try --keep 0 first/in "$folder"
+try --keep 1 --keep-bytes 1 first/in "$folder"
+try --start soon first/in "$folder"
+try "$work/none" "$folder"
+setup 'rate 1000,1'
+try "$work/setup" "$folder"
+setup 'rate x'
+try "$work/setup" "$folder"
+setup 'rat 1000'
+try "$work/setup" "$folder"
+setup ''
+try "$work/setup" "$folder"
+setup 'rate 0'
+try "$work/setup" "$folder"
+setup 'rate 1000'
+echo 'rules level 1 over 1' >> "$work/setup"
+try "$work/setup" "$folder"
+try first/in "$work/none"
+try first/in first/in
+try first/in /sys

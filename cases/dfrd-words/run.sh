@@ -1,0 +1,12 @@
+# the version and the help; words that ask for nothing
+. files/dfrd.bash
+"$dfrd" --version
+"$dfrd" --help > "$work/help"
+echo $?
+grep -o -- '^ *\(-h, \|-V, \)\?--[a-z-]*' "$work/help" | grep -o -- '--[a-z-]*' | paste -sd ' '
+for words in '' 'one' '--kind short one two' '--keep' 'one two three' '--no one two'; do
+    "$dfrd" $words < /dev/null > /dev/null 2> "$work/err"
+    echo "$? $(grep -c '^error' "$work/err")"
+done
+"$dfrd" $'\xff' two < /dev/null 2>&1
+echo $?

@@ -1,0 +1,4 @@
+pub mod Groups
+pub mod Parts
+pub mod Stamps
+pub mod Steps

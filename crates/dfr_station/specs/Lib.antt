@@ -1,0 +1,3 @@
+pub mod Frames
+pub mod Feeding
+pub mod Runs

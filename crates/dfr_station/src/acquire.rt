@@ -1,0 +1,79 @@
+//! The acquisition: it waits in its reads alone, and for no other thread.
+
+use crate::frames::take_frames;
+use crate::orders::Placed;
+use crate::scans::Scans;
+use crate::signals::Signals;
+use crate::station::Input;
+use crate::text_lines::{Lane, take_lines};
+use dfr_channels::Layout;
+use dfr_live::{LossFault, Session, Source};
+use rtrb::Producer;
+use std::alloc::{Allocator, Global};
+use std::io::Read;
+use std::sync::atomic::Ordering;
+
+/// What the acquisition works on.
+#[derive(Drop)]
+pub(crate) struct Acquisition<'x, N: Session<A>, I, A: Allocator = Global> {
+    pub(crate) input: &'x mut I,
+    pub(crate) source: Source<N, A>,
+    pub(crate) scans: Scans<A>,
+    pub(crate) orders: Producer<Placed<A>, A>,
+    pub(crate) form: Input,
+    /// What came before the recorder was made stands in it up to `held`.
+    pub(crate) buffer: Vec<u8, A>,
+    pub(crate) held: usize,
+}
+
+/// Takes in all that comes until the input ends.
+fn take_in<N: Session<A>, A: Allocator + Copy, I: Read>(
+    alloc: A,
+    signals: &Signals,
+    layout: &Layout<A>,
+    task: &mut Acquisition<'_, N, I, A>,
+) -> Result<(), LossFault> {
+    match task.form {
+        Input::Frames => take_frames(
+            alloc,
+            signals,
+            layout,
+            &mut task.source,
+            &mut *task.input,
+            &mut task.buffer,
+            task.held,
+            &mut task.scans,
+        ),
+        Input::Lines => {
+            let mut lane = Lane {
+                layout,
+                source: &mut task.source,
+                scans: &mut task.scans,
+                orders: &mut task.orders,
+                lines: 0,
+            };
+            take_lines(
+                alloc,
+                signals,
+                &mut lane,
+                &mut *task.input,
+                &mut task.buffer,
+                task.held,
+            )
+        }
+    }
+}
+
+/// Takes in all that comes until the input ends, and lets the other threads know.
+pub(crate) fn acquire<N: Session<A>, A: Allocator + Copy, I: Read>(
+    alloc: A,
+    signals: &Signals,
+    layout: &Layout<A>,
+    task: &mut Acquisition<'_, N, I, A>,
+) {
+    if take_in(alloc, signals, layout, task).is_err() {
+        signals.failed.store(true, Ordering::SeqCst);
+    }
+    task.scans.publish(signals, true);
+    signals.acquired.store(true, Ordering::SeqCst);
+}

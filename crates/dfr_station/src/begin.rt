@@ -1,0 +1,159 @@
+//! What the threads of a station work on, before they start.
+
+use crate::acquire::Acquisition;
+use crate::event::Event;
+use crate::export::Exports;
+use crate::first::First;
+use crate::operator::Operator;
+use crate::orders::{Placed, Trigger};
+use crate::scans::Scans;
+use crate::signals::Signals;
+use crate::station::{Input, Printer, Store};
+use crate::tasks::Tasks;
+use crate::teller::{Teller, Waiting, telling_of};
+use crate::telling::{Telling, minute};
+use comtrade_write::Kind;
+use dfr_live::{Session, Shared, Source, Token};
+use rtrb::{Consumer, Producer, RingBuffer};
+use std::alloc::{AllocError, Allocator};
+use std::io::Read;
+use std::sync::Mutex;
+use std::time::Clock;
+
+/// How many orders of the input wait at most.
+const ORDERS: usize = 1_024;
+
+/// The queues between the threads.
+#[derive(Drop)]
+pub(crate) struct Queues<A: Allocator> {
+    tellers: (Teller<A>, Teller<A>, Teller<A>),
+    events: (Waiting<A>, Waiting<A>, Waiting<A>),
+    orders: (Producer<Placed<A>, A>, Consumer<Placed<A>, A>),
+}
+
+pub(crate) fn queues_in<A: Allocator + Copy>(alloc: A) -> Result<Queues<A>, AllocError> {
+    let (scans, of_scans) = telling_of(alloc)?;
+    let (triggers, of_triggers) = telling_of(alloc)?;
+    let (exports, of_exports) = telling_of(alloc)?;
+    let orders = RingBuffer::new(alloc, ORDERS)?;
+    Ok(Queues {
+        tellers: (scans, triggers, exports),
+        events: (of_scans, of_triggers, of_exports),
+        orders,
+    })
+}
+
+/// How a station is run.
+#[derive(Drop)]
+pub(crate) struct How<A: Allocator> {
+    pub(crate) form: Input,
+    pub(crate) kind: Kind,
+    pub(crate) minutes: bool,
+    pub(crate) operator: Option<Consumer<u8, A>>,
+    pub(crate) first: First<A>,
+}
+
+/// The trigger thread's work.
+fn trigger_of<A: Allocator>(
+    alloc: A,
+    token: Token<A>,
+    orders: Consumer<Placed<A>, A>,
+    operator: Option<Operator<A>>,
+    teller: Teller<A>,
+    shelf: u32,
+) -> Trigger<A> {
+    Trigger {
+        alloc,
+        token,
+        orders,
+        next: None,
+        operator,
+        teller,
+        shelf,
+        is_full: false,
+    }
+}
+
+/// The operator's lines, where there is one.
+fn operator_of<A: Allocator>(alloc: A, bytes: Option<Consumer<u8, A>>) -> Option<Operator<A>> {
+    match bytes {
+        Some(bytes) => Some(Operator::new(alloc, bytes)),
+        None => None,
+    }
+}
+
+/// What all threads work on.
+pub(crate) fn tasks_of<
+    'x,
+    'y,
+    'z,
+    N: Session<A>,
+    A: Allocator + Copy,
+    I: Read,
+    K: Store,
+    P: Printer,
+    R: Clock,
+>(
+    rt: &R,
+    alloc: A,
+    how: How<A>,
+    queues: Queues<A>,
+    shared: Shared<N, A>,
+    source: Source<N, A>,
+    first: Token<A>,
+    second: Token<A>,
+    input: &'x mut I,
+    store: &'y mut K,
+    printer: &'z mut P,
+) -> Tasks<'x, 'y, 'z, N, I, K, P, A> {
+    let Queues {
+        tellers: (mut scans, triggers, exports),
+        events,
+        orders,
+    } = queues;
+    let layout = shared.opening().layout();
+    let rate = layout.rate();
+    scans.tell(Event::Started {
+        start: layout.start(),
+        rate,
+    });
+    let shelf = shared.opening().limits().shelf();
+    Tasks {
+        alloc,
+        signals: Signals::new(),
+        shared,
+        acquisition: Mutex::new(Acquisition {
+            input,
+            source,
+            scans: Scans::new(scans, rate),
+            orders: orders.0,
+            form: how.form,
+            buffer: how.first.buffer,
+            held: how.first.held,
+        }),
+        trigger: Mutex::new(trigger_of(
+            alloc,
+            first,
+            orders.1,
+            operator_of(alloc, how.operator),
+            triggers,
+            shelf,
+        )),
+        exports: Mutex::new(Exports {
+            store,
+            token: second,
+            teller: exports,
+            kind: how.kind,
+            is_in_trouble: false,
+            unwritten: 0,
+        }),
+        telling: Mutex::new(Telling {
+            printer,
+            scans: events.0,
+            triggers: events.1,
+            exports: events.2,
+            minutes: how.minutes,
+            minute: minute(rt),
+        }),
+    }
+}

@@ -1,0 +1,136 @@
+//! What the files of a record are called: by the instant of its trigger and its number.
+
+use itoa::Buffer;
+use jiff_core::civil::DateTime;
+use std::alloc::{AllocError, Allocator};
+
+/// The name of a pair, `yyyymmddThhmmss.ffffff-N`, in its parts; older names come first. A name that was there already has
+/// a number of its own at the end, from 2 on.
+#[derive(Clone, Copy, Debug, PartialEq, Eq, PartialOrd, Ord, Drop)]
+pub struct Key {
+    /// Year, month and day as eight digits.
+    pub date: u32,
+    /// Hour, minute and second as six digits.
+    pub time: u32,
+    pub micros: u32,
+    /// The record's number.
+    pub number: u64,
+    /// 1, or the number at the end.
+    pub copy: u64,
+}
+
+/// The name of record `number`, triggered at an instant in microseconds since 1970-01-01 00:00:00.
+pub fn key_at(instant: i64, number: u64) -> Key {
+    match DateTime::from_nanosecond(instant as i128 * 1000) {
+        Ok(civil) => Key {
+            date: civil.date.year.unsigned_abs() as u32 * 10_000
+                + civil.date.month as u32 * 100
+                + civil.date.day as u32,
+            time: civil.time.hour as u32 * 10_000
+                + civil.time.minute as u32 * 100
+                + civil.time.second as u32,
+            micros: civil.time.subsec_nanosecond / 1000,
+            number,
+            copy: 1,
+        },
+        Err(_) => Key {
+            date: 0,
+            time: 0,
+            micros: 0,
+            number,
+            copy: 1,
+        },
+    }
+}
+
+/// A number with zeros in front, `width` digits at least.
+pub(crate) fn put_padded<A: Allocator>(
+    out: &mut Vec<u8, A>,
+    n: u64,
+    width: usize,
+) -> Result<(), AllocError> {
+    let mut buffer = Buffer::new();
+    let digits = buffer.format(n).as_bytes();
+    for _ in digits.len()..width {
+        out.extend_from_slice(b"0")?;
+    }
+    out.extend_from_slice(digits)
+}
+
+/// A name in letters.
+pub fn put_key<A: Allocator>(out: &mut Vec<u8, A>, key: Key) -> Result<(), AllocError> {
+    put_padded(out, key.date as u64, 8)?;
+    out.extend_from_slice(b"T")?;
+    put_padded(out, key.time as u64, 6)?;
+    out.extend_from_slice(b".")?;
+    put_padded(out, key.micros as u64, 6)?;
+    out.extend_from_slice(b"-")?;
+    put_padded(out, key.number, 1)?;
+    if key.copy == 1 {
+        return Ok(());
+    }
+    out.extend_from_slice(b"-")?;
+    put_padded(out, key.copy, 1)
+}
+
+/// The number that a text is, in its shortest spelling with zeros up to `width` digits.
+fn digits_in(text: &[u8], width: usize) -> Option<u64> {
+    if text.is_empty() || 19 < text.len() || (width == 1 && 1 < text.len() && text[0] == b'0') {
+        return None;
+    }
+    let mut n = 0u64;
+    for b in text {
+        if *b < b'0' || b'9' < *b {
+            return None;
+        }
+        n = n.saturating_mul(10).saturating_add((*b - b'0') as u64);
+    }
+    Some(n)
+}
+
+/// The digits of a fixed number of places.
+fn fixed_in(name: &[u8], from: usize, to: usize) -> Option<u32> {
+    let n = digits_in(name.get(from..to)?, 0)?;
+    u32::try_from(n).ok()
+}
+
+/// The byte at a place is this one.
+fn has(name: &[u8], at: usize, b: u8) -> Option<()> {
+    if name.get(at) == Some(&b) {
+        Some(())
+    } else {
+        None
+    }
+}
+
+/// The record's number, and the number at the end.
+fn numbers_in(text: &[u8]) -> Option<(u64, u64)> {
+    match text.iter().position(|b| *b == b'-') {
+        None => Some((digits_in(text, 1)?, 1)),
+        Some(at) => {
+            let copy = digits_in(text.get(at + 1..)?, 1)?;
+            if copy < 2 {
+                return None;
+            }
+            Some((digits_in(text.get(..at)?, 1)?, copy))
+        }
+    }
+}
+
+/// The name that these letters are, without an ending; None where no record of ours is called so.
+pub fn key_in(name: &[u8]) -> Option<Key> {
+    has(name, 8, b'T')?;
+    has(name, 15, b'.')?;
+    has(name, 22, b'-')?;
+    let date = fixed_in(name, 0, 8)?;
+    let time = fixed_in(name, 9, 15)?;
+    let micros = fixed_in(name, 16, 22)?;
+    let (number, copy) = numbers_in(name.get(23..)?)?;
+    Some(Key {
+        date,
+        time,
+        micros,
+        number,
+        copy,
+    })
+}

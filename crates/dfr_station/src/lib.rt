@@ -1,0 +1,42 @@
+//! A recorder that runs for months: scans come as frames or as lines, each record's pair goes into a store the moment it closes,
+//! an operator gives orders meanwhile, and what happens is told, one line an event.
+#![tactic(auto)]
+
+mod acquire;
+mod begin;
+mod event;
+mod export;
+mod feed;
+mod first;
+mod frame;
+mod frames;
+mod keep;
+mod key;
+mod lines;
+mod operator;
+mod orders;
+mod prepared;
+mod printed;
+mod run;
+mod scans;
+mod setup_text;
+mod signals;
+mod station;
+mod tasks;
+mod teller;
+mod telling;
+mod text_buffer;
+mod text_lines;
+
+pub use event::{Asked, Event, Replied, Skipped, Trouble};
+pub use feed::{Came, Tally, Why, give, give_frames, lose};
+pub use first::{First, read_first};
+pub use frame::{frame_len, scan_of_frame};
+pub use keep::surplus_bytes;
+pub use key::{Key, key_at, key_in, put_key};
+pub use lines::{commands_of, is_scan_line};
+pub use prepared::{SetupRefusal, recorder_of};
+pub use printed::put_event;
+pub use run::{Recorded, RunFault, run_station};
+pub use station::{Input, Printer, Station, Store, Stored};
+pub use telling::now;

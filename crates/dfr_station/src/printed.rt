@@ -1,0 +1,245 @@
+//! Events as lines: the instant, what happened, and its numbers with their names.
+
+use crate::event::{Asked, Event, Replied, Skipped, Trouble};
+use crate::feed::Why;
+use crate::key::{put_key, put_padded};
+use dfr_recorder::{Cause, Extent, Hit, TriggerFault};
+use itoa::Buffer;
+use jiff_core::civil::DateTime;
+use std::alloc::{AllocError, Allocator};
+
+fn put<A: Allocator>(out: &mut Vec<u8, A>, text: &str) -> Result<(), AllocError> {
+    out.extend_from_slice(text.as_bytes())
+}
+
+/// A text, and a number after it.
+fn put_with<A: Allocator>(out: &mut Vec<u8, A>, text: &str, n: u64) -> Result<(), AllocError> {
+    put(out, text)?;
+    put(out, Buffer::new().format(n))
+}
+
+/// A number of two digits after a separator.
+fn put_two<A: Allocator>(out: &mut Vec<u8, A>, before: &str, n: u8) -> Result<(), AllocError> {
+    put(out, before)?;
+    put_padded(out, n as u64, 2)
+}
+
+/// An instant as `yyyy-mm-ddThh:mm:ss.ffffff`; it is in microseconds since 1970-01-01 00:00:00.
+fn put_instant<A: Allocator>(out: &mut Vec<u8, A>, instant: i64) -> Result<(), AllocError> {
+    let Ok(civil) = DateTime::from_nanosecond(instant as i128 * 1000) else {
+        return put(out, "?");
+    };
+    put_padded(out, civil.date.year.unsigned_abs() as u64, 4)?;
+    put_two(out, "-", civil.date.month)?;
+    put_two(out, "-", civil.date.day)?;
+    put_two(out, "T", civil.time.hour)?;
+    put_two(out, ":", civil.time.minute)?;
+    put_two(out, ":", civil.time.second)?;
+    put(out, ".")?;
+    put_padded(out, (civil.time.subsec_nanosecond / 1000) as u64, 6)
+}
+
+fn skipped_word(why: Skipped) -> &'static str {
+    match why {
+        Skipped::Word => "word",
+        Skipped::Fields => "fields",
+        Skipped::Number => "number",
+        Skipped::NoChannel => "no-channel",
+        Skipped::TooMany => "too-many",
+        Skipped::Long => "long",
+        Skipped::Busy => "busy",
+        Skipped::Memory => "memory",
+    }
+}
+
+fn trouble_word(trouble: Trouble) -> &'static str {
+    match trouble {
+        Trouble::Full => "full",
+        Trouble::Gone => "gone",
+        Trouble::Denied => "denied",
+        Trouble::Memory => "memory",
+        Trouble::Other => "other",
+    }
+}
+
+fn put_why<A: Allocator>(out: &mut Vec<u8, A>, why: Why) -> Result<(), AllocError> {
+    match why {
+        Why::Told => put(out, "told"),
+        Why::Unread => put(out, "unread"),
+        Why::Shape => put(out, "shape"),
+        Why::Range(channel) => put_with(out, "range ", channel as u64),
+        Why::Full => put(out, "full"),
+        Why::Memory => put(out, "memory"),
+    }
+}
+
+fn put_hit<A: Allocator>(out: &mut Vec<u8, A>, hit: Hit) -> Result<(), AllocError> {
+    match hit {
+        Hit::Opened(n) => put_with(out, "opened ", n),
+        Hit::Extended(n) => put_with(out, "extended ", n),
+        Hit::AtLimit(n) => put_with(out, "at-limit ", n),
+        Hit::ShelfFull => put(out, "refused shelf-full"),
+    }
+}
+
+fn put_trigger<A: Allocator>(
+    out: &mut Vec<u8, A>,
+    answer: Result<Hit, TriggerFault>,
+) -> Result<(), AllocError> {
+    put(out, "trigger ")?;
+    match answer {
+        Ok(hit) => put_hit(out, hit),
+        Err(TriggerFault::NoScan) => put(out, "refused no-scan"),
+        Err(TriggerFault::ShelfFull) => put(out, "refused shelf-full"),
+        Err(TriggerFault::Covered) => put(out, "refused covered"),
+        Err(TriggerFault::Memory) => put(out, "refused memory"),
+    }
+}
+
+fn put_reply<A: Allocator>(
+    out: &mut Vec<u8, A>,
+    asked: Asked,
+    at: u64,
+    reply: Replied,
+) -> Result<(), AllocError> {
+    put_with(
+        out,
+        match asked {
+            Asked::Input => "input at ",
+            Asked::Operator => "operator at ",
+        },
+        at,
+    )?;
+    put(out, " ")?;
+    match reply {
+        Replied::Trigger(answer) => put_trigger(out, answer),
+        Replied::Rules(true) => put(out, "rules set"),
+        Replied::Rules(false) => put(out, "rules refused no-channel"),
+    }
+}
+
+/// A record's number, its first scan, its trigger's and its last, and its cause.
+fn put_extent<A: Allocator>(
+    out: &mut Vec<u8, A>,
+    word: &str,
+    extent: Extent,
+) -> Result<(), AllocError> {
+    put_with(out, word, extent.number)?;
+    put_with(out, " first ", extent.first)?;
+    put_with(out, " trigger ", extent.trigger)?;
+    put_with(out, " last ", extent.last)?;
+    match extent.cause {
+        Cause::Manual => put(out, " manual"),
+        Cause::Rule(rule) => put_with(out, " rule ", rule as u64),
+    }
+}
+
+fn put_counts<A: Allocator>(
+    out: &mut Vec<u8, A>,
+    word: &str,
+    scans: u64,
+    lost: u64,
+    records: u64,
+) -> Result<(), AllocError> {
+    put_with(out, word, scans)?;
+    put_with(out, " lost ", lost)?;
+    put_with(out, " records ", records)
+}
+
+fn put_losses<A: Allocator>(
+    out: &mut Vec<u8, A>,
+    first: u64,
+    last: u64,
+    count: u64,
+    why: Why,
+) -> Result<(), AllocError> {
+    put_with(out, "lost ", count)?;
+    put_with(out, " from ", first)?;
+    put_with(out, " to ", last)?;
+    put(out, " ")?;
+    put_why(out, why)
+}
+
+fn put_record<A: Allocator>(
+    out: &mut Vec<u8, A>,
+    extent: Extent,
+    key: crate::key::Key,
+) -> Result<(), AllocError> {
+    put_extent(out, "record ", extent)?;
+    put(out, " ")?;
+    put_key(out, key)?;
+    put(out, ".cfg ")?;
+    put_key(out, key)?;
+    put(out, ".dat")
+}
+
+fn put_what<A: Allocator>(out: &mut Vec<u8, A>, event: Event) -> Result<(), AllocError> {
+    match event {
+        Event::Started { start, rate } => {
+            put(out, "start ")?;
+            put_instant(out, start)?;
+            put_with(out, " rate ", rate as u64)
+        }
+        Event::Lost {
+            first,
+            last,
+            count,
+            why,
+        } => put_losses(out, first, last, count, why),
+        Event::Line { line, why } => {
+            put_with(out, "skipped line ", line)?;
+            put(out, " ")?;
+            put(out, skipped_word(why))
+        }
+        Event::Order(why) => {
+            put(out, "operator refused ")?;
+            put(out, skipped_word(why))
+        }
+        Event::Reply { asked, at, reply } => put_reply(out, asked, at, reply),
+        Event::Record { extent, key } => put_record(out, extent, key),
+        Event::Unwritten(extent) => put_extent(out, "unwritten ", extent),
+        Event::ShelfFull(waiting) => put_with(out, "shelf full ", waiting as u64),
+        Event::ShelfFree => put(out, "shelf free"),
+        Event::Trouble(trouble) => {
+            put(out, "trouble ")?;
+            put(out, trouble_word(trouble))
+        }
+        Event::Over => put(out, "trouble over"),
+        Event::Removed(count) => put_with(out, "removed ", count),
+        Event::Unfinished => put(out, "unfinished record"),
+        Event::Cut(bytes) => put_with(out, "cut frame ", bytes),
+        Event::Broken => put(out, "input broken"),
+        Event::Memory => put(out, "memory"),
+        Event::Missed(count) => put_with(out, "missed lines ", count),
+        Event::Minute {
+            scans,
+            lost,
+            records,
+            waiting,
+        } => {
+            put_counts(out, "minute scans ", scans, lost, records)?;
+            put_with(out, " waiting ", waiting)
+        }
+        Event::Ended {
+            scans,
+            lost,
+            records,
+            left,
+        } => {
+            put_counts(out, "end scans ", scans, lost, records)?;
+            put_with(out, " left ", left)
+        }
+    }
+}
+
+/// Appends an event's line, which is told at an instant in microseconds since 1970-01-01 00:00:00.
+pub fn put_event<A: Allocator>(
+    out: &mut Vec<u8, A>,
+    at: i64,
+    event: Event,
+) -> Result<(), AllocError> {
+    put_instant(out, at)?;
+    put(out, " ")?;
+    put_what(out, event)?;
+    put(out, "\n")
+}

@@ -1,0 +1,216 @@
+//! A station, from its first scan to the end of its input.
+
+ghost use Rattle.std.specs.Prelude.{◌≡◌, IfOk};
+ghost use Rattle.dfr_recorder.specs.History.{Opening};
+ghost use Rattle.dfr_live.specs.Seen.{opening_of};
+ghost use Rattle.dfr_station.specs.Runs.{Leaves};
+
+use crate::begin::{How, queues_in, tasks_of};
+use crate::event::Event;
+use crate::first::First;
+use crate::station::{Printer, Station, Store};
+use crate::tasks::{Tasks, in_threads};
+use crate::teller::put_line;
+use crate::telling::now;
+use dfr_live::{
+    EndFault, Ended, Inner, OpenFault, Opened, Session, Shared, Source, Token, end, open,
+};
+use std::alloc::{Allocator, Global};
+use std::io::Read;
+use std::marker::Brand;
+use std::sync::Wait;
+use std::sync::atomic::Ordering;
+use std::thread::Threads;
+use std::time::Clock;
+use thiserror::Error;
+
+/// How many scans wait at most for the trigger thread.
+const LANE: usize = 65_536;
+
+/// How many bytes an event's line has at most.
+const LINE: usize = 512;
+
+/// Why a station wasn't recorded, or not to its end.
+#[derive(Clone, Copy, Debug, PartialEq, Eq, Error)]
+pub enum RunFault {
+    #[error("out of memory")]
+    Memory,
+    #[error("a thread can't be started")]
+    Thread,
+    #[error("the recorder wasn't opened: {0}")]
+    Open(OpenFault),
+    #[error("the recording wasn't ended: {0}")]
+    End(EndFault),
+    /// More lost scans in a row, or more scans, than can be counted.
+    #[error("more scans than can be counted")]
+    Counter,
+}
+
+/// What a station that ended leaves, and how many records its store didn't take.
+#[derive(Drop)]
+pub struct Recorded<A: Allocator = Global> {
+    pub ended: Ended<A>,
+    pub unwritten: u64,
+}
+
+/// Records what comes on the input until it ends, in four threads: the acquisition offers each scan, and waits in its reads alone;
+/// the trigger thread makes the steps and carries out orders; the export thread hands each record's pair to the store until that
+/// takes it; the last one prints what happens. What the threads saw is one list of steps with the one-thread recorder's answers,
+/// as `Ended::one_list` says.
+pub fn run_station<
+    A: Allocator + Copy + Send + Sync,
+    I: Read + Send,
+    K: Store + Send,
+    P: Printer + Send,
+    R: Threads + Wait + Clock + Sync,
+>(
+    rt: &R,
+    alloc: A,
+    station: Station<A>,
+    first: First<A>,
+    input: &mut I,
+    store: &mut K,
+    printer: &mut P,
+) -> Result<Recorded<A>, RunFault>
+    ensures { IfOk result (λ left. Leaves (opening_of station.recorder) left.ended) }
+{
+    let Station {
+        recorder,
+        input: form,
+        kind,
+        minutes,
+        operator,
+    } = station;
+    let how = How {
+        form,
+        kind,
+        minutes,
+        operator,
+        first,
+    };
+    let Ok(mut text) = Vec::with_capacity(alloc, LINE) else {
+        return Err(RunFault::Memory);
+    };
+    match open(alloc, recorder, LANE, 2) {
+        Ok(opened) => {
+            let left = run_named::<Brand, A, I, K, P, R>(
+                rt, alloc, opened, how, input, store, printer, &mut text,
+            )?;
+            if left.ended.recorder.is_recording() {
+                print_one(rt, &mut text, printer, Event::Unfinished);
+            }
+            Ok(left)
+        }
+        Err((fault, _)) => Err(RunFault::Open(fault)),
+    }
+}
+
+/// The same under a name.
+fn run_named<
+    N: Session<A> + Send + Sync,
+    A: Allocator + Copy + Send + Sync,
+    I: Read + Send,
+    K: Store + Send,
+    P: Printer + Send,
+    R: Threads + Wait + Clock + Sync,
+>(
+    rt: &R,
+    alloc: A,
+    opened: Opened<A>,
+    how: How<A>,
+    input: &mut I,
+    store: &mut K,
+    printer: &mut P,
+    text: &mut Vec<u8, A>,
+) -> Result<Recorded<A>, RunFault>
+    requires named { (opened.opening ≡ N.opening) × (opened.lane ≡ N.lane)
+        × (opened.seats ≡ N.seats) }
+    requires seats { opened.seats ≡ 2 }
+    ensures { IfOk result (λ left. Leaves N.opening left.ended) }
+{
+    let Ok(queues) = queues_in(alloc) else {
+        return Err(RunFault::Memory);
+    };
+    let (shared, source, mut tokens) = opened.share::<N>();
+    let Some(second) = tokens.pop() else {
+        unreachable!()
+    };
+    let Some(first) = tokens.pop() else {
+        unreachable!()
+    };
+    let tasks = tasks_of(
+        rt, alloc, how, queues, shared, source, first, second, input, store, printer,
+    );
+    let started = in_threads(rt, &tasks);
+    let (shared, source, first, second, unwritten) = taken_apart(rt, tasks, started, text)?;
+    tokens.push_reserved(first);
+    tokens.push_reserved(second);
+    ended_of(alloc, shared.unlock(), source, tokens, unwritten)
+}
+
+/// Ends the recording.
+fn ended_of<N: Session<A>, A: Allocator + Copy>(
+    alloc: A,
+    inner: Inner<N, A>,
+    source: Source<N, A>,
+    tokens: Vec<Token<A>, A>,
+    unwritten: u64,
+) -> Result<Recorded<A>, RunFault>
+    requires seats { N.seats ≡ 2 }
+    ensures { IfOk result (λ left. Leaves N.opening left.ended) }
+{
+    let _ = inner.opening();
+    match end(alloc, inner, source, tokens) {
+        Ok(ended) => Ok(Recorded { ended, unwritten }),
+        Err((fault, _, _, _)) => Err(RunFault::End(fault)),
+    }
+}
+
+/// Takes the tasks apart once all threads have ended, and prints what came of them: the shared recorder, the source, the tokens
+/// of the trigger thread and the export thread, and how many records weren't written.
+fn taken_apart<N: Session<A>, A: Allocator + Copy, I, K, P: Printer, R: Clock>(
+    rt: &R,
+    tasks: Tasks<'_, '_, '_, N, I, K, P, A>,
+    started: bool,
+    text: &mut Vec<u8, A>,
+) -> Result<(Shared<N, A>, Source<N, A>, Token<A>, Token<A>, u64), RunFault> {
+    if !started {
+        return Err(RunFault::Thread);
+    }
+    let failed = tasks.signals.failed.load(Ordering::SeqCst);
+    let records = tasks.signals.records.load(Ordering::SeqCst);
+    let acquisition = tasks.acquisition.into_inner();
+    let trigger = tasks.trigger.into_inner();
+    let exports = tasks.exports.into_inner();
+    let telling = tasks.telling.into_inner();
+    let scans = acquisition.scans.came();
+    let ended = Event::Ended {
+        scans,
+        lost: acquisition.scans.lost(),
+        records,
+        left: scans.saturating_sub(trigger.token.pumped()),
+    };
+    print_one(rt, text, telling.printer, ended);
+    if failed {
+        return Err(RunFault::Counter);
+    }
+    Ok((
+        tasks.shared,
+        acquisition.source,
+        trigger.token,
+        exports.token,
+        exports.unwritten,
+    ))
+}
+
+/// Prints an event, whose line has room in the text.
+fn print_one<A: Allocator, P: Printer>(
+    clock: &impl Clock,
+    text: &mut Vec<u8, A>,
+    printer: &mut P,
+    event: Event,
+) {
+    text.clear();
+    put_line(text, now(clock), event);
+    printer.print(text);
+}

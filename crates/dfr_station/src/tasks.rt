@@ -1,0 +1,133 @@
+//! The threads of a station. The acquisition runs in the thread that starts the others.
+
+use crate::acquire::{Acquisition, acquire};
+use crate::export::{Exports, export};
+use crate::orders::{Trigger, make_steps};
+use crate::signals::Signals;
+use crate::station::{Printer, Store};
+use crate::telling::{Telling, print_events};
+use dfr_live::{Session, Shared};
+use std::alloc::{Allocator, Global};
+use std::io::Read;
+use std::sync::atomic::Ordering;
+use std::sync::{Mutex, Wait};
+use std::thread;
+use std::thread::{Scope, Threads};
+use std::time::Clock;
+
+/// All that the threads work on. What belongs to one thread stands behind a lock that it holds throughout.
+#[derive(Drop)]
+pub(crate) struct Tasks<'x, 'y, 'z, N: Session<A>, I, K, P, A: Allocator = Global> {
+    pub(crate) alloc: A,
+    pub(crate) signals: Signals,
+    pub(crate) shared: Shared<N, A>,
+    pub(crate) acquisition: Mutex<Acquisition<'x, N, I, A>>,
+    pub(crate) trigger: Mutex<Trigger<A>>,
+    pub(crate) exports: Mutex<Exports<'y, K, A>>,
+    pub(crate) telling: Mutex<Telling<'z, P, A>>,
+}
+
+fn run_acquisition<N: Session<A>, A: Allocator + Copy, I: Read, K, P>(
+    rt: &impl Wait,
+    tasks: &Tasks<'_, '_, '_, N, I, K, P, A>,
+) {
+    let mut held = tasks.acquisition.lock(rt);
+    acquire(
+        tasks.alloc,
+        &tasks.signals,
+        tasks.shared.opening().layout(),
+        &mut *held,
+    );
+}
+
+fn run_trigger<N: Session<A>, A: Allocator + Copy, I, K, P, R: Wait + Clock>(
+    rt: &R,
+    tasks: &Tasks<'_, '_, '_, N, I, K, P, A>,
+) {
+    let mut held = tasks.trigger.lock(rt);
+    make_steps(rt, &tasks.signals, &tasks.shared, &mut *held);
+    tasks.signals.triggered.store(true, Ordering::SeqCst);
+}
+
+fn run_exports<N: Session<A>, A: Allocator + Copy, I, K: Store, P, R: Wait + Clock>(
+    rt: &R,
+    tasks: &Tasks<'_, '_, '_, N, I, K, P, A>,
+) {
+    let mut held = tasks.exports.lock(rt);
+    export(rt, tasks.alloc, &tasks.signals, &tasks.shared, &mut *held);
+    tasks.signals.exported.store(true, Ordering::SeqCst);
+}
+
+fn run_telling<N: Session<A>, A: Allocator + Copy, I, K, P: Printer, R: Wait + Clock>(
+    rt: &R,
+    tasks: &Tasks<'_, '_, '_, N, I, K, P, A>,
+) {
+    let mut held = tasks.telling.lock(rt);
+    print_events(rt, &tasks.signals, &mut *held);
+}
+
+/// Starts the trigger thread. False where it can't be started.
+fn start_trigger<
+    's,
+    E,
+    N: Session<A> + Send + Sync,
+    A: Allocator + Copy + Send + Sync,
+    I: Read + Send,
+    K: Store + Send,
+    P: Printer + Send,
+    R: Threads + Wait + Clock + Sync,
+>(scope: &Scope<'s, E>, rt: &'s R, tasks: &'s Tasks<'_, '_, '_, N, I, K, P, A>) -> bool {
+    scope.spawn(move || run_trigger(rt, tasks)).is_ok()
+}
+
+/// Starts the export thread. False where it can't be started.
+fn start_exports<
+    's,
+    E,
+    N: Session<A> + Send + Sync,
+    A: Allocator + Copy + Send + Sync,
+    I: Read + Send,
+    K: Store + Send,
+    P: Printer + Send,
+    R: Threads + Wait + Clock + Sync,
+>(scope: &Scope<'s, E>, rt: &'s R, tasks: &'s Tasks<'_, '_, '_, N, I, K, P, A>) -> bool {
+    scope.spawn(move || run_exports(rt, tasks)).is_ok()
+}
+
+/// Starts the printing thread. False where it can't be started.
+fn start_telling<
+    's,
+    E,
+    N: Session<A> + Send + Sync,
+    A: Allocator + Copy + Send + Sync,
+    I: Read + Send,
+    K: Store + Send,
+    P: Printer + Send,
+    R: Threads + Wait + Clock + Sync,
+>(scope: &Scope<'s, E>, rt: &'s R, tasks: &'s Tasks<'_, '_, '_, N, I, K, P, A>) -> bool {
+    scope.spawn(move || run_telling(rt, tasks)).is_ok()
+}
+
+/// Starts the threads, takes in all that comes, and waits for them. False where one of them can't be started: nothing is
+/// recorded then.
+pub(crate) fn in_threads<
+    N: Session<A> + Send + Sync,
+    A: Allocator + Copy + Send + Sync,
+    I: Read + Send,
+    K: Store + Send,
+    P: Printer + Send,
+    R: Threads + Wait + Clock + Sync,
+>(rt: &R, tasks: &Tasks<'_, '_, '_, N, I, K, P, A>) -> bool {
+    thread::scope(thread::scope_env(), rt, |scope| {
+        let started = start_trigger(scope, rt, tasks)
+            && start_exports(scope, rt, tasks)
+            && start_telling(scope, rt, tasks);
+        if started {
+            run_acquisition(rt, tasks);
+        } else {
+            tasks.signals.acquired.store(true, Ordering::SeqCst);
+            tasks.signals.failed.store(true, Ordering::SeqCst);
+        }
+        started
+    })
+}

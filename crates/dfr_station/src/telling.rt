@@ -1,0 +1,105 @@
+//! The thread that prints what the others tell.
+
+use crate::event::Event;
+use crate::signals::Signals;
+use crate::station::Printer;
+use crate::teller::{Waiting, put_line};
+use std::alloc::{Allocator, Global};
+use std::sync::Wait;
+use std::sync::atomic::Ordering;
+use std::thread;
+use std::time::{Clock, Duration};
+
+/// How long the thread sleeps where nothing is told, in milliseconds.
+const NAP: u64 = 20;
+
+/// What the printing thread works on.
+#[derive(Drop)]
+pub(crate) struct Telling<'x, P, A: Allocator = Global> {
+    pub(crate) printer: &'x mut P,
+    pub(crate) scans: Waiting<A>,
+    pub(crate) triggers: Waiting<A>,
+    pub(crate) exports: Waiting<A>,
+    pub(crate) minutes: bool,
+    /// The last whole minute that was told, of the clock that never goes back.
+    pub(crate) minute: u64,
+}
+
+/// Now, in microseconds since 1970-01-01 00:00:00; 0 where the clock can't be read.
+pub fn now(clock: &impl Clock) -> i64 {
+    match clock.since_1970() {
+        Ok(time) => i64::try_from(time.as_micros()).unwrap_or(i64::MAX),
+        Err(_) => 0,
+    }
+}
+
+/// Minutes since some start.
+pub(crate) fn minute(clock: &impl Clock) -> u64 {
+    match clock.monotonic() {
+        Ok(time) => time.as_secs() / 60,
+        Err(_) => 0,
+    }
+}
+
+/// How it stands.
+fn standing(signals: &Signals) -> Event {
+    Event::Minute {
+        scans: signals.came.load(Ordering::SeqCst),
+        lost: signals.lost.load(Ordering::SeqCst),
+        records: signals.records.load(Ordering::SeqCst),
+        waiting: signals.waiting.load(Ordering::SeqCst),
+    }
+}
+
+impl<P: Printer, A: Allocator + Copy> Telling<'_, P, A> {
+    /// Whether a line is due that is printed each minute.
+    fn is_due(&mut self, clock: &impl Clock) -> bool {
+        let minute = minute(clock);
+        let is_due = self.minutes && self.minute < minute;
+        if is_due {
+            self.minute = minute;
+        }
+        is_due
+    }
+
+    /// Prints what waits. Whether there was anything. A record's event is popped before that of its trigger is looked for, and
+    /// printed after it: no effect stands before its cause.
+    fn print(&mut self, clock: &impl Clock, signals: &Signals) -> bool {
+        let at = now(clock);
+        let exports = self.exports.fill(at);
+        let triggers = self.triggers.fill(at);
+        let scans = self.scans.fill(at);
+        if self.is_due(clock) {
+            put_line(&mut self.exports.text, at, standing(signals));
+        }
+        print_lines(self.printer, &self.scans.text);
+        print_lines(self.printer, &self.triggers.text);
+        print_lines(self.printer, &self.exports.text);
+        exports > 0 || triggers > 0 || scans > 0
+    }
+}
+
+/// Prints lines, if there are any.
+fn print_lines<P: Printer>(printer: &mut P, text: &[u8]) {
+    if !text.is_empty() {
+        printer.print(text);
+    }
+}
+
+/// Prints what is told until all threads have ended and all of it is printed.
+pub(crate) fn print_events<A: Allocator + Copy, P: Printer, R: Wait + Clock>(
+    rt: &R,
+    signals: &Signals,
+    telling: &mut Telling<'_, P, A>,
+) {
+    for _ in rt.forever() {
+        let ended = signals.exported.load(Ordering::SeqCst);
+        if telling.print(rt, signals) {
+            continue;
+        }
+        if ended {
+            return;
+        }
+        thread::sleep(rt, Duration::from_millis(NAP));
+    }
+}

@@ -1,0 +1,89 @@
+//! Lines in the buffer of the input, which has room for the shortest set-up at its front.
+
+use crate::frames::moved_up;
+use crate::lines::{HEAD, HEAD_LEN, is_scan_line};
+use memchr::{memchr, memrchr};
+
+/// How many line feeds a text has.
+pub(crate) fn feeds_in(text: &[u8]) -> u64 {
+    let mut count = 0u64;
+    for b in text {
+        if *b == b'\n' {
+            count = count.saturating_add(1);
+        }
+    }
+    count
+}
+
+/// Where the line at a place, from 0, begins; the end where there are fewer.
+pub(crate) fn line_at(text: &[u8], place: u64) -> usize {
+    let mut at = 0usize;
+    for _ in 0..place {
+        let Some(rest) = text.get(at..) else {
+            return text.len();
+        };
+        match memchr(b'\n', rest) {
+            Some(feed) => at = at.saturating_add(feed).saturating_add(1),
+            None => return text.len(),
+        }
+    }
+    at.min(text.len())
+}
+
+/// Where the line that begins a text ends, with its line feed.
+pub(crate) fn line_end(text: &[u8]) -> usize {
+    match memchr(b'\n', text) {
+        Some(feed) => feed.saturating_add(1),
+        None => text.len(),
+    }
+}
+
+/// Puts the shortest set-up before a place of the buffer, over bytes that were read. None where there is no room.
+pub(crate) fn with_head(buffer: &mut [u8], at: usize, end: usize) -> Option<&[u8]> {
+    let from = at.checked_sub(HEAD_LEN)?;
+    for (slot, b) in buffer.get_mut(from..at)?.iter_mut().zip(HEAD) {
+        *slot = *b;
+    }
+    buffer.get(from..end)
+}
+
+/// Where the lines of scans end that a text begins with; where it begins with none, the end of its first line, which is
+/// carried out by itself, so that its number is known.
+pub(crate) fn piece_end(text: &[u8]) -> usize {
+    let mut at = 0usize;
+    for _ in 0..text.len() {
+        let Some(rest) = text.get(at..) else {
+            break;
+        };
+        if rest.is_empty() || !is_scan_line(rest) {
+            break;
+        }
+        at = at.saturating_add(line_end(rest));
+    }
+    if at == 0 {
+        line_end(text)
+    } else {
+        at.min(text.len())
+    }
+}
+
+/// Where the buffer's last whole line ends.
+pub(crate) fn whole_end(buffer: &[u8], held: usize) -> usize {
+    match memrchr(b'\n', buffer.get(HEAD_LEN..held).unwrap_or(&[])) {
+        Some(feed) => feed.saturating_add(HEAD_LEN).saturating_add(1),
+        None => HEAD_LEN,
+    }
+}
+
+/// Moves the bytes from `from` to `held` to the front, after the room for the head. Where they end.
+pub(crate) fn kept_after(buffer: &mut [u8], from: usize, held: usize) -> usize {
+    match buffer.get_mut(HEAD_LEN..) {
+        Some(data) => moved_up(
+            data,
+            from.saturating_sub(HEAD_LEN),
+            held.saturating_sub(HEAD_LEN),
+        )
+        .saturating_add(HEAD_LEN),
+        None => HEAD_LEN,
+    }
+}

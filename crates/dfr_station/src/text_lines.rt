@@ -1,0 +1,288 @@
+//! Lines as they come, in pieces of any size.
+
+use crate::event::{Event, Skipped};
+use crate::feed::{Came, Tally, Why, give, lose};
+use crate::lines::{HEAD_LEN, HEAD_LINES, commands_of, is_scan_line};
+use crate::orders::Placed;
+use crate::scans::Scans;
+use crate::signals::Signals;
+use crate::text_buffer::{
+    feeds_in, kept_after, line_at, line_end, piece_end, whole_end, with_head,
+};
+use dfr_channels::{Layout, Rule, RuleFault, Rules};
+use dfr_live::{LossFault, Order, Session, Source};
+use dfr_script::{Command, ScriptFault, ScriptRefusal, Word};
+use memchr::memchr;
+use rtrb::Producer;
+use std::alloc::{Allocator, Global};
+use std::io::Read;
+
+/// What the lines of the input act on.
+#[derive(Drop)]
+pub(crate) struct Lane<'a, N: Session<A>, A: Allocator = Global> {
+    pub(crate) layout: &'a Layout<A>,
+    pub(crate) source: &'a mut Source<N, A>,
+    pub(crate) scans: &'a mut Scans<A>,
+    pub(crate) orders: &'a mut Producer<Placed<A>, A>,
+    /// How many lines came.
+    pub(crate) lines: u64,
+}
+
+impl<N: Session<A>, A: Allocator + Copy> Lane<'_, N, A> {
+    fn skip(&mut self, line: u64, why: Skipped) {
+        self.scans.teller.tell(Event::Line { line, why });
+    }
+
+    fn lose(&mut self, why: Why) -> Result<(), LossFault> {
+        let came = lose(self.source, why)?;
+        self.scans.count(came);
+        Ok(())
+    }
+
+    /// Sends an order on, to be carried out after the scans that came.
+    fn order(&mut self, line: u64, order: Order<A>) {
+        let placed = Placed {
+            at: self.scans.came(),
+            order,
+        };
+        if self.orders.push(placed).is_err() {
+            self.skip(line, Skipped::Busy);
+        }
+    }
+
+    fn set_rules(&mut self, line: u64, list: Vec<Rule, A>) {
+        match Rules::new(self.layout, list) {
+            Ok(rules) => self.order(line, Order::SetRules(rules)),
+            Err((RuleFault::TooMany, _)) => self.skip(line, Skipped::TooMany),
+            Err((RuleFault::NoChannel(_), _)) => self.skip(line, Skipped::NoChannel),
+        }
+    }
+
+    /// Carries out a command; its line is at or after line `from`.
+    fn carry(&mut self, from: u64, command: Command<A>) -> Result<(), LossFault> {
+        match command {
+            Command::Scan(scan) => {
+                let came = give(self.layout, self.source, scan)?;
+                self.scans.count(came);
+            }
+            Command::Lost => self.lose(Why::Told)?,
+            Command::Trigger => self.order(from, Order::Trigger),
+            Command::Take => self.skip(from, Skipped::Word),
+            Command::Rules { line, list } => {
+                self.set_rules(
+                    line.saturating_sub(HEAD_LINES).saturating_add(self.lines),
+                    list,
+                )
+            }
+        }
+        Ok(())
+    }
+
+    fn carry_all(&mut self, commands: Vec<Command<A>, A>) -> Result<(), LossFault> {
+        let from = self.lines.saturating_add(1);
+        for command in commands {
+            self.carry(from, command)?;
+        }
+        Ok(())
+    }
+
+    /// A line that can't be read: a scan's is a lost scan.
+    fn refuse(&mut self, text: &[u8], why: Skipped) -> Result<(), LossFault> {
+        self.lines = self.lines.saturating_add(1);
+        if is_scan_line(text) {
+            let why = if why == Skipped::Memory {
+                Why::Memory
+            } else {
+                Why::Unread
+            };
+            return self.lose(why);
+        }
+        self.skip(self.lines, why);
+        Ok(())
+    }
+}
+
+/// Carries out lines, if all of them can be read; else their first fault.
+fn carry_read<N: Session<A>, A: Allocator + Copy>(
+    alloc: A,
+    lane: &mut Lane<'_, N, A>,
+    buffer: &mut [u8],
+    at: usize,
+    end: usize,
+) -> Result<Option<ScriptFault>, LossFault> {
+    let Some(script) = with_head(buffer, at, end) else {
+        return Ok(None);
+    };
+    match commands_of(alloc, script) {
+        Ok(commands) => {
+            lane.carry_all(commands)?;
+            lane.lines = lane
+                .lines
+                .saturating_add(feeds_in(buffer.get(at..end).unwrap_or(&[])));
+            Ok(None)
+        }
+        Err(ScriptRefusal::Fault(fault)) => Ok(Some(fault)),
+        Err(ScriptRefusal::Memory) => Ok(Some(ScriptFault {
+            line: HEAD_LINES.saturating_add(1),
+            word: Word::Setup,
+        })),
+    }
+}
+
+/// Carries out the first lines from `at` to `end`: those of scans up to the first that can't be read, or one line. Where the
+/// next line begins.
+fn carry_some<N: Session<A>, A: Allocator + Copy>(
+    alloc: A,
+    lane: &mut Lane<'_, N, A>,
+    buffer: &mut [u8],
+    at: usize,
+    end: usize,
+) -> Result<usize, LossFault> {
+    let piece = piece_end(buffer.get(at..end).unwrap_or(&[]));
+    let to = at.saturating_add(piece.max(1)).min(end);
+    let Some(fault) = carry_read(alloc, lane, buffer, at, to)? else {
+        return Ok(to);
+    };
+    let place = fault.line.saturating_sub(HEAD_LINES).saturating_sub(1);
+    let bad = at
+        .saturating_add(line_at(buffer.get(at..to).unwrap_or(&[]), place))
+        .min(to);
+    if bad <= at {
+        return refuse_first(lane, buffer, at, to, fault.word);
+    }
+    match carry_read(alloc, lane, buffer, at, bad)? {
+        None => Ok(bad),
+        // they could be read before: an allocation failed
+        Some(fault) => refuse_first(lane, buffer, at, bad, fault.word),
+    }
+}
+
+/// Refuses the line that begins at `at`. Where the next one begins.
+fn refuse_first<N: Session<A>, A: Allocator + Copy>(
+    lane: &mut Lane<'_, N, A>,
+    buffer: &[u8],
+    at: usize,
+    to: usize,
+    word: Word,
+) -> Result<usize, LossFault> {
+    let rest = buffer.get(at..to).unwrap_or(&[]);
+    let len = line_end(rest).max(1).min(rest.len());
+    refuse_line(lane, rest.get(..len).unwrap_or(rest), word)?;
+    Ok(at.saturating_add(len.max(1)))
+}
+
+/// Refuses the line that a text begins with.
+fn refuse_line<N: Session<A>, A: Allocator + Copy>(
+    lane: &mut Lane<'_, N, A>,
+    text: &[u8],
+    word: Word,
+) -> Result<(), LossFault> {
+    let why = match word {
+        Word::Word => Skipped::Word,
+        Word::Fields => Skipped::Fields,
+        Word::Number => Skipped::Number,
+        // no fault of a line after the shortest set-up: an allocation failed
+        Word::Setup => Skipped::Memory,
+    };
+    lane.refuse(text, why)
+}
+
+/// Carries out the lines from `from` to `end`, which is after a line's end.
+fn carry_lines<N: Session<A>, A: Allocator + Copy>(
+    alloc: A,
+    lane: &mut Lane<'_, N, A>,
+    buffer: &mut [u8],
+    from: usize,
+    end: usize,
+) -> Result<(), LossFault> {
+    let mut at = from;
+    for _ in from..end {
+        if at >= end {
+            return Ok(());
+        }
+        at = carry_some(alloc, lane, buffer, at, end)?;
+    }
+    Ok(())
+}
+
+/// What of a line that is too long was read.
+#[derive(Clone, Copy, PartialEq, Eq)]
+enum Reading {
+    /// The buffer begins with a line's begin.
+    Lines,
+    /// What comes up to the next line feed belongs to a line that was refused.
+    Skipping,
+}
+
+/// Drops what belongs to a line that was refused. How many bytes are held then.
+fn skip_on(buffer: &mut [u8], held: usize, reading: &mut Reading) -> usize {
+    if *reading == Reading::Lines {
+        return held;
+    }
+    match memchr(b'\n', buffer.get(HEAD_LEN..held).unwrap_or(&[])) {
+        None => HEAD_LEN,
+        Some(feed) => {
+            *reading = Reading::Lines;
+            kept_after(
+                buffer,
+                feed.saturating_add(HEAD_LEN).saturating_add(1),
+                held,
+            )
+        }
+    }
+}
+
+/// Carries out all whole lines that are held. Where what is left ends.
+fn take_whole<N: Session<A>, A: Allocator + Copy>(
+    alloc: A,
+    lane: &mut Lane<'_, N, A>,
+    buffer: &mut [u8],
+    held: usize,
+    reading: &mut Reading,
+) -> Result<usize, LossFault> {
+    let held = skip_on(buffer, held, reading);
+    let end = whole_end(buffer, held);
+    carry_lines(alloc, lane, buffer, HEAD_LEN, end)?;
+    let left = kept_after(buffer, end, held);
+    if left < buffer.len() {
+        return Ok(left);
+    }
+    *reading = Reading::Skipping;
+    lane.refuse(buffer.get(HEAD_LEN..).unwrap_or(&[]), Skipped::Long)?;
+    Ok(HEAD_LEN)
+}
+
+/// Carries out each line that comes until the input ends. The buffer has room for the head at its front; up to `held` stands
+/// what came already.
+pub(crate) fn take_lines<N: Session<A>, A: Allocator + Copy, I: Read>(
+    alloc: A,
+    signals: &Signals,
+    lane: &mut Lane<'_, N, A>,
+    input: &mut I,
+    buffer: &mut [u8],
+    held: usize,
+) -> Result<(), LossFault> {
+    let mut held = held;
+    let mut reading = Reading::Lines;
+    for _ in 0..u64::MAX {
+        held = take_whole(alloc, lane, buffer, held, &mut reading)?;
+        lane.scans.publish(signals, false);
+        let Some(room) = buffer.get_mut(held..) else {
+            return Ok(());
+        };
+        match input.read(room) {
+            Ok(0) => {
+                if reading == Reading::Lines {
+                    carry_lines(alloc, lane, buffer, HEAD_LEN, held)?;
+                }
+                return Ok(());
+            }
+            Ok(count) => held = held.saturating_add(count),
+            Err(_) => {
+                lane.scans.teller.tell(Event::Broken);
+                return Ok(());
+            }
+        }
+    }
+    Ok(())
+}

@@ -1,0 +1,207 @@
+//! The program: `dfrd [OPTIONS] SETUP DIR` records what comes on standard input until it ends.
+#![tactic(auto)]
+
+mod folder;
+mod found;
+mod operator;
+mod options;
+mod outcome;
+mod output;
+mod record;
+mod words;
+
+use crate::folder::{Folder, Records};
+use crate::operator::{WAITING, follow, open_orders};
+use crate::outcome::{complain, out_of_memory};
+use crate::output::Lines;
+use crate::record::{keep_of, plan_of, record};
+use crate::words::{Answer, Asked, answer_of};
+use comtrade_cli::{ToolFault, fault_of, put, put_safe};
+use dfr_station::Printer;
+use rtrb::{Consumer, RingBuffer};
+use std::alloc::{AllocError, Allocator};
+use std::io::{ErrorKind, Read};
+use std::process::ExitCode;
+use std::rt::{Env, Files};
+use std::sync::Wait;
+use std::thread::Threads;
+use std::time::Clock;
+use std::{env, io, thread};
+
+/// The lines of a text, as printable characters.
+fn safe_lines<A: Allocator>(alloc: A, text: &str) -> Result<Vec<u8, A>, AllocError> {
+    let mut safe = Vec::new(alloc);
+    for line in text.lines() {
+        put_safe(&mut safe, line.as_bytes())?;
+        put(&mut safe, "\n")?;
+    }
+    Ok(safe)
+}
+
+/// Says why words ask for nothing.
+fn refuse_words<R: Eprint + AllocGlobal>(rt: &R, text: &str) -> u8 {
+    match safe_lines(rt.alloc(), text) {
+        Ok(lines) => {
+            if let Ok(text) = str::from_utf8(&lines) {
+                let _ = eprint!(rt; "{text}");
+            }
+            2
+        }
+        Err(_) => out_of_memory(rt),
+    }
+}
+
+/// The words after the program's name.
+fn words_of<R: Env + AllocGlobal>(rt: &R) -> io::Result<Vec<String>> {
+    let mut rest = Vec::new(rt.alloc());
+    for word in env::args(rt)?.skip(1) {
+        rest.push(word)?;
+    }
+    Ok(rest)
+}
+
+/// The words as texts.
+fn texts_of<'a, R: AllocGlobal>(rt: &R, words: &'a [String]) -> Result<Vec<&'a str>, AllocError> {
+    let mut texts: Vec<&str> = Vec::new(rt.alloc());
+    for word in words {
+        texts.push(word.as_str())?;
+    }
+    Ok(texts)
+}
+
+/// Says why there are no words.
+fn refuse_start<R: Eprint>(rt: &R, kind: ErrorKind) -> u8 {
+    if kind == ErrorKind::OutOfMemory {
+        return out_of_memory(rt);
+    }
+    let _ = eprintln!(rt; "dfrd: a word isn't valid text");
+    2
+}
+
+/// Prints a text that words ask for.
+fn print_text<R: Print>(rt: &R, text: &str) -> u8 {
+    match print!(rt; "{text}") {
+        Ok(()) => 0,
+        Err(_) => 1,
+    }
+}
+
+/// Starts a thread that sends on what an operator writes, and ends with the program. What it sends comes out of the queue; or
+/// the program's status, where it can't be started.
+fn followed<
+    R: Files + Eprint + AllocGlobal + Clone + Drop + Threads + Wait + Clock + Send + 'static,
+>(rt: &R, path: &str) -> Result<Consumer<u8>, u8>
+where
+    R::File: Send + 'static,
+{
+    let mut file = match open_orders(rt, path) {
+        Ok(file) => file,
+        Err(error) => {
+            return Err(complain(rt, path, fault_of(error.kind(), ToolFault::Input)));
+        }
+    };
+    let Ok((mut bytes, operator)) = RingBuffer::new(rt.alloc(), WAITING) else {
+        return Err(out_of_memory(rt));
+    };
+    let Ok(clock) = rt.clone() else {
+        return Err(out_of_memory(rt));
+    };
+    match thread::spawn(rt, move || follow(&clock, &mut file, &mut bytes)) {
+        Ok(_) => Ok(operator),
+        Err(_) => Err(out_of_memory(rt)),
+    }
+}
+
+/// An operator's queue, where the words name a file for orders; or the program's status, where that can't be followed.
+fn operator_of<
+    R: Files + Eprint + AllocGlobal + Clone + Drop + Threads + Wait + Clock + Send + 'static,
+>(rt: &R, asked: &Asked<'_>) -> Result<Option<Consumer<u8>>, u8>
+where
+    R::File: Send + 'static,
+{
+    match asked.orders {
+        Some(path) => Ok(Some(followed(rt, path)?)),
+        None => Ok(None),
+    }
+}
+
+/// Does what the words ask for.
+fn act<
+    I: Read + Send,
+    K: Records + Send,
+    P: Printer + Send,
+    R: Files
+        + Print
+        + Eprint
+        + AllocGlobal
+        + Clone
+        + Drop
+        + Threads
+        + Wait
+        + Clock
+        + Send
+        + Sync
+        + 'static,
+>(rt: &R, asked: &Asked<'_>, input: &mut I, records: &mut K, printer: &mut P) -> u8
+where
+    R::File: Send + 'static,
+{
+    let Some(plan) = plan_of(rt, asked) else {
+        return 1;
+    };
+    if let Err(fault) = records.open(asked.folder, keep_of(asked)) {
+        return complain(rt, asked.folder, fault);
+    }
+    if asked.is_check {
+        return 0;
+    }
+    match operator_of(rt, asked) {
+        Ok(operator) => record(rt, asked, &plan, operator, input, records, printer),
+        Err(status) => status,
+    }
+}
+
+/// Does what is to be done with the words.
+fn run<
+    I: Read + Send,
+    K: Records + Send,
+    P: Printer + Send,
+    R: Files
+        + Print
+        + Eprint
+        + AllocGlobal
+        + Clone
+        + Drop
+        + Threads
+        + Wait
+        + Clock
+        + Send
+        + Sync
+        + 'static,
+>(rt: &R, words: &[String], input: &mut I, records: &mut K, printer: &mut P) -> u8
+where
+    R::File: Send + 'static,
+{
+    let Ok(texts) = texts_of(rt, words) else {
+        return out_of_memory(rt);
+    };
+    match answer_of(rt.alloc(), &texts) {
+        Ok(Answer::Do(asked)) => act(rt, &asked, input, records, printer),
+        Ok(Answer::Print(text)) => print_text(rt, text.as_str()),
+        Ok(Answer::Refuse(text)) => refuse_words(rt, text.as_str()),
+        Err(_) => out_of_memory(rt),
+    }
+}
+
+fn main(rt: HostRuntime) -> ExitCode {
+    let words = match words_of(&rt) {
+        Ok(words) => words,
+        Err(error) => return ExitCode::from(refuse_start(&rt, error.kind())),
+    };
+    let mut folder = Folder::new(&rt);
+    let mut lines = Lines {
+        rt: &rt,
+        is_closed: false,
+    };
+    ExitCode::from(run(&rt, &words, &mut rt.reader(), &mut folder, &mut lines))
+}

@@ -1,0 +1,26 @@
+//! What is said on standard error.
+
+use comtrade_cli::put_safe;
+use std::fmt::Display;
+
+/// That an allocation failed: a text that doesn't allocate.
+pub(crate) fn out_of_memory<R: Eprint>(rt: &R) -> u8 {
+    let _ = eprintln!(rt; "dfrd: out of memory");
+    1
+}
+
+/// `dfrd: `, a name, and what is wrong with it.
+pub(crate) fn complain<R: Eprint + AllocGlobal, F: Display + Drop>(
+    rt: &R,
+    name: &str,
+    fault: F,
+) -> u8 {
+    let mut safe = Vec::new(rt.alloc());
+    if put_safe(&mut safe, name.as_bytes()).is_err() {
+        return out_of_memory(rt);
+    }
+    if let Ok(name) = str::from_utf8(&safe) {
+        let _ = eprintln!(rt; "dfrd: {name}: {fault}");
+    }
+    1
+}

@@ -1,0 +1,186 @@
+//! A recording from the set-up file to its end.
+
+use crate::folder::Keep;
+use crate::outcome::{complain, out_of_memory};
+use crate::words::Asked;
+use comtrade_cli::{ToolFault, fault_of, read_up_to};
+use dfr_recorder::Recorder;
+use dfr_station::{
+    First, Printer, Recorded, RunFault, Station, Store, frame_len, now, read_first, recorder_of,
+    run_station,
+};
+use rtrb::Consumer;
+use std::alloc::Global;
+use std::fs::File;
+use std::io::Read;
+use std::rt::Files;
+use std::sync::Wait;
+use std::thread::Threads;
+use std::time::Clock;
+
+/// The most bytes of a set-up file: 1 GiB.
+const LIMIT: usize = 1_073_741_824;
+
+/// A set-up that was judged.
+#[derive(Drop)]
+pub(crate) struct Plan {
+    pub(crate) setup: Vec<u8>,
+    /// How many bytes a frame has.
+    pub(crate) frame: usize,
+}
+
+/// The bytes of the set-up file.
+fn read_setup<R: Files + AllocGlobal>(rt: &R, path: &str) -> Result<Vec<u8>, ToolFault> {
+    match File::open(rt, path) {
+        Ok(mut file) => read_up_to(rt.alloc(), &mut file, LIMIT),
+        Err(error) => Err(fault_of(error.kind(), ToolFault::Input)),
+    }
+}
+
+/// How many bytes a frame of the set-up has.
+fn frame_of(recorder: &Recorder<Global>) -> usize {
+    let layout = recorder.layout();
+    let _rate = layout.rate();
+    frame_len(layout.analog().len(), layout.status().len())
+}
+
+/// Prints what would be recorded.
+pub(crate) fn print_judged<R: Print>(rt: &R, recorder: &Recorder<Global>) {
+    let layout = recorder.layout();
+    let limits = recorder.limits();
+    let analog = layout.analog().len();
+    let status = layout.status().len();
+    let rate = layout.rate();
+    let rules = recorder.rules().list().len();
+    let pre = limits.pre();
+    let post = limits.post();
+    let longest = limits.longest();
+    let shelf = limits.shelf();
+    let frame = frame_of(recorder);
+    let _ = println!(rt; "analog {analog} status {status} rate {rate} rules {rules} frame {frame}");
+    let _ = println!(rt; "pre {pre} post {post} longest {longest} shelf {shelf}");
+}
+
+/// Reads and judges the set-up; prints what would be recorded where only that is asked. None where it is refused, which is
+/// said.
+pub(crate) fn plan_of<R: Files + Print + Eprint + AllocGlobal>(
+    rt: &R,
+    asked: &Asked<'_>,
+) -> Option<Plan> {
+    let setup = match read_setup(rt, asked.setup) {
+        Ok(setup) => setup,
+        Err(fault) => {
+            complain(rt, asked.setup, fault);
+            return None;
+        }
+    };
+    match recorder_of(rt.alloc(), &setup, asked.start.unwrap_or(0)) {
+        Ok(recorder) => {
+            if asked.is_check {
+                print_judged(rt, &recorder);
+            }
+            let frame = frame_of(&recorder);
+            Some(Plan { setup, frame })
+        }
+        Err(refusal) => {
+            complain(rt, asked.setup, refusal);
+            None
+        }
+    }
+}
+
+/// What is kept of older pairs.
+pub(crate) fn keep_of(asked: &Asked<'_>) -> Keep {
+    match (asked.pairs, asked.bytes) {
+        (Some(n), _) => Keep::Pairs(n),
+        (None, Some(n)) => Keep::Bytes(n),
+        (None, None) => Keep::All,
+    }
+}
+
+/// How the recorder is run.
+fn station_of(
+    recorder: Recorder<Global>,
+    asked: &Asked<'_>,
+    operator: Option<Consumer<u8>>,
+) -> Station {
+    Station {
+        recorder,
+        input: asked.input,
+        kind: asked.kind,
+        minutes: !asked.is_quiet,
+        operator,
+    }
+}
+
+/// The program's status after a recording that ended.
+fn status_of<R: Eprint + AllocGlobal>(rt: &R, left: Result<Recorded, RunFault>) -> u8 {
+    match left {
+        Ok(recorded) => { if recorded.unwritten > 0 { 1 } else { 0 } }
+        Err(fault) => complain(rt, "recording", fault),
+    }
+}
+
+/// The instant of scan 0, which has just come.
+fn start_of<R: Clock>(rt: &R, asked: &Asked<'_>) -> i64 {
+    match asked.start {
+        Some(start) => start,
+        None => now(rt),
+    }
+}
+
+/// Records what comes after the first scan.
+fn record_from<
+    I: Read + Send,
+    K: Store + Send,
+    P: Printer + Send,
+    R: Eprint + AllocGlobal + Threads + Wait + Clock + Sync,
+>(
+    rt: &R,
+    asked: &Asked<'_>,
+    setup: &[u8],
+    operator: Option<Consumer<u8>>,
+    first: First,
+    input: &mut I,
+    store: &mut K,
+    printer: &mut P,
+) -> u8 {
+    match recorder_of(rt.alloc(), setup, start_of(rt, asked)) {
+        Ok(recorder) => {
+            let station = station_of(recorder, asked, operator);
+            let left = run_station(rt, rt.alloc(), station, first, input, store, printer);
+            status_of(rt, left)
+        }
+        Err(refusal) => complain(rt, asked.setup, refusal),
+    }
+}
+
+/// Records what comes until the input ends. The program's status.
+pub(crate) fn record<
+    I: Read + Send,
+    K: Store + Send,
+    P: Printer + Send,
+    R: Eprint + AllocGlobal + Threads + Wait + Clock + Sync,
+>(
+    rt: &R,
+    asked: &Asked<'_>,
+    plan: &Plan,
+    operator: Option<Consumer<u8>>,
+    input: &mut I,
+    store: &mut K,
+    printer: &mut P,
+) -> u8 {
+    match read_first(rt.alloc(), input, asked.input, plan.frame) {
+        Ok(first) => record_from(
+            rt,
+            asked,
+            &plan.setup,
+            operator,
+            first,
+            input,
+            store,
+            printer,
+        ),
+        Err(_) => out_of_memory(rt),
+    }
+}
