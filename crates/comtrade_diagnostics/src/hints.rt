@@ -50,7 +50,7 @@ fn put_piece<A: Allocator>(
 /// What the files are, by their bytes and by their repairs: whether anything is put.
 fn put_natures<A: Allocator>(
     out: &mut Vec<u8, A>,
-    text: Option<&'static str>,
+    text: Option<&str>,
     notes: &[Note<A>],
 ) -> Result<bool, AllocError> {
     let mut is_first = true;
