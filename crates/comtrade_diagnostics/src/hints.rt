@@ -104,7 +104,9 @@ pub(crate) fn put_hint<A: Allocator + Copy>(
             put_reads(out, &notes)
         }
         None => {
-            put_natures(out, text, &[])?;
+            if let Some(nature) = text {
+                put(out, nature)?;
+            }
             put(out, "\n")
         }
     }
