@@ -21,11 +21,6 @@ const RISE: Rule = Rule::Edge {
     rise: true,
 };
 
-const FALL: Rule = Rule::Edge {
-    channel: 0,
-    rise: false,
-};
-
 fn rules_over(layout: Option<Layout>, list: &[Rule], alloc: Global) -> Option<Rules> {
     match (layout, Vec::from_slice(alloc, list)) {
         (Some(layout), Ok(list)) => Rules::new(&layout, list).ok(),
@@ -82,34 +77,26 @@ fn rules_that_fit(rt: HostRuntime) {
     assert!(rt; is_fit(rt.alloc(), &[RISE], 0, false));
 }
 
-/// The scan before, if any, and the one at which rules fire or not.
-type Scans = (Option<Scan>, Option<Scan>);
-
-fn fires_over(rules: Option<Rules>, (before, now): Scans) -> Option<Option<u32>> {
+fn fires_over(
+    rules: Option<Rules>,
+    before: Option<&Scan>,
+    now: Option<Scan>,
+) -> Option<Option<u32>> {
     match (rules, now) {
-        (Some(rules), Some(now)) => Some(rules.fires(before.as_ref(), &now)),
+        (Some(rules), Some(now)) => Some(rules.fires(before, &now)),
         _ => None,
     }
 }
 
-/// A scan of this bit, where there is one.
-fn scan_before(alloc: Global, bit: Option<bool>) -> Option<Scan> {
-    match bit {
-        None => None,
-        Some(bit) => scan(alloc, &[Reading::Missing], &[bit]),
-    }
-}
-
-/// What fires at a reading and a bit, after the bit of the scan before where there is one.
+/// What fires at a reading and a bit, after the scan before where there is one.
 fn fires(
     alloc: Global,
     list: &[Rule],
-    before: Option<bool>,
+    before: Option<&Scan>,
     reading: Reading,
     bit: bool,
 ) -> Option<Option<u32>> {
-    let now = scan(alloc, &[reading], &[bit]);
-    fires_over(rules(alloc, list), (scan_before(alloc, before), now))
+    fires_over(rules(alloc, list), before, scan(alloc, &[reading], &[bit]))
 }
 
 #[test]
@@ -121,26 +108,6 @@ fn levels(rt: HostRuntime) {
         (Reading::Value(0), Some(1)),
     ] {
         let found = fires(rt.alloc(), &[OVER, UNDER], None, reading, false);
-        assert_eq!(rt; found, Some(fired));
-    }
-}
-
-#[test]
-fn rises(rt: HostRuntime) {
-    for (before, x, bit, fired) in [
-        (None, 0, true, None),
-        (Some(true), 0, false, None),
-        (Some(false), 9, true, Some(0)),
-    ] {
-        let found = fires(rt.alloc(), &[RISE, OVER], before, Reading::Value(x), bit);
-        assert_eq!(rt; found, Some(fired));
-    }
-}
-
-#[test]
-fn falls(rt: HostRuntime) {
-    for (before, fired) in [(Some(true), Some(0)), (None, None)] {
-        let found = fires(rt.alloc(), &[FALL], before, Reading::Value(0), false);
         assert_eq!(rt; found, Some(fired));
     }
 }

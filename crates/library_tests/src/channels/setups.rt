@@ -4,7 +4,7 @@ use super::contacts::contacts;
 use crate::writer::fixture::{analog, head, one, text};
 use comtrade_write::Head;
 use dfr_channels::{
-    AnalogChannel, Items, Layout, Place, Reading, Scan, ScanFault, Setup, SetupFault, StatusChannel,
+    AnalogChannel, Items, Layout, Place, Reading, Scan, Setup, SetupFault, StatusChannel,
 };
 use std::alloc::Global;
 
@@ -86,13 +86,6 @@ fn refused_names(rt: HostRuntime) {
     assert!(rt; is_refused(named(alloc, b"a,b", b"DFR "), station));
     let device = SetupFault::Text(Place::Device);
     assert!(rt; is_refused(named(alloc, b"Bay 1", b"DFR "), device));
-}
-
-#[test]
-fn refused_clocks(rt: HostRuntime) {
-    let alloc = rt.alloc();
-    assert!(rt; is_refused(clocked(setup(alloc, 0), 0, -1), SetupFault::Rate));
-    assert!(rt; is_refused(clocked(setup(alloc, 0), 1, -1), SetupFault::Start));
 }
 
 /// A channel of this unit and range.
@@ -178,22 +171,6 @@ fn refused_contacts(rt: HostRuntime) {
     assert!(rt; is_refused(bare(alloc, 0), SetupFault::Channels));
 }
 
-fn is_lawful(setup: Option<Setup>) -> bool {
-    match setup {
-        Some(setup) => Layout::new(setup).is_ok(),
-        None => false,
-    }
-}
-
-#[test]
-fn many_contacts(rt: HostRuntime) {
-    let alloc = rt.alloc();
-    assert!(rt; is_lawful(bare(alloc, 256)));
-    assert!(rt; is_refused(bare(alloc, 257), SetupFault::Channels));
-    let past = setup_of_contacts(alloc, 256, b"ABC");
-    assert!(rt; is_refused(past, SetupFault::Channels));
-}
-
 pub fn scan(alloc: Global, readings: &[Reading], bits: &[bool]) -> Option<Scan> {
     match (
         Vec::from_slice(alloc, readings),
@@ -202,44 +179,6 @@ pub fn scan(alloc: Global, readings: &[Reading], bits: &[bool]) -> Option<Scan> 
         (Ok(readings), Ok(bits)) => Some(Scan::new(readings, bits)),
         _ => None,
     }
-}
-
-/// What a layout of one analogue channel says of the scan.
-fn checked(layout: Option<Layout>, scan: Option<Scan>) -> Option<Result<(), ScanFault>> {
-    match (layout, scan) {
-        (Some(layout), Some(scan)) => Some(layout.check(&scan)),
-        _ => None,
-    }
-}
-
-fn is_checked(
-    alloc: Global,
-    readings: &[Reading],
-    bits: &[bool],
-    wanted: Result<(), ScanFault>,
-) -> bool {
-    checked(layout(alloc, 0), scan(alloc, readings, bits)) == Some(wanted)
-}
-
-#[test]
-fn scans_of_another_shape(rt: HostRuntime) {
-    let value = Reading::Value(1);
-    assert!(rt;
-        is_checked(
-            rt.alloc(),
-            &[value, Reading::Value(2)],
-            &[],
-            Err(ScanFault::Shape)
-        )
-    );
-    assert!(rt; is_checked(rt.alloc(), &[value], &[true], Err(ScanFault::Shape)));
-}
-
-#[test]
-fn scans_in_and_out_of_range(rt: HostRuntime) {
-    let wide = [Reading::Value(32768)];
-    assert!(rt; is_checked(rt.alloc(), &wide, &[], Err(ScanFault::Range(0))));
-    assert!(rt; is_checked(rt.alloc(), &[Reading::Missing], &[], Ok(())));
 }
 
 /// The instant of scan k, None where there is no layout.
@@ -263,13 +202,5 @@ fn instants(rt: HostRuntime) {
         (u64::MAX, None),
     ] {
         assert_eq!(rt; instant(rt.alloc(), 4800, 0, k), Some(at));
-    }
-}
-
-#[test]
-fn last_instant(rt: HostRuntime) {
-    let late = 253_402_300_798_999_999;
-    for (k, at) in [(1, Some(253_402_300_799_999_999)), (2, None)] {
-        assert_eq!(rt; instant(rt.alloc(), 1, late, k), Some(at));
     }
 }

@@ -14,47 +14,6 @@ fn reads(text: &[u8], units: i128, places: u8) -> bool {
     }
 }
 
-#[test]
-fn decimals(rt: HostRuntime) {
-    assert!(rt; reads(b"1.5E-3", 15, 4));
-    assert!(rt; reads(b"1.50", 150, 2));
-    assert!(rt; reads(b"2E3", 2000, 0));
-    assert!(rt; reads(b".5", 5, 1));
-    assert!(rt; reads(b"5.", 5, 0));
-    assert!(rt; reads(b"-0.0", 0, 1));
-    assert!(rt; reads(b"4.76837158203125E-07", 476_837_158_203_125, 21));
-    assert!(rt; reads(b"0E99", 0, 0));
-    assert!(rt; reads(b"0E99999999999999999999", 0, 0));
-    assert!(rt; reads(b"0.1E36", 10i128.pow(35), 0));
-    assert!(rt; reads(b"+0", 0, 0));
-}
-
-/// A 1 after a point and 81 zeros, and this exponent.
-fn with_exponent(alloc: Global, exponent: u8) -> Result<Vec<u8>, AllocError> {
-    let mut text = Vec::from_slice(alloc, b"0.")?;
-    for _ in 0..81 {
-        text.push(b'0')?;
-    }
-    text.extend_from_slice(b"1E")?;
-    text.push(exponent)?;
-    Ok(text)
-}
-
-fn spell(text: Vec<u8>, units: i128, places: u8) -> bool {
-    reads(&text, units, places)
-}
-
-fn is_refused(text: Vec<u8>) -> bool {
-    Decimal::read(&text).is_none()
-}
-
-#[test]
-fn many_places(rt: HostRuntime) -> Result<(), Fail> {
-    assert!(rt; spell(with_exponent(rt.alloc(), b'2')?, 1, 80));
-    assert!(rt; is_refused(with_exponent(rt.alloc(), b'1')?));
-    Ok(())
-}
-
 /// What no decimal is, nor a whole number.
 #[test]
 fn refused_numbers(rt: HostRuntime) {

@@ -42,11 +42,10 @@ fn analogs<A: Allocator + Copy>(alloc: A) -> Option<Vec<AnalogChannel<A>, A>> {
     one(alloc, analog(alloc)?)
 }
 
-/// One analogue channel and these status channels; scan 0 has this instant.
-fn layout_from<A: Allocator + Copy>(
+/// One analogue channel and these status channels, from 1970 on.
+pub fn layout_with<A: Allocator + Copy>(
     alloc: A,
     rate: u32,
-    start: i64,
     status: Vec<StatusChannel<A>, A>,
 ) -> Option<Layout<A>> {
     let line_freq = Decimal::new(50, 0)?;
@@ -58,18 +57,9 @@ fn layout_from<A: Allocator + Copy>(
         status: Items::of(status),
         line_freq,
         rate,
-        start,
+        start: 0,
     };
     Layout::new(setup).ok()
-}
-
-/// The same from 1970 on.
-pub fn layout_with<A: Allocator + Copy>(
-    alloc: A,
-    rate: u32,
-    status: Vec<StatusChannel<A>, A>,
-) -> Option<Layout<A>> {
-    layout_from(alloc, rate, 0, status)
 }
 
 pub fn layout<A: Allocator + Copy>(alloc: A, rate: u32) -> Option<Layout<A>> {
@@ -127,11 +117,6 @@ pub fn recorder<A: Allocator + Copy>(alloc: A, shelf: u32) -> Option<Recorder<A>
     recorder_over(alloc, layout(alloc, 1000)?, shelf)
 }
 
-/// The same whose scan 0 has this instant.
-pub fn recorder_from<A: Allocator + Copy>(alloc: A, start: i64) -> Option<Recorder<A>> {
-    recorder_over(alloc, layout_from(alloc, 1000, start, Vec::new(alloc))?, 1)
-}
-
 fn fires_at_100<A: Allocator + Copy>(alloc: A, recorder: &mut Recorder<A>) -> bool {
     match over_100(alloc, recorder.layout()) {
         Some(rules) => recorder.set_rules(rules).is_ok(),
@@ -142,23 +127,6 @@ fn fires_at_100<A: Allocator + Copy>(alloc: A, recorder: &mut Recorder<A>) -> bo
 /// The same with a rule that fires from 100 on.
 pub fn recorder_at_100<A: Allocator + Copy>(alloc: A, shelf: u32) -> Option<Recorder<A>> {
     let mut recorder = recorder(alloc, shelf)?;
-    if fires_at_100(alloc, &mut recorder) {
-        return Some(recorder);
-    }
-    None
-}
-
-/// A recorder without rules, whose records share no scan.
-pub fn unshared_recorder<A: Allocator + Copy>(alloc: A, shelf: u32) -> Option<Recorder<A>> {
-    let layout = layout(alloc, 1000)?;
-    let limits = limits(&layout, shelf)?.unshared();
-    let rules = no_rules(alloc, &layout)?;
-    joined(alloc, layout, limits, rules)
-}
-
-/// The same with a rule that fires from 100 on.
-pub fn unshared_recorder_at_100<A: Allocator + Copy>(alloc: A, shelf: u32) -> Option<Recorder<A>> {
-    let mut recorder = unshared_recorder(alloc, shelf)?;
     if fires_at_100(alloc, &mut recorder) {
         return Some(recorder);
     }

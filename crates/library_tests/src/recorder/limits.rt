@@ -54,3 +54,37 @@ fn limits_of_another_layout(rt: HostRuntime) {
     let alloc = rt.alloc();
     assert!(rt; fit_at(alloc, 1000) == Some(true) && fit_at(alloc, 1) == Some(false));
 }
+
+/// The limits without the choice that no scan is shared, and with it.
+fn both_limits(alloc: Global) -> Option<(Limits, Limits)> {
+    let layout = layout(alloc, 1000)?;
+    let shared = Limits::new(&layout, 1, 2, 6, 3).ok()?;
+    Some((shared, shared.unshared()))
+}
+
+fn numbers(limits: Limits) -> (u32, u32, u32, u32) {
+    (
+        limits.pre(),
+        limits.post(),
+        limits.longest(),
+        limits.shelf(),
+    )
+}
+
+fn choose(alloc: Global) -> bool {
+    match both_limits(alloc) {
+        Some((shared, unshared)) => {
+            let copy = unshared;
+            !shared.is_unshared()
+                && copy.is_unshared()
+                && unshared.unshared().is_unshared()
+                && numbers(copy) == (1, 2, 6, 3)
+        }
+        None => false,
+    }
+}
+
+#[test]
+fn limits_keep_the_choice(rt: HostRuntime) {
+    assert!(rt; choose(rt.alloc()));
+}

@@ -16,7 +16,7 @@ fn is_told<A: Allocator>(answer: Result<Scanned, (ScanRefusal, Scan<A>)>, told: 
 }
 
 /// Whether the scan is accepted and answered so.
-pub fn is_scanned<A: Allocator + Copy>(alloc: A, recorder: &mut Recorder<A>, told: Told) -> bool {
+fn is_scanned<A: Allocator + Copy>(alloc: A, recorder: &mut Recorder<A>, told: Told) -> bool {
     match value(alloc, told.0) {
         Some(scan) => is_told(recorder.scan(scan), told),
         None => false,
@@ -36,7 +36,7 @@ pub fn are_scanned<A: Allocator + Copy>(
     true
 }
 
-pub fn is_value<A: Allocator>(scan: &Scan<A>, x: i32) -> bool {
+fn is_value<A: Allocator>(scan: &Scan<A>, x: i32) -> bool {
     matches!(scan.analog(), [Reading::Value(y)] if *y == x)
 }
 
@@ -57,14 +57,14 @@ pub fn is_first<A: Allocator>(record: &Record<A>) -> bool {
     record.extent() == FIRST && are_values(record.scans(), &[11, 12, 13, 14, 15])
 }
 
-pub const BEFORE: [Told; 4] = [
+const BEFORE: [Told; 4] = [
     (10, None, None),
     (11, None, None),
     (12, None, None),
     (13, None, None),
 ];
 
-pub const AFTER: [Told; 2] = [(14, None, None), (15, None, Some(1))];
+const AFTER: [Told; 2] = [(14, None, None), (15, None, Some(1))];
 
 /// What the readers say of a recorder.
 fn reads(recorder: &Recorder, scans: u64, held: u64, waiting: u32, is_recording: bool) -> bool {

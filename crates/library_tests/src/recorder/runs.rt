@@ -1,19 +1,18 @@
 //! Lists of steps, with enough memory.
 
 use super::fixture::{recorder, value};
-use super::lost::{add_record, is_closed_by_lost};
 use super::records::is_first;
-use dfr_recorder::{Answer, Hit, Ran, Step, TriggerFault, run};
+use dfr_recorder::{Answer, Ran, Step, run};
 use std::alloc::Global;
 use std::collections::VecDeque;
 
-pub type Steps = VecDeque<Step>;
+type Steps = VecDeque<Step>;
 
-pub fn add(steps: &mut Steps, step: Step) -> bool {
+fn add(steps: &mut Steps, step: Step) -> bool {
     steps.push_back(step).is_ok()
 }
 
-pub fn add_scan(alloc: Global, steps: &mut Steps, x: i32) -> bool {
+fn add_scan(alloc: Global, steps: &mut Steps, x: i32) -> bool {
     match value(alloc, x) {
         Some(scan) => add(steps, Step::Scan(scan)),
         None => false,
@@ -46,11 +45,11 @@ fn add_idle(alloc: Global, steps: &mut Steps, n: u32) -> bool {
 }
 
 /// The steps made by a new recorder with a shelf of one.
-pub fn ran(alloc: Global, steps: Steps) -> Option<Ran> {
+fn ran(alloc: Global, steps: Steps) -> Option<Ran> {
     Some(run(alloc, recorder(alloc, 1)?, steps))
 }
 
-pub fn is_whole(ran: &Ran, answers: usize) -> bool {
+fn is_whole(ran: &Ran, answers: usize) -> bool {
     ran.stopped.is_none() && ran.rest.is_empty() && ran.answers.len() == answers
 }
 
@@ -103,64 +102,4 @@ fn answers_none(alloc: Global) -> bool {
 #[test]
 fn runs_one_step(rt: HostRuntime) {
     assert!(rt; answers_none(rt.alloc()));
-}
-
-fn ends_so(answers: &[Answer]) -> bool {
-    match answers {
-        [
-            ..,
-            Answer::Trigger(Err(TriggerFault::ShelfFull)),
-            Answer::Take(Some(record)),
-            Answer::Trigger(Ok(Hit::Opened(2))),
-        ] => is_first(record),
-        _ => false,
-    }
-}
-
-fn fills_the_shelf(alloc: Global, steps: &mut Steps) -> bool {
-    add_first(alloc, steps)
-        && add(steps, Step::Trigger)
-        && add(steps, Step::Take)
-        && add(steps, Step::Trigger)
-}
-
-/// What a run ends with.
-#[derive(Clone, Copy, Debug)]
-enum Case {
-    /// A trigger that a shelf of one refuses, a take, and a trigger that opens.
-    FullShelf,
-    /// Lost scans that close a record.
-    Lost,
-}
-
-fn add_case(alloc: Global, steps: &mut Steps, case: Case) -> bool {
-    match case {
-        Case::FullShelf => fills_the_shelf(alloc, steps),
-        Case::Lost => add_record(alloc, steps),
-    }
-}
-
-fn ends_in(ran: &Ran, case: Case) -> bool {
-    match case {
-        Case::FullShelf => is_whole(ran, 10) && ends_so(&ran.answers),
-        Case::Lost => is_whole(ran, 5) && is_closed_by_lost(&ran.answers),
-    }
-}
-
-fn is_right(alloc: Global, case: Case) -> bool {
-    let mut steps = VecDeque::new(alloc);
-    if !add_case(alloc, &mut steps, case) {
-        return false;
-    }
-    match ran(alloc, steps) {
-        Some(ran) => ends_in(&ran, case),
-        None => false,
-    }
-}
-
-#[test]
-fn runs_to_their_ends(rt: HostRuntime) {
-    for case in [Case::FullShelf, Case::Lost] {
-        assert!(rt; is_right(rt.alloc(), case), "{case:?}");
-    }
 }

@@ -1,0 +1,45 @@
+//! Data under a head without rates, which no configuration file reads to.
+
+ghost use Rattle.std.specs.Prelude.{◌+◌, ◌<◌, length, IfSome};
+
+use super::CFG;
+use super::same::is_same_head;
+use comtrade_read::{ReadFault, read_cfg, read_dat};
+use comtrade_write::Head;
+use dfr_channels::Items;
+use std::alloc::Global;
+
+/// The head of the configuration file, without its rates.
+fn without_rates(alloc: Global) -> Option<Head>
+    ensures { IfSome result (λ head. length head.analog + length head.status < 1000000) }
+{
+    let mut head = read_cfg(alloc, CFG).ok()?;
+    head.rates = Items::of(Vec::new(alloc));
+    Some(head)
+}
+
+/// How many rows the data read to under a head without rates.
+fn rows_without_rates(alloc: Global, dat: &[u8]) -> Option<usize> {
+    match read_dat(alloc, without_rates(alloc)?, dat) {
+        Ok(file) => Some(file.rows.items().len()),
+        Err(_) => None,
+    }
+}
+
+/// The fault, where the head comes back as it was.
+fn fault_without_rates(alloc: Global, dat: &[u8], head: &Head) -> Option<ReadFault> {
+    match read_dat(alloc, without_rates(alloc)?, dat) {
+        Ok(_) => None,
+        Err((fault, back)) => is_same_head(&back, head).then_some(fault),
+    }
+}
+
+#[test]
+fn no_rates(rt: HostRuntime) {
+    assert_eq!(rt; rows_without_rates(rt.alloc(), b""), Some(0));
+    let fault = match without_rates(rt.alloc()) {
+        Some(head) => fault_without_rates(rt.alloc(), b"1,0,11", &head),
+        None => None,
+    };
+    assert_eq!(rt; fault, Some(ReadFault::Extra(1)));
+}
