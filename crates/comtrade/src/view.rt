@@ -144,11 +144,13 @@ fn verdict_json(alloc: Global, is_sound: bool, text: &[u8]) -> Result<Vec<u8>, A
         },
     )?;
     put(&mut out, ",\"lines\":[")?;
-    let mut before = "";
+    let mut is_first = true;
     for line in str::from_utf8(text).unwrap_or("").lines() {
-        put(&mut out, before)?;
+        if !is_first {
+            put(&mut out, ",")?;
+        }
+        is_first = false;
         put_text(alloc, &mut out, line.as_bytes())?;
-        before = ",";
     }
     put(&mut out, "]}\n")?;
     Ok(out)
