@@ -46,4 +46,5 @@ for line in sys.stdin:
 }
 said --at 0 --channels battery --json whole | rounded
 said --channels 'I*' --json gap | rounded
-python3 files/phasors.py "$comtrade" "$folder"/random?
+random=("$folder"/random?.cfg)
+python3 files/phasors.py "$comtrade" "${random[@]%.cfg}"

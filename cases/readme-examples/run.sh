@@ -2,7 +2,7 @@
 # table stand in its source; the files that it names are there.
 cd ..
 # crates without a surface for others: programs and tests
-without=' dfr comtrade example_peaks example_write library_tests live_tests allocation_failures measure '
+without=' dfr dfrd comtrade example_peaks example_write library_tests live_tests station_tests allocation_failures measure '
 
 # names of the table's first column that no source has
 unknown() {
