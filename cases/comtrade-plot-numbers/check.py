@@ -43,8 +43,8 @@ class Picture:
         self.all = list(self.root.iter())
         self.width, self.height = [float(n) for n in self.root.get("viewBox").split()[2:]]
         texts = [e for e in self.all if e.tag == SVG + "text"]
-        unit = next(e.text.split()[0] for e in texts if (e.text or "").endswith("since the trigger"))
-        top = next(float(e.get("y")) for e in texts if (e.text or "").endswith("since the trigger"))
+        unit = next(e.text.split()[0] for e in texts if "since the trigger" in (e.text or ""))
+        top = next(float(e.get("y")) for e in texts if "since the trigger" in (e.text or ""))
         times = [(float(e.get("x")), float(e.text)) for e in texts if float(e.get("y")) == top and e.get("text-anchor") == "middle"]
         at = line_through(times)
         self.time = lambda x: at(x) * NANOS[unit]
@@ -118,4 +118,5 @@ def main(program, folder):
         print(f"{pair.name}: {'outside ' + str(out[:2]) if out else 'within'}")
 
 
-main(sys.argv[1], sys.argv[2])
+if __name__ == "__main__":
+    main(sys.argv[1], sys.argv[2])

@@ -11,6 +11,8 @@ pair flat '' 's/-903,/0.123456789,/;s/-465,/0.123456789,/;s/325,/0.123456789,/;s
 pair steps '' 's/-903,/0,/;s/-465,/655330000.5,/;s/325,/3276650000,/;s/871,/6553300000,/' '3s/0\.5,0,/50000.0005,1638325000,/' 's/-903,/-32766,/;s/-465,/-26213,/;s/325,/0,/;s/871,/32766,/'
 sed -n 's/^values-rounded: .*(\(.*\))$/\1/p' "$folder/steps/told"
 pair marks '' 's/-903,/NaN,/;s/-465,/,/;s/325,/99999,/;s/871,/-32768,/' '' 's/-903,/99999,/;s/-465,/99999,/;s/325,/99999,/;s/871,/99999,/'
+# nines through all six characters, in a channel whose range ends below them
+pair nines '' 's/-903,/999999,/;s/871,/999999,/' '' 's/-903,/99999,/;s/871,/99999,/'
 # samples without a sign: 32768 is taken off, b has it; 65535 and 40000 and 1 and 33000 of channel 1
 mkdir "$folder/unsigned"
 sed '3s/-32767,32767/0,65535/' $binary.cfg > "$folder/unsigned/in.cfg"

@@ -17,6 +17,8 @@ completed() {
 }
 completed sho
 completed conv
+completed comp
+completed compare --b
 completed measure --r
 completed imp
 completed import --da

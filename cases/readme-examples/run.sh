@@ -1,8 +1,8 @@
 # Each library crate has a README. Its example stands, line by line, in the file named under it, which the gate runs; the names in its
-# table stand in its source; the files that it names are there.
+# table stand in its source; the files that it names are there. So do the examples of the page on a recorder of one's own.
 cd ..
 # crates without a surface for others: programs and tests
-without=' dfr dfrd comtrade example_peaks example_write library_tests live_tests station_tests allocation_failures measure '
+without=' dfr dfrd comtrade example_peaks example_recorder example_write library_tests live_tests station_tests allocation_failures measure '
 
 # names of the table's first column that no source has
 unknown() {
@@ -30,3 +30,4 @@ sed 's/#.*//; s/:.*//' crates.txt | awk 'NF { print $1 }' | LC_ALL=C sort | whil
     gone "$page" "$name"
     awk -v name="$name" -f cases/readme-examples/blocks.awk "$page"
 done
+sed -n "/^### A recorder of one's own/,/^## /p" docs/EMBEDDING.md | awk -v name=EMBEDDING -f cases/readme-examples/blocks.awk

@@ -69,9 +69,9 @@ def wave(size, seconds, phase=0.0, hertz=50):
     return size * math.sin(2 * math.pi * hertz * seconds - phase)
 
 
-def phases(size, seconds, fault=1.0):
+def phases(size, seconds, fault=1.0, hertz=50):
     """Samples of three phases and their sum, the first one `fault` times as large."""
-    three = [wave(size * (fault if k == 0 else 1), seconds, k * TURN) for k in range(3)]
+    three = [wave(size * (fault if k == 0 else 1), seconds, k * TURN, hertz) for k in range(3)]
     return [*three, sum(three)]
 
 
@@ -87,8 +87,8 @@ def plain(name, seconds, trigger, fault, rate=4800, **more):
     for i in range(round(seconds * rate)):
         t = i / rate - trigger
         is_fault = 0 <= t < fault
-        volts = phases(9000, t, 0.3 if is_fault else 1)
-        amps = phases(300, t, 20 if is_fault else 1)
+        volts = phases(9000, t, 0.3 if is_fault else 1, pair.hertz)
+        amps = phases(300, t, 20 if is_fault else 1, pair.hertz)
         if t >= fault:
             amps = [0, 0, 0, 0]
         trip = 0.02 <= t < fault + 0.05

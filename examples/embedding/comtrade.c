@@ -36,6 +36,7 @@ int32_t comtrade_core_channels(const uint8_t *cfg, size_t, struct core_analog *,
                                size_t *lengths, size_t, uint8_t *text, size_t, struct comtrade_fault *);
 int32_t comtrade_core_rows(const uint8_t *cfg, size_t, const uint8_t *dat, size_t, uint64_t *stamps, size_t, int32_t *samples, size_t,
                            uint8_t *bits, size_t, struct comtrade_fault *);
+int32_t comtrade_core_times(const uint8_t *cfg, size_t, const uint64_t *stamps, size_t, int64_t *times, size_t, struct comtrade_fault *);
 int32_t comtrade_core_values(double a, double b, const int32_t *samples, size_t, double *values, size_t);
 int32_t comtrade_core_write(const uint8_t *cfg, size_t, bool binary, const uint64_t *stamps, size_t, const int32_t *samples, size_t,
                             const uint8_t *bits, size_t, uint8_t *new_cfg, size_t, uint8_t *new_dat, size_t, struct core_sizes *,
@@ -50,6 +51,7 @@ struct comtrade {
     size_t *ends; /* where each text ends in `text` */
     uint8_t *text;
     uint64_t *stamps;
+    int64_t *times;
     int32_t *samples;
     uint8_t *bits;
 };
@@ -110,6 +112,7 @@ void comtrade_close(comtrade *record) {
     free(record->ends);
     free(record->text);
     free(record->stamps);
+    free(record->times);
     free(record->samples);
     free(record->bits);
     free(record);
@@ -140,10 +143,12 @@ static int32_t read_rows(comtrade *r, const uint8_t *cfg, size_t cfg_length, con
     if (r->head.status) fits = fits && rows <= SIZE_MAX / r->head.status, status = fits ? rows * r->head.status : 0;
     r->rows = rows;
     r->stamps = (uint64_t *)room_for(rows, sizeof *r->stamps);
+    r->times = (int64_t *)room_for(rows, sizeof *r->times);
     r->samples = (int32_t *)room_for(analog, sizeof *r->samples);
     r->bits = (uint8_t *)room_for(status, 1);
-    if (!r->stamps || !r->samples || !r->bits) return COMTRADE_NO_MEMORY;
-    return comtrade_core_rows(cfg, cfg_length, dat, dat_length, r->stamps, rows, r->samples, analog, r->bits, status, fault);
+    if (!r->stamps || !r->times || !r->samples || !r->bits) return COMTRADE_NO_MEMORY;
+    int32_t answer = comtrade_core_rows(cfg, cfg_length, dat, dat_length, r->stamps, rows, r->samples, analog, r->bits, status, fault);
+    return answer == COMTRADE_DONE ? comtrade_core_times(cfg, cfg_length, r->stamps, rows, r->times, rows, fault) : answer;
 }
 
 int32_t comtrade_open(const uint8_t *cfg, size_t cfg_length, const uint8_t *dat, size_t dat_length, comtrade **record,
@@ -330,44 +335,10 @@ int32_t comtrade_stamps(const comtrade *r, size_t first, size_t count, uint64_t 
     return answer;
 }
 
-/* So many of `of` a second or a stamp, in nanoseconds, rounded down: exact where that is a whole number; -1 where it is beyond 2^63. */
-static int64_t nanos(uint64_t count, double of, bool a_second) {
-    double found = a_second ? (double)count * 1e9 / of : (double)count * of * 1000;
-    if (!(0 <= found && found < 9.2e18)) return -1;
-    if (of >= 9e15 || of != (double)(uint64_t)of) return (int64_t)found;
-    if (a_second) return (int64_t)(count / (uint64_t)of * UINT64_C(1000000000) + count % (uint64_t)of * UINT64_C(1000000000) / (uint64_t)of);
-    return (int64_t)(count * (uint64_t)of * 1000);
-}
-
-/* Whether the rates decide: the file says some, and none of them is 0. */
-static bool has_rates(const comtrade *r) {
-    for (size_t k = 0; k < r->head.rates; k++)
-        if (!(r->rates[k].samp > 0)) return false;
-    return r->head.nrates != 0;
-}
-
 int32_t comtrade_times(const comtrade *r, size_t first, size_t count, int64_t *to) {
     int32_t answer = asked(r, 0, 1, first, count, to);
-    if (answer != COMTRADE_DONE) return answer;
-    bool by_rates = has_rates(r);
-    size_t rate = 0, from = 0;
-    int64_t begun = 0, passed;
-    for (size_t k = 0; k < count; k++) {
-        size_t row = first + k;
-        for (; by_rates && r->rates[rate].endsamp <= row; rate++) { /* the last rate ends with the last row */
-            passed = nanos(r->rates[rate].endsamp - from, r->rates[rate].samp, true);
-            begun = begun < 0 || passed < 0 || INT64_MAX - passed < begun ? -1 : begun + passed;
-            from = (size_t)r->rates[rate].endsamp;
-        }
-        if (by_rates) {
-            passed = nanos(row - from, r->rates[rate].samp, true);
-            to[k] = begun < 0 || passed < 0 || INT64_MAX - passed < begun ? COMTRADE_NO_TIME : begun + passed;
-        } else {
-            passed = r->stamps[row] == COMTRADE_NO_STAMP ? -1 : nanos(r->stamps[row], r->head.timemult, false);
-            to[k] = passed < 0 ? COMTRADE_NO_TIME : passed;
-        }
-    }
-    return COMTRADE_DONE;
+    if (answer == COMTRADE_DONE && count) memcpy(to, r->times + first, count * sizeof *to);
+    return answer;
 }
 
 /* A configuration file that is being composed; `fault` has a kind as soon as something can't be written. */

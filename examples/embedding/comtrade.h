@@ -164,8 +164,8 @@ int32_t comtrade_values(const comtrade *record, size_t channel, size_t first, si
 int32_t comtrade_bits(const comtrade *record, size_t channel, size_t first, size_t count, uint8_t *to);
 int32_t comtrade_stamps(const comtrade *record, size_t first, size_t count, uint64_t *to);
 /* Nanoseconds since the first row, rounded down in each rate: by the rates alone where the file says some and none of them is 0 (5.3.6), else
- * by the row's stamp times timemult (5.3.9); COMTRADE_NO_TIME where it has none, or it has no 64 bits. Exact where the rates (or timemult)
- * are whole numbers, else to a nanosecond for each rate. */
+ * by the row's stamp times timemult (5.3.9), in the file's decimals, not in doubles; COMTRADE_NO_TIME where it has none, or it has no
+ * 64 bits. */
 #define COMTRADE_NO_TIME INT64_MIN
 int32_t comtrade_times(const comtrade *record, size_t first, size_t count, int64_t *to);
 

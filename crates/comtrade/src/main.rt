@@ -1,7 +1,8 @@
-//! The program: `comtrade show|check|csv|plot|page|measure FILE [DAT]`, `comtrade convert --kind ascii|binary FILE [DAT] NAME`,
-//! `comtrade import FILE [DAT] NAME`, `comtrade extract DIR`.
+//! The program: `comtrade show|check|csv|plot|page|measure FILE [DAT]`, `comtrade compare A B`,
+//! `comtrade convert --kind ascii|binary FILE [DAT] NAME`, `comtrade import FILE [DAT] NAME`, `comtrade extract DIR`.
 #![tactic(auto)]
 
+mod compare;
 mod extract;
 mod find;
 mod import;
@@ -9,26 +10,27 @@ mod load;
 mod measure;
 mod survey;
 mod view;
+mod words;
 mod write;
 
+use crate::compare::run_compare;
 use crate::extract::run_extract;
 use crate::import::run_import;
 use crate::load::{Inputs, pair_of, read_inputs, read_pair};
 use crate::survey::run_survey;
 use crate::view::view_over;
+use crate::words::{refuse_start, refuse_words, words_of};
 use crate::write::run_convert;
 use comtrade_cli::{
-    Answer, Asked, ToolFault, View, Viewed, answer_of, fault_of, put, put_safe, read_up_to,
-    write_out,
+    Answer, Asked, ToolFault, View, Viewed, answer_of, fault_of, put_safe, read_up_to, write_out,
 };
 use comtrade_diagnostics::{Pair, put_single};
 use comtrade_read::{read_cfg, verdict_of};
-use std::alloc::{AllocError, Allocator};
 use std::fs::File;
-use std::io::{ErrorKind, IsTerminal};
+use std::io::IsTerminal;
 use std::process::ExitCode;
-use std::rt::{Env, Files};
-use std::{env, fs, io};
+use std::rt::Files;
+use std::{fs, io};
 
 /// The most bytes of a file that is read: 1 GiB.
 const LIMIT: usize = 1_073_741_824;
@@ -200,80 +202,10 @@ fn run<R: Files + Input + Print + Eprint + AllocGlobal + Clone + Drop>(
     match asked {
         Asked::View(view, viewed) => run_view(rt, is_watched, view, viewed),
         Asked::Convert(made) => run_convert(rt, is_watched, made),
+        Asked::Compare(made) => run_compare(rt, is_watched, made),
         Asked::Extract(folder) => run_extract(rt, folder),
         Asked::Survey(survey, json, names) => run_survey(rt, survey, json, &names),
     }
-}
-
-/// The lines of a text, as printable characters.
-fn safe_lines<A: Allocator>(alloc: A, text: &str) -> Result<Vec<u8, A>, AllocError> {
-    let mut safe = Vec::new(alloc);
-    for line in text.lines() {
-        put_safe(&mut safe, line.as_bytes())?;
-        put(&mut safe, "\n")?;
-    }
-    Ok(safe)
-}
-
-/// Says why words ask for nothing.
-fn refuse_words<R: Eprint + AllocGlobal>(rt: &R, text: &str) -> u8 {
-    match safe_lines(rt.alloc(), text) {
-        Ok(lines) => {
-            say(rt, &lines);
-            2
-        }
-        Err(_) => out_of_memory(rt),
-    }
-}
-
-/// Whether a word is a number below 0.
-fn is_negative(word: &str) -> bool {
-    match word.as_bytes() {
-        [b'-', b, ..] => b.is_ascii_digit() || *b == b'.',
-        _ => false,
-    }
-}
-
-/// Whether the value of this option may be below 0.
-fn takes_moment(word: &str) -> bool {
-    word == "--from" || word == "--to" || word == "--at"
-}
-
-/// Joins a value to the option before it.
-fn join(words: &mut [String], value: &str) -> Result<(), AllocError> {
-    match words.last_mut() {
-        Some(option) => {
-            option.push_str("=")?;
-            option.push_str(value)
-        }
-        None => Ok(()),
-    }
-}
-
-/// The words after the program's name. A number below 0 after an option that takes a moment is joined to it, since it would be taken for
-/// an option itself.
-fn words_of<R: Env + AllocGlobal>(rt: &R) -> io::Result<Vec<String>> {
-    let mut rest: Vec<String> = Vec::new(rt.alloc());
-    let mut is_moment = false;
-    for word in env::args(rt)?.skip(1) {
-        if is_moment && is_negative(word.as_str()) {
-            join(&mut rest, word.as_str())?;
-            is_moment = false;
-        } else {
-            is_moment = takes_moment(word.as_str());
-            rest.push(word)?;
-        }
-    }
-    Ok(rest)
-}
-
-/// Says why there are no words.
-fn refuse_start<R: Eprint>(rt: &R, kind: ErrorKind) -> u8 {
-    if kind == ErrorKind::OutOfMemory {
-        return out_of_memory(rt);
-    }
-    let _ = eprintln!(rt; "comtrade: a word isn't valid text");
-    2
 }
 
 /// Does what is to be done with words; `is_watched` where standard error is a terminal.

@@ -94,7 +94,11 @@ struct Found {
 }
 
 /// Says what was repaired of a record: lines, each after its name.
-fn say_repairs<R: Eprint + AllocGlobal>(rt: &R, name: &str, lines: &[u8]) -> Result<(), ToolFault> {
+pub(crate) fn say_repairs<R: Eprint + AllocGlobal>(
+    rt: &R,
+    name: &str,
+    lines: &[u8],
+) -> Result<(), ToolFault> {
     let mut text = Vec::new(rt.alloc());
     for line in str::from_utf8(lines).unwrap_or("").lines() {
         put_safe(&mut text, name.as_bytes())?;

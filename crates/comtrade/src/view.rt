@@ -15,7 +15,7 @@ const NO_SPELLING: &str = "\
 comtrade: a separator is tab or one sign that isn't a letter, a digit, a minus or a quotation mark; a decimal sign is . or , and not the \
 separator\n";
 
-const NO_SIZE: &str =
+pub(crate) const NO_SIZE: &str =
     "comtrade: --width and --height are whole numbers of pixels from 1 to 100000\n";
 
 /// How values are spelled, and how a picture is drawn.
@@ -43,7 +43,7 @@ fn is_size(text: Option<&str>) -> bool {
 }
 
 /// How a picture is drawn; none where a size isn't one.
-fn options_of(picture: Picture<'_>) -> Option<PlotOptions> {
+pub(crate) fn options_of(picture: Picture<'_>) -> Option<PlotOptions> {
     if !is_size(picture.width) || !is_size(picture.height) {
         return None;
     }

@@ -2,3 +2,5 @@ pub mod Tables
 pub mod Refused
 pub mod Lacking
 pub mod Laid
+pub mod Filled
+pub mod Timed

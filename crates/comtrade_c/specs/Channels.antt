@@ -1,7 +1,6 @@
 -- What a configuration file says of its channels and rates, as tables.
 use Rattle.std.specs.Prelude.{◌≡◌, ◌≢◌, ◌⊎◌, ℕ, Bool, true, false, List, [], ◌∷◌, ◌++◌, length, map}
 use Rattle.std.specs.List.{AllZip, flat_map}
-use Rattle.std.specs.Float.{Float}
 use Rattle.dfr_channels.specs.Parts.{AnalogParts, StatusParts}
 use Rattle.dfr_channels.specs.declared.channel.Side.{Side}
 use Rattle.dfr_channels.specs.declared.channel.Side.TheVariants.{Primary, Secondary}

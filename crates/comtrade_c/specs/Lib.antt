@@ -5,3 +5,4 @@ pub mod Channels
 pub mod Summaries
 pub mod Values
 pub mod Writing
+pub mod Times

@@ -1,5 +1,5 @@
 -- What is said of a configuration file as a whole.
-use Rattle.std.specs.Prelude.{◌≡◌, ℕ, Bool, true, false, List, length}
+use Rattle.std.specs.Prelude.{◌≡◌, Bool, true, false, length}
 use Rattle.comtrade_format.specs.declared.file.Kind.{Kind}
 use Rattle.comtrade_format.specs.declared.file.Kind.TheVariants.{Ascii, Binary}
 use Rattle.comtrade_format.specs.Parts.{HeadParts}

@@ -7,5 +7,6 @@ mod channels;
 mod rows;
 mod summary;
 mod texts;
+mod times;
 mod values;
 mod write;

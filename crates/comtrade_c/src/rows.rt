@@ -1,17 +1,18 @@
 //! The rows of a pair, as tables of numbers.
 
-ghost use Rattle.std.specs.Prelude.{◌≡◌, ◌≢◌, ◌⊎◌, ◌++◌, length, map, OnOk, IfOk, IsTrue, IsFalse};
+ghost use Rattle.std.specs.Prelude.{◌≡◌, ◌≢◌, ◌⊎◌, length, map, IsTrue, IsFalse};
 ghost use Rattle.std.specs.List.{flat_map};
 ghost use Rattle.comtrade_read.specs.declared.pair.Part.TheVariants.{Cfg, Dat};
 ghost use Rattle.comtrade_c.specs.Faults.{IsPairFault};
+ghost use Rattle.comtrade_c.specs.declared.answer.TheConstants.{NO_MEMORY};
 ghost use Rattle.comtrade_c.specs.Tables as tables;
 ghost use Rattle.comtrade_c.specs.Tables.{Tabulates, LacksRoom, row_bits, row_samples};
 
-use crate::answer::{CFG_FAULT, DAT_FAULT, DONE, Fault, NO_MEMORY, NO_ROOM, refuse_read};
+use crate::answer::{CFG_FAULT, DAT_FAULT, DONE, Fault, NO_ROOM, refuse_read};
 use comtrade_format::{File, Row};
 use comtrade_read::read;
 use dfr_channels::Reading;
-use std::alloc::{AllocError, Global};
+use std::alloc::Global;
 
 /// What stands for a reading that is missing.
 pub(crate) const NO_SAMPLE: i32 = i32::MIN;
@@ -42,99 +43,113 @@ fn stamp_of(stamp: Option<u64>) -> u64
     }
 }
 
-fn put_samples(out: &mut Vec<i32>, readings: &[Reading]) -> Result<(), AllocError>
-    ensures { OnOk result (out.new.items ≡ out.old.items ++ map tables.sample_of readings.now) }
+/// Whether a table of this length has a place for each sample of the rows, and no other.
+fn holds_samples(room: usize, rows: &[Row]) -> bool
+    ensures whole { IsTrue result → room ≡ length (flat_map row_samples rows.now) }
+    ensures other { IsFalse result → room ≢ length (flat_map row_samples rows.now) }
 {
-    for reading in readings {
-        out.push(sample_of(*reading))?;
-    }
-    Ok(())
-}
-
-fn put_bits(out: &mut Vec<u8>, bits: &[bool]) -> Result<(), AllocError>
-    ensures { OnOk result (out.new.items ≡ out.old.items ++ map tables.bit_of bits.now) }
-{
-    for bit in bits {
-        out.push(bit_of(*bit))?;
-    }
-    Ok(())
-}
-
-fn samples(alloc: Global, rows: &[Row]) -> Result<Vec<i32>, AllocError>
-    ensures { IfOk result (λ v. v.items ≡ flat_map row_samples rows.now) }
-{
-    let mut out = Vec::new(alloc);
+    let mut left = room;
     for row in rows {
-        put_samples(&mut out, row.values.items())?;
+        let count = row.values.items().len();
+        if left < count {
+            return false;
+        }
+        left -= count;
     }
-    Ok(out)
+    left == 0
 }
 
-fn bits(alloc: Global, rows: &[Row]) -> Result<Vec<u8>, AllocError>
-    ensures { IfOk result (λ v. v.items ≡ flat_map row_bits rows.now) }
+/// The same of bits.
+fn holds_bits(room: usize, rows: &[Row]) -> bool
+    ensures whole { IsTrue result → room ≡ length (flat_map row_bits rows.now) }
+    ensures other { IsFalse result → room ≢ length (flat_map row_bits rows.now) }
 {
-    let mut out = Vec::new(alloc);
+    let mut left = room;
     for row in rows {
-        put_bits(&mut out, row.bits.items())?;
+        let count = row.bits.items().len();
+        if left < count {
+            return false;
+        }
+        left -= count;
     }
-    Ok(out)
+    left == 0
 }
 
-fn stamps(alloc: Global, rows: &[Row]) -> Result<Vec<u64>, AllocError>
-    ensures { IfOk result (λ v. v.items ≡ map (λ r. tables.stamp_of r.stamp) rows.now) }
+/// The samples of one row.
+fn put_row(to: &mut [i32], readings: &[Reading])
+    requires { length to.old ≡ length readings.now }
+    ensures { to.new ≡ map tables.sample_of readings.now }
 {
-    let mut out = Vec::new(alloc);
+    for (k, reading) in readings.iter().enumerate() {
+        to[k] = sample_of(*reading);
+    }
+}
+
+/// The bits of one row.
+fn put_row_bits(to: &mut [u8], bits: &[bool])
+    requires { length to.old ≡ length bits.now }
+    ensures { to.new ≡ map tables.bit_of bits.now }
+{
+    for (k, bit) in bits.iter().enumerate() {
+        to[k] = bit_of(*bit);
+    }
+}
+
+fn put_samples(to: &mut [i32], rows: &[Row])
+    requires { length to.old ≡ length (flat_map row_samples rows.now) }
+    ensures { to.new ≡ flat_map row_samples rows.now }
+{
+    let mut at = 0;
     for row in rows {
-        out.push(stamp_of(row.stamp))?;
+        let end = at + row.values.items().len();
+        put_row(&mut to[at..end], row.values.items());
+        at = end;
     }
-    Ok(out)
 }
 
-/// The three tables of some rows.
-#[derive(Drop)]
-struct Tables {
-    stamps: Vec<u64>,
-    samples: Vec<i32>,
-    bits: Vec<u8>,
-}
-
-fn tables_of(alloc: Global, file: &File) -> Result<Tables, AllocError>
-    ensures stamps { IfOk result (λ t. t.stamps.items ≡ tables.stamps_in file.now) }
-    ensures samples { IfOk result (λ t. t.samples.items ≡ tables.samples_in file.now) }
-    ensures bits { IfOk result (λ t. t.bits.items ≡ tables.bits_in file.now) }
+fn put_bits(to: &mut [u8], rows: &[Row])
+    requires { length to.old ≡ length (flat_map row_bits rows.now) }
+    ensures { to.new ≡ flat_map row_bits rows.now }
 {
-    let rows = file.rows.items();
-    let stamps = stamps(alloc, rows)?;
-    let samples = samples(alloc, rows)?;
-    let bits = bits(alloc, rows)?;
-    Ok(Tables {
-        stamps,
-        samples,
-        bits,
-    })
+    let mut at = 0;
+    for row in rows {
+        let end = at + row.bits.items().len();
+        put_row_bits(&mut to[at..end], row.bits.items());
+        at = end;
+    }
 }
 
-/// Copies the tables into those of the caller; false where one of these isn't as long, and then all are left alone.
-fn fill(all: &Tables, stamps: &mut [u64], samples: &mut [i32], bits: &mut [u8]) -> bool
-    ensures stamps { IsTrue result → stamps.new ≡ all.now.stamps.items }
-    ensures samples { IsTrue result → samples.new ≡ all.now.samples.items }
-    ensures bits { IsTrue result → bits.new ≡ all.now.bits.items }
-    ensures room { IsFalse result → (length stamps.old ≢ length all.now.stamps.items)
-        ⊎ (length samples.old ≢ length all.now.samples.items)
-        ⊎ (length bits.old ≢ length all.now.bits.items) }
+fn put_stamps(to: &mut [u64], rows: &[Row])
+    requires { length to.old ≡ length rows.now }
+    ensures { to.new ≡ map (λ r. tables.stamp_of r.stamp) rows.now }
+{
+    for (k, row) in rows.iter().enumerate() {
+        to[k] = stamp_of(row.stamp);
+    }
+}
+
+/// Fills the tables; false where one of them isn't as long as the rows want, and then all are left alone.
+fn fill(file: &File, stamps: &mut [u64], samples: &mut [i32], bits: &mut [u8]) -> bool
+    ensures stamps { IsTrue result → stamps.new ≡ tables.stamps_in file.now }
+    ensures samples { IsTrue result → samples.new ≡ tables.samples_in file.now }
+    ensures bits { IsTrue result → bits.new ≡ tables.bits_in file.now }
+    ensures room { IsFalse result → (length stamps.old ≢ length (tables.stamps_in file.now))
+        ⊎ (length samples.old ≢ length (tables.samples_in file.now))
+        ⊎ (length bits.old ≢ length (tables.bits_in file.now)) }
     ensures stamps_kept { IsFalse result → stamps.new ≡ stamps.old }
     ensures samples_kept { IsFalse result → samples.new ≡ samples.old }
     ensures bits_kept { IsFalse result → bits.new ≡ bits.old }
 {
-    if stamps.len() != all.stamps.len()
-        || samples.len() != all.samples.len()
-        || bits.len() != all.bits.len()
+    let rows = file.rows.items();
+    if stamps.len() != rows.len()
+        || !holds_samples(samples.len(), rows)
+        || !holds_bits(bits.len(), rows)
     {
         return false;
     }
-    stamps.copy_from_slice(&all.stamps);
-    samples.copy_from_slice(&all.samples);
-    bits.copy_from_slice(&all.bits);
+    put_stamps(stamps, rows);
+    put_samples(samples, rows);
+    put_bits(bits, rows);
     true
 }
 
@@ -164,10 +179,7 @@ pub extern "C" fn comtrade_core_rows(
         Ok(file) => file,
         Err((part, why)) => return refuse_read(part, why, fault),
     };
-    let Ok(all) = tables_of(alloc, &file) else {
-        return NO_MEMORY;
-    };
-    if fill(&all, stamps, samples, bits) {
+    if fill(&file, stamps, samples, bits) {
         DONE
     } else {
         NO_ROOM

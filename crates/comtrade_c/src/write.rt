@@ -36,7 +36,7 @@ fn reading_of(sample: i32) -> Reading
     }
 }
 
-fn stamp_of(stamp: u64) -> Option<u64>
+pub(crate) fn stamp_of(stamp: u64) -> Option<u64>
     ensures { result ≡ spec.stamp_in stamp }
 {
     if stamp == NO_STAMP { None } else { Some(stamp) }

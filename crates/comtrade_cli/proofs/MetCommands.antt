@@ -13,6 +13,7 @@ use Rattle.clap.specs.declared.parser.matches.Found.{Found}
 use Rattle.clap.specs.declared.parser.matches.ArgMatches.{ArgMatches}
 use Rattle.comtrade_cli.specs.declared.words.Names.{Names}
 use Rattle.comtrade_cli.specs.declared.words.Converted.{Converted}
+use Rattle.comtrade_cli.specs.declared.words.Compared.{Compared}
 use Rattle.comtrade_cli.specs.declared.words.View.{View}
 use Rattle.comtrade_cli.specs.declared.words.View.TheVariants as view
 use Rattle.comtrade_cli.specs.declared.words.Survey.{Survey}
@@ -24,7 +25,7 @@ use Rattle.comtrade_cli.specs.declared.asked.Answer.TheVariants.{Do, Print, Refu
 use Rattle.clap.specs.declared.error.kind.ErrorKind.{ErrorKind}
 use Rattle.clap.specs.declared.error.kind.ErrorKind.TheVariants.{OutOfMemory}
 use Rattle.clap.specs.Words.{IsAmong, Kinds, is_simple_and_free}
-use Rattle.comtrade_cli.specs.Asking.{AreNames, Asks, AsksAs, Does, DoneAbout, FindsText, FitsNothing, IsConverted, Tells, is_text, survey_name, view_name}
+use Rattle.comtrade_cli.specs.Asking.{AreNames, Asks, AsksAs, Does, DoneAbout, FindsText, FitsNothing, IsCompared, IsConverted, Tells, is_text, survey_name, view_name}
 use Rattle.comtrade_cli.specs.Commands.{IsCommand, program}
 
 -- what rows say is what the getters read
@@ -58,6 +59,14 @@ view_isnt_extract view.Plot e = below 101 112 (letter 0 _ _ (sym e)) refl
 view_isnt_extract view.Page e = below 101 112 (letter 0 _ _ (sym e)) refl
 view_isnt_extract view.Measure e = below 101 109 (letter 0 _ _ (sym e)) refl
 
+view_isnt_compare : (v : View) → view_name v ≡ codes "compare" → ⊥
+view_isnt_compare view.Show e = below 99 115 (letter 0 _ _ (sym e)) refl
+view_isnt_compare view.Check e = below 104 111 (letter 1 _ _ e) refl
+view_isnt_compare view.Csv e = below 111 115 (letter 1 _ _ (sym e)) refl
+view_isnt_compare view.Plot e = below 99 112 (letter 0 _ _ (sym e)) refl
+view_isnt_compare view.Page e = below 99 112 (letter 0 _ _ (sym e)) refl
+view_isnt_compare view.Measure e = below 99 109 (letter 0 _ _ (sym e)) refl
+
 survey_isnt_convert : (s : Survey) → survey_name s ≡ codes "convert" → ⊥
 survey_isnt_convert survey.List e = below 99 108 (letter 0 _ _ (sym e)) refl
 survey_isnt_convert survey.Events e = below 99 101 (letter 0 _ _ (sym e)) refl
@@ -65,6 +74,10 @@ survey_isnt_convert survey.Events e = below 99 101 (letter 0 _ _ (sym e)) refl
 survey_isnt_extract : (s : Survey) → survey_name s ≡ codes "extract" → ⊥
 survey_isnt_extract survey.List e = below 101 108 (letter 0 _ _ (sym e)) refl
 survey_isnt_extract survey.Events e = below 118 120 (letter 1 _ _ e) refl
+
+survey_isnt_compare : (s : Survey) → survey_name s ≡ codes "compare" → ⊥
+survey_isnt_compare survey.List e = below 99 108 (letter 0 _ _ (sym e)) refl
+survey_isnt_compare survey.Events e = below 99 101 (letter 0 _ _ (sym e)) refl
 
 survey_isnt_view : (s : Survey) (v : View) → survey_name s ≡ view_name v → ⊥
 survey_isnt_view survey.List view.Show e = below 108 115 (letter 0 _ _ e) refl
@@ -83,32 +96,49 @@ survey_isnt_view survey.Events view.Measure e = below 101 109 (letter 0 _ _ e) r
 extract_isnt_convert : codes "extract" ≡ codes "convert" → ⊥
 extract_isnt_convert e = below 99 101 (letter 0 _ _ (sym e)) refl
 
+extract_isnt_compare : codes "extract" ≡ codes "compare" → ⊥
+extract_isnt_compare e = below 99 101 (letter 0 _ _ (sym e)) refl
+
+compare_isnt_convert : codes "compare" ≡ codes "convert" → ⊥
+compare_isnt_convert e = below 109 110 (letter 2 _ _ e) refl
+
 -- where the names of a pair don't fit, nothing that its command asks for does
 pub no_view : (r : List Row) (v : View) → ((names : Names) → AreNames r names → ⊥) → FitsNothing (Asks r (view_name v))
 no_view r v none (asks.View w viewed) h = none viewed.names h.1.names
 no_view r v none (asks.Convert made) h = view_isnt_convert v (sym h.0)
+no_view r v none (asks.Compare made) h = view_isnt_compare v (sym h.0)
 no_view r v none (asks.Extract folder) h = view_isnt_extract v (sym h.0)
 no_view r v none (asks.Survey s json surveyed) h = survey_isnt_view s v h.0
 
 pub no_convert : (r : List Row) → ((made : Converted) → IsConverted r made → ⊥) → FitsNothing (Asks r (codes "convert"))
 no_convert r none (asks.View w viewed) h = view_isnt_convert w h.0
 no_convert r none (asks.Convert made) h = none made h.1
+no_convert r none (asks.Compare made) h = compare_isnt_convert h.0
 no_convert r none (asks.Extract folder) h = extract_isnt_convert h.0
 no_convert r none (asks.Survey s json surveyed) h = survey_isnt_convert s h.0
+
+pub no_compare : (r : List Row) → ((made : Compared) → IsCompared r made → ⊥) → FitsNothing (Asks r (codes "compare"))
+no_compare r none (asks.View w viewed) h = view_isnt_compare w h.0
+no_compare r none (asks.Convert made) h = compare_isnt_convert (sym h.0)
+no_compare r none (asks.Compare made) h = none made h.1
+no_compare r none (asks.Extract folder) h = extract_isnt_compare h.0
+no_compare r none (asks.Survey s json surveyed) h = survey_isnt_compare s h.0
 
 pub no_extract : (r : List Row) → None ≡ first_of (codes "DIR") r → FitsNothing (Asks r (codes "extract"))
 no_extract r none (asks.View w viewed) h = view_isnt_extract w h.0
 no_extract r none (asks.Convert made) h = extract_isnt_convert (sym h.0)
+no_extract r none (asks.Compare made) h = extract_isnt_compare (sym h.0)
 no_extract r none (asks.Extract folder) h = absurd (let e = none ∙ h.1 in cc)
 no_extract r none (asks.Survey s json surveyed) h = survey_isnt_extract s h.0
 
 -- nor where no command has the name
 pub no_command : (r : List Row) (verb : Text) → ((v : View) → view_name v ≡ verb → ⊥) → ((s : Survey) → survey_name s ≡ verb → ⊥)
-    → (codes "convert" ≡ verb → ⊥) → (codes "extract" ≡ verb → ⊥) → FitsNothing (Asks r verb)
-no_command r verb view survey convert extract (asks.View w viewed) h = view w h.0
-no_command r verb view survey convert extract (asks.Convert made) h = convert h.0
-no_command r verb view survey convert extract (asks.Extract folder) h = extract h.0
-no_command r verb view survey convert extract (asks.Survey s json surveyed) h = survey s h.0
+    → (codes "convert" ≡ verb → ⊥) → (codes "compare" ≡ verb → ⊥) → (codes "extract" ≡ verb → ⊥) → FitsNothing (Asks r verb)
+no_command r verb view survey convert compare extract (asks.View w viewed) h = view w h.0
+no_command r verb view survey convert compare extract (asks.Convert made) h = convert h.0
+no_command r verb view survey convert compare extract (asks.Compare made) h = compare h.0
+no_command r verb view survey convert compare extract (asks.Extract folder) h = extract h.0
+no_command r verb view survey convert compare extract (asks.Survey s json surveyed) h = survey s h.0
 
 -- a name and rows that are those of what a parse met
 pair : (o : Option (Text × List Row)) (verb : Text) (r : List Row) → Some verb ≡ option_map (λ p. p.0) o → Some r ≡ option_map (λ p. p.1) o → o ≡ Some (verb, r)

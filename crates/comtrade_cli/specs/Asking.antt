@@ -14,6 +14,7 @@ use Rattle.comtrade_cli.specs.declared.words.View.{View}
 use Rattle.comtrade_cli.specs.declared.words.View.TheVariants as view
 use Rattle.comtrade_cli.specs.declared.words.Viewed.{Viewed}
 use Rattle.comtrade_cli.specs.declared.words.Converted.{Converted}
+use Rattle.comtrade_cli.specs.declared.words.Compared.{Compared}
 use Rattle.comtrade_cli.specs.declared.words.Survey.{Survey}
 use Rattle.comtrade_cli.specs.declared.words.Survey.TheVariants as survey
 use Rattle.comtrade_cli.specs.declared.words.Asked.{Asked}
@@ -99,6 +100,14 @@ pub record IsConverted (rows : List Row) (made : Converted) : Type 0 where
   pub data_kind : (made.kind ≡ kind.Binary) ↔ (first_of (codes "KIND") rows ≡ Some (codes "binary"))
   pub part : ArePart rows made.part
 
+-- two records, and how they are laid beside each other
+pub record IsCompared (rows : List Row) (made : Compared) : Type 0 where
+  pub one : first_of (codes "A") rows ≡ Some made.one.now
+  pub other : first_of (codes "B") rows ≡ Some made.other.now
+  pub by : IsOption rows (codes "by") made.by
+  pub part : ArePart rows made.part
+  pub picture : ArePicture rows made.picture
+
 -- the names that were given, in their order
 abbrev pub AreAll : List Row → List Text → Type 0
 AreAll rows names = names ≡ unwrap_or (all_of (codes "NAMES") rows) []
@@ -107,6 +116,7 @@ AreAll rows names = names ≡ unwrap_or (all_of (codes "NAMES") rows) []
 abbrev pub Asks : List Row → Text → Asked → Type 0
 Asks rows verb (asks.View v viewed) = (view_name v ≡ verb) × IsViewed rows viewed
 Asks rows verb (asks.Convert made) = (codes "convert" ≡ verb) × IsConverted rows made
+Asks rows verb (asks.Compare made) = (codes "compare" ≡ verb) × IsCompared rows made
 Asks rows verb (asks.Extract folder) = (codes "extract" ≡ verb) × (first_of (codes "DIR") rows ≡ Some folder.now)
 Asks rows verb (asks.Survey s json names) = (survey_name s ≡ verb) × IsFlag rows (codes "json") json × AreAll rows (map (λ s. s.now) names.items)
 

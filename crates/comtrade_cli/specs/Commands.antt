@@ -108,6 +108,14 @@ list = over_names (codes "list")
 abbrev pub events : App
 events = over_names (codes "events")
 
+-- two records
+abbrev pub compare_names : App
+compare_names = with_rule (with_rule (with_rule (new_app (codes "compare"))
+    (word (codes "A"))) (word (codes "B"))) (option (codes "by"))
+
+abbrev pub compare : App
+compare = with_picture (with_part compare_names)
+
 abbrev pub top : App
 top = on_top (λ s. record s {
   has_version = true;
@@ -122,7 +130,7 @@ views a = with_subcommand (with_subcommand (with_subcommand (with_subcommand (wi
     show.top) check.top) csv.top) plot.top) page.top
 
 abbrev pub surveys : App → App
-surveys a = with_subcommand (with_subcommand a list.top) events.top
+surveys a = with_subcommand (with_subcommand (with_subcommand a list.top) events.top) compare.top
 
 abbrev pub program : Bor (List (Bor (List ℕ))) → App
 program kinds = with_subcommand (with_subcommand (with_subcommand (surveys (views top)) measure.top) (convert kinds).top) extract.top

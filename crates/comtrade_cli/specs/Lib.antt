@@ -1,3 +1,4 @@
+pub mod Faults
 pub mod Safe
 pub mod Written
 pub mod Replayed

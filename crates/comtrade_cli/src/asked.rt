@@ -9,7 +9,7 @@ use crate::commands::comtrade;
 use crate::matched::{
     cursor_of, form_of, is_set, kind_of, named, names_of, part_of, picture_of, text_of, texts_of,
 };
-use crate::words::{Asked, Converted, Survey, View, Viewed};
+use crate::words::{Asked, Compared, Converted, Survey, View, Viewed};
 use clap::error::ErrorKind;
 use clap::{ArgMatches, Error};
 use std::alloc::{AllocError, Global};
@@ -116,6 +116,32 @@ fn convert_of<'a>(found: &ArgMatches<'a>) -> Option<Asked<'a>>
     }
 }
 
+/// The names of two records, and how they are compared.
+fn compared_of<'a>(found: &ArgMatches<'a>) -> Option<Compared<'a>>
+    ensures { MatchOption result ((made : Compared) → Spec.IsCompared (rows_of (found_of found.now)) made → ⊥)
+        (Spec.IsCompared (rows_of (found_of found.now))) }
+{
+    Some(Compared {
+        one: text_of(found, "A")?,
+        other: text_of(found, "B")?,
+        by: text_of(found, "by"),
+        part: part_of(found),
+        picture: picture_of(found),
+    })
+}
+
+/// Two records.
+#[tactic(auto, using(crate::proofs::MetCommands::no_compare))]
+fn compare_of<'a>(found: &ArgMatches<'a>) -> Option<Asked<'a>>
+    ensures { MatchOption result (FitsNothing (Asks (rows_of (found_of found.now)) (codes "compare")))
+        (Asks (rows_of (found_of found.now)) (codes "compare")) }
+{
+    match compared_of(found) {
+        Some(made) => Some(Asked::Compare(made)),
+        None => None,
+    }
+}
+
 /// The folder of an extract.
 #[tactic(auto, using(crate::proofs::MetCommands::no_extract))]
 fn extract_of<'a>(found: &ArgMatches<'a>) -> Option<Asked<'a>>
@@ -155,6 +181,9 @@ fn asked_of<'a>(
     }
     if verb == "convert" {
         return Ok(convert_of(found));
+    }
+    if verb == "compare" {
+        return Ok(compare_of(found));
     }
     if let Some(view) = view_of(verb) {
         return Ok(viewed_of(view, found));

@@ -7,7 +7,7 @@ ghost use Rattle.comtrade_cli.specs.Commands.{IsCommand, IsKinded};
 ghost use Rattle.comtrade_cli.specs.Commands as Spec;
 
 use crate::options::{
-    free_word, with_cursor, with_json, with_part, with_picture, with_table, word, words,
+    free_word, option, with_cursor, with_json, with_part, with_picture, with_table, word, words,
 };
 use clap::Command;
 use std::alloc::{AllocError, Global};
@@ -34,6 +34,10 @@ One record:
   comtrade page rec1 > rec1.html                 a page for a browser
   comtrade csv --separator ';' --decimal ',' rec1 > rec1.csv
 
+Two records:
+  comtrade compare near far > both.svg           one picture of two ends of a line, by their instants
+  comtrade compare --by trigger old new > both.svg
+
 Other files of it:
   comtrade convert --kind binary --from -20 --to 100 rec1 report
   comtrade import OLD.CFG new                    a pair of 1999 of what relays write, also of 1991, 2013 and single files (.cff)
@@ -46,6 +50,12 @@ Status: 0 all of it was done; 1 a fault of the files, or what can't be read or w
 
 const SURVEY_STATUS: &str = "\
 Status: 0 all of it was done; 1 a fault of the files, or what can't be read or written; 2 words that ask for nothing.";
+
+const COMPARE_STATUS: &str = "\
+A and B are what pairs are called, or a file of each. The rows, channels and contacts that options name are A's; equal channels are those of \
+the same name, unit and side.
+
+Status: 0 all of it was done; 1 a fault of the files, what can't be compared, read or written; 2 words that ask for nothing.";
 
 static KINDS: [&str; 2] = ["ascii", "binary"];
 
@@ -209,6 +219,31 @@ fn events<'a>(alloc: Global) -> Result<Command<'a>, AllocError>
     )
 }
 
+/// The names of two records.
+fn compare_names<'a>(alloc: Global) -> Result<Command<'a>, AllocError>
+    ensures { IfOk result (IsCommand Spec.compare_names) }
+{
+    Command::new(alloc, "compare")
+        .about("Prints two records in one picture, as SVG, and how far equal channels differ")
+        .after_help(COMPARE_STATUS)
+        .arg(word(alloc, "A", "A record"))?
+        .arg(word(alloc, "B", "The record that is laid over it"))?
+        .arg(option(
+            alloc,
+            "by",
+            "WHAT",
+            "What falls together: instant (so it is without this) or trigger",
+        ))
+}
+
+fn compare<'a>(alloc: Global) -> Result<Command<'a>, AllocError>
+    ensures { IfOk result (IsCommand Spec.compare) }
+{
+    let named = compare_names(alloc)?;
+    let part = with_part(alloc, named)?;
+    with_picture(alloc, part)
+}
+
 /// The commands that print what is in a pair.
 fn views<'a>(alloc: Global, program: Command<'a>) -> Result<Command<'a>, AllocError>
     ensures { IsCommand Spec.top program.entry → IfOk result (IsCommand (Spec.views Spec.top)) }
@@ -225,7 +260,10 @@ fn views<'a>(alloc: Global, program: Command<'a>) -> Result<Command<'a>, AllocEr
 fn surveys<'a>(alloc: Global, program: Command<'a>) -> Result<Command<'a>, AllocError>
     ensures { (a : App) → IsCommand a program.entry → IfOk result (IsCommand (Spec.surveys a)) }
 {
-    program.subcommand(list(alloc)?)?.subcommand(events(alloc)?)
+    program
+        .subcommand(list(alloc)?)?
+        .subcommand(events(alloc)?)?
+        .subcommand(compare(alloc)?)
 }
 
 /// The program's name, version and help.

@@ -2,6 +2,7 @@
 
 ghost use Rattle.std.specs.Prelude.{◌≡◌};
 ghost use Rattle.comtrade_cli.specs.declared.fault.ToolFault.TheVariants as fault;
+ghost use Rattle.comtrade_cli.specs.Faults as Faults;
 
 use dfr_channels::Memory;
 use std::alloc::{AllocError, AllocFailed};
@@ -53,7 +54,9 @@ pub enum ToolFault {
 }
 
 /// What an error of the system is, or `other` where it is none of these.
-pub fn fault_of(kind: ErrorKind, other: ToolFault) -> ToolFault {
+pub fn fault_of(kind: ErrorKind, other: ToolFault) -> ToolFault
+    ensures { result ≡ Faults.fault_of kind other }
+{
     match kind {
         ErrorKind::NotFound => ToolFault::NoFile,
         ErrorKind::PermissionDenied => ToolFault::Denied,

@@ -36,7 +36,7 @@ pub(crate) fn words<'a>(alloc: Global, name: &'a str, help: &'a str) -> Arg<'a>
 }
 
 /// An option with a value.
-fn option<'a>(alloc: Global, name: &'a str, value: &'a str, help: &'a str) -> Arg<'a>
+pub(crate) fn option<'a>(alloc: Global, name: &'a str, value: &'a str, help: &'a str) -> Arg<'a>
     ensures rule { rule_of result ≡ Spec.option name.entry.now }
     ensures local { result.global ≡ false }
 {

@@ -3,6 +3,7 @@
 ghost use Rattle.std.specs.Prelude.{◌≡◌, ◌<◌, ◌==◌, ◌++◌, ℕ, OnOk, decimal, if◌then◌else◌};
 ghost use Rattle.std.specs.Char.{digit_char};
 ghost use Rattle.std.specs.Fmt.{signed_decimal};
+ghost use Rattle.comtrade_format.specs.Cfg.{kind_text};
 ghost use Rattle.comtrade_cli.specs.Safe.{quoted, safe, safe_byte};
 
 use comtrade_format::Kind;
@@ -17,7 +18,9 @@ pub fn put<A: Allocator>(out: &mut Vec<u8, A>, text: &str) -> Result<(), AllocEr
 }
 
 /// What a kind of data is called.
-pub fn kind_name(kind: Kind) -> &'static str {
+pub fn kind_name(kind: Kind) -> &'static str
+    ensures { result.now ≡ kind_text kind }
+{
     match kind {
         Kind::Ascii => "ASCII",
         Kind::Binary => "BINARY",

@@ -97,6 +97,17 @@ pub struct Converted<'a> {
     pub name: &'a str,
 }
 
+/// Two records, and how they are laid beside each other: by the instants of their rows or by their triggers, as a text that isn't parsed
+/// yet. The part is the first one's; the side of the transformers and how files are read are those of both.
+#[derive(Clone, Copy, Debug)]
+pub struct Compared<'a> {
+    pub one: &'a str,
+    pub other: &'a str,
+    pub by: Option<&'a str>,
+    pub part: Part<'a>,
+    pub picture: Picture<'a>,
+}
+
 /// The commands over many pairs.
 #[derive(Clone, Copy, Debug, PartialEq, Eq)]
 pub enum Survey {
@@ -113,6 +124,8 @@ pub enum Asked<'a> {
     View(View, Viewed<'a>),
     /// A pair as a pair of another kind, with this name.
     Convert(Converted<'a>),
+    /// Two records in one picture.
+    Compare(Compared<'a>),
     /// The pairs that a replay printed, into a folder.
     Extract(&'a str),
     /// What is in many pairs: those of these names, and those in folders of these names; as JSON where that is asked for.

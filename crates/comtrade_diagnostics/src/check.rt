@@ -1,12 +1,14 @@
 //! Whether a pair of files can be read, and its fault in words.
 
-ghost use Rattle.std.specs.Prelude.{◌≡◌, IfOk, true, false};
+ghost use Rattle.std.specs.Prelude.{◌≡◌, IfOk, OnErr, OnOk, true, false};
 ghost use Rattle.comtrade_read.specs.Verdicts.{IsFile};
 ghost use Rattle.comtrade_read.specs.Reads.{IsNoFile};
+ghost use Rattle.comtrade_diagnostics.specs.Puts.{PutsLine};
 
 use crate::describe::put_cfg_fault;
 use crate::describe_data::put_dat_fault;
 use crate::hints::put_hint;
+use crate::line::put_line;
 use crate::names::Counts;
 use crate::remarks::put_remarks;
 use comtrade_cli::{ToolFault, kind_name, put, put_count, put_safe, write_out};
@@ -60,8 +62,8 @@ fn put_data_fault<A: Allocator + Copy>(
     }
 }
 
-/// The line that names a fault: the file, the line, the field, what stands there and what is wanted.
-pub fn put_fault<A: Allocator + Copy>(
+/// A fault's words: the file, the line, the field, what stands there and what is wanted.
+fn put_fault_words<A: Allocator + Copy>(
     alloc: A,
     out: &mut Vec<u8, A>,
     pair: Pair<'_>,
@@ -79,7 +81,22 @@ pub fn put_fault<A: Allocator + Copy>(
             put_data_fault(alloc, out, pair, found.fault)?;
         }
     }
-    put(out, "\n")
+    Ok(())
+}
+
+/// The line that names a fault: the file, the line, the field, what stands there and what is wanted.
+pub fn put_fault<A: Allocator + Copy>(
+    alloc: A,
+    out: &mut Vec<u8, A>,
+    pair: Pair<'_>,
+    found: Fault,
+) -> Result<(), AllocError>
+    ensures line { OnOk result (PutsLine out.old.items out.new.items) }
+    ensures kept { OnErr result (out.new.items ≡ out.old.items) }
+{
+    let mut line = Vec::new(alloc);
+    put_fault_words(alloc, &mut line, pair, found)?;
+    put_line(out, &mut line)
 }
 
 /// The line of a pair that can be read, with this head.

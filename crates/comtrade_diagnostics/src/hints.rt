@@ -1,6 +1,10 @@
 //! Which files `import` reads that the exact reader refuses, and what they are.
 
+ghost use Rattle.std.specs.Prelude.{◌≡◌, OnErr, OnOk};
+ghost use Rattle.comtrade_diagnostics.specs.Puts.{PutsLine};
+
 use crate::check::Pair;
+use crate::line::put_line;
 use comtrade_cli::{put, put_safe};
 use comtrade_import::{Choices, ImportFault, Imported, Key, Note, import, import_single};
 use std::alloc::{AllocError, Allocator};
@@ -69,14 +73,14 @@ fn put_natures<A: Allocator>(
 fn put_reads<A: Allocator>(out: &mut Vec<u8, A>, notes: &[Note<A>]) -> Result<(), AllocError> {
     put(out, "`comtrade import` reads it")?;
     if notes.is_empty() {
-        return put(out, "\n");
+        return Ok(());
     }
     put(out, " (")?;
     let mut is_first = true;
     for note in notes {
         put_piece(out, &mut is_first, note.key().name())?;
     }
-    put(out, ")\n")
+    put(out, ")")
 }
 
 /// The line on a pair that has a fault, where `import` reads it, or where its text is of another kind.
@@ -101,19 +105,19 @@ pub(crate) fn put_hint<A: Allocator + Copy>(
             if put_natures(out, text, &notes)? {
                 put(out, "; ")?;
             }
-            put_reads(out, &notes)
+            put_reads(out, &notes)?;
         }
         None => {
             if let Some(nature) = text {
                 put(out, nature)?;
             }
-            put(out, "\n")
         }
     }
+    put(out, "\n")
 }
 
-/// The line on a single file: what it is, and that `import` reads it, or why it doesn't.
-pub fn put_single<A: Allocator + Copy>(
+/// What a single file is, and that `import` reads it, or why it doesn't.
+fn put_single_words<A: Allocator + Copy>(
     alloc: A,
     out: &mut Vec<u8, A>,
     pair: Pair<'_>,
@@ -126,8 +130,21 @@ pub fn put_single<A: Allocator + Copy>(
         Err(fault) => {
             let text = format!(in alloc; "{fault}")?;
             put(out, "`comtrade import` doesn't read it: ")?;
-            put_safe(out, text.as_str().as_bytes())?;
-            put(out, "\n")
+            put_safe(out, text.as_str().as_bytes())
         }
     }
+}
+
+/// The line on a single file: what it is, and that `import` reads it, or why it doesn't.
+pub fn put_single<A: Allocator + Copy>(
+    alloc: A,
+    out: &mut Vec<u8, A>,
+    pair: Pair<'_>,
+) -> Result<(), AllocError>
+    ensures line { OnOk result (PutsLine out.old.items out.new.items) }
+    ensures kept { OnErr result (out.new.items ≡ out.old.items) }
+{
+    let mut line = Vec::new(alloc);
+    put_single_words(alloc, &mut line, pair)?;
+    put_line(out, &mut line)
 }

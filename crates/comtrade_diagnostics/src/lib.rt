@@ -6,6 +6,7 @@ mod describe;
 mod describe_data;
 mod forms;
 mod hints;
+mod line;
 mod names;
 mod refuse;
 mod remarks;

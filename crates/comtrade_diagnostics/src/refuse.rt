@@ -1,7 +1,11 @@
 //! What a file of a kind can't hold, in words.
 
+ghost use Rattle.std.specs.Prelude.{◌≡◌, OnErr, OnOk};
+ghost use Rattle.comtrade_diagnostics.specs.Puts.{PutsLine};
+
 use crate::check::Pair;
 use crate::describe::put_line_of;
+use crate::line::put_line;
 use crate::remarks::sample_in;
 use comtrade_cli::{put, put_safe, put_signed, put_with};
 use comtrade_format::{Kind, WriteFault};
@@ -59,8 +63,8 @@ fn put_sample<A: Allocator + Copy>(
     Ok(())
 }
 
-/// The line that says what a file of this kind can't hold of a pair, by its place.
-pub fn put_refusal<A: Allocator + Copy>(
+/// What a file of this kind can't hold of a pair, by its place.
+fn put_refused<A: Allocator + Copy>(
     alloc: A,
     out: &mut Vec<u8, A>,
     pair: Pair<'_>,
@@ -102,5 +106,21 @@ pub fn put_refusal<A: Allocator + Copy>(
         }
         _ => put(out, "the numbers of the file don't agree")?,
     }
-    put(out, "\n")
+    Ok(())
+}
+
+/// The line that says what a file of this kind can't hold of a pair, by its place.
+pub fn put_refusal<A: Allocator + Copy>(
+    alloc: A,
+    out: &mut Vec<u8, A>,
+    pair: Pair<'_>,
+    kind: Kind,
+    fault: WriteFault,
+) -> Result<(), AllocError>
+    ensures line { OnOk result (PutsLine out.old.items out.new.items) }
+    ensures kept { OnErr result (out.new.items ≡ out.old.items) }
+{
+    let mut line = Vec::new(alloc);
+    put_refused(alloc, &mut line, pair, kind, fault)?;
+    put_line(out, &mut line)
 }

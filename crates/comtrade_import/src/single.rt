@@ -3,42 +3,11 @@
 ghost use Rattle.std.specs.Prelude.{IfOk};
 ghost use Rattle.comtrade_read.specs.Reads.{Reads};
 
-use crate::encoding::narrow;
-use crate::fault::ImportFault;
-use crate::importing::{Choices, Imported, loose, unmarked};
-use crate::key::Key;
-use crate::note::{Notes, Place};
-use crate::sections::{Sections, cut};
-use crate::text::{put, put_number};
+use crate::importing::{Imported, loose};
+use comtrade_dialects::{
+    Choices, ImportFault, Key, Notes, Place, cut, narrow, tell_sections, unmarked,
+};
 use std::alloc::Allocator;
-
-/// Tells what was left out of a single file.
-fn tell_sections<A: Allocator + Copy>(
-    alloc: A,
-    notes: &mut Notes<A>,
-    sections: Sections<'_>,
-) -> Result<(), ImportFault> {
-    let place = Place::Whole("single file");
-    notes.tell(Key::Cff, place, &[])?;
-    if sections.has_odd_separator {
-        notes.tell(Key::CffForm, place, &[])?;
-    }
-    if let Some((said, there)) = sections.wrong_count {
-        let mut piece = Vec::new(alloc);
-        put_number(&mut piece, said)?;
-        put(&mut piece, " said, ")?;
-        put_number(&mut piece, there)?;
-        put(&mut piece, " there")?;
-        notes.tell(Key::CffCount, place, &piece)?;
-    }
-    if sections.has_inf {
-        notes.tell(Key::InfDropped, place, &[])?;
-    }
-    if sections.has_hdr {
-        notes.tell(Key::HdrDropped, place, &[])?;
-    }
-    Ok(())
-}
 
 /// The pair in a single file, whose text is ASCII or UTF-8.
 fn single<A: Allocator + Copy>(

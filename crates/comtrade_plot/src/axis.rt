@@ -108,7 +108,7 @@ pub(crate) fn put_times<A: Allocator>(sheet: &mut Sheet<A>, chart: &Chart<'_, A>
 pub(crate) fn put_times_name<A: Allocator>(sheet: &mut Sheet<A>, chart: &Chart<'_, A>, y: u32) {
     if chart.is_timed {
         sheet.begin_text(NAMES, y, "");
-        sheet.texts(&[unit_of(chart).name, " since the trigger"]);
+        sheet.texts(&[unit_of(chart).name, " since ", chart.layer.trigger_name()]);
         sheet.end_text();
     } else {
         sheet.label(NAMES, y, "", "row; the file has no times");
@@ -168,11 +168,16 @@ pub(crate) fn put_trigger<A: Allocator>(
     top: u32,
     bottom: u32,
 ) {
-    if !chart.is_timed || !chart.frame.has(0) {
+    if !chart.is_timed || !chart.frame.has(chart.trigger) {
         return;
     }
-    sheet.text("<path class=\"t\" stroke=\"#222222\" stroke-dasharray=\"4 3\" d=\"");
-    sheet.point("M", chart.frame.across(0), top);
+    let dashes = chart.layer.trigger_dashes();
+    sheet.texts(&[
+        "<path class=\"t\" stroke=\"#222222\" stroke-dasharray=\"",
+        dashes,
+        "\" d=\"",
+    ]);
+    sheet.point("M", chart.frame.across(chart.trigger), top);
     sheet.along("V", bottom);
     sheet.text("\"/>\n");
 }

@@ -1,6 +1,7 @@
 //! The bars of contacts, and the line for those that don't change.
 
 use crate::axis::{put_gaps, put_grid, put_trigger};
+use crate::layers::Layer;
 use crate::layout::{CONTACT, Chart, contact_height};
 use crate::legend::{NAMES, put_name};
 use crate::rows::bit_at;
@@ -170,7 +171,8 @@ fn put_contact<A: Allocator>(
     at: usize,
     top: u32,
 ) {
-    put_name(sheet, channel.id.items(), b"", top.saturating_add(130));
+    let tag = chart.layer.tag();
+    put_name(sheet, tag, channel.id.items(), b"", top.saturating_add(130));
     sheet.text("<path class=\"e\" stroke=\"#c4c8cc\" d=\"");
     sheet.point("M", LEFT, top.saturating_add(150));
     sheet.along("H", RIGHT);
@@ -203,8 +205,14 @@ fn put_unchanged<A: Allocator>(
         }
     }
     sheet.begin_text(NAMES, top.saturating_add(130), "");
+    sheet.text(chart.layer.tag());
     sheet.number(ones.saturating_add(zeros));
-    sheet.text(" contacts unchanged: ");
+    let is_short = chart.layer == Layer::Alone && ones.saturating_add(zeros) < 100;
+    sheet.text(if is_short {
+        " contacts unchanged: "
+    } else {
+        " unchanged: "
+    });
     sheet.number(ones);
     sheet.text(" at 1, ");
     sheet.number(zeros);

@@ -6,12 +6,12 @@ use crate::legend::peak_of;
 use crate::plot::PlotOptions;
 use crate::quantity::put_quantity;
 use crate::sheet::Sheet;
-use comtrade_format::Head;
+use comtrade_format::{File, Head};
 use comtrade_frame::{LEFT, WIDTH};
 use std::alloc::Allocator;
 
 /// Colours for dark pages, and line styles for print.
-const STYLE: &str = "<style>@media (prefers-color-scheme:dark){\
+pub(crate) const STYLE: &str = "<style>@media (prefers-color-scheme:dark){\
 svg{fill:#e8eaed}.p{fill:#14171c}.f{fill:#a9b0b8}.g{stroke:#2c323a}.e{stroke:#7b838d}.t{stroke:#e8eaed}\
 .x{fill:#3d3a33}.k{fill:#4e7a5b}.o{fill:#7fd492}.q{stroke:#f0b429}\
 .a{stroke:#ff4038}.b{stroke:#ffcc38}.c{stroke:#0089ff}.n{stroke:#f0f2ef}\
@@ -26,7 +26,7 @@ fn height_for(width: u32, height: u32) -> u32 {
 }
 
 /// The picture's tag: as high as it is wide where only one is asked for.
-fn put_tag<A: Allocator>(sheet: &mut Sheet<A>, options: PlotOptions, height: u32) {
+pub(crate) fn put_tag<A: Allocator>(sheet: &mut Sheet<A>, options: PlotOptions, height: u32) {
     let width = options.width.unwrap_or(WIDTH / 10);
     let shown = options.height.unwrap_or(height_for(width, height));
     sheet.text("<svg xmlns=\"http://www.w3.org/2000/svg\" width=\"");
@@ -49,7 +49,7 @@ pub(crate) fn put_station<A: Allocator>(sheet: &mut Sheet<A>, head: &Head<A>) {
 }
 
 /// So many of something.
-fn put_count<A: Allocator>(sheet: &mut Sheet<A>, n: usize, one: &str, more: &str) {
+pub(crate) fn put_count<A: Allocator>(sheet: &mut Sheet<A>, n: usize, one: &str, more: &str) {
     sheet.number(n as u64);
     sheet.text(if n == 1 { one } else { more });
 }
@@ -105,8 +105,7 @@ fn put_description<A: Allocator>(sheet: &mut Sheet<A>, chart: &Chart<'_, A>) {
 }
 
 /// When the trigger was, and how many rows at which rates.
-fn put_facts<A: Allocator>(sheet: &mut Sheet<A>, chart: &Chart<'_, A>, y: u32) {
-    let file = chart.file;
+pub(crate) fn put_facts<A: Allocator>(sheet: &mut Sheet<A>, file: &File<A>, y: u32) {
     let head = &file.head;
     sheet.begin_text(LEFT, y, " class=\"f\" fill=\"#55595f\"");
     sheet.text("trigger ");
@@ -141,5 +140,5 @@ pub(crate) fn put_head<A: Allocator>(
     sheet.begin_text(LEFT, 230, " font-size=\"15\"");
     put_station(sheet, &file.head);
     sheet.end_text();
-    put_facts(sheet, chart, 410);
+    put_facts(sheet, file, 410);
 }

@@ -1,6 +1,7 @@
 //! How much room panels and names have.
 
 use crate::gaps::Gap;
+use crate::layers::Layer;
 use crate::survey::Survey;
 use comtrade_format::File;
 use comtrade_frame::Frame;
@@ -9,7 +10,7 @@ use dfr_channels::{AnalogChannel, StatusChannel};
 use std::alloc::Allocator;
 
 /// What is drawn: a file; what turns samples into values; the number of each channel's panel; what the drawn rows say; the times
-/// that are drawn; where each row stands; the gaps; whether times are known.
+/// that are drawn; where each row stands; the gaps; whether times are known; when the trigger was; which record of the picture it is.
 #[derive(Clone, Copy)]
 pub(crate) struct Chart<'a, A: Allocator> {
     pub(crate) alloc: A,
@@ -22,7 +23,12 @@ pub(crate) struct Chart<'a, A: Allocator> {
     pub(crate) gaps: &'a [Gap],
     pub(crate) cycle: Option<i64>,
     pub(crate) is_timed: bool,
+    pub(crate) trigger: i64,
+    pub(crate) layer: Layer,
 }
+
+/// The panel of a channel that isn't drawn.
+pub(crate) const NOWHERE: usize = usize::MAX;
 
 /// The most bytes of a line of a name.
 const LINE: usize = 32;
@@ -89,7 +95,7 @@ pub(crate) fn legend_height<A: Allocator>(channel: &AnalogChannel<A>) -> u32 {
 }
 
 /// How high panels are where their legends don't need more.
-fn least_height(panels: usize) -> u32 {
+pub(crate) fn least_height(panels: usize) -> u32 {
     if panels <= 3 {
         1500
     } else if panels <= 8 {
@@ -99,8 +105,8 @@ fn least_height(panels: usize) -> u32 {
     }
 }
 
-/// How high a panel is, without its title.
-pub(crate) fn height_of<A: Allocator>(chart: &Chart<'_, A>, panel: usize, count: usize) -> u32 {
+/// How high the names and numbers beside a panel are.
+pub(crate) fn legends_height<A: Allocator>(chart: &Chart<'_, A>, panel: usize) -> u32 {
     let file = chart.file;
     let channels = file.head.analog.items();
     let mut legend = 0u32;
@@ -109,14 +115,21 @@ pub(crate) fn height_of<A: Allocator>(chart: &Chart<'_, A>, panel: usize, count:
             legend = legend.saturating_add(legend_height(channel));
         }
     }
-    legend.max(least_height(count))
+    legend
+}
+
+/// How high a panel is, without its title.
+pub(crate) fn height_of<A: Allocator>(chart: &Chart<'_, A>, panel: usize, count: usize) -> u32 {
+    legends_height(chart, panel).max(least_height(count))
 }
 
 /// How many panels there are.
 pub(crate) fn panel_count(panels: &[usize]) -> usize {
     let mut count = 0usize;
     for panel in panels {
-        count = count.max(panel.saturating_add(1));
+        if *panel != NOWHERE {
+            count = count.max(panel.saturating_add(1));
+        }
     }
     count
 }

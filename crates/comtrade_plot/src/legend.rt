@@ -1,5 +1,6 @@
 //! Names of channels beside their panels, with their peaks and effective values.
 
+use crate::layers::Layer;
 use crate::layout::{Chart, LINE_HEIGHT, first_line, legend_height};
 use crate::phases::Hue;
 use crate::quantity::put_quantity;
@@ -14,36 +15,45 @@ use std::alloc::Allocator;
 /// Where names begin.
 pub(crate) const NAMES: u32 = RIGHT + 320;
 
-/// A piece of a trace before its name.
-fn put_mark<A: Allocator>(sheet: &mut Sheet<A>, hue: Hue, y: u32) {
-    let y = y.saturating_sub(40);
+/// A piece of a trace of a layer, from a place on.
+pub(crate) fn put_mark<A: Allocator>(sheet: &mut Sheet<A>, layer: Layer, own: Hue, x: u32, y: u32) {
+    let hue = layer.hue(own);
     sheet.texts(&["<path class=\"", hue.class(), "\" stroke=\"", hue.colour()]);
-    sheet.text("\" stroke-width=\"2.5\" fill=\"none\" d=\"");
-    sheet.point("M", RIGHT + 90, y);
+    sheet.texts(&[
+        "\"",
+        layer.dashes(),
+        " stroke-width=\"2.5\" fill=\"none\" d=\"",
+    ]);
+    sheet.point("M", x, y.saturating_sub(40));
     sheet.along("h", 190);
     sheet.text("\"/>\n");
 }
 
-/// A name in as many lines as it takes, three at most, and a phase after it; where it ends.
+/// A name in as many lines as it takes, three at most, what stands before it and a phase after it; where it ends.
 pub(crate) fn put_name<A: Allocator>(
     sheet: &mut Sheet<A>,
+    tag: &str,
     name: &[u8],
     phase: &[u8],
     y: u32,
 ) -> u32 {
     let mut y = y;
     let (mut line, mut rest) = first_line(name);
+    let mut tag = tag;
     for _ in 0..2 {
         if rest.is_empty() {
             break;
         }
         sheet.begin_text(NAMES, y, "");
+        sheet.text(tag);
         sheet.name(line);
         sheet.end_text();
+        tag = "";
         y = y.saturating_add(LINE_HEIGHT);
         (line, rest) = first_line(rest);
     }
     sheet.begin_text(NAMES, y, "");
+    sheet.text(tag);
     sheet.name(line);
     if !rest.is_empty() {
         sheet.text("..");
@@ -102,8 +112,8 @@ fn put_numbers<A: Allocator>(
     }
 }
 
-/// A small text at a height, made narrower where there is no room for it.
-fn put_small<A: Allocator>(sheet: &mut Sheet<A>, y: u32, text: &Sheet<A>) {
+/// A small text at a height beside a panel, made narrower where there is no room for it.
+pub(crate) fn put_small<A: Allocator>(sheet: &mut Sheet<A>, y: u32, text: &Sheet<A>) {
     let small = " class=\"f\" font-size=\"10.5\" fill=\"#55595f\"";
     let narrow =
         " class=\"f\" font-size=\"10.5\" fill=\"#55595f\" textLength=\"246\" lengthAdjust=\"spacingAndGlyphs\"";
@@ -129,8 +139,10 @@ pub(crate) fn put_legend<A: Allocator + Copy>(
     ) else {
         return y;
     };
-    put_mark(sheet, hue, y);
-    let end = put_name(sheet, channel.id.items(), channel.phase.items(), y);
+    let layer = chart.layer;
+    put_mark(sheet, layer, hue, RIGHT + 90, y);
+    let (id, phase) = (channel.id.items(), channel.phase.items());
+    let end = put_name(sheet, layer.tag(), id, phase, y);
     let mut numbers = Sheet::new(chart.alloc);
     put_numbers(&mut numbers, channel, *survey, *scale);
     put_small(sheet, end.saturating_add(LINE_HEIGHT - 10), &numbers);

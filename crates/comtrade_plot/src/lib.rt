@@ -3,11 +3,18 @@
 
 mod axis;
 mod blocks;
+mod compare;
+mod compare_head;
+mod compare_panels;
 mod contacts;
+mod differing;
+mod edges;
 mod gaps;
 mod groups;
 mod head;
 mod instant;
+mod joint;
+mod layers;
 mod layout;
 mod legend;
 mod levels;
@@ -26,5 +33,6 @@ mod times;
 mod trace;
 mod units;
 
+pub use compare::{By, CompareOptions, Refusal, Timed, compare_over};
 pub use page::page_over;
 pub use plot::{PlotOptions, plot_over};

@@ -1,7 +1,9 @@
 //! The panels of a picture.
 
 use crate::axis::{put_gaps, put_grid, put_trigger};
+use crate::edges::{spread, with_edges};
 use crate::groups::hue_in;
+use crate::layers::Layer;
 use crate::layout::{Chart, TITLE, height_of, panel_count};
 use crate::legend::put_legend;
 use crate::levels::put_levels;
@@ -17,37 +19,8 @@ use std::alloc::Allocator;
 /// A record of so many rows or fewer has a dot at each sample.
 const DOTTED: usize = 60;
 
-/// The bounds with others.
-fn spread(bounds: Option<(f64, f64)>, more: Option<(f64, f64)>) -> Option<(f64, f64)> {
-    match (bounds, more) {
-        (Some((low, high)), Some((least, greatest))) => Some((
-            if least < low { least } else { low },
-            if high < greatest { greatest } else { high },
-        )),
-        (None, more) => more,
-        (bounds, None) => bounds,
-    }
-}
-
-/// The values at a panel's edges: a twentieth of what they span is left above and below; a constant stands in the middle.
-fn with_edges(low: f64, high: f64) -> (f64, f64) {
-    let size = if high.abs() < low.abs() {
-        low.abs()
-    } else {
-        high.abs()
-    };
-    let span = high - low;
-    if size * 1e-9 < span {
-        return (low - span * 0.05, high + span * 0.05);
-    }
-    if size <= 0.0 {
-        return (-1.1, 1.1);
-    }
-    (low - size * 0.05, high + size * 0.05)
-}
-
-/// The values at the edges of a panel; None where it has no readings.
-pub(crate) fn edges_of<A: Allocator>(chart: &Chart<'_, A>, panel: usize) -> Option<(f64, f64)> {
+/// The least and the greatest value of a panel; None where it has no readings.
+fn bounds_of<A: Allocator>(chart: &Chart<'_, A>, panel: usize) -> Option<(f64, f64)> {
     let mut bounds = None;
     let known = chart.surveys.iter().zip(chart.scales.iter());
     for (its, (survey, scale)) in chart.panels.iter().zip(known) {
@@ -55,7 +28,22 @@ pub(crate) fn edges_of<A: Allocator>(chart: &Chart<'_, A>, panel: usize) -> Opti
             bounds = spread(bounds, survey.values(*scale));
         }
     }
-    let (low, high) = bounds?;
+    bounds
+}
+
+/// The values at the edges of a panel; None where it has no readings.
+pub(crate) fn edges_of<A: Allocator>(chart: &Chart<'_, A>, panel: usize) -> Option<(f64, f64)> {
+    let (low, high) = bounds_of(chart, panel)?;
+    Some(with_edges(low, high))
+}
+
+/// The values at the edges of a panel of two charts that are drawn over each other. A picture of one record has it as both.
+fn edges_over<'a, A: Allocator>(
+    one: &Chart<'a, A>,
+    other: &Chart<'a, A>,
+    panel: usize,
+) -> Option<(f64, f64)> {
+    let (low, high) = spread(bounds_of(one, panel), bounds_of(other, panel))?;
     Some(with_edges(low, high))
 }
 
@@ -114,8 +102,9 @@ fn put_channel<A: Allocator>(
         return;
     };
     let rows = file.rows.items();
+    let dashes = chart.layer.dashes();
     sheet.texts(&["<path class=\"", hue.class(), "\" stroke=\"", hue.colour()]);
-    sheet.text("\" d=\"");
+    sheet.texts(&["\"", dashes, " d=\""]);
     put_trace(sheet, rows, chart.places, at, panel, *scale);
     sheet.text("\"/>\n");
     if rows.len() <= DOTTED {
@@ -141,7 +130,7 @@ pub(crate) fn put_traces<A: Allocator>(
     for (i, its) in chart.panels.iter().enumerate() {
         if *its == number {
             let hue = hue_in(channels, chart.panels, i);
-            put_channel(sheet, chart, panel, i, hue);
+            put_channel(sheet, chart, panel, i, chart.layer.hue(hue));
         }
     }
     sheet.text("</g>\n");
@@ -171,32 +160,82 @@ pub(crate) fn put_frame<A: Allocator>(sheet: &mut Sheet<A>, top: u32, height: u3
     sheet.text(" class=\"e\" fill=\"none\" stroke=\"#8a8f96\"/>\n");
 }
 
-/// A panel without a reading says so.
-fn put_empty<A: Allocator>(sheet: &mut Sheet<A>, top: u32, height: u32) {
+/// A panel without a reading says so, away from the trigger's line.
+fn put_empty<A: Allocator>(sheet: &mut Sheet<A>, chart: &Chart<'_, A>, top: u32, height: u32) {
+    let middle = (LEFT + RIGHT) / 2;
+    let is_left = chart.frame.across(chart.trigger) < middle;
     sheet.label(
-        (LEFT + RIGHT) / 2,
+        if is_left {
+            (middle + RIGHT) / 2
+        } else {
+            (LEFT + middle) / 2
+        },
         top.saturating_add(height / 2),
         " text-anchor=\"middle\" class=\"f\" fill=\"#55595f\"",
         "no readings",
     );
 }
 
-/// A panel below its title, at a height.
-fn put_panel<A: Allocator + Copy>(
+/// The traces of a panel of one chart, or of two over each other.
+fn put_layers<'a, A: Allocator>(
     sheet: &mut Sheet<A>,
-    chart: &Chart<'_, A>,
+    one: &Chart<'a, A>,
+    other: &Chart<'a, A>,
+    panel: Panel,
+    number: usize,
+) {
+    put_traces(sheet, one, panel, number);
+    if other.layer != Layer::Alone {
+        put_traces(sheet, other, panel, number);
+    }
+}
+
+/// The gaps of a panel, and the lines of its times.
+fn put_ground<'a, A: Allocator>(
+    sheet: &mut Sheet<A>,
+    one: &Chart<'a, A>,
+    other: &Chart<'a, A>,
+    top: u32,
+    bottom: u32,
+) {
+    put_gaps(sheet, one, top, bottom);
+    if other.layer != Layer::Alone {
+        put_gaps(sheet, other, top, bottom);
+    }
+    put_grid(sheet, one.frame, top, bottom);
+}
+
+/// The triggers' lines of a panel, and its frame.
+fn put_edges<'a, A: Allocator>(
+    sheet: &mut Sheet<A>,
+    one: &Chart<'a, A>,
+    other: &Chart<'a, A>,
+    top: u32,
+    height: u32,
+) {
+    let bottom = top.saturating_add(height);
+    put_trigger(sheet, one, top, bottom);
+    if other.layer != Layer::Alone {
+        put_trigger(sheet, other, top, bottom);
+    }
+    put_frame(sheet, top, height);
+}
+
+/// A panel of one chart, or of two over each other, below its title, at a height.
+pub(crate) fn put_panel<'a, A: Allocator + Copy>(
+    sheet: &mut Sheet<A>,
+    one: &Chart<'a, A>,
+    other: &Chart<'a, A>,
     number: usize,
     top: u32,
     height: u32,
 ) {
-    let Some(first) = first_of(chart, number) else {
+    let Some(first) = first_of(one, number) else {
         return;
     };
-    let bottom = top.saturating_add(height);
-    put_gaps(sheet, chart, top, bottom);
-    put_grid(sheet, chart.frame, top, bottom);
+    put_ground(sheet, one, other, top, top.saturating_add(height));
     let title = top.saturating_sub(50);
-    match edges_of(chart, number) {
+    match edges_over(one, other, number) {
         Some((low, high)) => {
             let panel = Panel {
                 top,
@@ -206,17 +245,15 @@ fn put_panel<A: Allocator + Copy>(
             };
             let exponent = exponent_of(first, panel);
             put_title(sheet, first, exponent, title);
-            put_levels(sheet, chart, panel, exponent);
-            put_traces(sheet, chart, panel, number);
+            put_levels(sheet, one, panel, exponent);
+            put_layers(sheet, one, other, panel, number);
         }
         None => {
             put_title(sheet, first, 0, title);
-            put_empty(sheet, top, height);
+            put_empty(sheet, one, top, height);
         }
     }
-    put_trigger(sheet, chart, top, bottom);
-    put_frame(sheet, top, height);
-    put_names(sheet, chart, top, number);
+    put_edges(sheet, one, other, top, height);
 }
 
 /// All panels from a height on.
@@ -230,7 +267,8 @@ pub(crate) fn put_panels<A: Allocator + Copy>(
     for number in 0..count {
         let height = height_of(chart, number, count);
         y = y.saturating_add(TITLE);
-        put_panel(sheet, chart, number, y, height);
+        put_panel(sheet, chart, chart, number, y, height);
+        put_names(sheet, chart, y, number);
         y = y.saturating_add(height);
     }
 }

@@ -3,6 +3,7 @@
 use crate::axis::rounded_out;
 use crate::gaps::{Gap, gaps_of};
 use crate::groups::panels_of;
+use crate::layers::Layer;
 use crate::layout::Chart;
 use crate::rows::{kept_times, last_change, numbers_of, places_of, whole_frame};
 use crate::survey::{Survey, add_cycles, drop_partial, surveys_of};
@@ -15,7 +16,7 @@ use dfr_channels::AnalogChannel;
 use std::alloc::Allocator;
 
 /// A cycle of 50 Hz, in nanoseconds.
-const USUAL_CYCLE: i64 = 20_000_000;
+pub(crate) const USUAL_CYCLE: i64 = 20_000_000;
 
 /// What turns each channel's samples into values.
 fn scales_of<A: Allocator + Copy>(
@@ -30,7 +31,8 @@ fn scales_of<A: Allocator + Copy>(
 }
 
 /// What is known of a file whichever part of it is drawn: when its rows were taken, and those that weren't lost, in nanoseconds since the
-/// trigger, or their numbers where the file has no times; what turns samples into values; how long a cycle is.
+/// trigger, or their numbers where the file has no times; what turns samples into values; how long a cycle is; when the trigger was, and
+/// which record of the picture it is.
 #[derive(Drop)]
 pub(crate) struct Record<A: Allocator> {
     pub(crate) times: Vec<Option<i64>, A>,
@@ -38,6 +40,8 @@ pub(crate) struct Record<A: Allocator> {
     pub(crate) scales: Vec<Scale, A>,
     pub(crate) cycle: Option<i64>,
     pub(crate) is_timed: bool,
+    pub(crate) trigger: i64,
+    pub(crate) layer: Layer,
 }
 
 pub(crate) fn record_of<A: Allocator + Copy>(
@@ -60,6 +64,8 @@ pub(crate) fn record_of<A: Allocator + Copy>(
         scales,
         cycle: if is_timed { cycle } else { None },
         is_timed,
+        trigger: 0,
+        layer: Layer::Alone,
     })
 }
 
@@ -72,7 +78,7 @@ pub(crate) struct Choice {
 }
 
 /// A frame that lasts: around a single time as much as is told.
-fn lasting(frame: Option<Frame>, least: i64) -> Frame {
+pub(crate) fn lasting(frame: Option<Frame>, least: i64) -> Frame {
     match frame {
         Some(frame) if frame.from < frame.to => frame,
         Some(frame) => Frame {
@@ -132,18 +138,51 @@ fn whole_cycle<A: Allocator>(record: &Record<A>) -> Option<i64> {
     }
 }
 
+/// What the rows of a frame say, with the cycles around the trigger.
+fn surveys_in<A: Allocator + Copy>(
+    alloc: A,
+    file: &File<A>,
+    record: &Record<A>,
+    frame: Frame,
+) -> Result<Vec<Survey, A>, ToolFault> {
+    let mut surveys = surveys_of(alloc, file, &record.kept, frame)?;
+    if let Some(cycle) = whole_cycle(record) {
+        add_cycles(&mut surveys, &record.scales, file, &record.kept, cycle);
+        drop_partial(&mut surveys, &record.times, cycle);
+    }
+    Ok(surveys)
+}
+
 pub(crate) fn part_of<A: Allocator + Copy>(
     alloc: A,
     file: &File<A>,
     record: &Record<A>,
     frame: Frame,
 ) -> Result<Part<A>, ToolFault> {
-    let mut surveys = surveys_of(alloc, file, &record.kept, frame)?;
-    if let Some(cycle) = whole_cycle(record) {
-        add_cycles(&mut surveys, &record.scales, file, &record.kept, cycle);
-        drop_partial(&mut surveys, &record.times, cycle);
-    }
+    let surveys = surveys_in(alloc, file, record, frame)?;
     let panels = panels_of(alloc, file.head.analog.items(), &surveys, &record.scales)?;
+    part_with(alloc, record, frame, surveys, panels)
+}
+
+/// The part of a record whose channels have these panels.
+pub(crate) fn part_in<A: Allocator + Copy>(
+    alloc: A,
+    file: &File<A>,
+    record: &Record<A>,
+    frame: Frame,
+    panels: Vec<usize, A>,
+) -> Result<Part<A>, ToolFault> {
+    let surveys = surveys_in(alloc, file, record, frame)?;
+    part_with(alloc, record, frame, surveys, panels)
+}
+
+fn part_with<A: Allocator + Copy>(
+    alloc: A,
+    record: &Record<A>,
+    frame: Frame,
+    surveys: Vec<Survey, A>,
+    panels: Vec<usize, A>,
+) -> Result<Part<A>, ToolFault> {
     let places = places_of(alloc, frame, &record.kept)?;
     let gaps = gaps_of(alloc, frame, &record.kept)?;
     Ok(Part {
@@ -192,5 +231,7 @@ pub(crate) fn chart_of<'a, A: Allocator>(
         gaps: &part.gaps,
         cycle: record.cycle,
         is_timed: record.is_timed,
+        trigger: record.trigger,
+        layer: record.layer,
     }
 }

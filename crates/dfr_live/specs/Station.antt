@@ -41,6 +41,11 @@ abbrev pub start_outcome : Bool → Outcome
 start_outcome true = Ok tt
 start_outcome false = Err fault.Memory
 
+-- of a thread that was started there is a result, which keeps its promise
+abbrev pub Joins : {H T : Type 0} → (H → T → Type 0) → Option H → Option T → Type 0
+Joins Keeps None r = r ≡ None
+Joins Keeps (Some h) r = IfSome r (λ x. Keeps h x)
+
 -- ---- the trigger thread
 
 -- how many scan steps a pump is asked for, where so many were made: as many as are missing up to
@@ -59,6 +64,17 @@ abbrev pub CountsOn : Option ℕ → TokenParts → TokenParts → Type 0
 CountsOn place t u =
     (u ≡ record t { pumped = u.pumped }) × (t.pumped ≤ u.pumped)
     × IfSome place (λ p. u.pumped ≤ max t.pumped p)
+
+-- the token counts on to a place, if scans still come; else it stays as it is, and it is said that none comes any more
+abbrev pub PumpsOn : ℕ → Bool → TokenParts → Bool → TokenParts → Type 0
+PumpsOn place true t x u = (x ≡ true) × (u ≡ t)
+PumpsOn place false t true u = CountsOn (Some place) t u
+PumpsOn place false t false u = CountsTo (Some place) t u
+
+-- the token counts on until no scan comes any more
+abbrev pub PumpsOut : Bool → TokenParts → TokenParts → Type 0
+PumpsOut true t u = u ≡ t
+PumpsOut false t u = CountsOn None t u
 
 -- an order has one entry, of its call
 abbrev pub EntersOrder : {A : Type 0} → Order A → TokenParts → TokenParts → Type 0

@@ -1,7 +1,7 @@
 //! What the three threads tell each other.
 
 use crate::report::LiveFault;
-use std::sync::atomic::{AtomicBool, Ordering};
+use std::sync::atomic::{AtomicBool, AtomicU64, Ordering};
 use std::{hint, thread};
 
 /// For how many turns a thread spins before the next one, each time a little longer; after them it
@@ -17,6 +17,8 @@ pub(crate) struct Signals {
     pub(crate) triggered: AtomicBool,
     /// A thread has a fault.
     failed: AtomicBool,
+    /// The fault that stands first, as a number: its rank, then its code.
+    fault: AtomicU64,
     turns: u64,
 }
 
@@ -30,13 +32,20 @@ impl Signals {
             acquired: AtomicBool::new(false),
             triggered: AtomicBool::new(false),
             failed: AtomicBool::new(false),
+            fault: AtomicU64::new(u64::MAX),
             turns,
         }
     }
 
     /// Tells the other threads that this one has a fault.
-    pub(crate) fn fail(&self) {
+    pub(crate) fn fail(&self, fault: LiveFault) {
+        self.fault.fetch_min(number_of(fault), Ordering::SeqCst);
         self.failed.store(true, Ordering::SeqCst);
+    }
+
+    /// The fault that stands first, of a run of which a thread couldn't be started.
+    pub(crate) fn fault(&self) -> LiveFault {
+        fault_of(self.fault.load(Ordering::SeqCst))
     }
 
     /// One turn in which the thread didn't get on; `idle` counts them since it last did. False
@@ -62,5 +71,30 @@ impl Signals {
             hint::spin_loop();
         }
         Ok(true)
+    }
+}
+
+/// A fault as a number, by which they stand in order.
+fn number_of(fault: LiveFault) -> u64 {
+    match fault {
+        LiveFault::Feed(code) => code as u64,
+        LiveFault::Sink(code) => (1 << 32) + code as u64,
+        LiveFault::Turns => 2 << 32,
+        LiveFault::Counter => 3 << 32,
+        LiveFault::Memory => 4 << 32,
+        LiveFault::Open(_) => 5 << 32,
+        LiveFault::End(_) => 6 << 32,
+    }
+}
+
+/// The fault of a number.
+fn fault_of(number: u64) -> LiveFault {
+    let code = (number & 0xFFFF_FFFF) as u32;
+    match number >> 32 {
+        0 => LiveFault::Feed(code),
+        1 => LiveFault::Sink(code),
+        2 => LiveFault::Turns,
+        3 => LiveFault::Counter,
+        _ => LiveFault::Memory,
     }
 }

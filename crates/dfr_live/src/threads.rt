@@ -1,195 +1,106 @@
-//! The three threads of a recording.
+//! Works in threads of their own, of which the starter learns what they gave.
 
-ghost use Rattle.std.specs.Prelude.{◌≡◌};
+ghost use Rattle.std.specs.Prelude.{◌≡◌, IfSome};
+ghost use Rattle.dfr_live.specs.Station.{Joins};
 
-use crate::acquire::acquire;
-use crate::export::export;
-use crate::orders::carry_out;
-use crate::report::{LiveFault, first_fault};
-use crate::session::Session;
-use crate::shared::Shared;
+use crate::report::LiveFault;
 use crate::signals::Signals;
-use crate::source::Source;
-use crate::station::{Feed, Orders, Sink};
-use crate::token::Token;
-use comtrade_write::Kind;
-use std::alloc::{Allocator, Global};
-use std::sync::atomic::Ordering;
-use std::sync::{Mutex, Wait};
+use std::snapshot::Snapshot;
+use std::sync::Wait;
 use std::thread;
-use std::thread::{Scope, Threads};
+use std::thread::{Promise, PromisedHandle, Scope, Threads};
 
-/// What one thread works on, and what came of it. It stands behind a lock that this one thread
-/// holds throughout.
+/// What one thread does.
+pub(crate) trait Work {
+    type Output;
+
+    ghost can_run: { Self → Type 0 };
+
+    ghost run_gives: { Self → Self.Output → Type 0 };
+
+    fn run(self) -> Self::Output
+        requires { can_run self }
+        ensures { run_gives self result };
+}
+
+/// The promise that a work gives what it says.
 #[derive(Drop)]
-pub(crate) struct Task<'x, F, S> {
-    pub(crate) device: &'x mut F,
-    pub(crate) seat: S,
-    pub(crate) outcome: Result<(), LiveFault>,
+struct Promised<S>(Snapshot<S>);
+
+impl<S: Work<Output = T>, T> Promise<T> for Promised<S> {
+    ghost kept_by = { λ p r. S.run_gives p.0.value r };
 }
 
-/// All that the threads work on. A closure that starts one captures this alone.
-#[derive(Drop)]
-pub(crate) struct Tasks<'x, 'y, 'z, N: Session<A>, F, O, K, A: Allocator = Global> {
-    pub(crate) alloc: A,
-    pub(crate) kind: Kind,
-    pub(crate) signals: Signals,
-    pub(crate) shared: Shared<N, A>,
-    pub(crate) acquisition: Mutex<Task<'x, F, Source<N, A>>>,
-    pub(crate) trigger: Mutex<Task<'y, O, Token<A>>>,
-    pub(crate) exports: Mutex<Task<'z, K, Token<A>>>,
-}
-
-/// A task before its thread is started.
-pub(crate) fn locked_task<D, S>(device: &mut D, seat: S) -> Mutex<Task<'_, D, S>> {
-    Mutex::new(Task {
-        device,
-        seat,
-        outcome: Ok(()),
-    })
-}
-
-/// Takes the tasks apart once all threads have ended: the shared recorder, the source and the
-/// tokens of the trigger thread and the export thread; else the first fault.
-pub(crate) fn take_apart<N: Session<A>, A: Allocator, F, O, K>(
-    tasks: Tasks<'_, '_, '_, N, F, O, K, A>,
-    started: bool,
-) -> Result<(Shared<N, A>, Source<N, A>, Token<A>, Token<A>), LiveFault> {
-    let acquisition = tasks.acquisition.into_inner();
-    let trigger = tasks.trigger.into_inner();
-    let exports = tasks.exports.into_inner();
-    first_fault(
-        started,
-        acquisition.outcome,
-        trigger.outcome,
-        exports.outcome,
-    )?;
-    Ok((tasks.shared, acquisition.seat, trigger.seat, exports.seat))
-}
-
-/// Starts the acquisition thread. False where it can't be started.
-fn start_acquisition<
-    's,
-    E,
-    N: Session<A> + Send + Sync,
-    A: Allocator + Copy + Send + Sync,
-    F: Feed<A> + Send,
-    O: Orders<A> + Send,
-    K: Sink + Send,
-    R: Threads + Wait + Sync,
->(scope: &Scope<'s, E>, rt: &'s R, tasks: &'s Tasks<'_, '_, '_, N, F, O, K, A>) -> bool {
-    scope.spawn(move || run_acquisition(rt, tasks)).is_ok()
-}
-
-/// Starts the trigger thread. False where it can't be started.
-fn start_trigger<
-    's,
-    E,
-    N: Session<A> + Send + Sync,
-    A: Allocator + Copy + Send + Sync,
-    F: Feed<A> + Send,
-    O: Orders<A> + Send,
-    K: Sink + Send,
-    R: Threads + Wait + Sync,
->(scope: &Scope<'s, E>, rt: &'s R, tasks: &'s Tasks<'_, '_, '_, N, F, O, K, A>) -> bool {
-    scope.spawn(move || run_trigger(rt, tasks)).is_ok()
-}
-
-/// Starts the export thread. False where it can't be started.
-fn start_exports<
-    's,
-    E,
-    N: Session<A> + Send + Sync,
-    A: Allocator + Copy + Send + Sync,
-    F: Feed<A> + Send,
-    O: Orders<A> + Send,
-    K: Sink + Send,
-    R: Threads + Wait + Sync,
->(scope: &Scope<'s, E>, rt: &'s R, tasks: &'s Tasks<'_, '_, '_, N, F, O, K, A>) -> bool {
-    scope.spawn(move || run_exports(rt, tasks)).is_ok()
-}
-
-/// Starts the threads and waits for them. False where one of them can't be started.
-pub(crate) fn in_three_threads<
-    N: Session<A> + Send + Sync,
-    A: Allocator + Copy + Send + Sync,
-    F: Feed<A> + Send,
-    O: Orders<A> + Send,
-    K: Sink + Send,
-    R: Threads + Wait + Sync,
->(rt: &R, tasks: &Tasks<'_, '_, '_, N, F, O, K, A>) -> bool {
-    thread::scope(thread::scope_env(), rt, |scope| {
-        let started = start_acquisition(scope, rt, tasks)
-            && start_trigger(scope, rt, tasks)
-            && start_exports(scope, rt, tasks);
-        if !started {
-            tasks.signals.fail();
-        }
-        started
-    })
-}
-
-/// Hands the outcome on, and tells the other threads where it is a fault.
-fn announce(signals: &Signals, outcome: Result<(), LiveFault>) -> Result<(), LiveFault>
-    ensures { result ≡ outcome }
+/// Starts a work in a thread, where it is to go on. None where it isn't started; where that can't be done the other
+/// threads are told.
+fn start<'s, E, S: Work<Output = T> + Send + Drop + 's, T: Send + Drop + 's>(
+    goes_on: bool,
+    scope: &Scope<'s, E>,
+    signals: &Signals,
+    work: S,
+) -> Option<PromisedHandle<T, Promised<S>>>
+    requires { S.can_run work }
+    ensures { IfSome result (λ h. h.promise.0.value ≡ work) }
 {
-    if outcome.is_err() {
-        signals.fail();
+    if !goes_on {
+        return None;
     }
-    outcome
+    let promise = Promised(Snapshot::of(&work));
+    let started = scope.spawn_with(
+        promise,
+        move || -> T
+            requires { S.can_run work }
+            ensures { S.run_gives work result }
+        { work.run() },
+    );
+    if started.is_err() {
+        signals.fail(LiveFault::Memory);
+    }
+    started.ok()
 }
 
-fn run_acquisition<N: Session<A>, A: Allocator, F: Feed<A>, O, K>(
-    rt: &impl Wait,
-    tasks: &Tasks<'_, '_, '_, N, F, O, K, A>,
-) {
-    let signals = &tasks.signals;
-    let mut held = tasks.acquisition.lock(rt);
-    let task = &mut *held;
-    task.outcome = announce(
-        signals,
-        acquire(rt, signals, &mut *task.device, &mut task.seat),
-    );
-    signals.acquired.store(true, Ordering::SeqCst);
+/// Waits for a work that was started.
+fn join<R: Threads, S: Work<Output = T>, T: Send + Drop>(
+    rt: &R,
+    started: Option<PromisedHandle<T, Promised<S>>>,
+) -> Option<T>
+    ensures { Joins (λ h r. S.run_gives h.promise.0.value r) started result }
+{
+    match started {
+        Some(handle) => Some(handle.join(rt)),
+        None => None,
+    }
 }
 
-fn run_trigger<N: Session<A>, A: Allocator + Copy, F, O: Orders<A>, K>(
-    rt: &impl Wait,
-    tasks: &Tasks<'_, '_, '_, N, F, O, K, A>,
-) {
-    let signals = &tasks.signals;
-    let mut held = tasks.trigger.lock(rt);
-    let task = &mut *held;
-    task.outcome = announce(
-        signals,
-        carry_out(
-            rt,
-            signals,
-            &tasks.shared,
-            &mut *task.device,
-            &mut task.seat,
-        ),
-    );
-    signals.triggered.store(true, Ordering::SeqCst);
-}
-
-fn run_exports<N: Session<A>, A: Allocator + Copy, F, O, K: Sink>(
-    rt: &impl Wait,
-    tasks: &Tasks<'_, '_, '_, N, F, O, K, A>,
-) {
-    let signals = &tasks.signals;
-    let mut held = tasks.exports.lock(rt);
-    let task = &mut *held;
-    task.outcome = announce(
-        signals,
-        export(
-            rt,
-            tasks.alloc,
-            tasks.kind,
-            signals,
-            &tasks.shared,
-            &mut *task.device,
-            &mut task.seat,
-        ),
-    );
+/// Runs three works, each in a thread of its own, and waits for them. None where one of them can't
+/// be started; then those after it aren't started either.
+pub(crate) fn in_three_threads<
+    R: Threads + Wait,
+    S: Work<Output = X> + Send + Drop,
+    T: Work<Output = Y> + Send + Drop,
+    U: Work<Output = Z> + Send + Drop,
+    X: Send + Drop,
+    Y: Send + Drop,
+    Z: Send + Drop,
+>(rt: &R, signals: &Signals, first: S, second: T, third: U) -> (Option<X>, Option<Y>, Option<Z>)
+    requires { S.can_run first × T.can_run second × U.can_run third }
+    ensures first { IfSome result.0 (λ r. S.run_gives first r) }
+    ensures second { IfSome result.1 (λ r. T.run_gives second r) }
+    ensures third { IfSome result.2 (λ r. U.run_gives third r) }
+{
+    thread::scope(
+        thread::scope_env(),
+        rt,
+        |scope| -> (Option<X>, Option<Y>, Option<Z>)
+            requires { S.can_run first × T.can_run second × U.can_run third }
+            ensures first { IfSome result.0 (λ r. S.run_gives first r) }
+            ensures second { IfSome result.1 (λ r. T.run_gives second r) }
+            ensures third { IfSome result.2 (λ r. U.run_gives third r) }
+        {
+            let first = start(true, scope, signals, first);
+            let second = start(first.is_some(), scope, signals, second);
+            let third = start(second.is_some(), scope, signals, third);
+            (join(rt, first), join(rt, second), join(rt, third))
+        },
+    )
 }

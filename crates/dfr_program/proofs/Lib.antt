@@ -1,6 +1,7 @@
 mod Answering
 mod Growing
 mod Living
+mod Fed
 mod Pairing
 mod Planning
 mod Printing

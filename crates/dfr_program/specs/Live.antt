@@ -1,24 +1,51 @@
 -- What a live run writes: the line of a fault, or the report of the run.
-use Rattle.std.specs.Prelude.{◌≡◌, ℕ, List, Option, Some, None, Bool, true, false}
+use Rattle.std.specs.Prelude.{◌≡◌, ℕ, List, map, filter, Option, Some, None, Result, Ok, Err, Bool, true, false}
 use Rattle.std.specs.Io.KnownBytes.{Appends}
 use Rattle.dfr_recorder.specs.History.{Opening}
+use Rattle.dfr_recorder.specs.Steps.{StepParts}
+use Rattle.comtrade_format.specs.declared.file.Kind.{Kind}
 use Rattle.dfr_script.specs.Parts.{ScriptParts}
+use Rattle.dfr_live.specs.Parts.{CallParts, EntryParts}
+use Rattle.dfr_live.specs.Ends.{is_by}
+use Rattle.dfr_live.specs.Devices.{FilesParts, taken_in, call_at, calls_made, GotAll}
 use Rattle.dfr_live.specs.Report.{Reports}
 use Rattle.dfr_live.specs.declared.report.LiveFault.{LiveFault}
 use Rattle.dfr_live.specs.declared.report.LiveReport.{LiveReport}
 use Rattle.dfr_program.specs.declared.prepared.Fault.{Fault}
 use Rattle.dfr_program.specs.FaultTexts.{fault_text}
+use Rattle.dfr_program.specs.Plans.{scans_in, orders_in}
 use Rattle.dfr_program.specs.Replays.{IsOpenedBy}
 use Rattle.dfr_program.specs.Reports.{report_text, run_word, run_fault_text}
 use Rattle.dfr_program.specs.Recording.{IsOneThread}
 use Rattle.dfr_program.specs.Writing.{Cut}
 
--- the text of a report on a run in threads over this opening; its locked value, source and tokens
--- are a recording as of one thread
-pub record TellsReport (A : Type 0) (o : Opening) (text : List ℕ) : Type 0 where
-  pub report : LiveReport A
+-- what a run is given, and what is known of its sink where the calls of these entries took the records, over this opening
+pub record GivenParts : Type 1 where
+  pub scans : List StepParts
+  pub orders : List (ℕ × CallParts)
+  pub Sinks : Opening → List EntryParts → Type 0
+
+-- what the script gives it; the sink got the files of the records that were taken
+abbrev pub given_by : {K : Type 0} → (K → FilesParts → Result (Unit {0}) ℕ → K → Type 0) → Kind → K → K → ScriptParts → GivenParts
+given_by Puts kind old new s = record {
+  scans = scans_in s.commands;
+  orders = orders_in 0 s.commands;
+  Sinks = λ o made. GotAll Puts o kind old made new;
+}
+
+-- a report on a run in threads over this opening, of all that it was given: the source took in the steps of its scans; the
+-- calls of seat 0 are its orders, each at its place; and what is known of the sink holds with the calls of seat 1
+pub record Ran {A : Type 0} (g : GivenParts) (o : Opening) (report : LiveReport A) : Type 0 where
   pub reports : Reports o report
-  pub one : IsOneThread reports.inner reports.source reports.tokens report.ended
+  pub fed : taken_in reports.source ≡ g.scans
+  pub ordered : map call_at (filter (is_by 0) report.ended.log.items) ≡ calls_made report.stepped 0 g.orders
+  pub handed_on : g.Sinks o (filter (is_by 1) report.ended.log.items)
+
+-- its text; its locked value, source and tokens are a recording as of one thread
+pub record TellsReport (A : Type 0) (g : GivenParts) (o : Opening) (text : List ℕ) : Type 0 where
+  pub report : LiveReport A
+  pub ran : Ran g o report
+  pub one : IsOneThread ran.reports.inner ran.reports.source ran.reports.tokens report.ended
   pub same : text ≡ report_text report
 
 -- the line of a fault of the run
@@ -28,31 +55,36 @@ pub record TellsFault (text : List ℕ) : Type 0 where
   pub named : run_word fault ≡ Some word
   pub same : text ≡ run_fault_text word
 
+-- the text of what a run came to: its report, or the line of its fault
+abbrev pub TellsCame : {A : Type 0} → Result (LiveReport A) LiveFault → Bool → List ℕ → Type 0
+TellsCame (Ok report) done text = (done ≡ true) × (text ≡ report_text report)
+TellsCame (Err fault) done text = (done ≡ false) × TellsFault text
+
 -- the text of a run over this opening, and whether it was done
-abbrev pub TellsOver : Type 0 → Opening → Bool → List ℕ → Type 0
-TellsOver A o true text = TellsReport A o text
-TellsOver A o false text = TellsFault text
+abbrev pub TellsOver : Type 0 → GivenParts → Opening → Bool → List ℕ → Type 0
+TellsOver A g o true text = TellsReport A g o text
+TellsOver A g o false text = TellsFault text
 
 -- over the opening that the script says
-pub record TellsRun (A : Type 0) (s : ScriptParts) (done : Bool) (text : List ℕ) : Type 0 where
+pub record TellsRun (A : Type 0) (g : GivenParts) (s : ScriptParts) (done : Bool) (text : List ℕ) : Type 0 where
   pub opening : Opening
   pub opened : IsOpenedBy s opening
-  pub over : TellsOver A opening done text
+  pub over : TellsOver A g opening done text
 
 -- the text of a live run: where the script has a fault it is the fault's line, and nothing is run
-abbrev pub TellsLive : Type 0 → Option Fault → ScriptParts → Bool → List ℕ → Type 0
-TellsLive A (Some fault) s done text = (done ≡ false) × (text ≡ fault_text fault)
-TellsLive A None s done text = TellsRun A s done text
+abbrev pub TellsLive : Type 0 → GivenParts → Option Fault → ScriptParts → Bool → List ℕ → Type 0
+TellsLive A g (Some fault) s done text = (done ≡ false) × (text ≡ fault_text fault)
+TellsLive A g None s done text = TellsRun A g s done text
 
 -- it is written
-pub record PrintsLive (A : Type 0) (fault : Option Fault) (s : ScriptParts) (done : Bool) (old new : Option (List ℕ)) : Type 0 where
+pub record PrintsLive (A : Type 0) (g : GivenParts) (fault : Option Fault) (s : ScriptParts) (done : Bool) (old new : Option (List ℕ)) : Type 0 where
   pub text : List ℕ
-  pub tells : TellsLive A fault s done text
+  pub tells : TellsLive A g fault s done text
   pub written : Appends old new text
 
 -- a write failed, after a front of it
-pub record CutsLive (A : Type 0) (fault : Option Fault) (s : ScriptParts) (old new : Option (List ℕ)) : Type 0 where
+pub record CutsLive (A : Type 0) (g : GivenParts) (fault : Option Fault) (s : ScriptParts) (old new : Option (List ℕ)) : Type 0 where
   pub done : Bool
   pub text : List ℕ
-  pub tells : TellsLive A fault s done text
+  pub tells : TellsLive A g fault s done text
   pub cut : Cut old new text

@@ -17,7 +17,7 @@ use Rattle.dfr_live.specs.Parts as call
 use Rattle.dfr_live.specs.declared.station.Fed.{Fed}
 use Rattle.dfr_live.specs.declared.station.Fed.TheVariants as fed
 use Rattle.dfr_live.specs.declared.station.Order.{Order}
-use Rattle.dfr_live.specs.declared.station.Order.TheVariants as order
+use Rattle.dfr_live.specs.Devices.{call_in}
 use Rattle.dfr_program.specs.declared.plan.Given.{Given}
 use Rattle.dfr_program.specs.declared.plan.Given.TheVariants as gives
 use Rattle.dfr_program.specs.declared.plan.Placed.{Placed}
@@ -76,12 +76,8 @@ given (gives.Scan scan) = step.Scan scan
 given gives.Lost = step.Lost
 
 -- an order with its place, whatever its allocator is
-abbrev pub call_of : {A : Type 0} → Order A → CallParts
-call_of order.Trigger = call.Trigger
-call_of (order.SetRules rules) = call.SetRules rules
-
 abbrev pub placed : {A : Type 0} → ℕ × Order A → ℕ × CallParts
-placed p = (p.0, call_of p.1)
+placed p = (p.0, call_in p.1)
 
 -- commands whose rules all fit: each of their scans is fed, lost ones too, in order, and each trigger and each list of rules is
 -- ordered at the number of scan steps before it

@@ -2,16 +2,15 @@
 
 #![tactic(auto, using(crate::proofs::Growing::growing))]
 
-ghost use Rattle.std.specs.Prelude.{List, ◌≡◌, ◌≢◌, false, is_some, true, Err, IfOk, IfErr};
+ghost use Rattle.std.specs.Prelude.{List, map, ◌≡◌, ◌≢◌, false, is_some, true, Err, IfOk, IfErr};
 ghost use Rattle.dfr_channels.specs.Lines.{lines};
-ghost use Rattle.dfr_recorder.specs.History.{Opening};
+ghost use Rattle.dfr_script.specs.Parts.{ScriptParts};
 ghost use Rattle.dfr_script.specs.Scripts.{script_value};
 ghost use Rattle.dfr_live.specs.Seen.{InnerParts, SourceParts, TokenParts, opening_of};
 ghost use Rattle.dfr_live.specs.Ends.{Ends};
-ghost use Rattle.dfr_live.specs.Report.{Reports};
 ghost use Rattle.dfr_program.specs.FaultTexts.{fault_text};
-ghost use Rattle.dfr_program.specs.Live.{TellsFault, TellsOver, TellsLive, PrintsLive, CutsLive};
-ghost use Rattle.dfr_program.specs.Plans.{live_fault};
+ghost use Rattle.dfr_program.specs.Live.{given_by, TellsCame, TellsFault, TellsOver, TellsLive, PrintsLive, CutsLive};
+ghost use Rattle.dfr_program.specs.Plans.{given, live_fault, placed, scans_in, orders_in};
 ghost use Rattle.dfr_program.specs.Recording.{IsOneThread};
 ghost use Rattle.dfr_program.specs.Reports.{report_text};
 ghost use Rattle.dfr_program.specs.Writing.{Grows};
@@ -84,8 +83,10 @@ fn told_run<A: Allocator + Copy>(
     alloc: A,
     came: Result<LiveReport<A>, LiveFault>,
 ) -> Result<Told<A>, RunFault>
-    ensures text { IfOk result (λ told. (o : Opening) → IfOk came (λ r. Reports o r) →
-        TellsOver A o told.done told.text.items) }
+    ensures law { IfOk came (λ report. (x : InnerParts) (source : SourceParts)
+        (tokens : List TokenParts)
+        → Ends x source tokens report.ended → IsOneThread x source tokens report.ended) }
+    ensures text { IfOk result (λ told. TellsCame came told.done told.text.items) }
     ensures fault { IfErr result (λ fault. fault ≡ RunFault.Memory) }
 {
     match came {
@@ -102,7 +103,11 @@ fn run_plan<A: Allocator + Copy + Send + Sync, K: Sink + Send, R: Threads + Wait
     kind: Kind,
     sink: &mut K,
 ) -> Result<Told<A>, RunFault>
-    ensures text { IfOk result (λ told. TellsOver A (opening_of plan.recorder) told.done told.text.items) }
+    ensures text { IfOk result (λ told. (s : ScriptParts)
+        → map given plan.scans.items ≡ scans_in s.commands
+        → map placed plan.orders.items ≡ orders_in 0 s.commands
+        → TellsOver A (given_by K.puts kind sink.old sink.new s) (opening_of plan.recorder)
+        told.done told.text.items) }
     ensures fault { IfErr result (λ fault. fault ≡ RunFault.Memory) }
 {
     let Plan {
@@ -134,8 +139,9 @@ fn run_script<A: Allocator + Copy + Send + Sync, K: Sink + Send, R: Threads + Wa
     kind: Kind,
     sink: &mut K,
 ) -> Result<Told<A>, RunFault>
-    ensures text { IfOk result (λ told. TellsLive A (live_fault script.now)
-        (script_value (lines script.now)) told.done told.text.items) }
+    ensures text { IfOk result (λ told. let s = script_value (lines script.now) in
+        TellsLive A (given_by K.puts kind sink.old sink.new s) (live_fault script.now) s
+        told.done told.text.items) }
     ensures fault { IfErr result (λ fault. fault ≡ RunFault.Memory) }
     ensures unused { is_some (live_fault script.now) ≡ true → sink.new ≡ sink.old }
 {
@@ -162,10 +168,12 @@ pub fn live_of<
     R: Threads + Wait + Sync,
 >(rt: &R, alloc: A, script: &[u8], kind: Kind, sink: &mut K, w: &mut W) -> Result<bool, RunFault>
     ensures grows { Grows (W.contents w.old) (W.contents w.new) }
-    ensures printed { IfOk result (λ done. PrintsLive A (live_fault script.now)
-        (script_value (lines script.now)) done (W.contents w.old) (W.contents w.new)) }
-    ensures output { result ≡ Err RunFault.Output → CutsLive A (live_fault script.now)
-        (script_value (lines script.now)) (W.contents w.old) (W.contents w.new) }
+    ensures printed { IfOk result (λ done. let s = script_value (lines script.now) in
+        PrintsLive A (given_by K.puts kind sink.old sink.new s) (live_fault script.now) s done
+        (W.contents w.old) (W.contents w.new)) }
+    ensures output { result ≡ Err RunFault.Output → let s = script_value (lines script.now) in
+        CutsLive A (given_by K.puts kind sink.old sink.new s) (live_fault script.now) s
+        (W.contents w.old) (W.contents w.new) }
     ensures memory { result ≡ Err RunFault.Memory → w.new ≡ w.old }
     ensures unused { is_some (live_fault script.now) ≡ true → sink.new ≡ sink.old }
     ensures fault { IfErr result (λ fault. fault ≢ RunFault.Input) }

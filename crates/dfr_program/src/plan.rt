@@ -60,9 +60,9 @@ impl<A: Allocator> Scans<A> {
 }
 
 impl<A: Allocator> Feed<A> for Scans<A> {
-    fn next(&mut self) -> Result<Fed<A>, u32>
-        ensures { spec.FeedsNext (spec.steps_left self.old) result (spec.steps_left self.new) }
-    {
+    ghost gives = { λ s r t. spec.FeedsNext (spec.steps_left s) r (spec.steps_left t) };
+
+    fn next(&mut self) -> Result<Fed<A>, u32> {
         match self.rest.next() {
             Some(Given::Scan(scan)) => Ok(Fed::Scan(scan)),
             Some(Given::Lost) => Ok(Fed::Lost),
@@ -88,9 +88,9 @@ impl<A: Allocator> Placed<A> {
 }
 
 impl<A: Allocator> Orders<A> for Placed<A> {
-    fn next(&mut self) -> Option<(u64, Order<A>)>
-        ensures { spec.OrdersNext (spec.orders_left self.old) result (spec.orders_left self.new) }
-    {
+    ghost hands = { λ s o t. spec.OrdersNext (spec.orders_left s) o (spec.orders_left t) };
+
+    fn next(&mut self) -> Option<(u64, Order<A>)> {
         self.rest.next()
     }
 }

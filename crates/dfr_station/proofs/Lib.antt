@@ -1,4 +1,1 @@
-pub mod Groups
-pub mod Parts
 pub mod Stamps
-pub mod Steps

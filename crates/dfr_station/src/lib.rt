@@ -6,13 +6,9 @@ mod acquire;
 mod begin;
 mod event;
 mod export;
-mod feed;
 mod first;
-mod frame;
 mod frames;
-mod keep;
 mod key;
-mod lines;
 mod operator;
 mod orders;
 mod prepared;
@@ -28,13 +24,13 @@ mod telling;
 mod text_buffer;
 mod text_lines;
 
+pub use dfr_frames::{
+    Came, Tally, Why, commands_of, frame_len, give, give_frames, is_scan_line, lose, scan_of_frame,
+    surplus_bytes,
+};
 pub use event::{Asked, Event, Replied, Skipped, Trouble};
-pub use feed::{Came, Tally, Why, give, give_frames, lose};
 pub use first::{First, read_first};
-pub use frame::{frame_len, scan_of_frame};
-pub use keep::surplus_bytes;
 pub use key::{Key, key_at, key_in, put_key};
-pub use lines::{commands_of, is_scan_line};
 pub use prepared::{SetupRefusal, recorder_of};
 pub use printed::put_event;
 pub use run::{Recorded, RunFault, run_station};

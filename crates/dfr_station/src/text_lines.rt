@@ -1,8 +1,6 @@
 //! Lines as they come, in pieces of any size.
 
 use crate::event::{Event, Skipped};
-use crate::feed::{Came, Tally, Why, give, lose};
-use crate::lines::{HEAD_LEN, HEAD_LINES, commands_of, is_scan_line};
 use crate::orders::Placed;
 use crate::scans::Scans;
 use crate::signals::Signals;
@@ -10,6 +8,7 @@ use crate::text_buffer::{
     feeds_in, kept_after, line_at, line_end, piece_end, whole_end, with_head,
 };
 use dfr_channels::{Layout, Rule, RuleFault, Rules};
+use dfr_frames::{Came, HEAD_LEN, HEAD_LINES, Tally, Why, commands_of, give, is_scan_line, lose};
 use dfr_live::{LossFault, Order, Session, Source};
 use dfr_script::{Command, ScriptFault, ScriptRefusal, Word};
 use memchr::memchr;

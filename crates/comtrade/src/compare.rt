@@ -1,0 +1,203 @@
+//! `comtrade compare`: two records in one picture.
+
+use crate::load::{file_in, pair_of, read_pair};
+use crate::survey::say_repairs;
+use crate::view::{NO_SIZE, options_of, put_part_fault};
+use crate::{complain, note_size, say};
+use comtrade_cli::{Compared, Names, Part, ToolFault, put};
+use comtrade_format::File;
+use comtrade_part::{Cut, is_whole, part_of};
+use comtrade_plot::{By, CompareOptions, PlotOptions, Timed, compare_over};
+use comtrade_views::times_since_trigger;
+use std::alloc::Global;
+use std::io;
+use std::io::Write;
+use std::rt::Files;
+
+/// What falls together in both records; none where the text says neither.
+fn by_of(text: Option<&str>) -> Option<By> {
+    let text = text.unwrap_or("instant");
+    if text == "instant" {
+        return Some(By::Instant);
+    }
+    if text == "trigger" {
+        Some(By::Trigger)
+    } else {
+        None
+    }
+}
+
+/// What is asked of the second record: the rows and channels are those of the first.
+fn part_beside<'a>(part: Part<'a>) -> Part<'a> {
+    Part {
+        from: None,
+        to: None,
+        channels: None,
+        changed: false,
+        ..part
+    }
+}
+
+/// A record or a part of it, and when its rows were taken, in nanoseconds since its trigger.
+#[derive(Drop)]
+struct Taken {
+    file: File,
+    times: Vec<Option<i64>>,
+}
+
+/// The part of a file that is asked for; none where it has none, which is put to `said`.
+fn taken_of(
+    alloc: Global,
+    file: File,
+    part: Part<'_>,
+    said: &mut Vec<u8>,
+) -> Result<Option<Taken>, ToolFault> {
+    let times = times_since_trigger(alloc, &file)?;
+    if is_whole(part) {
+        return Ok(Some(Taken { file, times }));
+    }
+    match part_of(alloc, &file, part) {
+        Ok(cut) => {
+            let Cut { file, from, to } = cut;
+            let kept = match times.get(from..to) {
+                Some(kept) => kept,
+                None => &[],
+            };
+            let times = Vec::from_slice(alloc, kept)?;
+            Ok(Some(Taken { file, times }))
+        }
+        Err(fault) => {
+            put_part_fault(said, fault)?;
+            Ok(None)
+        }
+    }
+}
+
+/// The file of a record; none where it can't be read, which is said.
+fn file_of<R: Files + Input + Eprint + AllocGlobal + Clone + Drop>(
+    rt: &R,
+    is_watched: bool,
+    name: &str,
+    is_strict: bool,
+) -> Result<Option<File>, ToolFault> {
+    let names = Names {
+        file: name,
+        dat: None,
+    };
+    let Some(inputs) = read_pair(rt, names, is_strict) else {
+        return Ok(None);
+    };
+    say_repairs(rt, name, &inputs.said)?;
+    note_size(rt, is_watched, &inputs);
+    let mut said = Vec::new(rt.alloc());
+    let file = file_in(rt.alloc(), pair_of(&inputs), is_strict, &mut said)?;
+    match file {
+        Some(file) => {
+            say_repairs(rt, name, &said)?;
+            Ok(Some(file))
+        }
+        None => {
+            say(rt, &said);
+            Ok(None)
+        }
+    }
+}
+
+/// The record of a name; none where it can't be read or has no such part, which is said.
+fn record_of<R: Files + Input + Eprint + AllocGlobal + Clone + Drop>(
+    rt: &R,
+    is_watched: bool,
+    name: &str,
+    part: Part<'_>,
+) -> Result<Option<Taken>, ToolFault> {
+    let Some(file) = file_of(rt, is_watched, name, part.strict)? else {
+        return Ok(None);
+    };
+    let mut said = Vec::new(rt.alloc());
+    let taken = taken_of(rt.alloc(), file, part, &mut said)?;
+    say(rt, &said);
+    Ok(taken)
+}
+
+/// Prints the picture of two records; false where they can't be compared, which is put to `said`.
+fn put_compared<W: Write>(
+    alloc: Global,
+    one: &Taken,
+    other: &Taken,
+    options: CompareOptions,
+    w: &mut W,
+    said: &mut Vec<u8>,
+) -> Result<bool, ToolFault> {
+    let first = Timed {
+        file: &one.file,
+        times: &one.times,
+    };
+    let second = Timed {
+        file: &other.file,
+        times: &other.times,
+    };
+    match compare_over(alloc, first, second, options, w)? {
+        None => Ok(true),
+        Some(refusal) => {
+            put(said, "comtrade: ")?;
+            put(said, refusal.text())?;
+            put(said, "\n")?;
+            Ok(false)
+        }
+    }
+}
+
+/// Reads two records and draws them; false where that is refused, which is said.
+fn compare<R: Files + Input + Print + Eprint + AllocGlobal + Clone + Drop>(
+    rt: &R,
+    is_watched: bool,
+    asked: Compared<'_>,
+    by: By,
+    picture: PlotOptions,
+) -> Result<bool, ToolFault> {
+    let Some(one) = record_of(rt, is_watched, asked.one, asked.part)? else {
+        return Ok(false);
+    };
+    let Some(other) = record_of(rt, is_watched, asked.other, part_beside(asked.part))? else {
+        return Ok(false);
+    };
+    let options = CompareOptions {
+        by,
+        picture,
+        is_chosen: asked.part.channels.is_some(),
+    };
+    let mut said = Vec::new(rt.alloc());
+    let is_drawn = put_compared(
+        rt.alloc(),
+        &one,
+        &other,
+        options,
+        &mut io::writer(rt),
+        &mut said,
+    )?;
+    say(rt, &said);
+    Ok(is_drawn)
+}
+
+/// Reads two records, and prints the picture of both.
+pub(crate) fn run_compare<R: Files + Input + Print + Eprint + AllocGlobal + Clone + Drop>(
+    rt: &R,
+    is_watched: bool,
+    asked: Compared<'_>,
+) -> u8 {
+    let Some(by) = by_of(asked.by) else {
+        let _ = eprintln!(rt;
+            "error: what falls together is instant or trigger: --by instant, --by trigger"
+        );
+        return 2;
+    };
+    let Some(picture) = options_of(asked.picture) else {
+        say(rt, NO_SIZE.as_bytes());
+        return 1;
+    };
+    match compare(rt, is_watched, asked, by, picture) {
+        Ok(true) => 0,
+        Ok(false) => 1,
+        Err(fault) => complain(rt, "standard output", fault),
+    }
+}

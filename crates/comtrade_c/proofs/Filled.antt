@@ -1,0 +1,66 @@
+-- A table that is filled row by row.
+use Rattle.std.proofs.Common.{◌≡◌, ◌≢◌, ℕ, ◌+◌, ◌-◌, ◌<◌, ◌≤◌, List, [], ◌∷◌, ◌++◌, length, get_or, take, drop, sym, ap, ◌∙◌, arith, length-append}
+use Rattle.std.specs.List.{flat_map}
+use Rattle.std.proofs.lemmas.Grind.{common_steps}
+use Rattle.std.proofs.lemmas.List.{take_more, flat_map_more, take-append-drop}
+use Rattle.std.proofs.lemmas.Slice.{take-put_mid, drop-put_mid, drop-append-drop}
+use borrow.Rule.Slice.PartMut.{put_mid}
+use Rattle.std.proofs.lemmas.List.Folds.{length-flat_map-take}
+
+-- what is left of the room is too short for a row's items
+pub too_short :
+    {A B : Type 0} (f : A → List B) (xs : List A) (i : ℕ) (x : A) (left room count : ℕ) → i < length xs → x ≡ get_or xs i x
+    → left + length (flat_map f (take i xs)) ≡ room → count ≡ length (f x) → left < count → room ≢ length (flat_map f xs)
+too_short f xs i x left room count below is kept counted less = λ e.
+    omega (arith, length-flat_map-take f xs i x below, ap (λ y. length (f y)) is, kept, counted, less, e)
+
+-- a row's items behind those of the rows before it
+pub row_more :
+    {A B : Type 0} (f : A → List B) (xs : List A) (i : ℕ) (x : A) → i < length xs → x ≡ get_or xs i x
+    → flat_map f (take (i + 1) xs) ≡ flat_map f (take i xs) ++ f x
+row_more f xs i x below is =
+    ap (λ ys. flat_map f ys) (take_more xs i x below ∙ ap (λ y. take i xs ++ y ∷ []) (sym is)) ∙ sym (flat_map_more f [] (take i xs) x)
+
+-- a row's items are taken off the room
+pub one_off :
+    {A B : Type 0} (f : A → List B) (xs : List A) (i : ℕ) (x : A) (left room count : ℕ) → i < length xs → x ≡ get_or xs i x
+    → left + length (flat_map f (take i xs)) ≡ room → count ≡ length (f x) → count ≤ left
+    → (left - count) + length (flat_map f (take (i + 1) xs)) ≡ room
+one_off f xs i x left room count below is kept counted enough =
+    omega (arith, ap length (row_more f xs i x below is), length-append (flat_map f (take i xs)) (f x), kept, counted, enough)
+
+-- a row's items end within the table
+pub in_table :
+    {A B : Type 0} (f : A → List B) (xs : List A) (i : ℕ) (x : A) (at count : ℕ) → i < length xs → x ≡ get_or xs i x
+    → at ≡ length (flat_map f (take i xs)) → count ≡ length (f x) → at + count ≤ length (flat_map f xs)
+in_table f xs i x at count below is begun counted = omega (arith, length-flat_map-take f xs i x below, ap (λ y. length (f y)) is, begun, counted)
+
+pub end_more :
+    {A B : Type 0} (f : A → List B) (xs : List A) (i : ℕ) (x : A) (at count : ℕ) → i < length xs → x ≡ get_or xs i x
+    → at ≡ length (flat_map f (take i xs)) → count ≡ length (f x) → at + count ≡ length (flat_map f (take (i + 1) xs))
+end_more f xs i x at count below is begun counted =
+    omega (arith, ap length (row_more f xs i x below is), length-append (flat_map f (take i xs)) (f x), begun, counted)
+
+front_of : {B : Type 0} (front rest : List B) (n : ℕ) → n ≡ length front → take n (front ++ rest) ≡ front
+front_of front rest n is = grind (arith, common_steps)
+
+back_of : {B : Type 0} (front ws : List B) (n count : ℕ) → n ≡ length front → drop (n + count) (front ++ drop n ws) ≡ drop (n + count) ws
+back_of front ws n count is = drop-append-drop n ws front (n + count) (omega arith) (sym is)
+
+-- a row's items laid over the table, after those of the rows before it
+pub row_laid :
+    {A B : Type 0} (f : A → List B) (xs : List A) (i : ℕ) (x : A) (vs ws ys : List B) (at count : ℕ) → i < length xs → x ≡ get_or xs i x
+    → at ≡ length (flat_map f (take i xs)) → count ≡ length (f x) → at ≤ length vs → vs ≡ flat_map f (take i xs) ++ drop at ws → ys ≡ f x
+    → put_mid at (at + count - at) vs ys ≡ flat_map f (take (i + 1) xs) ++ drop (at + count) ws
+row_laid f xs i x vs ws ys at count below is begun counted within laid written =
+    let front = flat_map f (take i xs) in
+    let long : length ys ≡ count = ap length written ∙ sym counted in
+    let all = put_mid at (at + count - at) vs ys in
+    let first : take (at + count) all ≡ flat_map f (take (i + 1) xs) =
+    take-put_mid at (at + count - at) vs ys (at + count) (omega (arith, long)) within
+    ∙ ap (λ l. l ++ ys) (ap (λ l. take at l) laid ∙ front_of front (drop at ws) at begun)
+    ∙ ap (λ l. front ++ l) written ∙ sym (row_more f xs i x below is) in
+    let last : drop (at + count) all ≡ drop (at + count) ws =
+    drop-put_mid at (at + count - at) vs ys (at + count) (omega arith) within (omega (arith, long))
+    ∙ ap (λ l. drop (at + count) l) laid ∙ back_of front ws at count begun in
+    sym (take-append-drop (at + count) all) ∙ ap (λ l. l ++ drop (at + count) all) first ∙ ap (λ l. flat_map f (take (i + 1) xs) ++ l) last

@@ -1,0 +1,22 @@
+use Rattle.std.proofs.Common.{◌≡◌, ◌∙◌, ap, arith, w64, rules}
+use Rattle.std.proofs.lemmas.Int.{to_z-of_z}
+use Rattle.comtrade_values.specs.Times.{time_of}
+use Rattle.comtrade_c.specs.Times.{time_in}
+use Rattle.comtrade_c.proofs.Timed.{timed_more, all_timed}
+use Rattle.comtrade_c.proofs.times.put_times.Goals as goal
+
+pub loop-k-preserved : goal.loop-k-preserved
+loop-k-preserved g c =
+    let k = c.loop-k.k in
+    let taken = time_of c.args.head.now in
+    let stamp = c.stamp_of.result in
+    let is : c.nanos.result ≡ taken k stamp =
+    c.nanos.ensures ∙ c.at-clock.ensures k stamp (omega arith) ∙ c.loop-k.invariant.same k stamp (omega arith) in
+    record {
+      laid = timed_more taken c.args.stamps.now c.loop-k.times c.args.times.now k _ (search rules) (search rules) c.loop-k.invariant.laid
+          (to_z-of_z w64 c.time_in.result (search rules) ∙ c.time_in.ensures ∙ ap time_in (is ∙ ap (taken k) c.stamp_of.ensures));
+      same = λ later stamp below. c.at-clock.ensures later stamp (omega arith) ∙ c.loop-k.invariant.same later stamp (omega arith);
+    }
+
+pub returns : goal.returns
+returns g c = all_timed (time_of c.args.head.now) c.args.stamps.now c.loop-k.times c.args.times.now c.loop-k.k (omega arith) (search rules) c.loop-k.invariant.laid

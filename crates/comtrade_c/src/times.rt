@@ -1,0 +1,66 @@
+//! When the rows of a pair were taken.
+
+ghost use Rattle.std.specs.Prelude.{◌≡◌, ◌≢◌, ◌⊎◌, length};
+ghost use Rattle.comtrade_c.specs.declared.answer.TheConstants.{NO_MEMORY};
+ghost use Rattle.comtrade_c.specs.Faults.{IsHeadFault, OfHead};
+ghost use Rattle.comtrade_c.specs.Times as spec;
+
+use crate::answer::{CFG_FAULT, DONE, Fault, NO_ROOM, refuse_head};
+use crate::write::stamp_of;
+use comtrade_format::Head;
+use comtrade_read::read_cfg;
+use comtrade_values::clock_of;
+use std::alloc::{Allocator, Global};
+
+/// What stands for a time that isn't there, or has more than 63 bits.
+const NO_TIME: i64 = i64::MIN;
+
+fn time_in(nanos: Option<u128>) -> i64
+    ensures { result ≡ spec.time_in nanos }
+{
+    match nanos {
+        Some(n) if n < 9_223_372_036_854_775_808 => n as i64,
+        _ => NO_TIME,
+    }
+}
+
+/// When each row was taken, from the first one on.
+fn put_times<A: Allocator>(head: &Head<A>, stamps: &[u64], times: &mut [i64])
+    requires { length times.old ≡ length stamps.now }
+    ensures { times.new ≡ spec.times_in head.now stamps.now }
+{
+    let mut clock = clock_of(head);
+    for (k, stamp) in stamps.iter().enumerate() {
+        clock = clock.at(k as u64);
+        times[k] = time_in(clock.nanos(k as u64, stamp_of(*stamp)));
+    }
+}
+
+/// When the rows with these stamps were taken, from the first row on, in nanoseconds since it.
+#[unsafe(no_mangle)]
+pub extern "C" fn comtrade_core_times(
+    alloc: Global,
+    cfg: &[u8],
+    stamps: &[u64],
+    times: &mut [i64],
+    fault: &mut Fault,
+) -> i32
+    ensures answer { (result ≡ DONE) ⊎ (result ≡ CFG_FAULT) ⊎ (result ≡ NO_ROOM)
+        ⊎ (result ≡ NO_MEMORY) }
+    ensures done { result ≡ DONE → OfHead cfg.now (λ h.
+        times.new ≡ spec.times_in h stamps.now) }
+    ensures room { result ≡ NO_ROOM → length times.old ≢ length stamps.now }
+    ensures cfg_fault { result ≡ CFG_FAULT → IsHeadFault cfg.now fault.new }
+    ensures times_kept { (result ≢ DONE) → times.new ≡ times.old }
+    ensures fault_kept { (result ≢ CFG_FAULT) → fault.new ≡ fault.old }
+{
+    if times.len() != stamps.len() {
+        return NO_ROOM;
+    }
+    let head = match read_cfg(alloc, cfg) {
+        Ok(head) => head,
+        Err(why) => return refuse_head(why, fault),
+    };
+    put_times(&head, stamps, times);
+    DONE
+}

@@ -1,0 +1,70 @@
+//! How far the values of one channel are from those of another.
+
+ghost use Rattle.std.specs.Prelude.{◌≡◌, ◌<◌, ◌+◌, ◌⊎◌, ◌^◌};
+
+use std::num::{nearest_i64_to_f64, nearest_u64_to_f64};
+
+/// The differences of two channels: how many were taken, the one that is farthest from 0, when that was, and the sum of their squares.
+#[derive(Clone, Copy, Debug)]
+pub struct Differences {
+    pub count: u64,
+    pub greatest: f64,
+    pub time: i64,
+    squares: f64,
+}
+
+impl Differences {
+    /// None.
+    pub fn none() -> Differences
+        ensures { result.count ≡ 0 }
+    {
+        Differences {
+            count: 0,
+            greatest: 0.0,
+            time: 0,
+            squares: 0.0,
+        }
+    }
+
+    /// With the difference at a time more; of equal ones the first stays the greatest.
+    pub fn with(self, time: i64, difference: f64) -> Differences
+        ensures count { self.count + 1 < 2 ^ 64 → result.count ≡ self.count + 1 }
+        ensures first { self.count ≡ 0 → (result.greatest ≡ difference) × (result.time ≡ time) }
+        ensures one { ((result.greatest ≡ self.greatest) × (result.time ≡ self.time))
+            ⊎ ((result.greatest ≡ difference) × (result.time ≡ time)) }
+    {
+        let is_greatest = self.count == 0 || self.greatest.abs() < difference.abs();
+        Differences {
+            count: self.count.saturating_add(1),
+            greatest: if is_greatest {
+                difference
+            } else {
+                self.greatest
+            },
+            time: if is_greatest { time } else { self.time },
+            squares: self.squares + difference * difference,
+        }
+    }
+
+    /// The root of the mean of the squares, where there is one at least.
+    pub fn rms(self) -> Option<f64> {
+        if self.count == 0 {
+            return None;
+        }
+        Some((self.squares / nearest_u64_to_f64(self.count)).sqrt())
+    }
+}
+
+/// A value at a time.
+#[derive(Clone, Copy, Debug)]
+pub struct Point {
+    pub time: i64,
+    pub value: f64,
+}
+
+/// The value at a time on the straight line through two points.
+pub fn between(from: Point, to: Point, time: i64) -> f64 {
+    let span = nearest_i64_to_f64(to.time.saturating_sub(from.time));
+    let part = nearest_i64_to_f64(time.saturating_sub(from.time));
+    from.value + (to.value - from.value) * (part / span)
+}

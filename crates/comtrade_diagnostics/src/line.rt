@@ -1,0 +1,19 @@
+//! A line that is put whole or not at all.
+
+ghost use Rattle.std.specs.Prelude.{◌≡◌, OnErr, OnOk};
+ghost use Rattle.comtrade_diagnostics.specs.Puts.{PutsLine};
+
+use comtrade_cli::put;
+use std::alloc::{AllocError, Allocator};
+
+/// Appends the line, to which it adds its end; nothing where an allocation fails.
+pub(crate) fn put_line<A: Allocator>(
+    out: &mut Vec<u8, A>,
+    line: &mut Vec<u8, A>,
+) -> Result<(), AllocError>
+    ensures line { OnOk result (PutsLine out.old.items out.new.items) }
+    ensures kept { OnErr result (out.new.items ≡ out.old.items) }
+{
+    put(line, "\n")?;
+    out.extend_from_slice(line)
+}

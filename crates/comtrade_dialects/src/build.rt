@@ -1,0 +1,263 @@
+//! A file of 1999 from what was read.
+
+use crate::data::plan_of;
+use crate::draft::{Channels, Draft, Range};
+use crate::fault::ImportFault;
+use crate::kinds::Form;
+use crate::note::{Notes, Place};
+use crate::row::{Cells, Counts, Plan, Rows};
+use crate::scaled::{Made, settle_channels, tell_errors};
+use crate::span::Bounds;
+use crate::stamps::{Times, Track, times_of};
+use crate::survey::{Ground, Survey, next_cells, survey_of};
+use comtrade_format::{File, Head, Kind, Rate, Row};
+use dfr_channels::{Decimal, Items, Reading};
+use std::alloc::Allocator;
+
+/// The reading that a sample becomes.
+fn reading_of(made: &mut Made, num: crate::num::Num) -> Reading {
+    let (n, off) = made.fit.whole_of(num);
+    made.worst = made.worst.max(off);
+    match i32::try_from(n) {
+        Ok(n) => Reading::Value(n),
+        Err(_) => Reading::Missing,
+    }
+}
+
+fn row_of<A: Allocator + Copy>(
+    alloc: A,
+    cells: &Cells<A>,
+    made: &mut Vec<Made, A>,
+    place: (u64, Option<u64>),
+) -> Result<Row<A>, ImportFault> {
+    let mut values = Vec::with_capacity(alloc, cells.values.len())?;
+    for (value, made) in cells.values.iter().zip(made.iter_mut()) {
+        values.push(match *value {
+            None => Reading::Missing,
+            Some(num) => reading_of(made, num),
+        })?;
+    }
+    let bits = Vec::from_slice(alloc, &cells.bits)?;
+    Ok(Row {
+        number: place.0,
+        stamp: place.1,
+        values: Items::of(values),
+        bits: Items::of(bits),
+    })
+}
+
+/// The rows as they are written.
+fn rows_of<A: Allocator + Copy>(
+    alloc: A,
+    ground: Ground<'_>,
+    made: &mut Vec<Made, A>,
+    stamps: &[Option<u64>],
+) -> Result<Vec<Row<A>, A>, ImportFault> {
+    let mut list = Vec::with_capacity(alloc, stamps.len())?;
+    let mut rows = Rows::of(ground.plan);
+    let mut cells = Cells::new(alloc);
+    let mut number = 0u64;
+    for stamp in stamps {
+        let _ = next_cells(ground, &mut rows, &mut cells)?;
+        number = number.saturating_add(1);
+        list.push(row_of(alloc, &cells, made, (number, *stamp))?)?;
+    }
+    Ok(list)
+}
+
+/// What is written of a file beside its head's names and numbers.
+#[derive(Drop)]
+struct Body<A: Allocator> {
+    rows: Vec<Row<A>, A>,
+    rates: Vec<Rate, A>,
+    timemult: Decimal,
+}
+
+fn times_in<A: Allocator + Copy>(
+    alloc: A,
+    notes: &mut Notes<A>,
+    draft: &Draft<A>,
+    survey: &Survey<A>,
+    is_text: bool,
+) -> Result<Times<A>, ImportFault> {
+    let track = Track {
+        ticks: &survey.ticks,
+        timemult: draft.timemult,
+        most: if is_text {
+            9_999_999_999
+        } else {
+            4_294_967_294
+        },
+        is_pointed: survey.has_stamp_point,
+        place: Place::Whole("data file"),
+    };
+    times_of(alloc, notes, draft, &track, survey.is_cut)
+}
+
+/// The rows, with the channels settled.
+fn body_of<A: Allocator + Copy>(
+    alloc: A,
+    notes: &mut Notes<A>,
+    draft: &mut Draft<A>,
+    ground: Ground<'_>,
+) -> Result<Body<A>, ImportFault> {
+    let survey = survey_of(alloc, notes, ground)?;
+    let times = times_in(alloc, notes, draft, &survey, ground.is_text())?;
+    let form = draft.form;
+    let Channels {
+        analog,
+        said,
+        status: _,
+    } = &mut draft.channels;
+    let mut made = settle_channels(alloc, notes, analog, said, &survey, (ground, form))?;
+    let rows = rows_of(alloc, ground, &mut made, &times.stamps)?;
+    tell_errors(notes, analog, &made)?;
+    let Times {
+        stamps: _,
+        timemult,
+        rates,
+    } = times;
+    Ok(Body {
+        rows,
+        rates,
+        timemult,
+    })
+}
+
+/// The one rate line of a file without rates (5.3.6).
+fn put_no_rate<A: Allocator>(rates: &mut Vec<Rate, A>, rows: u64) -> Result<(), ImportFault> {
+    if let Some(samp) = Decimal::new(0, 0) {
+        rates.push(Rate {
+            samp,
+            endsamp: rows,
+        })?;
+    }
+    Ok(())
+}
+
+/// The file of a draft and its rows.
+fn joined<A: Allocator>(draft: Draft<A>, body: Body<A>, nrates: u32, kind: Kind) -> File<A> {
+    let Draft {
+        names,
+        channels,
+        line_freq,
+        rates: _,
+        first,
+        trigger,
+        form: _,
+        timemult: _,
+        revision: _,
+        has_nanos: _,
+    } = draft;
+    let head = Head {
+        station: names.station,
+        device: names.device,
+        analog: Items::of(channels.analog),
+        status: Items::of(channels.status),
+        line_freq,
+        nrates,
+        rates: Items::of(body.rates),
+        first,
+        trigger,
+        kind,
+        timemult: body.timemult,
+    };
+    File {
+        head,
+        rows: Items::of(body.rows),
+    }
+}
+
+fn bounds_of(is_text: bool) -> Bounds {
+    if is_text {
+        Bounds {
+            low: -99_999,
+            high: 99_998,
+        }
+    } else {
+        Bounds {
+            low: -32_767,
+            high: 32_767,
+        }
+    }
+}
+
+/// Which channels have samples without a sign, and the least sample that each says.
+#[derive(Drop)]
+struct Ranges<A: Allocator> {
+    unsigned: Vec<bool, A>,
+    lows: Vec<i64, A>,
+}
+
+fn ranges_of<A: Allocator + Copy>(
+    alloc: A,
+    draft: &Draft<A>,
+    is_short: bool,
+) -> Result<Ranges<A>, ImportFault> {
+    let mut ranges = Ranges {
+        unsigned: Vec::new(alloc),
+        lows: Vec::new(alloc),
+    };
+    for (channel, said) in draft.channels.analog.iter().zip(draft.channels.said.iter()) {
+        let low = match said.range {
+            Range::Said => i64::from(channel.min),
+            Range::Unsigned => -99_999,
+            Range::Empty | Range::Other => i64::MIN,
+        };
+        ranges
+            .unsigned
+            .push(is_short && said.range == Range::Unsigned)?;
+        ranges.lows.push(low)?;
+    }
+    Ok(ranges)
+}
+
+fn is_short(plan: Plan<'_>) -> bool {
+    match plan {
+        Plan::Packed(packed) => packed.form == Form::Binary,
+        Plan::Text(_, _) => false,
+    }
+}
+
+/// The rows of data in this form, with the channels settled.
+fn body_in<A: Allocator + Copy>(
+    alloc: A,
+    notes: &mut Notes<A>,
+    draft: &mut Draft<A>,
+    plan: Plan<'_>,
+) -> Result<Body<A>, ImportFault> {
+    let ranges = ranges_of(alloc, draft, is_short(plan))?;
+    let ground = Ground {
+        plan,
+        counts: Counts {
+            k: draft.channels.analog.len(),
+            m: draft.channels.status.len(),
+        },
+        bounds: bounds_of(matches!(plan, Plan::Text(_, _))),
+        unsigned: &ranges.unsigned,
+        lows: &ranges.lows,
+    };
+    body_of(alloc, notes, draft, ground)
+}
+
+/// The file of 1999 that says the same as a configuration file and its data.
+pub(crate) fn file_of<A: Allocator + Copy>(
+    alloc: A,
+    notes: &mut Notes<A>,
+    mut draft: Draft<A>,
+    dat: &[u8],
+) -> Result<File<A>, ImportFault> {
+    let plan = plan_of(alloc, notes, &draft, dat)?;
+    let kind = if matches!(plan, Plan::Text(_, _)) {
+        Kind::Ascii
+    } else {
+        Kind::Binary
+    };
+    let mut body = body_in(alloc, notes, &mut draft, plan)?;
+    let nrates = u32::try_from(body.rates.len()).unwrap_or(u32::MAX);
+    if nrates == 0 {
+        let rows = body.rows.len() as u64;
+        put_no_rate(&mut body.rates, rows)?;
+    }
+    Ok(joined(draft, body, nrates, kind))
+}

@@ -1,0 +1,76 @@
+//! What comes before lines: UTF-16, and the mark of UTF-8.
+
+use std::alloc::{AllocError, Allocator};
+
+/// The order of the bytes of UTF-16, where a text is UTF-16.
+#[derive(Clone, Copy, PartialEq, Eq)]
+enum Wide {
+    Little,
+    Big,
+}
+
+/// Whether a text is UTF-16, by its mark or by zeros in each second of its first bytes.
+fn wide_of(text: &[u8]) -> Option<Wide> {
+    match text {
+        [0xff, 0xfe, ..] => Some(Wide::Little),
+        [0xfe, 0xff, ..] => Some(Wide::Big),
+        [a, 0, b, 0, ..] if *a != 0 && *b != 0 => Some(Wide::Little),
+        [0, a, 0, b, ..] if *a != 0 && *b != 0 => Some(Wide::Big),
+        _ => None,
+    }
+}
+
+pub(crate) fn is_wide(text: &[u8]) -> bool {
+    wide_of(text).is_some()
+}
+
+fn unit_of(wide: Wide, pair: &[u8]) -> u16 {
+    match (wide, pair) {
+        (Wide::Little, [low, high]) => u16::from_le_bytes([*low, *high]),
+        (Wide::Big, [high, low]) => u16::from_le_bytes([*low, *high]),
+        _ => 0x3f,
+    }
+}
+
+/// A code unit as the bytes of UTF-8; halves of a pair stand as question marks.
+fn put_unit<A: Allocator>(out: &mut Vec<u8, A>, unit: u16) -> Result<(), AllocError> {
+    let unit = u32::from(unit);
+    if unit < 0x80 {
+        out.push((unit & 0x7f) as u8)?;
+        return Ok(());
+    }
+    if unit < 0x800 {
+        out.push(0xc0 | (unit.wrapping_shr(6) & 0x1f) as u8)?;
+    } else if 0xd800 <= unit && unit <= 0xdfff {
+        out.push(b'?')?;
+        return Ok(());
+    } else {
+        out.push(0xe0 | (unit.wrapping_shr(12) & 0x0f) as u8)?;
+        out.push(0x80 | (unit.wrapping_shr(6) & 0x3f) as u8)?;
+    }
+    out.push(0x80 | (unit & 0x3f) as u8)?;
+    Ok(())
+}
+
+/// A text of UTF-16 as UTF-8, without its mark; None where it is no UTF-16.
+pub fn narrow<A: Allocator>(alloc: A, text: &[u8]) -> Result<Option<Vec<u8, A>>, AllocError> {
+    let Some(wide) = wide_of(text) else {
+        return Ok(None);
+    };
+    let mut out = Vec::new(alloc);
+    for pair in text.chunks(2) {
+        let unit = unit_of(wide, pair);
+        if unit != 0xfeff {
+            put_unit(&mut out, unit)?;
+        }
+    }
+    Ok(Some(out))
+}
+
+/// A text without the mark of UTF-8, where it has one.
+pub(crate) fn without_mark(text: &[u8]) -> Option<&[u8]> {
+    match text {
+        [0xef, 0xbb, 0xbf, rest @ ..] => Some(rest),
+        _ => None,
+    }
+}

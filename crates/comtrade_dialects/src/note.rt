@@ -1,0 +1,160 @@
+//! Notes: what was read otherwise than it stands, once a key, in the order in which the files are read.
+
+use crate::key::Key;
+use crate::text::{put, put_number, put_quoted};
+use std::alloc::{AllocError, Allocator, Global};
+
+/// Where something stands.
+#[derive(Clone, Copy)]
+pub enum Place {
+    /// A line of the configuration file.
+    Cfg(u64),
+    /// A row of the data.
+    Row(u64),
+    /// An analogue channel.
+    Channel(u64),
+    /// The configuration file, the data or the single file as a whole.
+    Whole(&'static str),
+}
+
+/// A kind of repair that was made: its key, how often, and where and what, as text.
+#[derive(Debug, Drop)]
+pub struct Note<A: Allocator = Global> {
+    key: Key,
+    count: u64,
+    details: Vec<u8, A>,
+}
+
+/// How many bytes of details are kept.
+const DETAILS: usize = 2_000;
+
+fn put_place<A: Allocator>(out: &mut Vec<u8, A>, place: Place) -> Result<(), AllocError> {
+    match place {
+        Place::Cfg(line) => {
+            put(out, "line ")?;
+            put_number(out, line)
+        }
+        Place::Row(row) => {
+            put(out, "row ")?;
+            put_number(out, row)
+        }
+        Place::Channel(n) => {
+            put(out, "channel ")?;
+            put_number(out, n)
+        }
+        Place::Whole(name) => put(out, name),
+    }
+}
+
+impl<A: Allocator> Note<A> {
+    /// The kind of repair.
+    pub fn key(&self) -> Key {
+        self.key
+    }
+
+    /// How many repairs of the kind were made.
+    pub fn count(&self) -> u64 {
+        self.count
+    }
+
+    /// Where they were made, and what stood there.
+    pub fn details(&self) -> &[u8] {
+        self.details.as_slice()
+    }
+
+    /// The place and the piece go to the details, where there is room.
+    fn add(&mut self, place: Place, piece: &[u8]) -> Result<(), AllocError> {
+        self.count = self.count.saturating_add(1);
+        if DETAILS < self.details.len() {
+            return Ok(());
+        }
+        if !self.details.is_empty() {
+            put(&mut self.details, "; ")?;
+        }
+        put_place(&mut self.details, place)?;
+        if piece.is_empty() {
+            return Ok(());
+        }
+        put(&mut self.details, ": ")?;
+        self.details.extend_from_slice(piece)
+    }
+}
+
+impl<A: Allocator> Note<A> {
+    /// The note as a line without its end: `KEY: words: places`.
+    pub fn put_line(&self, out: &mut Vec<u8, A>) -> Result<(), AllocError> {
+        put(out, self.key.name())?;
+        put(out, ": ")?;
+        put(out, self.key.words())?;
+        put(out, " (")?;
+        out.extend_from_slice(self.details.as_slice())?;
+        if DETAILS < self.details.len() {
+            put(out, "; ..; ")?;
+            put_number(out, self.count)?;
+            put(out, " in all")?;
+        }
+        put(out, ")")
+    }
+}
+
+/// The notes so far, each key at most once.
+#[derive(Drop)]
+pub struct Notes<A: Allocator> {
+    list: Vec<Note<A>, A>,
+}
+
+impl<A: Allocator + Copy> Notes<A> {
+    /// No notes.
+    pub fn new(alloc: A) -> Notes<A> {
+        Notes {
+            list: Vec::new(alloc),
+        }
+    }
+
+    pub(crate) fn allocator(&self) -> A {
+        *self.list.allocator()
+    }
+
+    /// The notes, in the order in which their keys came.
+    pub fn into_list(self) -> Vec<Note<A>, A> {
+        self.list
+    }
+
+    pub(crate) fn has(&self, key: Key) -> bool {
+        for note in self.list.iter() {
+            if note.key == key {
+                return true;
+            }
+        }
+        false
+    }
+
+    /// Tells a repair, with what stood there.
+    pub fn tell(&mut self, key: Key, place: Place, piece: &[u8]) -> Result<(), AllocError> {
+        for note in self.list.iter_mut() {
+            if note.key == key {
+                return note.add(place, piece);
+            }
+        }
+        let mut note = Note {
+            key,
+            count: 0,
+            details: Vec::new(*self.list.allocator()),
+        };
+        note.add(place, piece)?;
+        self.list.push(note)?;
+        Ok(())
+    }
+
+    /// Tells a repair of a text, which is quoted.
+    pub(crate) fn tell_text(
+        &mut self,
+        key: Key,
+        place: Place,
+        text: &[u8],
+    ) -> Result<(), AllocError> {
+        let mut piece = Vec::new(*self.list.allocator());
+        put_quoted(&mut piece, text)?;
+        self.tell(key, place, &piece)
+    }
+}

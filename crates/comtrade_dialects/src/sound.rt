@@ -1,0 +1,144 @@
+//! Whether a file that reads exactly is also meant as it reads.
+
+use crate::cursor::after;
+use crate::doubts::{Doubts, add_times, clock_of};
+use crate::text::has_only;
+use comtrade_format::{File, Head, Kind, Row};
+use dfr_channels::{AnalogChannel, Reading};
+use memchr::memchr;
+use std::alloc::{AllocError, Allocator};
+
+fn is_channel_sound<A: Allocator>(channel: &AnalogChannel<A>) -> bool {
+    channel.min <= channel.max
+        && !(0 <= channel.min && 32_767 < channel.max)
+        && channel.a.units() != 0
+        && channel.primary.units() != 0
+        && channel.secondary.units() != 0
+}
+
+fn is_head_sound<A: Allocator>(head: &Head<A>) -> bool {
+    for channel in head.analog.items() {
+        if !is_channel_sound(channel) {
+            return false;
+        }
+    }
+    for rate in head.rates.items() {
+        if head.nrates != 0 && rate.samp.units() < 1 {
+            return false;
+        }
+    }
+    head.first <= head.trigger
+}
+
+/// Whether all rows are numbered from 1 on and have stamps from 0 on, which aren't all the same where no rate says the times.
+fn are_rows_sound<A: Allocator>(rows: &[Row<A>], has_clock: bool) -> bool {
+    let mut number = 0u64;
+    let mut last = 0u64;
+    for row in rows {
+        number = number.saturating_add(1);
+        let Some(stamp) = row.stamp else {
+            return false;
+        };
+        if row.number != number || number == 1 && stamp != 0 {
+            return false;
+        }
+        last = last.max(stamp);
+    }
+    has_clock || 0 < last || number < 2
+}
+
+/// Whether numbers and stamps of all rows are meant as they stand.
+fn are_times_sound<A: Allocator + Copy>(alloc: A, file: &File<A>) -> Result<bool, AllocError> {
+    let clock = clock_of(alloc, file)?;
+    if file.head.nrates != 0 && clock.is_none() {
+        return Ok(false);
+    }
+    if !are_rows_sound(file.rows.items(), clock.is_some()) {
+        return Ok(false);
+    }
+    let mut doubts = Doubts::default();
+    add_times(&mut doubts, file, &clock);
+    Ok(doubts.off.is_none() && doubts.falling.is_none())
+}
+
+/// Whether an empty field stands in ASCII rows, or something after their end.
+fn has_odd_text(dat: &[u8]) -> bool {
+    let mut before = b'\n';
+    for (i, b) in dat.iter().enumerate() {
+        if *b == 0x1a {
+            return !has_only(after(dat, i), b" \t\r\n\x1a\0");
+        }
+        if *b == b',' && before == b','
+            || *b == b'\r' && before == b','
+            || *b == b'\n' && before == b','
+        {
+            return true;
+        }
+        if *b != b' ' && *b != b'\t' {
+            before = *b;
+        }
+    }
+    before == b','
+}
+
+/// Whether BINARY's mark of a missing value stands in a row among values that can't be so low.
+fn has_mark_in<A: Allocator>(row: &Row<A>, channels: &[AnalogChannel<A>]) -> bool {
+    for (value, channel) in row.values.items().iter().zip(channels.iter()) {
+        if let Reading::Value(x) = value {
+            if *x == -32_768 && -32_768 < channel.min {
+                return true;
+            }
+        }
+    }
+    false
+}
+
+fn has_foreign_mark<A: Allocator>(file: &File<A>) -> bool {
+    let channels = file.head.analog.items();
+    for row in file.rows.items() {
+        if has_mark_in(row, channels) {
+            return true;
+        }
+    }
+    false
+}
+
+/// Whether a bit is set that no channel has, in rows of this size.
+fn has_spare_bits(dat: &[u8], k: usize, m: usize) -> bool {
+    let left = m.wrapping_rem(16);
+    let size = 8usize
+        .saturating_add(k.saturating_mul(2))
+        .saturating_add(m.saturating_add(15).wrapping_div(16).saturating_mul(2));
+    if left == 0 || size < 8 {
+        return false;
+    }
+    let mask = 0xffffu16.wrapping_shl(u32::try_from(left).unwrap_or(0));
+    for row in dat.chunks_exact(size) {
+        if let [.., low, high] = row {
+            if u16::from_le_bytes([*low, *high]) & mask != 0 {
+                return true;
+            }
+        }
+    }
+    false
+}
+
+fn are_data_sound<A: Allocator>(file: &File<A>, dat: &[u8]) -> bool {
+    let head = &file.head;
+    match head.kind {
+        Kind::Ascii => !has_odd_text(dat) && !has_foreign_mark(file),
+        Kind::Binary => !has_spare_bits(dat, head.analog.items().len(), head.status.items().len()),
+    }
+}
+
+/// Whether a file that reads exactly is meant as it reads, and has nothing that is told.
+pub fn is_sound<A: Allocator + Copy>(
+    alloc: A,
+    file: &File<A>,
+    dat: &[u8],
+) -> Result<bool, AllocError> {
+    if !is_head_sound(&file.head) || !are_data_sound(file, dat) {
+        return Ok(false);
+    }
+    are_times_sound(alloc, file)
+}

@@ -1,0 +1,206 @@
+//! Looks over all rows before they are written: numbers, stamps and spans of samples.
+
+use crate::fault::{ImportFault, Why};
+use crate::key::Key;
+use crate::note::{Notes, Place};
+use crate::num::Num;
+use crate::numbers::Tick;
+use crate::row::{Cells, Counts, Plan, Rows, Step, Stop};
+use crate::span::{Bounds, Span};
+use std::alloc::Allocator;
+
+/// What a first look over the rows found.
+#[derive(Drop)]
+pub(crate) struct Survey<A: Allocator> {
+    pub ticks: Vec<Tick, A>,
+    pub spans: Vec<Span, A>,
+    pub has_stamp_point: bool,
+    pub has_points: bool,
+    pub is_cut: bool,
+}
+
+/// What the rows are read with.
+#[derive(Clone, Copy)]
+pub(crate) struct Ground<'a> {
+    pub plan: Plan<'a>,
+    pub counts: Counts,
+    pub bounds: Bounds,
+    pub unsigned: &'a [bool],
+    /// The least sample that each channel says; -32,768 is no sample where it says more. The least number where
+    /// it says none that 1999 can hold; else 999,999 is no sample.
+    pub lows: &'a [i64],
+}
+
+impl Ground<'_> {
+    /// Whether the rows are text.
+    pub(crate) fn is_text(&self) -> bool {
+        matches!(self.plan, Plan::Text(_, _))
+    }
+}
+
+fn fault_of(place: u64, stop: Stop) -> ImportFault {
+    match stop {
+        Stop::Memory => ImportFault::Memory,
+        Stop::Why(why) => ImportFault::Dat(place, why),
+    }
+}
+
+fn tell_row<A: Allocator + Copy>(
+    notes: &mut Notes<A>,
+    cells: &Cells<A>,
+    row: u64,
+) -> Result<(), ImportFault> {
+    let odd = cells.odd;
+    let place = Place::Row(row);
+    if odd.has_blank_before {
+        notes.tell(Key::BlankLines, place, b"data")?;
+    }
+    if odd.is_doubled && !notes.has(Key::LineEndsCrcr) {
+        notes.tell(Key::LineEndsCrcr, place, b"data")?;
+    }
+    if odd.has_trailing {
+        notes.tell(Key::TrailingCommas, place, b"data")?;
+    }
+    if odd.has_fortran {
+        notes.tell(Key::ExponentD, place, b"data")?;
+    }
+    if odd.has_commas {
+        notes.tell(Key::DecimalComma, place, b"data")?;
+    }
+    if odd.has_marks {
+        notes.tell(Key::MissingMarks, place, &[])?;
+    }
+    if odd.has_spare_bits {
+        notes.tell(Key::StatusSpareBits, place, &[])?;
+    }
+    Ok(())
+}
+
+/// BINARY's mark of a missing value in ASCII data, where the channel says that no sample is so low; or
+/// nines through all six characters of a value, where it says that none is so high.
+fn is_foreign_mark(ground: Ground<'_>, channel: usize, num: Num) -> bool {
+    let (Plan::Text(_, _), Some(low)) = (ground.plan, ground.lows.get(channel)) else {
+        return false;
+    };
+    match num.whole() {
+        Some(-32_768) => -32_768 < *low,
+        Some(999_999) => *low != i64::MIN,
+        _ => false,
+    }
+}
+
+/// The next row, with values that stand for missing ones as such.
+pub(crate) fn next_cells<A: Allocator + Copy>(
+    ground: Ground<'_>,
+    rows: &mut Rows<'_>,
+    cells: &mut Cells<A>,
+) -> Result<Step, ImportFault> {
+    let step = match rows.step(cells, ground.counts, ground.unsigned) {
+        Ok(step) => step,
+        Err((place, stop)) => return Err(fault_of(place, stop)),
+    };
+    let mut has_mark = false;
+    for (i, value) in cells.values.iter_mut().enumerate() {
+        if let Some(num) = *value {
+            if is_foreign_mark(ground, i, num) {
+                *value = None;
+                has_mark = true;
+            }
+        }
+    }
+    cells.odd.has_marks = cells.odd.has_marks || has_mark;
+    Ok(step)
+}
+
+fn add_row<A: Allocator + Copy>(
+    survey: &mut Survey<A>,
+    cells: &Cells<A>,
+    bounds: Bounds,
+) -> Result<(), ImportFault> {
+    survey.ticks.push(Tick {
+        number: cells.number,
+        stamp: cells.stamp,
+    })?;
+    survey.has_stamp_point = survey.has_stamp_point || cells.odd.has_stamp_point;
+    survey.has_points = survey.has_points || cells.odd.has_points;
+    for (span, value) in survey.spans.iter_mut().zip(cells.values.iter()) {
+        if let Some(num) = *value {
+            span.add(num, bounds);
+        }
+    }
+    Ok(())
+}
+
+/// A first look over all rows.
+pub(crate) fn survey_of<A: Allocator + Copy>(
+    alloc: A,
+    notes: &mut Notes<A>,
+    ground: Ground<'_>,
+) -> Result<Survey<A>, ImportFault> {
+    let mut survey = Survey {
+        ticks: Vec::new(alloc),
+        spans: Vec::new(alloc),
+        has_stamp_point: false,
+        has_points: false,
+        is_cut: notes.has(Key::RowCut),
+    };
+    for _ in 0..ground.counts.k {
+        survey.spans.push(Span::new())?;
+    }
+    let mut rows = Rows::of(ground.plan);
+    let mut cells = Cells::new(alloc);
+    for i in 0..u64::MAX {
+        match next_cells(ground, &mut rows, &mut cells)? {
+            Step::Row(_) => {
+                tell_row(notes, &cells, i.saturating_add(1))?;
+                add_row(&mut survey, &cells, ground.bounds)?;
+            }
+            Step::Cut(_) => {
+                notes.tell(Key::RowCut, Place::Row(i.saturating_add(1)), &[])?;
+                survey.is_cut = true;
+                break;
+            }
+            Step::End => break,
+        }
+    }
+    if survey.ticks.is_empty() {
+        return Err(ImportFault::Whole(Why::NoRow));
+    }
+    widen_all(ground, &mut survey, &mut cells)?;
+    Ok(survey)
+}
+
+fn all_fit(spans: &[Span]) -> bool {
+    for span in spans {
+        if !span.fits {
+            return false;
+        }
+    }
+    true
+}
+
+/// A second look, at the channels that don't fit as they are.
+fn widen_all<A: Allocator + Copy>(
+    ground: Ground<'_>,
+    survey: &mut Survey<A>,
+    cells: &mut Cells<A>,
+) -> Result<(), ImportFault> {
+    if all_fit(&survey.spans) {
+        return Ok(());
+    }
+    for span in survey.spans.iter_mut() {
+        span.settle();
+    }
+    let mut rows = Rows::of(ground.plan);
+    for _ in 0..survey.ticks.len() {
+        let _ = next_cells(ground, &mut rows, cells)?;
+        for (span, value) in survey.spans.iter_mut().zip(cells.values.iter()) {
+            if let Some(num) = *value {
+                if !span.fits {
+                    span.widen(num);
+                }
+            }
+        }
+    }
+    Ok(())
+}

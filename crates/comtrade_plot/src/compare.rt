@@ -1,0 +1,271 @@
+//! A picture of two records that are laid over each other.
+
+use crate::axis::{put_cycles, put_gap_names, put_times, put_times_name};
+use crate::compare_head::{Laid, put_compare_head, put_singles, singles_in};
+use crate::compare_panels::{pairs_end, put_pairs};
+use crate::contacts::{bars_of, contacts_height, put_contacts};
+use crate::differing::Beside;
+use crate::joint::{drawn_of, is_any, moments_of, own_panels, panels_beside, shifted};
+use crate::layers::Layer;
+use crate::layout::Chart;
+use crate::plot::PlotOptions;
+use crate::record::{Part, Record, USUAL_CYCLE, chart_of, part_in, record_of};
+use crate::sheet::Sheet;
+use comtrade_cli::ToolFault;
+use comtrade_compare::{partners_of, places_of};
+use comtrade_format::File;
+use comtrade_frame::LEFT;
+use std::alloc::Allocator;
+use std::io::Write;
+
+/// What falls together in two records: the instants of their rows, or their triggers.
+#[derive(Clone, Copy, Debug, PartialEq, Eq)]
+pub enum By {
+    Instant,
+    Trigger,
+}
+
+/// A record, and when its rows were taken, in nanoseconds since its trigger.
+#[derive(Clone, Copy)]
+pub struct Timed<'a, A: Allocator> {
+    pub file: &'a File<A>,
+    pub times: &'a [Option<i64>],
+}
+
+/// How two records are drawn; `is_chosen`: the first one's channels are those that were asked for, and the other's aren't told.
+#[derive(Clone, Copy, Debug)]
+pub struct CompareOptions {
+    pub by: By,
+    pub picture: PlotOptions,
+    pub is_chosen: bool,
+}
+
+/// Why two records can't be compared.
+#[derive(Clone, Copy, Debug, PartialEq, Eq)]
+pub enum Refusal {
+    UntriggeredOne,
+    UntriggeredOther,
+    TimelessOne,
+    TimelessOther,
+    Apart,
+    NoEqual,
+}
+
+impl Refusal {
+    pub fn text(self) -> &'static str {
+        match self {
+            Refusal::UntriggeredOne => "A has no trigger time",
+            Refusal::UntriggeredOther => "B has no trigger time",
+            Refusal::TimelessOne => "A doesn't say when its rows were taken",
+            Refusal::TimelessOther => "B doesn't say when its rows were taken",
+            Refusal::Apart => {
+                "A and B have no time in common; --by trigger lays them over each other by their triggers"
+            }
+            Refusal::NoEqual => {
+                "A and B have no equal channel: one of the same name, unit and side, and of the same phase and component where both say them"
+            }
+        }
+    }
+}
+
+/// The times of the contacts, the cycles and the singles below the panels.
+#[derive(Clone, Copy)]
+struct Places {
+    names: u32,
+    panels: u32,
+    contacts: u32,
+    others: u32,
+    times: u32,
+}
+
+fn places_in<A: Allocator>(beside: &Beside<'_, A>, bars: &[bool], other_bars: &[bool]) -> Places {
+    let names = 1380u32;
+    let panels = names.saturating_add(40);
+    let contacts = pairs_end(beside, panels).saturating_add(120);
+    let others = contacts.saturating_add(contacts_height(beside.one, bars));
+    let end = others.saturating_add(contacts_height(beside.other, other_bars));
+    Places {
+        names,
+        panels,
+        contacts,
+        others,
+        times: end.saturating_add(170),
+    }
+}
+
+/// Times above and below, cycles, and the lengths of gaps.
+fn put_scales<A: Allocator>(sheet: &mut Sheet<A>, beside: &Beside<'_, A>, places: Places) {
+    let one = beside.one;
+    put_gap_names(sheet, one, places.names.saturating_sub(150));
+    put_times(sheet, one, places.names);
+    put_times_name(sheet, one, places.names);
+    put_times(sheet, one, places.times);
+    put_times_name(sheet, one, places.times);
+    put_cycles(sheet, one, places.times.saturating_add(70));
+    sheet.label(
+        LEFT,
+        places.times.saturating_add(420),
+        " class=\"f\" font-size=\"10.5\" fill=\"#55595f\"",
+        "peak, A \u{2212} B: of what is drawn; rms: of the last cycle before A's trigger \u{2192} of the first cycle after it",
+    );
+}
+
+fn has_contacts<A: Allocator>(chart: &Chart<'_, A>) -> bool {
+    let file = chart.file;
+    !file.head.status.items().is_empty()
+}
+
+/// The picture of two records; no contact of the other is in it where none of the one was asked for.
+fn put_picture<A: Allocator + Copy>(
+    sheet: &mut Sheet<A>,
+    beside: &Beside<'_, A>,
+    laid: Laid,
+    options: CompareOptions,
+) -> Result<(), ToolFault> {
+    let bars = bars_of(beside.one, options.picture.shows_all)?;
+    let mut other_bars = bars_of(beside.other, options.picture.shows_all)?;
+    if options.is_chosen && !has_contacts(beside.one) {
+        other_bars.clear();
+    }
+    let places = places_in(beside, &bars, &other_bars);
+    let has_one = singles_in(beside.one) != 0;
+    let has_other = !options.is_chosen && singles_in(beside.other) != 0;
+    let first = places.times.saturating_add(590);
+    let second = first.saturating_add(160 * u32::from(has_one));
+    let end = second.saturating_add(160 * u32::from(has_other));
+    put_compare_head(sheet, beside, laid, options.picture, end);
+    put_pairs(sheet, beside, places.panels);
+    put_contacts(sheet, beside.one, &bars, places.contacts);
+    put_contacts(sheet, beside.other, &other_bars, places.others);
+    put_scales(sheet, beside, places);
+    if has_one {
+        put_singles(sheet, beside.one, beside.other, first);
+    }
+    if has_other {
+        put_singles(sheet, beside.other, beside.one, second);
+    }
+    Ok(())
+}
+
+/// Both records with their parts of one frame, laid over each other.
+fn put_over<'a, A: Allocator + Copy>(
+    alloc: A,
+    sheet: &mut Sheet<A>,
+    files: (&'a File<A>, &'a File<A>),
+    records: (&'a Record<A>, &'a Record<A>),
+    parts: (&'a Part<A>, &'a Part<A>),
+    laid: Laid,
+    options: CompareOptions,
+) -> Result<(), ToolFault> {
+    let one = chart_of(alloc, files.0, records.0, parts.0);
+    let other = chart_of(alloc, files.1, records.1, parts.1);
+    let moments = moments_of(alloc, records.1)?;
+    let places = places_of(alloc, &moments, &records.0.kept)?;
+    let beside = Beside {
+        one: &one,
+        other: &other,
+        times: &records.0.kept,
+        moments: &moments,
+        places: &places,
+        most: records.0.cycle.unwrap_or(USUAL_CYCLE) / 8,
+    };
+    put_picture(sheet, &beside, laid, options)
+}
+
+/// Why the triggers of two records can't be laid over each other: an instant that isn't known is the first of 1970.
+fn untriggered<A: Allocator>(one: &File<A>, other: &File<A>) -> Option<Refusal> {
+    if one.head.trigger == 0 {
+        return Some(Refusal::UntriggeredOne);
+    }
+    if other.head.trigger == 0 {
+        Some(Refusal::UntriggeredOther)
+    } else {
+        None
+    }
+}
+
+/// Why times of two records can't be.
+fn timeless<A: Allocator>(one: &Record<A>, other: &Record<A>) -> Option<Refusal> {
+    if !one.is_timed {
+        return Some(Refusal::TimelessOne);
+    }
+    if other.is_timed {
+        None
+    } else {
+        Some(Refusal::TimelessOther)
+    }
+}
+
+/// Prints a picture of two records; or why they can't be compared, and nothing is printed.
+pub fn compare_over<A: Allocator + Copy, W: Write>(
+    alloc: A,
+    one: Timed<'_, A>,
+    other: Timed<'_, A>,
+    options: CompareOptions,
+    w: &mut W,
+) -> Result<Option<Refusal>, ToolFault> {
+    if let Some(refusal) = untriggered(one.file, other.file) {
+        return Ok(Some(refusal));
+    }
+    let shift = match options.by {
+        By::Trigger => 0,
+        By::Instant => shift_of(one.file, other.file),
+    };
+    let mut first = record_of(alloc, one.file, one.times)?;
+    first.layer = Layer::One;
+    let times = shifted(alloc, other.times, shift)?;
+    let mut second = record_of(alloc, other.file, &times)?;
+    second.layer = Layer::Other;
+    second.trigger = shift;
+    match timeless(&first, &second) {
+        Some(refusal) => Ok(Some(refusal)),
+        None => draw(alloc, (one.file, other.file), (&first, &second), options, w),
+    }
+}
+
+/// By how much the other's trigger is after the one's, in nanoseconds.
+fn shift_of<A: Allocator>(one: &File<A>, other: &File<A>) -> i64 {
+    let micros = other.head.trigger.saturating_sub(one.head.trigger);
+    micros.saturating_mul(1000)
+}
+
+fn draw<A: Allocator + Copy, W: Write>(
+    alloc: A,
+    files: (&File<A>, &File<A>),
+    records: (&Record<A>, &Record<A>),
+    options: CompareOptions,
+    w: &mut W,
+) -> Result<Option<Refusal>, ToolFault> {
+    let (one, other) = files;
+    let others = other.head.analog.items();
+    let partners = partners_of(alloc, one.head.analog.items(), others)?;
+    if !is_any(&partners) {
+        return Ok(Some(Refusal::NoEqual));
+    }
+    let is_whole = options.picture.is_whole;
+    let Some(drawn) = drawn_of(one, records.0, records.1, is_whole) else {
+        return Ok(Some(Refusal::Apart));
+    };
+    let panels = own_panels(alloc, &partners)?;
+    let beside = panels_beside(alloc, &partners, others.len())?;
+    let first = part_in(alloc, one, records.0, drawn.frame, panels)?;
+    let second = part_in(alloc, other, records.1, drawn.frame, beside)?;
+    let mut sheet = Sheet::new(alloc);
+    let laid = Laid {
+        by: options.by,
+        is_part: drawn.is_part,
+        is_whole,
+    };
+    put_over(
+        alloc,
+        &mut sheet,
+        files,
+        records,
+        (&first, &second),
+        laid,
+        options,
+    )?;
+    sheet.text("</svg>\n");
+    sheet.write(w)?;
+    Ok(None)
+}

@@ -1,0 +1,188 @@
+//! The head of a picture of two records, and what is only in one of them.
+
+use crate::compare::By;
+use crate::differing::{Beside, is_exact};
+use crate::head::{STYLE, put_count, put_facts, put_station, put_tag};
+use crate::instant::{put_range, put_span};
+use crate::layers::Layer;
+use crate::layout::{Chart, NOWHERE, panel_count};
+use crate::legend::put_mark;
+use crate::phases::Hue;
+use crate::plot::PlotOptions;
+use crate::sheet::Sheet;
+use comtrade_frame::LEFT;
+use dfr_channels::AnalogChannel;
+use std::alloc::Allocator;
+
+const SMALL: &str = " class=\"f\" fill=\"#55595f\"";
+
+/// The most bytes of the names of channels in a line.
+const NAMED: usize = 60;
+
+/// How two records are laid over each other, and what is drawn: a part of what both have, that, or all of both.
+#[derive(Clone, Copy)]
+pub(crate) struct Laid {
+    pub(crate) by: By,
+    pub(crate) is_part: bool,
+    pub(crate) is_whole: bool,
+}
+
+/// The names of both stations.
+fn put_stations<A: Allocator>(sheet: &mut Sheet<A>, beside: &Beside<'_, A>) {
+    let (one, other) = (beside.one.file, beside.other.file);
+    sheet.text("A: ");
+    put_station(sheet, &one.head);
+    sheet.text("; B: ");
+    put_station(sheet, &other.head);
+}
+
+/// What the picture shows, for those who hear it.
+fn put_description<A: Allocator>(sheet: &mut Sheet<A>, beside: &Beside<'_, A>) {
+    sheet.text("<desc id=\"desc\">Two records, A and B, in one picture. ");
+    let pairs = panel_count(beside.one.panels);
+    put_count(
+        sheet,
+        pairs,
+        " channel that both have",
+        " channels that both have",
+    );
+    sheet.text(", from ");
+    put_range(sheet, beside.one.frame.from, beside.one.frame.to);
+    sheet.text(" since A's trigger.</desc>\n");
+}
+
+/// A record's letter with its trace's style, its names, and when its trigger was.
+fn put_record<A: Allocator>(sheet: &mut Sheet<A>, chart: &Chart<'_, A>, letter: &str, y: u32) {
+    let file = chart.file;
+    sheet.label(LEFT, y, " font-size=\"15\"", letter);
+    put_mark(sheet, chart.layer, Hue::First, LEFT + 160, y);
+    sheet.begin_text(LEFT + 420, y, " font-size=\"15\"");
+    put_station(sheet, &file.head);
+    sheet.end_text();
+    put_facts(sheet, file, y.saturating_add(160));
+}
+
+/// What falls together in both records.
+fn put_alignment<A: Allocator>(sheet: &mut Sheet<A>, beside: &Beside<'_, A>, by: By, y: u32) {
+    sheet.begin_text(LEFT, y, SMALL);
+    let shift = beside.other.trigger;
+    match by {
+        By::Trigger => sheet.text("laid over each other by their triggers"),
+        By::Instant => {
+            sheet.text("laid over each other by their instants: the trigger of B is ");
+            if shift == 0 {
+                sheet.text("at the same instant");
+            } else {
+                put_span(sheet, shift.saturating_abs());
+                sheet.text(if shift < 0 {
+                    " before that of A"
+                } else {
+                    " after that of A"
+                });
+            }
+        }
+    }
+    sheet.end_text();
+}
+
+/// How differences are taken, and what is drawn.
+fn put_method<A: Allocator>(sheet: &mut Sheet<A>, beside: &Beside<'_, A>, laid: Laid, y: u32) {
+    sheet.begin_text(LEFT, y, SMALL);
+    sheet.text(if is_exact(beside) {
+        "A \u{2212} B at A's rows, each at the instant of a row of B"
+    } else {
+        "A \u{2212} B at A's rows, B on straight lines between its rows"
+    });
+    if laid.is_part {
+        sheet.text("; drawn around A's trigger, --whole draws all of both");
+    } else if !laid.is_whole {
+        sheet.text("; drawn: what both have");
+    }
+    sheet.end_text();
+}
+
+/// The head of a picture of two records, of so many pixels.
+pub(crate) fn put_compare_head<A: Allocator>(
+    sheet: &mut Sheet<A>,
+    beside: &Beside<'_, A>,
+    laid: Laid,
+    options: PlotOptions,
+    height: u32,
+) {
+    put_tag(sheet, options, height);
+    sheet.text("<title id=\"title\">");
+    put_stations(sheet, beside);
+    sheet.text("</title>\n");
+    put_description(sheet, beside);
+    sheet.text(STYLE);
+    sheet.text("<rect class=\"p\" width=\"100%\" height=\"100%\" fill=\"#ffffff\"/>\n");
+    put_record(sheet, beside.one, "A", 230);
+    put_record(sheet, beside.other, "B", 620);
+    put_alignment(sheet, beside, laid.by, 960);
+    put_method(sheet, beside, laid, 1100);
+}
+
+/// Whether a channel of these is called so.
+fn is_named<A: Allocator>(channels: &[AnalogChannel<A>], id: &[u8]) -> bool {
+    for channel in channels {
+        if channel.id.items() == id {
+            return true;
+        }
+    }
+    false
+}
+
+/// A channel that is only in one record, with the reason where the other has its name.
+fn put_single<A: Allocator>(
+    sheet: &mut Sheet<A>,
+    channel: &AnalogChannel<A>,
+    others: &[AnalogChannel<A>],
+) {
+    sheet.name(channel.id.items());
+    if is_named(others, channel.id.items()) {
+        sheet.text(" (another unit, side, phase or component)");
+    }
+}
+
+/// How many channels aren't drawn.
+pub(crate) fn singles_in<A: Allocator>(chart: &Chart<'_, A>) -> usize {
+    let mut count = 0usize;
+    for panel in chart.panels {
+        if *panel == NOWHERE {
+            count = count.saturating_add(1);
+        }
+    }
+    count
+}
+
+/// The channels that are only in the one of two records, at a height, as far as there is room.
+pub(crate) fn put_singles<A: Allocator + Copy>(
+    sheet: &mut Sheet<A>,
+    one: &Chart<'_, A>,
+    other: &Chart<'_, A>,
+    y: u32,
+) {
+    let (file, others) = (one.file, other.file);
+    let mut names = Sheet::new(one.alloc);
+    let mut left = singles_in(one);
+    for (channel, panel) in file.head.analog.items().iter().zip(one.panels.iter()) {
+        if *panel == NOWHERE && names.len() < NAMED {
+            names.text(if names.len() == 0 { "" } else { ", " });
+            put_single(&mut names, channel, others.head.analog.items());
+            left = left.saturating_sub(1);
+        }
+    }
+    sheet.begin_text(LEFT, y, SMALL);
+    sheet.text(if one.layer == Layer::Other {
+        "only in B: "
+    } else {
+        "only in A: "
+    });
+    sheet.append(&names);
+    if left != 0 {
+        sheet.text(", and ");
+        sheet.number(left as u64);
+        sheet.text(" more");
+    }
+    sheet.end_text();
+}

@@ -1,0 +1,121 @@
+//! The panels of two records: each has a channel of the one, and over it its partner of the other.
+
+use crate::differing::{Beside, differences_of};
+use crate::instant::put_span;
+use crate::layout::{Chart, LINE_HEIGHT, TITLE, least_height, legends_height, panel_count};
+use crate::legend::{put_legend, put_small};
+use crate::panels::put_panel;
+use crate::phases::Hue;
+use crate::quantity::put_quantity;
+use crate::sheet::Sheet;
+use comtrade_compare::Differences;
+use std::alloc::Allocator;
+
+/// The channel of a panel.
+pub(crate) fn channel_in<A: Allocator>(chart: &Chart<'_, A>, number: usize) -> Option<usize> {
+    for (i, its) in chart.panels.iter().enumerate() {
+        if *its == number {
+            return Some(i);
+        }
+    }
+    None
+}
+
+/// How high a panel is, without its title: both names, and the differences.
+pub(crate) fn pair_height<A: Allocator>(beside: &Beside<'_, A>, number: usize) -> u32 {
+    let count = panel_count(beside.one.panels);
+    legends_height(beside.one, number)
+        .saturating_add(legends_height(beside.other, number))
+        .saturating_add(2 * LINE_HEIGHT + 40)
+        .max(least_height(count))
+}
+
+/// Where the panels end that begin here.
+pub(crate) fn pairs_end<A: Allocator>(beside: &Beside<'_, A>, top: u32) -> u32 {
+    let mut end = top;
+    for number in 0..panel_count(beside.one.panels) {
+        end = end
+            .saturating_add(TITLE)
+            .saturating_add(pair_height(beside, number));
+    }
+    end
+}
+
+/// The greatest difference, and when it is.
+fn put_greatest<A: Allocator>(sheet: &mut Sheet<A>, differences: Differences, unit: &[u8]) {
+    sheet.text("A \u{2212} B: greatest ");
+    put_quantity(sheet, differences.greatest, unit);
+    sheet.text(" at ");
+    put_span(sheet, differences.time);
+}
+
+/// Both lines on the differences of a channel and its partner, from a height on.
+fn put_differences<A: Allocator + Copy>(
+    sheet: &mut Sheet<A>,
+    alloc: A,
+    differences: Differences,
+    unit: &[u8],
+    y: u32,
+) {
+    let mut first = Sheet::new(alloc);
+    let mut second = Sheet::new(alloc);
+    match differences.rms() {
+        Some(rms) => {
+            put_greatest(&mut first, differences, unit);
+            second.text("A \u{2212} B: rms ");
+            put_quantity(&mut second, rms, unit);
+            second.text(", instants: ");
+            second.number(differences.count);
+        }
+        None => {
+            first.text("A \u{2212} B: no common instants");
+        }
+    }
+    put_small(sheet, y, &first);
+    put_small(sheet, y.saturating_add(LINE_HEIGHT), &second);
+}
+
+/// What stands beside a panel: both channels' names, peaks and effective values, and how far they differ.
+fn put_pair_legend<A: Allocator + Copy>(
+    sheet: &mut Sheet<A>,
+    beside: &Beside<'_, A>,
+    number: usize,
+    top: u32,
+) {
+    let (Some(channel), Some(partner)) = (
+        channel_in(beside.one, number),
+        channel_in(beside.other, number),
+    ) else {
+        return;
+    };
+    let y = put_legend(
+        sheet,
+        beside.one,
+        channel,
+        Hue::First,
+        top.saturating_add(90),
+    );
+    let y = put_legend(sheet, beside.other, partner, Hue::Second, y);
+    let file = beside.one.file;
+    if let Some(named) = file.head.analog.items().get(channel) {
+        let differences = differences_of(beside, channel, partner);
+        let unit = named.unit.items();
+        put_differences(sheet, beside.one.alloc, differences, unit, y);
+    }
+}
+
+/// All panels from a height on.
+pub(crate) fn put_pairs<A: Allocator + Copy>(
+    sheet: &mut Sheet<A>,
+    beside: &Beside<'_, A>,
+    top: u32,
+) {
+    let mut y = top;
+    for number in 0..panel_count(beside.one.panels) {
+        let height = pair_height(beside, number);
+        y = y.saturating_add(TITLE);
+        put_panel(sheet, beside.one, beside.other, number, y, height);
+        put_pair_legend(sheet, beside, number, y);
+        y = y.saturating_add(height);
+    }
+}

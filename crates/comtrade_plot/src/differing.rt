@@ -1,0 +1,92 @@
+//! How far equal channels of two records differ.
+
+use crate::layout::Chart;
+use crate::rows::reading_at;
+use comtrade_compare::{Differences, Moment, Point, between};
+use dfr_channels::Reading;
+use std::alloc::Allocator;
+
+/// Two records in one frame: when the rows of the one were taken, the other's moments, of each row of the one the place of the last of
+/// them that isn't after it, and how far two moments are apart at most between which values are taken from a straight line.
+#[derive(Clone, Copy)]
+pub(crate) struct Beside<'a, A: Allocator> {
+    pub(crate) one: &'a Chart<'a, A>,
+    pub(crate) other: &'a Chart<'a, A>,
+    pub(crate) times: &'a [Option<i64>],
+    pub(crate) moments: &'a [Moment],
+    pub(crate) places: &'a [Option<usize>],
+    pub(crate) most: i64,
+}
+
+/// The value of a channel in a row, where it has one.
+fn value_in<A: Allocator>(chart: &Chart<'_, A>, row: usize, channel: usize) -> Option<f64> {
+    let file = chart.file;
+    let row = file.rows.items().get(row)?;
+    let scale = chart.scales.get(channel)?;
+    match reading_at(row, channel) {
+        Reading::Value(sample) => Some(scale.value(sample)),
+        Reading::Missing => None,
+    }
+}
+
+/// The other record's value at a time that isn't before the moment at this place: that of its row, or on the line to the next one.
+fn value_beside<A: Allocator>(
+    beside: &Beside<'_, A>,
+    channel: usize,
+    place: usize,
+    time: i64,
+) -> Option<f64> {
+    let moment = beside.moments.get(place)?;
+    let value = value_in(beside.other, moment.row, channel)?;
+    if moment.time == time {
+        return Some(value);
+    }
+    let next = beside.moments.get(place.saturating_add(1))?;
+    if beside.most < next.time.saturating_sub(moment.time) {
+        return None;
+    }
+    let from = Point {
+        time: moment.time,
+        value,
+    };
+    let to = Point {
+        time: next.time,
+        value: value_in(beside.other, next.row, channel)?,
+    };
+    Some(between(from, to, time))
+}
+
+/// The differences of a channel of the one record from its partner in the other, over the rows that are drawn.
+pub(crate) fn differences_of<A: Allocator>(
+    beside: &Beside<'_, A>,
+    channel: usize,
+    partner: usize,
+) -> Differences {
+    let mut differences = Differences::none();
+    let rows = beside.times.iter().zip(beside.places.iter());
+    for (row, (time, place)) in rows.enumerate() {
+        if let (Some(time), Some(place)) = (*time, *place) {
+            let value = value_in(beside.one, row, channel);
+            let theirs = value_beside(beside, partner, place, time);
+            if let (true, Some(value), Some(theirs)) = (beside.one.frame.has(time), value, theirs) {
+                differences = differences.with(time, value - theirs);
+            }
+        }
+    }
+    differences
+}
+
+/// Whether a row of the other record stands at the instant of each drawn row, as far as that record goes.
+pub(crate) fn is_exact<A: Allocator>(beside: &Beside<'_, A>) -> bool {
+    let last = beside.moments.len().saturating_sub(1);
+    for (time, place) in beside.times.iter().zip(beside.places.iter()) {
+        if let (Some(time), Some(place)) = (*time, *place) {
+            if let Some(moment) = beside.moments.get(place) {
+                if beside.one.frame.has(time) && place < last && moment.time != time {
+                    return false;
+                }
+            }
+        }
+    }
+    true
+}

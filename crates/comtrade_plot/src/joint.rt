@@ -1,0 +1,144 @@
+//! What is worked out of two records before they are drawn: times of one axis, panels of partners, the times that are drawn.
+
+use crate::axis::rounded_out;
+use crate::layout::NOWHERE;
+use crate::record::{Record, USUAL_CYCLE, lasting};
+use crate::rows::{last_change, whole_frame};
+use comtrade_cli::ToolFault;
+use comtrade_compare::{Moment, course_of};
+use comtrade_format::File;
+use comtrade_frame::{Frame, window_of};
+use std::alloc::Allocator;
+
+/// Times so much later; none where one has no number of 64 bits.
+pub(crate) fn shifted<A: Allocator + Copy>(
+    alloc: A,
+    times: &[Option<i64>],
+    shift: i64,
+) -> Result<Vec<Option<i64>, A>, ToolFault> {
+    let mut later = Vec::new(alloc);
+    for time in times {
+        later.push(match *time {
+            Some(time) => time.checked_add(shift),
+            None => None,
+        })?;
+    }
+    Ok(later)
+}
+
+/// Whether a channel has a partner.
+pub(crate) fn is_any(partners: &[Option<usize>]) -> bool {
+    for partner in partners {
+        if partner.is_some() {
+            return true;
+        }
+    }
+    false
+}
+
+/// The panels of channels with these partners: one for each that has one.
+pub(crate) fn own_panels<A: Allocator + Copy>(
+    alloc: A,
+    partners: &[Option<usize>],
+) -> Result<Vec<usize, A>, ToolFault> {
+    let mut panels = Vec::new(alloc);
+    let mut next = 0usize;
+    for partner in partners {
+        if partner.is_some() {
+            panels.push(next)?;
+            next = next.saturating_add(1);
+        } else {
+            panels.push(NOWHERE)?;
+        }
+    }
+    Ok(panels)
+}
+
+/// The panels of the partners, of so many channels.
+pub(crate) fn panels_beside<A: Allocator + Copy>(
+    alloc: A,
+    partners: &[Option<usize>],
+    count: usize,
+) -> Result<Vec<usize, A>, ToolFault> {
+    let mut panels = Vec::new(alloc);
+    for _ in 0..count {
+        panels.push(NOWHERE)?;
+    }
+    let mut next = 0usize;
+    for partner in partners {
+        if let Some(partner) = *partner {
+            if let Some(panel) = panels.get_mut(partner) {
+                *panel = next;
+            }
+            next = next.saturating_add(1);
+        }
+    }
+    Ok(panels)
+}
+
+/// The rows of a record in the order of their times, also those that were lost, which have no readings.
+pub(crate) fn moments_of<A: Allocator + Copy>(
+    alloc: A,
+    record: &Record<A>,
+) -> Result<Vec<Moment, A>, ToolFault> {
+    Ok(course_of(alloc, &record.times)?)
+}
+
+/// The times that are drawn of two records, and whether they are a part of what both have.
+#[derive(Clone, Copy)]
+pub(crate) struct Drawn {
+    pub(crate) frame: Frame,
+    pub(crate) is_part: bool,
+}
+
+/// The times that two frames have in common.
+fn common(one: Frame, other: Frame) -> Option<Frame> {
+    let frame = Frame {
+        from: one.from.max(other.from),
+        to: one.to.min(other.to),
+    };
+    if frame.from <= frame.to {
+        Some(frame)
+    } else {
+        None
+    }
+}
+
+/// The times of two frames.
+fn all(one: Frame, other: Frame) -> Frame {
+    Frame {
+        from: one.from.min(other.from),
+        to: one.to.max(other.to),
+    }
+}
+
+/// Which times are drawn of two records: those that both have, around the trigger where these are long, or all; None where they have none
+/// in common.
+pub(crate) fn drawn_of<A: Allocator>(
+    file: &File<A>,
+    one: &Record<A>,
+    other: &Record<A>,
+    is_whole: bool,
+) -> Option<Drawn> {
+    let cycle = one.cycle.unwrap_or(USUAL_CYCLE);
+    let (first, second) = (whole_frame(&one.kept)?, whole_frame(&other.kept)?);
+    let both = common(first, second)?;
+    if is_whole {
+        return Some(Drawn {
+            frame: rounded_out(lasting(Some(all(first, second)), cycle)),
+            is_part: false,
+        });
+    }
+    let change = last_change(file, &one.kept, cycle);
+    let both = lasting(Some(both), cycle);
+    match window_of(both, cycle, change) {
+        Some(frame) => Some(Drawn {
+            frame,
+            is_part: true,
+        }),
+        None => Some(Drawn {
+            frame: rounded_out(both),
+            is_part: false,
+        }),
+    }
+}

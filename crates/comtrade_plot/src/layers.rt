@@ -1,0 +1,56 @@
+//! Which record of a picture a trace is of, and how that is seen.
+
+use crate::phases::Hue;
+
+/// The only record of a picture, or the one or the other of two.
+#[derive(Clone, Copy, Debug, PartialEq, Eq)]
+pub(crate) enum Layer {
+    Alone,
+    One,
+    Other,
+}
+
+impl Layer {
+    /// What stands before the names of its channels.
+    pub(crate) fn tag(self) -> &'static str {
+        match self {
+            Layer::Alone => "",
+            Layer::One => "A: ",
+            Layer::Other => "B: ",
+        }
+    }
+
+    /// The hue of its trace, where the channel has this one: of two records each has one hue.
+    pub(crate) fn hue(self, own: Hue) -> Hue {
+        match self {
+            Layer::Alone => own,
+            Layer::One => Hue::First,
+            Layer::Other => Hue::Second,
+        }
+    }
+
+    /// The style of its traces, as an attribute.
+    pub(crate) fn dashes(self) -> &'static str {
+        match self {
+            Layer::Other => " stroke-dasharray=\"6 5\"",
+            _ => "",
+        }
+    }
+
+    /// What its trigger is called.
+    pub(crate) fn trigger_name(self) -> &'static str {
+        match self {
+            Layer::Alone => "the trigger",
+            Layer::One => "the trigger of A",
+            Layer::Other => "the trigger of B",
+        }
+    }
+
+    /// The style of its trigger's line.
+    pub(crate) fn trigger_dashes(self) -> &'static str {
+        match self {
+            Layer::Other => "1 3",
+            _ => "4 3",
+        }
+    }
+}

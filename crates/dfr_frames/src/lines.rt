@@ -1,0 +1,55 @@
+//! The lines that may come, each of which means what it means after the shortest set-up.
+
+ghost use Rattle.std.specs.Prelude.{◌≡◌, None, MatchResult, map};
+ghost use Rattle.dfr_channels.specs.Lines.{lines};
+ghost use Rattle.dfr_script.specs.Commands.{parts_of};
+ghost use Rattle.dfr_script.specs.Scripts.{script_fault, script_value, Tells};
+
+use dfr_script::{Command, Script, ScriptRefusal, script_of};
+use std::alloc::Allocator;
+
+/// The shortest set-up: what a line means doesn't depend on the channels. It stands before the lines that are read.
+pub const HEAD: &[u8] = b"station S\ndevice D\nfreq 50\nrate 1\nstart 0\nlimits 0,1,2,1\ngo\n";
+
+/// How many bytes it has.
+pub const HEAD_LEN: usize = 60;
+
+/// How many lines it has.
+pub const HEAD_LINES: u64 = 7;
+
+/// The commands of the lines of a script after its `go`, or the script's first fault.
+pub fn commands_of<A: Allocator + Copy>(
+    alloc: A,
+    script: &[u8],
+) -> Result<Vec<Command<A>, A>, ScriptRefusal>
+    ensures { MatchResult result
+        (λ commands. (script_fault (lines script.now) ≡ None)
+        × (map parts_of commands.items ≡ (script_value (lines script.now)).commands))
+        (Tells (script_fault (lines script.now))) }
+{
+    match script_of(alloc, script) {
+        Ok(script) => {
+            let Script {
+                setup: _,
+                limits: _,
+                rules: _,
+                commands,
+            } = script;
+            Ok(commands)
+        }
+        Err(refusal) => Err(refusal),
+    }
+}
+
+/// Whether a line's word is `scan` or `lost`: then a scan was made, even if the line can't be read.
+pub fn is_scan_line(line: &[u8]) -> bool {
+    let word = match line {
+        [b's', b'c', b'a', b'n', rest @ ..] => rest,
+        [b'l', b'o', b's', b't', rest @ ..] => rest,
+        _ => return false,
+    };
+    match word {
+        [] => true,
+        [first, ..] => *first <= b' ',
+    }
+}

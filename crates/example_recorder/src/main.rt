@@ -1,0 +1,122 @@
+//! A recorder of one's own in three threads: one samples a line, one triggers, one takes the records. Prints both files of each record.
+#![tactic(auto)]
+
+use anyhow::{Context, Result};
+use comtrade_read::read_cfg;
+use comtrade_write::{Head, Kind};
+use dfr_channels::{Layout, Reading, Rule, Rules, Scan, Setup};
+use dfr_live::{Fed, Feed, Order, Orders, Sink, run_live};
+use dfr_recorder::{Extent, Limits, Recorder};
+use std::alloc::Global;
+use std::io::{self, Write};
+
+/// The channels, as a configuration file says them: a current in steps of 0.5 A.
+const CHANNELS: &[u8] = b"Northfield 110 kV,My recorder,1999\n1,1A,0D\n\
+    1,IA,A,Line 3,A,0.5,0,0,-32767,32767,600,1,P\n50\n1\n1000,1\n\
+    01/07/2024,10:30:00\n01/07/2024,10:30:00\nASCII\n1";
+
+/// What samples: here a line whose current rises tenfold from scan 30 to 39. Scan 35 is lost, and after scan 99 no scan comes.
+#[derive(Drop)]
+struct Line {
+    alloc: Global,
+    next: u32,
+}
+
+impl Feed<Global> for Line {
+    fn next(&mut self) -> Result<Fed, u32> {
+        let k = self.next;
+        self.next = k.saturating_add(1);
+        match k {
+            35 => Ok(Fed::Lost),
+            30..=39 => scan(self.alloc, 1000),
+            0..=99 => scan(self.alloc, 100),
+            _ => Ok(Fed::Done),
+        }
+    }
+}
+
+/// A scan of one reading; where memory fails, the feed's own fault 1, which ends the run.
+fn scan(alloc: Global, sample: i32) -> Result<Fed, u32> {
+    let readings = Vec::from_slice(alloc, &[Reading::Value(sample)]).or(Err(1u32))?;
+    Ok(Fed::Scan(Scan::new(readings, Vec::new(alloc))))
+}
+
+/// What triggers besides the rules: an operator, after so many scans.
+#[derive(Drop)]
+struct Operator {
+    after: Option<u64>,
+}
+
+impl Orders<Global> for Operator {
+    fn next(&mut self) -> Option<(u64, Order)> {
+        Some((self.after.take()?, Order::Trigger))
+    }
+}
+
+/// What takes the records: both files of each, one after the other in memory.
+#[derive(Drop)]
+struct Kept {
+    files: Vec<u8>,
+}
+
+impl Sink for Kept {
+    fn put(&mut self, _extent: Extent, cfg: &[u8], dat: &[u8]) -> Result<(), u32> {
+        self.files.extend_from_slice(cfg).or(Err(2u32))?;
+        self.files.extend_from_slice(dat).or(Err(2u32))
+    }
+}
+
+/// 1,000 scans a second from an instant on, which is in microseconds since 1970.
+fn layout(head: Head) -> Result<Layout> {
+    let setup = Setup {
+        station: head.station,
+        device: head.device,
+        analog: head.analog,
+        status: head.status,
+        line_freq: head.line_freq,
+        rate: 1000,
+        start: head.first,
+    };
+    Layout::new(setup).ok().context("no set-up")
+}
+
+/// A record has 5 scans before the trigger and 10 after the last scan of 500 and more, at most 100; the shelf has room for 4.
+fn recorder(alloc: Global, layout: Layout) -> Result<Recorder> {
+    let over = Rule::Level {
+        channel: 0,
+        over: true,
+        threshold: 500,
+    };
+    let rules = Rules::new(&layout, vec![in alloc; over]?)
+        .ok()
+        .context("no rules")?;
+    let limits = Limits::new(&layout, 5, 10, 100, 4)?;
+    Recorder::new(alloc, layout, limits, rules)
+        .ok()
+        .context("out of memory")
+}
+
+fn main(rt: HostRuntime) -> Result<()> {
+    let alloc = rt.alloc();
+    let recorder = recorder(alloc, layout(read_cfg(alloc, CHANNELS)?)?)?;
+    let mut feed = Line { alloc, next: 0 };
+    let mut orders = Operator { after: Some(80) };
+    let mut sink = Kept {
+        files: Vec::new(alloc),
+    };
+    let (lane, turns) = (64, 1_000_000_000); // places for scans; looks in a row at which a thread may find nothing
+    run_live(
+        &rt,
+        alloc,
+        recorder,
+        lane,
+        Kind::Ascii,
+        turns,
+        &mut feed,
+        &mut orders,
+        &mut sink,
+    )?;
+    let mut out = io::writer(&rt);
+    out.write_all(&sink.files)?;
+    Ok(out.flush()?)
+}
