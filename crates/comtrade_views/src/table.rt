@@ -34,6 +34,9 @@ fn widen<A: Allocator>(
     Ok(())
 }
 
+/// The widest that a column gets: a longer cell, which the standard allows in no field, moves its own row alone.
+const WIDEST: usize = 64;
+
 /// How wide each column is.
 fn widths_of<A: Allocator>(alloc: A, table: &[u8]) -> Result<Vec<usize, A>, AllocError> {
     let mut widths = Vec::new(alloc);
@@ -41,7 +44,7 @@ fn widths_of<A: Allocator>(alloc: A, table: &[u8]) -> Result<Vec<usize, A>, Allo
     let mut width = 0usize;
     for b in table {
         if *b == CELL {
-            widen(&mut widths, column, width)?;
+            widen(&mut widths, column, width.min(WIDEST))?;
             column = column.saturating_add(1);
             width = 0;
         } else if *b == b'\n' {
