@@ -1,6 +1,6 @@
 -- Orders at their places, and records handed on, one after the other.
-use Rattle.std.proofs.Common.{◌≡◌, ℕ, ◌+◌, ◌≤◌, true≢false, Bool, true, false, Option, Some, None, Result, Ok, Err, List, [], ◌∷◌, ◌++◌, map, refl, sym, ◌∙◌, ap, subst, arith, append_assoc}
-use Rattle.std.specs.Prelude.{min, max, IfOk}
+use Rattle.std.proofs.Common.{◌≡◌, ◌⊎◌, inl, inr, ℕ, ◌≤◌, true≢false, Bool, true, false, Option, Some, None, Result, Ok, Err, List, [], ◌∷◌, ◌++◌, map, refl, sym, ◌∙◌, ap, subst, arith, append_assoc}
+use Rattle.std.specs.Prelude.{min, max, IfOk, IfErr, IsErrAnd}
 use Rattle.dfr_live.specs.declared.report.LiveFault.{LiveFault}
 use Rattle.std.proofs.lemmas.List.{map-append, append-nil}
 use Rattle.std.proofs.lemmas.List.Elements.{All-cons, All-nil}
@@ -9,7 +9,7 @@ use Rattle.dfr_live.specs.Seen.{TokenParts}
 use Rattle.dfr_live.specs.Calls.{with_entry}
 use Rattle.dfr_live.specs.Station.{PumpsOn, PumpsOut}
 use Rattle.dfr_live.specs.declared.station.Order.{Order}
-use Rattle.dfr_live.specs.Devices.{Came, FilesParts, calls_made, call_at, call_in, in_order, extents_taken, extent_taken, IsTaken, IsMade, MadeOne, MadeAll, GotOne, GotNone, GotOn, GotAll}
+use Rattle.dfr_live.specs.Devices.{Came, FilesParts, calls_made, call_at, call_in, in_order, extents_taken, extent_taken, IsTaken, MadeOne, MadeAll, GotOne, GotNone, GotOn, GotAll, GotFront}
 use Rattle.dfr_recorder.specs.Parts.{RecordParts}
 use Rattle.dfr_recorder.specs.History.{Opening}
 use Rattle.comtrade_format.specs.declared.file.Kind.{Kind}
@@ -184,3 +184,19 @@ got_on {S} Puts o kind g h t u (Ok false) one none =
     let p = none refl in
     (ap (λ (z : TokenParts). z.seat) p.2, ap (λ (z : TokenParts). z.pumped) p.2, λ (f : S) (far : GotAll Puts o kind f t.made g). got_none Puts o kind f g h t u far p)
 got_on Puts o kind g h t u (Err f) one none = tt
+
+-- ---- what the sink has where a run stops
+
+pub front_of_all : {S : Type 0} (Puts : S → FilesParts → Result (Unit {0}) ℕ → S → Type 0) (o : Opening) (kind : Kind) (f g : S) (es : List EntryParts)
+    → GotAll Puts o kind f es g → GotFront Puts o kind f g
+front_of_all Puts o kind f g es all = (all.0, g, all.1, inl refl)
+
+-- a fault that comes after it leaves it so
+pub or_front : {R E : Type 0} {Front : Type 0} (came : Result R E) (IsOther : E → Type 0) → Front → IfErr came (λ e. IsOther e ⊎ Front)
+or_front (Ok done) IsOther front = tt
+or_front (Err e) IsOther front = inr front
+
+-- a fault that is handed on says what it said
+pub handed_up : {R E : Type 0} (came : Result R E) (e : E) (P : E → Type 0) → IsErrAnd came (λ f. f ≡ e) → P e → IfErr came P
+handed_up (Ok done) e P same h = tt
+handed_up (Err f) e P same h = subst P (sym same) h

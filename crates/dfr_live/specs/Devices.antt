@@ -1,5 +1,5 @@
 -- What a feed gave, which orders were handed out and where they were made, and what a sink got.
-use Rattle.std.specs.Prelude.{◌≡◌, ℕ, List, [], ◌∷◌, ◌++◌, map, min, max, replicate, Bool, Option, Some, None, Result, Ok, Err, All, IsTrue}
+use Rattle.std.specs.Prelude.{◌≡◌, ◌⊎◌, ℕ, List, [], ◌∷◌, ◌++◌, map, min, max, replicate, Bool, Option, Some, None, Result, Ok, Err, All, IsTrue}
 use Rattle.dfr_channels.specs.Parts.{SetupParts}
 use Rattle.dfr_recorder.specs.Parts.{RecordParts}
 use Rattle.dfr_recorder.specs.Own.{is_own}
@@ -152,6 +152,16 @@ abbrev pub GotAll : {S : Type 0} → (S → FilesParts → Result (Unit {0}) ℕ
     → List EntryParts → S → Type 0
 GotAll Puts o kind f made g =
     (records : List RecordParts) × Got Puts o kind f records g × (extents_of records ≡ extents_taken made)
+
+-- the sink gets no more files: it stays as it was, or it refused those of one record
+abbrev pub GotNoMore : {S : Type 0} → (S → FilesParts → Result (Unit {0}) ℕ → S → Type 0) → Opening → Kind → S → S → Type 0
+GotNoMore Puts o kind f g =
+    (g ≡ f) ⊎ ((r : RecordParts) × (code : ℕ) × IsTaken o r × Puts f (files_of o.layout kind r) (Err code) g)
+
+-- the sink got the files of some records, one after the other, and then at most those of one that it refused
+abbrev pub GotFront : {S : Type 0} → (S → FilesParts → Result (Unit {0}) ℕ → S → Type 0) → Opening → Kind → S → S → Type 0
+GotFront {S} Puts o kind f g =
+    (records : List RecordParts) × (m : S) × Got Puts o kind f records m × GotNoMore Puts o kind m g
 
 -- with what the token took from then to now the sink goes on so: what was handed on in full before is so now
 abbrev pub GotOn : {S : Type 0} → (S → FilesParts → Result (Unit {0}) ℕ → S → Type 0) → Opening → Kind → S
