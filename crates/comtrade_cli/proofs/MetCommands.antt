@@ -1,7 +1,7 @@
 -- A command that a parse met, by its name and its rows.
-use Rattle.std.proofs.Common.{◌≡◌, ℕ, Bool, true, false, Bor, get_or, arith, ltb, ltb-true, ◌<◌, List, [], Option, Some, None, option_map, unwrap_or, codes, inl, inr, refl, ap, ap₂, ◌∙◌, sym, rules}
-use Rattle.clap.specs.Words.{Row, Rule, Text, all_of, first_of, first_value, found_of, matched_of, raw_values, rows_of, rule_of, with_rule}
-use Rattle.std.specs.Prelude.{◌||◌, ◌⊎◌, MatchOption, is_some, if◌then◌else◌}
+use Rattle.std.proofs.Common.{◌≡◌, ℕ, Bool, true, false, Bor, get_or, arith, ltb, ltb-true, ◌<◌, List, [], Option, Some, None, option_map, codes, inl, inr, refl, ap, ap₂, ◌∙◌, sym, rules}
+use Rattle.clap.specs.Words.{Row, Rule, Text, all_of, first_of, first_value, matched_of, raw_values, rows_of, rule_of, with_rule}
+use Rattle.std.specs.Prelude.{◌||◌, ◌⊎◌, MatchOption}
 use Rattle.clap.specs.Matches.{subcommand_name_of}
 use Rattle.clap.specs.Words.{AddsArg, AddsSubcommand, App, is_simple, with_subcommand}
 use Rattle.clap.proofs.OnLiterals.{clap_on_literals}
@@ -25,7 +25,7 @@ use Rattle.comtrade_cli.specs.declared.asked.Answer.TheVariants.{Do, Print, Refu
 use Rattle.clap.specs.declared.error.kind.ErrorKind.{ErrorKind}
 use Rattle.clap.specs.declared.error.kind.ErrorKind.TheVariants.{OutOfMemory}
 use Rattle.clap.specs.Words.{IsAmong, Kinds, is_simple_and_free}
-use Rattle.comtrade_cli.specs.Asking.{AreNames, Asks, AsksAs, Does, DoneAbout, FindsText, FitsNothing, IsCompared, IsConverted, Tells, is_text, survey_name, view_name}
+use Rattle.comtrade_cli.specs.Asking.{AreNames, Asks, AsksAs, Does, DoneAbout, FitsNothing, IsCompared, IsConverted, Tells, is_text, survey_name, view_name}
 use Rattle.comtrade_cli.specs.Commands.{IsCommand, program}
 
 -- what rows say is what the getters read

@@ -116,13 +116,20 @@ compare_names = with_rule (with_rule (with_rule (new_app (codes "compare"))
 abbrev pub compare : App
 compare = with_picture (with_part compare_names)
 
-abbrev pub top : App
-top = on_top (λ s. record s {
-  has_version = true;
+-- a command that wants one of those below it
+abbrev pub with_choice : App → App
+with_choice a = on_top (λ s. record s {
   no_binary_name = true;
   arg_required_else_help = true;
   subcommand_required = true;
-}) (new_app (codes "comtrade"))
+}) a
+
+-- the program's name and version
+abbrev pub named_top : App
+named_top = on_top (λ s. record s { has_version = true }) (new_app (codes "comtrade"))
+
+abbrev pub top : App
+top = with_choice named_top
 
 -- the program's commands
 abbrev pub views : App → App

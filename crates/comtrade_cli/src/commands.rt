@@ -2,12 +2,13 @@
 //! `specs/Commands.antt`, and a line in the function of its group.
 
 ghost use Rattle.std.specs.Prelude.{IfOk};
-ghost use Rattle.clap.specs.Words.{App};
+ghost use Rattle.clap.specs.Words.{App, new_app};
 ghost use Rattle.comtrade_cli.specs.Commands.{IsCommand, IsKinded};
 ghost use Rattle.comtrade_cli.specs.Commands as Spec;
 
 use crate::options::{
-    free_word, option, with_cursor, with_json, with_part, with_picture, with_table, word, words,
+    free_word, option, with, with_cursor, with_json, with_part, with_picture, with_table, word,
+    words,
 };
 use clap::Command;
 use std::alloc::{AllocError, Global};
@@ -59,19 +60,29 @@ Status: 0 all of it was done; 1 a fault of the files, what can't be compared, re
 
 static KINDS: [&str; 2] = ["ascii", "binary"];
 
+/// A command without arguments: its name, what it does, and what its help ends with.
+fn command<'a>(alloc: Global, name: &'a str, about: &'a str, end: &'a str) -> Command<'a>
+    ensures { IsCommand (new_app name.entry.now) result }
+{
+    Command::new(alloc, name).about(about).after_help(end)
+}
+
+/// A command whose words are told so.
+fn with_usage<'a>(command: Command<'a>, usage: &'a str) -> Command<'a>
+    ensures { (a : App) → IsCommand a command.entry → IsCommand a result }
+{
+    command.override_usage(usage)
+}
+
 /// A command over a pair of files.
 fn over_pair<'a>(alloc: Global, name: &'a str, about: &'a str) -> Result<Command<'a>, AllocError>
     ensures { IfOk result (IsCommand (Spec.over_pair name.entry.now)) }
 {
-    Command::new(alloc, name)
-        .about(about)
-        .after_help(STATUS)
-        .arg(word(alloc, "FILE", "A file of the pair, or what both are called"))?
-        .arg(free_word(
-            alloc,
-            "DAT",
-            "The data file, where FILE is the configuration file",
-        ))
+    let bare = command(alloc, name, about, STATUS);
+    let file = word(alloc, "FILE", "A file of the pair, or what both are called");
+    let dat = "The data file, where FILE is the configuration file";
+    let one = with(bare, file)?;
+    with(one, free_word(alloc, "DAT", dat))
 }
 
 fn show<'a>(alloc: Global) -> Result<Command<'a>, AllocError>
@@ -133,21 +144,15 @@ fn convert_names<'a>(alloc: Global) -> Result<Command<'a>, AllocError>
 {
     let about =
         "Writes NAME.cfg and NAME.dat, which say the same with data of another kind; neither may be there";
-    Command::new(alloc, "convert")
-        .about(about)
-        .after_help(STATUS)
-        .override_usage("comtrade convert --kind <KIND> [OPTIONS] <FILE> [DAT] <NAME>")
-        .arg(word(alloc, "FILE", "A file of the pair, or what both are called"))?
-        .arg(word(
-            alloc,
-            "NAME",
-            "What both new files are called, without .cfg and .dat; before a third name the data file",
-        ))?
-        .arg(free_word(
-            alloc,
-            "LAST",
-            "What both new files are called, where the data file stands before it",
-        ))
+    let usage = "comtrade convert --kind <KIND> [OPTIONS] <FILE> [DAT] <NAME>";
+    let bare = with_usage(command(alloc, "convert", about, STATUS), usage);
+    let file = word(alloc, "FILE", "A file of the pair, or what both are called");
+    let name =
+        "What both new files are called, without .cfg and .dat; before a third name the data file";
+    let last = "What both new files are called, where the data file stands before it";
+    let one = with(bare, file)?;
+    let two = with(one, word(alloc, "NAME", name))?;
+    with(two, free_word(alloc, "LAST", last))
 }
 
 /// The same, with the kind of the data.
@@ -170,25 +175,19 @@ fn convert<'a>(alloc: Global) -> Result<Command<'a>, AllocError>
 fn extract<'a>(alloc: Global) -> Result<Command<'a>, AllocError>
     ensures { IfOk result (IsCommand Spec.extract) }
 {
-    Command::new(alloc, "extract")
-        .about(
-            "Cuts what `dfr replay` printed, on standard input, into DIR/recN.cfg and DIR/recN.dat",
-        )
-        .arg(word(
-            alloc,
-            "DIR",
-            "The folder, which is made where it isn't there",
-        ))
+    let about =
+        "Cuts what `dfr replay` printed, on standard input, into DIR/recN.cfg and DIR/recN.dat";
+    let bare = Command::new(alloc, "extract").about(about);
+    let folder = "The folder, which is made where it isn't there";
+    with(bare, word(alloc, "DIR", folder))
 }
 
 /// A command over folders and files, without its options.
 fn named<'a>(alloc: Global, name: &'a str, about: &'a str) -> Result<Command<'a>, AllocError>
     ensures { IfOk result (IsCommand (Spec.named name.entry.now)) }
 {
-    Command::new(alloc, name)
-        .about(about)
-        .after_help(SURVEY_STATUS)
-        .arg(words(alloc, "NAMES", "Folders with pairs, and pairs"))
+    let bare = command(alloc, name, about, SURVEY_STATUS);
+    with(bare, words(alloc, "NAMES", "Folders with pairs, and pairs"))
 }
 
 /// A command over folders and files.
@@ -223,17 +222,12 @@ fn events<'a>(alloc: Global) -> Result<Command<'a>, AllocError>
 fn compare_names<'a>(alloc: Global) -> Result<Command<'a>, AllocError>
     ensures { IfOk result (IsCommand Spec.compare_names) }
 {
-    Command::new(alloc, "compare")
-        .about("Prints two records in one picture, as SVG, and how far equal channels differ")
-        .after_help(COMPARE_STATUS)
-        .arg(word(alloc, "A", "A record"))?
-        .arg(word(alloc, "B", "The record that is laid over it"))?
-        .arg(option(
-            alloc,
-            "by",
-            "WHAT",
-            "What falls together: instant (so it is without this) or trigger",
-        ))
+    let about = "Prints two records in one picture, as SVG, and how far equal channels differ";
+    let bare = command(alloc, "compare", about, COMPARE_STATUS);
+    let by = "What falls together: instant (so it is without this) or trigger";
+    let one = with(bare, word(alloc, "A", "A record"))?;
+    let two = with(one, word(alloc, "B", "The record that is laid over it"))?;
+    with(two, option(alloc, "by", "WHAT", by))
 }
 
 fn compare<'a>(alloc: Global) -> Result<Command<'a>, AllocError>
@@ -267,20 +261,29 @@ fn surveys<'a>(alloc: Global, program: Command<'a>) -> Result<Command<'a>, Alloc
 }
 
 /// The program's name, version and help.
+fn named_top<'a>(alloc: Global) -> Result<Command<'a>, AllocError>
+    ensures { IfOk result (IsCommand Spec.named_top) }
+{
+    let bare = command(alloc, "comtrade", ABOUT, TOP_HELP);
+    bare.version("0.1").bin_name("comtrade")
+}
+
+/// A command that wants one of those below it.
+fn with_choice<'a>(command: Command<'a>) -> Command<'a>
+    ensures { (a : App) → IsCommand a command.entry → IsCommand (Spec.with_choice a) result }
+{
+    command
+        .no_binary_name(true)
+        .arg_required_else_help(true)
+        .subcommand_required(true)
+}
+
+/// The program without its commands.
 fn top<'a>(alloc: Global) -> Result<Command<'a>, AllocError>
     ensures { IfOk result (IsCommand Spec.top) }
 {
-    let program = Command::new(alloc, "comtrade")
-        .version("0.1")
-        .about(ABOUT)
-        .after_help(TOP_HELP)
-        .bin_name("comtrade")?;
-    Ok(
-        program
-            .no_binary_name(true)
-            .arg_required_else_help(true)
-            .subcommand_required(true),
-    )
+    let named = named_top(alloc)?;
+    Ok(with_choice(named))
 }
 
 /// The program's words.

@@ -1,4 +1,4 @@
-use Rattle.std.proofs.Common.{◌≡◌, ◌++◌, length, Some, decimal, ◌∙◌, rules, arith, ap}
+use Rattle.std.proofs.Common.{◌≡◌, length, decimal, ◌∙◌}
 use Rattle.comtrade_cli.proofs.Cutting.{sized_found, stripped, not_stripped, split_found}
 use Rattle.comtrade_cli.proofs.records.bytes_of.Goals as goal
 

@@ -1,10 +1,10 @@
-use Rattle.std.proofs.Common.{◌≡◌, ◌++◌, ◌∷◌, List, ℕ, drop, ap, ◌∙◌, rules, sym, subst}
+use Rattle.std.proofs.Common.{◌≡◌, ap, ◌∙◌, sym, subst}
 use Rattle.std.specs.Prelude.{codes}
 use Rattle.std.specs.List.{before_first, after_first}
 use Rattle.comtrade_cli.specs.declared.records.Next.{Next}
 use Rattle.comtrade_cli.specs.declared.records.Next.TheVariants as next
 use Rattle.comtrade_cli.specs.Pieces.{is_feed}
-use Rattle.comtrade_cli.specs.Replayed.{Answer, answer_line, IsOneLine, Taken, IsRecord, record_text, extent_words, files_text, Ending, Record, Fault, Nothing, IsEnding, ending_text, Finds}
+use Rattle.comtrade_cli.specs.Replayed.{answer_line, extent_words, Ending, Record, Fault, Nothing, IsEnding, ending_text, Finds}
 use Rattle.comtrade_cli.proofs.Cutting.{found, record_found, fault_found, stripped, not_stripped, no_record, begins}
 use Rattle.comtrade_cli.proofs.records.piece_of.Goals as goal
 use Rattle.comtrade_cli.proofs.records.piece_of.Goals.{in-Some-record_of, in-None}
