@@ -25,14 +25,14 @@ mod text_buffer;
 mod text_lines;
 
 pub use dfr_frames::{
-    Came, Tally, Why, commands_of, frame_len, give, give_frames, is_scan_line, lose, scan_of_frame,
-    surplus_bytes,
+    Came, Recorded, RunFault, Tally, Why, commands_of, frame_len, give, give_frames, is_scan_line,
+    lose, scan_of_frame, surplus_bytes,
 };
 pub use event::{Asked, Event, Replied, Skipped, Trouble};
 pub use first::{First, read_first};
 pub use key::{Key, key_at, key_in, put_key};
 pub use prepared::{SetupRefusal, recorder_of};
 pub use printed::put_event;
-pub use run::{Recorded, RunFault, run_station};
+pub use run::run_station;
 pub use station::{Input, Printer, Station, Store, Stored};
 pub use telling::now;

@@ -3,7 +3,7 @@
 ghost use Rattle.std.specs.Prelude.{◌≡◌, IfOk};
 ghost use Rattle.dfr_recorder.specs.History.{Opening};
 ghost use Rattle.dfr_live.specs.Seen.{opening_of};
-ghost use Rattle.dfr_station.specs.Runs.{Leaves};
+ghost use Rattle.dfr_frames.specs.Runs.{Leaves};
 
 use crate::begin::{How, queues_in, tasks_of};
 use crate::event::Event;
@@ -12,46 +12,21 @@ use crate::station::{Printer, Station, Store};
 use crate::tasks::{Tasks, in_threads};
 use crate::teller::put_line;
 use crate::telling::now;
-use dfr_live::{
-    EndFault, Ended, Inner, OpenFault, Opened, Session, Shared, Source, Token, end, open,
-};
-use std::alloc::{Allocator, Global};
+use dfr_frames::{Recorded, RunFault, ended_of};
+use dfr_live::{Opened, Session, Shared, Source, Token, open};
+use std::alloc::Allocator;
 use std::io::Read;
 use std::marker::Brand;
 use std::sync::Wait;
 use std::sync::atomic::Ordering;
 use std::thread::Threads;
 use std::time::Clock;
-use thiserror::Error;
 
 /// How many scans wait at most for the trigger thread.
 const LANE: usize = 65_536;
 
 /// How many bytes an event's line has at most.
 const LINE: usize = 512;
-
-/// Why a station wasn't recorded, or not to its end.
-#[derive(Clone, Copy, Debug, PartialEq, Eq, Error)]
-pub enum RunFault {
-    #[error("out of memory")]
-    Memory,
-    #[error("a thread can't be started")]
-    Thread,
-    #[error("the recorder wasn't opened: {0}")]
-    Open(OpenFault),
-    #[error("the recording wasn't ended: {0}")]
-    End(EndFault),
-    /// More lost scans in a row, or more scans, than can be counted.
-    #[error("more scans than can be counted")]
-    Counter,
-}
-
-/// What a station that ended leaves, and how many records its store didn't take.
-#[derive(Drop)]
-pub struct Recorded<A: Allocator = Global> {
-    pub ended: Ended<A>,
-    pub unwritten: u64,
-}
 
 /// Records what comes on the input until it ends, in four threads: the acquisition offers each scan, and waits in its reads alone;
 /// the trigger thread makes the steps and carries out orders; the export thread hands each record's pair to the store until that
@@ -146,24 +121,6 @@ fn run_named<
     tokens.push_reserved(first);
     tokens.push_reserved(second);
     ended_of(alloc, shared.unlock(), source, tokens, unwritten)
-}
-
-/// Ends the recording.
-fn ended_of<N: Session<A>, A: Allocator + Copy>(
-    alloc: A,
-    inner: Inner<N, A>,
-    source: Source<N, A>,
-    tokens: Vec<Token<A>, A>,
-    unwritten: u64,
-) -> Result<Recorded<A>, RunFault>
-    requires seats { N.seats ≡ 2 }
-    ensures { IfOk result (λ left. Leaves N.opening left.ended) }
-{
-    let _ = inner.opening();
-    match end(alloc, inner, source, tokens) {
-        Ok(ended) => Ok(Recorded { ended, unwritten }),
-        Err((fault, _, _, _)) => Err(RunFault::End(fault)),
-    }
 }
 
 /// Takes the tasks apart once all threads have ended, and prints what came of them: the shared recorder, the source, the tokens

@@ -1,5 +1,5 @@
 use Rattle.std.proofs.Common.{◌∙◌}
-use Rattle.dfr_station.proofs.run.ended_of.Goals as goal
+use Rattle.dfr_frames.proofs.ended.ended_of.Goals as goal
 
 pub returns-in-Ok : goal.returns-in-Ok
 returns-in-Ok g c = record {
