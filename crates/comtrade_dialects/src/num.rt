@@ -90,16 +90,37 @@ impl Num {
 
     /// A whole number n with the number's size below 10^n.
     pub(crate) fn order(self) -> i32 {
-        let bits = 64i32.saturating_sub(i32::try_from(
-            self.mant.unsigned_abs().leading_zeros(),
-        ).unwrap_or(0));
         if self.two == 0 {
             return digits_of(self.mant.unsigned_abs()).saturating_add(self.ten);
         }
-        let twos = bits.saturating_add(self.two);
-        twos.saturating_mul(30_103)
+        self.twos()
+            .saturating_mul(30_103)
             .wrapping_div(100_000)
             .saturating_add(1)
+    }
+
+    /// The least n for which the number's size is below 2^n, where it is no multiple of a power of ten.
+    fn twos(self) -> i32 {
+        let bits = 64u32.saturating_sub(self.mant.unsigned_abs().leading_zeros());
+        i32::try_from(bits).unwrap_or(0).saturating_add(self.two)
+    }
+
+    /// The size as numbers that compare as sizes do.
+    fn size(self) -> (i32, u64) {
+        let size = self.mant.unsigned_abs();
+        (self.twos(), size.wrapping_shl(size.leading_zeros()))
+    }
+
+    /// Whether it is below another one, where neither is a multiple of a power of ten.
+    pub(crate) fn is_below(self, other: Num) -> bool {
+        if self.two == other.two || self.mant.signum() != other.mant.signum() {
+            return self.mant < other.mant;
+        }
+        if self.mant < 0 {
+            other.size() < self.size()
+        } else {
+            self.size() < other.size()
+        }
     }
 }
 

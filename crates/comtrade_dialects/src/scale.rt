@@ -7,6 +7,8 @@ use crate::num::{Num, ten_to};
 pub(crate) struct Scale {
     pub shift: i32,
     fives: u128,
+    /// The same where it has at most 39 bits; else 0.
+    short: u64,
 }
 
 /// The greatest shift: of a float's 24 bits and 5^44 the product still has 127 bits.
@@ -19,6 +21,11 @@ impl Scale {
         Scale {
             shift,
             fives: 5u128.checked_pow(power).unwrap_or(1),
+            short: if power < 17 {
+                5u64.checked_pow(power).unwrap_or(0)
+            } else {
+                0
+            },
         }
     }
 
@@ -27,24 +34,45 @@ impl Scale {
         if num.two == 0 {
             return decimal_at(num, self.shift);
         }
-        let size = num.mant.unsigned_abs() as u128;
-        let near = if self.shift < 0 {
-            tenth(
-                size.checked_mul(power_of_two(num.two)).unwrap_or(u128::MAX),
-                self.shift.unsigned_abs(),
-            )
-        } else {
-            shifted(
-                size.saturating_mul(self.fives),
-                self.shift.saturating_add(num.two),
-            )
+        let size = num.mant.unsigned_abs();
+        let near = match self.near_in_64(size, num.two) {
+            Some(near) => near,
+            None => self.near(size, num.two),
         };
-        let near = i64::try_from(near).unwrap_or(i64::MAX);
         if num.mant < 0 {
             near.wrapping_neg()
         } else {
             near
         }
+    }
+
+    /// The nearest to size * 2^two.
+    fn near(self, size: u64, two: i32) -> i64 {
+        let size = u128::from(size);
+        let near = if self.shift < 0 {
+            tenth(
+                size.checked_mul(power_of_two(two)).unwrap_or(u128::MAX),
+                self.shift.unsigned_abs(),
+            )
+        } else {
+            shifted(
+                size.saturating_mul(self.fives),
+                self.shift.saturating_add(two),
+            )
+        };
+        i64::try_from(near).unwrap_or(i64::MAX)
+    }
+
+    /// The same, where 64 bits are enough for it.
+    fn near_in_64(self, size: u64, two: i32) -> Option<i64> {
+        let right = 0i32.saturating_sub(self.shift.saturating_add(two));
+        if self.short == 0 || 0x100_0000 <= size || right < 1 || 62 < right {
+            return None;
+        }
+        let right = right.unsigned_abs();
+        let half = 1u64.wrapping_shl(right.wrapping_sub(1));
+        let sum = size.wrapping_mul(self.short).wrapping_add(half);
+        i64::try_from(sum.wrapping_shr(right)).ok()
     }
 }
 

@@ -15,6 +15,9 @@ pub(crate) struct Bounds {
 pub(crate) struct Span {
     /// The first sample, where there is one.
     pub first: Option<Num>,
+    /// The least and the greatest sample, while none is a multiple of a power of ten.
+    ends: Option<(Num, Num)>,
+    is_binary: bool,
     /// All of them are whole numbers within the bounds.
     pub fits: bool,
     pub is_whole: bool,
@@ -31,10 +34,21 @@ pub(crate) struct Span {
     pub scale: Scale,
 }
 
+fn ends_with(ends: Option<(Num, Num)>, num: Num) -> (Num, Num) {
+    match ends {
+        Some((least, most)) if num.is_below(least) => (num, most),
+        Some((least, most)) if most.is_below(num) => (least, num),
+        Some(ends) => ends,
+        None => (num, num),
+    }
+}
+
 impl Span {
     pub(crate) fn new() -> Span {
         Span {
             first: None,
+            ends: None,
+            is_binary: true,
             fits: true,
             is_whole: true,
             least: i64::MAX,
@@ -51,6 +65,10 @@ impl Span {
     pub(crate) fn add(&mut self, num: Num, bounds: Bounds) {
         if self.first.is_none() {
             self.first = Some(num);
+        }
+        self.is_binary = self.is_binary && num.ten == 0;
+        if self.is_binary {
+            self.ends = Some(ends_with(self.ends, num));
         }
         match num.whole() {
             Some(n) => {
@@ -72,9 +90,20 @@ impl Span {
         }
     }
 
-    /// The scale at which eighteen digits are told apart.
+    /// The scale at which eighteen digits are told apart, and where the ends are at it, if they are known.
     pub(crate) fn settle(&mut self) {
         self.scale = Scale::new(18i32.saturating_sub(self.order).max(-60));
+        if self.is_binary {
+            if let Some((least, most)) = self.ends {
+                self.low = self.scale.nearest(least);
+                self.high = self.scale.nearest(most);
+            }
+        }
+    }
+
+    /// Whether the least and the greatest still have to be found among the samples.
+    pub(crate) fn is_open(&self) -> bool {
+        !self.fits && !self.is_binary
     }
 
     /// Takes a sample's place between the others into account.

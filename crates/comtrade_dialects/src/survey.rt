@@ -170,33 +170,33 @@ pub(crate) fn survey_of<A: Allocator + Copy>(
     Ok(survey)
 }
 
-fn all_fit(spans: &[Span]) -> bool {
+fn any_open(spans: &[Span]) -> bool {
     for span in spans {
-        if !span.fits {
-            return false;
+        if span.is_open() {
+            return true;
         }
     }
-    true
+    false
 }
 
-/// A second look, at the channels that don't fit as they are.
+/// A second look, at the channels that don't fit as they are and whose least and greatest sample it has to find.
 fn widen_all<A: Allocator + Copy>(
     ground: Ground<'_>,
     survey: &mut Survey<A>,
     cells: &mut Cells<A>,
 ) -> Result<(), ImportFault> {
-    if all_fit(&survey.spans) {
-        return Ok(());
-    }
     for span in survey.spans.iter_mut() {
         span.settle();
+    }
+    if !any_open(&survey.spans) {
+        return Ok(());
     }
     let mut rows = Rows::of(ground.plan);
     for _ in 0..survey.ticks.len() {
         let _ = next_cells(ground, &mut rows, cells)?;
         for (span, value) in survey.spans.iter_mut().zip(cells.values.iter()) {
             if let Some(num) = *value {
-                if !span.fits {
+                if span.is_open() {
                     span.widen(num);
                 }
             }
