@@ -115,19 +115,28 @@ fn has_contacts<A: Allocator>(chart: &Chart<'_, A>) -> bool {
     !file.head.status.items().is_empty()
 }
 
-/// The picture of two records; no contact of the other is in it where none of the one was asked for.
-fn put_picture<A: Allocator + Copy>(
-    sheet: &mut Sheet<A>,
+/// Which contacts of both records are drawn; none of the other's where none of the one's was asked for.
+fn bars_in<A: Allocator + Copy>(
     beside: &Beside<'_, A>,
-    laid: Laid,
     options: CompareOptions,
-) -> Result<(), ToolFault> {
-    let bars = bars_of(beside.one, options.picture.shows_all)?;
+) -> Result<(Vec<bool, A>, Vec<bool, A>), ToolFault> {
     let mut other_bars = bars_of(beside.other, options.picture.shows_all)?;
     if options.is_chosen && !has_contacts(beside.one) {
         other_bars.clear();
     }
-    let places = places_in(beside, &bars, &other_bars);
+    let bars = bars_of(beside.one, options.picture.shows_all)?;
+    Ok((bars, other_bars))
+}
+
+/// The picture of two records with these contacts.
+fn put_drawn<A: Allocator + Copy>(
+    sheet: &mut Sheet<A>,
+    beside: &Beside<'_, A>,
+    bars: (&[bool], &[bool]),
+    laid: Laid,
+    options: CompareOptions,
+) {
+    let places = places_in(beside, bars.0, bars.1);
     let has_one = singles_in(beside.one) != 0;
     let has_other = !options.is_chosen && singles_in(beside.other) != 0;
     let first = places.times.saturating_add(590);
@@ -135,8 +144,8 @@ fn put_picture<A: Allocator + Copy>(
     let end = second.saturating_add(160 * u32::from(has_other));
     put_compare_head(sheet, beside, laid, options.picture, end);
     put_pairs(sheet, beside, places.panels);
-    put_contacts(sheet, beside.one, &bars, places.contacts);
-    put_contacts(sheet, beside.other, &other_bars, places.others);
+    put_contacts(sheet, beside.one, bars.0, places.contacts);
+    put_contacts(sheet, beside.other, bars.1, places.others);
     put_scales(sheet, beside, places);
     if has_one {
         put_singles(sheet, beside.one, beside.other, first);
@@ -144,6 +153,17 @@ fn put_picture<A: Allocator + Copy>(
     if has_other {
         put_singles(sheet, beside.other, beside.one, second);
     }
+}
+
+/// The picture of two records.
+fn put_picture<A: Allocator + Copy>(
+    sheet: &mut Sheet<A>,
+    beside: &Beside<'_, A>,
+    laid: Laid,
+    options: CompareOptions,
+) -> Result<(), ToolFault> {
+    let (bars, other_bars) = bars_in(beside, options)?;
+    put_drawn(sheet, beside, (&bars, &other_bars), laid, options);
     Ok(())
 }
 

@@ -31,6 +31,25 @@ fn first_drawn<'a, A: Allocator>(chart: &Chart<'a, A>) -> Option<&'a Row<A>> {
     None
 }
 
+/// Marks the contacts that change in the rows that are drawn, or all where else one alone would have no mark.
+fn mark_drawn<A: Allocator>(chart: &Chart<'_, A>, changed: &mut [bool]) {
+    let Some(first) = first_drawn(chart) else {
+        return;
+    };
+    let file = chart.file;
+    let rows = file.rows.items();
+    for (row, place) in rows.iter().zip(chart.places.iter()) {
+        if place.is_some() {
+            mark_changed(changed, first.bits.items(), row.bits.items());
+        }
+    }
+    if count_of(changed, false) == 1 {
+        for mark in changed.iter_mut() {
+            *mark = true;
+        }
+    }
+}
+
 /// Of each contact whether it has a bar: where it changes in the rows that are drawn, or all are to be shown, or it would be
 /// the only one without.
 pub(crate) fn bars_of<A: Allocator + Copy>(
@@ -38,25 +57,11 @@ pub(crate) fn bars_of<A: Allocator + Copy>(
     shows_all: bool,
 ) -> Result<Vec<bool, A>, ToolFault> {
     let file = chart.file;
-    let count = file.head.status.items().len();
     let mut changed = Vec::new(chart.alloc);
-    for _ in 0..count {
+    for _ in 0..file.head.status.items().len() {
         changed.push(shows_all)?;
     }
-    let Some(first) = first_drawn(chart) else {
-        return Ok(changed);
-    };
-    let rows = file.rows.items();
-    for (row, place) in rows.iter().zip(chart.places.iter()) {
-        if place.is_some() {
-            mark_changed(&mut changed, first.bits.items(), row.bits.items());
-        }
-    }
-    if count_of(&changed, false) == 1 {
-        for mark in changed.iter_mut() {
-            *mark = true;
-        }
-    }
+    mark_drawn(chart, &mut changed);
     Ok(changed)
 }
 
