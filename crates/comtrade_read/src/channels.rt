@@ -1,7 +1,7 @@
 //! The lines of channels.
 
-ghost use Rattle.std.specs.Prelude.{[]};
-ghost use Rattle.dfr_channels.specs.Lines.{texts};
+ghost use Rattle.std.specs.Prelude.{◌≡◌, [], length, IfOk};
+ghost use Rattle.dfr_channels.specs.Lines.{texts, field};
 ghost use Rattle.comtrade_read.specs.Line.{told, next, each};
 ghost use Rattle.comtrade_read.specs.Head.{analog_line, status_line, next_analog, next_status};
 ghost use Rattle.comtrade_read.specs.Inner.LineFaults.{Is};
@@ -9,18 +9,40 @@ ghost use Rattle.comtrade_read.specs.Inner.LineFaults.{Is};
 use crate::fault::ReadFault;
 use crate::fields::{free_bit_of, free_scale_of, scale_of, side_of, small_of, text_of, whole_of};
 use crate::left::{Left, Line};
-use dfr_channels::{AnalogChannel, StatusChannel};
+use dfr_channels::{AnalogChannel, Decimal, Side, StatusChannel};
 use std::alloc::Allocator;
 
-/// The analogue channel n of these fields.
+/// The numbers of an analogue channel's line.
+struct Scaling {
+    a: Decimal,
+    b: Decimal,
+    skew: Decimal,
+    min: i32,
+    max: i32,
+    primary: Decimal,
+    secondary: Decimal,
+    side: Side,
+}
+
+/// The numbers of the analogue channel n. The contract says what the whole line is, with its texts
+/// as they stand in their fields.
 #[tactic(auto, unfolding(crate::specs::Head::analog_line, crate::specs::Fields::scale, dfr_channels::specs::LineFields::analog_from))]
-fn analog_in<A: Allocator + Copy>(
-    alloc: A,
-    line: u64,
-    n: u64,
-    fields: &[&[u8]],
-) -> Result<AnalogChannel<A>, ReadFault>
-    ensures { Is (λ x. x) (told line (analog_line n (texts fields.now))) result }
+fn scaling_in(line: u64, n: u64, fields: &[&[u8]]) -> Result<Scaling, ReadFault>
+    ensures says { Is (λ x. record {
+      id = field (texts fields.now) 1;
+      phase = field (texts fields.now) 2;
+      component = field (texts fields.now) 3;
+      unit = field (texts fields.now) 4;
+      a = x.a;
+      b = x.b;
+      skew = x.skew;
+      min = x.min;
+      max = x.max;
+      primary = x.primary;
+      secondary = x.secondary;
+      side = x.side;
+    }) (told line (analog_line n (texts fields.now))) result }
+    ensures many { IfOk result (λ _. length fields.now ≡ 13) }
 {
     if fields.len() != 13 {
         return Err(ReadFault::Fields(line));
@@ -37,6 +59,37 @@ fn analog_in<A: Allocator + Copy>(
     if number != n as i128 {
         return Err(ReadFault::Counts(line));
     }
+    Ok(Scaling {
+        a,
+        b,
+        skew,
+        min,
+        max,
+        primary,
+        secondary,
+        side,
+    })
+}
+
+/// The analogue channel n of these fields.
+fn analog_in<A: Allocator + Copy>(
+    alloc: A,
+    line: u64,
+    n: u64,
+    fields: &[&[u8]],
+) -> Result<AnalogChannel<A>, ReadFault>
+    ensures { Is (λ x. x) (told line (analog_line n (texts fields.now))) result }
+{
+    let Scaling {
+        a,
+        b,
+        skew,
+        min,
+        max,
+        primary,
+        secondary,
+        side,
+    } = scaling_in(line, n, fields)?;
     let id = text_of(alloc, fields, 1)?;
     let phase = text_of(alloc, fields, 2)?;
     let component = text_of(alloc, fields, 3)?;

@@ -1,21 +1,46 @@
 //! The channels that lines of a set-up name.
 
+ghost use Rattle.std.specs.Prelude.{◌≡◌, length, IfOk};
 ghost use Rattle.dfr_script.specs.Faults.{Is};
 ghost use Rattle.dfr_script.specs.Channels as spec;
-ghost use Rattle.dfr_channels.specs.Lines.{texts};
+ghost use Rattle.dfr_channels.specs.Lines.{texts, field};
 
 use crate::fault::{LineRefusal, Word};
 use crate::fields::{free_bit_at, free_scale_at, scale_at, side_at, small_at, text_at};
-use dfr_channels::{AnalogChannel, StatusChannel, fields_of};
+use dfr_channels::{AnalogChannel, Decimal, Side, StatusChannel, fields_of};
 use std::alloc::Allocator;
 
-/// An analogue channel, by the fields of its line of a configuration file (C37.111-1999, 5.3.3) without the number.
+/// The numbers of an analogue channel's line.
+struct Scaling {
+    a: Decimal,
+    b: Decimal,
+    skew: Decimal,
+    min: i32,
+    max: i32,
+    primary: Decimal,
+    secondary: Decimal,
+    side: Side,
+}
+
+/// The numbers of an analogue channel. The contract says what the whole line is, with its texts as
+/// they stand in their fields.
 #[tactic(auto, unfolding(dfr_channels::specs::LineFields::analog_from))]
-fn analog_in<A: Allocator + Copy>(
-    alloc: A,
-    fields: &[&[u8]],
-) -> Result<AnalogChannel<A>, LineRefusal>
-    ensures { Is (λ x. x) (spec.analog_fields (texts fields.now)) result }
+fn scaling_in(fields: &[&[u8]]) -> Result<Scaling, LineRefusal>
+    ensures says { Is (λ x. record {
+      id = field (texts fields.now) 0;
+      phase = field (texts fields.now) 1;
+      component = field (texts fields.now) 2;
+      unit = field (texts fields.now) 3;
+      a = x.a;
+      b = x.b;
+      skew = x.skew;
+      min = x.min;
+      max = x.max;
+      primary = x.primary;
+      secondary = x.secondary;
+      side = x.side;
+    }) (spec.analog_fields (texts fields.now)) result }
+    ensures many { IfOk result (λ _. length fields.now ≡ 12) }
 {
     if fields.len() != 12 {
         return Err(LineRefusal::Fault(Word::Fields));
@@ -28,6 +53,35 @@ fn analog_in<A: Allocator + Copy>(
     let primary = free_scale_at(fields, 9)?;
     let secondary = free_scale_at(fields, 10)?;
     let side = side_at(fields, 11)?;
+    Ok(Scaling {
+        a,
+        b,
+        skew,
+        min,
+        max,
+        primary,
+        secondary,
+        side,
+    })
+}
+
+/// An analogue channel, by the fields of its line of a configuration file (C37.111-1999, 5.3.3) without the number.
+fn analog_in<A: Allocator + Copy>(
+    alloc: A,
+    fields: &[&[u8]],
+) -> Result<AnalogChannel<A>, LineRefusal>
+    ensures { Is (λ x. x) (spec.analog_fields (texts fields.now)) result }
+{
+    let Scaling {
+        a,
+        b,
+        skew,
+        min,
+        max,
+        primary,
+        secondary,
+        side,
+    } = scaling_in(fields)?;
     let id = text_at(alloc, fields, 0)?;
     let phase = text_at(alloc, fields, 1)?;
     let component = text_at(alloc, fields, 2)?;
