@@ -298,9 +298,10 @@ static int32_t put_values(const comtrade *r, size_t channel, size_t first, size_
     for (size_t k = 0, now; k < count; k += now) {
         now = count - k < BLOCK ? count - k : BLOCK;
         for (size_t j = 0; j < now; j++) samples[j] = r->samples[(first + k + j) * r->head.analog + channel];
-        int32_t answer = comtrade_core_values(r->analog[channel].a, r->analog[channel].b, samples, now, values, now);
+        double *into = step == 1 ? to + k : values;
+        int32_t answer = comtrade_core_values(r->analog[channel].a, r->analog[channel].b, samples, now, into, now);
         if (answer != COMTRADE_DONE) return answer;
-        for (size_t j = 0; j < now; j++) to[(k + j) * step] = values[j];
+        for (size_t j = 0; j < now && into == values; j++) to[(k + j) * step] = values[j];
     }
     return COMTRADE_DONE;
 }

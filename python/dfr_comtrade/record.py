@@ -22,7 +22,7 @@ def _filled(code: str, count: int, call: Any) -> Any:
         found = numpy.empty(count, _NUMBERS[code])
         need(call(found.ctypes.data if count else None))
         return found
-    found = array.array(code, bytes(count * array.array(code).itemsize))
+    found = array.array(code, [0]) * count
     need(call(found.buffer_info()[0] if count else None))
     return found
 
@@ -208,7 +208,12 @@ class Record:
             if numpy is not None:
                 self._read["seconds"] = numpy.where(times == c.NO_TIME, numpy.nan, times / 1e9)
             else:
-                self._read["seconds"] = array.array("d", (t / 1e9 if t != c.NO_TIME else float("nan") for t in times))
+                seconds = array.array("d", map((1e9).__rtruediv__, times))
+                if c.NO_TIME in times:
+                    for k, time in enumerate(times):
+                        if time == c.NO_TIME:
+                            seconds[k] = float("nan")
+                self._read["seconds"] = seconds
         return self._read["seconds"]
 
     @property

@@ -2,7 +2,7 @@
 use Rattle.std.proofs.Common.{◌≡◌, ◌≢◌, ℕ, ◌+◌, ◌-◌, ◌<◌, ◌≤◌, List, [], ◌∷◌, ◌++◌, length, get_or, take, drop, sym, ap, ◌∙◌, arith, length-append}
 use Rattle.std.specs.List.{flat_map}
 use Rattle.std.proofs.lemmas.Grind.{common_steps}
-use Rattle.std.proofs.lemmas.List.{take_more, flat_map_more, take-append-drop}
+use Rattle.std.proofs.lemmas.List.{take_more, flat_map_more, take-append-drop, take_all, drop_all, append-nil}
 use Rattle.std.proofs.lemmas.Slice.{take-put_mid, drop-put_mid, drop-append-drop}
 use borrow.Rule.Slice.PartMut.{put_mid}
 use Rattle.std.proofs.lemmas.List.Folds.{length-flat_map-take}
@@ -46,6 +46,30 @@ front_of front rest n is = grind (arith, common_steps)
 
 back_of : {B : Type 0} (front ws : List B) (n count : ℕ) → n ≡ length front → drop (n + count) (front ++ drop n ws) ≡ drop (n + count) ws
 back_of front ws n count is = drop-append-drop n ws front (n + count) (omega arith) (sym is)
+
+-- items laid over the table, behind those before them
+pub mid_laid :
+    {B : Type 0} (front ys vs ws : List B) (at count k : ℕ) → k ≡ count → at ≡ length front → length ys ≡ count → at ≤ length vs
+    → vs ≡ front ++ drop at ws → put_mid at k vs ys ≡ (front ++ ys) ++ drop (at + count) ws
+mid_laid front ys vs ws at count k same begun long within laid =
+    let all = put_mid at k vs ys in
+    let first : take (at + count) all ≡ front ++ ys =
+    take-put_mid at k vs ys (at + count) (omega (arith, long)) within
+    ∙ ap (λ l. l ++ ys) (ap (λ l. take at l) laid ∙ front_of front (drop at ws) at begun) in
+    let last : drop (at + count) all ≡ drop (at + count) ws =
+    drop-put_mid at k vs ys (at + count) (omega (arith, same)) within (long ∙ sym same)
+    ∙ ap (λ l. drop (at + count) l) laid ∙ back_of front ws at count begun in
+    sym (take-append-drop (at + count) all) ∙ ap (λ l. l ++ drop (at + count) all) first ∙ ap (λ l. (front ++ ys) ++ l) last
+
+-- the last row's items end the table
+pub rows_laid :
+    {A B : Type 0} (f : A → List B) (xs : List A) (vs ws : List B) (n at : ℕ) → length xs ≤ n → at ≡ length (flat_map f (take n xs))
+    → length ws ≡ length (flat_map f xs) → vs ≡ flat_map f (take n xs) ++ drop at ws → vs ≡ flat_map f xs
+rows_laid f xs vs ws n at most begun long laid =
+    let all : take n xs ≡ xs = take_all n xs most in
+    let end : at ≡ length (flat_map f xs) = begun ∙ ap (λ l. length (flat_map f l)) all in
+    laid ∙ ap (λ l. flat_map f l ++ drop at ws) all ∙ ap (λ l. flat_map f xs ++ l) (drop_all at ws (omega (arith, long, end)))
+    ∙ append-nil (flat_map f xs)
 
 -- a row's items laid over the table, after those of the rows before it
 pub row_laid :

@@ -4,3 +4,4 @@ pub mod Lacking
 pub mod Laid
 pub mod Filled
 pub mod Timed
+pub mod Flat

@@ -3,8 +3,8 @@ use Rattle.std.specs.Prelude.{◌≡◌, ◌≢◌, ◌⊎◌, ℕ, ℤ, negsuc,
 use Rattle.std.specs.List.{flat_map}
 use Rattle.dfr_channels.specs.declared.scan.Reading.{Reading}
 use Rattle.dfr_channels.specs.declared.scan.Reading.TheVariants.{Value, Missing}
-use Rattle.comtrade_format.specs.Parts.{FileParts, RowParts}
-use Rattle.comtrade_read.specs.Reads.{Reads}
+use Rattle.comtrade_format.specs.Parts.{FileParts, HeadParts, RowParts}
+use Rattle.comtrade_read.specs.Reads.{Reads, ReadsRows}
 
 -- -2^31 stands for a missing reading
 abbrev pub sample_of : Reading → ℤ
@@ -26,14 +26,23 @@ row_samples r = map sample_of r.values
 abbrev pub row_bits : RowParts → List ℕ
 row_bits r = map bit_of r.bits
 
+abbrev pub stamps_of : List RowParts → List ℕ
+stamps_of rows = map (λ r. stamp_of r.stamp) rows
+
+abbrev pub samples_of : List RowParts → List ℤ
+samples_of rows = flat_map row_samples rows
+
+abbrev pub bits_of : List RowParts → List ℕ
+bits_of rows = flat_map row_bits rows
+
 abbrev pub stamps_in : FileParts → List ℕ
-stamps_in f = map (λ r. stamp_of r.stamp) f.rows
+stamps_in f = stamps_of f.rows
 
 abbrev pub samples_in : FileParts → List ℤ
-samples_in f = flat_map row_samples f.rows
+samples_in f = samples_of f.rows
 
 abbrev pub bits_in : FileParts → List ℕ
-bits_in f = flat_map row_bits f.rows
+bits_in f = bits_of f.rows
 
 -- the pair reads to a file with these stamps, samples and bits, all of a row together
 pub record Tabulates (cfg dat : List ℕ) (stamps : List ℕ) (samples : List ℤ) (bits : List ℕ) : Type 0 where
@@ -50,3 +59,19 @@ pub record LacksRoom (cfg dat : List ℕ) (stamps : List ℕ) (samples : List �
   pub lengths :
       (length stamps ≢ length (stamps_in file)) ⊎ (length samples ≢ length (samples_in file))
       ⊎ (length bits ≢ length (bits_in file))
+
+-- the same of data under their head: they read to rows with these stamps, samples and bits
+pub record TabulatesRows (h : HeadParts) (dat : List ℕ) (stamps : List ℕ) (samples : List ℤ) (bits : List ℕ) : Type 0 where
+  pub rows : List RowParts
+  pub reads : ReadsRows h dat rows
+  pub stamps_are : stamps ≡ stamps_of rows
+  pub samples_are : samples ≡ samples_of rows
+  pub bits_are : bits ≡ bits_of rows
+
+-- they read to rows, and one of the tables isn't as long as their stamps, samples or bits
+pub record RowsLackRoom (h : HeadParts) (dat : List ℕ) (stamps : List ℕ) (samples : List ℤ) (bits : List ℕ) : Type 0 where
+  pub rows : List RowParts
+  pub reads : ReadsRows h dat rows
+  pub lengths :
+      (length stamps ≢ length (stamps_of rows)) ⊎ (length samples ≢ length (samples_of rows))
+      ⊎ (length bits ≢ length (bits_of rows))

@@ -3,6 +3,7 @@
 #![tactic(auto)]
 
 mod answer;
+mod binary;
 mod channels;
 mod rows;
 mod summary;

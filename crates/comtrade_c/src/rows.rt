@@ -1,16 +1,19 @@
 //! The rows of a pair, as tables of numbers.
 
-ghost use Rattle.std.specs.Prelude.{◌≡◌, ◌≢◌, ◌⊎◌, length, map, IsTrue, IsFalse};
+ghost use Rattle.std.specs.Prelude.{◌≡◌, ◌≢◌, ◌⊎◌, ◌+◌, ◌<◌, length, map, Ok, IfErr, IsTrue, IsFalse, true, false};
 ghost use Rattle.std.specs.List.{flat_map};
+ghost use Rattle.comtrade_read.specs.declared.fault.ReadFault.TheVariants as faults;
 ghost use Rattle.comtrade_read.specs.declared.pair.Part.TheVariants.{Cfg, Dat};
+ghost use Rattle.comtrade_read.specs.Reads.{ReadsRows, FaultyData, Nothing};
 ghost use Rattle.comtrade_c.specs.Faults.{IsPairFault};
 ghost use Rattle.comtrade_c.specs.declared.answer.TheConstants.{NO_MEMORY};
 ghost use Rattle.comtrade_c.specs.Tables as tables;
-ghost use Rattle.comtrade_c.specs.Tables.{Tabulates, LacksRoom, row_bits, row_samples};
+ghost use Rattle.comtrade_c.specs.Tables.{Tabulates, LacksRoom, TabulatesRows, RowsLackRoom, row_bits, row_samples};
 
 use crate::answer::{CFG_FAULT, DAT_FAULT, DONE, Fault, NO_ROOM, refuse_read};
-use comtrade_format::{File, Row};
-use comtrade_read::read;
+use crate::binary::binary_rows;
+use comtrade_format::{Head, Kind, Row};
+use comtrade_read::{Part, ReadFault, read_cfg, read_dat};
 use dfr_channels::Reading;
 use std::alloc::Global;
 
@@ -129,18 +132,17 @@ fn put_stamps(to: &mut [u64], rows: &[Row])
 }
 
 /// Fills the tables; false where one of them isn't as long as the rows want, and then all are left alone.
-fn fill(file: &File, stamps: &mut [u64], samples: &mut [i32], bits: &mut [u8]) -> bool
-    ensures stamps { IsTrue result → stamps.new ≡ tables.stamps_in file.now }
-    ensures samples { IsTrue result → samples.new ≡ tables.samples_in file.now }
-    ensures bits { IsTrue result → bits.new ≡ tables.bits_in file.now }
-    ensures room { IsFalse result → (length stamps.old ≢ length (tables.stamps_in file.now))
-        ⊎ (length samples.old ≢ length (tables.samples_in file.now))
-        ⊎ (length bits.old ≢ length (tables.bits_in file.now)) }
+fn fill(rows: &[Row], stamps: &mut [u64], samples: &mut [i32], bits: &mut [u8]) -> bool
+    ensures stamps { IsTrue result → stamps.new ≡ tables.stamps_of rows.now }
+    ensures samples { IsTrue result → samples.new ≡ tables.samples_of rows.now }
+    ensures bits { IsTrue result → bits.new ≡ tables.bits_of rows.now }
+    ensures room { IsFalse result → (length stamps.old ≢ length (tables.stamps_of rows.now))
+        ⊎ (length samples.old ≢ length (tables.samples_of rows.now))
+        ⊎ (length bits.old ≢ length (tables.bits_of rows.now)) }
     ensures stamps_kept { IsFalse result → stamps.new ≡ stamps.old }
     ensures samples_kept { IsFalse result → samples.new ≡ samples.old }
     ensures bits_kept { IsFalse result → bits.new ≡ bits.old }
 {
-    let rows = file.rows.items();
     if stamps.len() != rows.len()
         || !holds_samples(samples.len(), rows)
         || !holds_bits(bits.len(), rows)
@@ -151,6 +153,55 @@ fn fill(file: &File, stamps: &mut [u64], samples: &mut [i32], bits: &mut [u8]) -
     put_samples(samples, rows);
     put_bits(bits, rows);
     true
+}
+
+/// Fills the tables with the rows that data say under their head, which are read first; false as `fill` says it. After a fault, too, all
+/// are left alone.
+fn listed_rows(
+    alloc: Global,
+    head: Head,
+    dat: &[u8],
+    stamps: &mut [u64],
+    samples: &mut [i32],
+    bits: &mut [u8],
+) -> Result<bool, ReadFault>
+    requires few { length head.analog + length head.status < 1000000 }
+    ensures done { result ≡ Ok true → TabulatesRows head dat.now stamps.new samples.new bits.new }
+    ensures room { result ≡ Ok false → RowsLackRoom head dat.now stamps.old samples.old bits.old }
+    ensures fault { IfErr result (λ e. e ≢ faults.Memory → FaultyData head dat.now e) }
+    ensures unread { IfErr result (λ e. e ≢ faults.Memory → Nothing (ReadsRows head dat.now)) }
+    ensures stamps_kept { (result ≢ Ok true) → stamps.new ≡ stamps.old }
+    ensures samples_kept { (result ≢ Ok true) → samples.new ≡ samples.old }
+    ensures bits_kept { (result ≢ Ok true) → bits.new ≡ bits.old }
+{
+    match read_dat(alloc, head, dat) {
+        Ok(file) => Ok(fill(file.rows.items(), stamps, samples, bits)),
+        Err((why, _)) => Err(why),
+    }
+}
+
+/// The same, straight from the data where they are BINARY.
+fn rows_under(
+    alloc: Global,
+    head: Head,
+    dat: &[u8],
+    stamps: &mut [u64],
+    samples: &mut [i32],
+    bits: &mut [u8],
+) -> Result<bool, ReadFault>
+    requires few { length head.analog + length head.status < 1000000 }
+    ensures done { result ≡ Ok true → TabulatesRows head dat.now stamps.new samples.new bits.new }
+    ensures room { result ≡ Ok false → RowsLackRoom head dat.now stamps.old samples.old bits.old }
+    ensures fault { IfErr result (λ e. e ≢ faults.Memory → FaultyData head dat.now e) }
+    ensures unread { IfErr result (λ e. e ≢ faults.Memory → Nothing (ReadsRows head dat.now)) }
+    ensures stamps_kept { (result ≢ Ok true) → stamps.new ≡ stamps.old }
+    ensures samples_kept { (result ≢ Ok true) → samples.new ≡ samples.old }
+    ensures bits_kept { (result ≢ Ok true) → bits.new ≡ bits.old }
+{
+    match head.kind {
+        Kind::Ascii => listed_rows(alloc, head, dat, stamps, samples, bits),
+        Kind::Binary => binary_rows(&head, dat, stamps, samples, bits),
+    }
 }
 
 /// The rows of a pair: a stamp for each row, and row by row a sample for each analogue channel and a bit for each status channel.
@@ -175,13 +226,13 @@ pub extern "C" fn comtrade_core_rows(
     ensures bits_kept { (result ≢ DONE) → bits.new ≡ bits.old }
     ensures fault_kept { (result ≢ CFG_FAULT) → (result ≢ DAT_FAULT) → fault.new ≡ fault.old }
 {
-    let file = match read(alloc, cfg, dat) {
-        Ok(file) => file,
-        Err((part, why)) => return refuse_read(part, why, fault),
+    let head = match read_cfg(alloc, cfg) {
+        Ok(head) => head,
+        Err(why) => return refuse_read(Part::Cfg, why, fault),
     };
-    if fill(&file, stamps, samples, bits) {
-        DONE
-    } else {
-        NO_ROOM
+    match rows_under(alloc, head, dat, stamps, samples, bits) {
+        Ok(true) => DONE,
+        Ok(false) => NO_ROOM,
+        Err(why) => refuse_read(Part::Dat, why, fault),
     }
 }

@@ -41,7 +41,7 @@ fn is_binary(kind: Kind) -> bool
     }
 }
 
-fn last_row(rates: &[Rate]) -> u64
+pub(crate) fn last_row(rates: &[Rate]) -> u64
     ensures { result ≡ last_sample rates.now }
 {
     match rates {

@@ -1,0 +1,194 @@
+//! The rows of BINARY data, straight into tables: no list is made for each row.
+
+ghost use Rattle.std.specs.Prelude.{◌≡◌, ◌≢◌, ◌⊎◌, ◌≤◌, ◌<◌, ◌*◌, ◌+◌, ◌/◌, length, map, Ok, IfErr, IsTrue, IsFalse, true, false};
+ghost use Rattle.comtrade_format.specs.declared.file.Kind.TheVariants.{Binary};
+ghost use Rattle.comtrade_read.specs.Reads.{row_size, ReadsRows, FaultyData, Nothing};
+ghost use Rattle.comtrade_read.specs.Inner.BinaryRows as spec;
+ghost use Rattle.comtrade_c.specs.Tables as tables;
+ghost use Rattle.comtrade_c.specs.Tables.{TabulatesRows, RowsLackRoom};
+
+use crate::rows::{NO_SAMPLE, NO_STAMP};
+use crate::summary::last_row;
+use byteorder::{ByteOrder, LittleEndian};
+use comtrade_format::Head;
+use comtrade_read::ReadFault;
+
+/// The value in the first two bytes, in two's complement; the lowest stands for a missing one.
+fn sample_at(bytes: &[u8]) -> i32
+    requires { 2 ≤ length bytes.now }
+    ensures { result ≡ tables.sample_of (spec.value_at bytes.now) }
+{
+    let value = LittleEndian::read_i16(bytes);
+    if value == -32_768 {
+        NO_SAMPLE
+    } else {
+        value as i32
+    }
+}
+
+/// The time stamp in the first four bytes; the highest stands for none.
+fn stamp_at(bytes: &[u8]) -> u64
+    requires { 4 ≤ length bytes.now }
+    ensures { result ≡ tables.stamp_of (spec.stamp_at bytes.now) }
+{
+    let stamp = LittleEndian::read_u32(bytes);
+    if stamp == u32::MAX {
+        NO_STAMP
+    } else {
+        stamp as u64
+    }
+}
+
+/// The samples of one row, whose values begin the bytes.
+fn put_row(to: &mut [i32], bytes: &[u8])
+    requires { 2 * length to.old ≤ length bytes.now }
+    ensures { to.new ≡ map tables.sample_of (spec.values_at (length to.old) bytes.now) }
+{
+    for k in 0..to.len() {
+        to[k] = sample_at(&bytes[2 * k..]);
+    }
+}
+
+/// The lowest bits of a group, a byte for each.
+#[inline(always)]
+fn put_group(to: &mut [u8], group: u16)
+    requires { length to.old ≤ 16 }
+    ensures { to.new ≡ map tables.bit_of (spec.group_bits (length to.old) group) }
+{
+    for k in 0..to.len() {
+        to[k] = ((group >> k) & 1) as u8;
+    }
+}
+
+/// The bits of one row, whose groups begin the bytes.
+fn put_row_bits(to: &mut [u8], bytes: &[u8])
+    requires { 2 * ((length to.old + 15) / 16) ≤ length bytes.now }
+    ensures { to.new ≡ map tables.bit_of (spec.bits_at (length to.old) bytes.now) }
+{
+    let whole = to.len() / 16;
+    for g in 0..whole {
+        let group = LittleEndian::read_u16(&bytes[2 * g..]);
+        put_group(&mut to[16 * g..16 * g + 16], group);
+    }
+    let at = 16 * whole;
+    if at < to.len() {
+        let group = LittleEndian::read_u16(&bytes[2 * whole..]);
+        put_group(&mut to[at..], group);
+    }
+}
+
+/// The bytes of a row of k samples and m bits.
+fn row_size(k: usize, m: usize) -> usize
+    requires k { k < 1000000 }
+    requires m { m < 1000000 }
+    ensures { result ≡ row_size k m }
+{
+    8 + 2 * k + 2 * ((m + 15) / 16)
+}
+
+/// The stamp of each row of k samples and m bits.
+fn put_stamps(to: &mut [u64], dat: &[u8], k: usize, m: usize)
+    requires k { k < 1000000 }
+    requires m { m < 1000000 }
+    requires whole { length dat.now ≡ length to.old * row_size k m }
+    ensures { to.new ≡ tables.stamps_of (spec.rows_at k m dat.now (length to.old)) }
+{
+    let size = row_size(k, m);
+    for i in 0..to.len() {
+        to[i] = stamp_at(&dat[i * size + 4..]);
+    }
+}
+
+/// The samples of so many rows of k samples and m bits.
+fn put_samples(to: &mut [i32], dat: &[u8], k: usize, m: usize, count: usize)
+    requires k { k < 1000000 }
+    requires m { m < 1000000 }
+    requires whole { length dat.now ≡ count * row_size k m }
+    requires room { length to.old ≡ count * k }
+    ensures { to.new ≡ tables.samples_of (spec.rows_at k m dat.now count) }
+{
+    let size = row_size(k, m);
+    let mut at = 0;
+    for i in 0..count {
+        let end = at + k;
+        put_row(&mut to[at..end], &dat[i * size + 8..]);
+        at = end;
+    }
+}
+
+/// The bits of so many rows of k samples and m bits.
+fn put_bits(to: &mut [u8], dat: &[u8], k: usize, m: usize, count: usize)
+    requires k { k < 1000000 }
+    requires m { m < 1000000 }
+    requires whole { length dat.now ≡ count * row_size k m }
+    requires room { length to.old ≡ count * m }
+    ensures { to.new ≡ tables.bits_of (spec.rows_at k m dat.now count) }
+{
+    let size = row_size(k, m);
+    let first = 8 + 2 * k;
+    let mut at = 0;
+    for i in 0..count {
+        let end = at + m;
+        put_row_bits(&mut to[at..end], &dat[i * size + first..]);
+        at = end;
+    }
+}
+
+/// Whether so many rows, each of this size, are so many items.
+fn are(items: usize, rows: u64, size: usize) -> bool
+    requires { size < 5000000 }
+    ensures whole { IsTrue result → items ≡ rows * size }
+    ensures other { IsFalse result → items ≢ rows * size }
+{
+    // the product may pass 64 bits
+    items as u128 == rows as u128 * size as u128
+}
+
+/// Whether three tables are as long as the stamps, samples and bits of so many rows of k samples and m bits.
+fn are_tables(stamps: usize, samples: usize, bits: usize, rows: u64, k: usize, m: usize) -> bool
+    requires k { k < 1000000 }
+    requires m { m < 1000000 }
+    ensures stamps { IsTrue result → stamps ≡ rows }
+    ensures samples { IsTrue result → samples ≡ rows * k }
+    ensures bits { IsTrue result → bits ≡ rows * m }
+    ensures other { IsFalse result → (stamps ≢ rows) ⊎ (samples ≢ rows * k) ⊎ (bits ≢ rows * m) }
+{
+    stamps as u64 == rows && are(samples, rows, k) && are(bits, rows, m)
+}
+
+/// Fills the tables with the rows that BINARY data say under their head; false where one of the tables isn't as long as they want, and
+/// then all are left alone, as they are where the data have a fault.
+pub(crate) fn binary_rows(
+    head: &Head,
+    dat: &[u8],
+    stamps: &mut [u64],
+    samples: &mut [i32],
+    bits: &mut [u8],
+) -> Result<bool, ReadFault>
+    requires kind { head.now.kind ≡ Binary }
+    requires few { length head.now.analog + length head.now.status < 1000000 }
+    ensures done { result ≡ Ok true →
+        TabulatesRows head.now dat.now stamps.new samples.new bits.new }
+    ensures room { result ≡ Ok false →
+        RowsLackRoom head.now dat.now stamps.old samples.old bits.old }
+    ensures fault { IfErr result (FaultyData head.now dat.now) }
+    ensures unread { IfErr result (λ e. Nothing (ReadsRows head.now dat.now)) }
+    ensures stamps_kept { (result ≢ Ok true) → stamps.new ≡ stamps.old }
+    ensures samples_kept { (result ≢ Ok true) → samples.new ≡ samples.old }
+    ensures bits_kept { (result ≢ Ok true) → bits.new ≡ bits.old }
+{
+    let k = head.analog.items().len();
+    let m = head.status.items().len();
+    let rows = last_row(head.rates.items());
+    if !are(dat.len(), rows, row_size(k, m)) {
+        return Err(ReadFault::Length);
+    }
+    if !are_tables(stamps.len(), samples.len(), bits.len(), rows, k, m) {
+        return Ok(false);
+    }
+    let count = stamps.len();
+    put_stamps(stamps, dat, k, m);
+    put_samples(samples, dat, k, m, count);
+    put_bits(bits, dat, k, m, count);
+    Ok(true)
+}
