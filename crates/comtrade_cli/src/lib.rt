@@ -11,6 +11,7 @@ mod matched;
 mod options;
 mod output;
 mod records;
+mod seen;
 mod text;
 mod words;
 

@@ -1,11 +1,12 @@
-//! Printed text, buffered before it is written. Texts of a file come out as printable characters alone.
+//! Printed text, buffered before it is written. Texts of a file come out as characters that are seen, and no others.
 
 ghost use Rattle.std.specs.Prelude.{◌≡◌, ◌<◌, ◌==◌, ◌++◌, ℕ, OnOk, decimal, if◌then◌else◌};
 ghost use Rattle.std.specs.Char.{digit_char};
 ghost use Rattle.std.specs.Fmt.{signed_decimal};
 ghost use Rattle.comtrade_format.specs.Cfg.{kind_text};
-ghost use Rattle.comtrade_cli.specs.Safe.{quoted, safe, safe_byte};
+ghost use Rattle.comtrade_cli.specs.Safe.{in_hex, quoted, safe};
 
+use crate::seen::seen_len;
 use comtrade_format::Kind;
 use itoa::Buffer;
 use std::alloc::{AllocError, Allocator};
@@ -68,22 +69,28 @@ fn hex_digit(n: u8) -> u8
     if n < 10 { b'0' + n } else { b'a' + (n - 10) }
 }
 
-/// A byte as it is where it is printable, else in hexadecimal.
-fn put_byte<A: Allocator>(out: &mut Vec<u8, A>, b: u8) -> Result<(), AllocError>
-    ensures { OnOk result (out.new.items ≡ out.old.items ++ safe_byte b) }
+/// A byte in hexadecimal, as `\x1b`.
+fn put_in_hex<A: Allocator>(out: &mut Vec<u8, A>, b: u8) -> Result<(), AllocError>
+    ensures { OnOk result (out.new.items ≡ out.old.items ++ in_hex b) }
 {
-    if 32 <= b && b <= 126 {
-        return out.extend_from_slice(&[b]);
-    }
     out.extend_from_slice(&[b'\\', b'x', hex_digit(b / 16), hex_digit(b % 16)])
 }
 
-/// A text of a file: bytes outside 20 to 7E stand in hexadecimal, as `\x1b`.
+/// A text of a file: characters of UTF-8 that are seen stand as they are, other bytes in hexadecimal, as `\x1b`.
 pub fn put_safe<A: Allocator>(out: &mut Vec<u8, A>, text: &[u8]) -> Result<(), AllocError>
     ensures { OnOk result (out.new.items ≡ out.old.items ++ safe text.now) }
 {
-    for b in text {
-        put_byte(out, *b)?;
+    let mut left = 0usize;
+    for i in 0..text.len() {
+        if left == 0 {
+            left = seen_len(&text[i..]);
+        }
+        if left == 0 {
+            put_in_hex(out, text[i])?;
+        } else {
+            out.extend_from_slice(&[text[i]])?;
+            left -= 1;
+        }
     }
     Ok(())
 }

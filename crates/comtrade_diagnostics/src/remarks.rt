@@ -92,6 +92,41 @@ fn put_outside<A: Allocator>(
     put_end(out, doubt, " such sample", " such samples")
 }
 
+/// A line on samples that stay at an end of their range, where there is one.
+fn put_flat<A: Allocator>(
+    out: &mut Vec<u8, A>,
+    pair: Pair<'_>,
+    file: &File<A>,
+    doubt: Doubt,
+) -> Result<(), AllocError> {
+    let Some(sample) = sample_in(file, doubt.row, doubt.channel) else {
+        return Ok(());
+    };
+    put_row(out, pair, doubt)?;
+    put_with(out, " (analogue channel ", doubt.channel)?;
+    put(out, "): three samples or more in a row are ")?;
+    put_signed(out, i64::from(sample))?;
+    put(out, ", an end of the range ")?;
+    put_range(out, file, doubt.channel, " to ")?;
+    put_end(out, doubt, " such run", " such runs")
+}
+
+/// A line on texts that aren't ASCII, where there is one.
+fn put_foreign<A: Allocator>(
+    out: &mut Vec<u8, A>,
+    pair: Pair<'_>,
+    doubt: Doubt,
+) -> Result<(), AllocError> {
+    if doubt.count == 0 {
+        return Ok(());
+    }
+    put(out, "note: ")?;
+    put_safe(out, pair.cfg_name)?;
+    put_with(out, ": line ", doubt.row)?;
+    put(out, ": a text isn't ASCII, as the standard wants it")?;
+    put_end(out, doubt, " such line", " such lines")
+}
+
 /// A line on channels whose min is over their max, where there is one.
 fn put_turned<A: Allocator>(
     out: &mut Vec<u8, A>,
@@ -118,6 +153,7 @@ pub(crate) fn put_remarks<A: Allocator + Copy>(
     file: &File<A>,
 ) -> Result<(), AllocError> {
     let doubts = doubts_of(alloc, file)?;
+    put_foreign(out, pair, doubts.foreign)?;
     put_turned(out, pair, file, doubts.turned)?;
     put_rows(
         out,
@@ -137,5 +173,6 @@ pub(crate) fn put_remarks<A: Allocator + Copy>(
         doubts.off,
         ": its stamp and the rate disagree by over half an interval; the rate says the times",
     )?;
-    put_outside(out, pair, file, doubts.outside)
+    put_outside(out, pair, file, doubts.outside)?;
+    put_flat(out, pair, file, doubts.flat)
 }

@@ -2,7 +2,7 @@
 
 use crate::clock::{Clock, time_of_stamp};
 use crate::num::Num;
-use comtrade_format::{File, Row};
+use comtrade_format::{File, Head, Row};
 use dfr_channels::{AnalogChannel, Reading};
 use std::alloc::{AllocError, Allocator};
 
@@ -27,6 +27,10 @@ pub struct Doubts {
     pub outside: Doubt,
     /// Channels whose min is over their max.
     pub turned: Doubt,
+    /// Runs of three samples or more at one end of their channel's range.
+    pub flat: Doubt,
+    /// Lines of the configuration file with a text that isn't ASCII, their numbers as rows.
+    pub foreign: Doubt,
 }
 
 impl Doubt {
@@ -124,6 +128,111 @@ fn add_outside<A: Allocator>(
     }
 }
 
+/// How many samples of a channel in a row stand at one end of its range, and at which.
+#[derive(Clone, Copy)]
+struct Run {
+    sample: i32,
+    length: u32,
+}
+
+impl Run {
+    /// With the sample of one row more; whether there are three now.
+    fn is_third<A: Allocator>(&mut self, value: &Reading, channel: &AnalogChannel<A>) -> bool {
+        let at_end = match value {
+            Reading::Value(x) if channel.min != channel.max => {
+                if *x == channel.min || *x == channel.max {
+                    Some(*x)
+                } else {
+                    None
+                }
+            }
+            _ => None,
+        };
+        let Some(sample) = at_end else {
+            self.length = 0;
+            return false;
+        };
+        if self.length == 0 || self.sample != sample {
+            self.length = 0;
+            self.sample = sample;
+        }
+        self.length = self.length.saturating_add(1);
+        self.length == 3
+    }
+}
+
+/// Adds the runs that reach three samples in a row.
+fn add_flat<A: Allocator>(
+    doubt: &mut Doubt,
+    runs: &mut [Run],
+    row: &Row<A>,
+    place: u64,
+    channels: &[AnalogChannel<A>],
+) {
+    let mut number = 0u64;
+    let values = row.values.items();
+    for (run, (value, channel)) in runs.iter_mut().zip(values.iter().zip(channels.iter())) {
+        number = number.saturating_add(1);
+        if run.is_third(value, channel) {
+            doubt.add(place.saturating_sub(2), number);
+        }
+    }
+}
+
+/// Adds the rows whose samples are odd.
+fn add_samples<A: Allocator + Copy>(
+    alloc: A,
+    doubts: &mut Doubts,
+    file: &File<A>,
+) -> Result<(), AllocError> {
+    let channels = file.head.analog.items();
+    let mut runs = Vec::new(alloc);
+    for _ in channels {
+        runs.push(Run {
+            sample: 0,
+            length: 0,
+        })?;
+    }
+    let mut place = 0u64;
+    for row in file.rows.items() {
+        place = place.saturating_add(1);
+        add_outside(&mut doubts.outside, row, place, channels);
+        add_flat(&mut doubts.flat, &mut runs, row, place, channels);
+    }
+    Ok(())
+}
+
+/// Adds a line of the configuration file where one of its texts isn't ASCII.
+fn add_foreign(doubt: &mut Doubt, line: u64, texts: [&[u8]; 4]) {
+    for text in texts {
+        if text.iter().any(|b| 0x80 <= *b) {
+            doubt.add(line, 0);
+            return;
+        }
+    }
+}
+
+/// Adds the lines of the configuration file whose texts aren't ASCII: names first, then a line for each channel.
+fn add_texts<A: Allocator>(doubt: &mut Doubt, head: &Head<A>) {
+    add_foreign(
+        doubt,
+        1,
+        [head.station.items(), head.device.items(), &[], &[]],
+    );
+    let mut line = 2u64;
+    for channel in head.analog.items() {
+        line = line.saturating_add(1);
+        let (id, phase) = (channel.id.items(), channel.phase.items());
+        let (component, unit) = (channel.component.items(), channel.unit.items());
+        add_foreign(doubt, line, [id, phase, component, unit]);
+    }
+    for channel in head.status.items() {
+        line = line.saturating_add(1);
+        let (id, phase) = (channel.id.items(), channel.phase.items());
+        add_foreign(doubt, line, [id, phase, channel.component.items(), &[]]);
+    }
+}
+
 /// What is odd about a file.
 pub fn doubts_of<A: Allocator + Copy>(alloc: A, file: &File<A>) -> Result<Doubts, AllocError> {
     let mut doubts = Doubts::default();
@@ -137,10 +246,7 @@ pub fn doubts_of<A: Allocator + Copy>(alloc: A, file: &File<A>) -> Result<Doubts
     }
     let clock = clock_of(alloc, file)?;
     add_times(&mut doubts, file, &clock);
-    let mut place = 0u64;
-    for row in file.rows.items() {
-        place = place.saturating_add(1);
-        add_outside(&mut doubts.outside, row, place, channels);
-    }
+    add_samples(alloc, &mut doubts, file)?;
+    add_texts(&mut doubts.foreign, &file.head);
     Ok(doubts)
 }

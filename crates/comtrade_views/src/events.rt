@@ -48,27 +48,41 @@ fn event_at<A: Allocator + Copy>(alloc: A, source: Source<'_>, row: usize) -> Ev
     }
 }
 
-/// The changes of one contact.
+/// A change of a contact at a row.
+fn add_change<A: Allocator + Copy>(
+    alloc: A,
+    events: &mut Vec<Event<A>, A>,
+    source: Source<'_>,
+    row: usize,
+    place: usize,
+    id: &[u8],
+    bit: bool,
+) -> Result<(), ToolFault> {
+    let mut event = event_at(alloc, source, row);
+    put_with(&mut event.text, "D", (place as u64).saturating_add(1))?;
+    put(&mut event.text, " ")?;
+    put_safe(&mut event.text, id)?;
+    put(&mut event.text, if bit { " 1" } else { " 0" })?;
+    events.push(event)?;
+    Ok(())
+}
+
+/// The changes of contacts from one row to the next.
 fn add_changes<A: Allocator + Copy>(
     alloc: A,
     events: &mut Vec<Event<A>, A>,
     source: Source<'_>,
-    rows: &[Row<A>],
-    place: usize,
-    id: &[u8],
+    file: &File<A>,
 ) -> Result<(), ToolFault> {
-    let mut before = None;
-    for (i, row) in rows.iter().enumerate() {
-        let bit = bit_at(row, place);
-        if before == Some(!bit) {
-            let mut event = event_at(alloc, source, i);
-            put_with(&mut event.text, "D", (place as u64).saturating_add(1))?;
-            put(&mut event.text, " ")?;
-            put_safe(&mut event.text, id)?;
-            put(&mut event.text, if bit { " 1" } else { " 0" })?;
-            events.push(event)?;
+    let rows = file.rows.items();
+    for (i, (before, row)) in rows.iter().zip(rows.iter().skip(1)).enumerate() {
+        for (place, channel) in file.head.status.items().iter().enumerate() {
+            let bit = bit_at(row, place);
+            if bit_at(before, place) != bit {
+                let at = i.saturating_add(1);
+                add_change(alloc, events, source, at, place, channel.id.items(), bit)?;
+            }
         }
-        before = Some(bit);
     }
     Ok(())
 }
@@ -182,16 +196,7 @@ pub fn add_events<A: Allocator + Copy>(
         times: &times,
     };
     add_trigger(alloc, events, source, file)?;
-    for (i, channel) in file.head.status.items().iter().enumerate() {
-        add_changes(
-            alloc,
-            events,
-            source,
-            file.rows.items(),
-            i,
-            channel.id.items(),
-        )?;
-    }
+    add_changes(alloc, events, source, file)?;
     add_gaps(alloc, events, source, file.rows.items())
 }
 

@@ -3,6 +3,7 @@
 use crate::instant::put_instant;
 use crate::json::{Member, put_rows_json, put_text};
 use crate::number::put_decimal;
+use crate::peaks::peaks_of;
 use crate::show::Clock;
 use crate::show_analog::put_rows;
 use crate::show_status::put_contacts;
@@ -93,11 +94,11 @@ pub fn show_json(alloc: Global, file: &File, times: &[Option<i64>]) -> Result<Ve
     let mut out = Vec::new(alloc);
     put_head(alloc, &mut out, file)?;
     let mut table = Vec::new(alloc);
-    put_rows(&mut table, file, clock)?;
+    put_rows(&mut table, file, clock, &peaks_of(alloc, file)?)?;
     put(&mut out, ",\"analog\":")?;
     put_rows_json(alloc, &mut out, &ANALOG, &table)?;
     table.clear();
-    put_contacts(&mut table, file, clock)?;
+    put_contacts(alloc, &mut table, file, clock)?;
     put(&mut out, ",\"status\":")?;
     put_rows_json(alloc, &mut out, &STATUS, &table)?;
     put(&mut out, "}\n")?;

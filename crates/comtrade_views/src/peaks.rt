@@ -1,8 +1,8 @@
 //! What the rows say of one channel: its least and greatest sample, its missing readings, its changes.
 
-use comtrade_format::Row;
+use comtrade_format::{File, Row};
 use dfr_channels::Reading;
-use std::alloc::Allocator;
+use std::alloc::{AllocError, Allocator};
 
 /// A sample, and the index of its row from 0.
 #[derive(Clone, Copy, Debug)]
@@ -54,16 +54,70 @@ fn with_sample(extremes: Option<(Peak, Peak)>, peak: Peak) -> (Peak, Peak) {
     }
 }
 
-pub(crate) fn peaks_of<A: Allocator>(rows: &[Row<A>], channel: usize) -> Peaks {
-    let mut extremes = None;
-    let mut missing = 0u64;
-    for (i, row) in rows.iter().enumerate() {
-        match reading_at(row, channel) {
-            Reading::Missing => missing = missing.saturating_add(1),
+impl Peaks {
+    /// With the reading of a row more.
+    fn add(&mut self, reading: Reading, row: usize) {
+        match reading {
+            Reading::Missing => self.missing = self.missing.saturating_add(1),
             Reading::Value(sample) => {
-                extremes = Some(with_sample(extremes, Peak { sample, row: i }));
+                self.extremes = Some(with_sample(self.extremes, Peak { sample, row }));
             }
         }
     }
-    Peaks { extremes, missing }
+}
+
+/// The peaks of each analogue channel, by one look over the rows.
+pub(crate) fn peaks_of<A: Allocator + Copy>(
+    alloc: A,
+    file: &File<A>,
+) -> Result<Vec<Peaks, A>, AllocError> {
+    let mut peaks = Vec::new(alloc);
+    for _ in file.head.analog.items() {
+        peaks.push(Peaks {
+            extremes: None,
+            missing: 0,
+        })?;
+    }
+    for (i, row) in file.rows.items().iter().enumerate() {
+        for (known, reading) in peaks.iter_mut().zip(row.values.items().iter()) {
+            known.add(*reading, i);
+        }
+    }
+    Ok(peaks)
+}
+
+/// The peaks of a channel, counted from 0.
+pub(crate) fn peaks_at(peaks: &[Peaks], channel: usize) -> Peaks {
+    match peaks.get(channel) {
+        Some(peaks) => *peaks,
+        None => Peaks {
+            extremes: None,
+            missing: 0,
+        },
+    }
+}
+
+/// Counts the contacts that change from one row to the next.
+fn add_changes<A: Allocator>(changes: &mut [u64], before: &Row<A>, row: &Row<A>) {
+    for (i, count) in changes.iter_mut().enumerate() {
+        if bit_at(before, i) != bit_at(row, i) {
+            *count = count.saturating_add(1);
+        }
+    }
+}
+
+/// How often each contact changes, by one look over the rows.
+pub(crate) fn changes_of<A: Allocator + Copy>(
+    alloc: A,
+    file: &File<A>,
+) -> Result<Vec<u64, A>, AllocError> {
+    let mut changes = Vec::new(alloc);
+    for _ in file.head.status.items() {
+        changes.push(0u64)?;
+    }
+    let rows = file.rows.items();
+    for (before, row) in rows.iter().zip(rows.iter().skip(1)) {
+        add_changes(&mut changes, before, row);
+    }
+    Ok(changes)
 }

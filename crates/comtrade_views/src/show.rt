@@ -2,7 +2,7 @@
 
 use crate::instant::{put_instant, put_millis};
 use crate::number::put_decimal;
-use crate::peaks::{peaks_of, reading_at};
+use crate::peaks::{Peaks, peaks_at, peaks_of, reading_at};
 use crate::show_analog::put_analog;
 use crate::show_status::{LISTED, put_more, put_status};
 use crate::times::trigger_since_first;
@@ -166,9 +166,10 @@ fn put_gaps<A: Allocator>(
     out: &mut Vec<u8, A>,
     file: &File<A>,
     clock: Clock<'_>,
+    peaks: &[Peaks],
 ) -> Result<(), AllocError> {
     for (i, channel) in file.head.analog.items().iter().enumerate() {
-        if peaks_of(file.rows.items(), i).missing != 0 {
+        if peaks_at(peaks, i).missing != 0 {
             let n = (i as u64).saturating_add(1);
             put_with(out, "\nmissing readings of analogue channel ", n)?;
             put(out, ", ")?;
@@ -191,10 +192,11 @@ pub fn show_over<A: Allocator + Copy, W: Write>(
         times,
         trigger: trigger_since_first(file),
     };
+    let peaks = peaks_of(alloc, file)?;
     let mut out = Vec::new(alloc);
     put_top(&mut out, file, clock)?;
-    put_analog(alloc, &mut out, file, clock)?;
+    put_analog(alloc, &mut out, file, clock, &peaks)?;
     put_status(alloc, &mut out, file, clock)?;
-    put_gaps(&mut out, file, clock)?;
+    put_gaps(&mut out, file, clock, &peaks)?;
     write_out(w, &out)
 }

@@ -1,11 +1,11 @@
 //! The table of analogue channels, with their extremes.
 
 use crate::number::{put_decimal, put_value, rounded, scale_of, value_of};
-use crate::peaks::{Peak, peaks_of};
+use crate::peaks::{Peak, Peaks, peaks_at};
 use crate::show::{Clock, put_row_time};
 use crate::table::{end_cell, end_row, put_cell, put_table};
 use comtrade_cli::{put, put_count, put_number, put_safe, put_signed};
-use comtrade_format::{File, Row};
+use comtrade_format::File;
 use dfr_channels::{AnalogChannel, Decimal, Side};
 use std::alloc::{AllocError, Allocator};
 
@@ -103,12 +103,10 @@ fn put_peak<A: Allocator>(
 /// The least and the greatest value, and how many readings are missing.
 fn put_peaks<A: Allocator>(
     table: &mut Vec<u8, A>,
-    rows: &[Row<A>],
     clock: Clock<'_>,
     channel: &AnalogChannel<A>,
-    at: usize,
+    peaks: Peaks,
 ) -> Result<(), AllocError> {
-    let peaks = peaks_of(rows, at);
     match peaks.extremes {
         None => put(table, "\x1F\x1F\x1F\x1F")?,
         Some((least, greatest)) => {
@@ -125,26 +123,49 @@ fn put_peaks<A: Allocator>(
     end_row(table)
 }
 
+/// The row of a channel, from 1.
+fn put_row<A: Allocator>(
+    table: &mut Vec<u8, A>,
+    clock: Clock<'_>,
+    channel: &AnalogChannel<A>,
+    n: usize,
+    peaks: Peaks,
+) -> Result<(), AllocError> {
+    put_names(
+        table,
+        n,
+        channel.id.items(),
+        channel.phase.items(),
+        channel.component.items(),
+    )?;
+    put_scale(table, channel)?;
+    put_peaks(table, clock, channel, peaks)
+}
+
+/// The names of the columns.
+fn put_heads<A: Allocator>(table: &mut Vec<u8, A>) -> Result<(), AllocError> {
+    put(
+        table,
+        "n\x1Fid\x1Fphase\x1Fcomponent\x1Funit\x1Fa\x1Fb\x1Frange\x1Fratio\x1Fside\x1Fleast\x1Fat\x1Fgreatest\x1Fat\x1Fmissing\n",
+    )
+}
+
 /// The rows of the table, a line of names above them.
 pub(crate) fn put_rows<A: Allocator>(
     table: &mut Vec<u8, A>,
     file: &File<A>,
     clock: Clock<'_>,
+    peaks: &[Peaks],
 ) -> Result<(), AllocError> {
-    put(
-        table,
-        "n\x1Fid\x1Fphase\x1Fcomponent\x1Funit\x1Fa\x1Fb\x1Frange\x1Fratio\x1Fside\x1Fleast\x1Fat\x1Fgreatest\x1Fat\x1Fmissing\n",
-    )?;
+    put_heads(table)?;
     for (i, channel) in file.head.analog.items().iter().enumerate() {
-        put_names(
+        put_row(
             table,
+            clock,
+            channel,
             i.saturating_add(1),
-            channel.id.items(),
-            channel.phase.items(),
-            channel.component.items(),
+            peaks_at(peaks, i),
         )?;
-        put_scale(table, channel)?;
-        put_peaks(table, file.rows.items(), clock, channel, i)?;
     }
     Ok(())
 }
@@ -155,6 +176,7 @@ pub(crate) fn put_analog<A: Allocator + Copy>(
     out: &mut Vec<u8, A>,
     file: &File<A>,
     clock: Clock<'_>,
+    peaks: &[Peaks],
 ) -> Result<(), AllocError> {
     put(out, "\n")?;
     put_count(
@@ -168,6 +190,6 @@ pub(crate) fn put_analog<A: Allocator + Copy>(
         "; values are a*x + b, times are ms since the trigger\n",
     )?;
     let mut table = Vec::new(alloc);
-    put_rows(&mut table, file, clock)?;
+    put_rows(&mut table, file, clock, peaks)?;
     put_table(alloc, out, &table)
 }

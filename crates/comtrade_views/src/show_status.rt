@@ -1,6 +1,6 @@
 //! The table of status channels, with their changes.
 
-use crate::peaks::bit_at;
+use crate::peaks::{bit_at, changes_of};
 use crate::show::{Clock, put_row_time};
 use crate::show_analog::put_names;
 use crate::table::{end_row, put_cell, put_table};
@@ -36,29 +36,39 @@ pub(crate) fn put_more<A: Allocator>(out: &mut Vec<u8, A>, count: u64) -> Result
     Ok(())
 }
 
-/// A contact's bit in the first row, and its changes.
+/// The first of so many changes of a contact.
 fn put_changes<A: Allocator>(
     table: &mut Vec<u8, A>,
     rows: &[Row<A>],
     clock: Clock<'_>,
     at: usize,
+    count: u64,
 ) -> Result<(), AllocError> {
-    let mut count = 0u64;
-    let mut before = None;
-    for (i, row) in rows.iter().enumerate() {
-        let bit = bit_at(row, at);
-        if before.is_none() {
-            put_cell(table, if bit { "1" } else { "0" })?;
-        } else if before != Some(bit) {
-            if count < LISTED {
-                put_change(table, clock, i, bit, count)?;
-            }
-            count = count.saturating_add(1);
+    let mut listed = 0u64;
+    for (i, (before, row)) in rows.iter().zip(rows.iter().skip(1)).enumerate() {
+        if count.min(LISTED) <= listed {
+            break;
         }
-        before = Some(bit);
+        let bit = bit_at(row, at);
+        if bit_at(before, at) != bit {
+            put_change(table, clock, i.saturating_add(1), bit, listed)?;
+            listed = listed.saturating_add(1);
+        }
     }
     put_more(table, count)?;
     end_row(table)
+}
+
+/// A contact's bit in the first row.
+fn put_first<A: Allocator>(
+    table: &mut Vec<u8, A>,
+    rows: &[Row<A>],
+    at: usize,
+) -> Result<(), AllocError> {
+    match rows.first() {
+        Some(row) => put_cell(table, if bit_at(row, at) { "1" } else { "0" }),
+        None => Ok(()),
+    }
 }
 
 fn put_contact<A: Allocator>(
@@ -77,7 +87,8 @@ fn put_contact<A: Allocator>(
 }
 
 /// The rows of the table, a line of names above them.
-pub(crate) fn put_contacts<A: Allocator>(
+pub(crate) fn put_contacts<A: Allocator + Copy>(
+    alloc: A,
     table: &mut Vec<u8, A>,
     file: &File<A>,
     clock: Clock<'_>,
@@ -86,9 +97,12 @@ pub(crate) fn put_contacts<A: Allocator>(
         table,
         "n\x1Fid\x1Fphase\x1Fcomponent\x1Fnormal\x1Fat first\x1Fchanges\n",
     )?;
+    let changes = changes_of(alloc, file)?;
     for (i, channel) in file.head.status.items().iter().enumerate() {
+        let count = changes.get(i).copied().unwrap_or(0);
         put_contact(table, channel, i.saturating_add(1))?;
-        put_changes(table, file.rows.items(), clock, i)?;
+        put_first(table, file.rows.items(), i)?;
+        put_changes(table, file.rows.items(), clock, i, count)?;
     }
     Ok(())
 }
@@ -112,6 +126,6 @@ pub(crate) fn put_status<A: Allocator + Copy>(
         return Ok(());
     }
     let mut table = Vec::new(alloc);
-    put_contacts(&mut table, file, clock)?;
+    put_contacts(alloc, &mut table, file, clock)?;
     put_table(alloc, out, &table)
 }

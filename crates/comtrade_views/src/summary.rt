@@ -2,11 +2,11 @@
 
 use crate::instant::{put_instant, put_millis};
 use crate::number::{put_decimal, put_value, rounded, scale_of, value_of};
-use crate::peaks::{bit_at, peaks_of};
+use crate::peaks::{Peaks, changes_of, peaks_at, peaks_of};
 use crate::table::{end_cell, end_row, put_cell, put_table};
 use crate::times::times_of;
 use comtrade_cli::{ToolFault, put, put_count, put_number, put_safe};
-use comtrade_format::{File, Row};
+use comtrade_format::File;
 use comtrade_values::nearest_f64;
 use dfr_channels::{AnalogChannel, Side};
 use std::alloc::{AllocError, Allocator, Global};
@@ -66,13 +66,13 @@ fn times_nominal<A: Allocator + Copy>(
 /// The greatest current of a channel, by its nominal one, or the greatest before it.
 fn greatest_of<A: Allocator + Copy>(
     alloc: A,
-    rows: &[Row<A>],
+    peaks: Peaks,
     channel: &AnalogChannel<A>,
     place: usize,
     greatest: Option<Current>,
 ) -> Result<Option<Current>, ToolFault> {
     let mut greatest = greatest;
-    if let Some((least, most)) = peaks_of(rows, place).extremes {
+    if let Some((least, most)) = peaks.extremes {
         for sample in [least.sample, most.sample] {
             let times = times_nominal(alloc, channel, sample)?;
             let is_more = match greatest {
@@ -96,28 +96,25 @@ fn greatest_current<A: Allocator + Copy>(
     alloc: A,
     file: &File<A>,
 ) -> Result<Option<Current>, ToolFault> {
+    let peaks = peaks_of(alloc, file)?;
     let mut greatest = None;
     for (i, channel) in file.head.analog.items().iter().enumerate() {
         if is_current(channel) {
-            greatest = greatest_of(alloc, file.rows.items(), channel, i, greatest)?;
+            greatest = greatest_of(alloc, peaks_at(&peaks, i), channel, i, greatest)?;
         }
     }
     Ok(greatest)
 }
 
 /// How many contacts change.
-fn changing<A: Allocator>(file: &File<A>) -> u64 {
+fn changing<A: Allocator + Copy>(alloc: A, file: &File<A>) -> Result<u64, AllocError> {
     let mut count = 0u64;
-    for (i, _) in file.head.status.items().iter().enumerate() {
-        let first = match file.rows.items().first() {
-            Some(row) => bit_at(row, i),
-            None => false,
-        };
-        if file.rows.items().iter().any(|row| bit_at(row, i) != first) {
+    for changes in changes_of(alloc, file)?.iter() {
+        if *changes != 0 {
             count = count.saturating_add(1);
         }
     }
-    count
+    Ok(count)
 }
 
 fn put_length<A: Allocator + Copy>(
@@ -142,13 +139,17 @@ fn put_rate<A: Allocator>(text: &mut Vec<u8, A>, file: &File<A>) -> Result<(), A
     end_cell(text)
 }
 
-fn put_channels<A: Allocator>(text: &mut Vec<u8, A>, file: &File<A>) -> Result<(), AllocError> {
+fn put_channels<A: Allocator + Copy>(
+    alloc: A,
+    text: &mut Vec<u8, A>,
+    file: &File<A>,
+) -> Result<(), AllocError> {
     put_number(text, file.head.analog.items().len() as u64)?;
     put(text, "A ")?;
     put_number(text, file.head.status.items().len() as u64)?;
     put(text, "D")?;
     end_cell(text)?;
-    put_number(text, changing(file))?;
+    put_number(text, changing(alloc, file)?)?;
     end_cell(text)
 }
 
@@ -186,7 +187,7 @@ pub fn summary_of<A: Allocator + Copy>(
     let mut text = Vec::new(alloc);
     put_length(alloc, &mut text, file)?;
     put_rate(&mut text, file)?;
-    put_channels(&mut text, file)?;
+    put_channels(alloc, &mut text, file)?;
     put_current(alloc, &mut text, file)?;
     put_safe(&mut text, file.head.station.items())?;
     end_cell(&mut text)?;

@@ -34,6 +34,11 @@ fn widen<A: Allocator>(
     Ok(())
 }
 
+/// Whether a byte begins a character of UTF-8.
+fn begins(b: u8) -> bool {
+    b < 0x80 || 0xC0 <= b
+}
+
 /// The widest that a column gets: a longer cell, which the standard allows in no field, moves its own row alone.
 const WIDEST: usize = 64;
 
@@ -50,7 +55,7 @@ fn widths_of<A: Allocator>(alloc: A, table: &[u8]) -> Result<Vec<usize, A>, Allo
         } else if *b == b'\n' {
             column = 0;
             width = 0;
-        } else {
+        } else if begins(*b) {
             width = width.saturating_add(1);
         }
     }
@@ -92,7 +97,9 @@ pub(crate) fn put_table<A: Allocator + Copy>(
             put_blanks(out, blanks)?;
             blanks = 0;
             out.extend_from_slice(&[*b])?;
-            width = width.saturating_add(1);
+            if begins(*b) {
+                width = width.saturating_add(1);
+            }
         }
     }
     Ok(())

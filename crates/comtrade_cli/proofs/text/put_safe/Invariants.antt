@@ -1,6 +1,6 @@
-use Rattle.std.proofs.Common.{◌≡◌, ◌++◌, take}
-use Rattle.comtrade_cli.specs.Safe.{safe}
+use Rattle.std.proofs.Common.{◌≡◌, ◌++◌, drop}
+use Rattle.comtrade_cli.specs.Safe.{safe, safe_after}
 use Rattle.comtrade_cli.proofs.text.put_safe.Given as goal
 
-abbrev pub invariant-loop-b : goal.invariant-loop-b
-invariant-loop-b g l = l.out.items ≡ l.initial.out.items ++ safe (take l.b-index l.text)
+abbrev pub invariant-loop-i : goal.invariant-loop-i
+invariant-loop-i g l = l.out.items ++ safe_after l.left (drop l.i l.text) ≡ l.initial.out.items ++ safe l.text
