@@ -20,12 +20,13 @@ pub(crate) enum Fit {
     Flat(Exact),
 }
 
-/// Steps of `unit` from `middle`, both in the scale's unit.
+/// Steps of `unit` from `middle`, both in the scale's unit; `inverse` is 2^64 / unit, rounded down or one less.
 #[derive(Clone, Copy)]
 pub(crate) struct Steps {
     pub scale: Scale,
     pub middle: i64,
     pub unit: i64,
+    inverse: u64,
 }
 
 /// The most steps to one side.
@@ -53,10 +54,39 @@ fn steps_of(span: &Span) -> Steps {
     let (unit, power) = nine_digits(least);
     let sum = span.high.saturating_add(span.low);
     let middle = over(sum.wrapping_div(2), power).saturating_mul(power);
+    let unit = unit.max(1);
     Steps {
         scale: span.scale,
         middle,
-        unit: unit.max(1),
+        unit,
+        inverse: u64::MAX.checked_div(unit.unsigned_abs()).unwrap_or(0),
+    }
+}
+
+/// The upper 64 bits of a product.
+fn upper(a: u64, b: u64) -> u64 {
+    let product = u128::from(a).wrapping_mul(u128::from(b));
+    u64::try_from(product.wrapping_shr(64)).unwrap_or(u64::MAX)
+}
+
+impl Steps {
+    /// The number of steps that is nearest, halves away from 0: by the inverse, which gives two too few at most, since a division
+    /// for each sample takes longer than all else.
+    fn nearest(self, from: i64) -> i64 {
+        let unit = self.unit.unsigned_abs();
+        let size = from.unsigned_abs().saturating_add(unit.wrapping_shr(1));
+        let mut count = upper(size, self.inverse);
+        for _ in 0..2 {
+            if unit <= size.wrapping_sub(count.wrapping_mul(unit)) {
+                count = count.wrapping_add(1);
+            }
+        }
+        let count = i64::try_from(count).unwrap_or(i64::MAX);
+        if from < 0 {
+            count.wrapping_neg()
+        } else {
+            count
+        }
     }
 }
 
@@ -121,7 +151,7 @@ pub(crate) fn fit_of(span: &Span, bounds: Bounds, is_unsigned: bool) -> Fit {
 /// The whole number of so many steps that is nearest, and how far it is off in the scale's unit.
 fn step_of(steps: Steps, num: Num) -> (i64, i64) {
     let from = steps.scale.nearest(num).saturating_sub(steps.middle);
-    let step = over(from, steps.unit).max(-MOST).min(MOST);
+    let step = steps.nearest(from).max(-MOST).min(MOST);
     let off = from.saturating_sub(step.saturating_mul(steps.unit));
     (step, off.saturating_abs())
 }
