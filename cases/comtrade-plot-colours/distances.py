@@ -67,7 +67,7 @@ def main():
     light = re.findall(r'=> "(#[0-9a-f]{6})"', open(source + "phases.rt").read())
     style = open(source + "head.rt").read().split("@media print")[0]
     dark = re.findall(r"\.[abcnuvwz]\{stroke:(#[0-9a-f]{6})\}", style)
-    page = open("../crates/comtrade_viewer/page/page.js").read()
+    page = open("../crates/comtrade_plot/page/page.js").read()
     for name, colours, paper in (("light", light, "#ffffff"), ("dark", dark, "#14171c")):
         least = min(distance(seen(a, eye), seen(b, eye)) for eye in EYES.values() for a, b in itertools.combinations(colours, 2))
         faint = min(contrast(colour, paper) for colour in colours)

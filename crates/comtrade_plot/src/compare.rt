@@ -12,9 +12,8 @@ use crate::plot::PlotOptions;
 use crate::record::{Part, Record, USUAL_CYCLE, chart_of, part_in, record_of};
 use crate::sheet::Sheet;
 use comtrade_cli::ToolFault;
-use comtrade_compare::{partners_of, places_of};
 use comtrade_format::File;
-use comtrade_frame::LEFT;
+use comtrade_frame::{LEFT, partners_of, places_of};
 use std::alloc::Allocator;
 use std::io::Write;
 

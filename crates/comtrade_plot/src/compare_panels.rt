@@ -8,7 +8,7 @@ use crate::panels::put_panel;
 use crate::phases::Hue;
 use crate::quantity::put_quantity;
 use crate::sheet::Sheet;
-use comtrade_compare::Differences;
+use comtrade_frame::Differences;
 use std::alloc::Allocator;
 
 /// The channel of a panel.

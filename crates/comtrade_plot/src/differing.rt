@@ -2,7 +2,7 @@
 
 use crate::layout::Chart;
 use crate::rows::reading_at;
-use comtrade_compare::{Differences, Moment, Point, between};
+use comtrade_frame::{Differences, Moment, Point, between};
 use dfr_channels::Reading;
 use std::alloc::Allocator;
 

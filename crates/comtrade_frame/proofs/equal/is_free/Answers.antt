@@ -1,7 +1,7 @@
 use Rattle.std.proofs.Common.{subst, ◌∙◌}
 use Rattle.std.proofs.lemmas.List.{get_or_default}
-use Rattle.comtrade_compare.specs.Equal.{AreEqual}
-use Rattle.comtrade_compare.proofs.equal.is_free.Goals as goal
+use Rattle.comtrade_frame.specs.Equal.{AreEqual}
+use Rattle.comtrade_frame.proofs.equal.is_free.Goals as goal
 
 pub returns : goal.returns
 returns g c = λ is_true. (

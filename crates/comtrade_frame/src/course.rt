@@ -2,7 +2,7 @@
 
 ghost use Rattle.std.specs.Prelude.{◌≡◌, IfOk, IsTrue, length};
 ghost use Rattle.std.specs.List.{All, AllAdjacentBelow};
-ghost use Rattle.comtrade_compare.specs.Beside.{IsAfter, IsEarlier, IsRow};
+ghost use Rattle.comtrade_frame.specs.Beside.{IsAfter, IsEarlier, IsRow};
 
 use std::alloc::{AllocError, Allocator};
 

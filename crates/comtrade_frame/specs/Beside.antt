@@ -1,7 +1,7 @@
 -- Which row of a record stands beside a time of another.
 use Rattle.std.specs.Prelude.{◌≡◌, ◌<◌, ◌+◌, ◌-◌, ◌≤ℤ◌, ◌<ℤ◌, ℕ, ℤ, List, Option, Some, None, MatchOption, length}
 use Rattle.std.specs.List.{HoldsAt, slice_get}
-use Rattle.comtrade_compare.specs.declared.course.Moment.{Moment}
+use Rattle.comtrade_frame.specs.declared.course.Moment.{Moment}
 
 -- a row of these times, with its time
 abbrev pub IsRow : List (Option ℤ) → Moment → Type 0

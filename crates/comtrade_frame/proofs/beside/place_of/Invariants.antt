@@ -1,7 +1,7 @@
 use Rattle.std.proofs.Common.{◌≡◌, ◌<◌, ◌≤◌, ◌-◌, length}
 use Rattle.std.specs.Prelude.{◌≤ℤ◌, ◌<ℤ◌}
 use Rattle.std.specs.List.{HoldsAt}
-use Rattle.comtrade_compare.proofs.beside.place_of.Given as goal
+use Rattle.comtrade_frame.proofs.beside.place_of.Given as goal
 
 -- the moment at low isn't after the time, and the one at high is
 abbrev pub invariant-loop-low : goal.invariant-loop-low

@@ -2,7 +2,7 @@
 
 ghost use Rattle.std.specs.Prelude.{◌≡◌, IfOk};
 ghost use Rattle.std.specs.List.{AllZip};
-ghost use Rattle.comtrade_compare.specs.Beside.{IsBeside, StandsBeside};
+ghost use Rattle.comtrade_frame.specs.Beside.{IsBeside, StandsBeside};
 
 use crate::course::Moment;
 use std::alloc::{AllocError, Allocator};

@@ -2,7 +2,7 @@
 
 ghost use Rattle.std.specs.Prelude.{◌↔◌, IfOk, IsTrue, Some};
 ghost use Rattle.std.specs.List.{AllZip};
-ghost use Rattle.comtrade_compare.specs.Equal.{AgreeIn, AreEqual, IsPartner};
+ghost use Rattle.comtrade_frame.specs.Equal.{AgreeIn, AreEqual, IsPartner};
 
 use dfr_channels::AnalogChannel;
 use std::alloc::{AllocError, Allocator};
