@@ -1,4 +1,5 @@
-//! Tests of recorders that threads share: the calls of one thread, tokens that don't belong, and runs in threads.
+//! Tests of recorders that threads share: the calls of one thread, tokens that don't belong, runs in threads, and stations over a feed
+//! in memory.
 #![tactic(auto)]
 
 #[cfg(test)]
@@ -29,6 +30,8 @@ mod runs;
 mod soak;
 #[cfg(test)]
 mod station;
+#[cfg(test)]
+mod stations;
 #[cfg(test)]
 mod three_threads;
 #[cfg(test)]

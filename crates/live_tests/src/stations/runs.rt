@@ -1,6 +1,6 @@
 //! A station over a reader in memory: each frame and each line of a scan is one step, its scan or a lost one, in order.
 
-use crate::station::{Pieces, is_told, nothing_seen, recorded};
+use crate::stations::station::{Pieces, is_told, nothing_seen, recorded};
 use dfr_station::Input;
 use std::alloc::Global;
 use std::sync::Wait;

@@ -1,7 +1,7 @@
 //! Each allocation of a station refused in turn: it is said, at most one scan is lost by it, and no pair is in halves.
 
-use crate::runs::{FRAMES, LINES};
-use crate::station::{Kept, Pieces, SETUP, Seen, is_told, nothing_seen, recorded};
+use crate::stations::runs::{FRAMES, LINES};
+use crate::stations::station::{Kept, Pieces, SETUP, Seen, is_told, nothing_seen, recorded};
 use dfr_live::{EndFault, OpenFault};
 use dfr_station::{Input, Recorded, RunFault, SetupRefusal, recorder_of};
 use failing_allocator::Refusing;
