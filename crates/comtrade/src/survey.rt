@@ -3,6 +3,7 @@
 use crate::load::{Inputs, file_in, pair_of, read_pair};
 use crate::{complain, is_folder, print_bytes, say};
 use comtrade_cli::{Names, Survey, ToolFault, fault_of, put, put_safe};
+use comtrade_diagnostics::{Pair, put_remarks};
 use comtrade_format::File;
 use comtrade_views::{
     Event, Summary, add_events, fault_summary, put_events, put_events_json, put_summaries,
@@ -131,6 +132,20 @@ fn add_file(
     Ok(())
 }
 
+/// Puts what is odd about a record that is listed and has no fault.
+fn put_oddities(
+    alloc: Global,
+    survey: Survey,
+    said: &mut Vec<u8>,
+    pair: Pair<'_>,
+    file: &File,
+) -> Result<(), ToolFault> {
+    if survey == Survey::List && said.is_empty() {
+        put_remarks(alloc, said, pair, file)?;
+    }
+    Ok(())
+}
+
 /// Adds one pair that was read.
 fn add_pair<R: AllocGlobal + Eprint>(
     rt: &R,
@@ -144,6 +159,7 @@ fn add_pair<R: AllocGlobal + Eprint>(
     say_repairs(rt, name, &inputs.said)?;
     match file_in(alloc, pair_of(inputs), false, &mut said)? {
         Some(file) => {
+            put_oddities(alloc, survey, &mut said, pair_of(inputs), &file)?;
             say_repairs(rt, name, &said)?;
             add_file(alloc, survey, found, &file, name)?;
         }

@@ -3,7 +3,7 @@
 use crate::load::file_in;
 use crate::measure::measure_over;
 use comtrade_cli::{Part, Picture, ToolFault, View, Viewed, put, put_safe, write_out};
-use comtrade_diagnostics::{Pair, check_over};
+use comtrade_diagnostics::{Pair, check_over, put_remarks};
 use comtrade_format::File;
 use comtrade_part::{PartFault, is_whole, part_of};
 use comtrade_plot::{PlotOptions, page_over, plot_over};
@@ -156,6 +156,24 @@ fn verdict_json(alloc: Global, is_sound: bool, text: &[u8]) -> Result<Vec<u8>, A
     Ok(out)
 }
 
+/// The file that a pair reads to. What is said of it is put to `said`, and of a pair that is shown and has no fault what is odd about it.
+fn file_to_view(
+    alloc: Global,
+    view: View,
+    is_strict: bool,
+    pair: Pair<'_>,
+    said: &mut Vec<u8>,
+) -> Result<Option<File>, ToolFault> {
+    let found = file_in(alloc, pair, is_strict, said)?;
+    if let Some(file) = &found
+        && view == View::Show
+        && said.is_empty()
+    {
+        put_remarks(alloc, said, pair, file)?;
+    }
+    Ok(found)
+}
+
 /// Prints what is asked of a part of a pair: false where the pair has a fault, or no such part. The fault's line is what `Check` prints;
 /// the others put it to `said` and print nothing. The repairs of a pair that isn't read exactly are put to `said`, too.
 pub(crate) fn view_over<W: Write>(
@@ -182,7 +200,7 @@ pub(crate) fn view_over<W: Write>(
         options,
         json: viewed.json,
     };
-    let Some(file) = file_in(alloc, pair, viewed.part.strict, said)? else {
+    let Some(file) = file_to_view(alloc, view, viewed.part.strict, pair, said)? else {
         return Ok(false);
     };
     let times = times_since_trigger(alloc, &file)?;

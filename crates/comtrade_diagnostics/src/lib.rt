@@ -14,3 +14,4 @@ mod remarks;
 pub use check::{Pair, check_over, put_fault};
 pub use hints::put_single;
 pub use refuse::put_refusal;
+pub use remarks::put_remarks;

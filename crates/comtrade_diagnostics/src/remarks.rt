@@ -145,8 +145,8 @@ fn put_turned<A: Allocator>(
     put_end(out, doubt, " such channel", " such channels")
 }
 
-/// What is odd about a pair that reads to this file.
-pub(crate) fn put_remarks<A: Allocator + Copy>(
+/// What is odd about a pair that reads to this file, which is no fault: a line for each kind, as `note: x.dat: row 2 ..`.
+pub fn put_remarks<A: Allocator + Copy>(
     alloc: A,
     out: &mut Vec<u8, A>,
     pair: Pair<'_>,
