@@ -4,8 +4,8 @@ ghost use Rattle.std.specs.Prelude.{◌≡◌, [], true, false, IfOk, IfSome};
 ghost use Rattle.comtrade_read.specs.Reads.{Reads};
 
 use comtrade_dialects::{Choices, ImportFault, Note, Notes, Why, is_sound, repaired};
-use comtrade_format::{File, WriteFault, cfg_bytes, dat_bytes};
-use comtrade_read::{ReadFault, Written, file_reads_back, read};
+use comtrade_format::{File, WriteFault};
+use comtrade_read::{ReadFault, Written, read, written_of};
 use std::alloc::{Allocator, Global};
 
 /// A file of 1999, its two texts, and what was read otherwise than it stands.
@@ -17,22 +17,6 @@ pub struct Imported<A: Allocator = Global> {
     pub notes: Vec<Note<A>, A>,
     /// The pair reads exactly to this file, and there is no note.
     pub is_exact: bool,
-}
-
-/// The two texts of a file, which read to it.
-fn texts_of<A: Allocator + Copy>(alloc: A, file: &File<A>) -> Result<Written<A>, WriteFault>
-    ensures { IfOk result (λ pair. Reads pair.cfg.items pair.dat.items file.now) }
-{
-    file_reads_back(file);
-    let cfg = match cfg_bytes(alloc, file) {
-        Ok(cfg) => cfg,
-        Err(fault) => return Err(fault),
-    };
-    let dat = match dat_bytes(alloc, file) {
-        Ok(dat) => dat,
-        Err(fault) => return Err(fault),
-    };
-    Ok(Written { cfg, dat })
 }
 
 /// A file with both its texts; a fault where no file of 1999 can hold it.
@@ -47,7 +31,7 @@ fn finished<A: Allocator + Copy>(
     ensures notes { IfOk result (λ done. done.notes.items ≡ notes.items) }
     ensures exact { IfOk result (λ done. done.is_exact ≡ is_exact) }
 {
-    match texts_of(alloc, &file) {
+    match written_of(alloc, &file) {
         Ok(written) => {
             let Written { cfg, dat } = written;
             Ok(Imported {

@@ -1,12 +1,11 @@
 //! Where a current left its earlier course.
 
-use crate::cycle::Cycle;
 use crate::fault::MeasureFault;
 use crate::matrix::at;
 use crate::readings::value_in;
 use crate::window::Window;
 use comtrade_format::{File, Row};
-use comtrade_values::{Scale, scale_of};
+use comtrade_values::{Cycle, Scale, scale_of};
 use dfr_channels::AnalogChannel;
 use std::alloc::Allocator;
 use std::num::nearest_usize_to_f64;

@@ -1,5 +1,6 @@
 //! Why rows can't be measured.
 
+use comtrade_values::CycleFault;
 use dfr_channels::Memory;
 use std::alloc::{AllocError, AllocFailed};
 use thiserror::Error;
@@ -37,6 +38,17 @@ pub enum MeasureFault {
     /// The reference has no angle.
     #[error("the reference has no angle: a reading is missing, or it has no part at the line frequency")]
     NoAngle,
+}
+
+impl From<CycleFault> for MeasureFault {
+    fn from(fault: CycleFault) -> MeasureFault {
+        match fault {
+            CycleFault::NoFrequency => MeasureFault::NoFrequency,
+            CycleFault::NoRate => MeasureFault::NoRate,
+            CycleFault::Digits => MeasureFault::Digits,
+            CycleFault::Slow => MeasureFault::Slow,
+        }
+    }
 }
 
 impl From<AllocError> for MeasureFault {

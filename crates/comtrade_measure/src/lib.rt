@@ -3,7 +3,6 @@
 #![tactic(auto)]
 
 mod course;
-mod cycle;
 mod fault;
 mod fit;
 mod matrix;
@@ -15,7 +14,6 @@ mod sums;
 mod window;
 
 pub use course::{Course, course_of, is_current};
-pub use cycle::{Cycle, cycle_of};
 pub use fault::MeasureFault;
 pub use fit::{Measured, measures_of};
 pub use phases::{Sequence, Three, sequence_of, threes_of};

@@ -1,9 +1,9 @@
 //! Sums over rows, against the cosines and sines of the harmonics.
 
-use crate::cycle::Cycle;
 use crate::matrix::{Matrix, at, zeros};
 use crate::phasor::Phasor;
 use crate::window::Window;
+use comtrade_values::Cycle;
 use std::alloc::{AllocError, Allocator};
 use std::f64::consts::TAU;
 use std::num::nearest_u64_to_f64;

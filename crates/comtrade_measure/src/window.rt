@@ -1,8 +1,8 @@
 //! The rows that are measured.
 
-use crate::cycle::{Cycle, cycle_of};
 use crate::fault::MeasureFault;
 use comtrade_format::{File, Head};
+use comtrade_values::{Cycle, cycle_of};
 use dfr_channels::Decimal;
 use std::alloc::Allocator;
 

@@ -8,8 +8,6 @@ mod names;
 mod part;
 mod rows;
 mod side;
-mod written;
 
 pub use fault::PartFault;
 pub use part::{Cut, is_whole, part_of};
-pub use written::written_of;

@@ -45,8 +45,8 @@ fn with_kind<A: Allocator>(file: File<A>, kind: Kind) -> File<A>
     File { head, rows }
 }
 
-/// The two texts of a file, which read to it.
-fn texts_of<A: Allocator + Copy>(alloc: A, file: &File<A>) -> Result<Written<A>, WriteFault>
+/// The two files of a record, which read back to it. Refused by the first of what its files can't hold.
+pub fn written_of<A: Allocator + Copy>(alloc: A, file: &File<A>) -> Result<Written<A>, WriteFault>
     ensures reads { IfOk result (λ pair. Reads pair.cfg.items pair.dat.items file.now) }
     ensures fault { IfErr result (λ e. Fails e (cfg_refusal file.now or dat_refusal file.now.head.kind file.now)) }
 {
@@ -79,7 +79,7 @@ pub fn converted<A: Allocator + Copy>(
         Err((part, fault)) => return Err(ConvertFault::Read(Fault { part, fault })),
     };
     let file = with_kind(file, kind);
-    match texts_of(alloc, &file) {
+    match written_of(alloc, &file) {
         Ok(pair) => Ok(pair),
         Err(fault) => match fault {
             WriteFault::Memory => Err(ConvertFault::Memory),

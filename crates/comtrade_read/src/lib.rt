@@ -21,7 +21,7 @@ mod plain_rows;
 mod settings;
 mod verdict;
 
-pub use convert::{ConvertFault, Written, converted};
+pub use convert::{ConvertFault, Written, converted, written_of};
 pub use data::read_dat;
 pub use fault::ReadFault;
 pub use file::read_of_file;

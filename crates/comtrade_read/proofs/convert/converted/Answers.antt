@@ -12,7 +12,7 @@ returns g c = record {
   fault = record {
     file = c.in-Ok.file;
     reads = c.in-Ok.ensures.found;
-    refused = subst (λ (f : FileParts). (cfg_refusal f or dat_refusal f.head.kind f) ≡ Some c.in-Err-texts_of.fault) c.with_kind-file.ensures
-        (is_first _ _ c.in_default.not-Memory c.in-Err-texts_of.ensures.fault);
+    refused = subst (λ (f : FileParts). (cfg_refusal f or dat_refusal f.head.kind f) ≡ Some c.in-Err-written_of.fault) c.with_kind-file.ensures
+        (is_first _ _ c.in_default.not-Memory c.in-Err-written_of.ensures.fault);
   };
 }

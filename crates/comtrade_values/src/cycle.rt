@@ -2,9 +2,21 @@
 
 ghost use Rattle.std.specs.Prelude.{◌≡◌, ◌+◌, ◌-◌, ◌*◌, ◌/◌, ◌<◌, ◌≤◌, IfOk};
 
-use crate::fault::MeasureFault;
 use dfr_channels::Decimal;
 use std::num::nearest_u64_to_f64;
+
+/// Why a rate has no cycle of a line frequency.
+#[derive(Clone, Copy, Debug, PartialEq, Eq)]
+pub enum CycleFault {
+    /// The line frequency isn't over 0.
+    NoFrequency,
+    /// The rate isn't over 0.
+    NoRate,
+    /// The rows of a cycle are no quotient of two numbers of 64 bits.
+    Digits,
+    /// There are fewer than 3 rows a cycle.
+    Slow,
+}
 
 /// So many cycles of the line frequency are so many rows, exactly. There are at least 3 rows a cycle.
 #[derive(Clone, Copy, Debug, PartialEq, Eq)]
@@ -59,22 +71,21 @@ fn quotient_of(frequency: Decimal, rate: Decimal) -> Option<Cycle> {
     reduced(cycles, rows)
 }
 
-/// The cycle of a line frequency at a rate. `NoFrequency`, `NoRate`: it isn't over 0; `Digits`: the cycle has no numbers of 64 bits;
-/// `Slow`: there are fewer than 3 rows a cycle.
-pub fn cycle_of(frequency: Decimal, rate: Decimal) -> Result<Cycle, MeasureFault>
+/// The cycle of a line frequency at a rate (C37.111-1999, 5.3.5, 5.3.6).
+pub fn cycle_of(frequency: Decimal, rate: Decimal) -> Result<Cycle, CycleFault>
     ensures { IfOk result (λ cycle. (0 < cycle.cycles) × (3 * cycle.cycles ≤ cycle.rows)) }
 {
     if frequency.units() <= 0 {
-        return Err(MeasureFault::NoFrequency);
+        return Err(CycleFault::NoFrequency);
     }
     if rate.units() <= 0 {
-        return Err(MeasureFault::NoRate);
+        return Err(CycleFault::NoRate);
     }
     let Some(cycle) = quotient_of(frequency, rate) else {
-        return Err(MeasureFault::Digits);
+        return Err(CycleFault::Digits);
     };
     if cycle.cycles == 0 || cycle.rows / 3 < cycle.cycles {
-        return Err(MeasureFault::Slow);
+        return Err(CycleFault::Slow);
     }
     Ok(cycle)
 }
@@ -95,7 +106,7 @@ impl Cycle {
     }
 
     /// What part of a row a cycle has over its whole rows.
-    pub(crate) fn part(self) -> f64 {
+    pub fn part(self) -> f64 {
         let rest = self.rows % self.cycles.max(1);
         nearest_u64_to_f64(rest) / nearest_u64_to_f64(self.cycles)
     }
