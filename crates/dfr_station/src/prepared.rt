@@ -144,11 +144,16 @@ fn recorder_in<A: Allocator + Copy>(
         setup,
         limits,
         rules,
-        commands: _,
+        commands,
     } = script;
+    drop(commands);
     match Layout::new(setup) {
         Ok(layout) => made(alloc, layout, limits, rules),
-        Err((fault, _)) => Err(SetupRefusal::Setup(fault)),
+        Err((fault, setup)) => {
+            drop(setup);
+            drop(rules);
+            Err(SetupRefusal::Setup(fault))
+        }
     }
 }
 
