@@ -67,6 +67,40 @@ fn pair_and_key<A: Allocator + Copy>(
     Ok((pair, key_at(instant, extent.number)))
 }
 
+/// Hands a pair to the store once.
+fn put_pair<K: Store, A: Allocator>(
+    store: &mut K,
+    key: Key,
+    pair: Pair<A>,
+) -> Result<Stored, Trouble> {
+    store.put(key, pair.cfg.as_slice(), pair.dat.as_slice())
+}
+
+/// Hands a record's pair to the store once.
+fn hand_over<K: Store, A: Allocator + Copy>(
+    alloc: A,
+    layout: &Layout<A>,
+    kind: Kind,
+    taken: &Record<A>,
+    store: &mut K,
+) -> Result<Stored, Trouble>
+    requires { IsTrue (is_own layout.now taken.now) }
+{
+    match pair_and_key(alloc, layout, kind, taken) {
+        Ok((pair, key)) => put_pair(store, key, pair),
+        Err(_) => Err(Trouble::Memory),
+    }
+}
+
+/// Whether a record that the store didn't take is given up: the input has ended, and it was asked often enough since.
+fn is_last(signals: &Signals, tries: &mut u32) -> bool {
+    if !signals.acquired.load(Ordering::SeqCst) {
+        return false;
+    }
+    *tries = tries.saturating_add(1);
+    *tries >= LAST_TRIES
+}
+
 impl<K: Store, A: Allocator + Copy> Exports<'_, K, A> {
     /// What the store says of a pair, as it is told.
     fn note(&mut self, signals: &Signals, extent: Extent, stored: Stored) {
@@ -91,12 +125,14 @@ impl<K: Store, A: Allocator + Copy> Exports<'_, K, A> {
         }
     }
 
-    /// Hands a pair to the store once. Whether it took it.
-    fn try_put(&mut self, signals: &Signals, extent: Extent, key: Key, pair: &Pair<A>) -> bool {
-        match self
-            .store
-            .put(key, pair.cfg.as_slice(), pair.dat.as_slice())
-        {
+    /// Tells what the store answered. Whether it took the pair.
+    fn answered(
+        &mut self,
+        signals: &Signals,
+        extent: Extent,
+        answer: Result<Stored, Trouble>,
+    ) -> bool {
+        match answer {
             Ok(stored) => {
                 self.note(signals, extent, stored);
                 true
@@ -106,6 +142,11 @@ impl<K: Store, A: Allocator + Copy> Exports<'_, K, A> {
                 false
             }
         }
+    }
+
+    fn give_up(&mut self, extent: Extent) {
+        self.unwritten = self.unwritten.saturating_add(1);
+        self.teller.tell(Event::Unwritten(extent));
     }
 
     /// Hands a record's pair to the store, each second until it takes it; a few times only once the input has ended.
@@ -119,25 +160,36 @@ impl<K: Store, A: Allocator + Copy> Exports<'_, K, A> {
     )
         requires { IsTrue (is_own layout.now taken.now) }
     {
-        let extent = taken.extent();
-        let mut last = 0u32;
+        let mut tries = 0u32;
         for _ in rt.forever() {
-            match pair_and_key(alloc, layout, self.kind, taken) {
-                Ok((pair, key)) => {
-                    if self.try_put(signals, extent, key, &pair) {
-                        return;
-                    }
-                }
-                Err(_) => self.note_trouble(Trouble::Memory),
+            let answer = hand_over(alloc, layout, self.kind, taken, &mut *self.store);
+            if self.answered(signals, taken.extent(), answer) {
+                return;
             }
-            if signals.acquired.load(Ordering::SeqCst) {
-                last = last.saturating_add(1);
-                if last >= LAST_TRIES {
-                    self.unwritten = self.unwritten.saturating_add(1);
-                    self.teller.tell(Event::Unwritten(extent));
-                    return;
-                }
+            if is_last(signals, &mut tries) {
+                self.give_up(taken.extent());
+                return;
             }
+            thread::sleep(rt, Duration::from_millis(RETRY));
+        }
+    }
+}
+
+/// Hands the pair of the oldest record that waits to the store.
+fn put_oldest<N: Session<A>, A: Allocator + Copy, K: Store, R: Wait + Clock>(
+    rt: &R,
+    alloc: A,
+    signals: &Signals,
+    shared: &Shared<N, A>,
+    exports: &mut Exports<'_, K, A>,
+) {
+    match take_own(rt, shared, &mut exports.token) {
+        Ok(Some(record)) => {
+            exports.put_record(rt, alloc, signals, shared.opening().layout(), &record)
+        }
+        Ok(None) => {}
+        Err(_) => {
+            exports.teller.tell(Event::Memory);
             thread::sleep(rt, Duration::from_millis(RETRY));
         }
     }
@@ -160,15 +212,6 @@ pub(crate) fn export<N: Session<A>, A: Allocator + Copy, K: Store, R: Wait + Clo
             thread::sleep(rt, Duration::from_millis(NAP));
             continue;
         }
-        match take_own(rt, shared, &mut exports.token) {
-            Ok(Some(record)) => {
-                exports.put_record(rt, alloc, signals, shared.opening().layout(), &record)
-            }
-            Ok(None) => {}
-            Err(_) => {
-                exports.teller.tell(Event::Memory);
-                thread::sleep(rt, Duration::from_millis(RETRY));
-            }
-        }
+        put_oldest(rt, alloc, signals, shared, exports);
     }
 }

@@ -19,16 +19,24 @@ pub struct Key {
     pub copy: u64,
 }
 
+/// Three numbers in one, the last two in two digits each. They stay far below a `u32`'s end; that costs no proof where they couldn't
+/// pass it.
+fn packed(first: u16, second: u8, third: u8) -> u32 {
+    let whole = (first as u32).saturating_mul(10_000);
+    let hundreds = (second as u32).saturating_mul(100);
+    whole.saturating_add(hundreds).saturating_add(third as u32)
+}
+
 /// The name of record `number`, triggered at an instant in microseconds since 1970-01-01 00:00:00.
 pub fn key_at(instant: i64, number: u64) -> Key {
     match DateTime::from_nanosecond(instant as i128 * 1000) {
         Ok(civil) => Key {
-            date: civil.date.year.unsigned_abs() as u32 * 10_000
-                + civil.date.month as u32 * 100
-                + civil.date.day as u32,
-            time: civil.time.hour as u32 * 10_000
-                + civil.time.minute as u32 * 100
-                + civil.time.second as u32,
+            date: packed(
+                civil.date.year.unsigned_abs(),
+                civil.date.month,
+                civil.date.day,
+            ),
+            time: packed(civil.time.hour as u16, civil.time.minute, civil.time.second),
             micros: civil.time.subsec_nanosecond / 1000,
             number,
             copy: 1,

@@ -1,8 +1,8 @@
 //! The lines of an operator, which come while scans are recorded.
 
 use crate::event::{Asked, Event, Skipped};
-use crate::orders::Trigger;
-use dfr_channels::{Rule, RuleFault, Rules};
+use crate::orders::{Trigger, skipped_of};
+use dfr_channels::{Rule, Rules};
 use dfr_frames::{HEAD, commands_of};
 use dfr_live::{Order, Session, Shared};
 use dfr_script::{Command, ScriptRefusal, Word};
@@ -75,9 +75,9 @@ impl<A: Allocator + Copy> Trigger<A> {
     ) {
         match Rules::new(shared.opening().layout(), list) {
             Ok(rules) => self.carry(rt, shared, Asked::Operator, Order::SetRules(rules)),
-            Err((RuleFault::TooMany, _)) => self.teller.tell(Event::Order(Skipped::TooMany)),
-            Err((RuleFault::NoChannel(_), _)) => {
-                self.teller.tell(Event::Order(Skipped::NoChannel))
+            Err((fault, list)) => {
+                drop(list);
+                self.teller.tell(Event::Order(skipped_of(fault)))
             }
         }
     }

@@ -4,6 +4,7 @@ use crate::event::{Asked, Event, Replied, Skipped};
 use crate::operator::Operator;
 use crate::signals::Signals;
 use crate::teller::Teller;
+use dfr_channels::{RuleFault, Rules};
 use dfr_live::{End, Order, RulesRefusal, Session, Shared, Token};
 use rtrb::Consumer;
 use std::alloc::{Allocator, Global};
@@ -52,6 +53,70 @@ enum Went {
     Full,
 }
 
+/// Why an order with such rules is skipped.
+pub(crate) fn skipped_of(fault: RuleFault) -> Skipped {
+    match fault {
+        RuleFault::TooMany => Skipped::TooMany,
+        RuleFault::NoChannel(_) => Skipped::NoChannel,
+    }
+}
+
+/// The next order of the input, if it came after so many scans at most; else it stays the next.
+fn due_order<A: Allocator>(
+    orders: &mut Consumer<Placed<A>, A>,
+    next: &mut Option<Placed<A>>,
+    to: u64,
+) -> Option<Order<A>> {
+    if next.is_none() {
+        *next = orders.pop().ok();
+    }
+    match next.take() {
+        None => None,
+        Some(placed) => {
+            if placed.at <= to {
+                return Some(placed.order);
+            }
+            *next = Some(placed);
+            None
+        }
+    }
+}
+
+/// Whether rules were set; None where memory is short.
+fn has_set<N: Session<A>, A: Allocator + Copy>(
+    rt: &impl Wait,
+    shared: &Shared<N, A>,
+    token: &mut Token<A>,
+    rules: Rules<A>,
+) -> Option<bool> {
+    match shared.set_rules(rt, token, rules) {
+        Ok(()) => Some(true),
+        Err((refusal, rules)) => {
+            drop(rules);
+            match refusal {
+                RulesRefusal::NoChannel => Some(false),
+                RulesRefusal::Memory => None,
+            }
+        }
+    }
+}
+
+/// Carries out an order. What it is answered; None where memory is short.
+fn carried<N: Session<A>, A: Allocator + Copy>(
+    rt: &impl Wait,
+    shared: &Shared<N, A>,
+    token: &mut Token<A>,
+    order: Order<A>,
+) -> Option<Replied> {
+    match order {
+        Order::Trigger => Some(Replied::Trigger(shared.trigger(rt, token))),
+        Order::SetRules(rules) => {
+            let is_set = has_set(rt, shared, token, rules)?;
+            Some(Replied::Rules(is_set))
+        }
+    }
+}
+
 impl<A: Allocator + Copy> Trigger<A> {
     /// Carries out an order, and tells what it is answered.
     pub(crate) fn carry<N: Session<A>>(
@@ -62,35 +127,24 @@ impl<A: Allocator + Copy> Trigger<A> {
         order: Order<A>,
     ) {
         let at = self.token.pumped();
-        let reply = match order {
-            Order::Trigger => Replied::Trigger(shared.trigger(rt, &mut self.token)),
-            Order::SetRules(rules) => match shared.set_rules(rt, &mut self.token, rules) {
-                Ok(()) => Replied::Rules(true),
-                Err((RulesRefusal::NoChannel, _)) => Replied::Rules(false),
-                Err((RulesRefusal::Memory, _)) => {
-                    self.teller.tell(Event::Order(Skipped::Memory));
-                    return;
-                }
-            },
+        let told = match carried(rt, shared, &mut self.token, order) {
+            Some(reply) => Event::Reply { asked, at, reply },
+            None => Event::Order(Skipped::Memory),
         };
-        self.teller.tell(Event::Reply { asked, at, reply });
+        self.teller.tell(told);
     }
 
     /// Carries out the orders of the input that are due: all of them where no step can be made any more.
     fn carry_due<N: Session<A>>(&mut self, rt: &impl Wait, shared: &Shared<N, A>, is_end: bool) {
         for _ in 0..u64::MAX {
-            if self.next.is_none() {
-                self.next = self.orders.pop().ok();
-            }
-            match self.next.take() {
+            let to = if is_end {
+                u64::MAX
+            } else {
+                self.token.pumped()
+            };
+            match due_order(&mut self.orders, &mut self.next, to) {
+                Some(order) => self.carry(rt, shared, Asked::Input, order),
                 None => return,
-                Some(placed) => {
-                    if placed.at > self.token.pumped() && !is_end {
-                        self.next = Some(placed);
-                        return;
-                    }
-                    self.carry(rt, shared, Asked::Input, placed.order);
-                }
             }
         }
     }

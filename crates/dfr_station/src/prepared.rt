@@ -81,6 +81,43 @@ fn rules_of<A: Allocator>(layout: &Layout<A>, list: Vec<Rule, A>) -> Result<Rule
     }
 }
 
+/// The recorder of parts that fit one another.
+fn joined<A: Allocator + Copy>(
+    alloc: A,
+    layout: Layout<A>,
+    limits: Limits,
+    rules: Rules<A>,
+) -> Result<Recorder<A>, SetupRefusal>
+    requires limits { IsTrue (has_stamps layout.rate limits.longest) }
+    requires rules { IsTrue (rules_fit layout rules) }
+{
+    match Recorder::new(alloc, layout, limits, rules) {
+        Ok(recorder) => Ok(recorder),
+        Err(back) => {
+            drop(back);
+            Err(SetupRefusal::Memory)
+        }
+    }
+}
+
+/// The recorder of a layout, limits that fit it and its first rules.
+fn limited<A: Allocator + Copy>(
+    alloc: A,
+    layout: Layout<A>,
+    limits: Limits,
+    list: Vec<Rule, A>,
+) -> Result<Recorder<A>, SetupRefusal>
+    requires { IsTrue (has_stamps layout.rate limits.longest) }
+{
+    match rules_of(&layout, list) {
+        Ok(rules) => joined(alloc, layout, limits, rules),
+        Err(refusal) => {
+            drop(layout);
+            Err(refusal)
+        }
+    }
+}
+
 /// The recorder of a layout, the numbers of its limits and its first rules.
 fn made<A: Allocator + Copy>(
     alloc: A,
@@ -88,14 +125,13 @@ fn made<A: Allocator + Copy>(
     numbers: LimitNumbers,
     list: Vec<Rule, A>,
 ) -> Result<Recorder<A>, SetupRefusal> {
-    let limits = match limits_of(&layout, numbers) {
-        Ok(limits) => limits,
-        Err(fault) => return Err(SetupRefusal::Limits(fault)),
-    };
-    let rules = rules_of(&layout, list)?;
-    match Recorder::new(alloc, layout, limits, rules) {
-        Ok(recorder) => Ok(recorder),
-        Err(_) => Err(SetupRefusal::Memory),
+    match limits_of(&layout, numbers) {
+        Ok(limits) => limited(alloc, layout, limits, list),
+        Err(fault) => {
+            drop(layout);
+            drop(list);
+            Err(SetupRefusal::Limits(fault))
+        }
     }
 }
 
@@ -108,11 +144,16 @@ fn recorder_in<A: Allocator + Copy>(
         setup,
         limits,
         rules,
-        commands: _,
+        commands,
     } = script;
+    drop(commands);
     match Layout::new(setup) {
         Ok(layout) => made(alloc, layout, limits, rules),
-        Err((fault, _)) => Err(SetupRefusal::Setup(fault)),
+        Err((fault, setup)) => {
+            drop(setup);
+            drop(rules);
+            Err(SetupRefusal::Setup(fault))
+        }
     }
 }
 

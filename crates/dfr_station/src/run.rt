@@ -5,13 +5,16 @@ ghost use Rattle.dfr_recorder.specs.History.{Opening};
 ghost use Rattle.dfr_live.specs.Seen.{opening_of};
 ghost use Rattle.dfr_frames.specs.Runs.{Leaves};
 
+use crate::acquire::Acquisition;
 use crate::begin::{How, queues_in, tasks_of};
 use crate::event::Event;
+use crate::export::Exports;
 use crate::first::First;
+use crate::orders::Trigger;
 use crate::station::{Printer, Station, Store};
 use crate::tasks::{Tasks, in_threads};
 use crate::teller::put_line;
-use crate::telling::now;
+use crate::telling::{Telling, now};
 use dfr_frames::{Recorded, RunFault, ended_of};
 use dfr_live::{Opened, Session, Shared, Source, Token, open};
 use std::alloc::Allocator;
@@ -49,6 +52,11 @@ pub fn run_station<
 ) -> Result<Recorded<A>, RunFault>
     ensures { IfOk result (λ left. Leaves (opening_of station.recorder) left.ended) }
 {
+    let Ok(mut text) = Vec::with_capacity(alloc, LINE) else {
+        drop(station);
+        drop(first);
+        return Err(RunFault::Memory);
+    };
     let Station {
         recorder,
         input: form,
@@ -63,9 +71,6 @@ pub fn run_station<
         operator,
         first,
     };
-    let Ok(mut text) = Vec::with_capacity(alloc, LINE) else {
-        return Err(RunFault::Memory);
-    };
     match open(alloc, recorder, LANE, 2) {
         Ok(opened) => {
             let left = run_named::<Brand, A, I, K, P, R>(
@@ -76,7 +81,11 @@ pub fn run_station<
             }
             Ok(left)
         }
-        Err((fault, _)) => Err(RunFault::Open(fault)),
+        Err((fault, recorder)) => {
+            drop(recorder);
+            drop(how);
+            Err(RunFault::Open(fault))
+        }
     }
 }
 
@@ -104,6 +113,8 @@ fn run_named<
     ensures { IfOk result (λ left. Leaves N.opening left.ended) }
 {
     let Ok(queues) = queues_in(alloc) else {
+        drop(opened);
+        drop(how);
         return Err(RunFault::Memory);
     };
     let (shared, source, mut tokens) = opened.share::<N>();
@@ -132,32 +143,102 @@ fn taken_apart<N: Session<A>, A: Allocator + Copy, I, K, P: Printer, R: Clock>(
     text: &mut Vec<u8, A>,
 ) -> Result<(Shared<N, A>, Source<N, A>, Token<A>, Token<A>, u64), RunFault> {
     if !started {
+        drop(tasks);
         return Err(RunFault::Thread);
     }
     let failed = tasks.signals.failed.load(Ordering::SeqCst);
     let records = tasks.signals.records.load(Ordering::SeqCst);
-    let acquisition = tasks.acquisition.into_inner();
-    let trigger = tasks.trigger.into_inner();
-    let exports = tasks.exports.into_inner();
-    let telling = tasks.telling.into_inner();
-    let scans = acquisition.scans.came();
+    let Tasks {
+        alloc: _,
+        signals: _,
+        shared,
+        acquisition,
+        trigger,
+        exports,
+        telling,
+    } = tasks;
+    let (source, scans, lost) = source_of(acquisition.into_inner());
+    let first = trigger_token(trigger.into_inner());
+    let (second, unwritten) = exports_token(exports.into_inner());
     let ended = Event::Ended {
         scans,
-        lost: acquisition.scans.lost(),
+        lost,
         records,
-        left: scans.saturating_sub(trigger.token.pumped()),
+        left: scans.saturating_sub(first.pumped()),
     };
-    print_one(rt, text, telling.printer, ended);
+    print_ended(rt, text, telling.into_inner(), ended);
     if failed {
+        drop(shared);
+        drop(source);
+        drop(first);
+        drop(second);
         return Err(RunFault::Counter);
     }
-    Ok((
-        tasks.shared,
-        acquisition.source,
-        trigger.token,
-        exports.token,
-        exports.unwritten,
-    ))
+    Ok((shared, source, first, second, unwritten))
+}
+
+/// The source, and how many scans came and were lost.
+fn source_of<N: Session<A>, A: Allocator, I>(
+    acquisition: Acquisition<'_, N, I, A>,
+) -> (Source<N, A>, u64, u64) {
+    let Acquisition {
+        input: _,
+        source,
+        scans,
+        orders,
+        form: _,
+        buffer,
+        held: _,
+    } = acquisition;
+    let (came, lost) = (scans.came(), scans.lost());
+    drop(scans);
+    drop(orders);
+    drop(buffer);
+    (source, came, lost)
+}
+
+/// The trigger thread's token.
+fn trigger_token<A: Allocator>(trigger: Trigger<A>) -> Token<A> {
+    let Trigger {
+        alloc: _,
+        token,
+        orders,
+        next,
+        operator,
+        teller,
+        shelf: _,
+        is_full: _,
+    } = trigger;
+    drop(orders);
+    drop(next);
+    drop(operator);
+    drop(teller);
+    token
+}
+
+/// The export thread's token, and how many records weren't written.
+fn exports_token<K, A: Allocator>(exports: Exports<'_, K, A>) -> (Token<A>, u64) {
+    let Exports {
+        store: _,
+        token,
+        teller,
+        kind: _,
+        is_in_trouble: _,
+        unwritten,
+    } = exports;
+    drop(teller);
+    (token, unwritten)
+}
+
+/// Prints the last event, and lets go of what the printing thread worked on.
+fn print_ended<P: Printer, A: Allocator>(
+    clock: &impl Clock,
+    text: &mut Vec<u8, A>,
+    telling: Telling<'_, P, A>,
+    ended: Event,
+) {
+    print_one(clock, text, &mut *telling.printer, ended);
+    drop(telling);
 }
 
 /// Prints an event, whose line has room in the text.

@@ -1,13 +1,13 @@
 //! Lines as they come, in pieces of any size.
 
 use crate::event::{Event, Skipped};
-use crate::orders::Placed;
+use crate::orders::{Placed, skipped_of};
 use crate::scans::Scans;
 use crate::signals::Signals;
 use crate::text_buffer::{
     feeds_in, kept_after, line_at, line_end, piece_end, whole_end, with_head,
 };
-use dfr_channels::{Layout, Rule, RuleFault, Rules};
+use dfr_channels::{Layout, Rule, Rules, Scan};
 use dfr_frames::{Came, HEAD_LEN, HEAD_LINES, Tally, Why, commands_of, give, is_scan_line, lose};
 use dfr_live::{LossFault, Order, Session, Source};
 use dfr_script::{Command, ScriptFault, ScriptRefusal, Word};
@@ -32,6 +32,12 @@ impl<N: Session<A>, A: Allocator + Copy> Lane<'_, N, A> {
         self.scans.teller.tell(Event::Line { line, why });
     }
 
+    fn give(&mut self, scan: Scan<A>) -> Result<(), LossFault> {
+        let came = give(self.layout, self.source, scan)?;
+        self.scans.count(came);
+        Ok(())
+    }
+
     fn lose(&mut self, why: Why) -> Result<(), LossFault> {
         let came = lose(self.source, why)?;
         self.scans.count(came);
@@ -52,19 +58,18 @@ impl<N: Session<A>, A: Allocator + Copy> Lane<'_, N, A> {
     fn set_rules(&mut self, line: u64, list: Vec<Rule, A>) {
         match Rules::new(self.layout, list) {
             Ok(rules) => self.order(line, Order::SetRules(rules)),
-            Err((RuleFault::TooMany, _)) => self.skip(line, Skipped::TooMany),
-            Err((RuleFault::NoChannel(_), _)) => self.skip(line, Skipped::NoChannel),
+            Err((fault, list)) => {
+                drop(list);
+                self.skip(line, skipped_of(fault))
+            }
         }
     }
 
     /// Carries out a command; its line is at or after line `from`.
     fn carry(&mut self, from: u64, command: Command<A>) -> Result<(), LossFault> {
         match command {
-            Command::Scan(scan) => {
-                let came = give(self.layout, self.source, scan)?;
-                self.scans.count(came);
-            }
-            Command::Lost => self.lose(Why::Told)?,
+            Command::Scan(scan) => return self.give(scan),
+            Command::Lost => return self.lose(Why::Told),
             Command::Trigger => self.order(from, Order::Trigger),
             Command::Take => self.skip(from, Skipped::Word),
             Command::Rules { line, list } => {
