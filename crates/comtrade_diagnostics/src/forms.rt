@@ -10,7 +10,7 @@ use dfr_channels::{Decimal, fields_of};
 use std::alloc::{AllocError, Allocator};
 
 /// What a line looks like, by its fields alone.
-#[derive(Clone, Copy, Debug, PartialEq, Eq)]
+#[derive(Clone, Copy, PartialEq, Eq)]
 enum Form {
     Analog,
     Status,

@@ -4,7 +4,7 @@ ghost use Rattle.comtrade_diagnostics.specs.declared.names.Place.TheVariants.{Ra
 ghost use Rattle.comtrade_diagnostics.specs.Places.{AreFew, IsPlace};
 
 /// How many lines of a kind a configuration file has.
-#[derive(Clone, Copy, Debug)]
+#[derive(Clone, Copy)]
 pub(crate) struct Counts {
     pub(crate) analog: u64,
     pub(crate) status: u64,
@@ -12,7 +12,7 @@ pub(crate) struct Counts {
 }
 
 /// What a line of a configuration file is; channels and rates count from 1 of their kind.
-#[derive(Clone, Copy, Debug)]
+#[derive(Clone, Copy)]
 pub(crate) enum Place {
     Station,
     Channels,

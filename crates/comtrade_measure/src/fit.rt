@@ -37,7 +37,7 @@ impl<A: Allocator> Measured<A> {
 }
 
 /// What a channel's rows come to.
-#[derive(Debug, Drop)]
+#[derive(Drop)]
 struct Totals<A: Allocator> {
     sums: Vec<f64, A>,
     squares: f64,

@@ -20,7 +20,7 @@ pub(crate) fn zeros<A: Allocator>(alloc: A, count: usize) -> Result<Vec<f64, A>,
 }
 
 /// A square matrix, row by row.
-#[derive(Debug, Drop)]
+#[derive(Drop)]
 pub(crate) struct Matrix<A: Allocator> {
     side: usize,
     cells: Vec<f64, A>,

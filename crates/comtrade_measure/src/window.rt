@@ -28,7 +28,7 @@ impl Window {
 }
 
 /// The last rate that rows of a file have, and the index of its first row.
-#[derive(Clone, Copy, Debug)]
+#[derive(Clone, Copy)]
 struct Stretch {
     rate: Decimal,
     from: usize,

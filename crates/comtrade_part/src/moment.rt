@@ -3,7 +3,7 @@
 use jiff_core::civil::{Date, DateTime, Time};
 
 /// A moment of a record.
-#[derive(Clone, Copy, Debug, PartialEq, Eq)]
+#[derive(Clone, Copy, PartialEq, Eq)]
 pub(crate) enum Moment {
     /// The row of this number, from 1.
     Row(u64),

@@ -6,7 +6,7 @@ use dfr_channels::{AnalogChannel, StatusChannel};
 use std::alloc::{AllocError, Allocator};
 
 /// Which channels are meant, by their places from 0.
-#[derive(Debug, Drop)]
+#[derive(Drop)]
 pub(crate) struct Channels<A: Allocator> {
     pub(crate) analog: Vec<usize, A>,
     pub(crate) status: Vec<usize, A>,

@@ -7,7 +7,7 @@ use comtrade_values::clock_of;
 use std::alloc::Allocator;
 
 /// Rows by their indices from 0: from the first one on, and not from the second one on.
-#[derive(Clone, Copy, Debug)]
+#[derive(Clone, Copy)]
 pub(crate) struct Rows {
     pub(crate) from: usize,
     pub(crate) to: usize,

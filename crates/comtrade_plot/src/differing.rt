@@ -8,7 +8,7 @@ use std::alloc::Allocator;
 
 /// Two records in one frame: when the rows of the one were taken, the other's moments, of each row of the one the place of the last of
 /// them that isn't after it, and how far two moments are apart at most between which values are taken from a straight line.
-#[derive(Clone, Copy)]
+#[derive(Drop)]
 pub(crate) struct Beside<'a, A: Allocator> {
     pub(crate) one: &'a Chart<'a, A>,
     pub(crate) other: &'a Chart<'a, A>,

@@ -5,7 +5,7 @@ use comtrade_frame::Frame;
 use std::alloc::Allocator;
 
 /// Rows that were lost between two times, and how many.
-#[derive(Clone, Copy, Debug)]
+#[derive(Clone, Copy)]
 pub(crate) struct Gap {
     pub(crate) from: i64,
     pub(crate) to: i64,

@@ -3,7 +3,7 @@
 use crate::phases::Hue;
 
 /// The only record of a picture, or the one or the other of two.
-#[derive(Clone, Copy, Debug, PartialEq, Eq)]
+#[derive(Clone, Copy, PartialEq, Eq)]
 pub(crate) enum Layer {
     Alone,
     One,

@@ -11,7 +11,7 @@ use std::alloc::Allocator;
 
 /// What is drawn: a file; what turns samples into values; the number of each channel's panel; what the drawn rows say; the times
 /// that are drawn; where each row stands; the gaps; whether times are known; when the trigger was; which record of the picture it is.
-#[derive(Clone, Copy)]
+#[derive(Drop)]
 pub(crate) struct Chart<'a, A: Allocator> {
     pub(crate) alloc: A,
     pub(crate) file: &'a File<A>,

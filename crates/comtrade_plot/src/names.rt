@@ -4,7 +4,7 @@ use dfr_channels::AnalogChannel;
 use std::alloc::Allocator;
 
 /// How well a channel goes with another.
-#[derive(Clone, Copy, Debug, PartialEq, Eq)]
+#[derive(Clone, Copy, PartialEq, Eq)]
 pub(crate) enum Likeness {
     /// Not at all.
     None,

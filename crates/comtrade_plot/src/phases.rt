@@ -4,7 +4,7 @@ use dfr_channels::AnalogChannel;
 use std::alloc::Allocator;
 
 /// A colour with its line style: those of the phases A, B, C and N, and four for what has no phase.
-#[derive(Clone, Copy, Debug, PartialEq, Eq)]
+#[derive(Clone, Copy, PartialEq, Eq)]
 pub(crate) enum Hue {
     A,
     B,

@@ -9,7 +9,7 @@ use std::alloc::Allocator;
 use std::num::nearest_u64_to_f64;
 
 /// The sum of the squares of values, and how many they are.
-#[derive(Clone, Copy, Debug)]
+#[derive(Clone, Copy)]
 pub(crate) struct Squares {
     count: u64,
     sum: f64,
@@ -36,7 +36,7 @@ impl Squares {
 
 /// What is known of a channel: its least and its greatest sample, where it has one, and the squares of its values in the last
 /// cycle before the trigger and in the first after it.
-#[derive(Clone, Copy, Debug)]
+#[derive(Clone, Copy)]
 pub(crate) struct Survey {
     pub(crate) bounds: Option<(i32, i32)>,
     pub(crate) before: Squares,

@@ -41,7 +41,7 @@ fn number_of(x: f64) -> Option<Number> {
 }
 
 /// How many digits a float has: six, and 0 where its size is at most a 10^9th of another one; or as many as read back to it.
-#[derive(Clone, Copy, Debug)]
+#[derive(Clone, Copy)]
 pub(crate) enum Digits {
     Six(f64),
     All,

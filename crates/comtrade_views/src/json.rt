@@ -5,7 +5,7 @@ use comtrade_cli::{put, put_safe};
 use std::alloc::{AllocError, Global};
 
 /// A member of each object: its key, and whether cells are texts, or numbers and arrays of them. A cell that is no number is null.
-#[derive(Clone, Copy, Debug)]
+#[derive(Clone, Copy)]
 pub(crate) enum Member {
     Text(&'static str),
     Number(&'static str),

@@ -10,7 +10,7 @@ use itoa::Buffer;
 use std::alloc::{AllocError, Allocator};
 
 /// The number units * 10^exponent.
-#[derive(Clone, Copy, Debug)]
+#[derive(Clone, Copy)]
 pub(crate) struct Number {
     pub(crate) units: i128,
     pub(crate) exponent: i32,
@@ -88,7 +88,7 @@ fn sum(one: Number, other: Number) -> Number {
 }
 
 /// What a channel makes of its samples: a * x + b.
-#[derive(Clone, Copy, Debug)]
+#[derive(Clone, Copy)]
 pub(crate) struct Scale {
     pub(crate) a: Decimal,
     pub(crate) b: Decimal,

@@ -5,14 +5,14 @@ use dfr_channels::Reading;
 use std::alloc::{AllocError, Allocator};
 
 /// A sample, and the index of its row from 0.
-#[derive(Clone, Copy, Debug)]
+#[derive(Clone, Copy)]
 pub(crate) struct Peak {
     pub(crate) sample: i32,
     pub(crate) row: usize,
 }
 
 /// The first least and the first greatest sample of a channel, where it has one, and how many readings are missing.
-#[derive(Clone, Copy, Debug)]
+#[derive(Clone, Copy)]
 pub(crate) struct Peaks {
     pub(crate) extremes: Option<(Peak, Peak)>,
     pub(crate) missing: u64,

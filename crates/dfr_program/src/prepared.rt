@@ -16,7 +16,7 @@ use dfr_script::{Command, LimitNumbers, Script, ScriptFault, ScriptRefusal, scri
 use std::alloc::Allocator;
 
 /// What is wrong with a script or its set-up, in the order of the tests.
-#[derive(Clone, Copy, Debug, PartialEq, Eq)]
+#[derive(Clone, Copy, PartialEq, Eq)]
 pub(crate) enum Fault {
     Script(ScriptFault),
     Setup(SetupFault),
@@ -27,7 +27,7 @@ pub(crate) enum Fault {
 }
 
 /// Why nothing could be made.
-#[derive(Clone, Copy, Debug, PartialEq, Eq)]
+#[derive(Clone, Copy, PartialEq, Eq)]
 pub(crate) enum Refusal {
     Fault(Fault),
     Memory,

@@ -24,7 +24,7 @@ pub enum Command<A: Allocator = Global> {
 }
 
 /// The words of commands.
-#[derive(Clone, Copy, Debug, PartialEq, Eq)]
+#[derive(Clone, Copy, PartialEq, Eq)]
 pub(crate) enum Verb {
     Scan,
     Lost,

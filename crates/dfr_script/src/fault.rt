@@ -35,7 +35,7 @@ pub enum ScriptRefusal {
 }
 
 /// Why a line could not be read.
-#[derive(Clone, Copy, Debug, PartialEq, Eq)]
+#[derive(Clone, Copy, PartialEq, Eq)]
 pub(crate) enum LineRefusal {
     Fault(Word),
     Memory,

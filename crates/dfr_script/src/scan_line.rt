@@ -17,7 +17,7 @@ use memchr::memchr;
 use std::alloc::Allocator;
 
 /// How many readings and bits the set-up's scans have: the room to make for a line's.
-#[derive(Clone, Copy, Debug)]
+#[derive(Clone, Copy)]
 pub(crate) struct Size {
     pub(crate) analog: usize,
     pub(crate) status: usize,

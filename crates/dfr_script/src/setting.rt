@@ -6,7 +6,7 @@ ghost use Rattle.dfr_script.specs.Settings as spec;
 use crate::line::is_word;
 
 /// What a line before `go` sets.
-#[derive(Clone, Copy, Debug, PartialEq, Eq)]
+#[derive(Clone, Copy, PartialEq, Eq)]
 pub(crate) enum Setting {
     Station,
     Device,
