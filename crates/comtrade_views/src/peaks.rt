@@ -66,23 +66,34 @@ impl Peaks {
     }
 }
 
-/// The peaks of each analogue channel, by one look over the rows.
-pub(crate) fn peaks_of<A: Allocator + Copy>(
-    alloc: A,
-    file: &File<A>,
-) -> Result<Vec<Peaks, A>, AllocError> {
-    let mut peaks = Vec::new(alloc);
+/// Adds no peaks for each analogue channel.
+fn add_none<A: Allocator>(peaks: &mut Vec<Peaks, A>, file: &File<A>) -> Result<(), AllocError> {
     for _ in file.head.analog.items() {
         peaks.push(Peaks {
             extremes: None,
             missing: 0,
         })?;
     }
-    for (i, row) in file.rows.items().iter().enumerate() {
+    Ok(())
+}
+
+/// Brings the readings of the rows into the peaks of their channels.
+fn add_rows<A: Allocator>(peaks: &mut [Peaks], rows: &[Row<A>]) {
+    for (i, row) in rows.iter().enumerate() {
         for (known, reading) in peaks.iter_mut().zip(row.values.items().iter()) {
             known.add(*reading, i);
         }
     }
+}
+
+/// The peaks of each analogue channel, by one look over the rows.
+pub(crate) fn peaks_of<A: Allocator + Copy>(
+    alloc: A,
+    file: &File<A>,
+) -> Result<Vec<Peaks, A>, AllocError> {
+    let mut peaks = Vec::new(alloc);
+    add_none(&mut peaks, file)?;
+    add_rows(&mut peaks, file.rows.items());
     Ok(peaks)
 }
 
