@@ -1,7 +1,8 @@
 //! Where the currents of a record left their earlier course, for people.
 
-use crate::float::{put_float, put_places};
+use crate::float::put_places;
 use crate::json::{Member, put_rows_json};
+use crate::measure_tables::put_float_cell;
 use crate::show::put_row_time;
 use crate::shown::{Shown, put_channel, put_cycle};
 use crate::table::{end_cell, end_row, put_table};
@@ -26,10 +27,8 @@ fn put_sizes<A: Allocator>(
     above: f64,
     shown: Shown<'_>,
 ) -> Result<(), AllocError> {
-    put_float(table, course.before, shown.digits(course.greatest))?;
-    end_cell(table)?;
-    put_float(table, course.greatest, shown.digits(0.0))?;
-    end_cell(table)?;
+    put_float_cell(table, course.before, shown.digits(course.greatest))?;
+    put_float_cell(table, course.greatest, shown.digits(0.0))?;
     put_places(table, above, 3)?;
     end_cell(table)
 }

@@ -117,18 +117,28 @@ fn add_changes<A: Allocator>(changes: &mut [u64], before: &Row<A>, row: &Row<A>)
     }
 }
 
+/// Counts the changes of contacts from each row to the next.
+fn add_all_changes<A: Allocator>(changes: &mut [u64], rows: &[Row<A>]) {
+    for (before, row) in rows.iter().zip(rows.iter().skip(1)) {
+        add_changes(changes, before, row);
+    }
+}
+
+/// Adds a count of 0 for each contact.
+fn add_zeros<A: Allocator>(changes: &mut Vec<u64, A>, file: &File<A>) -> Result<(), AllocError> {
+    for _ in file.head.status.items() {
+        changes.push(0u64)?;
+    }
+    Ok(())
+}
+
 /// How often each contact changes, by one look over the rows.
 pub(crate) fn changes_of<A: Allocator + Copy>(
     alloc: A,
     file: &File<A>,
 ) -> Result<Vec<u64, A>, AllocError> {
     let mut changes = Vec::new(alloc);
-    for _ in file.head.status.items() {
-        changes.push(0u64)?;
-    }
-    let rows = file.rows.items();
-    for (before, row) in rows.iter().zip(rows.iter().skip(1)) {
-        add_changes(&mut changes, before, row);
-    }
+    add_zeros(&mut changes, file)?;
+    add_all_changes(&mut changes, file.rows.items());
     Ok(changes)
 }

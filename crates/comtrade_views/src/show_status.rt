@@ -36,17 +36,17 @@ pub(crate) fn put_more<A: Allocator>(out: &mut Vec<u8, A>, count: u64) -> Result
     Ok(())
 }
 
-/// The first of so many changes of a contact.
-fn put_changes<A: Allocator>(
+/// The first changes of a contact, at most so many.
+fn put_listed<A: Allocator>(
     table: &mut Vec<u8, A>,
     rows: &[Row<A>],
     clock: Clock<'_>,
     at: usize,
-    count: u64,
+    most: u64,
 ) -> Result<(), AllocError> {
     let mut listed = 0u64;
     for (i, (before, row)) in rows.iter().zip(rows.iter().skip(1)).enumerate() {
-        if count.min(LISTED) <= listed {
+        if most <= listed {
             break;
         }
         let bit = bit_at(row, at);
@@ -55,6 +55,18 @@ fn put_changes<A: Allocator>(
             listed = listed.saturating_add(1);
         }
     }
+    Ok(())
+}
+
+/// The first of so many changes of a contact.
+fn put_changes<A: Allocator>(
+    table: &mut Vec<u8, A>,
+    rows: &[Row<A>],
+    clock: Clock<'_>,
+    at: usize,
+    count: u64,
+) -> Result<(), AllocError> {
+    put_listed(table, rows, clock, at, count.min(LISTED))?;
     put_more(table, count)?;
     end_row(table)
 }

@@ -74,11 +74,27 @@ fn put_channels<A: Allocator + Copy>(
     text: &mut Vec<u8, A>,
     file: &File<A>,
 ) -> Result<(), AllocError> {
+    put_counts(text, file)?;
+    put_number_cell(text, changing(alloc, file)?)
+}
+
+/// How many channels there are.
+fn put_counts<A: Allocator>(text: &mut Vec<u8, A>, file: &File<A>) -> Result<(), AllocError> {
     put_number(text, file.head.analog.items().len() as u64)?;
     put(text, "A ")?;
     put_number(text, file.head.status.items().len() as u64)?;
-    put(text, "D\x1F")?;
-    put_number_cell(text, changing(alloc, file)?)
+    put(text, "D\x1F")
+}
+
+/// A channel's id, and the value of a sample.
+fn put_value_of<A: Allocator>(
+    text: &mut Vec<u8, A>,
+    channel: &AnalogChannel<A>,
+    sample: i32,
+) -> Result<(), AllocError> {
+    put_safe(text, channel.id.items())?;
+    put(text, " ")?;
+    put_value(text, rounded(value_of(scale_of(channel), sample)))
 }
 
 /// A current of a channel.
@@ -87,9 +103,7 @@ fn put_current_of<A: Allocator>(
     channel: &AnalogChannel<A>,
     sample: i32,
 ) -> Result<(), AllocError> {
-    put_safe(text, channel.id.items())?;
-    put(text, " ")?;
-    put_value(text, rounded(value_of(scale_of(channel), sample)))?;
+    put_value_of(text, channel, sample)?;
     put(text, " A, of nominal ")?;
     put_decimal(text, nominal_of(channel))
 }
