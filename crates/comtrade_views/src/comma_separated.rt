@@ -1,55 +1,16 @@
 //! A pair of files as comma-separated values, with the line ends and quotation marks of RFC 4180.
 
+use crate::column_names::put_channel_names;
 use crate::instant::put_instant;
 use crate::number::{Number, Scale, put_sample, put_value, scale_of};
-use comtrade_cli::{ToolFault, fault_of, put, put_number, put_safe, put_with};
+use crate::spelling::Spelling;
+use comtrade_cli::{ToolFault, fault_of, put, put_number};
 use comtrade_format::{File, Head, Row};
 use csv::{Error, ErrorKind, Terminator, Writer, WriterBuilder};
 use dfr_channels::Reading;
 use std::alloc::{AllocError, Allocator};
 use std::collections::BTreeMap;
 use std::io::Write;
-
-/// What separates the cells of a table, and what stands before the places of a number.
-#[derive(Clone, Copy, Debug, PartialEq, Eq)]
-pub struct Spelling {
-    pub separator: u8,
-    pub decimal: u8,
-}
-
-impl Spelling {
-    /// The spelling with what words ask for: a separator of one printable character or `tab`, a decimal point or a comma; none where they ask
-    /// for something else, or for one sign in both places.
-    pub fn of(separator: Option<&str>, decimal: Option<&str>) -> Option<Spelling> {
-        let separator = separator_of(separator)?;
-        let decimal = decimal_of(decimal)?;
-        if separator == decimal {
-            return None;
-        }
-        Some(Spelling { separator, decimal })
-    }
-}
-
-fn separator_of(text: Option<&str>) -> Option<u8> {
-    match text.unwrap_or(",").as_bytes() {
-        b"tab" => Some(b'\t'),
-        [b] if is_sign(*b) => Some(*b),
-        _ => None,
-    }
-}
-
-/// A printable character that stands in no number and isn't a quotation mark.
-fn is_sign(b: u8) -> bool {
-    33 <= b && b <= 126 && !b.is_ascii_alphanumeric() && b != b'"' && b != b'-'
-}
-
-fn decimal_of(text: Option<&str>) -> Option<u8> {
-    match text.unwrap_or(".").as_bytes() {
-        b"." => Some(b'.'),
-        b"," => Some(b','),
-        _ => None,
-    }
-}
 
 /// The number of a cell with this sign before its places.
 fn respell<A: Allocator>(cell: &mut Vec<u8, A>, decimal: u8) {
@@ -69,7 +30,7 @@ fn csv_fault(error: &Error) -> ToolFault {
 }
 
 /// Writes a cell, and empties it.
-fn end_cell<A: Allocator, W: Write>(
+pub(crate) fn end_cell<A: Allocator, W: Write>(
     table: &mut Writer<&mut W>,
     cell: &mut Vec<u8, A>,
 ) -> Result<(), ToolFault> {
@@ -97,49 +58,6 @@ fn put_name<A: Allocator, W: Write>(
     end_cell(table, cell)
 }
 
-/// A text of the file, after an apostrophe where a spreadsheet would read a formula.
-fn put_name_of<A: Allocator>(cell: &mut Vec<u8, A>, id: &[u8]) -> Result<(), AllocError> {
-    if let Some(b'=' | b'+' | b'-' | b'@') = id.first() {
-        put(cell, "'")?;
-    }
-    put_safe(cell, id)
-}
-
-/// ` (2)` after the second one of a name, and so on.
-fn put_repeat<A: Allocator>(cell: &mut Vec<u8, A>, before: u64) -> Result<(), AllocError> {
-    if before == 0 {
-        return Ok(());
-    }
-    put_with(cell, " (", before.saturating_add(1))?;
-    put(cell, ")")
-}
-
-/// Writes the name of a column, told apart from the same name before it.
-fn end_name<A: Allocator + Copy, W: Write>(
-    table: &mut Writer<&mut W>,
-    cell: &mut Vec<u8, A>,
-    seen: &mut BTreeMap<Vec<u8, A>, u64, A>,
-) -> Result<(), ToolFault> {
-    let name = Vec::from_slice(*cell.allocator(), cell.as_slice())?;
-    let count = seen.entry(name)?.or_insert(0);
-    let before = *count;
-    *count = before.saturating_add(1);
-    put_repeat(cell, before)?;
-    end_cell(table, cell)
-}
-
-/// An analogue channel's id and unit.
-fn put_channel<A: Allocator>(
-    cell: &mut Vec<u8, A>,
-    id: &[u8],
-    unit: &[u8],
-) -> Result<(), AllocError> {
-    put_name_of(cell, id)?;
-    put(cell, " [")?;
-    put_safe(cell, unit)?;
-    put(cell, "]")
-}
-
 /// The names of the columns.
 fn put_head<A: Allocator + Copy, W: Write>(
     table: &mut Writer<&mut W>,
@@ -149,15 +67,8 @@ fn put_head<A: Allocator + Copy, W: Write>(
     put_name(table, cell, "row")?;
     put_name(table, cell, "instant")?;
     put_name(table, cell, "ms since trigger")?;
-    let mut seen = BTreeMap::new(*cell.allocator());
-    for channel in head.analog.items() {
-        put_channel(cell, channel.id.items(), channel.unit.items())?;
-        end_name(table, cell, &mut seen)?;
-    }
-    for channel in head.status.items() {
-        put_name_of(cell, channel.id.items())?;
-        end_name(table, cell, &mut seen)?;
-    }
+    let seen = BTreeMap::new(*cell.allocator());
+    put_channel_names(table, cell, head, seen)?;
     end_row(table)
 }
 
@@ -204,8 +115,8 @@ fn put_reading<A: Allocator>(
     Ok(())
 }
 
-/// The values and the bits of a row.
-fn put_row<A: Allocator, W: Write>(
+/// The values of a row.
+fn put_values<A: Allocator, W: Write>(
     table: &mut Writer<&mut W>,
     cell: &mut Vec<u8, A>,
     scales: &[Scale],
@@ -216,6 +127,18 @@ fn put_row<A: Allocator, W: Write>(
         put_reading(cell, *scale, *reading, decimal)?;
         end_cell(table, cell)?;
     }
+    Ok(())
+}
+
+/// The values and the bits of a row.
+fn put_row<A: Allocator, W: Write>(
+    table: &mut Writer<&mut W>,
+    cell: &mut Vec<u8, A>,
+    scales: &[Scale],
+    row: &Row<A>,
+    decimal: u8,
+) -> Result<(), ToolFault> {
+    put_values(table, cell, scales, row, decimal)?;
     for bit in row.bits.items() {
         put_name(table, cell, if *bit { "1" } else { "0" })?;
     }
@@ -224,10 +147,63 @@ fn put_row<A: Allocator, W: Write>(
 
 fn scales_of<A: Allocator + Copy>(alloc: A, head: &Head<A>) -> Result<Vec<Scale, A>, AllocError> {
     let mut scales = Vec::new(alloc);
+    add_scales(&mut scales, head)?;
+    Ok(scales)
+}
+
+/// Adds what each analogue channel makes of its samples.
+fn add_scales<A: Allocator>(scales: &mut Vec<Scale, A>, head: &Head<A>) -> Result<(), AllocError> {
     for channel in head.analog.items() {
         scales.push(scale_of(channel))?;
     }
-    Ok(scales)
+    Ok(())
+}
+
+/// The number and the times of a row.
+fn put_front<A: Allocator, W: Write>(
+    table: &mut Writer<&mut W>,
+    cell: &mut Vec<u8, A>,
+    number: u64,
+    (trigger, since): (i64, Option<i64>),
+    decimal: u8,
+) -> Result<(), ToolFault> {
+    put_number(cell, number)?;
+    end_cell(table, cell)?;
+    put_time(cell, trigger, since)?;
+    end_cell(table, cell)?;
+    put_since(cell, since)?;
+    respell(cell, decimal);
+    end_cell(table, cell)
+}
+
+/// The rows.
+fn put_rows<A: Allocator, W: Write>(
+    table: &mut Writer<&mut W>,
+    cell: &mut Vec<u8, A>,
+    file: &File<A>,
+    scales: &[Scale],
+    times: &[Option<i64>],
+    decimal: u8,
+) -> Result<(), ToolFault> {
+    for (row, since) in file.rows.items().iter().zip(times) {
+        put_front(
+            table,
+            cell,
+            row.number,
+            (file.head.trigger, *since),
+            decimal,
+        )?;
+        put_row(table, cell, scales, row, decimal)?;
+    }
+    Ok(())
+}
+
+/// Writes what the table still holds.
+fn flush<W: Write>(table: &mut Writer<&mut W>) -> Result<(), ToolFault> {
+    match table.flush() {
+        Ok(()) => Ok(()),
+        Err(error) => Err(csv_fault(&error)),
+    }
 }
 
 /// The names, and the rows, written as they are made.
@@ -240,20 +216,8 @@ fn put_table<A: Allocator + Copy, W: Write>(
     decimal: u8,
 ) -> Result<(), ToolFault> {
     put_head(table, cell, &file.head)?;
-    for (row, since) in file.rows.items().iter().zip(times) {
-        put_number(cell, row.number)?;
-        end_cell(table, cell)?;
-        put_time(cell, file.head.trigger, *since)?;
-        end_cell(table, cell)?;
-        put_since(cell, *since)?;
-        respell(cell, decimal);
-        end_cell(table, cell)?;
-        put_row(table, cell, scales, row, decimal)?;
-    }
-    match table.flush() {
-        Ok(()) => Ok(()),
-        Err(error) => Err(csv_fault(&error)),
-    }
+    put_rows(table, cell, file, scales, times, decimal)?;
+    flush(table)
 }
 
 fn write_table<A: Allocator + Copy, W: Write>(

@@ -53,11 +53,23 @@ fn put_member(
     if is_text {
         return put_string(alloc, out, cell);
     }
+    put_number(out, cell)
+}
+
+/// A cell that is a number or an array, or null.
+fn put_number(out: &mut Vec<u8>, cell: &[u8]) -> Result<(), AllocError> {
     if is_number(cell) {
-        out.extend_from_slice(cell)
-    } else {
-        put(out, "null")
+        return out.extend_from_slice(cell);
     }
+    put(out, "null")
+}
+
+/// What stands before the first such byte, and what after it; all and nothing where there is none.
+fn cut_at(text: &[u8], end: u8) -> (&[u8], &[u8]) {
+    let at = text.iter().position(|b| *b == end).unwrap_or(text.len());
+    let front = text.get(..at).unwrap_or(&[]);
+    let back = text.get(at.saturating_add(1)..).unwrap_or(&[]);
+    (front, back)
 }
 
 /// A row of a table as an object.
@@ -70,13 +82,35 @@ fn put_row(
     let mut rest = row;
     let mut before = "{";
     for member in members {
-        let end = rest.iter().position(|b| *b == CELL).unwrap_or(rest.len());
+        let (cell, back) = cut_at(rest, CELL);
         put(out, before)?;
-        put_member(alloc, out, *member, rest.get(..end).unwrap_or(&[]))?;
-        rest = rest.get(end.saturating_add(1)..).unwrap_or(&[]);
+        put_member(alloc, out, *member, cell)?;
+        rest = back;
         before = ",";
     }
     put(out, "}")
+}
+
+/// The rows of a table as objects, each after a comma but the first.
+fn put_objects(
+    alloc: Global,
+    out: &mut Vec<u8>,
+    members: &[Member],
+    table: &[u8],
+) -> Result<(), AllocError> {
+    let mut rest = table;
+    let mut before = "";
+    for _ in 0..table.len() {
+        if rest.is_empty() {
+            break;
+        }
+        let (row, back) = cut_at(rest, b'\n');
+        put(out, before)?;
+        put_row(alloc, out, members, row)?;
+        rest = back;
+        before = ",";
+    }
+    Ok(())
 }
 
 /// The rows of a table after its first, which are the names of its columns.
@@ -86,20 +120,7 @@ pub(crate) fn put_rows_json(
     members: &[Member],
     table: &[u8],
 ) -> Result<(), AllocError> {
-    let mut rest = table;
-    let mut before = "[";
-    let mut is_head = true;
-    for _ in 0..table.len() {
-        let Some(end) = rest.iter().position(|b| *b == b'\n') else {
-            break;
-        };
-        if !is_head {
-            put(out, before)?;
-            put_row(alloc, out, members, rest.get(..end).unwrap_or(&[]))?;
-            before = ",";
-        }
-        is_head = false;
-        rest = rest.get(end.saturating_add(1)..).unwrap_or(&[]);
-    }
-    put(out, if before == "[" { "[]" } else { "]" })
+    put(out, "[")?;
+    put_objects(alloc, out, members, cut_at(table, b'\n').1)?;
+    put(out, "]")
 }

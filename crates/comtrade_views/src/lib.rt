@@ -1,33 +1,41 @@
 //! Tools over the value of a pair of COMTRADE files of C37.111-1999: what is in it, its rows as CSV.
 #![tactic(auto)]
 
+mod column_names;
 mod comma_separated;
+mod currents;
+mod event_table;
 mod events;
 mod float;
 mod head_json;
 mod instant;
 mod json;
 mod measure;
+mod measure_json;
 mod measure_record;
 mod measure_tables;
 mod number;
 mod peaks;
+mod sequence_table;
 mod show;
 mod show_analog;
 mod show_status;
 mod shown;
+mod spelling;
 mod summary;
 mod survey_json;
 mod table;
 mod times;
 
-pub use comma_separated::{Spelling, csv_over};
-pub use events::{Event, add_events, put_events, sort_events};
+pub use comma_separated::csv_over;
+pub use event_table::put_events;
+pub use events::{Event, add_events, sort_events};
 pub use head_json::show_json;
 pub use json::put_text;
 pub use measure::{Measuring, measure_text};
 pub use show::show_over;
 pub use shown::Shown;
+pub use spelling::Spelling;
 pub use summary::{Summary, fault_summary, put_summaries, sort_summaries, summary_of};
 pub use survey_json::{put_events_json, put_summaries_json};
 pub use times::times_since_trigger;

@@ -1,12 +1,13 @@
-//! What is measured in a record, for people and as JSON.
+//! What is measured in a record.
 
-use crate::json::{Member, put_rows_json};
+use crate::measure_json::put_measures_json;
 use crate::measure_record::put_record;
-use crate::measure_tables::{channel_table, order_table, sequence_table};
+use crate::measure_tables::{put_channels, put_order_table};
+use crate::sequence_table::put_sequences;
 use crate::show::put_row_time;
 use crate::shown::{Shown, put_cycle};
 use crate::table::put_table;
-use comtrade_cli::{put, put_number, put_safe, put_with};
+use comtrade_cli::{put, put_safe, put_with};
 use comtrade_format::File;
 use comtrade_measure::{
     MeasureFault, Measured, Phasor, Window, last_cycle, measures_of, reference_in, whole_cycles,
@@ -24,7 +25,7 @@ pub enum Measuring<'a> {
 }
 
 /// Which rows are measured.
-fn put_window<A: Allocator>(
+fn put_rows<A: Allocator>(
     out: &mut Vec<u8, A>,
     window: Window,
     shown: Shown<'_>,
@@ -32,11 +33,29 @@ fn put_window<A: Allocator>(
     let last = window.to.saturating_sub(1);
     put_with(out, "rows       ", shown.number(window.from))?;
     put_with(out, " to ", shown.number(last))?;
-    put(out, ", ")?;
+    put(out, ", ")
+}
+
+/// When they were taken.
+fn put_times<A: Allocator>(
+    out: &mut Vec<u8, A>,
+    window: Window,
+    shown: Shown<'_>,
+) -> Result<(), AllocError> {
     put_row_time(out, shown.clock(), window.from)?;
     put(out, " to ")?;
-    put_row_time(out, shown.clock(), last)?;
-    put(out, " ms since the trigger\n")?;
+    put_row_time(out, shown.clock(), window.to.saturating_sub(1))?;
+    put(out, " ms since the trigger\n")
+}
+
+/// Which rows are measured, and how many cycles they are.
+fn put_window<A: Allocator>(
+    out: &mut Vec<u8, A>,
+    window: Window,
+    shown: Shown<'_>,
+) -> Result<(), AllocError> {
+    put_rows(out, window, shown)?;
+    put_times(out, window, shown)?;
     put_with(out, "cycles     ", window.cycles)?;
     put(out, ", ")?;
     put_cycle(out, window)
@@ -68,12 +87,12 @@ fn put_reference<A: Allocator>(
 
 /// What was measured over whole cycles: its rows, the reference's place, and the tables of channels, harmonics and sequence components.
 #[derive(Drop)]
-struct Measures<A: Allocator> {
-    window: Window,
-    reference: Option<usize>,
-    channels: Vec<u8, A>,
-    orders: Vec<u8, A>,
-    sequences: Vec<u8, A>,
+pub(crate) struct Measures<A: Allocator> {
+    pub(crate) window: Window,
+    pub(crate) reference: Option<usize>,
+    pub(crate) channels: Vec<u8, A>,
+    pub(crate) orders: Vec<u8, A>,
+    pub(crate) sequences: Vec<u8, A>,
 }
 
 /// The phasor of the channel from which angles are counted.
@@ -87,6 +106,42 @@ fn phasor_at<A: Allocator>(
     }
 }
 
+/// The tables of what was measured of channels.
+fn put_tables<A: Allocator + Copy>(
+    alloc: A,
+    made: &mut Measures<A>,
+    file: &File<A>,
+    measures: &[Option<Measured<A>>],
+    reference: Option<Phasor>,
+    shown: Shown<'_>,
+) -> Result<(), AllocError> {
+    put_channels(&mut made.channels, file, measures, reference, shown)?;
+    put_order_table(&mut made.orders, file, measures, shown)?;
+    put_sequences(alloc, &mut made.sequences, file, measures, reference, shown)
+}
+
+/// What was measured of channels over a window's whole cycles.
+fn measures_with<A: Allocator + Copy>(
+    alloc: A,
+    file: &File<A>,
+    window: Window,
+    name: Option<&str>,
+    shown: Shown<'_>,
+    measures: &[Option<Measured<A>>],
+) -> Result<Measures<A>, MeasureFault> {
+    let place = reference_in(&file.head, measures, name)?;
+    let reference = phasor_at(measures, place);
+    let mut made = Measures {
+        window,
+        reference: place,
+        channels: Vec::new(alloc),
+        orders: Vec::new(alloc),
+        sequences: Vec::new(alloc),
+    };
+    put_tables(alloc, &mut made, file, measures, reference, shown)?;
+    Ok(made)
+}
+
 /// What is measured over a window's whole cycles.
 fn measures_in<A: Allocator + Copy>(
     alloc: A,
@@ -96,23 +151,48 @@ fn measures_in<A: Allocator + Copy>(
     shown: Shown<'_>,
 ) -> Result<Measures<A>, MeasureFault> {
     let measures = measures_of(alloc, file, window)?;
-    let place = reference_in(&file.head, &measures, name)?;
-    let reference = phasor_at(&measures, place);
-    let channels = channel_table(alloc, file, &measures, reference, shown)?;
-    let orders = order_table(alloc, file, &measures, shown)?;
-    let sequences = sequence_table(alloc, file, &measures, reference, shown)?;
-    Ok(Measures {
-        window,
-        reference: place,
-        channels,
-        orders,
-        sequences,
-    })
+    measures_with(alloc, file, window, name, shown, &measures)
 }
 
 /// Whether a table has a row below the names of its columns.
 fn has_rows(table: &[u8]) -> bool {
     table.iter().filter(|b| **b == b'\n').count() > 1
+}
+
+/// The tables of channels and of harmonics, for people.
+fn put_channel_tables<A: Allocator + Copy>(
+    alloc: A,
+    out: &mut Vec<u8, A>,
+    measures: &Measures<A>,
+) -> Result<(), AllocError> {
+    put(
+        out,
+        "\nrms of all, and rms and degrees of the part at the line frequency\n",
+    )?;
+    put_table(alloc, out, &measures.channels)?;
+    put_with(
+        out,
+        "\nharmonics from 2 to ",
+        measures.window.orders() as u64,
+    )?;
+    put(out, " of at least 0.1 % of the magnitude, in %\n")?;
+    put_table(alloc, out, &measures.orders)
+}
+
+/// The table of sequence components, for people.
+fn put_sequence_table<A: Allocator + Copy>(
+    alloc: A,
+    out: &mut Vec<u8, A>,
+    table: &[u8],
+) -> Result<(), AllocError> {
+    if !has_rows(table) {
+        return put(
+            out,
+            "\nno sequence components: no channels of one unit are of the phases A, B and C\n",
+        );
+    }
+    put(out, "\nsequence components\n")?;
+    put_table(alloc, out, table)
 }
 
 /// What was measured, for people.
@@ -125,99 +205,22 @@ fn put_measures<A: Allocator + Copy>(
 ) -> Result<(), AllocError> {
     put_window(out, measures.window, shown)?;
     put_reference(out, file, measures.reference)?;
-    put(
-        out,
-        "\nrms of all, and rms and degrees of the part at the line frequency\n",
-    )?;
-    put_table(alloc, out, &measures.channels)?;
-    put_with(
-        out,
-        "\nharmonics from 2 to ",
-        measures.window.orders() as u64,
-    )?;
-    put(out, " of at least 0.1 % of the magnitude, in %\n")?;
-    put_table(alloc, out, &measures.orders)?;
-    if has_rows(&measures.sequences) {
-        put(out, "\nsequence components\n")?;
-        return put_table(alloc, out, &measures.sequences);
-    }
-    put(
-        out,
-        "\nno sequence components: no channels of one unit are of the phases A, B and C\n",
-    )
+    put_channel_tables(alloc, out, measures)?;
+    put_sequence_table(alloc, out, &measures.sequences)
 }
 
-/// The rows, cycles and reference of what was measured, as members of an object.
-fn put_window_json(
-    out: &mut Vec<u8>,
-    measures: &Measures<Global>,
-    shown: Shown<'_>,
-) -> Result<(), AllocError> {
-    let window = measures.window;
-    put_with(out, "{\"first_row\":", shown.number(window.from))?;
-    put_with(
-        out,
-        ",\"last_row\":",
-        shown.number(window.to.saturating_sub(1)),
-    )?;
-    put_with(out, ",\"cycles\":", window.cycles)?;
-    put(out, ",\"reference\":")?;
-    match measures.reference {
-        Some(place) => put_number(out, (place as u64).saturating_add(1))?,
-        None => put(out, "null")?,
-    }
-    Ok(())
-}
-
-const CHANNELS: [Member; 10] = [
-    Member::Number("n"),
-    Member::Text("id"),
-    Member::Text("phase"),
-    Member::Text("unit"),
-    Member::Number("rms"),
-    Member::Number("magnitude"),
-    Member::Number("angle"),
-    Member::Number("dc"),
-    Member::Number("peak"),
-    Member::Number("peak_ms"),
-];
-
-const ORDERS: [Member; 5] = [
-    Member::Number("n"),
-    Member::Text("id"),
-    Member::Text("phase"),
-    Member::Text("unit"),
-    Member::Number("orders"),
-];
-
-const SEQUENCES: [Member; 10] = [
-    Member::Text("a"),
-    Member::Text("b"),
-    Member::Text("c"),
-    Member::Text("unit"),
-    Member::Number("positive"),
-    Member::Number("positive_angle"),
-    Member::Number("negative"),
-    Member::Number("negative_angle"),
-    Member::Number("zero"),
-    Member::Number("zero_angle"),
-];
-
-/// What was measured, as an object of JSON.
-fn put_measures_json(
+/// What was measured, as text or as JSON.
+fn put_made(
     alloc: Global,
     out: &mut Vec<u8>,
+    file: &File,
     measures: &Measures<Global>,
     shown: Shown<'_>,
 ) -> Result<(), AllocError> {
-    put_window_json(out, measures, shown)?;
-    put(out, ",\"channels\":")?;
-    put_rows_json(alloc, out, &CHANNELS, &measures.channels)?;
-    put(out, ",\"harmonics\":")?;
-    put_rows_json(alloc, out, &ORDERS, &measures.orders)?;
-    put(out, ",\"sequences\":")?;
-    put_rows_json(alloc, out, &SEQUENCES, &measures.sequences)?;
-    put(out, "}\n")
+    if shown.json {
+        return put_measures_json(alloc, out, measures, shown);
+    }
+    put_measures(alloc, out, file, measures, shown)
 }
 
 /// What is measured in a window, as text or as JSON.
@@ -230,12 +233,27 @@ fn put_window_of(
     shown: Shown<'_>,
 ) -> Result<(), MeasureFault> {
     let measures = measures_in(alloc, file, window, name, shown)?;
-    if shown.json {
-        put_measures_json(alloc, out, &measures, shown)?;
-    } else {
-        put_measures(alloc, out, file, &measures, shown)?;
-    }
+    put_made(alloc, out, file, &measures, shown)?;
     Ok(())
+}
+
+/// What is measured in a record.
+fn put_measuring(
+    alloc: Global,
+    out: &mut Vec<u8>,
+    file: &File,
+    measuring: Measuring<'_>,
+    shown: Shown<'_>,
+) -> Result<(), MeasureFault> {
+    match measuring {
+        Measuring::Course => put_record(alloc, out, file, shown),
+        Measuring::LastCycle(name) => {
+            put_window_of(alloc, out, file, last_cycle(file)?, name, shown)
+        }
+        Measuring::WholeCycles(name) => {
+            put_window_of(alloc, out, file, whole_cycles(file)?, name, shown)
+        }
+    }
 }
 
 /// The text of what is measured in a record. Refused where rows can't be measured, and where the channel that is named has no angle.
@@ -246,14 +264,6 @@ pub fn measure_text(
     shown: Shown<'_>,
 ) -> Result<Vec<u8>, MeasureFault> {
     let mut out = Vec::new(alloc);
-    match measuring {
-        Measuring::Course => put_record(alloc, &mut out, file, shown)?,
-        Measuring::LastCycle(name) => {
-            put_window_of(alloc, &mut out, file, last_cycle(file)?, name, shown)?
-        }
-        Measuring::WholeCycles(name) => {
-            put_window_of(alloc, &mut out, file, whole_cycles(file)?, name, shown)?
-        }
-    }
+    put_measuring(alloc, &mut out, file, measuring, shown)?;
     Ok(out)
 }

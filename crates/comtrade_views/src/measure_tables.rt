@@ -1,12 +1,12 @@
-//! The tables of what is measured over whole cycles: channels, harmonics, sequence components.
+//! The tables of what is measured over whole cycles: channels, harmonics.
 
 use crate::float::{Digits, put_float, put_places};
 use crate::show::put_row_time;
 use crate::shown::{Shown, put_channel};
-use crate::table::{end_cell, end_row, put_cell};
-use comtrade_cli::{put, put_number, put_safe};
+use crate::table::{end_cell, end_row};
+use comtrade_cli::{put, put_number};
 use comtrade_format::File;
-use comtrade_measure::{Measured, Phasor, Sequence, Three, sequence_of, threes_of};
+use comtrade_measure::{Measured, Phasor};
 use dfr_channels::AnalogChannel;
 use std::alloc::{AllocError, Allocator};
 
@@ -24,12 +24,38 @@ fn put_angle<A: Allocator>(
     put_places(table, if degrees < -179.9995 { 180.0 } else { degrees }, 3)
 }
 
-fn put_float_cell<A: Allocator>(
+pub(crate) fn put_float_cell<A: Allocator>(
     table: &mut Vec<u8, A>,
     x: f64,
     digits: Digits,
 ) -> Result<(), AllocError> {
     put_float(table, x, digits)?;
+    end_cell(table)
+}
+
+/// The cell of an angle, where there is one.
+pub(crate) fn put_angle_cell<A: Allocator>(
+    table: &mut Vec<u8, A>,
+    phasor: Phasor,
+    reference: Option<Phasor>,
+    shown: Shown<'_>,
+) -> Result<(), AllocError> {
+    match reference {
+        Some(reference) => put_angle(table, phasor, reference, shown)?,
+        None => put(table, "-")?,
+    }
+    end_cell(table)
+}
+
+/// The cells of a channel's peak: its size and when it was.
+fn put_peak<A: Allocator>(
+    table: &mut Vec<u8, A>,
+    measured: &Measured<A>,
+    digits: Digits,
+    shown: Shown<'_>,
+) -> Result<(), AllocError> {
+    put_float_cell(table, measured.peak, digits)?;
+    put_row_time(table, shown.clock(), measured.peak_row)?;
     end_cell(table)
 }
 
@@ -41,65 +67,73 @@ fn put_measured<A: Allocator>(
     shown: Shown<'_>,
 ) -> Result<(), AllocError> {
     let digits = shown.digits(measured.peak.abs());
+    let reference = if measured.has_angle() {
+        reference
+    } else {
+        None
+    };
     put_float_cell(table, measured.rms, digits)?;
     put_float_cell(table, measured.phasor.magnitude(), digits)?;
-    match reference {
-        Some(reference) if measured.has_angle() => put_angle(
-            table,
-            measured.phasor,
-            reference,
-            shown,
-        )?,
-        _ => put(table, "-")?,
-    }
-    end_cell(table)?;
+    put_angle_cell(table, measured.phasor, reference, shown)?;
     put_float_cell(table, measured.dc, digits)?;
-    put_float_cell(table, measured.peak, digits)?;
-    put_row_time(table, shown.clock(), measured.peak_row)?;
-    end_cell(table)
+    put_peak(table, measured, digits, shown)
 }
 
-fn put_names<A: Allocator>(table: &mut Vec<u8, A>, names: &[&str]) -> Result<(), AllocError> {
-    for name in names {
-        put_cell(table, name)?;
+/// The line of a channel.
+fn put_line<A: Allocator>(
+    table: &mut Vec<u8, A>,
+    measured: Option<&Measured<A>>,
+    reference: Option<Phasor>,
+    shown: Shown<'_>,
+) -> Result<(), AllocError> {
+    match measured {
+        Some(measured) => put_measured(table, measured, reference, shown)?,
+        None => put(table, "-\x1F-\x1F-\x1F-\x1F-\x1Freadings are missing\x1F")?,
     }
     end_row(table)
 }
 
+/// What was measured of the channel at this place, where its readings are there.
+fn measured_at<A: Allocator>(
+    measures: &[Option<Measured<A>>],
+    place: usize,
+) -> Option<&Measured<A>> {
+    match measures.get(place) {
+        Some(Some(measured)) => Some(measured),
+        _ => None,
+    }
+}
+
 /// The table of channels.
-pub(crate) fn channel_table<A: Allocator + Copy>(
-    alloc: A,
+pub(crate) fn put_channels<A: Allocator>(
+    table: &mut Vec<u8, A>,
     file: &File<A>,
     measures: &[Option<Measured<A>>],
     reference: Option<Phasor>,
     shown: Shown<'_>,
-) -> Result<Vec<u8, A>, AllocError> {
-    let mut table = Vec::new(alloc);
-    let names = [
-        "n",
-        "id",
-        "phase",
-        "unit",
-        "rms",
-        "magnitude",
-        "angle",
-        "dc",
-        "peak",
-        "at ms",
-    ];
-    put_names(&mut table, &names)?;
+) -> Result<(), AllocError> {
+    put(
+        table,
+        "n\x1Fid\x1Fphase\x1Funit\x1Frms\x1Fmagnitude\x1Fangle\x1Fdc\x1Fpeak\x1Fat ms\x1F\n",
+    )?;
     for (place, channel) in file.head.analog.items().iter().enumerate() {
-        put_channel(&mut table, place, channel)?;
-        match measures.get(place) {
-            Some(Some(measured)) => put_measured(&mut table, measured, reference, shown)?,
-            _ => put(
-                &mut table,
-                "-\x1F-\x1F-\x1F-\x1F-\x1Freadings are missing\x1F",
-            )?,
-        }
-        end_row(&mut table)?;
+        put_channel(table, place, channel)?;
+        put_line(table, measured_at(measures, place), reference, shown)?;
     }
-    Ok(table)
+    Ok(())
+}
+
+/// An order in percent of the magnitude.
+fn put_order<A: Allocator>(
+    table: &mut Vec<u8, A>,
+    before: &str,
+    order: u64,
+    percent: f64,
+) -> Result<(), AllocError> {
+    put(table, before)?;
+    put_number(table, order)?;
+    put(table, ": ")?;
+    put_places(table, percent, 1)
 }
 
 /// The orders that are at least a thousandth of the magnitude, in percent of it.
@@ -109,18 +143,18 @@ fn put_orders<A: Allocator>(
 ) -> Result<(), AllocError> {
     let magnitude = measured.phasor.magnitude();
     let mut order = 1u64;
-    let mut is_first = true;
+    let mut before = "";
     for size in measured.orders.iter() {
         if 1 < order && magnitude * 0.001 <= *size {
-            put(table, if is_first { "" } else { ", " })?;
-            put_number(table, order)?;
-            put(table, ": ")?;
-            put_places(table, *size / magnitude * 100.0, 1)?;
-            is_first = false;
+            put_order(table, before, order, *size / magnitude * 100.0)?;
+            before = ", ";
         }
         order = order.saturating_add(1);
     }
-    if is_first { put(table, "none") } else { Ok(()) }
+    if before.is_empty() {
+        return put(table, "none");
+    }
+    Ok(())
 }
 
 /// The rms values of the orders 1, 2, .. as an array of JSON.
@@ -137,110 +171,39 @@ fn put_order_list<A: Allocator>(
     put(table, "]")
 }
 
+/// The line of a channel's harmonics.
+fn put_harmonics<A: Allocator>(
+    table: &mut Vec<u8, A>,
+    place: usize,
+    channel: &AnalogChannel<A>,
+    measured: &Measured<A>,
+    shown: Shown<'_>,
+) -> Result<(), AllocError> {
+    put_channel(table, place, channel)?;
+    if shown.json {
+        put_order_list(table, measured)?;
+    } else {
+        put_orders(table, measured)?;
+    }
+    end_cell(table)?;
+    end_row(table)
+}
+
 /// The table of harmonics, of the channels that have an angle.
-pub(crate) fn order_table<A: Allocator + Copy>(
-    alloc: A,
+pub(crate) fn put_order_table<A: Allocator>(
+    table: &mut Vec<u8, A>,
     file: &File<A>,
     measures: &[Option<Measured<A>>],
     shown: Shown<'_>,
-) -> Result<Vec<u8, A>, AllocError> {
-    let mut table = Vec::new(alloc);
-    put_names(&mut table, &["n", "id", "phase", "unit", "orders"])?;
+) -> Result<(), AllocError> {
+    put(table, "n\x1Fid\x1Fphase\x1Funit\x1Forders\x1F\n")?;
     for (place, channel) in file.head.analog.items().iter().enumerate() {
-        if let Some(Some(measured)) = measures.get(place) {
-            if measured.has_angle() {
-                put_channel(&mut table, place, channel)?;
-                if shown.json {
-                    put_order_list(&mut table, measured)?;
-                } else {
-                    put_orders(&mut table, measured)?;
-                }
-                end_cell(&mut table)?;
-                end_row(&mut table)?;
+        match measured_at(measures, place) {
+            Some(measured) if measured.has_angle() => {
+                put_harmonics(table, place, channel, measured, shown)?
             }
+            _ => {}
         }
     }
-    Ok(table)
-}
-
-/// A magnitude and an angle.
-fn put_phasor<A: Allocator>(
-    table: &mut Vec<u8, A>,
-    phasor: Phasor,
-    beside: f64,
-    reference: Option<Phasor>,
-    shown: Shown<'_>,
-) -> Result<(), AllocError> {
-    put_float_cell(table, phasor.magnitude(), shown.digits(beside))?;
-    match reference {
-        Some(reference) if beside * 1e-9 < phasor.magnitude() => {
-            put_angle(table, phasor, reference, shown)?
-        }
-        _ => put(table, "-")?,
-    }
-    end_cell(table)
-}
-
-/// The sequence components of three channels.
-fn put_sequence<A: Allocator>(
-    table: &mut Vec<u8, A>,
-    sequence: Sequence,
-    reference: Option<Phasor>,
-    shown: Shown<'_>,
-) -> Result<(), AllocError> {
-    let beside = sequence
-        .positive
-        .magnitude()
-        .max(sequence.negative.magnitude())
-        .max(sequence.zero.magnitude());
-    put_phasor(table, sequence.positive, beside, reference, shown)?;
-    put_phasor(table, sequence.negative, beside, reference, shown)?;
-    put_phasor(table, sequence.zero, beside, reference, shown)
-}
-
-/// The ids of three channels, and their unit.
-fn put_three<A: Allocator>(
-    table: &mut Vec<u8, A>,
-    channels: &[AnalogChannel<A>],
-    three: Three,
-) -> Result<(), AllocError> {
-    for place in [three.a, three.b, three.c] {
-        if let Some(channel) = channels.get(place) {
-            put_safe(table, channel.id.items())?;
-        }
-        end_cell(table)?;
-    }
-    if let Some(channel) = channels.get(three.a) {
-        put_safe(table, channel.unit.items())?;
-    }
-    end_cell(table)
-}
-
-/// The table of sequence components.
-pub(crate) fn sequence_table<A: Allocator + Copy>(
-    alloc: A,
-    file: &File<A>,
-    measures: &[Option<Measured<A>>],
-    reference: Option<Phasor>,
-    shown: Shown<'_>,
-) -> Result<Vec<u8, A>, AllocError> {
-    let channels = file.head.analog.items();
-    let threes = threes_of(alloc, channels)?;
-    let mut table = Vec::new(alloc);
-    let names = [
-        "A", "B", "C", "unit", "positive", "angle", "negative", "angle", "zero", "angle",
-    ];
-    put_names(&mut table, &names)?;
-    for three in threes.iter() {
-        put_three(&mut table, channels, *three)?;
-        match sequence_of(measures, *three) {
-            Some(sequence) => put_sequence(&mut table, sequence, reference, shown)?,
-            None => put(
-                &mut table,
-                "-\x1F-\x1F-\x1F-\x1F-\x1Freadings are missing\x1F",
-            )?,
-        }
-        end_row(&mut table)?;
-    }
-    Ok(table)
+    Ok(())
 }

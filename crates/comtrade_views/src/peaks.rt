@@ -66,23 +66,34 @@ impl Peaks {
     }
 }
 
-/// The peaks of each analogue channel, by one look over the rows.
-pub(crate) fn peaks_of<A: Allocator + Copy>(
-    alloc: A,
-    file: &File<A>,
-) -> Result<Vec<Peaks, A>, AllocError> {
-    let mut peaks = Vec::new(alloc);
+/// Adds no peaks for each analogue channel.
+fn add_none<A: Allocator>(peaks: &mut Vec<Peaks, A>, file: &File<A>) -> Result<(), AllocError> {
     for _ in file.head.analog.items() {
         peaks.push(Peaks {
             extremes: None,
             missing: 0,
         })?;
     }
-    for (i, row) in file.rows.items().iter().enumerate() {
+    Ok(())
+}
+
+/// Brings the readings of the rows into the peaks of their channels.
+fn add_rows<A: Allocator>(peaks: &mut [Peaks], rows: &[Row<A>]) {
+    for (i, row) in rows.iter().enumerate() {
         for (known, reading) in peaks.iter_mut().zip(row.values.items().iter()) {
             known.add(*reading, i);
         }
     }
+}
+
+/// The peaks of each analogue channel, by one look over the rows.
+pub(crate) fn peaks_of<A: Allocator + Copy>(
+    alloc: A,
+    file: &File<A>,
+) -> Result<Vec<Peaks, A>, AllocError> {
+    let mut peaks = Vec::new(alloc);
+    add_none(&mut peaks, file)?;
+    add_rows(&mut peaks, file.rows.items());
     Ok(peaks)
 }
 
@@ -106,18 +117,28 @@ fn add_changes<A: Allocator>(changes: &mut [u64], before: &Row<A>, row: &Row<A>)
     }
 }
 
+/// Counts the changes of contacts from each row to the next.
+fn add_all_changes<A: Allocator>(changes: &mut [u64], rows: &[Row<A>]) {
+    for (before, row) in rows.iter().zip(rows.iter().skip(1)) {
+        add_changes(changes, before, row);
+    }
+}
+
+/// Adds a count of 0 for each contact.
+fn add_zeros<A: Allocator>(changes: &mut Vec<u64, A>, file: &File<A>) -> Result<(), AllocError> {
+    for _ in file.head.status.items() {
+        changes.push(0u64)?;
+    }
+    Ok(())
+}
+
 /// How often each contact changes, by one look over the rows.
 pub(crate) fn changes_of<A: Allocator + Copy>(
     alloc: A,
     file: &File<A>,
 ) -> Result<Vec<u64, A>, AllocError> {
     let mut changes = Vec::new(alloc);
-    for _ in file.head.status.items() {
-        changes.push(0u64)?;
-    }
-    let rows = file.rows.items();
-    for (before, row) in rows.iter().zip(rows.iter().skip(1)) {
-        add_changes(&mut changes, before, row);
-    }
+    add_zeros(&mut changes, file)?;
+    add_all_changes(&mut changes, file.rows.items());
     Ok(changes)
 }

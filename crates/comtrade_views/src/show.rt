@@ -37,6 +37,18 @@ fn put_line<A: Allocator>(out: &mut Vec<u8, A>, name: &str, text: &[u8]) -> Resu
     put(out, "\n")
 }
 
+/// The trigger, and how long after the first row it is.
+fn put_trigger<A: Allocator>(
+    out: &mut Vec<u8, A>,
+    head: &Head<A>,
+    trigger: i128,
+) -> Result<(), AllocError> {
+    put(out, "\ntrigger    ")?;
+    put_instant(out, head.trigger as i128)?;
+    put(out, ", ")?;
+    put_millis(out, trigger)
+}
+
 fn put_instants<A: Allocator>(
     out: &mut Vec<u8, A>,
     head: &Head<A>,
@@ -44,10 +56,7 @@ fn put_instants<A: Allocator>(
 ) -> Result<(), AllocError> {
     put(out, "first row  ")?;
     put_instant(out, head.first as i128)?;
-    put(out, "\ntrigger    ")?;
-    put_instant(out, head.trigger as i128)?;
-    put(out, ", ")?;
-    put_millis(out, trigger)?;
+    put_trigger(out, head, trigger)?;
     put(out, " ms after the first row\nfrequency  ")?;
     put_decimal(out, head.line_freq)?;
     put(out, " Hz\n")
@@ -75,24 +84,35 @@ fn put_rates<A: Allocator>(out: &mut Vec<u8, A>, head: &Head<A>) -> Result<(), A
     Ok(())
 }
 
+/// How many rows there are, and how they are written.
+fn put_rows<A: Allocator>(out: &mut Vec<u8, A>, file: &File<A>) -> Result<(), AllocError> {
+    put(out, "data       ")?;
+    put(out, kind_name(file.head.kind))?;
+    put(out, ", ")?;
+    put_count(out, file.rows.items().len() as u64, " row", " rows")
+}
+
+/// How long the rows last.
+fn put_length<A: Allocator>(out: &mut Vec<u8, A>, clock: Clock<'_>) -> Result<(), AllocError> {
+    if let (Some(Some(first)), Some(Some(last))) = (clock.times.first(), clock.times.last()) {
+        put(out, ", ")?;
+        put_millis(out, (*last as i128).saturating_sub(*first as i128))?;
+        put(out, " ms long")?;
+    }
+    Ok(())
+}
+
 /// How many rows there are, how they are written, and how long they last.
 fn put_data<A: Allocator>(
     out: &mut Vec<u8, A>,
     file: &File<A>,
     clock: Clock<'_>,
 ) -> Result<(), AllocError> {
-    put(out, "data       ")?;
-    put(out, kind_name(file.head.kind))?;
-    put(out, ", ")?;
-    put_count(out, file.rows.items().len() as u64, " row", " rows")?;
+    put_rows(out, file)?;
     put(out, ", stamps in ")?;
     put_decimal(out, file.head.timemult)?;
     put(out, " us")?;
-    if let (Some(Some(first)), Some(Some(last))) = (clock.times.first(), clock.times.last()) {
-        put(out, ", ")?;
-        put_millis(out, (*last as i128).saturating_sub(*first as i128))?;
-        put(out, " ms long")?;
-    }
+    put_length(out, clock)?;
     put(out, "\n")
 }
 
@@ -108,6 +128,17 @@ fn put_top<A: Allocator>(
     put_data(out, file, clock)
 }
 
+/// The numbers of a run of rows.
+fn put_numbers<A: Allocator>(
+    out: &mut Vec<u8, A>,
+    first: usize,
+    last: usize,
+) -> Result<(), AllocError> {
+    put_with(out, ", rows ", (first as u64).saturating_add(1))?;
+    put_with(out, " to ", (last as u64).saturating_add(1))?;
+    put(out, "\n")
+}
+
 /// A run of rows in which a reading is missing.
 fn put_gap<A: Allocator>(
     out: &mut Vec<u8, A>,
@@ -119,8 +150,42 @@ fn put_gap<A: Allocator>(
     put_row_time(out, clock, first)?;
     put(out, " to ")?;
     put_row_time(out, clock, last)?;
-    put_with(out, ", rows ", (first as u64).saturating_add(1))?;
-    put_with(out, " to ", (last as u64).saturating_add(1))?;
+    put_numbers(out, first, last)
+}
+
+/// The gaps of a channel so far: how many have ended, and the first row of the one that goes on.
+#[derive(Clone, Copy)]
+struct Gaps {
+    count: u64,
+    begun: Option<usize>,
+}
+
+/// Ends the gap that goes on before this row.
+fn end_gap<A: Allocator>(
+    out: &mut Vec<u8, A>,
+    clock: Clock<'_>,
+    gaps: Gaps,
+    row: usize,
+) -> Result<Gaps, AllocError> {
+    let Some(first) = gaps.begun else {
+        return Ok(gaps);
+    };
+    if gaps.count < LISTED {
+        put_gap(out, clock, first, row.saturating_sub(1))?;
+    }
+    Ok(Gaps {
+        count: gaps.count.saturating_add(1),
+        begun: None,
+    })
+}
+
+/// How many gaps aren't listed.
+fn put_unlisted<A: Allocator>(out: &mut Vec<u8, A>, count: u64) -> Result<(), AllocError> {
+    if count <= LISTED {
+        return Ok(());
+    }
+    put(out, " ")?;
+    put_more(out, count)?;
     put(out, "\n")
 }
 
@@ -131,34 +196,27 @@ fn put_gaps_of<A: Allocator>(
     clock: Clock<'_>,
     at: usize,
 ) -> Result<(), AllocError> {
-    let mut count = 0u64;
-    let mut begun = None;
+    let mut gaps = Gaps {
+        count: 0,
+        begun: None,
+    };
     for (i, row) in rows.iter().enumerate() {
         if reading_at(row, at) == Reading::Missing {
-            begun = Some(match begun {
-                Some(first) => first,
-                None => i,
-            });
-        } else if let Some(first) = begun {
-            if count < LISTED {
-                put_gap(out, clock, first, i.saturating_sub(1))?;
-            }
-            count = count.saturating_add(1);
-            begun = None;
+            gaps.begun = gaps.begun.or(Some(i));
+        } else {
+            gaps = end_gap(out, clock, gaps, i)?;
         }
     }
-    if let Some(first) = begun {
-        if count < LISTED {
-            put_gap(out, clock, first, rows.len().saturating_sub(1))?;
-        }
-        count = count.saturating_add(1);
-    }
-    if LISTED < count {
-        put(out, " ")?;
-        put_more(out, count)?;
-        put(out, "\n")?;
-    }
-    Ok(())
+    let gaps = end_gap(out, clock, gaps, rows.len())?;
+    put_unlisted(out, gaps.count)
+}
+
+/// The line above the gaps of a channel, counted from 1.
+fn put_gap_head<A: Allocator>(out: &mut Vec<u8, A>, n: u64, id: &[u8]) -> Result<(), AllocError> {
+    put_with(out, "\nmissing readings of analogue channel ", n)?;
+    put(out, ", ")?;
+    put_safe(out, id)?;
+    put(out, ", ms since the trigger\n")
 }
 
 /// The gaps of the channels that have any.
@@ -170,15 +228,36 @@ fn put_gaps<A: Allocator>(
 ) -> Result<(), AllocError> {
     for (i, channel) in file.head.analog.items().iter().enumerate() {
         if peaks_at(peaks, i).missing != 0 {
-            let n = (i as u64).saturating_add(1);
-            put_with(out, "\nmissing readings of analogue channel ", n)?;
-            put(out, ", ")?;
-            put_safe(out, channel.id.items())?;
-            put(out, ", ms since the trigger\n")?;
+            put_gap_head(out, (i as u64).saturating_add(1), channel.id.items())?;
             put_gaps_of(out, file.rows.items(), clock, i)?;
         }
     }
     Ok(())
+}
+
+/// What is in a file, by the peaks of its channels.
+fn put_parts<A: Allocator + Copy>(
+    alloc: A,
+    out: &mut Vec<u8, A>,
+    file: &File<A>,
+    clock: Clock<'_>,
+    peaks: &[Peaks],
+) -> Result<(), AllocError> {
+    put_top(out, file, clock)?;
+    put_analog(alloc, out, file, clock, peaks)?;
+    put_status(alloc, out, file, clock)?;
+    put_gaps(out, file, clock, peaks)
+}
+
+/// What is in a file.
+fn put_all<A: Allocator + Copy>(
+    alloc: A,
+    out: &mut Vec<u8, A>,
+    file: &File<A>,
+    clock: Clock<'_>,
+) -> Result<(), AllocError> {
+    let peaks = peaks_of(alloc, file)?;
+    put_parts(alloc, out, file, clock, &peaks)
 }
 
 /// Prints what is in a file, whose rows were taken at these times, in nanoseconds since the trigger.
@@ -192,11 +271,7 @@ pub fn show_over<A: Allocator + Copy, W: Write>(
         times,
         trigger: trigger_since_first(file),
     };
-    let peaks = peaks_of(alloc, file)?;
     let mut out = Vec::new(alloc);
-    put_top(&mut out, file, clock)?;
-    put_analog(alloc, &mut out, file, clock, &peaks)?;
-    put_status(alloc, &mut out, file, clock)?;
-    put_gaps(&mut out, file, clock, &peaks)?;
+    put_all(alloc, &mut out, file, clock)?;
     write_out(w, &out)
 }

@@ -3,7 +3,7 @@
 use crate::number::{put_decimal, put_value, rounded, scale_of, value_of};
 use crate::peaks::{Peak, Peaks, peaks_at};
 use crate::show::{Clock, put_row_time};
-use crate::table::{end_cell, end_row, put_cell, put_table};
+use crate::table::{end_cell, end_row, put_cell, put_number_cell, put_table};
 use comtrade_cli::{put, put_count, put_number, put_safe, put_signed};
 use comtrade_format::File;
 use dfr_channels::{AnalogChannel, Decimal, Side};
@@ -32,8 +32,7 @@ pub(crate) fn put_names<A: Allocator>(
     phase: &[u8],
     component: &[u8],
 ) -> Result<(), AllocError> {
-    put_number(table, n as u64)?;
-    end_cell(table)?;
+    put_number_cell(table, n as u64)?;
     put_text_cell(table, id)?;
     put_text_cell(table, phase)?;
     put_text_cell(table, component)
@@ -78,13 +77,14 @@ fn put_scale<A: Allocator>(
     put_decimal_cell(table, channel.b)?;
     put_range(table, channel)?;
     put_ratio(table, channel)?;
-    put_cell(
-        table,
-        match channel.side {
-            Side::Primary => "primary",
-            Side::Secondary => "secondary",
-        },
-    )
+    put_cell(table, side_name(channel.side))
+}
+
+fn side_name(side: Side) -> &'static str {
+    match side {
+        Side::Primary => "primary",
+        Side::Secondary => "secondary",
+    }
 }
 
 /// A channel's value at a peak, and when it was.
@@ -107,20 +107,28 @@ fn put_peaks<A: Allocator>(
     channel: &AnalogChannel<A>,
     peaks: Peaks,
 ) -> Result<(), AllocError> {
-    match peaks.extremes {
-        None => put(table, "\x1F\x1F\x1F\x1F")?,
-        Some((least, greatest)) => {
-            let (low, high) = if channel.a.units() < 0 {
-                (greatest, least)
-            } else {
-                (least, greatest)
-            };
-            put_peak(table, clock, channel, low)?;
-            put_peak(table, clock, channel, high)?;
-        }
-    }
+    put_extremes(table, clock, channel, peaks)?;
     put_number(table, peaks.missing)?;
     end_row(table)
+}
+
+/// The least and the greatest value; where a is negative that of the greatest sample comes first.
+fn put_extremes<A: Allocator>(
+    table: &mut Vec<u8, A>,
+    clock: Clock<'_>,
+    channel: &AnalogChannel<A>,
+    peaks: Peaks,
+) -> Result<(), AllocError> {
+    let Some((least, greatest)) = peaks.extremes else {
+        return put(table, "\x1F\x1F\x1F\x1F");
+    };
+    let (low, high) = if channel.a.units() < 0 {
+        (greatest, least)
+    } else {
+        (least, greatest)
+    };
+    put_peak(table, clock, channel, low)?;
+    put_peak(table, clock, channel, high)
 }
 
 /// The row of a channel, from 1.
@@ -189,6 +197,17 @@ pub(crate) fn put_analog<A: Allocator + Copy>(
         out,
         "; values are a*x + b, times are ms since the trigger\n",
     )?;
+    put_channels(alloc, out, file, clock, peaks)
+}
+
+/// The table of analogue channels.
+fn put_channels<A: Allocator + Copy>(
+    alloc: A,
+    out: &mut Vec<u8, A>,
+    file: &File<A>,
+    clock: Clock<'_>,
+    peaks: &[Peaks],
+) -> Result<(), AllocError> {
     let mut table = Vec::new(alloc);
     put_rows(&mut table, file, clock, peaks)?;
     put_table(alloc, out, &table)

@@ -36,17 +36,17 @@ pub(crate) fn put_more<A: Allocator>(out: &mut Vec<u8, A>, count: u64) -> Result
     Ok(())
 }
 
-/// The first of so many changes of a contact.
-fn put_changes<A: Allocator>(
+/// The first changes of a contact, at most so many.
+fn put_listed<A: Allocator>(
     table: &mut Vec<u8, A>,
     rows: &[Row<A>],
     clock: Clock<'_>,
     at: usize,
-    count: u64,
+    most: u64,
 ) -> Result<(), AllocError> {
     let mut listed = 0u64;
     for (i, (before, row)) in rows.iter().zip(rows.iter().skip(1)).enumerate() {
-        if count.min(LISTED) <= listed {
+        if most <= listed {
             break;
         }
         let bit = bit_at(row, at);
@@ -55,6 +55,18 @@ fn put_changes<A: Allocator>(
             listed = listed.saturating_add(1);
         }
     }
+    Ok(())
+}
+
+/// The first of so many changes of a contact.
+fn put_changes<A: Allocator>(
+    table: &mut Vec<u8, A>,
+    rows: &[Row<A>],
+    clock: Clock<'_>,
+    at: usize,
+    count: u64,
+) -> Result<(), AllocError> {
+    put_listed(table, rows, clock, at, count.min(LISTED))?;
     put_more(table, count)?;
     end_row(table)
 }
@@ -86,6 +98,33 @@ fn put_contact<A: Allocator>(
     put_cell(table, if channel.normal { "1" } else { "0" })
 }
 
+/// The row of a contact that changes so often.
+fn put_line<A: Allocator>(
+    table: &mut Vec<u8, A>,
+    file: &File<A>,
+    clock: Clock<'_>,
+    (at, channel): (usize, &StatusChannel<A>),
+    count: u64,
+) -> Result<(), AllocError> {
+    put_contact(table, channel, at.saturating_add(1))?;
+    put_first(table, file.rows.items(), at)?;
+    put_changes(table, file.rows.items(), clock, at, count)
+}
+
+/// The rows of contacts that change so often.
+fn put_lines<A: Allocator>(
+    table: &mut Vec<u8, A>,
+    file: &File<A>,
+    clock: Clock<'_>,
+    changes: &[u64],
+) -> Result<(), AllocError> {
+    for (i, channel) in file.head.status.items().iter().enumerate() {
+        let count = changes.get(i).copied().unwrap_or(0);
+        put_line(table, file, clock, (i, channel), count)?;
+    }
+    Ok(())
+}
+
 /// The rows of the table, a line of names above them.
 pub(crate) fn put_contacts<A: Allocator + Copy>(
     alloc: A,
@@ -98,13 +137,19 @@ pub(crate) fn put_contacts<A: Allocator + Copy>(
         "n\x1Fid\x1Fphase\x1Fcomponent\x1Fnormal\x1Fat first\x1Fchanges\n",
     )?;
     let changes = changes_of(alloc, file)?;
-    for (i, channel) in file.head.status.items().iter().enumerate() {
-        let count = changes.get(i).copied().unwrap_or(0);
-        put_contact(table, channel, i.saturating_add(1))?;
-        put_first(table, file.rows.items(), i)?;
-        put_changes(table, file.rows.items(), clock, i, count)?;
-    }
-    Ok(())
+    put_lines(table, file, clock, &changes)
+}
+
+/// The table of contacts.
+fn put_contact_table<A: Allocator + Copy>(
+    alloc: A,
+    out: &mut Vec<u8, A>,
+    file: &File<A>,
+    clock: Clock<'_>,
+) -> Result<(), AllocError> {
+    let mut table = Vec::new(alloc);
+    put_contacts(alloc, &mut table, file, clock)?;
+    put_table(alloc, out, &table)
 }
 
 /// The status channels.
@@ -125,7 +170,5 @@ pub(crate) fn put_status<A: Allocator + Copy>(
     if channels.is_empty() {
         return Ok(());
     }
-    let mut table = Vec::new(alloc);
-    put_contacts(alloc, &mut table, file, clock)?;
-    put_table(alloc, out, &table)
+    put_contact_table(alloc, out, file, clock)
 }

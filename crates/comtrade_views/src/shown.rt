@@ -2,8 +2,8 @@
 
 use crate::float::{Digits, put_float};
 use crate::show::Clock;
-use crate::table::end_cell;
-use comtrade_cli::{put, put_number, put_safe};
+use crate::table::{put_number_cell, put_safe_cell};
+use comtrade_cli::put;
 use comtrade_measure::Window;
 use dfr_channels::AnalogChannel;
 use std::alloc::{AllocError, Allocator};
@@ -63,12 +63,8 @@ pub(crate) fn put_channel<A: Allocator>(
     place: usize,
     channel: &AnalogChannel<A>,
 ) -> Result<(), AllocError> {
-    put_number(table, (place as u64).saturating_add(1))?;
-    end_cell(table)?;
-    put_safe(table, channel.id.items())?;
-    end_cell(table)?;
-    put_safe(table, channel.phase.items())?;
-    end_cell(table)?;
-    put_safe(table, channel.unit.items())?;
-    end_cell(table)
+    put_number_cell(table, (place as u64).saturating_add(1))?;
+    put_safe_cell(table, channel.id.items())?;
+    put_safe_cell(table, channel.phase.items())?;
+    put_safe_cell(table, channel.unit.items())
 }

@@ -1,10 +1,11 @@
 //! Events and lists of records as JSON.
 
-use crate::events::{Event, event_table};
+use crate::event_table::event_table;
+use crate::events::Event;
 use crate::json::{Member, put_rows_json, put_text};
 use crate::summary::{Summary, summary_table};
 use comtrade_cli::{ToolFault, put};
-use std::alloc::Global;
+use std::alloc::{AllocError, Global};
 
 /// The members of an event of one record, as JSON.
 const ONE: [Member; 4] = [
@@ -36,6 +37,22 @@ const MEMBERS: [Member; 9] = [
     Member::Text("record"),
 ];
 
+/// The rows of a table of events, as an object.
+fn put_event_rows(
+    alloc: Global,
+    out: &mut Vec<u8>,
+    table: &[u8],
+    is_many: bool,
+) -> Result<(), AllocError> {
+    put(out, "{\"events\":")?;
+    if is_many {
+        put_rows_json(alloc, out, &MANY, table)?;
+    } else {
+        put_rows_json(alloc, out, &ONE, table)?;
+    }
+    put(out, "}\n")
+}
+
 /// The events of the records with these names, as an object of JSON.
 pub fn put_events_json(
     alloc: Global,
@@ -44,14 +61,39 @@ pub fn put_events_json(
     names: &[String],
 ) -> Result<(), ToolFault> {
     let table = event_table(alloc, events, names)?;
-    put(out, "{\"events\":")?;
-    put_rows_json(
-        alloc,
-        out,
-        if 1 < names.len() { &MANY } else { &ONE },
-        &table,
-    )?;
-    put(out, "}\n")?;
+    put_event_rows(alloc, out, &table, 1 < names.len())?;
+    Ok(())
+}
+
+/// The records that can be read.
+fn put_records(alloc: Global, out: &mut Vec<u8>, records: &[Summary]) -> Result<(), AllocError> {
+    let table = summary_table(alloc, records)?;
+    put_rows_json(alloc, out, &MEMBERS, &table)
+}
+
+/// The fault of a record that can't be read.
+fn put_fault(
+    alloc: Global,
+    out: &mut Vec<u8>,
+    before: &str,
+    record: &Summary,
+) -> Result<(), AllocError> {
+    put(out, before)?;
+    put_text(alloc, out, &record.name)?;
+    put(out, ",\"fault\":")?;
+    put_text(alloc, out, record.text.trim_ascii_end())?;
+    put(out, "}")
+}
+
+/// The faults of the records that can't be read.
+fn put_faults(alloc: Global, out: &mut Vec<u8>, records: &[Summary]) -> Result<(), AllocError> {
+    let mut before = "{\"record\":";
+    for record in records {
+        if record.trigger.is_none() {
+            put_fault(alloc, out, before, record)?;
+            before = ",{\"record\":";
+        }
+    }
     Ok(())
 }
 
@@ -61,28 +103,10 @@ pub fn put_summaries_json(
     out: &mut Vec<u8>,
     records: &[Summary],
 ) -> Result<(), ToolFault> {
-    let table = summary_table(alloc, records)?;
     put(out, "{\"records\":")?;
-    put_rows_json(alloc, out, &MEMBERS, &table)?;
+    put_records(alloc, out, records)?;
     put(out, ",\"faults\":[")?;
-    let mut is_first = true;
-    for record in records {
-        if record.trigger.is_none() {
-            put(
-                out,
-                if is_first {
-                    "{\"record\":"
-                } else {
-                    ",{\"record\":"
-                },
-            )?;
-            put_text(alloc, out, &record.name)?;
-            put(out, ",\"fault\":")?;
-            put_text(alloc, out, record.text.trim_ascii_end())?;
-            put(out, "}")?;
-            is_first = false;
-        }
-    }
+    put_faults(alloc, out, records)?;
     put(out, "]}\n")?;
     Ok(())
 }

@@ -1,6 +1,6 @@
 //! Tables of text in columns.
 
-use comtrade_cli::put;
+use comtrade_cli::{put, put_number, put_safe};
 use std::alloc::{AllocError, Allocator};
 
 /// Ends a cell; texts of a file hold no such byte once they are printable.
@@ -17,6 +17,24 @@ pub(crate) fn end_row<A: Allocator>(table: &mut Vec<u8, A>) -> Result<(), AllocE
 /// A cell of plain text.
 pub(crate) fn put_cell<A: Allocator>(table: &mut Vec<u8, A>, text: &str) -> Result<(), AllocError> {
     put(table, text)?;
+    end_cell(table)
+}
+
+/// A cell of a text of the file.
+pub(crate) fn put_safe_cell<A: Allocator>(
+    table: &mut Vec<u8, A>,
+    text: &[u8],
+) -> Result<(), AllocError> {
+    put_safe(table, text)?;
+    end_cell(table)
+}
+
+/// A cell of a number.
+pub(crate) fn put_number_cell<A: Allocator>(
+    table: &mut Vec<u8, A>,
+    n: u64,
+) -> Result<(), AllocError> {
+    put_number(table, n)?;
     end_cell(table)
 }
 
@@ -42,29 +60,104 @@ fn begins(b: u8) -> bool {
 /// The widest that a column gets: a longer cell, which the standard allows in no field, moves its own row alone.
 const WIDEST: usize = 64;
 
+/// Where a byte stands: its column, and how many characters of the cell are before it.
+#[derive(Clone, Copy)]
+struct Spot {
+    column: usize,
+    width: usize,
+}
+
+/// The spot after a byte.
+fn after(spot: Spot, b: u8) -> Spot {
+    if b == CELL {
+        return Spot {
+            column: spot.column.saturating_add(1),
+            width: 0,
+        };
+    }
+    if b == b'\n' {
+        return Spot {
+            column: 0,
+            width: 0,
+        };
+    }
+    Spot {
+        column: spot.column,
+        width: if begins(b) {
+            spot.width.saturating_add(1)
+        } else {
+            spot.width
+        },
+    }
+}
+
+/// Makes each column as wide as its widest cell.
+fn widen_all<A: Allocator>(widths: &mut Vec<usize, A>, table: &[u8]) -> Result<(), AllocError> {
+    let mut spot = Spot {
+        column: 0,
+        width: 0,
+    };
+    for b in table {
+        if *b == CELL {
+            widen(widths, spot.column, spot.width.min(WIDEST))?;
+        }
+        spot = after(spot, *b);
+    }
+    Ok(())
+}
+
 /// How wide each column is.
 fn widths_of<A: Allocator>(alloc: A, table: &[u8]) -> Result<Vec<usize, A>, AllocError> {
     let mut widths = Vec::new(alloc);
-    let mut column = 0usize;
-    let mut width = 0usize;
-    for b in table {
-        if *b == CELL {
-            widen(&mut widths, column, width.min(WIDEST))?;
-            column = column.saturating_add(1);
-            width = 0;
-        } else if *b == b'\n' {
-            column = 0;
-            width = 0;
-        } else if begins(*b) {
-            width = width.saturating_add(1);
-        }
-    }
+    widen_all(&mut widths, table)?;
     Ok(widths)
 }
 
 fn put_blanks<A: Allocator>(out: &mut Vec<u8, A>, count: usize) -> Result<(), AllocError> {
     for _ in 0..count {
         out.extend_from_slice(b" ")?;
+    }
+    Ok(())
+}
+
+/// How many blanks stand before the next character after a byte, where so many stood before this one.
+fn blanks_after(widths: &[usize], spot: Spot, blanks: usize, b: u8) -> usize {
+    if b == b'\n' {
+        return 2;
+    }
+    if b != CELL {
+        return 0;
+    }
+    let wanted = widths.get(spot.column).copied().unwrap_or(0);
+    blanks.saturating_add(wanted.saturating_sub(spot.width).saturating_add(2))
+}
+
+/// A byte of a table, after so many blanks; cells end in none.
+fn put_byte<A: Allocator>(out: &mut Vec<u8, A>, blanks: usize, b: u8) -> Result<(), AllocError> {
+    if b == CELL {
+        return Ok(());
+    }
+    if b != b'\n' {
+        put_blanks(out, blanks)?;
+    }
+    out.extend_from_slice(&[b])
+}
+
+/// A table with columns of these widths.
+fn put_columns<A: Allocator>(
+    out: &mut Vec<u8, A>,
+    table: &[u8],
+    widths: &[usize],
+) -> Result<(), AllocError> {
+    let mut spot = Spot {
+        column: 0,
+        width: 0,
+    };
+    let mut blanks = 2usize;
+    for b in table {
+        put_byte(out, blanks, *b)?;
+        blanks = blanks_after(widths, spot, blanks, *b);
+        spot = after(spot, *b);
     }
     Ok(())
 }
@@ -76,31 +169,5 @@ pub(crate) fn put_table<A: Allocator + Copy>(
     table: &[u8],
 ) -> Result<(), AllocError> {
     let widths = widths_of(alloc, table)?;
-    let mut column = 0usize;
-    let mut width = 0usize;
-    let mut blanks = 2usize;
-    for b in table {
-        if *b == CELL {
-            let wanted = match widths.get(column) {
-                Some(wanted) => *wanted,
-                None => 0,
-            };
-            blanks = blanks.saturating_add(wanted.saturating_sub(width).saturating_add(2));
-            column = column.saturating_add(1);
-            width = 0;
-        } else if *b == b'\n' {
-            out.extend_from_slice(b"\n")?;
-            column = 0;
-            width = 0;
-            blanks = 2;
-        } else {
-            put_blanks(out, blanks)?;
-            blanks = 0;
-            out.extend_from_slice(&[*b])?;
-            if begins(*b) {
-                width = width.saturating_add(1);
-            }
-        }
-    }
-    Ok(())
+    put_columns(out, table, &widths)
 }

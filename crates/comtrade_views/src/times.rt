@@ -3,7 +3,7 @@
 use comtrade_cli::ToolFault;
 use comtrade_format::File;
 use comtrade_values::clock_of;
-use std::alloc::Allocator;
+use std::alloc::{AllocError, Allocator};
 
 /// When each row was taken, in nanoseconds since the instant of the first: by the rates where the file says them, else by its stamp. None
 /// where neither says it, and beyond 292 years.
@@ -11,13 +11,22 @@ pub(crate) fn times_of<A: Allocator + Copy>(
     alloc: A,
     file: &File<A>,
 ) -> Result<Vec<Option<i64>, A>, ToolFault> {
-    let mut clock = clock_of(&file.head);
     let mut times = Vec::new(alloc);
+    add_times(&mut times, file)?;
+    Ok(times)
+}
+
+/// Adds when each row was taken.
+fn add_times<A: Allocator>(
+    times: &mut Vec<Option<i64>, A>,
+    file: &File<A>,
+) -> Result<(), AllocError> {
+    let mut clock = clock_of(&file.head);
     for (i, row) in file.rows.items().iter().enumerate() {
         clock = clock.at(i as u64);
         times.push(near(clock.nanos(i as u64, row.stamp)))?;
     }
-    Ok(times)
+    Ok(())
 }
 
 /// A time of at most 292 years.

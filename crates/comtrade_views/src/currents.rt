@@ -1,0 +1,103 @@
+//! The greatest current of a record, beside its channel's nominal one.
+
+use crate::peaks::{Peaks, peaks_at, peaks_of};
+use comtrade_cli::ToolFault;
+use comtrade_format::File;
+use comtrade_values::nearest_f64;
+use dfr_channels::{AnalogChannel, Decimal, Side};
+use std::alloc::Allocator;
+
+/// How often a channel's greatest current is its nominal one, and the current.
+#[derive(Clone, Copy)]
+pub(crate) struct Current {
+    pub(crate) times: f64,
+    pub(crate) place: usize,
+    pub(crate) sample: i32,
+}
+
+fn is_current<A: Allocator>(channel: &AnalogChannel<A>) -> bool {
+    channel.unit.items() == b"A".as_slice()
+}
+
+/// The nominal current of a channel.
+pub(crate) fn nominal_of<A: Allocator>(channel: &AnalogChannel<A>) -> Decimal {
+    match channel.side {
+        Side::Primary => channel.primary,
+        Side::Secondary => channel.secondary,
+    }
+}
+
+/// How often a value of a sample is the channel's nominal current.
+fn times_nominal<A: Allocator + Copy>(
+    alloc: A,
+    channel: &AnalogChannel<A>,
+    sample: i32,
+) -> Result<f64, ToolFault> {
+    let scale = comtrade_values::scale_of(alloc, channel)?;
+    let nominal = nearest_f64(alloc, nominal_of(channel))?;
+    let value = scale.value(sample);
+    let size = if value < 0.0 { -value } else { value };
+    Ok(if 0.0 < nominal { size / nominal } else { 0.0 })
+}
+
+/// The greatest current so far, with one sample more.
+fn greater<A: Allocator + Copy>(
+    alloc: A,
+    channel: &AnalogChannel<A>,
+    place: usize,
+    sample: i32,
+    greatest: Option<Current>,
+) -> Result<Option<Current>, ToolFault> {
+    let times = times_nominal(alloc, channel, sample)?;
+    let least = match greatest {
+        Some(current) => current.times,
+        None => 0.0,
+    };
+    if least < times {
+        return Ok(Some(Current {
+            times,
+            place,
+            sample,
+        }));
+    }
+    Ok(greatest)
+}
+
+/// The greatest current of a channel, by its nominal one, or the greatest before it.
+fn greatest_of<A: Allocator + Copy>(
+    alloc: A,
+    peaks: Peaks,
+    channel: &AnalogChannel<A>,
+    place: usize,
+    greatest: Option<Current>,
+) -> Result<Option<Current>, ToolFault> {
+    let Some((least, most)) = peaks.extremes else {
+        return Ok(greatest);
+    };
+    let greatest = greater(alloc, channel, place, least.sample, greatest)?;
+    greater(alloc, channel, place, most.sample, greatest)
+}
+
+/// The greatest current of all channels, which have these peaks.
+fn greatest_by<A: Allocator + Copy>(
+    alloc: A,
+    file: &File<A>,
+    peaks: &[Peaks],
+) -> Result<Option<Current>, ToolFault> {
+    let mut greatest = None;
+    for (i, channel) in file.head.analog.items().iter().enumerate() {
+        if is_current(channel) {
+            greatest = greatest_of(alloc, peaks_at(peaks, i), channel, i, greatest)?;
+        }
+    }
+    Ok(greatest)
+}
+
+/// The greatest current of all channels.
+pub(crate) fn greatest_current<A: Allocator + Copy>(
+    alloc: A,
+    file: &File<A>,
+) -> Result<Option<Current>, ToolFault> {
+    let peaks = peaks_of(alloc, file)?;
+    greatest_by(alloc, file, &peaks)
+}
