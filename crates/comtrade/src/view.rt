@@ -2,8 +2,9 @@
 
 use crate::load::file_in;
 use crate::measure::measure_over;
+use comtrade_check::check_over;
 use comtrade_cli::{Part, Picture, ToolFault, View, Viewed, put, put_safe, write_out};
-use comtrade_diagnostics::{Pair, check_over, put_remarks};
+use comtrade_diagnostics::{Pair, put_remarks};
 use comtrade_format::File;
 use comtrade_part::{PartFault, is_whole, part_of};
 use comtrade_plot::{PlotOptions, page_over, plot_over};

@@ -1,21 +1,17 @@
-//! Whether a pair of files can be read, and its fault in words.
+//! The fault of a pair of files in words, or that it has none.
 
-ghost use Rattle.std.specs.Prelude.{◌≡◌, IfOk, OnErr, OnOk, true, false};
-ghost use Rattle.comtrade_read.specs.Verdicts.{IsFile};
-ghost use Rattle.comtrade_read.specs.Reads.{IsNoFile};
+ghost use Rattle.std.specs.Prelude.{◌≡◌, OnErr, OnOk};
 ghost use Rattle.comtrade_diagnostics.specs.Puts.{PutsLine};
 
 use crate::describe::put_cfg_fault;
 use crate::describe_data::put_dat_fault;
-use crate::hints::put_hint;
 use crate::line::put_line;
 use crate::names::Counts;
 use crate::remarks::put_remarks;
-use comtrade_cli::{ToolFault, kind_name, put, put_count, put_safe, write_out};
-use comtrade_format::Head;
-use comtrade_read::{Fault, Part, ReadFault, read, read_cfg};
+use comtrade_cli::{kind_name, put, put_count, put_safe};
+use comtrade_format::{File, Head};
+use comtrade_read::{Fault, Part, ReadFault, read_cfg};
 use std::alloc::{AllocError, Allocator};
-use std::io::Write;
 
 /// The bytes of two files, and what they are called.
 #[derive(Clone, Copy, Debug)]
@@ -136,43 +132,13 @@ fn put_head_counts<A: Allocator>(
     put_count(out, rows, " row", " rows")
 }
 
-/// Puts the first fault of a pair in words, and whether `import` reads it; or that it has none, and what is odd about it. True where it has
-/// none.
-fn put_verdict<A: Allocator + Copy>(
+/// That a pair has no fault, and what is odd about the file that it reads to.
+pub fn put_no_fault<A: Allocator + Copy>(
     alloc: A,
     out: &mut Vec<u8, A>,
     pair: Pair<'_>,
-) -> Result<bool, ToolFault>
-    ensures sound { IfOk result (λ r. r ≡ true → IsFile pair.entry.cfg.now pair.entry.dat.now) }
-    ensures faulty { IfOk result (λ r. r ≡ false → IsNoFile pair.entry.cfg.now pair.entry.dat.now) }
-{
-    match read(alloc, pair.cfg, pair.dat) {
-        Ok(file) => {
-            put_sound(out, pair, &file.head)?;
-            put_remarks(alloc, out, pair, &file)?;
-            Ok(true)
-        }
-        Err((_, ReadFault::Memory)) => Err(ToolFault::Memory),
-        Err((part, fault)) => {
-            put_fault(alloc, out, pair, Fault { part, fault })?;
-            put_hint(alloc, out, pair)?;
-            Ok(false)
-        }
-    }
-}
-
-/// Prints the first fault of a pair in words, and whether `import` reads it; or that it has none, and what is odd about it. True where it
-/// has none, and then the pair reads to a file; false where it has one, and then it reads to none.
-pub fn check_over<A: Allocator + Copy, W: Write>(
-    alloc: A,
-    pair: Pair<'_>,
-    w: &mut W,
-) -> Result<bool, ToolFault>
-    ensures sound { IfOk result (λ r. r ≡ true → IsFile pair.entry.cfg.now pair.entry.dat.now) }
-    ensures faulty { IfOk result (λ r. r ≡ false → IsNoFile pair.entry.cfg.now pair.entry.dat.now) }
-{
-    let mut out = Vec::new(alloc);
-    let is_sound = put_verdict(alloc, &mut out, pair)?;
-    write_out(w, &out)?;
-    Ok(is_sound)
+    file: &File<A>,
+) -> Result<(), AllocError> {
+    put_sound(out, pair, &file.head)?;
+    put_remarks(alloc, out, pair, file)
 }

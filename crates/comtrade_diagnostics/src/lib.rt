@@ -11,7 +11,7 @@ mod names;
 mod refuse;
 mod remarks;
 
-pub use check::{Pair, check_over, put_fault};
-pub use hints::put_single;
+pub use check::{Pair, put_fault, put_no_fault};
+pub use hints::{put_hint, put_single};
 pub use refuse::put_refusal;
 pub use remarks::put_remarks;
