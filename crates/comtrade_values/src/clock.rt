@@ -92,7 +92,7 @@ fn are_rates(rates: &[Rate]) -> bool
 }
 
 /// The rates of a file, from that of a row on.
-#[derive(Clone, Copy)]
+#[derive(Clone, Copy, Debug)]
 struct Paces<'a> {
     rates: &'a [Rate],
     /// When the row after the last one of the rates before them was taken.
