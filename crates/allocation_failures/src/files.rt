@@ -4,7 +4,7 @@ use crate::common::{Heap, layout, setup};
 use crate::refusing::{
     Consuming, Must, Outcome, Trial, memory_if, refuses, refuses_anew, right_if,
 };
-use crate::runs::{closed, ran};
+use crate::runs::{answers_of, closed, ran};
 use crate::texts::{Pair as Texts, pair_in};
 use comtrade_read::{read, read_of_file};
 use comtrade_write::{
@@ -18,16 +18,21 @@ use std::alloc::Allocator;
 
 fn last_taken<A: Allocator>(answers: Vec<Answer<A>, A>) -> Option<Record<A>> {
     let mut answers = answers;
-    match answers.pop() {
+    let last = answers.pop();
+    drop(answers);
+    match last {
         Some(Answer::Take(record)) => record,
-        _ => None,
+        other => {
+            drop(other);
+            None
+        }
     }
 }
 
 /// The record of five scans around a trigger.
 fn record<A: Allocator + Copy>(alloc: A) -> Option<Record<A>> {
     match ran(alloc) {
-        Some(ran) => last_taken(ran.answers),
+        Some(ran) => last_taken(answers_of(ran)),
         None => None,
     }
 }
@@ -50,9 +55,15 @@ pub fn has_cfg<A: Allocator + Copy>(alloc: A, file: &File<A>, wanted: &[u8]) -> 
     is_text(cfg_bytes(alloc, file), wanted)
 }
 
-/// The file writes these texts.
-pub fn is_file_of<A: Allocator + Copy>(alloc: A, file: &File<A>, wanted: Texts) -> bool {
+fn is_file_of<A: Allocator + Copy>(alloc: A, file: &File<A>, wanted: Texts) -> bool {
     has_cfg(alloc, file, wanted.cfg) && is_text(dat_bytes(alloc, file), wanted.dat)
+}
+
+/// The file, which is let go, writes these texts.
+pub fn is_right_file<A: Allocator + Copy>(alloc: A, file: File<A>, wanted: Texts) -> bool {
+    let right = is_file_of(alloc, &file, wanted);
+    drop(file);
+    right
 }
 
 /// What a File is made of.
@@ -63,14 +74,28 @@ struct Taken<A: Allocator> {
     record: Record<A>,
 }
 
-fn with_record<A: Allocator + Copy>(alloc: A, layout: Option<Layout<A>>) -> Option<Taken<A>> {
-    match (layout, record(alloc)) {
-        (Some(layout), Some(record)) => Some(Taken {
+fn taken_of<A: Allocator>(
+    alloc: A,
+    layout: Layout<A>,
+    record: Option<Record<A>>,
+) -> Option<Taken<A>> {
+    match record {
+        Some(record) => Some(Taken {
             alloc,
             layout,
             record,
         }),
-        _ => None,
+        None => {
+            drop(layout);
+            None
+        }
+    }
+}
+
+fn with_record<A: Allocator + Copy>(alloc: A, layout: Option<Layout<A>>) -> Option<Taken<A>> {
+    match layout {
+        Some(layout) => taken_of(alloc, layout, record(alloc)),
+        None => None,
     }
 }
 
@@ -107,7 +132,7 @@ fn read_again(file: &File<Heap>, kind: Kind) -> Outcome {
     let again = read_of_file(heap, file);
     heap.refuse_no_more();
     match again {
-        Ok(again) => right_if(is_file_of(heap, &again, pair_in(kind))),
+        Ok(again) => right_if(is_right_file(heap, again, pair_in(kind))),
         Err(fault) => memory_if(fault == WriteFault::Memory),
     }
 }
@@ -116,14 +141,17 @@ fn make(of: &Taken<Heap>, kind: Kind) -> Outcome {
     let made = file_of(of.alloc, &of.layout, &of.record, kind);
     of.alloc.refuse_no_more();
     match made {
-        Ok(file) => right_if(is_file_of(of.alloc, &file, pair_in(kind))),
+        Ok(file) => right_if(is_right_file(of.alloc, file, pair_in(kind))),
         Err(fault) => memory_if(fault == FileFault::Memory),
     }
 }
 
 fn refuse(of: &Taken<Heap>, kind: Kind) -> Outcome {
     match file_of(of.alloc, &of.layout, &of.record, kind) {
-        Ok(_) => Outcome::Wrong,
+        Ok(file) => {
+            drop(file);
+            Outcome::Wrong
+        }
         Err(FileFault::Foreign) => Outcome::Right,
         Err(FileFault::Memory) => Outcome::Memory,
     }
