@@ -1,18 +1,13 @@
-//! The File of a record, what files write, and what is read back.
+//! The File of a record, what files write, and files that are read again.
 
 use crate::common::{Heap, layout, setup};
-use crate::refusing::{
-    Consuming, Must, Outcome, Trial, memory_if, refuses, refuses_anew, right_if,
-};
-use crate::runs::{answers_of, closed, ran};
+use crate::refusing::{Must, Outcome, Trial, memory_if, refuses, right_if};
+use crate::runs::{answers_of, ran};
 use crate::texts::{Pair as Texts, pair_in};
 use comtrade_read::{read, read_of_file};
-use comtrade_write::{
-    File, FileFault, Kind, Pair, WriteFault, cfg_bytes, dat_bytes, file_of, pair_of,
-};
-use dfr_channels::{Items, Layout, Memory, Setup};
-use dfr_program::read_of_record;
-use dfr_recorder::{Answer, Record, Recorder};
+use comtrade_write::{File, FileFault, Kind, WriteFault, cfg_bytes, dat_bytes, file_of};
+use dfr_channels::{Items, Layout, Setup};
+use dfr_recorder::{Answer, Record};
 use failing_allocator::Refusing;
 use std::alloc::Allocator;
 
@@ -190,59 +185,5 @@ fn files_refused(rt: HostRuntime) {
         assert!(rt; refuses(&heap, own_text(&heap, kind), Must::Answer));
         assert!(rt; refuses(&heap, own_record(&heap, kind), Must::AnswerEach));
         assert!(rt; refuses(&heap, foreign(&heap, kind), Must::May));
-    }
-}
-
-/// The record that a recorder gives: the bytes of both its files, or what is read of them.
-#[derive(Drop)]
-struct Given<A: Allocator> {
-    alloc: A,
-    kind: Kind,
-    is_read: bool,
-}
-
-fn is_pair_of<A: Allocator>(pair: &Pair<A>, texts: Texts) -> bool {
-    pair.cfg.as_slice() == texts.cfg && pair.dat.as_slice() == texts.dat
-}
-
-impl<A: Allocator + Copy> Consuming for Given<A> {
-    type Made = Recorder<A>;
-
-    fn make(&self) -> Option<Recorder<A>> {
-        closed(self.alloc)
-    }
-
-    fn call(&self, recorder: Recorder<A>) -> Outcome {
-        let mut recorder = recorder;
-        match recorder.take() {
-            Some(record) if self.is_read => {
-                match read_of_record(self.alloc, recorder.layout(), &record, self.kind) {
-                    Ok(file) => right_if(file.rows.items().len() == 5),
-                    Err(Memory) => Outcome::Memory,
-                }
-            }
-            Some(record) => match pair_of(self.alloc, recorder.layout(), &record, self.kind) {
-                Ok(pair) => right_if(is_pair_of(&pair, pair_in(self.kind))),
-                Err(Memory) => Outcome::Memory,
-            },
-            None => Outcome::Wrong,
-        }
-    }
-}
-
-#[test]
-fn records_refused(rt: HostRuntime) {
-    let heap = Refusing::new(rt.alloc());
-    for (kind, is_read) in [
-        (Kind::Ascii, false),
-        (Kind::Binary, false),
-        (Kind::Binary, true),
-    ] {
-        let given = Given {
-            alloc: &heap,
-            kind,
-            is_read,
-        };
-        assert!(rt; refuses_anew(&heap, given, Must::Answer));
     }
 }
