@@ -122,13 +122,25 @@ fn copy_part<A: Allocator + Copy>(setup: &Setup<A>, part: Part) -> Outcome {
     }
 }
 
+fn copy_layout<A: Allocator + Copy>(layout: &Layout<A>) -> Outcome {
+    outcome_of(layout.try_clone(), layout)
+}
+
+fn copy_scan<A: Allocator + Copy>(scan: &Scan<A>) -> Outcome {
+    outcome_of(scan.try_clone(), scan)
+}
+
+fn copy_rules<A: Allocator + Copy>(rules: &Rules<A>) -> Outcome {
+    outcome_of(rules.try_clone(), rules)
+}
+
 impl<A: Allocator + Copy> Trial for Copied<A> {
     fn call(&mut self) -> Outcome {
         match self {
             Copied::Setup(setup, part) => copy_part(setup, *part),
-            Copied::Layout(layout) => outcome_of(layout.try_clone(), layout),
-            Copied::Scan(scan) => outcome_of(scan.try_clone(), scan),
-            Copied::Rules(rules) => outcome_of(rules.try_clone(), rules),
+            Copied::Layout(layout) => copy_layout(layout),
+            Copied::Scan(scan) => copy_scan(scan),
+            Copied::Rules(rules) => copy_rules(rules),
         }
     }
 }
@@ -173,6 +185,10 @@ fn fits<A: Allocator>(layout: &Layout<A>, rules: Option<Rules<A>>) -> bool {
     }
 }
 
+fn takes_empty<'a>(heap: Heap<'a>, layout: &Layout<Heap<'a>>) -> bool {
+    fits(layout, Rules::new(layout, Vec::new(heap)).ok())
+}
+
 /// What doesn't allocate is answered while every allocation is refused.
 fn takes_none<'a>(
     heap: Heap<'a>,
@@ -180,8 +196,8 @@ fn takes_none<'a>(
     rules: Option<Rules<Heap<'a>>>,
 ) -> bool {
     heap.refuse_all();
-    let empty = Rules::new(layout, Vec::new(heap)).is_ok();
-    let done = empty && fits(layout, rules);
+    let empty = takes_empty(heap, layout);
+    let done = fits(layout, rules) && empty;
     heap.refuse_none();
     done
 }

@@ -18,21 +18,54 @@ fn script<A: Allocator + Copy>(alloc: A) -> Option<Script<A>> {
 
 pub fn setup<A: Allocator + Copy>(alloc: A) -> Option<Setup<A>> {
     match script(alloc) {
-        Some(script) => Some(script.setup),
+        Some(
+            Script {
+                setup,
+                limits: _,
+                rules,
+                commands,
+            },
+        ) => {
+            drop(rules);
+            drop(commands);
+            Some(setup)
+        }
         None => None,
     }
 }
 
 fn rule_list<A: Allocator + Copy>(alloc: A) -> Option<Vec<Rule, A>> {
     match script(alloc) {
-        Some(script) => Some(script.rules),
+        Some(
+            Script {
+                setup,
+                limits: _,
+                rules,
+                commands,
+            },
+        ) => {
+            drop(setup);
+            drop(commands);
+            Some(rules)
+        }
         None => None,
     }
 }
 
 pub fn commands<A: Allocator + Copy>(alloc: A) -> Option<Vec<Command<A>, A>> {
     match script(alloc) {
-        Some(script) => Some(script.commands),
+        Some(
+            Script {
+                setup,
+                limits: _,
+                rules,
+                commands,
+            },
+        ) => {
+            drop(setup);
+            drop(rules);
+            Some(commands)
+        }
         None => None,
     }
 }
@@ -88,11 +121,18 @@ fn bits<A: Allocator + Copy>(alloc: A, bit: bool) -> Option<Vec<bool, A>> {
     Vec::from_slice(alloc, &[bit]).ok()
 }
 
+fn scan_of<A: Allocator>(analog: Vec<Reading, A>, status: Option<Vec<bool, A>>) -> Option<Scan<A>> {
+    match status {
+        Some(status) => Some(Scan::new(analog, status)),
+        None => None,
+    }
+}
+
 /// A scan of that layout.
 pub fn scan<A: Allocator + Copy>(alloc: A, x: i32, bit: bool) -> Option<Scan<A>> {
-    match (readings(alloc, x), bits(alloc, bit)) {
-        (Some(analog), Some(status)) => Some(Scan::new(analog, status)),
-        _ => None,
+    match readings(alloc, x) {
+        Some(analog) => scan_of(analog, bits(alloc, bit)),
+        None => None,
     }
 }
 

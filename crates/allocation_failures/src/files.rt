@@ -1,33 +1,33 @@
-//! The File of a record, what files write, and what is read back.
+//! The File of a record, what files write, and files that are read again.
 
 use crate::common::{Heap, layout, setup};
-use crate::refusing::{
-    Consuming, Must, Outcome, Trial, memory_if, refuses, refuses_anew, right_if,
-};
-use crate::runs::{closed, ran};
+use crate::refusing::{Must, Outcome, Trial, memory_if, refuses, right_if};
+use crate::runs::{answers_of, ran};
 use crate::texts::{Pair as Texts, pair_in};
 use comtrade_read::{read, read_of_file};
-use comtrade_write::{
-    File, FileFault, Kind, Pair, WriteFault, cfg_bytes, dat_bytes, file_of, pair_of,
-};
-use dfr_channels::{Items, Layout, Memory, Setup};
-use dfr_program::read_of_record;
-use dfr_recorder::{Answer, Record, Recorder};
+use comtrade_write::{File, FileFault, Kind, WriteFault, cfg_bytes, dat_bytes, file_of};
+use dfr_channels::{Items, Layout, Setup};
+use dfr_recorder::{Answer, Record};
 use failing_allocator::Refusing;
 use std::alloc::Allocator;
 
 fn last_taken<A: Allocator>(answers: Vec<Answer<A>, A>) -> Option<Record<A>> {
     let mut answers = answers;
-    match answers.pop() {
+    let last = answers.pop();
+    drop(answers);
+    match last {
         Some(Answer::Take(record)) => record,
-        _ => None,
+        other => {
+            drop(other);
+            None
+        }
     }
 }
 
 /// The record of five scans around a trigger.
 fn record<A: Allocator + Copy>(alloc: A) -> Option<Record<A>> {
     match ran(alloc) {
-        Some(ran) => last_taken(ran.answers),
+        Some(ran) => last_taken(answers_of(ran)),
         None => None,
     }
 }
@@ -50,9 +50,15 @@ pub fn has_cfg<A: Allocator + Copy>(alloc: A, file: &File<A>, wanted: &[u8]) -> 
     is_text(cfg_bytes(alloc, file), wanted)
 }
 
-/// The file writes these texts.
-pub fn is_file_of<A: Allocator + Copy>(alloc: A, file: &File<A>, wanted: Texts) -> bool {
+fn is_file_of<A: Allocator + Copy>(alloc: A, file: &File<A>, wanted: Texts) -> bool {
     has_cfg(alloc, file, wanted.cfg) && is_text(dat_bytes(alloc, file), wanted.dat)
+}
+
+/// The file, which is let go, writes these texts.
+pub fn is_right_file<A: Allocator + Copy>(alloc: A, file: File<A>, wanted: Texts) -> bool {
+    let right = is_file_of(alloc, &file, wanted);
+    drop(file);
+    right
 }
 
 /// What a File is made of.
@@ -63,14 +69,28 @@ struct Taken<A: Allocator> {
     record: Record<A>,
 }
 
-fn with_record<A: Allocator + Copy>(alloc: A, layout: Option<Layout<A>>) -> Option<Taken<A>> {
-    match (layout, record(alloc)) {
-        (Some(layout), Some(record)) => Some(Taken {
+fn taken_of<A: Allocator>(
+    alloc: A,
+    layout: Layout<A>,
+    record: Option<Record<A>>,
+) -> Option<Taken<A>> {
+    match record {
+        Some(record) => Some(Taken {
             alloc,
             layout,
             record,
         }),
-        _ => None,
+        None => {
+            drop(layout);
+            None
+        }
+    }
+}
+
+fn with_record<A: Allocator + Copy>(alloc: A, layout: Option<Layout<A>>) -> Option<Taken<A>> {
+    match layout {
+        Some(layout) => taken_of(alloc, layout, record(alloc)),
+        None => None,
     }
 }
 
@@ -107,7 +127,7 @@ fn read_again(file: &File<Heap>, kind: Kind) -> Outcome {
     let again = read_of_file(heap, file);
     heap.refuse_no_more();
     match again {
-        Ok(again) => right_if(is_file_of(heap, &again, pair_in(kind))),
+        Ok(again) => right_if(is_right_file(heap, again, pair_in(kind))),
         Err(fault) => memory_if(fault == WriteFault::Memory),
     }
 }
@@ -116,14 +136,17 @@ fn make(of: &Taken<Heap>, kind: Kind) -> Outcome {
     let made = file_of(of.alloc, &of.layout, &of.record, kind);
     of.alloc.refuse_no_more();
     match made {
-        Ok(file) => right_if(is_file_of(of.alloc, &file, pair_in(kind))),
+        Ok(file) => right_if(is_right_file(of.alloc, file, pair_in(kind))),
         Err(fault) => memory_if(fault == FileFault::Memory),
     }
 }
 
 fn refuse(of: &Taken<Heap>, kind: Kind) -> Outcome {
     match file_of(of.alloc, &of.layout, &of.record, kind) {
-        Ok(_) => Outcome::Wrong,
+        Ok(file) => {
+            drop(file);
+            Outcome::Wrong
+        }
         Err(FileFault::Foreign) => Outcome::Right,
         Err(FileFault::Memory) => Outcome::Memory,
     }
@@ -162,59 +185,5 @@ fn files_refused(rt: HostRuntime) {
         assert!(rt; refuses(&heap, own_text(&heap, kind), Must::Answer));
         assert!(rt; refuses(&heap, own_record(&heap, kind), Must::AnswerEach));
         assert!(rt; refuses(&heap, foreign(&heap, kind), Must::May));
-    }
-}
-
-/// The record that a recorder gives: the bytes of both its files, or what is read of them.
-#[derive(Drop)]
-struct Given<A: Allocator> {
-    alloc: A,
-    kind: Kind,
-    is_read: bool,
-}
-
-fn is_pair_of<A: Allocator>(pair: &Pair<A>, texts: Texts) -> bool {
-    pair.cfg.as_slice() == texts.cfg && pair.dat.as_slice() == texts.dat
-}
-
-impl<A: Allocator + Copy> Consuming for Given<A> {
-    type Made = Recorder<A>;
-
-    fn make(&self) -> Option<Recorder<A>> {
-        closed(self.alloc)
-    }
-
-    fn call(&self, recorder: Recorder<A>) -> Outcome {
-        let mut recorder = recorder;
-        match recorder.take() {
-            Some(record) if self.is_read => {
-                match read_of_record(self.alloc, recorder.layout(), &record, self.kind) {
-                    Ok(file) => right_if(file.rows.items().len() == 5),
-                    Err(Memory) => Outcome::Memory,
-                }
-            }
-            Some(record) => match pair_of(self.alloc, recorder.layout(), &record, self.kind) {
-                Ok(pair) => right_if(is_pair_of(&pair, pair_in(self.kind))),
-                Err(Memory) => Outcome::Memory,
-            },
-            None => Outcome::Wrong,
-        }
-    }
-}
-
-#[test]
-fn records_refused(rt: HostRuntime) {
-    let heap = Refusing::new(rt.alloc());
-    for (kind, is_read) in [
-        (Kind::Ascii, false),
-        (Kind::Binary, false),
-        (Kind::Binary, true),
-    ] {
-        let given = Given {
-            alloc: &heap,
-            kind,
-            is_read,
-        };
-        assert!(rt; refuses_anew(&heap, given, Must::Answer));
     }
 }

@@ -31,6 +31,8 @@ mod recorder;
 #[cfg(test)]
 mod recorder_calls;
 #[cfg(test)]
+mod records;
+#[cfg(test)]
 mod refusing;
 #[cfg(test)]
 mod runs;

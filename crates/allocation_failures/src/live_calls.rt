@@ -6,15 +6,22 @@ use crate::live_play::{Act, Play, is_played};
 use crate::recorder::recorder;
 use crate::refusing::{Consuming, Must, Outcome, memory_if, refuses_anew};
 use crate::token_calls::Call;
-use dfr_live::{OpenFault, Opened, open};
+use dfr_live::{OpenFault, open};
 use dfr_recorder::{Hit, Recorder, TriggerFault};
 use failing_allocator::Refusing;
 use std::alloc::Allocator;
 
-type Openings<A> = Result<Opened<A>, (OpenFault, Recorder<A>)>;
+type Refusal<A> = (OpenFault, Recorder<A>);
 
-fn open_two<A: Allocator + Copy>(alloc: A, recorder: Recorder<A>) -> Openings<A> {
-    open(alloc, recorder, 8, 2)
+/// None where it is opened, and then let go.
+fn refusal_of<A: Allocator + Copy>(alloc: A, recorder: Recorder<A>) -> Option<Refusal<A>> {
+    open(alloc, recorder, 8, 2).err()
+}
+
+fn is_none<A: Allocator>(refusal: Option<Refusal<A>>) -> bool {
+    let none = refusal.is_none();
+    drop(refusal);
+    none
 }
 
 fn is_as_before<A: Allocator>(back: &Recorder<A>) -> bool {
@@ -22,7 +29,8 @@ fn is_as_before<A: Allocator>(back: &Recorder<A>) -> bool {
 }
 
 fn is_opened_then<'a>(heap: Heap<'a>, back: Recorder<Heap<'a>>) -> bool {
-    is_as_before(&back) && open_two(heap, back).is_ok()
+    let before = is_as_before(&back);
+    is_none(refusal_of(heap, back)) && before
 }
 
 /// A recorder that is opened. Where there is no memory for it, it comes back and is opened then.
@@ -39,13 +47,13 @@ impl<'a> Consuming for Opening<'a> {
     }
 
     fn call(&self, recorder: Recorder<Heap<'a>>) -> Outcome {
-        let opened = open_two(self.heap, recorder);
+        let refusal = refusal_of(self.heap, recorder);
         self.heap.refuse_no_more();
-        match opened {
-            Ok(_) => Outcome::Right,
-            Err((fault, back)) => memory_if(
-                fault == OpenFault::Memory && is_opened_then(self.heap, back),
-            ),
+        match refusal {
+            None => Outcome::Right,
+            Some((fault, back)) => {
+                memory_if(is_opened_then(self.heap, back) && fault == OpenFault::Memory)
+            }
         }
     }
 }

@@ -1,7 +1,7 @@
 //! Rules that are set on a recorder that threads share, and its end.
 
 use crate::common::{Heap, lawful};
-use crate::refusing::{Outcome, Trial, goes_on, memory_if, right_if};
+use crate::refusing::{Outcome, Trial, goes_on, memory_if, put_back, right_if};
 use dfr_channels::Rules;
 use dfr_live::{EndFault, Ended, Inner, Left, RulesRefusal, Session, Shared, Source, Token, end};
 use std::alloc::Allocator;
@@ -16,18 +16,28 @@ struct Setting<'r, N: Session<A>, R, A: Allocator> {
     next: Option<Rules<A>>,
 }
 
+fn set<N: Session<A>, R: Wait, A: Allocator + Copy>(
+    rt: &R,
+    shared: &Shared<N, A>,
+    token: &mut Token<A>,
+    rules: Rules<A>,
+    place: &mut Option<Rules<A>>,
+) -> Outcome {
+    let before = token.made().len();
+    match shared.set_rules(rt, token, rules) {
+        Ok(()) => right_if(token.made().len() == before.saturating_add(1)),
+        Err((fault, back)) => {
+            put_back(place, back);
+            memory_if(fault == RulesRefusal::Memory && token.made().len() == before)
+        }
+    }
+}
+
 impl<N: Session<A>, R: Wait, A: Allocator + Copy> Trial for Setting<'_, N, R, A> {
     fn call(&mut self) -> Outcome {
-        let before = self.token.made().len();
-        let Some(rules) = self.next.take() else {
-            return Outcome::Wrong;
-        };
-        match self.shared.set_rules(self.rt, self.token, rules) {
-            Ok(()) => right_if(self.token.made().len() == before.saturating_add(1)),
-            Err((fault, back)) => {
-                self.next = Some(back);
-                memory_if(fault == RulesRefusal::Memory && self.token.made().len() == before)
-            }
+        match self.next.take() {
+            Some(rules) => set(self.rt, self.shared, self.token, rules, &mut self.next),
+            None => Outcome::Wrong,
         }
     }
 }
@@ -75,23 +85,37 @@ fn is_left<A: Allocator>(left: &[Left<A>], lost: Option<u32>) -> bool {
     }
 }
 
-fn is_ended<A: Allocator>(ended: &Ended<A>, leaving: Leaving) -> bool {
-    ended.log.len() == leaving.calls
+/// What ended is let go.
+fn is_ended<A: Allocator>(ended: Ended<A>, leaving: Leaving) -> bool {
+    let right = ended.log.len() == leaving.calls
         && is_left(&ended.left, leaving.lost)
-        && ended.recorder.scans() == leaving.scans
+        && ended.recorder.scans() == leaving.scans;
+    drop(ended);
+    right
+}
+
+/// Where the end is refused its parts come back to their place.
+fn ending_of<N: Session<A>, A: Allocator + Copy>(
+    alloc: A,
+    parts: Parts<N, A>,
+    leaving: Leaving,
+    place: &mut Option<Parts<N, A>>,
+) -> Outcome {
+    let (inner, source, tokens) = parts;
+    match end(alloc, inner, source, tokens) {
+        Ok(ended) => right_if(is_ended(ended, leaving)),
+        Err((fault, inner, source, tokens)) => {
+            put_back(place, (inner, source, tokens));
+            memory_if(fault == EndFault::Memory)
+        }
+    }
 }
 
 impl<N: Session<A>, A: Allocator + Copy> Trial for Ending<N, A> {
     fn call(&mut self) -> Outcome {
-        let Some((inner, source, tokens)) = self.parts.take() else {
-            return Outcome::Wrong;
-        };
-        match end(self.alloc, inner, source, tokens) {
-            Ok(ended) => right_if(is_ended(&ended, self.leaving)),
-            Err((fault, inner, source, tokens)) => {
-                self.parts = Some((inner, source, tokens));
-                memory_if(fault == EndFault::Memory)
-            }
+        match self.parts.take() {
+            Some(parts) => ending_of(self.alloc, parts, self.leaving, &mut self.parts),
+            None => Outcome::Wrong,
         }
     }
 }

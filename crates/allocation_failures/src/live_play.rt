@@ -48,7 +48,10 @@ fn is_offered<N: Session<A>, A: Allocator>(
     match scan {
         Some(scan) => match source.offer(scan) {
             Ok(()) => is_taken,
-            Err(Full(_)) => !is_taken,
+            Err(Full(back)) => {
+                drop(back);
+                !is_taken
+            }
         },
         None => false,
     }

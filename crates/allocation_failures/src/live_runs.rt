@@ -101,7 +101,10 @@ fn begin_with<A: Allocator>(
             recorder,
             feed: Given { scans },
         }),
-        None => None,
+        None => {
+            drop(recorder);
+            None
+        }
     }
 }
 
@@ -112,12 +115,15 @@ fn begin<A: Allocator + Copy>(alloc: A) -> Option<Start<A>> {
     }
 }
 
-fn is_whole<A: Allocator>(report: &LiveReport<A>, got: u64) -> bool {
-    report.stepped == 6
+/// The report is let go.
+fn is_whole<A: Allocator>(report: LiveReport<A>, got: u64) -> bool {
+    let whole = report.stepped == 6
         && report.refused == 0
         && report.records == 1
         && got == 1
-        && report.ended.left.is_empty()
+        && report.ended.left.is_empty();
+    drop(report);
+    whole
 }
 
 /// A run that was refused an allocation says so.
@@ -129,7 +135,7 @@ fn is_memory(fault: LiveFault) -> bool {
 
 fn outcome_of<A: Allocator>(report: Result<LiveReport<A>, LiveFault>, sink: &Texts) -> Outcome {
     match report {
-        Ok(report) => right_if(sink.are_right && is_whole(&report, sink.got)),
+        Ok(report) => right_if(is_whole(report, sink.got) && sink.are_right),
         Err(fault) => memory_if(sink.are_right && sink.got < 2 && is_memory(fault)),
     }
 }
@@ -158,6 +164,7 @@ fn run<R: Threads + Wait + Sync>(rt: &R, heap: Heap, kind: Kind, n: u64) -> Outc
         &mut orders,
         &mut sink,
     );
+    drop(feed);
     outcome_of(report, &sink)
 }
 

@@ -42,9 +42,16 @@ fn has_gaps<A: Allocator>(record: &Record<A>) -> bool {
     }
 }
 
+/// It is let go.
+fn had_gaps<A: Allocator>(record: Record<A>) -> bool {
+    let gaps = has_gaps(&record);
+    drop(record);
+    gaps
+}
+
 fn gives_gaps<A: Allocator>(recorder: &mut Recorder<A>) -> bool {
     match recorder.take() {
-        Some(record) => has_gaps(&record),
+        Some(record) => had_gaps(record),
         None => false,
     }
 }

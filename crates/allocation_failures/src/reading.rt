@@ -1,7 +1,7 @@
 //! The reader: heads, data and pairs, and files with a fault.
 
 use crate::common::{Heap, with_line};
-use crate::files::{has_cfg, is_file_of};
+use crate::files::{has_cfg, is_right_file};
 use crate::refusing::{
     Consuming, Must, Outcome, Trial, memory_if, refuses, refuses_anew, right_if,
 };
@@ -17,15 +17,27 @@ fn data_under<A: Allocator + Copy>(alloc: A, head: Head<A>, dat: &[u8]) -> Optio
     if head.analog.items().len() < 1000 && head.status.items().len() < 1000 {
         Some(read_dat(alloc, head, dat))
     } else {
+        drop(head);
         None
+    }
+}
+
+fn file_in<A: Allocator>(read: Option<ReadData<A>>) -> Option<File<A>> {
+    match read {
+        Some(read) => read.ok(),
+        None => None,
     }
 }
 
 /// The head reads the data of these texts and writes its own text again.
 fn is_head_of<A: Allocator + Copy>(alloc: A, head: Head<A>, texts: Pair) -> bool {
-    match data_under(alloc, head, texts.dat) {
-        Some(Ok(file)) => has_cfg(alloc, &file, texts.cfg),
-        _ => false,
+    match file_in(data_under(alloc, head, texts.dat)) {
+        Some(file) => {
+            let right = has_cfg(alloc, &file, texts.cfg);
+            drop(file);
+            right
+        }
+        None => false,
     }
 }
 
@@ -75,11 +87,14 @@ impl<'a> Consuming for DataOf<'a> {
         let file = data_under(self.heap, head, self.texts.dat);
         self.heap.refuse_no_more();
         match file {
-            Some(Ok(file)) => right_if(is_file_of(self.heap, &file, self.texts)),
+            Some(Ok(file)) => right_if(is_right_file(self.heap, file, self.texts)),
             Some(Err((ReadFault::Memory, back))) => {
                 memory_if(is_head_of(self.heap, back, self.texts))
             }
-            _ => Outcome::Wrong,
+            other => {
+                drop(other);
+                Outcome::Wrong
+            }
         }
     }
 }
@@ -106,7 +121,7 @@ impl Trial for PairOf<'_> {
         let file = read(self.heap, self.pair.cfg, self.pair.dat);
         self.heap.refuse_no_more();
         match file {
-            Ok(file) => right_if(is_file_of(self.heap, &file, self.texts)),
+            Ok(file) => right_if(is_right_file(self.heap, file, self.texts)),
             Err((_, fault)) => memory_if(fault == ReadFault::Memory),
         }
     }
@@ -169,7 +184,10 @@ struct Faulty<'a, A: Allocator> {
 impl<A: Allocator + Copy> Trial for Faulty<'_, A> {
     fn call(&mut self) -> Outcome {
         match read(self.alloc, self.cfg, self.dat) {
-            Ok(_) => Outcome::Wrong,
+            Ok(file) => {
+                drop(file);
+                Outcome::Wrong
+            }
             Err((_, ReadFault::Memory)) => Outcome::Memory,
             Err((part, fault)) => right_if(part == self.wanted.0 && fault == self.wanted.1),
         }

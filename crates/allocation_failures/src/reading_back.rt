@@ -42,7 +42,7 @@ impl<A: Allocator> Model for Own<A> {
 impl<A: Allocator + Copy> Trial for Own<A> {
     fn call(&mut self) -> Outcome {
         match read_of_run(self.alloc, &self.ran, Kind::Ascii) {
-            Ok(files) => right_if(is_one_record(&files)),
+            Ok(files) => outcome_of(files, false),
             Err(Memory) => Outcome::Memory,
         }
     }
@@ -63,20 +63,28 @@ fn runs_read_back(rt: HostRuntime) {
 }
 
 /// Where the run was stopped, none of its steps took a record.
-fn outcome_of<A: Allocator>(ran: &Ran<A>, files: &[File<A>]) -> Outcome {
-    if ran.stopped.is_none() {
-        right_if(is_one_record(files))
-    } else {
+fn outcome_of<A: Allocator>(files: Vec<File<A>, A>, stopped: bool) -> Outcome {
+    let outcome = if stopped {
         memory_if(files.is_empty())
-    }
+    } else {
+        right_if(is_one_record(&files))
+    };
+    drop(files);
+    outcome
+}
+
+fn is_stopped<A: Allocator>(ran: Ran<A>) -> bool {
+    let stopped = ran.stopped.is_some();
+    drop(ran);
+    stopped
 }
 
 /// A run and its files in one call. Where an allocation of the run is refused, the files are those of the steps made.
 fn is_read<A: Allocator + Copy>(alloc: A, of: Start<A>) -> Outcome {
     let (ran, read) = run_and_read(alloc, of.recorder, of.steps, Kind::Binary);
     match read {
-        Ok(files) => outcome_of(&ran, &files),
-        Err(Memory) => memory_if(ran.stopped.is_none()),
+        Ok(files) => outcome_of(files, is_stopped(ran)),
+        Err(Memory) => memory_if(!is_stopped(ran)),
     }
 }
 

@@ -19,7 +19,10 @@ struct Parts<A: Allocator> {
 fn parts_of<A: Allocator + Copy>(alloc: A, layout: Layout<A>) -> Option<Parts<A>> {
     match rules(alloc, &layout) {
         Some(rules) => Some(Parts { layout, rules }),
-        None => None,
+        None => {
+            drop(layout);
+            None
+        }
     }
 }
 
@@ -52,16 +55,22 @@ fn made<A: Allocator + Copy>(
     {
         Some(Recorder::new(alloc, layout, limits, rules))
     } else {
+        drop(layout);
+        drop(rules);
         None
+    }
+}
+
+fn recorder_in<A: Allocator>(made: Option<Made<A>>) -> Option<Recorder<A>> {
+    match made {
+        Some(made) => made.ok(),
+        None => None,
     }
 }
 
 pub fn recorder_of<A: Allocator + Copy>(alloc: A, is_shared: bool) -> Option<Recorder<A>> {
     match make_parts(alloc) {
-        Some(of) => match made(alloc, of.layout, of.rules, is_shared) {
-            Some(Ok(recorder)) => Some(recorder),
-            _ => None,
-        },
+        Some(of) => recorder_in(made(alloc, of.layout, of.rules, is_shared)),
         None => None,
     }
 }
@@ -72,13 +81,23 @@ pub fn recorder<A: Allocator + Copy>(alloc: A) -> Option<Recorder<A>> {
 }
 
 fn is_made<A: Allocator>(made: Option<Made<A>>) -> bool {
-    match made {
-        Some(Ok(recorder)) => recorder.scans() == 0,
-        _ => false,
+    match recorder_in(made) {
+        Some(recorder) => {
+            let fresh = recorder.scans() == 0;
+            drop(recorder);
+            fresh
+        }
+        None => false,
     }
 }
 
-/// A recorder that is made. Where there is no memory for it its parts come back, and serve a second time.
+/// Parts that came back are as before, and serve a second time.
+fn serve_again<A: Allocator + Copy>(alloc: A, layout: Layout<A>, rules: Rules<A>) -> bool {
+    let before = is_the_layout(&layout) && are_the_rules(&rules);
+    is_made(made(alloc, layout, rules, true)) && before
+}
+
+/// A recorder that is made. Where there is no memory for it its parts come back.
 #[derive(Drop)]
 struct New<A: Allocator> {
     alloc: A,
@@ -93,11 +112,9 @@ impl<A: Allocator + Copy> Consuming for New<A> {
 
     fn call(&self, of: Parts<A>) -> Outcome {
         match made(self.alloc, of.layout, of.rules, true) {
-            Some(Err((Memory, layout, rules))) => memory_if(
-                is_the_layout(&layout)
-                    && are_the_rules(&rules)
-                    && is_made(made(self.alloc, layout, rules, true)),
-            ),
+            Some(Err((Memory, layout, rules))) => {
+                memory_if(serve_again(self.alloc, layout, rules))
+            }
             made => right_if(is_made(made)),
         }
     }
@@ -114,9 +131,16 @@ pub fn is_the_record<A: Allocator>(record: &Record<A>) -> bool {
     record.scans().len() == 5 && record.extent().first == 1
 }
 
+/// The same. It is let go.
+pub fn was_the_record<A: Allocator>(record: Record<A>) -> bool {
+    let right = is_the_record(&record);
+    drop(record);
+    right
+}
+
 pub fn gives_the_record<A: Allocator>(recorder: &mut Recorder<A>) -> bool {
     match recorder.take() {
-        Some(record) => is_the_record(&record),
+        Some(record) => was_the_record(record),
         None => false,
     }
 }

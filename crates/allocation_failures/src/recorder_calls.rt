@@ -3,7 +3,7 @@
 use crate::common::{Heap, scan};
 use crate::lost::{loses, loses_after_a_scan};
 use crate::recorder::{are_scanned, gives_the_record, is_scanned, opens, recorder_of};
-use crate::refusing::{Outcome, Trial, goes_on, memory_if, right_if};
+use crate::refusing::{Outcome, Trial, goes_on, memory_if, put_back, right_if};
 use crate::unshared::covers;
 use dfr_channels::Scan;
 use dfr_recorder::{Hit, Recorder, ScanRefusal, Scanned, TriggerFault};
@@ -38,7 +38,7 @@ impl<A: Allocator + Copy> Trial for Stepping<'_, A> {
             Some(scan) => match self.recorder.scan(scan) {
                 Ok(scanned) => right_if(is_answer(scanned, self.wanted)),
                 Err((fault, back)) => {
-                    self.next = Some(back);
+                    put_back(&mut self.next, back);
                     memory_if(fault == ScanRefusal::Memory && self.recorder.held() == held)
                 }
             },
@@ -53,7 +53,9 @@ fn scan_goes_on<'a>(heap: Heap<'a>, recorder: &mut Recorder<Heap<'a>>, wanted: W
         next: scan(heap, wanted.x, false),
         wanted,
     };
-    goes_on(heap, &mut stepping, Some(wanted.allocates))
+    let right = goes_on(heap, &mut stepping, Some(wanted.allocates));
+    drop(stepping);
+    right
 }
 
 const SCANS: [(i32, bool, Option<u64>, bool); 8] = [
@@ -81,6 +83,13 @@ fn scans_go_on<'a>(heap: Heap<'a>, recorder: &mut Recorder<Heap<'a>>) -> bool {
     all && gives_the_record(recorder)
 }
 
+fn takes_none<A: Allocator>(recorder: &mut Recorder<A>) -> bool {
+    let taken = recorder.take();
+    let none = taken.is_none();
+    drop(taken);
+    none
+}
+
 /// What doesn't allocate is answered while every allocation is refused.
 fn is_idle<'a>(
     heap: Heap<'a>,
@@ -89,9 +98,11 @@ fn is_idle<'a>(
     second: Option<Scan<Heap<'a>>>,
 ) -> bool {
     heap.refuse_all();
-    is_scanned(recorder, first)
-        && is_scanned(recorder, second)
-        && recorder.take().is_none()
+    let first = is_scanned(recorder, first);
+    let second = is_scanned(recorder, second);
+    first
+        && second
+        && takes_none(recorder)
         && recorder.trigger().err() == Some(TriggerFault::Memory)
         && !recorder.is_recording()
 }

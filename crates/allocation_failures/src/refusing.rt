@@ -59,6 +59,11 @@ pub fn noted(heap: Heap, seen: &mut Seen, outcome: Outcome) -> Option<bool> {
     Some(refused)
 }
 
+/// Puts what a call gave back where the next call takes it.
+pub fn put_back<T: Drop>(place: &mut Option<T>, back: T) {
+    *place = Some(back);
+}
+
 /// A call that can be made over and over.
 pub trait Trial {
     fn call(&mut self) -> Outcome;

@@ -62,7 +62,10 @@ fn with_steps<A: Allocator>(
 ) -> Option<Start<A>> {
     match steps {
         Some(steps) => Some(Start { recorder, steps }),
-        None => None,
+        None => {
+            drop(recorder);
+            None
+        }
     }
 }
 
@@ -71,6 +74,33 @@ pub fn make_start<A: Allocator + Copy>(alloc: A) -> Option<Start<A>> {
         Some(recorder) => with_steps(recorder, steps(alloc)),
         None => None,
     }
+}
+
+/// What a run answered. The rest of it is let go.
+pub fn answers_of<A: Allocator>(ran: Ran<A>) -> Vec<Answer<A>, A> {
+    let Ran {
+        recorder,
+        answers,
+        stopped,
+        rest,
+    } = ran;
+    drop(recorder);
+    drop(stopped);
+    drop(rest);
+    answers
+}
+
+fn recorder_in<A: Allocator>(ran: Ran<A>) -> Recorder<A> {
+    let Ran {
+        recorder,
+        answers,
+        stopped,
+        rest,
+    } = ran;
+    drop(answers);
+    drop(stopped);
+    drop(rest);
+    recorder
 }
 
 pub fn ran<A: Allocator + Copy>(alloc: A) -> Option<Ran<A>>
@@ -88,10 +118,14 @@ fn without_last<A: Allocator>(steps: VecDeque<Step<A>, A>) -> VecDeque<Step<A>, 
     steps
 }
 
+fn before_last<A: Allocator + Copy>(alloc: A, start: Start<A>) -> Ran<A> {
+    run(alloc, start.recorder, without_last(start.steps))
+}
+
 /// The recorder before the take: a record waits.
 pub fn closed<A: Allocator + Copy>(alloc: A) -> Option<Recorder<A>> {
     match make_start(alloc) {
-        Some(start) => Some(run(alloc, start.recorder, without_last(start.steps)).recorder),
+        Some(start) => Some(recorder_in(before_last(alloc, start))),
         None => None,
     }
 }
@@ -105,9 +139,11 @@ fn is_last<A: Allocator>(answers: &[Answer<A>]) -> bool {
 
 /// The run made the last of eight steps, of which others were made before.
 fn ends<A: Allocator>(ran: Ran<A>, before: usize) -> bool {
-    ran.stopped.is_none()
+    let right = ran.stopped.is_none()
         && ran.answers.len().checked_add(before) == Some(8)
-        && is_last(&ran.answers)
+        && is_last(&ran.answers);
+    drop(ran);
+    right
 }
 
 fn with_first<A: Allocator>(
@@ -130,8 +166,18 @@ fn is_ended<A: Allocator + Copy>(
 ) -> bool {
     match steps {
         Some(steps) => ends(run(alloc, recorder, steps), before),
-        None => false,
+        None => {
+            drop(recorder);
+            false
+        }
     }
+}
+
+/// The answers of all eight steps.
+fn are_all<A: Allocator>(answers: Vec<Answer<A>, A>) -> bool {
+    let all = answers.len() == 8 && is_last(&answers);
+    drop(answers);
+    all
 }
 
 /// A run. Where it is stopped it goes on from the step at which it was.
@@ -143,7 +189,15 @@ pub fn goes_on<A: Allocator + Copy>(alloc: A, of: Start<A>) -> Outcome {
         rest,
     } = run(alloc, of.recorder, of.steps);
     match stopped {
-        Some(step) => memory_if(is_ended(alloc, recorder, with_first(step, rest), answers.len())),
-        None => right_if(answers.len() == 8 && is_last(&answers)),
+        Some(step) => {
+            let before = answers.len();
+            drop(answers);
+            memory_if(is_ended(alloc, recorder, with_first(step, rest), before))
+        }
+        None => {
+            drop(recorder);
+            drop(rest);
+            right_if(are_all(answers))
+        }
     }
 }

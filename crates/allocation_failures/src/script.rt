@@ -9,13 +9,26 @@ use std::alloc::Allocator;
 
 /// The script says eight commands.
 fn is_the_script<A: Allocator>(script: Script<A>) -> bool {
-    script.commands.len() == 8 && script.rules.len() == 2 && has_the_layout(script)
+    let Script {
+        setup,
+        limits: _,
+        rules,
+        commands,
+    } = script;
+    let counts = commands.len() == 8 && rules.len() == 2;
+    drop(rules);
+    drop(commands);
+    has_the_layout(Layout::new(setup).ok()) && counts
 }
 
-fn has_the_layout<A: Allocator>(script: Script<A>) -> bool {
-    match Layout::new(script.setup) {
-        Ok(layout) => is_the_layout(&layout),
-        Err(_) => false,
+fn has_the_layout<A: Allocator>(layout: Option<Layout<A>>) -> bool {
+    match layout {
+        Some(layout) => {
+            let right = is_the_layout(&layout);
+            drop(layout);
+            right
+        }
+        None => false,
     }
 }
 
@@ -52,7 +65,10 @@ struct Faulty<'a, A: Allocator> {
 impl<A: Allocator + Copy> Trial for Faulty<'_, A> {
     fn call(&mut self) -> Outcome {
         match script_of(self.alloc, self.text) {
-            Ok(_) => Outcome::Wrong,
+            Ok(script) => {
+                drop(script);
+                Outcome::Wrong
+            }
             Err(ScriptRefusal::Memory) => Outcome::Memory,
             Err(ScriptRefusal::Fault(fault)) => right_if(fault == self.wanted),
         }

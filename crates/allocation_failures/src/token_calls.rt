@@ -1,7 +1,7 @@
 //! Calls of a token whose allocations are refused.
 
 use crate::common::Heap;
-use crate::recorder::is_the_record;
+use crate::recorder::was_the_record;
 use crate::refusing::{Outcome, Trial, goes_on, memory_if, right_if};
 use dfr_channels::Memory;
 use dfr_live::{End, Session, Shared, Token};
@@ -63,7 +63,7 @@ fn take<N: Session<A>, R: Wait, A: Allocator + Copy>(
 ) -> Outcome {
     let before = token.made().len();
     match shared.take(rt, token) {
-        Ok(Some(record)) => right_if(gives && is_the_record(&record)),
+        Ok(Some(record)) => right_if(was_the_record(record) && gives),
         Ok(None) => right_if(!gives),
         Err(Memory) => memory_if(token.made().len() == before),
     }

@@ -5,7 +5,9 @@ use crate::files::file;
 use crate::refusing::{Must, Outcome, Trial, memory_if, refuses, right_if};
 use crate::texts::{Pair, pair_in};
 use comtrade_read::read;
-use comtrade_write::{File, Kind, WriteFault, ascii_bytes, binary_bytes, cfg_bytes, dat_bytes};
+use comtrade_write::{
+    File, Head, Kind, WriteFault, ascii_bytes, binary_bytes, cfg_bytes, dat_bytes,
+};
 use dfr_channels::Items;
 use failing_allocator::Refusing;
 use std::alloc::Allocator;
@@ -151,20 +153,35 @@ const FOUR_ROWS: Pair = Pair {
     dat: b"1,0,11,0\r\n2,1000,12,0\r\n3,2000,13,0\r\n4,3000,14,0\r\n\x1A",
 };
 
+fn head_of<A: Allocator>(file: File<A>) -> Head<A> {
+    let File { head, rows } = file;
+    drop(rows);
+    head
+}
+
+fn rows_under<A: Allocator>(head: Head<A>, file: File<A>) -> File<A> {
+    let File { head: own, rows } = file;
+    drop(own);
+    File { head, rows }
+}
+
 /// The head of five rows over four.
-fn over_four<A: Allocator>(five: File<A>, four: Option<File<A>>) -> Option<File<A>> {
+fn over_four<A: Allocator>(five: Head<A>, four: Option<File<A>>) -> Option<File<A>> {
     match four {
-        Some(four) => Some(File {
-            head: five.head,
-            rows: four.rows,
-        }),
-        None => None,
+        Some(four) => Some(rows_under(five, four)),
+        None => {
+            drop(five);
+            None
+        }
     }
 }
 
 fn short<A: Allocator + Copy>(alloc: A) -> Option<File<A>> {
     match file(alloc, Kind::Ascii) {
-        Some(five) => over_four(five, read(alloc, FOUR_ROWS.cfg, FOUR_ROWS.dat).ok()),
+        Some(five) => over_four(
+            head_of(five),
+            read(alloc, FOUR_ROWS.cfg, FOUR_ROWS.dat).ok(),
+        ),
         None => None,
     }
 }
