@@ -84,7 +84,7 @@ fn put_reads<A: Allocator>(out: &mut Vec<u8, A>, notes: &[Note<A>]) -> Result<()
 }
 
 /// The line on a pair that has a fault, where `import` reads it, or where its text is of another kind.
-pub(crate) fn put_hint<A: Allocator + Copy>(
+pub fn put_hint<A: Allocator + Copy>(
     alloc: A,
     out: &mut Vec<u8, A>,
     pair: Pair<'_>,
