@@ -113,20 +113,7 @@ fn batches<N: Session<Global>, R: Wait + Clock + AllocGlobal>(
     Ok(())
 }
 
-fn with_tokens<N: Session<Global>, R: Wait + Clock + AllocGlobal>(
-    rt: &R,
-    (shared, source, tokens): (&Shared<N>, &mut Source<N>, &mut [Token]),
-    set: &[Scan],
-    runs: u32,
-    times: &mut Times,
-) -> Result<()> {
-    match tokens.first_mut() {
-        Some(token) => batches(rt, (shared, source, token), set, runs, times),
-        None => None.context("a token"),
-    }
-}
-
-/// One exit is left at which the lane's ends are alive; there they are let go by name.
+/// One exit is left at which the lane's ends are alive.
 fn named<N: Session<Global>, R: Wait + Clock + AllocGlobal>(
     rt: &R,
     opened: Opened,
@@ -138,11 +125,10 @@ fn named<N: Session<Global>, R: Wait + Clock + AllocGlobal>(
         × (opened.seats ≡ N.seats) }
 {
     let (shared, mut source, mut tokens) = opened.share::<N>();
-    let came = with_tokens(rt, (&shared, &mut source, &mut tokens), set, runs, times);
-    drop(tokens);
-    drop(source);
-    drop(shared);
-    came
+    match tokens.first_mut() {
+        Some(token) => batches(rt, (&shared, &mut source, token), set, runs, times),
+        None => None.context("a token"),
+    }
 }
 
 fn opened_of(alloc: Global, recorder: Recorder) -> Option<Opened> {
