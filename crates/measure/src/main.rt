@@ -11,7 +11,10 @@
 
 mod calls;
 mod live;
+mod maker;
+mod runner;
 mod soak;
+mod station;
 
 use anyhow::{Context, Result};
 use std::env;

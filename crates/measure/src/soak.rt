@@ -45,7 +45,7 @@ fn run<R: Wait + Threads + Sync + AllocGlobal>(
     };
     match plan.way {
         Way::Free | Way::Orderly => shared_run::run(rt, out, (&heap, &heap), given, plan),
-        Way::Station => station::run(rt, out, &heap, given, plan),
+        Way::Station => station::run(rt, out, (&heap, &heap), given, plan),
     }
     true
 }

@@ -73,3 +73,8 @@ impl Least {
 pub fn now<R: Clock>(rt: &R) -> io::Result<Instant> {
     Instant::now(rt)
 }
+
+/// What passed since a start; a start that failed is told only here, so that what is measured stands at no exit.
+pub fn since<R: Clock>(rt: &R, start: io::Result<Instant>) -> io::Result<Duration> {
+    start?.elapsed(rt)
+}

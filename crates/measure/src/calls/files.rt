@@ -2,11 +2,11 @@
 
 ghost use Rattle.std.specs.Prelude.{◌+◌, ◌<◌, length};
 
-use crate::calls::clock::{Amount, Least, now};
+use crate::calls::clock::{Amount, Least, now, since};
 use crate::calls::numbers::Numbers;
 use crate::calls::station::recorder;
 use anyhow::{Context, Result};
-use comtrade_read::{read_cfg, read_dat};
+use comtrade_read::{ReadFault, read_cfg, read_dat};
 use comtrade_write::{File, Head, Kind, cfg_bytes, dat_bytes, file_of};
 use dfr_recorder::{Record, Recorder};
 use std::alloc::Global;
@@ -29,14 +29,18 @@ fn record(alloc: Global, recorder: &mut Recorder, post: u32) -> Result<Record> {
     recorder.take().context("a closed record")
 }
 
+fn file_from(alloc: Global, recorder: &mut Recorder, post: u32, kind: Kind) -> Result<File> {
+    let record = record(alloc, recorder, post)?;
+    file_of(alloc, recorder.layout(), &record, kind)
+        .ok()
+        .context("a record of this layout")
+}
+
 /// The File of a record of so many scans.
 fn file(alloc: Global, rows: u32, kind: Kind) -> Result<File> {
     let post = rows.saturating_sub(1);
     let mut recorder = recorder(alloc, 0, post, 0)?;
-    let record = record(alloc, &mut recorder, post)?;
-    file_of(alloc, recorder.layout(), &record, kind)
-        .ok()
-        .context("a record of this layout")
+    file_from(alloc, &mut recorder, post, kind)
 }
 
 fn write_once<R: Clock + AllocGlobal>(rt: &R, file: &File, least: &mut Least) -> Result<()> {
@@ -45,6 +49,19 @@ fn write_once<R: Clock + AllocGlobal>(rt: &R, file: &File, least: &mut Least) ->
     least.add(start.elapsed(rt)?);
     drop(written);
     Ok(())
+}
+
+fn is_file(read: Result<File, (ReadFault, Head)>) -> bool {
+    match read {
+        Ok(file) => {
+            drop(file);
+            true
+        }
+        Err((_, head)) => {
+            drop(head);
+            false
+        }
+    }
 }
 
 /// Reads the data of a head, and drops the File after its time was taken.
@@ -56,12 +73,10 @@ fn read_rows<R: Clock + AllocGlobal>(
 ) -> Result<()>
     requires { length head.analog + length head.status < 1000000 }
 {
-    let start = now(rt)?;
+    let start = now(rt);
     let read = read_dat(rt.alloc(), head, dat);
-    let time = start.elapsed(rt);
-    let is_read = read.is_ok();
-    drop(read);
-    is_read.then_some(()).context("its own data")?;
+    let time = since(rt, start);
+    is_file(read).then_some(()).context("its own data")?;
     least.add(time?);
     Ok(())
 }
@@ -113,6 +128,27 @@ fn texts(alloc: Global, file: &File) -> Result<(Vec<u8>, Vec<u8>)> {
     Ok((cfg, dat))
 }
 
+fn measure_both<R: Clock + Print + AllocGlobal>(
+    rt: &R,
+    amount: Amount,
+    file: &File,
+    texts: (&[u8], &[u8]),
+    names: (&str, &str),
+) -> Result<()> {
+    measure_writing(rt, amount, file, names.0, texts.1.len() as u64)?;
+    measure_reading(rt, amount, texts, names.1)
+}
+
+fn measure_file<R: Clock + Print + AllocGlobal>(
+    rt: &R,
+    amount: Amount,
+    file: &File,
+    names: (&str, &str),
+) -> Result<()> {
+    let (cfg, dat) = texts(rt.alloc(), file)?;
+    measure_both(rt, amount, file, (&cfg, &dat), names)
+}
+
 fn measure_kind<R: Clock + Print + AllocGlobal>(
     rt: &R,
     amount: Amount,
@@ -120,9 +156,7 @@ fn measure_kind<R: Clock + Print + AllocGlobal>(
     names: (&str, &str),
 ) -> Result<()> {
     let file = file(rt.alloc(), amount.rows, kind)?;
-    let (cfg, dat) = texts(rt.alloc(), &file)?;
-    measure_writing(rt, amount, &file, names.0, dat.len() as u64)?;
-    measure_reading(rt, amount, (&cfg, &dat), names.1)
+    measure_file(rt, amount, &file, names)
 }
 
 pub fn measure<R: Clock + Print + AllocGlobal>(rt: &R, amount: Amount) -> Result<()> {

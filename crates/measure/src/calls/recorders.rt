@@ -1,6 +1,6 @@
 //! Scans of an idle recorder, of one with rules, and of one with a record open.
 
-use crate::calls::clock::{Amount, Least, now};
+use crate::calls::clock::{Amount, Least, now, since};
 use crate::calls::numbers::Numbers;
 use crate::calls::station::recorder;
 use anyhow::{Context, Result};
@@ -60,10 +60,21 @@ fn scan_all<R: Clock + AllocGlobal>(
     least: &mut Least,
 ) -> Result<()> {
     let scans = Numbers::new(1).scans(rt.alloc(), scans)?;
-    let start = now(rt)?;
+    let start = now(rt);
     feed(recorder, scans)?;
-    least.add(start.elapsed(rt)?);
+    least.add(since(rt, start)?);
     Ok(())
+}
+
+fn measure_recorder<R: Clock + AllocGlobal>(
+    rt: &R,
+    recorder: &mut Recorder,
+    scans: u32,
+    open: bool,
+    least: &mut Least,
+) -> Result<()> {
+    prepare(rt.alloc(), recorder, open)?;
+    scan_all(rt, recorder, scans, least)
 }
 
 fn measure_once<R: Clock + AllocGlobal>(
@@ -73,8 +84,7 @@ fn measure_once<R: Clock + AllocGlobal>(
     least: &mut Least,
 ) -> Result<()> {
     let mut recorder = recorder(rt.alloc(), RING - 1, 900_000, state.rules)?;
-    prepare(rt.alloc(), &mut recorder, state.open)?;
-    scan_all(rt, &mut recorder, scans, least)
+    measure_recorder(rt, &mut recorder, scans, state.open, least)
 }
 
 fn measure_state<R: Clock + Print + AllocGlobal>(

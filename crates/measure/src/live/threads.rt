@@ -1,12 +1,13 @@
 //! Three threads.
 
-use crate::live::station::recorder;
 use crate::live::times::{Amount, none, note, tell};
+use crate::runner::ran;
+use crate::station::recorder;
 use anyhow::{Context, Result};
 use comtrade_write::Kind;
 use dfr_channels::Scan;
-use dfr_live::{Fed, Feed, Order, Orders, Sink, run_live};
-use dfr_recorder::Extent;
+use dfr_live::{Fed, Feed, LiveFault, LiveReport, Order, Orders, Sink};
+use dfr_recorder::{Extent, Recorder};
 use std::alloc::{AllocGlobal, Global};
 use std::rt::Clock;
 use std::sync::Wait;
@@ -81,14 +82,13 @@ struct Run {
     scans: u64,
 }
 
-fn once<R: Wait + Threads + Sync + Clock + AllocGlobal>(
+/// Whether all went well.
+fn ran_well<R: Wait + Threads + Sync + AllocGlobal>(
     rt: &R,
-    text: &str,
+    recorder: Recorder,
     set: &[Scan],
     run: Run,
-    times: &mut Vec<u64>,
-) -> Result<()> {
-    let recorder = recorder(rt.alloc(), text).context("a recorder")?;
+) -> bool {
     let mut feed = Copies {
         set,
         at: 0,
@@ -100,20 +100,39 @@ fn once<R: Wait + Threads + Sync + Clock + AllocGlobal>(
         end: run.scans,
     };
     let mut sink = Bytes { bytes: 0 };
-    let start = Instant::now(rt)?;
-    let ran = run_live(
+    let how = (run.places, run.kind);
+    is_report(ran(
         rt,
         rt.alloc(),
         recorder,
-        run.places,
-        run.kind,
-        1_000_000_000,
+        how,
         &mut feed,
         &mut orders,
         &mut sink,
-    )
-    .is_ok();
-    note(times, start.elapsed(rt)?.as_nanos())?;
+    ))
+}
+
+fn is_report(came: std::result::Result<LiveReport, LiveFault>) -> bool {
+    match came {
+        Ok(report) => {
+            drop(report);
+            true
+        }
+        Err(_) => false,
+    }
+}
+
+fn once<R: Wait + Threads + Sync + Clock + AllocGlobal>(
+    rt: &R,
+    text: &str,
+    set: &[Scan],
+    run: Run,
+    times: &mut Vec<u64>,
+) -> Result<()> {
+    let recorder = recorder(rt.alloc(), text).context("a recorder")?;
+    let start = Instant::now(rt);
+    let ran = ran_well(rt, recorder, set, run);
+    note(times, start?.elapsed(rt)?.as_nanos())?;
     if ran { Ok(()) } else { None.context("a run") }
 }
 

@@ -2,9 +2,10 @@
 
 ghost use Rattle.std.specs.Prelude.{◌≡◌};
 
+use crate::maker::{layout_of, recorder_of};
 use dfr_channels::{Layout, Rule, Rules, Scan, Setup};
 use dfr_live::{Opened, Session, Token, open};
-use dfr_recorder::{Limits, Recorder};
+use dfr_recorder::Recorder;
 use dfr_script::{Command, LimitNumbers, Script, script_of};
 use std::alloc::Allocator;
 use std::collections::VecDeque;
@@ -43,55 +44,15 @@ pub struct Given<A: Allocator> {
 const WIDE: &[u8] =
     b"station W\ndevice W\nanalog a,,,V,1,0,0,-9,9,1,1,P\nanalog a,,,V,1,0,0,-9,9,1,1,P\nanalog a,,,V,1,0,0,-9,9,1,1,P\nanalog a,,,V,1,0,0,-9,9,1,1,P\nanalog a,,,V,1,0,0,-9,9,1,1,P\nanalog a,,,V,1,0,0,-9,9,1,1,P\nstatus s,,,0\nstatus s,,,0\nstatus s,,,0\nstatus s,,,0\nstatus s,,,0\nstatus s,,,0\nfreq 50\nrate 1\nstart 0\nlimits 0,1,2,1\ngo\n";
 
-fn wide<A: Allocator + Copy>(alloc: A) -> Option<Layout<A>> {
+fn wide_setup<A: Allocator + Copy>(alloc: A) -> Option<Setup<A>> {
     match script_of(alloc, WIDE) {
-        Ok(script) => Layout::new(script.setup).ok(),
+        Ok(script) => Some(script.setup),
         Err(_) => None,
     }
 }
 
-fn limits_of<A: Allocator>(layout: &Layout<A>, numbers: LimitNumbers) -> Option<Limits> {
-    let LimitNumbers {
-        pre,
-        post,
-        longest,
-        shelf,
-        unshared,
-    } = numbers;
-    let limits = Limits::new(layout, pre, post, longest, shelf).ok()?;
-    Some(if unshared { limits.unshared() } else { limits })
-}
-
-fn recorder_over<A: Allocator + Copy>(
-    alloc: A,
-    layout: Layout<A>,
-    limits: Limits,
-    list: Vec<Rule, A>,
-) -> Option<Recorder<A>> {
-    match Rules::new(&layout, list) {
-        Ok(rules) => {
-            if limits.fits(&layout) && rules.fits(&layout) {
-                return Recorder::new(alloc, layout, limits, rules).ok();
-            }
-            None
-        }
-        Err(_) => None,
-    }
-}
-
-fn recorder_of<A: Allocator + Copy>(
-    alloc: A,
-    setup: Setup<A>,
-    numbers: LimitNumbers,
-    list: Vec<Rule, A>,
-) -> Option<Recorder<A>> {
-    match Layout::new(setup) {
-        Ok(layout) => match limits_of(&layout, numbers) {
-            Some(limits) => recorder_over(alloc, layout, limits, list),
-            None => None,
-        },
-        Err(_) => None,
-    }
+fn wide<A: Allocator + Copy>(alloc: A) -> Option<Layout<A>> {
+    layout_of(wide_setup(alloc)?)
 }
 
 impl<A: Allocator> Lists<A> {
@@ -122,23 +83,48 @@ impl<A: Allocator> Lists<A> {
     }
 }
 
-fn lists_of<A: Allocator + Copy>(alloc: A, commands: Vec<Command<A>, A>) -> Option<Lists<A>> {
-    let wide = wide(alloc)?;
+fn put_all<A: Allocator>(
+    lists: &mut Lists<A>,
+    wide: &Layout<A>,
+    commands: Vec<Command<A>, A>,
+) -> bool {
+    let mut all = true;
+    for command in commands {
+        all = lists.put(wide, command) && all;
+    }
+    all
+}
+
+fn listed<A: Allocator + Copy>(
+    alloc: A,
+    wide: &Layout<A>,
+    commands: Vec<Command<A>, A>,
+) -> Option<Lists<A>> {
     let mut lists = Lists {
         samples: VecDeque::new(alloc),
         works: VecDeque::new(alloc),
     };
-    let mut all = true;
-    for command in commands {
-        all = lists.put(&wide, command) && all;
-    }
+    let all = put_all(&mut lists, wide, commands);
     all.then_some(lists)
+}
+
+fn lists_of<A: Allocator + Copy>(alloc: A, commands: Vec<Command<A>, A>) -> Option<Lists<A>> {
+    match wide(alloc) {
+        Some(wide) => listed(alloc, &wide, commands),
+        None => {
+            drop(commands);
+            None
+        }
+    }
 }
 
 fn with_lists<A: Allocator>(recorder: Recorder<A>, lists: Option<Lists<A>>) -> Option<Given<A>> {
     match lists {
         Some(lists) => Some(Given { recorder, lists }),
-        None => None,
+        None => {
+            drop(recorder);
+            None
+        }
     }
 }
 
@@ -152,7 +138,10 @@ pub fn given_of<A: Allocator + Copy>(alloc: A, script: Script<A>) -> Option<Give
     let lists = lists_of(alloc, commands);
     match recorder_of(alloc, setup, limits, rules) {
         Some(recorder) => with_lists(recorder, lists),
-        None => None,
+        None => {
+            drop(lists);
+            None
+        }
     }
 }
 
@@ -160,8 +149,10 @@ fn token_named<N: Session<A>, A: Allocator + Copy>(opened: Opened<A>) -> Option<
     requires { (opened.opening ≡ N.opening) × (opened.lane ≡ N.lane)
         × (opened.seats ≡ N.seats) }
 {
-    let (_, _, tokens) = opened.share::<N>();
-    tokens.into_iter().next()
+    let (shared, source, mut tokens) = opened.share::<N>();
+    drop(shared);
+    drop(source);
+    tokens.pop()
 }
 
 const ONE_SCAN: LimitNumbers = LimitNumbers {
@@ -173,19 +164,16 @@ const ONE_SCAN: LimitNumbers = LimitNumbers {
 };
 
 fn another<A: Allocator + Copy>(alloc: A) -> Option<Recorder<A>> {
-    match wide(alloc) {
-        Some(layout) => match limits_of(&layout, ONE_SCAN) {
-            Some(limits) => recorder_over(alloc, layout, limits, Vec::new(alloc)),
-            None => None,
-        },
-        None => None,
-    }
+    recorder_of(alloc, wide_setup(alloc)?, ONE_SCAN, Vec::new(alloc))
 }
 
 /// The token of another opening, of seat 0.
 pub fn stranger<A: Allocator + Copy>(alloc: A) -> Option<Token<A>> {
     match open(alloc, another(alloc)?, 1, 1) {
         Ok(opened) => token_named::<Brand, A>(opened),
-        Err(_) => None,
+        Err((_, recorder)) => {
+            drop(recorder);
+            None
+        }
     }
 }

@@ -88,6 +88,10 @@ pub fn run<A: Allocator + Copy + Send + Sync, R: Wait + Threads + Sync + AllocGl
     let Given { recorder, lists } = given;
     match open(alloc, recorder, plan.lane, plan.seats) {
         Ok(opened) => named::<Brand, A, R>(rt, out, (heap, alloc), opened, lists, plan),
-        Err((_, _)) => out.put("not opened\n"),
+        Err((_, recorder)) => {
+            drop(recorder);
+            drop(lists);
+            out.put("not opened\n");
+        }
     }
 }

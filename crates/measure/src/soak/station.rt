@@ -1,5 +1,6 @@
 //! `run_live` over a feed and a sink that pause and fail.
 
+use crate::runner::ran;
 use crate::soak::chance::Chance;
 use crate::soak::desk::Heap;
 use crate::soak::given::{Given, Lists, Sample, Work};
@@ -8,11 +9,9 @@ use crate::soak::out::Out;
 use crate::soak::plan::Plan;
 use crate::soak::told::put_ended;
 use comtrade_write::Kind;
-use dfr_live::{
-    EndFault, Fed, Feed, LiveFault, LiveReport, OpenFault, Order, Orders, Sink, run_live,
-};
+use dfr_live::{EndFault, Fed, Feed, LiveFault, LiveReport, OpenFault, Order, Orders, Sink};
 use dfr_recorder::{Extent, Recorder};
-use std::alloc::{AllocGlobal, Allocator};
+use std::alloc::{AllocGlobal, Allocator, Global};
 use std::collections::VecDeque;
 use std::sync::Wait;
 use std::thread::Threads;
@@ -172,55 +171,66 @@ fn refuse_by_chance(heap: Heap, plan: Plan) {
     heap.refuse(number);
 }
 
-fn live<'h, R: Wait + Threads + Sync>(
+#[derive(Drop)]
+struct Devices<A: Allocator> {
+    feed: Samples<A>,
+    orders: Works<A>,
+    sink: Slow,
+}
+
+fn devices_of<A: Allocator>(alloc: Global, lists: Lists<A>, plan: Plan) -> Devices<A> {
+    let Lists { samples, works } = lists;
+    Devices {
+        feed: Samples {
+            list: samples,
+            failing: Failing::of(plan, 11, plan.rounds),
+        },
+        orders: Works { list: works },
+        sink: Slow {
+            got: Vec::new(alloc),
+            failing: Failing::of(plan, 12, 8),
+        },
+    }
+}
+
+fn live<A: Allocator + Copy + Send + Sync, R: Wait + Threads + Sync>(
     rt: &R,
-    heap: Heap<'h>,
-    recorder: Recorder<Heap<'h>>,
+    alloc: A,
+    recorder: Recorder<A>,
     plan: Plan,
-    feed: &mut Samples<Heap<'h>>,
-    orders: &mut Works<Heap<'h>>,
-    sink: &mut Slow,
-) -> Report<Heap<'h>> {
-    refuse_by_chance(heap, plan);
-    run_live(
+    devices: &mut Devices<A>,
+) -> Report<A> {
+    ran(
         rt,
-        heap,
+        alloc,
         recorder,
-        plan.lane,
-        kind_of(plan),
-        1_000_000_000,
-        feed,
-        orders,
-        sink,
+        (plan.lane, kind_of(plan)),
+        &mut devices.feed,
+        &mut devices.orders,
+        &mut devices.sink,
     )
 }
 
-pub fn run<'h, R: Wait + Threads + Sync + AllocGlobal>(
+/// Made for any allocator: for this heap alone it would be dear to prove.
+pub fn run<A: Allocator + Copy + Send + Sync, R: Wait + Threads + Sync + AllocGlobal>(
     rt: &R,
     out: &mut Out,
-    heap: Heap<'h>,
-    given: Given<Heap<'h>>,
+    (heap, alloc): (Heap, A),
+    given: Given<A>,
     plan: Plan,
 ) {
     let Given { recorder, lists } = given;
-    let Lists { samples, works } = lists;
-    let mut feed = Samples {
-        list: samples,
-        failing: Failing::of(plan, 11, plan.rounds),
-    };
-    let mut orders = Works { list: works };
-    let mut sink = Slow {
-        got: Vec::new(rt.alloc()),
-        failing: Failing::of(plan, 12, 8),
-    };
-    let report = live(rt, heap, recorder, plan, &mut feed, &mut orders, &mut sink);
+    let mut devices = devices_of(rt.alloc(), lists, plan);
+    refuse_by_chance(heap, plan);
+    let report = live(rt, alloc, recorder, plan, &mut devices);
     let refused = heap.has_refused();
     heap.refuse_none();
     put_devices(
         out,
-        &sink.got,
-        (feed.failing.left, sink.failing.left),
+        &devices.sink.got,
+        (devices.feed.failing.left, devices.sink.failing.left),
         refused,
     );
+    drop(devices);
     put_report(out, report);
 }

@@ -100,6 +100,15 @@ fn put_waiting<A: Allocator + Copy>(out: &mut Out, record: &Record<A>) {
     out.put("\n");
 }
 
+fn put_recorder<A: Allocator + Copy>(out: &mut Out, recorder: &mut Recorder<A>) {
+    put_counts(out, recorder);
+    for _ in 0..recorder.waiting() {
+        if let Some(record) = recorder.take() {
+            put_waiting(out, &record);
+        }
+    }
+}
+
 /// The log, what is left, what the recorder counts, and the records that wait in it.
 pub fn put_ended<A: Allocator + Copy>(out: &mut Out, ended: Ended<A>) {
     for entry in &ended.log {
@@ -108,11 +117,7 @@ pub fn put_ended<A: Allocator + Copy>(out: &mut Out, ended: Ended<A>) {
     for item in &ended.left {
         put_left(out, item);
     }
-    let mut recorder = ended.recorder;
-    put_counts(out, &recorder);
-    for _ in 0..recorder.waiting() {
-        if let Some(record) = recorder.take() {
-            put_waiting(out, &record);
-        }
-    }
+    let mut ended = ended;
+    put_recorder(out, &mut ended.recorder);
+    drop(ended);
 }
