@@ -20,6 +20,7 @@ pub use fault::{ToolFault, fault_of};
 pub use input::read_up_to;
 pub use output::{flush_if_full, write_out};
 pub use records::{Next, Printed, next_record};
+pub use seen::seen_len;
 pub use text::{kind_name, put, put_count, put_number, put_quoted, put_safe, put_signed, put_with};
 pub use words::{
     Asked, Compared, Converted, Cursor, Form, Names, Part, Picture, Survey, View, Viewed,

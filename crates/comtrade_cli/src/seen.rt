@@ -68,7 +68,7 @@ fn front(text: &[u8], count: usize) -> &[u8]
 }
 
 /// How many bytes the first character of a text has, where these are UTF-8 and it is seen; else 0.
-pub(crate) fn seen_len(text: &[u8]) -> usize
+pub fn seen_len(text: &[u8]) -> usize
     ensures { result ≡ Safe.seen_len text.now }
 {
     if begins_seen(front(text, 1)) {

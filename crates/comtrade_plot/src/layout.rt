@@ -45,6 +45,18 @@ pub(crate) const TITLE: u32 = 210;
 /// How high a contact's bar is, with what is between two, where its name has one line.
 pub(crate) const CONTACT: u32 = 200;
 
+/// Where the character of UTF-8 begins that a byte belongs to.
+fn begin_of(name: &[u8], at: usize) -> usize {
+    let mut begin = at;
+    for _ in 0..3 {
+        match name.get(begin) {
+            Some(0x80..=0xBF) => begin = begin.saturating_sub(1),
+            _ => break,
+        }
+    }
+    begin
+}
+
 /// The first line of a name and what is left of it: it ends at a space of its last third, where there is one.
 pub(crate) fn first_line(name: &[u8]) -> (&[u8], &[u8]) {
     if name.len() <= LINE {
@@ -56,7 +68,7 @@ pub(crate) fn first_line(name: &[u8]) -> (&[u8], &[u8]) {
     };
     let at = match front.iter().rposition(|b| *b == b' ') {
         Some(space) if LINE * 2 / 3 <= space => space.saturating_add(1),
-        _ => LINE,
+        _ => begin_of(name, LINE),
     };
     match (name.get(..at), name.get(at..)) {
         (Some(line), Some(rest)) => (line, rest),

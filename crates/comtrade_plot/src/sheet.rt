@@ -1,6 +1,6 @@
 //! Text that is made piece by piece, and the parts of an SVG picture. An allocation that fails is kept in mind until the end.
 
-use comtrade_cli::{ToolFault, put, put_number, put_safe, put_signed, write_out};
+use comtrade_cli::{ToolFault, put, put_number, put_safe, put_signed, seen_len, write_out};
 use comtrade_format::put_decimal;
 use dfr_channels::Decimal;
 use std::alloc::{AllocError, Allocator};
@@ -13,6 +13,11 @@ fn hex_digit(n: u8) -> u8 {
     } else {
         b'a'.saturating_add(n.saturating_sub(10))
     }
+}
+
+/// Whether XML has a use of its own for a sign.
+fn is_xml_sign(b: u8) -> bool {
+    b == b'&' || b == b'<' || b == b'>' || b == b'"'
 }
 
 /// What was made so far, and whether an allocation failed on the way.
@@ -86,52 +91,76 @@ impl<A: Allocator> Sheet<A> {
         }
     }
 
-    fn xml_byte(&mut self, b: u8) {
+    /// A sign that XML has a use of its own for.
+    fn xml_sign(&mut self, b: u8) {
         match b {
             b'&' => self.text("&amp;"),
             b'<' => self.text("&lt;"),
             b'>' => self.text("&gt;"),
-            b'"' => self.text("&quot;"),
-            _ => {
-                let outcome = put_safe(&mut self.bytes, &[b]);
-                self.keep(outcome);
-            }
+            _ => self.text("&quot;"),
         }
     }
 
-    /// A text of a file, as printable characters of XML.
+    /// A text of a file, as characters of XML that are seen.
     pub(crate) fn name(&mut self, text: &[u8]) {
-        for b in text {
-            self.xml_byte(*b);
+        let mut left = text;
+        for _ in 0..=text.len() {
+            let at = left.iter().position(|b| is_xml_sign(*b));
+            let (front, rest) = left
+                .split_at_checked(at.unwrap_or(left.len()))
+                .unwrap_or((left, &[]));
+            let outcome = put_safe(&mut self.bytes, front);
+            self.keep(outcome);
+            let Some((sign, more)) = rest.split_first() else {
+                return;
+            };
+            self.xml_sign(*sign);
+            left = more;
         }
+    }
+
+    /// Bytes as they are.
+    fn raw(&mut self, bytes: &[u8]) {
+        let outcome = self.bytes.extend_from_slice(bytes);
+        self.keep(outcome);
     }
 
     fn json_byte(&mut self, b: u8) {
         match b {
             b'"' | b'\\' | b'<' | b'&' | 0..=31 | 127..=255 => {
-                let digits = [
+                self.raw(&[
                     b'\\',
                     b'u',
                     b'0',
                     b'0',
                     hex_digit(b / 16),
                     hex_digit(b % 16),
-                ];
-                let outcome = self.bytes.extend_from_slice(&digits);
-                self.keep(outcome);
+                ]);
             }
-            _ => {
-                let outcome = self.bytes.extend_from_slice(&[b]);
-                self.keep(outcome);
-            }
+            _ => self.raw(&[b]),
         }
     }
 
-    /// A text of a file as one of JSON, which can stand in a page.
+    /// The first character of a text where it has several bytes and is seen, else its first byte; and what is left of it.
+    fn json_front<'a>(&mut self, text: &'a [u8]) -> &'a [u8] {
+        let count = seen_len(text).max(1);
+        let (front, rest) = text.split_at_checked(count).unwrap_or((text, &[]));
+        match front {
+            [b] => self.json_byte(*b),
+            _ => self.raw(front),
+        }
+        rest
+    }
+
+    /// A text of a file as one of JSON, which can stand in a page: a byte of no character that is seen as the letter of Latin-1.
     pub(crate) fn json(&mut self, text: &[u8]) {
         self.text("\"");
-        for b in text {
-            self.json_byte(*b);
+        let mut left = text;
+        for _ in 0..text.len() {
+            if left.is_empty() {
+                break;
+            }
+            left = self.json_front(left);
         }
         self.text("\"");
     }
