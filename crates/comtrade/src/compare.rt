@@ -1,6 +1,6 @@
 //! `comtrade compare`: two records in one picture.
 
-use crate::load::{file_in, pair_of, read_pair};
+use crate::load::{file_spelled, pair_of, read_pair};
 use crate::survey::say_repairs;
 use crate::view::{NO_SIZE, options_of, put_part_fault};
 use crate::{complain, note_size, say};
@@ -78,19 +78,20 @@ fn file_of<R: Files + Input + Eprint + AllocGlobal + Clone + Drop>(
     rt: &R,
     is_watched: bool,
     name: &str,
-    is_strict: bool,
+    part: Part<'_>,
 ) -> Result<Option<File>, ToolFault> {
     let names = Names {
         file: name,
         dat: None,
     };
-    let Some(inputs) = read_pair(rt, names, is_strict) else {
+    let Some(inputs) = read_pair(rt, names, part.strict) else {
         return Ok(None);
     };
     say_repairs(rt, name, &inputs.said)?;
     note_size(rt, is_watched, &inputs);
     let mut said = Vec::new(rt.alloc());
-    let file = file_in(rt.alloc(), pair_of(&inputs), is_strict, &mut said)?;
+    let pair = pair_of(&inputs);
+    let file = file_spelled(rt.alloc(), pair, part.strict, part.encoding, &mut said)?;
     match file {
         Some(file) => {
             say_repairs(rt, name, &said)?;
@@ -110,7 +111,7 @@ fn record_of<R: Files + Input + Eprint + AllocGlobal + Clone + Drop>(
     name: &str,
     part: Part<'_>,
 ) -> Result<Option<Taken>, ToolFault> {
-    let Some(file) = file_of(rt, is_watched, name, part.strict)? else {
+    let Some(file) = file_of(rt, is_watched, name, part)? else {
         return Ok(None);
     };
     let mut said = Vec::new(rt.alloc());

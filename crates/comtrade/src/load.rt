@@ -7,6 +7,7 @@ use comtrade_cli::{Names, ToolFault, put, put_safe};
 use comtrade_diagnostics::{Pair, put_fault};
 use comtrade_format::File;
 use comtrade_import::{Choices, ImportFault, Imported, Note, import, import_single};
+use comtrade_part::{Encoding, spell_in_utf8};
 use comtrade_read::{Fault, Part, ReadFault, read};
 use std::alloc::{AllocError, Allocator};
 use std::rt::Files;
@@ -196,7 +197,7 @@ fn loose_file<A: Allocator + Copy>(
 
 /// The file that a pair reads to: exactly, or where the exact reader refuses it and `is_strict` isn't asked for, as `import` reads it. What
 /// is said of it is put to `said`: each repair, a line each, or of None why it can't be read.
-pub(crate) fn file_in<A: Allocator + Copy>(
+fn file_in<A: Allocator + Copy>(
     alloc: A,
     pair: Pair<'_>,
     is_strict: bool,
@@ -213,4 +214,26 @@ pub(crate) fn file_in<A: Allocator + Copy>(
             Ok(None)
         }
     }
+}
+
+/// Why texts aren't spelled so.
+pub(crate) const NO_ENCODING: &str = "comtrade: an encoding is utf-8 or latin1\n";
+
+/// The file that a pair reads to, as `file_in`, with its texts in UTF-8; None also where no encoding is called so, which is put to `said`.
+pub(crate) fn file_spelled<A: Allocator + Copy>(
+    alloc: A,
+    pair: Pair<'_>,
+    is_strict: bool,
+    encoding: Option<&str>,
+    said: &mut Vec<u8, A>,
+) -> Result<Option<File<A>>, ToolFault> {
+    let Some(encoding) = Encoding::named(encoding) else {
+        put(said, NO_ENCODING)?;
+        return Ok(None);
+    };
+    let mut found = file_in(alloc, pair, is_strict, said)?;
+    if let Some(file) = &mut found {
+        spell_in_utf8(alloc, file, encoding)?;
+    }
+    Ok(found)
 }

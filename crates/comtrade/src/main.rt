@@ -204,7 +204,9 @@ fn run<R: Files + Input + Print + Eprint + AllocGlobal + Clone + Drop>(
         Asked::Convert(made) => run_convert(rt, is_watched, made),
         Asked::Compare(made) => run_compare(rt, is_watched, made),
         Asked::Extract(folder) => run_extract(rt, folder),
-        Asked::Survey(survey, json, names) => run_survey(rt, survey, json, &names),
+        Asked::Survey(survey, json, encoding, names) => {
+            run_survey(rt, survey, json, encoding, &names)
+        }
     }
 }
 

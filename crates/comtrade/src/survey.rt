@@ -1,10 +1,11 @@
 //! The commands over many pairs.
 
-use crate::load::{Inputs, file_in, pair_of, read_pair};
+use crate::load::{Inputs, NO_ENCODING, file_spelled, pair_of, read_pair};
 use crate::{complain, is_folder, print_bytes, say};
 use comtrade_cli::{Names, Survey, ToolFault, fault_of, put, put_safe};
 use comtrade_diagnostics::{Pair, put_remarks};
 use comtrade_format::File;
+use comtrade_part::Encoding;
 use comtrade_views::{
     Event, Summary, add_events, fault_summary, put_events, put_events_json, put_summaries,
     put_summaries_json, sort_events, sort_summaries, summary_of,
@@ -146,10 +147,17 @@ fn put_oddities(
     Ok(())
 }
 
+/// What is asked of each record, and how its texts are spelled.
+#[derive(Clone, Copy)]
+struct Asked<'a> {
+    survey: Survey,
+    encoding: Option<&'a str>,
+}
+
 /// Adds one pair that was read.
 fn add_pair<R: AllocGlobal + Eprint>(
     rt: &R,
-    survey: Survey,
+    asked: Asked<'_>,
     found: &mut Found,
     inputs: &Inputs,
     name: &str,
@@ -157,7 +165,8 @@ fn add_pair<R: AllocGlobal + Eprint>(
     let alloc = rt.alloc();
     let mut said = Vec::new(alloc);
     say_repairs(rt, name, &inputs.said)?;
-    match file_in(alloc, pair_of(inputs), false, &mut said)? {
+    let survey = asked.survey;
+    match file_spelled(alloc, pair_of(inputs), false, asked.encoding, &mut said)? {
         Some(file) => {
             put_oddities(alloc, survey, &mut said, pair_of(inputs), &file)?;
             say_repairs(rt, name, &said)?;
@@ -179,7 +188,7 @@ fn add_pair<R: AllocGlobal + Eprint>(
 /// Reads each pair, one after the other.
 fn add_pairs<R: Files + Input + Eprint + AllocGlobal + Clone + Drop>(
     rt: &R,
-    survey: Survey,
+    asked: Asked<'_>,
     found: &mut Found,
     pairs: &[String],
 ) -> Result<(), ToolFault> {
@@ -189,7 +198,7 @@ fn add_pairs<R: Files + Input + Eprint + AllocGlobal + Clone + Drop>(
             dat: None,
         };
         match read_pair(rt, name, false) {
-            Some(inputs) => add_pair(rt, survey, found, &inputs, pair.as_str())?,
+            Some(inputs) => add_pair(rt, asked, found, &inputs, pair.as_str())?,
             None => found.is_sound = false,
         }
     }
@@ -232,7 +241,7 @@ fn text_of<R: AllocGlobal>(
 
 fn survey_pairs<R: Files + Input + Eprint + AllocGlobal + Clone + Drop>(
     rt: &R,
-    survey: Survey,
+    asked: Asked<'_>,
     json: bool,
     pairs: &[String],
 ) -> Result<(Vec<u8>, bool), ToolFault> {
@@ -242,8 +251,8 @@ fn survey_pairs<R: Files + Input + Eprint + AllocGlobal + Clone + Drop>(
         names: Vec::new(rt.alloc()),
         is_sound: true,
     };
-    add_pairs(rt, survey, &mut found, pairs)?;
-    let text = text_of(rt, survey, json, &mut found)?;
+    add_pairs(rt, asked, &mut found, pairs)?;
+    let text = text_of(rt, asked.survey, json, &mut found)?;
     Ok((text, found.is_sound))
 }
 
@@ -252,12 +261,18 @@ pub(crate) fn run_survey<R: Files + Input + Print + Eprint + AllocGlobal + Clone
     rt: &R,
     survey: Survey,
     json: bool,
+    encoding: Option<&str>,
     names: &[&str],
 ) -> u8 {
+    if Encoding::named(encoding).is_none() {
+        say(rt, NO_ENCODING.as_bytes());
+        return 1;
+    }
     let Ok(pairs) = pairs_of(rt, names) else {
         return 1;
     };
-    match survey_pairs(rt, survey, json, &pairs) {
+    let asked = Asked { survey, encoding };
+    match survey_pairs(rt, asked, json, &pairs) {
         Ok((text, is_sound)) => {
             let status = print_bytes(rt, &text);
             if is_sound { status } else { 1 }

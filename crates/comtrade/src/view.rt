@@ -1,6 +1,6 @@
 //! What is said of a pair of files.
 
-use crate::load::file_in;
+use crate::load::file_spelled;
 use crate::measure::measure_over;
 use comtrade_check::check_over;
 use comtrade_cli::{Part, Picture, ToolFault, View, Viewed, put, put_safe, write_out};
@@ -161,11 +161,11 @@ fn verdict_json(alloc: Global, is_sound: bool, text: &[u8]) -> Result<Vec<u8>, A
 fn file_to_view(
     alloc: Global,
     view: View,
-    is_strict: bool,
+    part: Part<'_>,
     pair: Pair<'_>,
     said: &mut Vec<u8>,
 ) -> Result<Option<File>, ToolFault> {
-    let found = file_in(alloc, pair, is_strict, said)?;
+    let found = file_spelled(alloc, pair, part.strict, part.encoding, said)?;
     if let Some(file) = &found
         && view == View::Show
         && said.is_empty()
@@ -201,7 +201,7 @@ pub(crate) fn view_over<W: Write>(
         options,
         json: viewed.json,
     };
-    let Some(file) = file_to_view(alloc, view, viewed.part.strict, pair, said)? else {
+    let Some(file) = file_to_view(alloc, view, viewed.part, pair, said)? else {
         return Ok(false);
     };
     let times = times_since_trigger(alloc, &file)?;

@@ -1,6 +1,6 @@
 //! Writing pairs of files that are not there yet.
 
-use crate::load::{Inputs, file_in, pair_of, read_pair};
+use crate::load::{Inputs, file_spelled, pair_of, read_pair};
 use crate::view::put_part_fault;
 use crate::{complain, note_size, out_of_memory, say};
 use comtrade_cli::{Converted, ToolFault, fault_of, put_safe, write_out};
@@ -134,7 +134,8 @@ fn convert_part<R: Files + Eprint + AllocGlobal>(
     inputs: &Inputs,
 ) -> u8 {
     let mut said = Vec::new(rt.alloc());
-    match file_in(rt.alloc(), pair_of(inputs), asked.part.strict, &mut said) {
+    let (pair, part) = (pair_of(inputs), asked.part);
+    match file_spelled(rt.alloc(), pair, part.strict, part.encoding, &mut said) {
         Ok(Some(file)) => {
             say(rt, &said);
             write_part(rt, asked, &file)
@@ -204,7 +205,7 @@ pub(crate) fn run_convert<R: Files + Input + Eprint + AllocGlobal + Clone + Drop
     };
     say(rt, &inputs.said);
     note_size(rt, is_watched, &inputs);
-    if is_whole(asked.part) {
+    if is_whole(asked.part) && asked.part.encoding.is_none() {
         convert_whole(rt, asked, &inputs)
     } else {
         convert_part(rt, asked, &inputs)

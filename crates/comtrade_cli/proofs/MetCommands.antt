@@ -108,28 +108,28 @@ no_view r v none (asks.View w viewed) h = none viewed.names h.1.names
 no_view r v none (asks.Convert made) h = view_isnt_convert v (sym h.0)
 no_view r v none (asks.Compare made) h = view_isnt_compare v (sym h.0)
 no_view r v none (asks.Extract folder) h = view_isnt_extract v (sym h.0)
-no_view r v none (asks.Survey s json surveyed) h = survey_isnt_view s v h.0
+no_view r v none (asks.Survey s json encoding surveyed) h = survey_isnt_view s v h.0
 
 pub no_convert : (r : List Row) → ((made : Converted) → IsConverted r made → ⊥) → FitsNothing (Asks r (codes "convert"))
 no_convert r none (asks.View w viewed) h = view_isnt_convert w h.0
 no_convert r none (asks.Convert made) h = none made h.1
 no_convert r none (asks.Compare made) h = compare_isnt_convert h.0
 no_convert r none (asks.Extract folder) h = extract_isnt_convert h.0
-no_convert r none (asks.Survey s json surveyed) h = survey_isnt_convert s h.0
+no_convert r none (asks.Survey s json encoding surveyed) h = survey_isnt_convert s h.0
 
 pub no_compare : (r : List Row) → ((made : Compared) → IsCompared r made → ⊥) → FitsNothing (Asks r (codes "compare"))
 no_compare r none (asks.View w viewed) h = view_isnt_compare w h.0
 no_compare r none (asks.Convert made) h = compare_isnt_convert (sym h.0)
 no_compare r none (asks.Compare made) h = none made h.1
 no_compare r none (asks.Extract folder) h = extract_isnt_compare h.0
-no_compare r none (asks.Survey s json surveyed) h = survey_isnt_compare s h.0
+no_compare r none (asks.Survey s json encoding surveyed) h = survey_isnt_compare s h.0
 
 pub no_extract : (r : List Row) → None ≡ first_of (codes "DIR") r → FitsNothing (Asks r (codes "extract"))
 no_extract r none (asks.View w viewed) h = view_isnt_extract w h.0
 no_extract r none (asks.Convert made) h = extract_isnt_convert (sym h.0)
 no_extract r none (asks.Compare made) h = extract_isnt_compare (sym h.0)
 no_extract r none (asks.Extract folder) h = absurd (let e = none ∙ h.1 in cc)
-no_extract r none (asks.Survey s json surveyed) h = survey_isnt_extract s h.0
+no_extract r none (asks.Survey s json encoding surveyed) h = survey_isnt_extract s h.0
 
 -- nor where no command has the name
 pub no_command : (r : List Row) (verb : Text) → ((v : View) → view_name v ≡ verb → ⊥) → ((s : Survey) → survey_name s ≡ verb → ⊥)
@@ -138,7 +138,7 @@ no_command r verb view survey convert compare extract (asks.View w viewed) h = v
 no_command r verb view survey convert compare extract (asks.Convert made) h = convert h.0
 no_command r verb view survey convert compare extract (asks.Compare made) h = compare h.0
 no_command r verb view survey convert compare extract (asks.Extract folder) h = extract h.0
-no_command r verb view survey convert compare extract (asks.Survey s json surveyed) h = survey s h.0
+no_command r verb view survey convert compare extract (asks.Survey s json encoding surveyed) h = survey s h.0
 
 -- a name and rows that are those of what a parse met
 pair : (o : Option (Text × List Row)) (verb : Text) (r : List Row) → Some verb ≡ option_map (λ p. p.0) o → Some r ≡ option_map (λ p. p.1) o → o ≡ Some (verb, r)

@@ -50,6 +50,7 @@ pub record ArePart (rows : List Row) (part : Part) : Type 0 where
   pub primary : IsFlag rows (codes "primary") part.primary
   pub secondary : IsFlag rows (codes "secondary") part.secondary
   pub strict : IsFlag rows (codes "strict") part.strict
+  pub encoding : IsOption rows (codes "encoding") part.encoding
 
 -- how a table of values is written
 pub record AreForm (rows : List Row) (form : Form) : Type 0 where
@@ -118,7 +119,8 @@ Asks rows verb (asks.View v viewed) = (view_name v ≡ verb) × IsViewed rows vi
 Asks rows verb (asks.Convert made) = (codes "convert" ≡ verb) × IsConverted rows made
 Asks rows verb (asks.Compare made) = (codes "compare" ≡ verb) × IsCompared rows made
 Asks rows verb (asks.Extract folder) = (codes "extract" ≡ verb) × (first_of (codes "DIR") rows ≡ Some folder.now)
-Asks rows verb (asks.Survey s json names) = (survey_name s ≡ verb) × IsFlag rows (codes "json") json × AreAll rows (map (λ s. s.now) names.items)
+Asks rows verb (asks.Survey s json encoding names) = (survey_name s ≡ verb) × IsFlag rows (codes "json") json
+    × IsOption rows (codes "encoding") encoding × AreAll rows (map (λ s. s.now) names.items)
 
 -- the same, of a command that a parse met
 abbrev pub AsksAs : Option (Text × List Row) → Asked → Type 0

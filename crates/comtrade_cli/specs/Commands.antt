@@ -35,11 +35,15 @@ kind_word kinds = record (word (codes "KIND")) {
   parser = Some (Names kinds);
 }
 
+-- how texts are spelled
+abbrev pub with_encoding : App → App
+with_encoding a = with_rule a (option (codes "encoding"))
+
 -- which part of a record is meant, on which side, and how its files are read
 abbrev pub with_part : App → App
-with_part a = with_rule (with_rule (with_rule (with_rule (with_rule (with_rule (with_rule a
+with_part a = with_encoding (with_rule (with_rule (with_rule (with_rule (with_rule (with_rule (with_rule a
     (option (codes "from"))) (option (codes "to"))) (option (codes "channels")))
-    (flag (codes "changed"))) (flag (codes "primary"))) (flag (codes "secondary"))) (flag (codes "strict"))
+    (flag (codes "changed"))) (flag (codes "primary"))) (flag (codes "secondary"))) (flag (codes "strict")))
 
 -- how a picture is drawn
 abbrev pub with_picture : App → App
@@ -100,7 +104,7 @@ abbrev pub named : Text → App
 named name = with_rule (new_app name) (words (codes "NAMES"))
 
 abbrev pub over_names : Text → App
-over_names name = with_json (named name)
+over_names name = with_encoding (with_json (named name))
 
 abbrev pub list : App
 list = over_names (codes "list")

@@ -163,7 +163,12 @@ fn surveyed_of<'a>(
     ensures { IfOk result (Asks (rows_of (found_of found.now)) (Spec.survey_name survey)) }
 {
     let names = texts_of(alloc, found, "NAMES")?;
-    Ok(Asked::Survey(survey, is_set(found, "json"), names))
+    Ok(Asked::Survey(
+        survey,
+        is_set(found, "json"),
+        text_of(found, "encoding"),
+        names,
+    ))
 }
 
 /// What a command's matches ask for.

@@ -7,8 +7,8 @@ ghost use Rattle.comtrade_cli.specs.Commands.{IsCommand, IsKinded};
 ghost use Rattle.comtrade_cli.specs.Commands as Spec;
 
 use crate::options::{
-    free_word, option, with, with_cursor, with_json, with_part, with_picture, with_table, word,
-    words,
+    free_word, option, with, with_cursor, with_encoding, with_json, with_part, with_picture,
+    with_table, word, words,
 };
 use clap::Command;
 use std::alloc::{AllocError, Global};
@@ -195,7 +195,8 @@ fn over_names<'a>(alloc: Global, name: &'a str, about: &'a str) -> Result<Comman
     ensures { IfOk result (IsCommand (Spec.over_names name.entry.now)) }
 {
     let named = named(alloc, name, about)?;
-    with_json(alloc, named)
+    let json = with_json(alloc, named)?;
+    with_encoding(alloc, json)
 }
 
 fn list<'a>(alloc: Global) -> Result<Command<'a>, AllocError>

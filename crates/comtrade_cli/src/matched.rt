@@ -78,6 +78,7 @@ pub(crate) fn part_of<'a>(found: &ArgMatches<'a>) -> Part<'a>
         primary: is_set(found, "primary"),
         secondary: is_set(found, "secondary"),
         strict: is_set(found, "strict"),
+        encoding: text_of(found, "encoding"),
     }
 }
 

@@ -65,6 +65,17 @@ pub(crate) fn with<'a>(command: Command<'a>, arg: Arg<'a>) -> Result<Command<'a>
     command.arg(arg)
 }
 
+/// How texts are spelled.
+pub(crate) fn with_encoding<'a>(
+    alloc: Global,
+    command: Command<'a>,
+) -> Result<Command<'a>, AllocError>
+    ensures { (a : App) → IsCommand a command.entry → IfOk result (IsCommand (Spec.with_encoding a)) }
+{
+    let help = "How names are spelled that aren't ASCII: utf-8, or latin1";
+    with(command, option(alloc, "encoding", "NAME", help))
+}
+
 /// Which part of a record is meant.
 pub(crate) fn with_part<'a>(alloc: Global, command: Command<'a>) -> Result<Command<'a>, AllocError>
     ensures { (a : App) → IsCommand a command.entry → IfOk result (IsCommand (Spec.with_part a)) }
@@ -91,7 +102,7 @@ pub(crate) fn with_part<'a>(alloc: Global, command: Command<'a>) -> Result<Comma
     )?;
     let strict = "Only files of 1999 as the standard spells them, nothing repaired";
     let seven = with(six, flag(alloc, "strict", strict))?;
-    Ok(seven)
+    with_encoding(alloc, seven)
 }
 
 /// How a picture is drawn.

@@ -27,6 +27,8 @@ pub struct Part<'a> {
     pub secondary: bool,
     /// Only files of 1999, as the standard spells them.
     pub strict: bool,
+    /// How names are spelled that aren't ASCII.
+    pub encoding: Option<&'a str>,
 }
 
 /// How a table of values is written, as texts that are not parsed yet.
@@ -129,5 +131,5 @@ pub enum Asked<'a> {
     /// The pairs that a replay printed, into a folder.
     Extract(&'a str),
     /// What is in many pairs: those of these names, and those in folders of these names; as JSON where that is asked for.
-    Survey(Survey, bool, Vec<&'a str>),
+    Survey(Survey, bool, Option<&'a str>, Vec<&'a str>),
 }

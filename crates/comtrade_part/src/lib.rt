@@ -1,7 +1,9 @@
-//! A part of a record: rows from one moment to another, channels by their names, values of one side of the transformers.
+//! A part of a record: rows from one moment to another, channels by their names, values of one side of the transformers; and how its
+//! texts are spelled.
 #![tactic(auto)]
 
 mod cut;
+mod encoding;
 mod fault;
 mod moment;
 mod names;
@@ -9,5 +11,6 @@ mod part;
 mod rows;
 mod side;
 
+pub use encoding::{Encoding, spell_in_utf8};
 pub use fault::PartFault;
 pub use part::{Cut, is_whole, part_of};

@@ -8,4 +8,5 @@ returns c = λ a is_command.
     let four = c.in_ok-four.ensures _ _ three c.flag.ensures.rule c.flag.ensures.local in
     let five = c.in_ok-five.ensures _ _ four c.flag-2.ensures.rule c.flag-2.ensures.local in
     let six = c.in_ok-six.ensures _ _ five c.flag-3.ensures.rule c.flag-3.ensures.local in
-    c.in_ok-seven.ensures _ _ six c.flag-4.ensures.rule c.flag-4.ensures.local
+    let seven = c.in_ok-seven.ensures _ _ six c.flag-4.ensures.rule c.flag-4.ensures.local in
+    c.with_encoding.ensures _ seven
