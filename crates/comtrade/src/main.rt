@@ -32,8 +32,8 @@ use std::process::ExitCode;
 use std::rt::Files;
 use std::{fs, io};
 
-/// The most bytes of a file that is read: 1 GiB.
-const LIMIT: usize = 1_073_741_824;
+/// The most bytes of a file that is read: 512 MiB.
+const LIMIT: usize = 536_870_912;
 
 /// A pair of so many bytes may last over a second.
 const LONG: usize = 32_000_000;

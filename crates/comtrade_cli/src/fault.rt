@@ -34,7 +34,7 @@ pub enum ToolFault {
     #[error("can't be read")]
     Input,
     /// More came than is read.
-    #[error("is longer than 1073741824 bytes")]
+    #[error("is longer than 536870912 bytes")]
     Long,
     /// A file that was begun is taken away again, since its pair isn't whole.
     #[error("is removed again, since its pair can't be written whole")]

@@ -18,8 +18,8 @@ use std::sync::Wait;
 use std::thread::Threads;
 use std::time::Clock;
 
-/// The most bytes of a set-up file: 1 GiB.
-const LIMIT: usize = 1_073_741_824;
+/// The most bytes of a set-up file: 512 MiB.
+const LIMIT: usize = 536_870_912;
 
 /// A set-up that was judged.
 #[derive(Drop)]
