@@ -17,19 +17,26 @@ fn rows<A: Allocator + Copy>(alloc: A, n: u8) -> Result<Vec<Vec<u8, A>, A>, Allo
     Ok(all)
 }
 
+/// How many rows were made of nine.
+fn count<A: Allocator + Copy>(alloc: A) -> Option<usize> {
+    match rows(alloc, 9) {
+        Ok(all) => Some(all.len()),
+        Err(_) => None,
+    }
+}
+
 #[test]
 fn refuses_each_in_turn(rt: HostRuntime) -> Result<(), Fail> {
     let heap = Refusing::new(rt.alloc());
     let mut met = 0u64;
     for n in 1..1000u64 {
         heap.refuse(n);
-        let result = rows(&heap, 9);
+        let made = count(&heap);
         if heap.has_refused() {
-            assert!(rt; result.is_err(), "refused {n}");
+            assert_eq!(rt; made, None, "refused {n}");
             met = n;
         } else {
-            let all = result?;
-            assert_eq!(rt; all.len(), 9);
+            assert_eq!(rt; made, Some(9));
             break;
         }
     }
@@ -51,14 +58,20 @@ fn both<R: Threads + Wait + Sync, A: Allocator + Copy + Send + Sync>(
     a && b
 }
 
+fn len_of<A: Allocator>(list: Mutex<Vec<u64, A>>) -> usize {
+    list.into_inner().len()
+}
+
 #[test]
 fn refuses_in_a_thread(rt: HostRuntime) -> Result<(), Fail> {
     let heap = Refusing::new(rt.alloc());
     let list: Mutex<Vec<u64, &Refusing<Global>>> = Mutex::new(Vec::new(&heap));
     heap.refuse(1);
-    assert!(rt; !both(&rt, &list));
-    assert!(rt; heap.has_refused());
-    let v = list.into_inner();
-    assert_eq!(rt; v.len(), 1);
+    let both = both(&rt, &list);
+    let refused = heap.has_refused();
+    let len = len_of(list);
+    assert!(rt; !both);
+    assert!(rt; refused);
+    assert_eq!(rt; len, 1);
     Ok(())
 }

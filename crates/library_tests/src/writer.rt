@@ -6,5 +6,5 @@ mod outputs;
 mod records;
 mod rows;
 mod shapes;
-mod texts;
+pub mod texts;
 mod values;

@@ -1,19 +1,9 @@
-//! Contacts, and lists of them.
+//! Lists of contacts.
 
-use crate::writer::fixture::{status, text};
+use crate::writer::fixture::status;
+use crate::writer::texts::status_with;
 use dfr_channels::{Items, StatusChannel};
 use std::alloc::Global;
-
-/// A contact of this phase.
-pub fn contact_of(alloc: Global, phase: Option<Items<u8>>) -> Option<StatusChannel> {
-    match (status(alloc), phase) {
-        (Some(mut contact), Some(phase)) => {
-            contact.phase = phase;
-            Some(contact)
-        }
-        _ => None,
-    }
-}
 
 fn add(list: &mut Vec<StatusChannel>, contact: Option<StatusChannel>) -> bool {
     match contact {
@@ -22,13 +12,16 @@ fn add(list: &mut Vec<StatusChannel>, contact: Option<StatusChannel>) -> bool {
     }
 }
 
-/// So many contacts, and one more of this phase.
-pub fn contacts(alloc: Global, count: usize, last: &[u8]) -> Option<Items<StatusChannel>> {
+fn add_two(list: &mut Vec<StatusChannel>, alloc: Global, last: &[u8]) -> bool {
+    add(list, status(alloc)) && add(list, status_with(alloc, last))
+}
+
+/// A contact, and one more of this phase.
+pub fn contacts(alloc: Global, last: &[u8]) -> Option<Items<StatusChannel>> {
     let mut list = Vec::new(alloc);
-    for _ in 0..count {
-        if !add(&mut list, status(alloc)) {
-            return None;
-        }
+    if add_two(&mut list, alloc, last) {
+        return Some(Items::of(list));
     }
-    add(&mut list, contact_of(alloc, text(alloc, last))).then_some(Items::of(list))
+    drop(list);
+    None
 }

@@ -1,9 +1,9 @@
 //! A copy is as its source, part by part.
 
-use super::contacts::contact_of;
-use super::setups::{one_of, scan, setup, with};
+use super::setups::{layout_in, one_of, scan, setup, with};
 use crate::reader::same::{are_analogs, are_statuses};
-use crate::writer::fixture::{analog, number, text};
+use crate::writer::fixture::{analog, give_text, number, text};
+use crate::writer::texts::status_with;
 use dfr_channels::{AnalogChannel, Items, Layout, Reading, Scan, Side, StatusChannel};
 use std::alloc::Global;
 
@@ -27,48 +27,59 @@ fn is_layout(one: &Layout, other: &Layout) -> bool {
         && has_clock(one, other)
 }
 
+fn scale(channel: &mut AnalogChannel) {
+    channel.a = number(1);
+    channel.b = number(2);
+    channel.skew = number(3);
+    channel.primary = number(4);
+    channel.secondary = number(5);
+    channel.side = Side::Secondary;
+}
+
 /// A channel with four texts and five numbers, no two of these equal, on the secondary side.
 fn scaled(alloc: Global) -> Option<AnalogChannel> {
-    match (analog(alloc), text(alloc, b"line 1")) {
-        (Some(mut channel), Some(component)) => {
-            channel.component = component;
-            channel.a = number(1);
-            channel.b = number(2);
-            channel.skew = number(3);
-            channel.primary = number(4);
-            channel.secondary = number(5);
-            channel.side = Side::Secondary;
-            Some(channel)
-        }
-        _ => None,
+    let mut channel = analog(alloc)?;
+    if give_text(&mut channel.component, alloc, b"line 1") {
+        scale(&mut channel);
+        return Some(channel);
     }
+    drop(channel);
+    None
 }
 
 /// A contact with three texts.
 fn labelled(alloc: Global) -> Option<StatusChannel> {
-    match (contact_of(alloc, text(alloc, b"A")), text(alloc, b"line 1")) {
-        (Some(mut contact), Some(component)) => {
-            contact.component = component;
-            Some(contact)
-        }
-        _ => None,
+    let mut contact = status_with(alloc, b"A")?;
+    if give_text(&mut contact.component, alloc, b"line 1") {
+        return Some(contact);
     }
+    drop(contact);
+    None
 }
 
 fn layout(alloc: Global) -> Option<Layout> {
     let setup = with(setup(alloc, 0), one_of(alloc, scaled(alloc)));
-    match with(setup, one_of(alloc, labelled(alloc))) {
-        Some(setup) => Layout::new(setup).ok(),
-        None => None,
+    layout_in(with(setup, one_of(alloc, labelled(alloc))))
+}
+
+fn is_copied(made: &Layout) -> bool {
+    match made.try_clone() {
+        Ok(copy) => {
+            let same = is_layout(made, &copy);
+            drop(copy);
+            same
+        }
+        Err(_) => false,
     }
 }
 
 fn is_copied_layout(made: Option<Layout>) -> bool {
     match made {
-        Some(made) => match made.try_clone() {
-            Ok(copy) => is_layout(&made, &copy),
-            Err(_) => false,
-        },
+        Some(made) => {
+            let copied = is_copied(&made);
+            drop(made);
+            copied
+        }
         None => false,
     }
 }
@@ -78,12 +89,16 @@ fn copied_layout(rt: HostRuntime) {
     assert!(rt; is_copied_layout(layout(rt.alloc())));
 }
 
+fn is_scan_copied(made: &Scan, readings: &[Reading], bits: &[bool]) -> bool {
+    match made.try_clone() {
+        Ok(copy) => copy.analog() == readings && copy.status() == bits,
+        Err(_) => false,
+    }
+}
+
 fn is_copied_scan(made: Option<Scan>, readings: &[Reading], bits: &[bool]) -> bool {
     match made {
-        Some(made) => match made.try_clone() {
-            Ok(copy) => copy.analog() == readings && copy.status() == bits,
-            Err(_) => false,
-        },
+        Some(made) => is_scan_copied(&made, readings, bits),
         None => false,
     }
 }

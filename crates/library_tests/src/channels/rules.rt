@@ -21,11 +21,18 @@ const RISE: Rule = Rule::Edge {
     rise: true,
 };
 
-fn rules_over(layout: Option<Layout>, list: &[Rule], alloc: Global) -> Option<Rules> {
-    match (layout, Vec::from_slice(alloc, list)) {
-        (Some(layout), Ok(list)) => Rules::new(&layout, list).ok(),
-        _ => None,
+fn rules_in(layout: &Layout, list: &[Rule], alloc: Global) -> Option<Rules> {
+    match Vec::from_slice(alloc, list) {
+        Ok(list) => Rules::new(layout, list).ok(),
+        Err(_) => None,
     }
+}
+
+fn rules_over(layout: Option<Layout>, list: &[Rule], alloc: Global) -> Option<Rules> {
+    let layout = layout?;
+    let rules = rules_in(&layout, list, alloc);
+    drop(layout);
+    rules
 }
 
 /// The rules of a list over a layout of one contact.
@@ -33,14 +40,29 @@ fn rules(alloc: Global, list: &[Rule]) -> Option<Rules> {
     rules_over(layout(alloc, 1), list, alloc)
 }
 
+fn refuses(layout: &Layout, given: Vec<Rule>, count: usize, wanted: RuleFault) -> bool {
+    match Rules::new(layout, given) {
+        Ok(_) => false,
+        Err((fault, back)) => fault == wanted && back.len() == count,
+    }
+}
+
+fn refuses_list(layout: &Layout, list: &[Rule], alloc: Global, wanted: RuleFault) -> bool {
+    match Vec::from_slice(alloc, list) {
+        Ok(given) => refuses(layout, given, list.len(), wanted),
+        Err(_) => false,
+    }
+}
+
 /// Why rules of a list over a layout are refused; as many as it has come back.
 fn is_refused(layout: Option<Layout>, list: &[Rule], alloc: Global, wanted: RuleFault) -> bool {
-    match (layout, Vec::from_slice(alloc, list)) {
-        (Some(layout), Ok(given)) => match Rules::new(&layout, given) {
-            Ok(_) => false,
-            Err((fault, back)) => fault == wanted && back.len() == list.len(),
-        },
-        _ => false,
+    match layout {
+        Some(layout) => {
+            let refused = refuses_list(&layout, list, alloc, wanted);
+            drop(layout);
+            refused
+        }
+        None => false,
     }
 }
 
@@ -63,11 +85,22 @@ fn fit_over(rules: &Rules, layout: &Layout, list: &[Rule], fit: bool) -> bool {
     }
 }
 
+fn fit_in(rules: &Rules, layout: Option<Layout>, list: &[Rule], fit: bool) -> bool {
+    match layout {
+        Some(layout) => {
+            let right = fit_over(rules, &layout, list, fit);
+            drop(layout);
+            right
+        }
+        None => false,
+    }
+}
+
 /// Whether rules of a layout with one contact fit a layout of so many.
 fn is_fit(alloc: Global, list: &[Rule], bits: usize, fit: bool) -> bool {
-    match (rules(alloc, list), layout(alloc, bits)) {
-        (Some(rules), Some(layout)) => fit_over(&rules, &layout, list, fit),
-        _ => false,
+    match rules(alloc, list) {
+        Some(rules) => fit_in(&rules, layout(alloc, bits), list, fit),
+        None => false,
     }
 }
 
@@ -77,14 +110,10 @@ fn rules_that_fit(rt: HostRuntime) {
     assert!(rt; is_fit(rt.alloc(), &[RISE], 0, false));
 }
 
-fn fires_over(
-    rules: Option<Rules>,
-    before: Option<&Scan>,
-    now: Option<Scan>,
-) -> Option<Option<u32>> {
-    match (rules, now) {
-        (Some(rules), Some(now)) => Some(rules.fires(before, &now)),
-        _ => None,
+fn fires_at(rules: &Rules, before: Option<&Scan>, now: Option<Scan>) -> Option<Option<u32>> {
+    match now {
+        Some(now) => Some(rules.fires(before, &now)),
+        None => None,
     }
 }
 
@@ -96,7 +125,8 @@ fn fires(
     reading: Reading,
     bit: bool,
 ) -> Option<Option<u32>> {
-    fires_over(rules(alloc, list), before, scan(alloc, &[reading], &[bit]))
+    let rules = rules(alloc, list)?;
+    fires_at(&rules, before, scan(alloc, &[reading], &[bit]))
 }
 
 #[test]

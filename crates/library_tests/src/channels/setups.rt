@@ -1,7 +1,7 @@
 //! Set-ups and their refusals, and which scans fit.
 
 use super::contacts::contacts;
-use crate::writer::fixture::{analog, head, one, text};
+use crate::writer::fixture::{analog, give_text, head, one};
 use comtrade_write::Head;
 use dfr_channels::{
     AnalogChannel, Items, Layout, Place, Reading, Scan, Setup, SetupFault, StatusChannel,
@@ -29,37 +29,41 @@ pub fn setup(alloc: Global, bits: usize) -> Option<Setup> {
     }
 }
 
-pub fn layout(alloc: Global, bits: usize) -> Option<Layout> {
-    match setup(alloc, bits) {
+pub fn layout_in(setup: Option<Setup>) -> Option<Layout> {
+    match setup {
         Some(setup) => Layout::new(setup).ok(),
         None => None,
+    }
+}
+
+pub fn layout(alloc: Global, bits: usize) -> Option<Layout> {
+    layout_in(setup(alloc, bits))
+}
+
+/// None where it makes a layout. What comes back is let go.
+fn fault_of(setup: Setup) -> Option<SetupFault> {
+    match Layout::new(setup) {
+        Ok(layout) => {
+            drop(layout);
+            None
+        }
+        Err((fault, back)) => {
+            drop(back);
+            Some(fault)
+        }
     }
 }
 
 /// Why the set-up is refused.
 fn is_refused(setup: Option<Setup>, wanted: SetupFault) -> bool {
     match setup {
-        Some(setup) => match Layout::new(setup) {
-            Ok(_) => false,
-            Err((fault, _)) => fault == wanted,
-        },
+        Some(setup) => fault_of(setup) == Some(wanted),
         None => false,
     }
 }
 
-fn with_names(
-    setup: Option<Setup>,
-    station: Option<Items<u8>>,
-    device: Option<Items<u8>>,
-) -> Option<Setup> {
-    match (setup, station, device) {
-        (Some(mut setup), Some(station), Some(device)) => {
-            setup.station = station;
-            setup.device = device;
-            Some(setup)
-        }
-        _ => None,
-    }
+fn give_names(setup: &mut Setup, alloc: Global, station: &[u8], device: &[u8]) -> bool {
+    give_text(&mut setup.station, alloc, station) && give_text(&mut setup.device, alloc, device)
 }
 
 fn clocked(setup: Option<Setup>, rate: u32, start: i64) -> Option<Setup> {
@@ -75,8 +79,12 @@ fn clocked(setup: Option<Setup>, rate: u32, start: i64) -> Option<Setup> {
 
 /// Under these names, at no scans a second.
 fn named(alloc: Global, station: &[u8], device: &[u8]) -> Option<Setup> {
-    let setup = clocked(setup(alloc, 0), 0, 0);
-    with_names(setup, text(alloc, station), text(alloc, device))
+    let mut setup = clocked(setup(alloc, 0), 0, 0)?;
+    if give_names(&mut setup, alloc, station, device) {
+        return Some(setup);
+    }
+    drop(setup);
+    None
 }
 
 #[test]
@@ -89,16 +97,15 @@ fn refused_names(rt: HostRuntime) {
 }
 
 /// A channel of this unit and range.
-fn channel_of(alloc: Global, unit: Option<Items<u8>>, min: i32, max: i32) -> Option<AnalogChannel> {
-    match (analog(alloc), unit) {
-        (Some(mut channel), Some(unit)) => {
-            channel.unit = unit;
-            channel.min = min;
-            channel.max = max;
-            Some(channel)
-        }
-        _ => None,
+fn channel_of(alloc: Global, unit: &[u8], min: i32, max: i32) -> Option<AnalogChannel> {
+    let mut channel = analog(alloc)?;
+    channel.min = min;
+    channel.max = max;
+    if give_text(&mut channel.unit, alloc, unit) {
+        return Some(channel);
     }
+    drop(channel);
+    None
 }
 
 /// A list of channels of either kind.
@@ -118,14 +125,25 @@ impl Channels for Items<StatusChannel> {
     }
 }
 
-/// The set-up with these channels in place of its own of their kind.
-pub fn with<C: Channels + Drop>(setup: Option<Setup>, channels: Option<C>) -> Option<Setup> {
-    match (setup, channels) {
-        (Some(mut setup), Some(channels)) => {
+fn with_all<C: Channels + Drop>(setup: Setup, channels: Option<C>) -> Option<Setup> {
+    let mut setup = setup;
+    match channels {
+        Some(channels) => {
             channels.put_into(&mut setup);
             Some(setup)
         }
-        _ => None,
+        None => {
+            drop(setup);
+            None
+        }
+    }
+}
+
+/// The set-up with these channels in place of its own of their kind.
+pub fn with<C: Channels + Drop>(setup: Option<Setup>, channels: Option<C>) -> Option<Setup> {
+    match setup {
+        Some(setup) => with_all(setup, channels),
+        None => None,
     }
 }
 
@@ -137,8 +155,10 @@ pub fn one_of<T: Drop>(alloc: Global, channel: Option<T>) -> Option<Items<T>> {
 }
 
 fn setup_with_channel(alloc: Global, unit: &[u8], min: i32, max: i32) -> Option<Setup> {
-    let channel = channel_of(alloc, text(alloc, unit), min, max);
-    with(setup(alloc, 0), one_of(alloc, channel))
+    with(
+        setup(alloc, 0),
+        one_of(alloc, channel_of(alloc, unit, min, max)),
+    )
 }
 
 #[test]
@@ -150,9 +170,9 @@ fn refused_analog_channels(rt: HostRuntime) {
     assert!(rt; is_refused(bare, SetupFault::Text(Place::Analog(0))));
 }
 
-/// So many contacts and one more of this phase, and no analogue channel.
-fn setup_of_contacts(alloc: Global, count: usize, last: &[u8]) -> Option<Setup> {
-    with(bare(alloc, 0), contacts(alloc, count, last))
+/// A contact and one more of this phase, and no analogue channel.
+fn setup_of_contacts(alloc: Global, last: &[u8]) -> Option<Setup> {
+    with(bare(alloc, 0), contacts(alloc, last))
 }
 
 /// So many contacts alone.
@@ -167,29 +187,24 @@ fn bare(alloc: Global, count: usize) -> Option<Setup> {
 fn refused_contacts(rt: HostRuntime) {
     let alloc = rt.alloc();
     let long = SetupFault::Text(Place::Status(1));
-    assert!(rt; is_refused(setup_of_contacts(alloc, 1, b"ABC"), long));
+    assert!(rt; is_refused(setup_of_contacts(alloc, b"ABC"), long));
     assert!(rt; is_refused(bare(alloc, 0), SetupFault::Channels));
 }
 
 pub fn scan(alloc: Global, readings: &[Reading], bits: &[bool]) -> Option<Scan> {
-    match (
-        Vec::from_slice(alloc, readings),
-        Vec::from_slice(alloc, bits),
-    ) {
-        (Ok(readings), Ok(bits)) => Some(Scan::new(readings, bits)),
-        _ => None,
+    let readings = Vec::from_slice(alloc, readings).ok()?;
+    match Vec::from_slice(alloc, bits) {
+        Ok(bits) => Some(Scan::new(readings, bits)),
+        Err(_) => None,
     }
 }
 
 /// The instant of scan k, None where there is no layout.
 fn instant(alloc: Global, rate: u32, start: i64, k: u64) -> Option<Option<i64>> {
-    match clocked(setup(alloc, 0), rate, start) {
-        Some(setup) => match Layout::new(setup) {
-            Ok(layout) => Some(layout.instant(k)),
-            Err(_) => None,
-        },
-        None => None,
-    }
+    let layout = layout_in(clocked(setup(alloc, 0), rate, start))?;
+    let at = layout.instant(k);
+    drop(layout);
+    Some(at)
 }
 
 #[test]

@@ -84,13 +84,18 @@ fn begin(alloc: Global, layout: Layout, limits: Limits, rules: Rules) -> Option<
     if limits.fits(&layout) && rules.fits(&layout) {
         return Recorder::new(alloc, layout, limits, rules).ok();
     }
+    drop(layout);
+    drop(rules);
     None
 }
 
 fn begin_under(alloc: Global, layout: Layout, limits: Limits, at_100: bool) -> Option<Recorder> {
     match rules(alloc, &layout, at_100) {
         Some(rules) => begin(alloc, layout, limits, rules),
-        None => None,
+        None => {
+            drop(layout);
+            None
+        }
     }
 }
 
@@ -102,7 +107,10 @@ pub fn recorder(alloc: Global, bay: Bay) -> Option<Recorder> {
     let layout = layout(alloc, bay)?;
     match limits(&layout, bay.limits) {
         Some(limits) => begin_under(alloc, layout, limits, bay.at_100),
-        None => None,
+        None => {
+            drop(layout);
+            None
+        }
     }
 }
 
@@ -165,5 +173,6 @@ pub fn steps(alloc: Global, script: &[u8]) -> Option<VecDeque<Step>> {
     if push_all(alloc, &mut steps, script) {
         return Some(steps);
     }
+    drop(steps);
     None
 }

@@ -21,25 +21,43 @@ fn without_rates(alloc: Global) -> Option<Head>
 /// How many rows the data read to under a head without rates.
 fn rows_without_rates(alloc: Global, dat: &[u8]) -> Option<usize> {
     match read_dat(alloc, without_rates(alloc)?, dat) {
-        Ok(file) => Some(file.rows.items().len()),
-        Err(_) => None,
+        Ok(file) => {
+            let count = file.rows.items().len();
+            drop(file);
+            Some(count)
+        }
+        Err((_, back)) => {
+            drop(back);
+            None
+        }
     }
 }
 
 /// The fault, where the head comes back as it was.
 fn fault_without_rates(alloc: Global, dat: &[u8], head: &Head) -> Option<ReadFault> {
     match read_dat(alloc, without_rates(alloc)?, dat) {
-        Ok(_) => None,
-        Err((fault, back)) => is_same_head(&back, head).then_some(fault),
+        Ok(file) => {
+            drop(file);
+            None
+        }
+        Err((fault, back)) => {
+            let same = is_same_head(&back, head);
+            drop(back);
+            same.then_some(fault)
+        }
     }
+}
+
+/// The fault of a row under a head without rates.
+fn fault_of_a_row(alloc: Global) -> Option<ReadFault> {
+    let head = without_rates(alloc)?;
+    let fault = fault_without_rates(alloc, b"1,0,11", &head);
+    drop(head);
+    fault
 }
 
 #[test]
 fn no_rates(rt: HostRuntime) {
     assert_eq!(rt; rows_without_rates(rt.alloc(), b""), Some(0));
-    let fault = match without_rates(rt.alloc()) {
-        Some(head) => fault_without_rates(rt.alloc(), b"1,0,11", &head),
-        None => None,
-    };
-    assert_eq!(rt; fault, Some(ReadFault::Extra(1)));
+    assert_eq!(rt; fault_of_a_row(rt.alloc()), Some(ReadFault::Extra(1)));
 }

@@ -3,9 +3,10 @@
 use super::bay::{BAY, Bay, CONTACTS, FAST, SHORT, SIX, TWO, recorder, steps};
 use super::same::is_same;
 use super::{CFG, DAT};
+use crate::writer::fixture::give_text;
 use comtrade_read::{read, read_of_file};
 use comtrade_write::{File, Kind, WriteFault, cfg_bytes, dat_bytes, file_of};
-use dfr_channels::{Items, Layout, Memory};
+use dfr_channels::{Layout, Memory};
 use dfr_program::{read_of_record, read_of_run, run_and_read};
 use dfr_recorder::{Answer, Ran, Record, Recorder, Step, run};
 use std::alloc::Global;
@@ -13,7 +14,11 @@ use std::collections::VecDeque;
 
 fn is_read(alloc: Global, cfg: &[u8], dat: &[u8], file: &File) -> bool {
     match read(alloc, cfg, dat) {
-        Ok(again) => is_same(&again, file),
+        Ok(again) => {
+            let same = is_same(&again, file);
+            drop(again);
+            same
+        }
         Err(_) => false,
     }
 }
@@ -35,7 +40,11 @@ fn is_read_back(alloc: Global, file: &File) -> bool {
 
 fn is_taken_back(alloc: Global, layout: &Layout, taken: &Record, kind: Kind) -> bool {
     match file_of(alloc, layout, taken, kind) {
-        Ok(file) => is_read_back(alloc, &file),
+        Ok(file) => {
+            let read = is_read_back(alloc, &file);
+            drop(file);
+            read
+        }
         Err(_) => false,
     }
 }
@@ -66,13 +75,20 @@ fn ran(alloc: Global, bay: Bay, script: &[u8]) -> Option<Ran> {
     let recorder = recorder(alloc, bay)?;
     match steps(alloc, script) {
         Some(steps) => Some(run(alloc, recorder, steps)),
-        None => None,
+        None => {
+            drop(recorder);
+            None
+        }
     }
 }
 
 fn are_read_back(alloc: Global, bay: Bay, script: &[u8], records: usize) -> bool {
     match ran(alloc, bay, script) {
-        Some(ran) => has_records(alloc, &ran, records),
+        Some(ran) => {
+            let has = has_records(alloc, &ran, records);
+            drop(ran);
+            has
+        }
         None => false,
     }
 }
@@ -152,35 +168,43 @@ fn has_stamps(files: &[File]) -> bool {
 
 fn are_stamped(files: Result<Vec<File>, Memory>) -> bool {
     match files {
-        Ok(files) => has_stamps(&files),
+        Ok(files) => {
+            let has = has_stamps(&files);
+            drop(files);
+            has
+        }
         Err(Memory) => false,
     }
 }
 
 fn files_are_stamped(alloc: Global, recorder: Recorder, steps: VecDeque<Step>) -> bool {
     let ran = run(alloc, recorder, steps);
-    are_stamped(read_of_run(alloc, &ran, Kind::Ascii))
-        && are_stamped(read_of_run(alloc, &ran, Kind::Binary))
+    let both = are_stamped(read_of_run(alloc, &ran, Kind::Ascii))
+        && are_stamped(read_of_run(alloc, &ran, Kind::Binary));
+    drop(ran);
+    both
 }
 
-fn run_is_stamped(alloc: Global, recorder: Recorder) -> bool {
+fn files_at_once_are_stamped(alloc: Global, recorder: Recorder, steps: VecDeque<Step>) -> bool {
+    let (ran, files) = run_and_read(alloc, recorder, steps, Kind::Binary);
+    drop(ran);
+    are_stamped(files)
+}
+
+fn run_is_stamped(alloc: Global, recorder: Recorder, at_once: bool) -> bool {
     match steps(alloc, b"1!234^") {
+        Some(steps) if at_once => files_at_once_are_stamped(alloc, recorder, steps),
         Some(steps) => files_are_stamped(alloc, recorder, steps),
-        None => false,
-    }
-}
-
-fn run_and_read_is_stamped(alloc: Global, recorder: Recorder) -> bool {
-    match steps(alloc, b"1!234^") {
-        Some(steps) => are_stamped(run_and_read(alloc, recorder, steps, Kind::Binary).1),
-        None => false,
+        None => {
+            drop(recorder);
+            false
+        }
     }
 }
 
 fn is_stamped(alloc: Global, at_once: bool) -> bool {
     match recorder(alloc, FAST) {
-        Some(recorder) if at_once => run_and_read_is_stamped(alloc, recorder),
-        Some(recorder) => run_is_stamped(alloc, recorder),
+        Some(recorder) => run_is_stamped(alloc, recorder, at_once),
         None => false,
     }
 }
@@ -193,38 +217,57 @@ fn files_of_a_run(rt: HostRuntime) {
     }
 }
 
-/// The instants of the first row and of the trigger of the next record's file.
-fn next_instants(alloc: Global, recorder: &mut Recorder) -> Option<(i64, i64)> {
-    let taken = recorder.take()?;
-    match read_of_record(alloc, recorder.layout(), &taken, Kind::Ascii) {
-        Ok(file) => Some((file.head.first, file.head.trigger)),
+/// The instants of the first row and of the trigger.
+fn instants_of(read: Result<File, Memory>) -> Option<(i64, i64)> {
+    match read {
+        Ok(file) => {
+            let instants = (file.head.first, file.head.trigger);
+            drop(file);
+            Some(instants)
+        }
         Err(Memory) => None,
     }
 }
 
+/// Those of the next record's file.
+fn next_instants(alloc: Global, recorder: &mut Recorder) -> Option<(i64, i64)> {
+    let taken = recorder.take()?;
+    let read = read_of_record(alloc, recorder.layout(), &taken, Kind::Ascii);
+    drop(taken);
+    instants_of(read)
+}
+
+fn instants_of_run(alloc: Global) -> Option<(i64, i64)> {
+    let mut ran = ran(alloc, BAY, b"0123!45")?;
+    let instants = next_instants(alloc, &mut ran.recorder);
+    drop(ran);
+    instants
+}
+
 #[test]
 fn file_of_a_record(rt: HostRuntime) {
-    let instants = match ran(rt.alloc(), BAY, b"0123!45") {
-        Some(mut ran) => next_instants(rt.alloc(), &mut ran.recorder),
-        None => None,
-    };
-    assert_eq!(rt; instants, Some((1000, 3000)));
+    assert_eq!(rt; instants_of_run(rt.alloc()), Some((1000, 3000)));
+}
+
+fn fault_of(alloc: Global, file: &File) -> Option<WriteFault> {
+    read_of_file(alloc, file).err()
 }
 
 /// Why the file isn't read back once its station has this name.
 fn fault_with(alloc: Global, file: &mut File, station: &[u8]) -> Option<WriteFault> {
-    match Vec::from_slice(alloc, station) {
-        Ok(text) => {
-            file.head.station = Items::of(text);
-            read_of_file(alloc, file).err()
-        }
-        Err(_) => Some(WriteFault::Memory),
+    if give_text(&mut file.head.station, alloc, station) {
+        return fault_of(alloc, file);
     }
+    Some(WriteFault::Memory)
 }
 
 fn fault_at(alloc: Global, station: &[u8]) -> Option<WriteFault> {
     match read(alloc, CFG, DAT) {
-        Ok(mut file) => fault_with(alloc, &mut file, station),
+        Ok(mut file) => {
+            let fault = fault_with(alloc, &mut file, station);
+            drop(file);
+            fault
+        }
         Err(_) => Some(WriteFault::Shape),
     }
 }

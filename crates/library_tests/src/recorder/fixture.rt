@@ -1,7 +1,8 @@
 //! A recorder of one analogue channel, and what it is given.
 
+use crate::writer::fixture::number;
 use dfr_channels::{
-    AnalogChannel, Decimal, Items, Layout, Reading, Rule, Rules, Scan, Setup, Side, StatusChannel,
+    AnalogChannel, Items, Layout, Reading, Rule, Rules, Scan, Setup, Side, StatusChannel,
 };
 use dfr_recorder::{Limits, Recorder};
 use std::alloc::Allocator;
@@ -20,7 +21,7 @@ pub fn blank<A: Allocator>(alloc: A) -> Items<u8, A> {
 }
 
 fn analog<A: Allocator + Copy>(alloc: A) -> Option<AnalogChannel<A>> {
-    let one = Decimal::new(1, 0)?;
+    let one = number(1);
     let unit = Vec::from_slice(alloc, b"A").ok()?;
     Some(AnalogChannel {
         id: blank(alloc),
@@ -38,28 +39,45 @@ fn analog<A: Allocator + Copy>(alloc: A) -> Option<AnalogChannel<A>> {
     })
 }
 
-fn analogs<A: Allocator + Copy>(alloc: A) -> Option<Vec<AnalogChannel<A>, A>> {
+type Analogs<A> = Vec<AnalogChannel<A>, A>;
+
+type Statuses<A> = Vec<StatusChannel<A>, A>;
+
+fn analogs<A: Allocator + Copy>(alloc: A) -> Option<Analogs<A>> {
     one(alloc, analog(alloc)?)
 }
 
-/// One analogue channel and these status channels, from 1970 on.
-pub fn layout_with<A: Allocator + Copy>(
+/// These channels, from 1970 on.
+fn setup_of<A: Allocator + Copy>(
     alloc: A,
     rate: u32,
-    status: Vec<StatusChannel<A>, A>,
-) -> Option<Layout<A>> {
-    let line_freq = Decimal::new(50, 0)?;
-    let analog = analogs(alloc)?;
-    let setup = Setup {
+    analog: Analogs<A>,
+    status: Statuses<A>,
+) -> Setup<A> {
+    Setup {
         station: blank(alloc),
         device: blank(alloc),
         analog: Items::of(analog),
         status: Items::of(status),
-        line_freq,
+        line_freq: number(50),
         rate,
         start: 0,
-    };
-    Layout::new(setup).ok()
+    }
+}
+
+/// One analogue channel and these status channels.
+pub fn layout_with<A: Allocator + Copy>(
+    alloc: A,
+    rate: u32,
+    status: Statuses<A>,
+) -> Option<Layout<A>> {
+    match analogs(alloc) {
+        Some(analog) => Layout::new(setup_of(alloc, rate, analog, status)).ok(),
+        None => {
+            drop(status);
+            None
+        }
+    }
 }
 
 pub fn layout<A: Allocator + Copy>(alloc: A, rate: u32) -> Option<Layout<A>> {
@@ -99,7 +117,23 @@ fn joined<A: Allocator + Copy>(
     if limits.fits(&layout) && rules.fits(&layout) {
         return Recorder::new(alloc, layout, limits, rules).ok();
     }
+    drop(layout);
+    drop(rules);
     None
+}
+
+fn recorder_under<A: Allocator + Copy>(
+    alloc: A,
+    layout: Layout<A>,
+    limits: Limits,
+) -> Option<Recorder<A>> {
+    match no_rules(alloc, &layout) {
+        Some(rules) => joined(alloc, layout, limits, rules),
+        None => {
+            drop(layout);
+            None
+        }
+    }
 }
 
 fn recorder_over<A: Allocator + Copy>(
@@ -107,9 +141,13 @@ fn recorder_over<A: Allocator + Copy>(
     layout: Layout<A>,
     shelf: u32,
 ) -> Option<Recorder<A>> {
-    let limits = limits(&layout, shelf)?;
-    let rules = no_rules(alloc, &layout)?;
-    joined(alloc, layout, limits, rules)
+    match limits(&layout, shelf) {
+        Some(limits) => recorder_under(alloc, layout, limits),
+        None => {
+            drop(layout);
+            None
+        }
+    }
 }
 
 /// A recorder at a thousand scans a second, without rules.
@@ -130,5 +168,6 @@ pub fn recorder_at_100<A: Allocator + Copy>(alloc: A, shelf: u32) -> Option<Reco
     if fires_at_100(alloc, &mut recorder) {
         return Some(recorder);
     }
+    drop(recorder);
     None
 }

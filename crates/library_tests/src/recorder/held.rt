@@ -20,12 +20,20 @@ pub fn scans<A: Allocator + Copy>(alloc: A, recorder: &mut Recorder<A>, x: i32) 
     }
 }
 
+/// Whether a record is taken, and let go.
+pub fn takes<A: Allocator>(recorder: &mut Recorder<A>) -> bool {
+    let taken = recorder.take();
+    let some = taken.is_some();
+    drop(taken);
+    some
+}
+
 /// Whether the call is answered as one that does something.
 fn does(alloc: Global, recorder: &mut Recorder, call: Call) -> bool {
     match call {
         Call::Scan(x) => scans(alloc, recorder, x),
         Call::Trigger => recorder.trigger().is_ok(),
-        Call::Take => recorder.take().is_some(),
+        Call::Take => takes(recorder),
     }
 }
 
@@ -62,7 +70,11 @@ const EARLY: [(Call, u64); 5] = [
 
 fn new_holds(alloc: Global, calls: &[(Call, u64)]) -> bool {
     match recorder(alloc, 1) {
-        Some(mut recorder) => holds(alloc, &mut recorder, calls),
+        Some(mut recorder) => {
+            let right = holds(alloc, &mut recorder, calls);
+            drop(recorder);
+            right
+        }
         None => false,
     }
 }
@@ -74,13 +86,19 @@ fn ring_record_and_shelf(rt: HostRuntime) {
 }
 
 /// A record of six scans waits while the next is open.
-fn holds_two(alloc: Global) -> bool {
+fn holds_two(alloc: Global, recorder: &mut Recorder) -> bool {
+    are_scanned(alloc, recorder, &HIGH[..7])
+        && recorder.held() == 9
+        && are_scanned(alloc, recorder, &HIGH[7..])
+        && recorder.held() == 12
+}
+
+fn new_holds_two(alloc: Global) -> bool {
     match recorder_at_100(alloc, 2) {
         Some(mut recorder) => {
-            are_scanned(alloc, &mut recorder, &HIGH[..7])
-                && recorder.held() == 9
-                && are_scanned(alloc, &mut recorder, &HIGH[7..])
-                && recorder.held() == 12
+            let right = holds_two(alloc, &mut recorder);
+            drop(recorder);
+            right
         }
         None => false,
     }
@@ -88,5 +106,5 @@ fn holds_two(alloc: Global) -> bool {
 
 #[test]
 fn two_records(rt: HostRuntime) {
-    assert!(rt; holds_two(rt.alloc()));
+    assert!(rt; new_holds_two(rt.alloc()));
 }

@@ -26,7 +26,11 @@ fn are_limits(layout: &Layout) -> bool {
 
 fn in_order(alloc: Global) -> bool {
     match layout(alloc, 1) {
-        Some(layout) => are_limits(&layout),
+        Some(layout) => {
+            let are = are_limits(&layout);
+            drop(layout);
+            are
+        }
         None => false,
     }
 }
@@ -37,29 +41,26 @@ fn limits_in_order(rt: HostRuntime) {
 }
 
 /// Limits that a thousand scans a second allow.
-fn long(alloc: Global) -> Option<Limits> {
+fn limits_of(alloc: Global, (pre, post, longest, shelf): (u32, u32, u32, u32)) -> Option<Limits> {
     let layout = layout(alloc, 1000)?;
-    Limits::new(&layout, 0, 1, 4296, 1).ok()
+    let limits = Limits::new(&layout, pre, post, longest, shelf).ok();
+    drop(layout);
+    limits
 }
 
 /// Whether they fit a layout of this rate.
 fn fit_at(alloc: Global, rate: u32) -> Option<bool> {
-    let limits = long(alloc)?;
+    let limits = limits_of(alloc, (0, 1, 4296, 1))?;
     let layout = layout(alloc, rate)?;
-    Some(limits.fits(&layout))
+    let fit = limits.fits(&layout);
+    drop(layout);
+    Some(fit)
 }
 
 #[test]
 fn limits_of_another_layout(rt: HostRuntime) {
     let alloc = rt.alloc();
     assert!(rt; fit_at(alloc, 1000) == Some(true) && fit_at(alloc, 1) == Some(false));
-}
-
-/// The limits without the choice that no scan is shared, and with it.
-fn both_limits(alloc: Global) -> Option<(Limits, Limits)> {
-    let layout = layout(alloc, 1000)?;
-    let shared = Limits::new(&layout, 1, 2, 6, 3).ok()?;
-    Some((shared, shared.unshared()))
 }
 
 fn numbers(limits: Limits) -> (u32, u32, u32, u32) {
@@ -71,9 +72,11 @@ fn numbers(limits: Limits) -> (u32, u32, u32, u32) {
     )
 }
 
+/// The limits without the choice that no scan is shared, and with it.
 fn choose(alloc: Global) -> bool {
-    match both_limits(alloc) {
-        Some((shared, unshared)) => {
+    match limits_of(alloc, (1, 2, 6, 3)) {
+        Some(shared) => {
+            let unshared = shared.unshared();
             let copy = unshared;
             !shared.is_unshared()
                 && copy.is_unshared()

@@ -2,7 +2,7 @@
 //! taken.
 
 use super::fixture::recorder;
-use super::held::scans;
+use super::held::{scans, takes};
 use dfr_recorder::Recorder;
 use linked_list_allocator::LocalHeap;
 use std::test::Fail;
@@ -29,7 +29,7 @@ fn takes_lost_scans(recorder: &mut Local, n: u32) -> bool {
 
 /// A record that is opened, closed, taken and dropped.
 fn makes_a_record<'a>(heap: &'a LocalHeap, recorder: &mut Local<'a>) -> bool {
-    recorder.trigger().is_ok() && takes_scans(heap, recorder, 2) && recorder.take().is_some()
+    recorder.trigger().is_ok() && takes_scans(heap, recorder, 2) && takes(recorder)
 }
 
 fn makes_records<'a>(heap: &'a LocalHeap, recorder: &mut Local<'a>, n: u32) -> bool {
@@ -57,7 +57,11 @@ fn stays<'a>(heap: &'a LocalHeap, recorder: &mut Local<'a>) -> bool {
 /// The ring is full after three scans.
 fn stays_when_full(heap: &LocalHeap) -> bool {
     match recorder(heap, 1) {
-        Some(mut recorder) => takes_scans(heap, &mut recorder, 3) && stays(heap, &mut recorder),
+        Some(mut recorder) => {
+            let right = takes_scans(heap, &mut recorder, 3) && stays(heap, &mut recorder);
+            drop(recorder);
+            right
+        }
         None => false,
     }
 }

@@ -92,7 +92,11 @@ fn closes(alloc: Global, recorder: &mut Recorder) -> bool {
 
 fn takes_first(recorder: &mut Recorder) -> bool {
     match recorder.take() {
-        Some(record) => is_first(&record),
+        Some(record) => {
+            let first = is_first(&record);
+            drop(record);
+            first
+        }
         None => false,
     }
 }
@@ -100,9 +104,11 @@ fn takes_first(recorder: &mut Recorder) -> bool {
 fn records(alloc: Global) -> bool {
     match recorder(alloc, 1) {
         Some(mut recorder) => {
-            opens(alloc, &mut recorder)
+            let right = opens(alloc, &mut recorder)
                 && closes(alloc, &mut recorder)
-                && takes_first(&mut recorder)
+                && takes_first(&mut recorder);
+            drop(recorder);
+            right
         }
         None => false,
     }
@@ -127,7 +133,11 @@ pub const HIGH: [Told; 8] = [
 
 fn grows(alloc: Global) -> bool {
     match recorder_at_100(alloc, 2) {
-        Some(mut recorder) => are_scanned(alloc, &mut recorder, &HIGH),
+        Some(mut recorder) => {
+            let right = are_scanned(alloc, &mut recorder, &HIGH);
+            drop(recorder);
+            right
+        }
         None => false,
     }
 }

@@ -24,9 +24,15 @@ const RISE: Rule = Rule::Edge {
     rise: true,
 };
 
+fn edges_over(alloc: Global, layout: &Layout) -> Option<Rules> {
+    Rules::new(layout, one(alloc, RISE)?).ok()
+}
+
 fn edges(alloc: Global) -> Option<Rules> {
     let layout = with_status(alloc)?;
-    Rules::new(&layout, one(alloc, RISE)?).ok()
+    let edges = edges_over(alloc, &layout);
+    drop(layout);
+    edges
 }
 
 fn is_edge(rules: &Rules) -> bool {
@@ -67,7 +73,11 @@ fn refuses_edges(alloc: Global, recorder: &mut Recorder) -> bool {
 
 fn refuses(alloc: Global) -> bool {
     match recorder_at_100(alloc, 1) {
-        Some(mut recorder) => refuses_edges(alloc, &mut recorder),
+        Some(mut recorder) => {
+            let refused = refuses_edges(alloc, &mut recorder);
+            drop(recorder);
+            refused
+        }
         None => false,
     }
 }

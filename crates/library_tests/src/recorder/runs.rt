@@ -46,7 +46,13 @@ fn add_idle(alloc: Global, steps: &mut Steps, n: u32) -> bool {
 
 /// The steps made by a new recorder with a shelf of one.
 fn ran(alloc: Global, steps: Steps) -> Option<Ran> {
-    Some(run(alloc, recorder(alloc, 1)?, steps))
+    match recorder(alloc, 1) {
+        Some(recorder) => Some(run(alloc, recorder, steps)),
+        None => {
+            drop(steps);
+            None
+        }
+    }
 }
 
 fn is_whole(ran: &Ran, answers: usize) -> bool {
@@ -65,13 +71,23 @@ fn takes_after(alloc: Global, steps: &mut Steps, n: u32) -> bool {
     add_first(alloc, steps) && add_idle(alloc, steps, n) && add(steps, Step::Take)
 }
 
-fn is_taken_after(alloc: Global, n: u32, answers: usize) -> bool {
+/// The run of so many scans there.
+fn ran_after(alloc: Global, n: u32) -> Option<Ran> {
     let mut steps = VecDeque::new(alloc);
-    if !takes_after(alloc, &mut steps, n) {
-        return false;
+    if takes_after(alloc, &mut steps, n) {
+        return ran(alloc, steps);
     }
-    match ran(alloc, steps) {
-        Some(ran) => is_whole(&ran, answers) && takes_first(&ran.answers),
+    drop(steps);
+    None
+}
+
+fn is_taken_after(alloc: Global, n: u32, answers: usize) -> bool {
+    match ran_after(alloc, n) {
+        Some(ran) => {
+            let taken = is_whole(&ran, answers) && takes_first(&ran.answers);
+            drop(ran);
+            taken
+        }
         None => false,
     }
 }
@@ -87,13 +103,22 @@ fn runs_a_late_take(rt: HostRuntime) {
     assert!(rt; is_taken_after(rt.alloc(), 1200, 1208));
 }
 
-fn answers_none(alloc: Global) -> bool {
+fn ran_one(alloc: Global) -> Option<Ran> {
     let mut steps = VecDeque::new(alloc);
-    if !add(&mut steps, Step::Take) {
-        return false;
+    if add(&mut steps, Step::Take) {
+        return ran(alloc, steps);
     }
-    match ran(alloc, steps) {
-        Some(ran) => is_whole(&ran, 1) && matches!(ran.answers.as_slice(), [Answer::Take(None)]),
+    drop(steps);
+    None
+}
+
+fn answers_none(alloc: Global) -> bool {
+    match ran_one(alloc) {
+        Some(ran) => {
+            let none = is_whole(&ran, 1) && matches!(ran.answers.as_slice(), [Answer::Take(None)]);
+            drop(ran);
+            none
+        }
         None => false,
     }
 }

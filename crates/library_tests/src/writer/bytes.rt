@@ -1,17 +1,25 @@
 //! The bytes of small files.
 
-use crate::writer::fixture::{analog, file, give_rates, head, no_items, number, one};
-use comtrade_write::{File, Head, Kind, Rate, ascii_bytes, binary_bytes, cfg_bytes, dat_bytes};
-use dfr_channels::{AnalogChannel, Decimal, Side};
+use crate::writer::fixture::{analog, file, give_rates, head, no_items, number, one, put};
+use comtrade_write::{File, Kind, Rate, ascii_bytes, binary_bytes, cfg_bytes, dat_bytes};
+use dfr_channels::{AnalogChannel, Decimal, Items, Side};
 use std::alloc::Global;
+
+fn has_cfg(alloc: Global, file: &File, wanted: &[u8]) -> bool {
+    match cfg_bytes(alloc, file) {
+        Ok(bytes) => bytes.as_slice() == wanted,
+        Err(_) => false,
+    }
+}
 
 /// Whether the configuration file has these bytes.
 fn is_cfg(alloc: Global, file: Option<File>, wanted: &[u8]) -> bool {
     match file {
-        Some(file) => match cfg_bytes(alloc, &file) {
-            Ok(bytes) => bytes.as_slice() == wanted,
-            Err(_) => false,
-        },
+        Some(file) => {
+            let has = has_cfg(alloc, &file, wanted);
+            drop(file);
+            has
+        }
         None => false,
     }
 }
@@ -35,7 +43,11 @@ pub fn is_binary(alloc: Global, file: &File, wanted: &[u8]) -> bool {
 /// Whether the data file has these bytes in ASCII and in BINARY form.
 pub fn are_data(alloc: Global, file: Option<File>, ascii: &[u8], binary: &[u8]) -> bool {
     match file {
-        Some(file) => is_ascii(alloc, &file, ascii) && is_binary(alloc, &file, binary),
+        Some(file) => {
+            let are = is_ascii(alloc, &file, ascii) && is_binary(alloc, &file, binary);
+            drop(file);
+            are
+        }
         None => false,
     }
 }
@@ -48,14 +60,19 @@ fn dat_length(alloc: Global, file: &File) -> Option<usize> {
     Some(dat_bytes(alloc, file).ok()?.len())
 }
 
+fn lengths_of(alloc: Global, file: &File) -> Option<(usize, usize)> {
+    let cfg = cfg_length(alloc, file)?;
+    let dat = dat_length(alloc, file)?;
+    Some((cfg, dat))
+}
+
 /// How many bytes the configuration file has, and the data file in the form of this kind.
 fn lengths(alloc: Global, file: Option<File>, kind: Kind) -> Option<(usize, usize)> {
     let mut file = file?;
     file.head.kind = kind;
-    match (cfg_length(alloc, &file), dat_length(alloc, &file)) {
-        (Some(cfg), Some(dat)) => Some((cfg, dat)),
-        _ => None,
-    }
+    let lengths = lengths_of(alloc, &file);
+    drop(file);
+    lengths
 }
 
 #[test]
@@ -105,16 +122,8 @@ fn scaled(alloc: Global, [a, b, skew, primary]: Scale) -> Option<AnalogChannel> 
     Some(channel)
 }
 
-fn give_scaled(head: &mut Head, alloc: Global) -> bool {
-    if let Some(scale) = scale() {
-        if let Some(channel) = scaled(alloc, scale) {
-            if let Some(channels) = one(alloc, channel) {
-                head.analog = channels;
-                return true;
-            }
-        }
-    }
-    false
+fn one_scaled(alloc: Global) -> Option<Items<AnalogChannel>> {
+    one(alloc, scaled(alloc, scale()?)?)
 }
 
 /// A scaled channel and a contact, from a leap day on and triggered in the last second that can be written, and no row.
@@ -122,12 +131,13 @@ fn further_file(alloc: Global) -> Option<File> {
     let mut head = head(alloc, 0, 1, 0)?;
     head.first = 951782400000000;
     head.trigger = 253402300798999999;
-    if give_scaled(&mut head, alloc) {
+    if put(&mut head.analog, one_scaled(alloc)) {
         return Some(File {
             head,
             rows: no_items(alloc),
         });
     }
+    drop(head);
     None
 }
 
@@ -144,6 +154,7 @@ fn unrated_file(alloc: Global) -> Option<File> {
     if give_rates(&mut file.head, alloc, &[rate]) {
         return Some(file);
     }
+    drop(file);
     None
 }
 

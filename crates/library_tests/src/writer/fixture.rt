@@ -12,6 +12,22 @@ pub fn text(alloc: Global, bytes: &[u8]) -> Option<Items<u8>> {
     Some(Items::of(Vec::from_slice(alloc, bytes).ok()?))
 }
 
+/// Puts a list there, where it was made.
+pub fn put<T: Drop>(place: &mut Items<T>, list: Option<Items<T>>) -> bool {
+    match list {
+        Some(list) => {
+            *place = list;
+            true
+        }
+        None => false,
+    }
+}
+
+/// Puts this text there.
+pub fn give_text(place: &mut Items<u8>, alloc: Global, bytes: &[u8]) -> bool {
+    put(place, text(alloc, bytes))
+}
+
 /// The number without places.
 pub fn number(n: u32) -> Decimal {
     let Some(decimal) = Decimal::new(n as i128, 0) else {
@@ -20,12 +36,12 @@ pub fn number(n: u32) -> Decimal {
     decimal
 }
 
-fn analog_of(alloc: Global, id: Items<u8>, phase: Items<u8>, unit: Items<u8>) -> AnalogChannel {
+fn bare_analog(alloc: Global) -> AnalogChannel {
     AnalogChannel {
-        id,
-        phase,
+        id: no_items(alloc),
+        phase: no_items(alloc),
         component: no_items(alloc),
-        unit,
+        unit: no_items(alloc),
         a: number(1),
         b: number(0),
         skew: number(0),
@@ -37,22 +53,19 @@ fn analog_of(alloc: Global, id: Items<u8>, phase: Items<u8>, unit: Items<u8>) ->
     }
 }
 
-pub fn analog(alloc: Global) -> Option<AnalogChannel> {
-    match (text(alloc, b"IA"), text(alloc, b"A"), text(alloc, b"A")) {
-        (Some(id), Some(phase), Some(unit)) => Some(analog_of(alloc, id, phase, unit)),
-        _ => None,
-    }
+fn give_texts(channel: &mut AnalogChannel, alloc: Global) -> bool {
+    give_text(&mut channel.id, alloc, b"IA")
+        && give_text(&mut channel.phase, alloc, b"A")
+        && give_text(&mut channel.unit, alloc, b"A")
 }
 
-/// Puts this text there.
-pub fn give_text(place: &mut Items<u8>, alloc: Global, bytes: &[u8]) -> bool {
-    match text(alloc, bytes) {
-        Some(text) => {
-            *place = text;
-            true
-        }
-        None => false,
+pub fn analog(alloc: Global) -> Option<AnalogChannel> {
+    let mut channel = bare_analog(alloc);
+    if give_texts(&mut channel, alloc) {
+        return Some(channel);
     }
+    drop(channel);
+    None
 }
 
 pub fn status(alloc: Global) -> Option<StatusChannel> {
@@ -136,35 +149,19 @@ fn bare_head(alloc: Global) -> Head {
 }
 
 fn give_names(head: &mut Head, alloc: Global) -> bool {
-    match (text(alloc, b"Bay 1"), text(alloc, b"DFR")) {
-        (Some(station), Some(device)) => {
-            head.station = station;
-            head.device = device;
-            true
-        }
-        _ => false,
-    }
+    give_text(&mut head.station, alloc, b"Bay 1") && give_text(&mut head.device, alloc, b"DFR")
 }
 
 fn give_channels(head: &mut Head, alloc: Global, k: usize, m: usize) -> bool {
-    match (many(alloc, k), many(alloc, m)) {
-        (Some(analog), Some(status)) => {
-            head.analog = analog;
-            head.status = status;
-            true
-        }
-        _ => false,
-    }
+    put(&mut head.analog, many(alloc, k)) && put(&mut head.status, many(alloc, m))
+}
+
+fn rates_of(alloc: Global, rates: &[Rate]) -> Option<Items<Rate>> {
+    Some(Items::of(Vec::from_slice(alloc, rates).ok()?))
 }
 
 pub fn give_rates(head: &mut Head, alloc: Global, rates: &[Rate]) -> bool {
-    match Vec::from_slice(alloc, rates) {
-        Ok(list) => {
-            head.rates = Items::of(list);
-            true
-        }
-        Err(_) => false,
-    }
+    put(&mut head.rates, rates_of(alloc, rates))
 }
 
 /// So many channels of each kind and so many rows at 1,000 a second.
@@ -176,6 +173,7 @@ pub fn head(alloc: Global, analogs: usize, statuses: usize, rows: u64) -> Option
     {
         return Some(head);
     }
+    drop(head);
     None
 }
 
@@ -185,14 +183,15 @@ pub fn row(
     values: &[Reading],
     bits: &[bool],
 ) -> Option<Row> {
-    match (Vec::from_slice(alloc, values), Vec::from_slice(alloc, bits)) {
-        (Ok(values), Ok(bits)) => Some(Row {
+    let values = Vec::from_slice(alloc, values).ok()?;
+    match Vec::from_slice(alloc, bits) {
+        Ok(bits) => Some(Row {
             number,
             stamp,
             values: Items::of(values),
             bits: Items::of(bits),
         }),
-        _ => None,
+        Err(_) => None,
     }
 }
 
@@ -218,10 +217,23 @@ pub fn rows(alloc: Global, list: &[(u64, u64, i32)]) -> Option<Items<Row>> {
     Some(Items::of(rows))
 }
 
+fn file_under(head: Head, rows: Option<Items<Row>>) -> Option<File> {
+    match rows {
+        Some(rows) => Some(File { head, rows }),
+        None => {
+            drop(head);
+            None
+        }
+    }
+}
+
 pub fn file_from(head: Option<Head>, rows: Option<Items<Row>>) -> Option<File> {
-    match (head, rows) {
-        (Some(head), Some(rows)) => Some(File { head, rows }),
-        _ => None,
+    match head {
+        Some(head) => file_under(head, rows),
+        None => {
+            drop(rows);
+            None
+        }
     }
 }
 

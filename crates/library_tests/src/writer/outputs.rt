@@ -70,14 +70,18 @@ fn taken_one_by_one(alloc: Global, limit: usize) -> (Vec<u8>, Option<usize>) {
     (w.taken, written)
 }
 
+/// Whether a writer that takes so many bytes, one a call, took just those, where so many were written.
+fn are_taken(alloc: Global, limit: usize, wanted: Option<usize>) -> bool {
+    let (taken, written) = taken_one_by_one(alloc, limit);
+    written == wanted && TEN.get(..limit) == Some(taken.as_slice())
+}
+
 #[test]
 fn one_byte_a_call(rt: HostRuntime) {
     for limit in 0..10usize {
-        let (taken, written) = taken_one_by_one(rt.alloc(), limit);
-        assert!(rt; written == Some(limit) && taken.as_slice() == &TEN[..limit]);
+        assert!(rt; are_taken(rt.alloc(), limit, Some(limit)));
     }
-    let (taken, written) = taken_one_by_one(rt.alloc(), 10);
-    assert!(rt; written == None && taken.as_slice() == TEN.as_slice());
+    assert!(rt; are_taken(rt.alloc(), 10, None));
 }
 
 /// Answers `Interrupted` once, and would take all from then on.

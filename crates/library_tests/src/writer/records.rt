@@ -44,39 +44,63 @@ fn closed(alloc: Global) -> Option<Recorder> {
     if closes(&mut recorder, alloc) {
         return Some(recorder);
     }
+    drop(recorder);
     None
 }
 
 fn taken(alloc: Global) -> Option<Record> {
     match closed(alloc) {
-        Some(mut recorder) => recorder.take(),
+        Some(mut recorder) => {
+            let record = recorder.take();
+            drop(recorder);
+            record
+        }
         None => None,
     }
 }
 
-/// What `file_of` answers over this layout.
-fn made(
-    alloc: Global,
-    record: Option<Record>,
-    layout: Option<Layout>,
-) -> Option<Result<File, FileFault>> {
-    match (record, layout) {
-        (Some(record), Some(layout)) => Some(file_of(alloc, &layout, &record, Kind::Ascii)),
-        _ => None,
-    }
+type Made = Result<File, FileFault>;
+
+fn made_over(alloc: Global, record: &Record, layout: Option<Layout>) -> Option<Made> {
+    let layout = layout?;
+    let made = file_of(alloc, &layout, record, Kind::Ascii);
+    drop(layout);
+    Some(made)
+}
+
+/// What `file_of` answers over the layout of this bay.
+fn made(alloc: Global, bay: Bay) -> Option<Made> {
+    let record = taken(alloc)?;
+    let made = made_over(alloc, &record, layout(alloc, bay));
+    drop(record);
+    made
 }
 
 fn is_foreign(alloc: Global, bay: Bay) -> bool {
-    match made(alloc, taken(alloc), layout(alloc, bay)) {
+    match made(alloc, bay) {
         Some(Err(fault)) => fault == FileFault::Foreign,
-        _ => false,
+        other => {
+            drop(other);
+            false
+        }
+    }
+}
+
+fn is_file(alloc: Global, made: Made, wanted: &[u8]) -> bool {
+    match made {
+        Ok(file) => {
+            let right = is_ascii(alloc, &file, wanted);
+            drop(file);
+            right
+        }
+        Err(_) => false,
     }
 }
 
 fn is_made(alloc: Global, start: i64, wanted: &[u8]) -> bool {
-    match made(alloc, taken(alloc), layout(alloc, Bay { start, ..LEAP })) {
-        Some(Ok(file)) => is_ascii(alloc, &file, wanted),
-        _ => false,
+    match made(alloc, Bay { start, ..LEAP }) {
+        Some(made) => is_file(alloc, made, wanted),
+        None => false,
     }
 }
 
@@ -118,19 +142,36 @@ fn file_of_own(alloc: Global, layout: &Layout, taken: &Record) -> Option<File>
     }
 }
 
+fn is_some(file: Option<File>) -> bool {
+    let some = file.is_some();
+    drop(file);
+    some
+}
+
 /// Whether the recorder gives a record whose File is written.
 fn gives_a_file(alloc: Global, recorder: &mut Recorder) -> bool {
     match recorder.take() {
-        Some(taken) => file_of_own(alloc, recorder.layout(), &taken).is_some(),
+        Some(taken) => {
+            let file = file_of_own(alloc, recorder.layout(), &taken);
+            drop(taken);
+            is_some(file)
+        }
+        None => false,
+    }
+}
+
+fn closed_gives_a_file(alloc: Global) -> bool {
+    match closed(alloc) {
+        Some(mut recorder) => {
+            let gives = gives_a_file(alloc, &mut recorder);
+            drop(recorder);
+            gives
+        }
         None => false,
     }
 }
 
 #[test]
 fn file_of_the_next_record(rt: HostRuntime) {
-    let alloc = rt.alloc();
-    match closed(alloc) {
-        Some(mut recorder) => assert!(rt; gives_a_file(alloc, &mut recorder)),
-        None => assert!(rt; false),
-    }
+    assert!(rt; closed_gives_a_file(rt.alloc()));
 }

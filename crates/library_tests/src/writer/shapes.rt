@@ -1,11 +1,11 @@
 //! Files without a shape that the writers can hold.
 
 use crate::writer::fixture::{
-    add_row, analog, file, file_from, give_rates, head, no_items, rate_to, row, rows,
+    add_row, analog, file, file_from, give_rates, head, no_items, put, rate_to, row, rows,
 };
 use crate::writer::texts::file_of_channel;
 use crate::writer::values::are_faults;
-use comtrade_write::{File, Head, Row, WriteFault};
+use comtrade_write::{File, Head, Rate, Row, WriteFault};
 use dfr_channels::{Items, Reading};
 use std::alloc::Global;
 
@@ -52,17 +52,23 @@ fn counts(rt: HostRuntime) {
     assert!(rt; is_written(alloc, file_without_rows(alloc, 0, 1)));
 }
 
-/// Five rows and so many rates, each of which ends with the fifth row.
+/// So many rates, each of which ends with the fifth row.
+fn rates_of(alloc: Global, count: u32) -> Option<Items<Rate>> {
+    match vec![in alloc; rate_to(5); count as usize] {
+        Ok(rates) => Some(Items::of(rates)),
+        Err(_) => None,
+    }
+}
+
+/// Five rows and these rates.
 fn file_of_rates(alloc: Global, count: u32) -> Option<File> {
     let mut file = file(alloc, 1000, 12)?;
     file.head.nrates = count;
-    match vec![in alloc; rate_to(5); count as usize] {
-        Ok(rates) => {
-            file.head.rates = Items::of(rates);
-            Some(file)
-        }
-        Err(_) => None,
+    if put(&mut file.head.rates, rates_of(alloc, count)) {
+        return Some(file);
     }
+    drop(file);
+    None
 }
 
 /// A head of two rates that end with this row and with row 4.
@@ -72,6 +78,7 @@ fn head_of_two_rates(alloc: Global, first: u64) -> Option<Head> {
     if give_rates(&mut head, alloc, &[rate_to(first), rate_to(4)]) {
         return Some(head);
     }
+    drop(head);
     None
 }
 
@@ -96,6 +103,7 @@ fn two_rows(alloc: Global, values: &[Reading], bits: &[bool]) -> Option<Items<Ro
     {
         return Some(Items::of(list));
     }
+    drop(list);
     None
 }
 

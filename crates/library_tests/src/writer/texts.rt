@@ -1,6 +1,6 @@
 //! Texts that the writer of the configuration file refuses.
 
-use crate::writer::fixture::{analog, file, give_text, head, no_items, one, status};
+use crate::writer::fixture::{analog, file, give_text, head, no_items, one, put, status};
 use crate::writer::values::are_faults;
 use comtrade_write::{File, WriteFault};
 use dfr_channels::{AnalogChannel, Items, StatusChannel};
@@ -11,6 +11,7 @@ fn with_station(alloc: Global, station: &[u8]) -> Option<File> {
     if give_text(&mut file.head.station, alloc, station) {
         return Some(file);
     }
+    drop(file);
     None
 }
 
@@ -19,18 +20,26 @@ fn with_device(alloc: Global, device: &[u8]) -> Option<File> {
     if give_text(&mut file.head.device, alloc, device) {
         return Some(file);
     }
+    drop(file);
     None
+}
+
+fn with_channels(channels: Items<AnalogChannel>, file: Option<File>) -> Option<File> {
+    match file {
+        Some(mut file) => {
+            file.head.analog = channels;
+            Some(file)
+        }
+        None => {
+            drop(channels);
+            None
+        }
+    }
 }
 
 /// Five rows of this one channel.
 pub fn file_of_channel(alloc: Global, channel: AnalogChannel) -> Option<File> {
-    match (file(alloc, 1000, 12), one(alloc, channel)) {
-        (Some(mut file), Some(channels)) => {
-            file.head.analog = channels;
-            Some(file)
-        }
-        _ => None,
-    }
+    with_channels(one(alloc, channel)?, file(alloc, 1000, 12))
 }
 
 fn analog_with(alloc: Global, phase: &[u8], unit: &[u8]) -> Option<AnalogChannel> {
@@ -38,6 +47,7 @@ fn analog_with(alloc: Global, phase: &[u8], unit: &[u8]) -> Option<AnalogChannel
     if give_text(&mut channel.phase, alloc, phase) && give_text(&mut channel.unit, alloc, unit) {
         return Some(channel);
     }
+    drop(channel);
     None
 }
 
@@ -46,11 +56,13 @@ fn with_analog(alloc: Global, phase: &[u8], unit: &[u8]) -> Option<File> {
     file_of_channel(alloc, analog_with(alloc, phase, unit)?)
 }
 
-fn status_with(alloc: Global, phase: &[u8]) -> Option<StatusChannel> {
+/// A contact of this phase.
+pub fn status_with(alloc: Global, phase: &[u8]) -> Option<StatusChannel> {
     let mut channel = status(alloc)?;
     if give_text(&mut channel.phase, alloc, phase) {
         return Some(channel);
     }
+    drop(channel);
     None
 }
 
@@ -60,16 +72,15 @@ fn one_status(alloc: Global, phase: &[u8]) -> Option<Items<StatusChannel>> {
 
 /// One analogue channel, a status channel of this phase, and no row.
 fn with_status(alloc: Global, phase: &[u8]) -> Option<File> {
-    match (head(alloc, 1, 0, 0), one_status(alloc, phase)) {
-        (Some(mut head), Some(channels)) => {
-            head.status = channels;
-            Some(File {
-                head,
-                rows: no_items(alloc),
-            })
-        }
-        _ => None,
+    let mut head = head(alloc, 1, 0, 0)?;
+    if put(&mut head.status, one_status(alloc, phase)) {
+        return Some(File {
+            head,
+            rows: no_items(alloc),
+        });
     }
+    drop(head);
+    None
 }
 
 fn is_refused(alloc: Global, file: Option<File>, line: u64, field: u32) -> bool {

@@ -16,7 +16,11 @@ fn faults(alloc: Global, file: &File) -> [Option<WriteFault>; 3] {
 /// Whether the three writers answer so.
 pub fn are_faults(alloc: Global, file: Option<File>, wanted: [Option<WriteFault>; 3]) -> bool {
     match file {
-        Some(file) => faults(alloc, &file) == wanted,
+        Some(file) => {
+            let right = faults(alloc, &file) == wanted;
+            drop(file);
+            right
+        }
         None => false,
     }
 }
