@@ -105,21 +105,20 @@ impl Num {
         i32::try_from(bits).unwrap_or(0).saturating_add(self.two)
     }
 
-    /// The size as numbers that compare as sizes do.
-    fn size(self) -> (i32, u64) {
-        let size = self.mant.unsigned_abs();
-        (self.twos(), size.wrapping_shl(size.leading_zeros()))
-    }
-
-    /// Whether it is below another one, where neither is a multiple of a power of ten.
-    pub(crate) fn is_below(self, other: Num) -> bool {
-        if self.two == other.two || self.mant.signum() != other.mant.signum() {
-            return self.mant < other.mant;
+    /// A whole number by which numbers compare as they do, where none is a multiple of a power of ten: above the bits of its size stands
+    /// for which power of two it is below.
+    pub(crate) fn place(self) -> i128 {
+        if self.mant == 0 {
+            return 0;
         }
+        let size = self.mant.unsigned_abs();
+        let bits = size.wrapping_shl(size.leading_zeros());
+        let twos = i128::from(self.twos().saturating_add(10_000));
+        let place = twos.wrapping_shl(64) | i128::from(bits);
         if self.mant < 0 {
-            other.size() < self.size()
+            place.wrapping_neg()
         } else {
-            self.size() < other.size()
+            place
         }
     }
 }

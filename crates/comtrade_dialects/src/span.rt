@@ -10,13 +10,20 @@ pub(crate) struct Bounds {
     pub high: i64,
 }
 
+/// A sample, and its place among others.
+#[derive(Clone, Copy)]
+struct End {
+    num: Num,
+    place: i128,
+}
+
 /// The samples of a channel so far.
 #[derive(Clone, Copy)]
 pub(crate) struct Span {
     /// The first sample, where there is one.
     pub first: Option<Num>,
     /// The least and the greatest sample, while none is a multiple of a power of ten.
-    ends: Option<(Num, Num)>,
+    ends: Option<(End, End)>,
     is_binary: bool,
     /// All of them are whole numbers within the bounds.
     pub fits: bool,
@@ -34,12 +41,14 @@ pub(crate) struct Span {
     pub scale: Scale,
 }
 
-fn ends_with(ends: Option<(Num, Num)>, num: Num) -> (Num, Num) {
+fn ends_with(ends: Option<(End, End)>, num: Num) -> (End, End) {
+    let place = num.place();
+    let end = End { num, place };
     match ends {
-        Some((least, most)) if num.is_below(least) => (num, most),
-        Some((least, most)) if most.is_below(num) => (least, num),
+        Some((least, most)) if place < least.place => (end, most),
+        Some((least, most)) if most.place < place => (least, end),
         Some(ends) => ends,
-        None => (num, num),
+        None => (end, end),
     }
 }
 
@@ -95,8 +104,8 @@ impl Span {
         self.scale = Scale::new(18i32.saturating_sub(self.order).max(-60));
         if self.is_binary {
             if let Some((least, most)) = self.ends {
-                self.low = self.scale.nearest(least);
-                self.high = self.scale.nearest(most);
+                self.low = self.scale.nearest(least.num);
+                self.high = self.scale.nearest(most.num);
             }
         }
     }

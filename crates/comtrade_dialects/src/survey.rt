@@ -79,7 +79,7 @@ fn tell_row<A: Allocator + Copy>(
 /// BINARY's mark of a missing value in ASCII data, where the channel says that no sample is so low; or
 /// nines through all six characters of a value, where it says that none is so high.
 fn is_foreign_mark(ground: Ground<'_>, channel: usize, num: Num) -> bool {
-    let (Plan::Text(_, _), Some(low)) = (ground.plan, ground.lows.get(channel)) else {
+    let Some(low) = ground.lows.get(channel) else {
         return false;
     };
     match num.whole() {
@@ -99,6 +99,9 @@ pub(crate) fn next_cells<A: Allocator + Copy>(
         Ok(step) => step,
         Err((place, stop)) => return Err(fault_of(place, stop)),
     };
+    if let Plan::Packed(_) = ground.plan {
+        return Ok(step);
+    }
     let mut has_mark = false;
     for (i, value) in cells.values.iter_mut().enumerate() {
         if let Some(num) = *value {
