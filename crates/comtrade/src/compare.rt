@@ -1,6 +1,6 @@
 //! `comtrade compare`: two records in one picture.
 
-use crate::load::{file_spelled, pair_of, read_pair};
+use crate::load::{Inputs, file_spelled, pair_of, read_pair};
 use crate::survey::say_repairs;
 use crate::view::{NO_SIZE, options_of, put_part_fault};
 use crate::{complain, note_size, say};
@@ -73,6 +73,37 @@ fn taken_of(
     }
 }
 
+/// The file of a record that was read; none where it has none, which is said.
+fn file_from<R: Eprint + AllocGlobal>(
+    rt: &R,
+    name: &str,
+    part: Part<'_>,
+    inputs: &Inputs,
+) -> Result<Option<File>, ToolFault> {
+    let mut said = Vec::new(rt.alloc());
+    let pair = pair_of(inputs);
+    match file_spelled(rt.alloc(), pair, part.strict, part.encoding, &mut said)? {
+        Some(file) => told(rt, name, &said, file),
+        None => {
+            say(rt, &said);
+            Ok(None)
+        }
+    }
+}
+
+/// Says what was repaired of a file, and hands it on.
+fn told<R: Eprint + AllocGlobal>(
+    rt: &R,
+    name: &str,
+    said: &[u8],
+    file: File,
+) -> Result<Option<File>, ToolFault> {
+    match say_repairs(rt, name, said) {
+        Ok(()) => Ok(Some(file)),
+        Err(fault) => Err(fault),
+    }
+}
+
 /// The file of a record; none where it can't be read, which is said.
 fn file_of<R: Files + Input + Eprint + AllocGlobal + Clone + Drop>(
     rt: &R,
@@ -89,19 +120,7 @@ fn file_of<R: Files + Input + Eprint + AllocGlobal + Clone + Drop>(
     };
     say_repairs(rt, name, &inputs.said)?;
     note_size(rt, is_watched, &inputs);
-    let mut said = Vec::new(rt.alloc());
-    let pair = pair_of(&inputs);
-    let file = file_spelled(rt.alloc(), pair, part.strict, part.encoding, &mut said)?;
-    match file {
-        Some(file) => {
-            say_repairs(rt, name, &said)?;
-            Ok(Some(file))
-        }
-        None => {
-            say(rt, &said);
-            Ok(None)
-        }
-    }
+    file_from(rt, name, part, &inputs)
 }
 
 /// The record of a name; none where it can't be read or has no such part, which is said.
@@ -148,6 +167,34 @@ fn put_compared<W: Write>(
     }
 }
 
+/// Draws two records; false where that is refused, which is said.
+fn draw<R: Print + Eprint + AllocGlobal>(
+    rt: &R,
+    one: &Taken,
+    other: &Taken,
+    options: CompareOptions,
+) -> Result<bool, ToolFault> {
+    let mut said = Vec::new(rt.alloc());
+    let (alloc, mut out) = (rt.alloc(), io::writer(rt));
+    let is_drawn = put_compared(alloc, one, other, options, &mut out, &mut said)?;
+    say(rt, &said);
+    Ok(is_drawn)
+}
+
+/// Reads the second record and draws both; false where that is refused, which is said.
+fn compare_with<R: Files + Input + Print + Eprint + AllocGlobal + Clone + Drop>(
+    rt: &R,
+    is_watched: bool,
+    asked: Compared<'_>,
+    options: CompareOptions,
+    one: &Taken,
+) -> Result<bool, ToolFault> {
+    match record_of(rt, is_watched, asked.other, part_beside(asked.part))? {
+        Some(other) => draw(rt, one, &other, options),
+        None => Ok(false),
+    }
+}
+
 /// Reads two records and draws them; false where that is refused, which is said.
 fn compare<R: Files + Input + Print + Eprint + AllocGlobal + Clone + Drop>(
     rt: &R,
@@ -156,28 +203,15 @@ fn compare<R: Files + Input + Print + Eprint + AllocGlobal + Clone + Drop>(
     by: By,
     picture: PlotOptions,
 ) -> Result<bool, ToolFault> {
-    let Some(one) = record_of(rt, is_watched, asked.one, asked.part)? else {
-        return Ok(false);
-    };
-    let Some(other) = record_of(rt, is_watched, asked.other, part_beside(asked.part))? else {
-        return Ok(false);
-    };
     let options = CompareOptions {
         by,
         picture,
         is_chosen: asked.part.channels.is_some(),
     };
-    let mut said = Vec::new(rt.alloc());
-    let is_drawn = put_compared(
-        rt.alloc(),
-        &one,
-        &other,
-        options,
-        &mut io::writer(rt),
-        &mut said,
-    )?;
-    say(rt, &said);
-    Ok(is_drawn)
+    match record_of(rt, is_watched, asked.one, asked.part)? {
+        Some(one) => compare_with(rt, is_watched, asked, options, &one),
+        None => Ok(false),
+    }
 }
 
 /// Reads two records, and prints the picture of both.

@@ -175,6 +175,58 @@ fn file_to_view(
     Ok(found)
 }
 
+/// How it is spelled and drawn; None where a separator or a size isn't one, which is put to `said`.
+fn look_of(viewed: Viewed<'_>, said: &mut Vec<u8>) -> Result<Option<Look>, ToolFault> {
+    let Some(spelling) = Spelling::of(viewed.form.separator, viewed.form.decimal) else {
+        put(said, NO_SPELLING)?;
+        return Ok(None);
+    };
+    let Some(options) = options_of(viewed.picture) else {
+        put(said, NO_SIZE)?;
+        return Ok(None);
+    };
+    Ok(Some(Look {
+        spelling,
+        options,
+        json: viewed.json,
+    }))
+}
+
+/// Prints what is asked of a file whose rows were taken at these times.
+fn view_timed<W: Write>(
+    alloc: Global,
+    view: View,
+    viewed: Viewed<'_>,
+    look: Look,
+    file: &File,
+    times: &[Option<i64>],
+    w: &mut W,
+    said: &mut Vec<u8>,
+) -> Result<bool, ToolFault> {
+    if view == View::Measure {
+        return measure_over(alloc, viewed, file, times, w, said);
+    }
+    if is_whole(viewed.part) {
+        put_view(alloc, view, look, file, times, w)?;
+        return Ok(true);
+    }
+    put_part(alloc, view, look, viewed.part, file, times, w, said)
+}
+
+/// Prints what is asked of a file.
+fn view_file<W: Write>(
+    alloc: Global,
+    view: View,
+    viewed: Viewed<'_>,
+    look: Look,
+    file: &File,
+    w: &mut W,
+    said: &mut Vec<u8>,
+) -> Result<bool, ToolFault> {
+    let times = times_since_trigger(alloc, file)?;
+    view_timed(alloc, view, viewed, look, file, &times, w, said)
+}
+
 /// Prints what is asked of a part of a pair: false where the pair has a fault, or no such part. The fault's line is what `Check` prints;
 /// the others put it to `said` and print nothing. The repairs of a pair that isn't read exactly are put to `said`, too.
 pub(crate) fn view_over<W: Write>(
@@ -188,29 +240,11 @@ pub(crate) fn view_over<W: Write>(
     if view == View::Check {
         return check(alloc, viewed, pair, w);
     }
-    let Some(spelling) = Spelling::of(viewed.form.separator, viewed.form.decimal) else {
-        put(said, NO_SPELLING)?;
+    let Some(look) = look_of(viewed, said)? else {
         return Ok(false);
     };
-    let Some(options) = options_of(viewed.picture) else {
-        put(said, NO_SIZE)?;
-        return Ok(false);
-    };
-    let look = Look {
-        spelling,
-        options,
-        json: viewed.json,
-    };
-    let Some(file) = file_to_view(alloc, view, viewed.part, pair, said)? else {
-        return Ok(false);
-    };
-    let times = times_since_trigger(alloc, &file)?;
-    if view == View::Measure {
-        return measure_over(alloc, viewed, &file, &times, w, said);
+    match file_to_view(alloc, view, viewed.part, pair, said)? {
+        Some(file) => view_file(alloc, view, viewed, look, &file, w, said),
+        None => Ok(false),
     }
-    if is_whole(viewed.part) {
-        put_view(alloc, view, look, &file, &times, w)?;
-        return Ok(true);
-    }
-    put_part(alloc, view, look, viewed.part, &file, &times, w, said)
 }
