@@ -41,6 +41,7 @@ int32_t comtrade_core_values(double a, double b, const int32_t *samples, size_t,
 int32_t comtrade_core_write(const uint8_t *cfg, size_t, bool binary, const uint64_t *stamps, size_t, const int32_t *samples, size_t,
                             const uint8_t *bits, size_t, uint8_t *new_cfg, size_t, uint8_t *new_dat, size_t, struct core_sizes *,
                             struct comtrade_fault *);
+int32_t comtrade_core_words(const uint8_t *cfg, size_t, const uint8_t *dat, size_t, uint8_t *text, size_t, size_t *count);
 
 struct comtrade {
     struct core_head head;
@@ -99,6 +100,19 @@ int32_t comtrade_fault_text(const struct comtrade_fault *fault, char *buffer, si
 static const uint8_t *some(const void *at) {
     static const uint64_t nothing[2] = {0, 0};
     return at ? (const uint8_t *)at : (const uint8_t *)nothing;
+}
+
+int32_t comtrade_explain(const uint8_t *cfg, size_t cfg_length, const uint8_t *dat, size_t dat_length, char *buffer, size_t room, size_t *needed) {
+    if ((!cfg && cfg_length) || (!dat && dat_length) || (!buffer && room)) return COMTRADE_BAD_CALL;
+    uint8_t none[1];
+    size_t count = 0;
+    int32_t answer = comtrade_core_words(some(cfg), cfg_length, some(dat), dat_length, buffer ? (uint8_t *)buffer : none, room, &count);
+    if (answer == COMTRADE_NO_MEMORY) return answer;
+    size_t length = count ? count - 1 : 0; /* in place of the line's end the zero stands */
+    if (needed) *needed = length;
+    if (answer != COMTRADE_DONE || room <= length) return COMTRADE_NO_ROOM;
+    buffer[length] = 0;
+    return COMTRADE_DONE;
 }
 
 /* Room for so many; for one where there are none. NULL where that is more than there is. */

@@ -33,7 +33,7 @@ extern "C" {
 #endif
 
 /* The version of this header, as 10000 times the first number, 100 times the second, and the third. */
-#define COMTRADE_VERSION 10000
+#define COMTRADE_VERSION 10100
 /* The version of the library that runs. Of one first number, a later library does all that an earlier one does. */
 int32_t comtrade_version(void);
 
@@ -81,6 +81,12 @@ struct comtrade_fault {
 /* The fault in words, as "line 3, field 2 can't be read or is out of its range", with a zero at its end. `needed` is how long the text
  * is without the zero; NO_ROOM unless `room` is more. */
 int32_t comtrade_fault_text(const struct comtrade_fault *fault, char *buffer, size_t room, size_t *needed);
+
+/* The first fault of a pair as `comtrade check` says it, as "the configuration file: line 3 (analogue channel 1), field 6 (a, the multiplier): "x" stands
+ * there; wanted is .."; an empty text where it has none. A zero at its end; `needed` and NO_ROOM as above; NO_MEMORY. It reads the pair
+ * anew. */
+int32_t comtrade_explain(const uint8_t *cfg, size_t cfg_length, const uint8_t *dat, size_t dat_length,
+                         char *buffer, size_t room, size_t *needed);
 
 /* A record: a pair of files that was read. */
 typedef struct comtrade comtrade;

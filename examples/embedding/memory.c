@@ -67,6 +67,16 @@ static int32_t opens(struct made *m) { return comtrade_open(cfg, cfg_length, dat
 static int32_t opens_short(struct made *m) { return comtrade_open(cfg, cfg_length, dat, dat_length - 1, &m->record, &m->fault); }
 static int32_t opens_ill(struct made *m) { return comtrade_open(cfg, 20, dat, dat_length, &m->record, &m->fault); }
 static int32_t opens_nothing(struct made *m) { return comtrade_open(NULL, 0, NULL, 0, &m->record, &m->fault); }
+static int32_t explains(struct made *m) {
+    char text[300];
+    (void)m;
+    return comtrade_explain(cfg, 20, dat, dat_length, text, sizeof text, NULL);
+}
+static int32_t explains_nothing(struct made *m) {
+    char text[300];
+    (void)m;
+    return comtrade_explain(cfg, cfg_length, dat, dat_length, text, sizeof text, NULL);
+}
 static int32_t writes(struct made *m) { return comtrade_write(&setup, &m->cfg, &m->cfg_length, &m->dat, &m->dat_length, &m->fault); }
 static int32_t writes_ill(struct made *m) {
     struct comtrade_setup ill = setup;
@@ -173,6 +183,29 @@ static void edges(const comtrade *r) {
     WANT(comtrade_times(r, head.rows, 0, NULL), COMTRADE_DONE);
 }
 
+static void words(void) {
+    static const char said[] = "the configuration file: line 2 (numbers of channels)";
+    char text[300];
+    size_t needed = 99, first = 0;
+    while (cfg[first++] != '\n') continue;
+    WANT(comtrade_explain(cfg, cfg_length, dat, dat_length, NULL, 0, &needed), COMTRADE_NO_ROOM);
+    WANT(needed, 0);
+    WANT(comtrade_explain(cfg, cfg_length, dat, dat_length, text, 1, NULL), COMTRADE_DONE);
+    WANT(text[0], 0);
+    WANT(comtrade_explain(cfg, first, dat, dat_length, text, sizeof text, &needed), COMTRADE_DONE);
+    WANT(needed, (long)strlen(text));
+    if (strncmp(text, said, strlen(said)) != 0) ill += printf("said: %s\n", text);
+    size_t room = needed;
+    memset(text, '?', sizeof text);
+    WANT(comtrade_explain(cfg, first, dat, dat_length, text, room, &needed), COMTRADE_NO_ROOM);
+    WANT(text[0], '?');
+    WANT(comtrade_explain(cfg, first, dat, dat_length, text, room + 1, NULL), COMTRADE_DONE);
+    WANT(text[room], 0);
+    WANT(comtrade_explain(NULL, 0, NULL, 0, text, sizeof text, NULL), COMTRADE_DONE);
+    WANT(comtrade_explain(NULL, 1, NULL, 0, text, sizeof text, NULL), COMTRADE_BAD_CALL);
+    WANT(comtrade_explain(cfg, first, dat, dat_length, NULL, 1, NULL), COMTRADE_BAD_CALL);
+}
+
 static size_t contents(const char *name, uint8_t *to) {
     FILE *file = fopen(name, "rb");
     size_t length = file ? fread(to, 1, TEXT, file) : 0;
@@ -196,6 +229,7 @@ int main(int argc, char **argv) {
         alone = k != 0;
         ill += !refuses("comtrade_open", opens, COMTRADE_DONE) + !refuses("comtrade_open, short data", opens_short, COMTRADE_DAT_FAULT)
             + !refuses("comtrade_open, a cut head", opens_ill, COMTRADE_CFG_FAULT) + !refuses("comtrade_open, nothing", opens_nothing, COMTRADE_CFG_FAULT)
+            + !refuses("comtrade_explain, a cut head", explains, COMTRADE_DONE) + !refuses("comtrade_explain", explains_nothing, COMTRADE_DONE)
             + !refuses("comtrade_write", writes, COMTRADE_DONE) + !refuses("comtrade_write, a comma", writes_ill, COMTRADE_WRITE_FAULT)
             + !refuses("comtrade_write, a far sample", writes_beyond, COMTRADE_WRITE_FAULT);
     }
@@ -209,6 +243,7 @@ int main(int argc, char **argv) {
     WANT(comtrade_write(&setup, &to, &length, &to, &length, NULL), COMTRADE_BAD_SIZE);
     setup.size++, setup.samples = NULL;
     WANT(comtrade_write(&setup, &to, &length, &to, &length, NULL), COMTRADE_BAD_CALL);
+    words();
     comtrade_close(NULL);
     WANT(comtrade_open(cfg, cfg_length, dat, dat_length, &record, NULL), COMTRADE_DONE);
     if (record) edges(record);

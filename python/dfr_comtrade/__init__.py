@@ -11,14 +11,14 @@ from typing import Optional, Union
 
 from . import _library as c
 from ._library import NO_SAMPLE, NO_STAMP, NO_TIME
-from .errors import CfgFault, ComtradeError, DatFault, WriteFault, need
+from .errors import CfgFault, ComtradeError, DatFault, WriteFault, explain, need_read
 from .record import AnalogChannel, Channels, Rate, Record, StatusChannel
 from .writing import Analog, Status, write, write_bytes
 
-__version__ = "1.0.0"
+__version__ = "1.1.0"
 __all__ = [
     "Analog", "AnalogChannel", "CfgFault", "Channels", "ComtradeError", "DatFault", "NO_SAMPLE", "NO_STAMP", "NO_TIME", "Rate", "Record",
-    "Status", "StatusChannel", "WriteFault", "read", "read_bytes", "write", "write_bytes",
+    "Status", "StatusChannel", "WriteFault", "explain", "read", "read_bytes", "write", "write_bytes",
 ]
 
 _Path = Union[str, "os.PathLike[str]"]
@@ -27,7 +27,7 @@ _Path = Union[str, "os.PathLike[str]"]
 def read_bytes(cfg: bytes, dat: bytes) -> Record:
     """The record that two files say, as bytes. Raises CfgFault, DatFault, MemoryError."""
     at, fault = ctypes.c_void_p(), c.Fault()
-    need(c.library.comtrade_open(cfg, len(cfg), dat, len(dat), ctypes.byref(at), ctypes.byref(fault)), fault)
+    need_read(c.library.comtrade_open(cfg, len(cfg), dat, len(dat), ctypes.byref(at), ctypes.byref(fault)), fault, cfg, dat)
     return Record(at)
 
 

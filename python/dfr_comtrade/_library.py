@@ -5,7 +5,7 @@ import os
 from ctypes import POINTER, Structure, c_bool, c_char_p, c_double, c_int32, c_int64, c_size_t, c_uint8, c_uint32, c_uint64, c_void_p
 from pathlib import Path
 
-VERSION = 10000
+VERSION = 10100
 ALL = ctypes.c_size_t(-1).value
 NO_SAMPLE = -(2**31)
 NO_STAMP = 2**64 - 1
@@ -96,6 +96,7 @@ def _load() -> ctypes.CDLL:
         "samples": rows, "values": rows, "bits": rows,
         "stamps": [c_void_p, c_size_t, c_size_t, c_void_p],
         "times": [c_void_p, c_size_t, c_size_t, c_void_p],
+        "explain": [c_char_p, c_size_t, c_char_p, c_size_t, out, c_size_t, POINTER(c_size_t)],
         "fault_text": [fault, out, c_size_t, POINTER(c_size_t)],
         "write": [POINTER(Setup), POINTER(POINTER(c_uint8)), POINTER(c_size_t), POINTER(POINTER(c_uint8)), POINTER(c_size_t), fault],
     }

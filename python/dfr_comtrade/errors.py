@@ -41,6 +41,22 @@ def fault_text(fault: c.Fault) -> str:
     return text.value.decode()
 
 
+def explain(cfg: bytes, dat: bytes) -> str:
+    """The first fault of a pair in words: where it stands, what stands there and what is wanted; empty where it has none."""
+    needed = ctypes.c_size_t()
+    c.library.comtrade_explain(cfg, len(cfg), dat, len(dat), None, 0, ctypes.byref(needed))
+    text = ctypes.create_string_buffer(needed.value + 1)
+    need(c.library.comtrade_explain(cfg, len(cfg), dat, len(dat), text, len(text), None))
+    return text.value.decode()
+
+
+def need_read(answer: int, fault: c.Fault, cfg: bytes, dat: bytes) -> None:
+    """Raises unless the pair was read; a fault in all its words."""
+    if answer in (c.CFG_FAULT, c.DAT_FAULT):
+        raise _KINDS[answer][0](explain(cfg, dat), fault.kind, fault.place, fault.field)
+    need(answer)
+
+
 def need(answer: int, fault: "c.Fault | None" = None) -> None:
     """Raises unless the call is done."""
     if answer == c.DONE:

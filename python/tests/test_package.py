@@ -67,9 +67,11 @@ def test_faults():
     cfg, dat = (PAIRS / "plain.cfg").read_bytes(), (PAIRS / "plain.dat").read_bytes()
     with pytest.raises(dfr_comtrade.CfgFault) as found:
         dfr_comtrade.read_bytes(cfg.replace(b"0.01", b"x"), dat)
-    assert (found.value.line, found.value.field) == (3, 6) and "line 3, field 6" in str(found.value)
-    with pytest.raises(dfr_comtrade.DatFault):
+    assert (found.value.line, found.value.field) == (3, 6)
+    assert str(found.value).startswith('the configuration file: line 3 (analogue channel 1), field 6 (a, the multiplier): "x" stands there; wanted is ')
+    with pytest.raises(dfr_comtrade.DatFault, match="^the data file: "):
         dfr_comtrade.read_bytes(cfg, dat[:-1])
+    assert dfr_comtrade.explain(cfg, dat) == ""
     with pytest.raises(dfr_comtrade.CfgFault):
         dfr_comtrade.read_bytes(b"", b"")
     with pytest.raises(FileNotFoundError):

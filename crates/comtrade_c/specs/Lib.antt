@@ -6,3 +6,4 @@ pub mod Summaries
 pub mod Values
 pub mod Writing
 pub mod Times
+pub mod Words

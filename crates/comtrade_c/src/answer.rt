@@ -113,7 +113,7 @@ pub(crate) fn refuse_write(why: WriteFault, said: &mut Fault) -> i32
 }
 
 /// A text at the front of a buffer that has room for it.
-fn put_front(out: &mut [u8], text: &[u8])
+pub(crate) fn put_front(out: &mut [u8], text: &[u8])
     requires { length text.now ≤ length out.old }
     ensures { out.new ≡ buffers.put text.now out.old }
 {

@@ -9,6 +9,7 @@ ghost use Rattle.comtrade_c.specs.Tables.{TabulatesRows, RowsLackRoom};
 
 use crate::rows::{NO_SAMPLE, NO_STAMP};
 use crate::summary::last_row;
+use bumpalo::Bump;
 use byteorder::{ByteOrder, LittleEndian};
 use comtrade_format::Head;
 use comtrade_read::ReadFault;
@@ -159,7 +160,7 @@ fn are_tables(stamps: usize, samples: usize, bits: usize, rows: u64, k: usize, m
 /// Fills the tables with the rows that BINARY data say under their head; false where one of the tables isn't as long as they want, and
 /// then all are left alone, as they are where the data have a fault.
 pub(crate) fn binary_rows(
-    head: &Head,
+    head: &Head<&Bump>,
     dat: &[u8],
     stamps: &mut [u64],
     samples: &mut [i32],

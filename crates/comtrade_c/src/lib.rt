@@ -10,4 +10,5 @@ mod summary;
 mod texts;
 mod times;
 mod values;
+mod words;
 mod write;

@@ -12,6 +12,7 @@ ghost use Rattle.comtrade_c.specs.Tables.{Tabulates, LacksRoom, TabulatesRows, R
 
 use crate::answer::{CFG_FAULT, DAT_FAULT, DONE, Fault, NO_ROOM, refuse_read};
 use crate::binary::binary_rows;
+use bumpalo::Bump;
 use comtrade_format::{Head, Kind, Row};
 use comtrade_read::{Part, ReadFault, read_cfg, read_dat};
 use dfr_channels::Reading;
@@ -47,7 +48,7 @@ fn stamp_of(stamp: Option<u64>) -> u64
 }
 
 /// Whether a table of this length has a place for each sample of the rows, and no other.
-fn holds_samples(room: usize, rows: &[Row]) -> bool
+fn holds_samples(room: usize, rows: &[Row<&Bump>]) -> bool
     ensures whole { IsTrue result → room ≡ length (flat_map row_samples rows.now) }
     ensures other { IsFalse result → room ≢ length (flat_map row_samples rows.now) }
 {
@@ -63,7 +64,7 @@ fn holds_samples(room: usize, rows: &[Row]) -> bool
 }
 
 /// The same of bits.
-fn holds_bits(room: usize, rows: &[Row]) -> bool
+fn holds_bits(room: usize, rows: &[Row<&Bump>]) -> bool
     ensures whole { IsTrue result → room ≡ length (flat_map row_bits rows.now) }
     ensures other { IsFalse result → room ≢ length (flat_map row_bits rows.now) }
 {
@@ -98,7 +99,7 @@ fn put_row_bits(to: &mut [u8], bits: &[bool])
     }
 }
 
-fn put_samples(to: &mut [i32], rows: &[Row])
+fn put_samples(to: &mut [i32], rows: &[Row<&Bump>])
     requires { length to.old ≡ length (flat_map row_samples rows.now) }
     ensures { to.new ≡ flat_map row_samples rows.now }
 {
@@ -110,7 +111,7 @@ fn put_samples(to: &mut [i32], rows: &[Row])
     }
 }
 
-fn put_bits(to: &mut [u8], rows: &[Row])
+fn put_bits(to: &mut [u8], rows: &[Row<&Bump>])
     requires { length to.old ≡ length (flat_map row_bits rows.now) }
     ensures { to.new ≡ flat_map row_bits rows.now }
 {
@@ -122,7 +123,7 @@ fn put_bits(to: &mut [u8], rows: &[Row])
     }
 }
 
-fn put_stamps(to: &mut [u64], rows: &[Row])
+fn put_stamps(to: &mut [u64], rows: &[Row<&Bump>])
     requires { length to.old ≡ length rows.now }
     ensures { to.new ≡ map (λ r. tables.stamp_of r.stamp) rows.now }
 {
@@ -132,7 +133,7 @@ fn put_stamps(to: &mut [u64], rows: &[Row])
 }
 
 /// Fills the tables; false where one of them isn't as long as the rows want, and then all are left alone.
-fn fill(rows: &[Row], stamps: &mut [u64], samples: &mut [i32], bits: &mut [u8]) -> bool
+fn fill(rows: &[Row<&Bump>], stamps: &mut [u64], samples: &mut [i32], bits: &mut [u8]) -> bool
     ensures stamps { IsTrue result → stamps.new ≡ tables.stamps_of rows.now }
     ensures samples { IsTrue result → samples.new ≡ tables.samples_of rows.now }
     ensures bits { IsTrue result → bits.new ≡ tables.bits_of rows.now }
@@ -157,49 +158,49 @@ fn fill(rows: &[Row], stamps: &mut [u64], samples: &mut [i32], bits: &mut [u8]) 
 
 /// Fills the tables with the rows that data say under their head, which are read first; false as `fill` says it. After a fault, too, all
 /// are left alone.
-fn listed_rows(
-    alloc: Global,
-    head: Head,
+fn listed_rows<'a>(
+    lists: &'a Bump,
+    head: Head<&'a Bump>,
     dat: &[u8],
     stamps: &mut [u64],
     samples: &mut [i32],
     bits: &mut [u8],
 ) -> Result<bool, ReadFault>
     requires few { length head.analog + length head.status < 1000000 }
-    ensures done { result ≡ Ok true → TabulatesRows head dat.now stamps.new samples.new bits.new }
-    ensures room { result ≡ Ok false → RowsLackRoom head dat.now stamps.old samples.old bits.old }
-    ensures fault { IfErr result (λ e. e ≢ faults.Memory → FaultyData head dat.now e) }
-    ensures unread { IfErr result (λ e. e ≢ faults.Memory → Nothing (ReadsRows head dat.now)) }
+    ensures done { result ≡ Ok true → TabulatesRows head.entry dat.now stamps.new samples.new bits.new }
+    ensures room { result ≡ Ok false → RowsLackRoom head.entry dat.now stamps.old samples.old bits.old }
+    ensures fault { IfErr result (λ e. e ≢ faults.Memory → FaultyData head.entry dat.now e) }
+    ensures unread { IfErr result (λ e. e ≢ faults.Memory → Nothing (ReadsRows head.entry dat.now)) }
     ensures stamps_kept { (result ≢ Ok true) → stamps.new ≡ stamps.old }
     ensures samples_kept { (result ≢ Ok true) → samples.new ≡ samples.old }
     ensures bits_kept { (result ≢ Ok true) → bits.new ≡ bits.old }
 {
-    match read_dat(alloc, head, dat) {
+    match read_dat(lists, head, dat) {
         Ok(file) => Ok(fill(file.rows.items(), stamps, samples, bits)),
         Err((why, _)) => Err(why),
     }
 }
 
 /// The same, straight from the data where they are BINARY.
-fn rows_under(
-    alloc: Global,
-    head: Head,
+fn rows_under<'a>(
+    lists: &'a Bump,
+    head: Head<&'a Bump>,
     dat: &[u8],
     stamps: &mut [u64],
     samples: &mut [i32],
     bits: &mut [u8],
 ) -> Result<bool, ReadFault>
     requires few { length head.analog + length head.status < 1000000 }
-    ensures done { result ≡ Ok true → TabulatesRows head dat.now stamps.new samples.new bits.new }
-    ensures room { result ≡ Ok false → RowsLackRoom head dat.now stamps.old samples.old bits.old }
-    ensures fault { IfErr result (λ e. e ≢ faults.Memory → FaultyData head dat.now e) }
-    ensures unread { IfErr result (λ e. e ≢ faults.Memory → Nothing (ReadsRows head dat.now)) }
+    ensures done { result ≡ Ok true → TabulatesRows head.entry dat.now stamps.new samples.new bits.new }
+    ensures room { result ≡ Ok false → RowsLackRoom head.entry dat.now stamps.old samples.old bits.old }
+    ensures fault { IfErr result (λ e. e ≢ faults.Memory → FaultyData head.entry dat.now e) }
+    ensures unread { IfErr result (λ e. e ≢ faults.Memory → Nothing (ReadsRows head.entry dat.now)) }
     ensures stamps_kept { (result ≢ Ok true) → stamps.new ≡ stamps.old }
     ensures samples_kept { (result ≢ Ok true) → samples.new ≡ samples.old }
     ensures bits_kept { (result ≢ Ok true) → bits.new ≡ bits.old }
 {
     match head.kind {
-        Kind::Ascii => listed_rows(alloc, head, dat, stamps, samples, bits),
+        Kind::Ascii => listed_rows(lists, head, dat, stamps, samples, bits),
         Kind::Binary => binary_rows(&head, dat, stamps, samples, bits),
     }
 }
@@ -226,11 +227,13 @@ pub extern "C" fn comtrade_core_rows(
     ensures bits_kept { (result ≢ DONE) → bits.new ≡ bits.old }
     ensures fault_kept { (result ≢ CFG_FAULT) → (result ≢ DAT_FAULT) → fault.new ≡ fault.old }
 {
-    let head = match read_cfg(alloc, cfg) {
+    // a file's lists are given up together: one by one that took a sixth of the time
+    let lists = Bump::new(alloc);
+    let head = match read_cfg(&lists, cfg) {
         Ok(head) => head,
         Err(why) => return refuse_read(Part::Cfg, why, fault),
     };
-    match rows_under(alloc, head, dat, stamps, samples, bits) {
+    match rows_under(&lists, head, dat, stamps, samples, bits) {
         Ok(true) => DONE,
         Ok(false) => NO_ROOM,
         Err(why) => refuse_read(Part::Dat, why, fault),

@@ -8,6 +8,7 @@ ghost use Rattle.std.specs.Prelude.{◌≤◌, IfOk, length};
 ghost use Rattle.dfr_program.specs.Words.{NamesFiles};
 
 use crate::folder::Folder;
+use bumpalo::Bump;
 use comtrade_write::Kind;
 use dfr_live::Sink;
 use dfr_program::{Command, RunFault, command_of, live_of, read_all, read_over, replay_over};
@@ -47,7 +48,8 @@ fn read_pair<R: Files + Print + AllocGlobal>(
     let cfg = read_file(rt, rt.alloc(), cfg)?;
     let dat = read_file(rt, rt.alloc(), dat)?;
     let mut out = io::writer(rt);
-    let whole = read_over(rt.alloc(), &cfg, &dat, &mut out)?;
+    let lists = Bump::new(rt.alloc()); // a file's lists are given up together
+    let whole = read_over(&lists, &cfg, &dat, &mut out)?;
     match out.flush() {
         Ok(()) => Ok(whole),
         Err(_) => Err(RunFault::Output),

@@ -36,8 +36,8 @@ returns-in-Ok-false-clause-room c = λ short.
       lengths = told.lengths;
     }
 
-pub returns-in-Err-rows_under-clause-dat_fault : goal.returns-in-Err-rows_under-clause-dat_fault
-returns-in-Err-rows_under-clause-dat_fault c =
+pub returns-clause-dat_fault : goal.returns-clause-dat_fault
+returns-clause-dat_fault c =
     let same = to_z-of_z w32 c.refuse_read-in-Err-rows_under.result (search rules) in
     λ is.
     let known = c.refuse_read-in-Err-rows_under.ensures.fault (inr (sym same ∙ is)) in

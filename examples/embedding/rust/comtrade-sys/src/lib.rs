@@ -136,6 +136,7 @@ unsafe extern "C" {
     pub fn comtrade_bits(record: *const comtrade, channel: usize, first: usize, count: usize, to: *mut u8) -> i32;
     pub fn comtrade_stamps(record: *const comtrade, first: usize, count: usize, to: *mut u64) -> i32;
     pub fn comtrade_times(record: *const comtrade, first: usize, count: usize, to: *mut i64) -> i32;
+    pub fn comtrade_explain(cfg: *const u8, cfg_length: usize, dat: *const u8, dat_length: usize, buffer: *mut c_char, room: usize, needed: *mut usize) -> i32;
     pub fn comtrade_fault_text(fault: *const comtrade_fault, buffer: *mut c_char, room: usize, needed: *mut usize) -> i32;
     pub fn comtrade_write(setup: *const comtrade_setup, cfg: *mut *mut u8, cfg_length: *mut usize, dat: *mut *mut u8, dat_length: *mut usize, fault: *mut comtrade_fault) -> i32;
     pub fn comtrade_free(at: *mut c_void);

@@ -50,6 +50,18 @@ fn done(answer: i32) -> Result<(), Error> {
     need(answer, sys::comtrade_fault::default())
 }
 
+/// The first fault of a pair in words: where it stands, what stands there and what is wanted; empty where it has none.
+pub fn explain(cfg: &[u8], dat: &[u8]) -> Result<String, Error> {
+    let call = |text: *mut u8, room: usize, length: &mut usize| unsafe {
+        sys::comtrade_explain(cfg.as_ptr(), cfg.len(), dat.as_ptr(), dat.len(), text.cast(), room, length)
+    };
+    let mut length = 0;
+    call(std::ptr::null_mut(), 0, &mut length);
+    let mut text = vec![0u8; length + 1];
+    done(call(text.as_mut_ptr(), text.len(), &mut length))?;
+    Ok(String::from_utf8_lossy(&text[..length]).into_owned())
+}
+
 /// Texts of a record; of the first two the channel is 0.
 #[derive(Clone, Copy, Debug)]
 #[repr(i32)]
