@@ -11,21 +11,22 @@ use Rattle.clap.specs.Words.{subcommand_rows_of}
 use Rattle.clap.proofs.WalkLemmas.{first_value-rows, raw_values-rows}
 use Rattle.clap.specs.declared.parser.matches.Found.{Found}
 use Rattle.clap.specs.declared.parser.matches.ArgMatches.{ArgMatches}
-use Rattle.comtrade_cli.specs.declared.words.Names.{Names}
-use Rattle.comtrade_cli.specs.declared.words.Converted.{Converted}
-use Rattle.comtrade_cli.specs.declared.words.Compared.{Compared}
-use Rattle.comtrade_cli.specs.declared.words.View.{View}
-use Rattle.comtrade_cli.specs.declared.words.View.TheVariants as view
-use Rattle.comtrade_cli.specs.declared.words.Survey.{Survey}
-use Rattle.comtrade_cli.specs.declared.words.Survey.TheVariants as survey
-use Rattle.comtrade_cli.specs.declared.words.Asked.{Asked}
-use Rattle.comtrade_cli.specs.declared.words.Asked.TheVariants as asks
+use Rattle.comtrade_io.specs.declared.words.Names.{Names}
+use Rattle.comtrade_io.specs.declared.words.Converted.{Converted}
+use Rattle.comtrade_io.specs.declared.words.Compared.{Compared}
+use Rattle.comtrade_io.specs.declared.words.View.{View}
+use Rattle.comtrade_io.specs.declared.words.View.TheVariants as view
+use Rattle.comtrade_io.specs.declared.words.Survey.{Survey}
+use Rattle.comtrade_io.specs.declared.words.Survey.TheVariants as survey
+use Rattle.comtrade_io.specs.declared.words.Asked.{Asked}
+use Rattle.comtrade_io.specs.declared.words.Asked.TheVariants as asks
 use Rattle.comtrade_cli.specs.declared.asked.Answer.{Answer}
 use Rattle.comtrade_cli.specs.declared.asked.Answer.TheVariants.{Do, Print, Refuse}
 use Rattle.clap.specs.declared.error.kind.ErrorKind.{ErrorKind}
 use Rattle.clap.specs.declared.error.kind.ErrorKind.TheVariants.{OutOfMemory}
 use Rattle.clap.specs.Words.{IsAmong, Kinds, is_simple_and_free}
-use Rattle.comtrade_cli.specs.Asking.{AreNames, Asks, AsksAs, Does, DoneAbout, FitsNothing, IsCompared, IsConverted, Tells, is_text, survey_name, view_name}
+use Rattle.comtrade_cli.specs.Asking.{AreNames, Asks, AsksAs, Does, DoneAbout, FitsNothing, IsCompared, IsConverted, Tells, is_text}
+use Rattle.comtrade_io.specs.Verbs.{survey_name, view_name}
 use Rattle.comtrade_cli.specs.Commands.{IsCommand, program}
 
 -- what rows say is what the getters read

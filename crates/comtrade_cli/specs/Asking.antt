@@ -5,22 +5,21 @@ use Rattle.clap.specs.Words.{Kinds, IsAmong, Row, Text, all_of, fault_of, first_
 use Rattle.clap.specs.declared.error.kind.ErrorKind.{ErrorKind}
 use Rattle.clap.specs.declared.error.kind.ErrorKind.TheVariants as fault
 use Rattle.comtrade_format.specs.declared.file.Kind.TheVariants as kind
-use Rattle.comtrade_cli.specs.declared.words.Names.{Names}
-use Rattle.comtrade_cli.specs.declared.words.Part.{Part}
-use Rattle.comtrade_cli.specs.declared.words.Form.{Form}
-use Rattle.comtrade_cli.specs.declared.words.Picture.{Picture}
-use Rattle.comtrade_cli.specs.declared.words.Cursor.{Cursor}
-use Rattle.comtrade_cli.specs.declared.words.View.{View}
-use Rattle.comtrade_cli.specs.declared.words.View.TheVariants as view
-use Rattle.comtrade_cli.specs.declared.words.Viewed.{Viewed}
-use Rattle.comtrade_cli.specs.declared.words.Converted.{Converted}
-use Rattle.comtrade_cli.specs.declared.words.Compared.{Compared}
-use Rattle.comtrade_cli.specs.declared.words.Survey.{Survey}
-use Rattle.comtrade_cli.specs.declared.words.Survey.TheVariants as survey
-use Rattle.comtrade_cli.specs.declared.words.Asked.{Asked}
-use Rattle.comtrade_cli.specs.declared.words.Asked.TheVariants as asks
+use Rattle.comtrade_io.specs.declared.words.Names.{Names}
+use Rattle.comtrade_io.specs.declared.words.Part.{Part}
+use Rattle.comtrade_io.specs.declared.words.Form.{Form}
+use Rattle.comtrade_io.specs.declared.words.Picture.{Picture}
+use Rattle.comtrade_io.specs.declared.words.Cursor.{Cursor}
+use Rattle.comtrade_io.specs.declared.words.View.{View}
+use Rattle.comtrade_io.specs.declared.words.Viewed.{Viewed}
+use Rattle.comtrade_io.specs.declared.words.Converted.{Converted}
+use Rattle.comtrade_io.specs.declared.words.Compared.{Compared}
+use Rattle.comtrade_io.specs.declared.words.Survey.{Survey}
+use Rattle.comtrade_io.specs.declared.words.Asked.{Asked}
+use Rattle.comtrade_io.specs.declared.words.Asked.TheVariants as asks
 use Rattle.comtrade_cli.specs.declared.asked.Answer.{Answer}
 use Rattle.comtrade_cli.specs.declared.asked.Answer.TheVariants.{Do, Print, Refuse}
+use Rattle.comtrade_io.specs.Verbs.{view_name, survey_name}
 use Rattle.comtrade_cli.specs.Commands.{AreKinds, program}
 
 -- the text that was given for an argument, if any was
@@ -68,18 +67,6 @@ pub record ArePicture (rows : List Row) (picture : Picture) : Type 0 where
   pub all : IsFlag rows (codes "all") picture.all
   pub width : IsOption rows (codes "width") picture.width
   pub height : IsOption rows (codes "height") picture.height
-
-abbrev pub view_name : View → Text
-view_name view.Show = codes "show"
-view_name view.Check = codes "check"
-view_name view.Csv = codes "csv"
-view_name view.Plot = codes "plot"
-view_name view.Page = codes "page"
-view_name view.Measure = codes "measure"
-
-abbrev pub survey_name : Survey → Text
-survey_name survey.List = codes "list"
-survey_name survey.Events = codes "events"
 
 pub record IsViewed (rows : List Row) (v : Viewed) : Type 0 where
   pub names : AreNames rows v.names

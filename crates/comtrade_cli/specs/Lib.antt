@@ -1,7 +1,2 @@
-pub mod Faults
-pub mod Safe
-pub mod Written
-pub mod Replayed
-pub mod Pieces
 pub mod Commands
 pub mod Asking

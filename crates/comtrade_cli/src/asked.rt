@@ -4,14 +4,15 @@ ghost use Rattle.std.specs.Prelude.{◌≡◌, IfOk, MatchOption, codes, map};
 ghost use Rattle.clap.specs.Words.{found_of, kind_of, rows_of, subcommand_rows_of};
 ghost use Rattle.comtrade_cli.specs.Asking.{AnswersTo, Asks, AsksAs, Does, FitsNothing, Tells};
 ghost use Rattle.comtrade_cli.specs.Asking as Spec;
+ghost use Rattle.comtrade_io.specs.Verbs as verbs;
 
 use crate::commands::comtrade;
 use crate::matched::{
     cursor_of, form_of, is_set, kind_of, named, names_of, part_of, picture_of, text_of, texts_of,
 };
-use crate::words::{Asked, Compared, Converted, Survey, View, Viewed};
 use clap::error::ErrorKind;
 use clap::{ArgMatches, Error};
+use comtrade_io::{Asked, Compared, Converted, Survey, View, Viewed, survey_of, view_of};
 use std::alloc::{AllocError, Global};
 
 /// What is to be done with words.
@@ -25,50 +26,11 @@ pub enum Answer<'a> {
     Refuse(String),
 }
 
-/// The command over one pair that is called so.
-fn view_of(verb: &str) -> Option<View>
-    ensures { MatchOption result ((view : View) → Spec.view_name view ≡ verb.now → ⊥) (λ view. Spec.view_name view ≡ verb.now) }
-{
-    if verb == "show" {
-        return Some(View::Show);
-    }
-    if verb == "check" {
-        return Some(View::Check);
-    }
-    if verb == "csv" {
-        return Some(View::Csv);
-    }
-    if verb == "plot" {
-        return Some(View::Plot);
-    }
-    if verb == "page" {
-        return Some(View::Page);
-    }
-    if verb == "measure" {
-        return Some(View::Measure);
-    }
-    None
-}
-
-/// The command over many pairs that is called so.
-fn survey_of(verb: &str) -> Option<Survey>
-    ensures { MatchOption result ((survey : Survey) → Spec.survey_name survey ≡ verb.now → ⊥)
-        (λ survey. Spec.survey_name survey ≡ verb.now) }
-{
-    if verb == "list" {
-        return Some(Survey::List);
-    }
-    if verb == "events" {
-        return Some(Survey::Events);
-    }
-    None
-}
-
 /// A pair, and what is printed of it.
 #[tactic(auto, using(crate::proofs::MetCommands::no_view))]
 fn viewed_of<'a>(view: View, found: &ArgMatches<'a>) -> Option<Asked<'a>>
-    ensures { MatchOption result (FitsNothing (Asks (rows_of (found_of found.now)) (Spec.view_name view)))
-        (Asks (rows_of (found_of found.now)) (Spec.view_name view)) }
+    ensures { MatchOption result (FitsNothing (Asks (rows_of (found_of found.now)) (verbs.view_name view)))
+        (Asks (rows_of (found_of found.now)) (verbs.view_name view)) }
 {
     let names = names_of(found)?;
     Some(Asked::View(
@@ -160,7 +122,7 @@ fn surveyed_of<'a>(
     survey: Survey,
     found: &ArgMatches<'a>,
 ) -> Result<Asked<'a>, AllocError>
-    ensures { IfOk result (Asks (rows_of (found_of found.now)) (Spec.survey_name survey)) }
+    ensures { IfOk result (Asks (rows_of (found_of found.now)) (verbs.survey_name survey)) }
 {
     let names = texts_of(alloc, found, "NAMES")?;
     Ok(Asked::Survey(

@@ -1,27 +1,15 @@
-//! The command line of the tools over COMTRADE files: what the words after the program's name ask for, the texts of help, and what
-//! the tools read and print: bytes up to a limit, texts of a file as printable characters alone, the records that a replay
-//! printed, and why a tool stopped.
+//! The command line of the tools over COMTRADE files: what the words after the program's name ask for, and the texts of help. What the tools
+//! read and print by is `comtrade_io`'s, which is handed on.
 #![tactic(auto)]
 
 mod asked;
 mod commands;
-mod fault;
-mod input;
 mod matched;
 mod options;
-mod output;
-mod records;
-mod seen;
-mod text;
-mod words;
 
 pub use asked::{Answer, answer_of};
-pub use fault::{ToolFault, fault_of};
-pub use input::read_up_to;
-pub use output::{flush_if_full, write_out};
-pub use records::{Next, Printed, next_record};
-pub use seen::seen_len;
-pub use text::{kind_name, put, put_count, put_number, put_quoted, put_safe, put_signed, put_with};
-pub use words::{
-    Asked, Compared, Converted, Cursor, Form, Names, Part, Picture, Survey, View, Viewed,
+pub use comtrade_io::{
+    Asked, Compared, Converted, Cursor, Form, Names, Next, Part, Picture, Printed, Survey,
+    ToolFault, View, Viewed, fault_of, flush_if_full, kind_name, next_record, put, put_count,
+    put_number, put_quoted, put_safe, put_signed, put_with, read_up_to, seen_len, write_out,
 };

@@ -4,9 +4,9 @@ ghost use Rattle.std.specs.Prelude.{◌≡◌, ◌↔◌, IfOk, IsTrue, MatchOpt
 ghost use Rattle.clap.specs.Words.{all_of, first_of, found_of, rows_of};
 ghost use Rattle.comtrade_cli.specs.Asking.{AreForm, AreNames, AreCursor, ArePart, ArePicture, IsFlag, IsNamed, IsOption};
 
-use crate::words::{Cursor, Form, Names, Part, Picture};
 use clap::ArgMatches;
 use comtrade_format::Kind;
+use comtrade_io::{Cursor, Form, Names, Part, Picture};
 use std::alloc::{AllocError, Global};
 
 /// The text that was given for an argument.

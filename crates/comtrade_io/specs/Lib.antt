@@ -1,0 +1,6 @@
+pub mod Faults
+pub mod Safe
+pub mod Written
+pub mod Replayed
+pub mod Pieces
+pub mod Verbs

@@ -1,0 +1,90 @@
+//! Why a tool stopped.
+
+ghost use Rattle.std.specs.Prelude.{◌≡◌};
+ghost use Rattle.comtrade_io.specs.declared.fault.ToolFault.TheVariants as fault;
+ghost use Rattle.comtrade_io.specs.Faults as Faults;
+
+use dfr_channels::Memory;
+use std::alloc::{AllocError, AllocFailed};
+use std::io::ErrorKind;
+use thiserror::Error;
+
+/// Why a tool stopped. What was written before stays written.
+#[derive(Clone, Copy, Debug, PartialEq, Eq, Error)]
+pub enum ToolFault {
+    /// No file or folder has this name.
+    #[error("there is no such file or folder")]
+    NoFile,
+    /// The system doesn't let it be opened.
+    #[error("no permission")]
+    Denied,
+    /// A file of this name is there, and isn't written over.
+    #[error("is there already, and stays as it is")]
+    Exists,
+    /// A folder stands in a file's place.
+    #[error("is a folder")]
+    Folder,
+    /// A single file, where a pair is asked for.
+    #[error("is a single file, and no pair of 1999")]
+    Single,
+    /// Links lead back to themselves.
+    #[error("is a link that leads back to itself")]
+    Loop,
+    /// A read failed.
+    #[error("can't be read")]
+    Input,
+    /// More came than is read.
+    #[error("is longer than 536870912 bytes")]
+    Long,
+    /// A file that was begun is taken away again, since its pair isn't whole.
+    #[error("is removed again, since its pair can't be written whole")]
+    Removed,
+    /// A file that was begun can't be taken away, though its pair isn't whole.
+    #[error("can't be removed again, and stays there, though its pair isn't whole")]
+    Left,
+    /// A write failed.
+    #[error("can't be written")]
+    Output,
+    /// Who reads what is written has gone away.
+    #[error("is closed")]
+    Closed,
+    /// An allocation failed.
+    #[error("out of memory")]
+    Memory,
+}
+
+/// What an error of the system is, or `other` where it is none of these.
+pub fn fault_of(kind: ErrorKind, other: ToolFault) -> ToolFault
+    ensures { result ≡ Faults.fault_of kind other }
+{
+    match kind {
+        ErrorKind::NotFound => ToolFault::NoFile,
+        ErrorKind::PermissionDenied => ToolFault::Denied,
+        ErrorKind::AlreadyExists => ToolFault::Exists,
+        ErrorKind::IsADirectory => ToolFault::Folder,
+        ErrorKind::FilesystemLoop => ToolFault::Loop,
+        ErrorKind::BrokenPipe => ToolFault::Closed,
+        ErrorKind::OutOfMemory => ToolFault::Memory,
+        _ => other,
+    }
+}
+
+impl From<AllocError> for ToolFault {
+    ghost from_gives = { λ _ e. e ≡ fault.Memory };
+
+    fn from(_error: AllocError) -> ToolFault {
+        ToolFault::Memory
+    }
+}
+
+impl From<Memory> for ToolFault {
+    fn from(_error: Memory) -> ToolFault {
+        ToolFault::Memory
+    }
+}
+
+impl<T: Drop> From<AllocFailed<T>> for ToolFault {
+    fn from(_error: AllocFailed<T>) -> ToolFault {
+        ToolFault::Memory
+    }
+}

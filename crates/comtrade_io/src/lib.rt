@@ -1,0 +1,22 @@
+//! What the tools over COMTRADE files share: what their words can ask for, and what they read and print: bytes up to a limit, texts of a file
+//! as printable characters alone, the records that a replay printed, and why a tool stopped.
+#![tactic(auto)]
+
+mod fault;
+mod input;
+mod output;
+mod records;
+mod seen;
+mod text;
+mod words;
+
+pub use fault::{ToolFault, fault_of};
+pub use input::read_up_to;
+pub use output::{flush_if_full, write_out};
+pub use records::{Next, Printed, next_record};
+pub use seen::seen_len;
+pub use text::{kind_name, put, put_count, put_number, put_quoted, put_safe, put_signed, put_with};
+pub use words::{
+    Asked, Compared, Converted, Cursor, Form, Names, Part, Picture, Survey, View, Viewed,
+    survey_of, view_of,
+};

@@ -1,0 +1,177 @@
+//! What the words of the program can ask for.
+
+ghost use Rattle.std.specs.Prelude.{◌≡◌, MatchOption};
+ghost use Rattle.comtrade_io.specs.Verbs as verbs;
+
+use comtrade_format::Kind;
+
+/// What the files of a pair are called. Without a name for the data file its partner is looked for. One of both may be `-`, which is
+/// standard input; then the other has a name.
+#[derive(Clone, Copy, Debug)]
+pub struct Names<'a> {
+    pub file: &'a str,
+    pub dat: Option<&'a str>,
+}
+
+/// Which part of a record is meant, on which side of the transformers, and how its files are read, as texts that are not parsed yet.
+#[derive(Clone, Copy, Debug)]
+pub struct Part<'a> {
+    /// The first moment: milliseconds since the trigger, an instant, or `row N`.
+    pub from: Option<&'a str>,
+    /// The last moment.
+    pub to: Option<&'a str>,
+    /// Names and numbers of channels, separated by commas.
+    pub channels: Option<&'a str>,
+    /// Only contacts that change.
+    pub changed: bool,
+    /// Values of the primary side.
+    pub primary: bool,
+    /// Values of the secondary side.
+    pub secondary: bool,
+    /// Only files of 1999, as the standard spells them.
+    pub strict: bool,
+    /// How names are spelled that aren't ASCII.
+    pub encoding: Option<&'a str>,
+}
+
+/// How a table of values is written, as texts that are not parsed yet.
+#[derive(Clone, Copy, Debug)]
+pub struct Form<'a> {
+    /// What separates the cells of a table.
+    pub separator: Option<&'a str>,
+    /// What stands before the places of a number.
+    pub decimal: Option<&'a str>,
+}
+
+/// A moment of a record, and the channel from which angles are counted there, as texts that are not parsed yet.
+#[derive(Clone, Copy, Debug)]
+pub struct Cursor<'a> {
+    pub at: Option<&'a str>,
+    pub reference: Option<&'a str>,
+}
+
+/// The commands over one pair of files that print what is in it.
+#[derive(Clone, Copy, Debug, PartialEq, Eq)]
+pub enum View {
+    /// What is in it.
+    Show,
+    /// Its first fault.
+    Check,
+    /// Its rows as comma-separated values.
+    Csv,
+    /// A picture of it.
+    Plot,
+    /// A page that shows it in a browser.
+    Page,
+    /// What is measured in it.
+    Measure,
+}
+
+/// How a picture is drawn, its sizes as texts that are not parsed yet.
+#[derive(Clone, Copy, Debug)]
+pub struct Picture<'a> {
+    /// All of a long record.
+    pub whole: bool,
+    /// A bar for each contact.
+    pub all: bool,
+    /// How wide it is shown, in pixels.
+    pub width: Option<&'a str>,
+    /// How high it is shown.
+    pub height: Option<&'a str>,
+}
+
+/// A pair of files, and what is printed of it. An option that a command doesn't have is none.
+#[derive(Clone, Copy, Debug)]
+pub struct Viewed<'a> {
+    pub names: Names<'a>,
+    pub part: Part<'a>,
+    pub form: Form<'a>,
+    pub picture: Picture<'a>,
+    pub cursor: Cursor<'a>,
+    /// As JSON.
+    pub json: bool,
+}
+
+/// A pair of files, and the pair that is written in its place.
+#[derive(Clone, Copy, Debug)]
+pub struct Converted<'a> {
+    pub names: Names<'a>,
+    pub kind: Kind,
+    pub part: Part<'a>,
+    /// What both new files are called, without `.cfg` and `.dat`.
+    pub name: &'a str,
+}
+
+/// Two records, and how they are laid beside each other: by the instants of their rows or by their triggers, as a text that isn't parsed
+/// yet. The part is the first one's; the side of the transformers and how files are read are those of both.
+#[derive(Clone, Copy, Debug)]
+pub struct Compared<'a> {
+    pub one: &'a str,
+    pub other: &'a str,
+    pub by: Option<&'a str>,
+    pub part: Part<'a>,
+    pub picture: Picture<'a>,
+}
+
+/// The commands over many pairs.
+#[derive(Clone, Copy, Debug, PartialEq, Eq)]
+pub enum Survey {
+    /// A line for each record of folders.
+    List,
+    /// What happened, in one list.
+    Events,
+}
+
+/// What the words ask for.
+#[derive(Debug, Drop)]
+pub enum Asked<'a> {
+    /// What is in a pair.
+    View(View, Viewed<'a>),
+    /// A pair as a pair of another kind, with this name.
+    Convert(Converted<'a>),
+    /// Two records in one picture.
+    Compare(Compared<'a>),
+    /// The pairs that a replay printed, into a folder.
+    Extract(&'a str),
+    /// What is in many pairs: those of these names, and those in folders of these names; as JSON where that is asked for.
+    Survey(Survey, bool, Option<&'a str>, Vec<&'a str>),
+}
+
+/// The command over one pair that is called so.
+pub fn view_of(verb: &str) -> Option<View>
+    ensures { MatchOption result ((view : View) → verbs.view_name view ≡ verb.now → ⊥) (λ view. verbs.view_name view ≡ verb.now) }
+{
+    if verb == "show" {
+        return Some(View::Show);
+    }
+    if verb == "check" {
+        return Some(View::Check);
+    }
+    if verb == "csv" {
+        return Some(View::Csv);
+    }
+    if verb == "plot" {
+        return Some(View::Plot);
+    }
+    if verb == "page" {
+        return Some(View::Page);
+    }
+    if verb == "measure" {
+        return Some(View::Measure);
+    }
+    None
+}
+
+/// The command over many pairs that is called so.
+pub fn survey_of(verb: &str) -> Option<Survey>
+    ensures { MatchOption result ((survey : Survey) → verbs.survey_name survey ≡ verb.now → ⊥)
+        (λ survey. verbs.survey_name survey ≡ verb.now) }
+{
+    if verb == "list" {
+        return Some(Survey::List);
+    }
+    if verb == "events" {
+        return Some(Survey::Events);
+    }
+    None
+}
