@@ -71,6 +71,8 @@ fn trigger_of<A: Allocator>(
         teller,
         shelf,
         is_full: false,
+        missed: 0,
+        told: 0,
     }
 }
 

@@ -94,6 +94,8 @@ pub enum Event {
     ShelfFull(u32),
     /// The shelf has room again.
     ShelfFree,
+    /// At so many scans more a rule fired while the shelf was full, and opened no record.
+    Unopened(u64),
     /// The store takes no pair; it is asked again each second.
     Trouble(Trouble),
     /// It takes them again.
@@ -110,12 +112,14 @@ pub enum Event {
     Memory,
     /// So many events couldn't be told.
     Missed(u64),
-    /// How it stands each minute: scans and lost ones among them, records written, records that wait.
+    /// How it stands each minute: scans and lost ones among them, records written, records that wait, and at how many scans a rule
+    /// found the shelf full.
     Minute {
         scans: u64,
         lost: u64,
         records: u64,
         waiting: u64,
+        missed: u64,
     },
     /// It ended.
     Ended {

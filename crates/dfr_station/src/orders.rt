@@ -38,6 +38,9 @@ pub(crate) struct Trigger<A: Allocator = Global> {
     /// How many records may wait.
     pub(crate) shelf: u32,
     pub(crate) is_full: bool,
+    /// At how many scans a rule fired while the shelf was full, and of how many of them was told.
+    pub(crate) missed: u64,
+    pub(crate) told: u64,
 }
 
 /// Whether the steps go on.
@@ -158,6 +161,15 @@ impl<A: Allocator + Copy> Trigger<A> {
         to.saturating_sub(self.token.pumped()).min(MOST) as u32
     }
 
+    /// Tells how many triggers of rules found the shelf full since that was told last.
+    fn tell_missed(&mut self) {
+        let more = self.missed.saturating_sub(self.told);
+        if more > 0 {
+            self.told = self.missed;
+            self.teller.tell(Event::Unopened(more));
+        }
+    }
+
     /// Tells that the shelf is full, or no longer.
     fn watch_shelf<N: Session<A>>(
         &mut self,
@@ -167,16 +179,18 @@ impl<A: Allocator + Copy> Trigger<A> {
     ) {
         let waiting = shared.waiting(rt);
         signals.waiting.store(waiting as u64, Ordering::SeqCst);
+        signals.missed.store(self.missed, Ordering::SeqCst);
         let is_full = waiting >= self.shelf;
         if is_full == self.is_full {
             return;
         }
         self.is_full = is_full;
-        self.teller.tell(if is_full {
-            Event::ShelfFull(waiting)
+        if is_full {
+            self.teller.tell(Event::ShelfFull(waiting));
         } else {
-            Event::ShelfFree
-        });
+            self.teller.tell(Event::ShelfFree);
+            self.tell_missed();
+        }
     }
 
     /// Makes steps, and the orders among them. `Nowhere` is only answered where all that may be made are made, or where those
@@ -193,7 +207,7 @@ impl<A: Allocator + Copy> Trigger<A> {
         if most == 0 {
             return Went::Nowhere;
         }
-        let pumped = shared.pump(rt, &mut self.token, most);
+        let pumped = shared.pump_counting(rt, &mut self.token, most, &mut self.missed);
         match pumped.stopped {
             End::Counter => return Went::Full,
             End::Memory => {
@@ -232,6 +246,7 @@ pub(crate) fn make_steps<N: Session<A>, A: Allocator + Copy, R: Wait + Clock>(
             Went::Nowhere => {
                 if acquired {
                     trigger.carry_due(rt, shared, true);
+                    trigger.tell_missed();
                     return;
                 }
                 trigger.watch_shelf(rt, signals, shared);

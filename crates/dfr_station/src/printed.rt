@@ -200,6 +200,7 @@ fn put_what<A: Allocator>(out: &mut Vec<u8, A>, event: Event) -> Result<(), Allo
         Event::Unwritten(extent) => put_extent(out, "unwritten ", extent),
         Event::ShelfFull(waiting) => put_with(out, "shelf full ", waiting as u64),
         Event::ShelfFree => put(out, "shelf free"),
+        Event::Unopened(count) => put_with(out, "missed triggers ", count),
         Event::Trouble(trouble) => {
             put(out, "trouble ")?;
             put(out, trouble_word(trouble))
@@ -216,9 +217,11 @@ fn put_what<A: Allocator>(out: &mut Vec<u8, A>, event: Event) -> Result<(), Allo
             lost,
             records,
             waiting,
+            missed,
         } => {
             put_counts(out, "minute scans ", scans, lost, records)?;
-            put_with(out, " waiting ", waiting)
+            put_with(out, " waiting ", waiting)?;
+            put_with(out, " missed ", missed)
         }
         Event::Ended {
             scans,

@@ -208,6 +208,8 @@ fn trigger_token<A: Allocator>(trigger: Trigger<A>) -> Token<A> {
         teller,
         shelf: _,
         is_full: _,
+        missed: _,
+        told: _,
     } = trigger;
     drop(orders);
     drop(next);

@@ -13,6 +13,8 @@ pub(crate) struct Signals {
     pub(crate) records: AtomicU64,
     /// How many records wait on the shelf, or have been taken off and aren't in the store yet.
     pub(crate) waiting: AtomicU64,
+    /// At how many scans a rule fired while the shelf was full.
+    pub(crate) missed: AtomicU64,
     /// The input has ended.
     pub(crate) acquired: AtomicBool,
     /// All steps are made.
@@ -30,6 +32,7 @@ impl Signals {
             lost: AtomicU64::new(0),
             records: AtomicU64::new(0),
             waiting: AtomicU64::new(0),
+            missed: AtomicU64::new(0),
             acquired: AtomicBool::new(false),
             triggered: AtomicBool::new(false),
             exported: AtomicBool::new(false),

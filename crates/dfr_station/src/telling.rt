@@ -48,6 +48,7 @@ fn standing(signals: &Signals) -> Event {
         lost: signals.lost.load(Ordering::SeqCst),
         records: signals.records.load(Ordering::SeqCst),
         waiting: signals.waiting.load(Ordering::SeqCst),
+        missed: signals.missed.load(Ordering::SeqCst),
     }
 }
 
