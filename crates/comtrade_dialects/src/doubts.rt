@@ -112,19 +112,11 @@ fn is_outside<A: Allocator>(value: &Reading, channel: &AnalogChannel<A>) -> bool
     }
 }
 
-/// Adds the samples of a row that are outside their range.
-fn add_outside<A: Allocator>(
-    doubt: &mut Doubt,
-    row: &Row<A>,
-    place: u64,
-    channels: &[AnalogChannel<A>],
-) {
-    let mut number = 0u64;
-    for (value, channel) in row.values.items().iter().zip(channels.iter()) {
-        number = number.saturating_add(1);
-        if is_outside(value, channel) {
-            doubt.add(place, number);
-        }
+/// Whether a sample is between the ends of its channel's range, so that nothing is odd about it.
+fn is_inside<A: Allocator>(value: &Reading, channel: &AnalogChannel<A>) -> bool {
+    match value {
+        Reading::Value(x) => channel.min < *x && *x < channel.max,
+        Reading::Missing => false,
     }
 }
 
@@ -161,9 +153,9 @@ impl Run {
     }
 }
 
-/// Adds the runs that reach three samples in a row.
-fn add_flat<A: Allocator>(
-    doubt: &mut Doubt,
+/// Adds the samples of a row that are outside their range, and the runs that reach three samples in a row.
+fn add_row<A: Allocator>(
+    doubts: &mut Doubts,
     runs: &mut [Run],
     row: &Row<A>,
     place: u64,
@@ -173,8 +165,15 @@ fn add_flat<A: Allocator>(
     let values = row.values.items();
     for (run, (value, channel)) in runs.iter_mut().zip(values.iter().zip(channels.iter())) {
         number = number.saturating_add(1);
+        if is_inside(value, channel) {
+            run.length = 0;
+            continue;
+        }
+        if is_outside(value, channel) {
+            doubts.outside.add(place, number);
+        }
         if run.is_third(value, channel) {
-            doubt.add(place.saturating_sub(2), number);
+            doubts.flat.add(place.saturating_sub(2), number);
         }
     }
 }
@@ -196,8 +195,7 @@ fn add_samples<A: Allocator + Copy>(
     let mut place = 0u64;
     for row in file.rows.items() {
         place = place.saturating_add(1);
-        add_outside(&mut doubts.outside, row, place, channels);
-        add_flat(&mut doubts.flat, &mut runs, row, place, channels);
+        add_row(doubts, &mut runs, row, place, channels);
     }
     Ok(())
 }

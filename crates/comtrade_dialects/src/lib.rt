@@ -17,6 +17,7 @@ mod exact;
 mod fault;
 mod field;
 mod fit;
+mod float_span;
 mod head;
 mod instants;
 mod kept_stamps;

@@ -94,6 +94,41 @@ fn read_bits<A: Allocator>(
     Ok(())
 }
 
+/// A row's number and stamp, with no value and no bit.
+fn read_front<A: Allocator>(cells: &mut Cells<A>, row: &[u8], is_big: bool) {
+    cells.values.clear();
+    cells.bits.clear();
+    cells.odd = Odd::default();
+    cells.number = i64::from(long_at(row, 0, is_big));
+    let stamp = long_at(row, 4, is_big);
+    cells.stamp = if stamp == u32::MAX {
+        None
+    } else {
+        Some(Num::of(i64::from(stamp)))
+    };
+}
+
+/// Where the values of a row begin.
+const VALUES: usize = 8;
+
+/// The bits of the float of a channel, from 0.
+pub(crate) fn float_at(row: &[u8], channel: usize, packed: Packed<'_>) -> u32 {
+    let at = VALUES.saturating_add(channel.saturating_mul(4));
+    long_at(row, at, packed.is_big)
+}
+
+/// A row of floats but its values, which `float_at` tells.
+pub(crate) fn read_float_row<A: Allocator>(
+    cells: &mut Cells<A>,
+    row: &[u8],
+    packed: Packed<'_>,
+    counts: Counts,
+) -> Result<(), Stop> {
+    read_front(cells, row, packed.is_big);
+    let from = VALUES.saturating_add(counts.k.saturating_mul(4));
+    read_bits(cells, row, from, packed.is_big, counts.m)
+}
+
 /// A row of binary data. Values of the channels that `unsigned` names have no sign.
 pub(crate) fn read_packed<A: Allocator>(
     cells: &mut Cells<A>,
@@ -102,22 +137,13 @@ pub(crate) fn read_packed<A: Allocator>(
     counts: Counts,
     unsigned: &[bool],
 ) -> Result<(), Stop> {
-    cells.values.clear();
-    cells.bits.clear();
-    cells.odd = Odd::default();
-    cells.number = i64::from(long_at(row, 0, packed.is_big));
-    let stamp = long_at(row, 4, packed.is_big);
-    cells.stamp = if stamp == u32::MAX {
-        None
-    } else {
-        Some(Num::of(i64::from(stamp)))
-    };
+    read_front(cells, row, packed.is_big);
     let width = if packed.form == Form::Binary {
         2usize
     } else {
         4usize
     };
-    let mut at = 8usize;
+    let mut at = VALUES;
     for i in 0..counts.k {
         let is_unsigned = unsigned.get(i).copied().unwrap_or(false);
         cells.values.push(value_at(row, at, packed, is_unsigned))?;

@@ -153,6 +153,14 @@ impl<'a> Rows<'a> {
         }
     }
 
+    /// The next row of binary data, and its number.
+    pub(crate) fn next_packed(&mut self, packed: Packed<'a>) -> Option<(u64, &'a [u8])> {
+        let from = self.index.saturating_mul(packed.size);
+        let row = packed.bytes.get(from..from.saturating_add(packed.size))?;
+        self.index = self.index.saturating_add(1);
+        Some((self.index as u64, row))
+    }
+
     /// The next row.
     pub(crate) fn step<A: Allocator>(
         &mut self,
@@ -166,12 +174,9 @@ impl<'a> Rows<'a> {
                 None => Ok(Step::End),
             },
             Plan::Packed(packed) => {
-                let from = self.index.saturating_mul(packed.size);
-                let Some(row) = packed.bytes.get(from..from.saturating_add(packed.size)) else {
+                let Some((number, row)) = self.next_packed(packed) else {
                     return Ok(Step::End);
                 };
-                self.index = self.index.saturating_add(1);
-                let number = self.index as u64;
                 match read_packed(cells, row, packed, counts, unsigned) {
                     Ok(()) => Ok(Step::Row(number)),
                     Err(stop) => Err((number, stop)),

@@ -1,11 +1,14 @@
 //! Looks over all rows before they are written: numbers, stamps and spans of samples.
 
 use crate::fault::{ImportFault, Why};
+use crate::float_span::FloatSpan;
 use crate::key::Key;
+use crate::kinds::Form;
 use crate::note::{Notes, Place};
 use crate::num::Num;
 use crate::numbers::Tick;
-use crate::row::{Cells, Counts, Plan, Rows, Step, Stop};
+use crate::packed_row::{float_at, read_float_row};
+use crate::row::{Cells, Counts, Packed, Plan, Rows, Step, Stop};
 use crate::span::{Bounds, Span};
 use std::alloc::Allocator;
 
@@ -31,10 +34,18 @@ pub(crate) struct Ground<'a> {
     pub lows: &'a [i64],
 }
 
-impl Ground<'_> {
+impl<'a> Ground<'a> {
     /// Whether the rows are text.
     pub(crate) fn is_text(&self) -> bool {
         matches!(self.plan, Plan::Text(_, _))
+    }
+
+    /// The rows, where they are floats.
+    pub(crate) fn floats(&self) -> Option<Packed<'a>> {
+        match self.plan {
+            Plan::Packed(packed) if packed.form == Form::Float32 => Some(packed),
+            _ => None,
+        }
     }
 }
 
@@ -134,6 +145,87 @@ fn add_row<A: Allocator + Copy>(
     Ok(())
 }
 
+/// The next row of floats but its values, which are handed out as they stand in the data.
+pub(crate) fn next_floats<'a, A: Allocator + Copy>(
+    ground: Ground<'_>,
+    packed: Packed<'a>,
+    rows: &mut Rows<'a>,
+    cells: &mut Cells<A>,
+) -> Result<Option<&'a [u8]>, ImportFault> {
+    let Some((number, row)) = rows.next_packed(packed) else {
+        return Ok(None);
+    };
+    match read_float_row(cells, row, packed, ground.counts) {
+        Ok(()) => Ok(Some(row)),
+        Err(stop) => Err(fault_of(number, stop)),
+    }
+}
+
+/// The spans of the channels of a file of floats before its first row.
+fn float_spans<A: Allocator>(alloc: A, count: usize) -> Result<Vec<FloatSpan, A>, ImportFault> {
+    let mut spans = Vec::new(alloc);
+    for _ in 0..count {
+        spans.push(FloatSpan::new())?;
+    }
+    Ok(spans)
+}
+
+/// A first look over rows of floats, whose spans are read off their bits.
+fn look_at_floats<A: Allocator + Copy>(
+    alloc: A,
+    notes: &mut Notes<A>,
+    ground: Ground<'_>,
+    packed: Packed<'_>,
+    survey: &mut Survey<A>,
+) -> Result<(), ImportFault> {
+    let mut spans = float_spans(alloc, ground.counts.k)?;
+    let mut rows = Rows::of(Plan::Packed(packed));
+    let mut cells = Cells::new(alloc);
+    for i in 0..u64::MAX {
+        let Some(row) = next_floats(ground, packed, &mut rows, &mut cells)? else {
+            break;
+        };
+        tell_row(notes, &cells, i.saturating_add(1))?;
+        add_row(survey, &cells, ground.bounds)?;
+        for (channel, span) in spans.iter_mut().enumerate() {
+            span.add(float_at(row, channel, packed), ground.bounds);
+        }
+    }
+    for span in &spans {
+        survey.spans.push(span.settled())?;
+    }
+    Ok(())
+}
+
+/// A first look over other rows.
+fn look_at_rows<A: Allocator + Copy>(
+    alloc: A,
+    notes: &mut Notes<A>,
+    ground: Ground<'_>,
+    survey: &mut Survey<A>,
+) -> Result<(), ImportFault> {
+    for _ in 0..ground.counts.k {
+        survey.spans.push(Span::new())?;
+    }
+    let mut rows = Rows::of(ground.plan);
+    let mut cells = Cells::new(alloc);
+    for i in 0..u64::MAX {
+        match next_cells(ground, &mut rows, &mut cells)? {
+            Step::Row(_) => {
+                tell_row(notes, &cells, i.saturating_add(1))?;
+                add_row(survey, &cells, ground.bounds)?;
+            }
+            Step::Cut(_) => {
+                notes.tell(Key::RowCut, Place::Row(i.saturating_add(1)), &[])?;
+                survey.is_cut = true;
+                break;
+            }
+            Step::End => break,
+        }
+    }
+    widen_all(ground, survey, &mut cells)
+}
+
 /// A first look over all rows.
 pub(crate) fn survey_of<A: Allocator + Copy>(
     alloc: A,
@@ -147,29 +239,13 @@ pub(crate) fn survey_of<A: Allocator + Copy>(
         has_points: false,
         is_cut: notes.has(Key::RowCut),
     };
-    for _ in 0..ground.counts.k {
-        survey.spans.push(Span::new())?;
-    }
-    let mut rows = Rows::of(ground.plan);
-    let mut cells = Cells::new(alloc);
-    for i in 0..u64::MAX {
-        match next_cells(ground, &mut rows, &mut cells)? {
-            Step::Row(_) => {
-                tell_row(notes, &cells, i.saturating_add(1))?;
-                add_row(&mut survey, &cells, ground.bounds)?;
-            }
-            Step::Cut(_) => {
-                notes.tell(Key::RowCut, Place::Row(i.saturating_add(1)), &[])?;
-                survey.is_cut = true;
-                break;
-            }
-            Step::End => break,
-        }
+    match ground.floats() {
+        Some(packed) => look_at_floats(alloc, notes, ground, packed, &mut survey)?,
+        None => look_at_rows(alloc, notes, ground, &mut survey)?,
     }
     if survey.ticks.is_empty() {
         return Err(ImportFault::Whole(Why::NoRow));
     }
-    widen_all(ground, &mut survey, &mut cells)?;
     Ok(survey)
 }
 

@@ -108,8 +108,11 @@ pub(crate) fn peaks_at(peaks: &[Peaks], channel: usize) -> Peaks {
     }
 }
 
-/// Counts the contacts that change from one row to the next.
+/// Counts the contacts that change from one row to the next: mostly none does.
 fn add_changes<A: Allocator>(changes: &mut [u64], before: &Row<A>, row: &Row<A>) {
+    if before.bits.items() == row.bits.items() {
+        return;
+    }
     for (i, count) in changes.iter_mut().enumerate() {
         if bit_at(before, i) != bit_at(row, i) {
             *count = count.saturating_add(1);

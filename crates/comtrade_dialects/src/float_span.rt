@@ -1,0 +1,76 @@
+//! What the floats of a channel have in common. Most samples say nothing new, which their bits alone show.
+
+use crate::num::num_of_float;
+use crate::span::{Bounds, Span};
+
+/// The floats of a channel so far.
+#[derive(Clone, Copy)]
+pub(crate) struct FloatSpan {
+    /// The places of the least and of the greatest.
+    least: i32,
+    most: i32,
+    /// All are multiples of 2^step; the greatest number while a power of ten may divide them all.
+    step: i32,
+    span: Span,
+}
+
+/// A number by which floats compare as they do: the bits without the sign, which turns it.
+fn place_of(bits: u32) -> i32 {
+    let size = i32::try_from(bits & 0x7fff_ffff).unwrap_or(i32::MAX);
+    if bits.wrapping_shr(31) == 1 {
+        size.wrapping_neg()
+    } else {
+        size
+    }
+}
+
+/// The greatest n for which a float is a multiple of 2^n; 0 is one of each.
+fn step_of(bits: u32) -> i32 {
+    let exponent = bits.wrapping_shr(23) & 0xff;
+    let fraction = bits & 0x7f_ffff;
+    let (mant, exponent) = if exponent == 0 {
+        (fraction, 1)
+    } else {
+        (fraction | 0x80_0000, exponent)
+    };
+    if mant == 0 {
+        return i32::MAX;
+    }
+    let twos = exponent.saturating_add(mant.trailing_zeros());
+    i32::try_from(twos).unwrap_or(0).saturating_sub(150)
+}
+
+impl FloatSpan {
+    pub(crate) fn new() -> FloatSpan {
+        FloatSpan {
+            least: i32::MAX,
+            most: i32::MIN,
+            step: i32::MAX,
+            span: Span::new(),
+        }
+    }
+
+    /// Takes a sample into account: one between the others that is a multiple of the same power of two changes nothing.
+    pub(crate) fn add(&mut self, bits: u32, bounds: Bounds) {
+        let place = place_of(bits);
+        if self.least <= place && place <= self.most && self.step <= step_of(bits) {
+            return;
+        }
+        let Some(num) = num_of_float(bits) else {
+            return;
+        };
+        self.least = self.least.min(place);
+        self.most = self.most.max(place);
+        self.span.add(num, bounds);
+        if 0 <= self.span.need {
+            self.step = 0i32.saturating_sub(self.span.need);
+        }
+    }
+
+    /// What the samples have in common.
+    pub(crate) fn settled(&self) -> Span {
+        let mut span = self.span;
+        span.settle();
+        span
+    }
+}
