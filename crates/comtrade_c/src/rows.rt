@@ -227,7 +227,7 @@ pub extern "C" fn comtrade_core_rows(
     ensures bits_kept { (result ≢ DONE) → bits.new ≡ bits.old }
     ensures fault_kept { (result ≢ CFG_FAULT) → (result ≢ DAT_FAULT) → fault.new ≡ fault.old }
 {
-    // a file's lists are given up together: one by one that took a sixth of the time
+    // a file's lists are given up together: one by one that took a tenth of the instructions
     let lists = Bump::new(alloc);
     let head = match read_cfg(&lists, cfg) {
         Ok(head) => head,
