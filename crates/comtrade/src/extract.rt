@@ -2,7 +2,7 @@
 
 use crate::write::write_named;
 use crate::{complain, out_of_memory, read_named, say};
-use comtrade_cli::{Next, Printed, ToolFault, fault_of, next_record, put_safe};
+use comtrade_io::{Next, Printed, ToolFault, fault_of, next_record, put_safe};
 use std::fs;
 use std::rt::Files;
 

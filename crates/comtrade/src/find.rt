@@ -1,7 +1,7 @@
 //! The partner of a file: a pair by one name.
 
 use crate::{out_of_memory, say};
-use comtrade_cli::{Names, put_safe};
+use comtrade_io::{Names, put_safe};
 use std::alloc::{AllocError, Global};
 use std::fs;
 use std::rt::Files;

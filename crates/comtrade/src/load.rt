@@ -3,10 +3,10 @@
 
 use crate::find::{Pairing, pairing_of};
 use crate::{complain, out_of_memory, read_named, say};
-use comtrade_cli::{Names, ToolFault, put, put_safe};
 use comtrade_diagnostics::{Pair, put_fault};
 use comtrade_format::File;
 use comtrade_import::{Choices, ImportFault, Imported, Note, import, import_single};
+use comtrade_io::{Names, ToolFault, put, put_safe};
 use comtrade_part::{Encoding, spell_in_utf8};
 use comtrade_read::{Fault, Part, ReadFault, read};
 use std::alloc::{AllocError, Allocator};

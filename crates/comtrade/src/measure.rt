@@ -1,8 +1,8 @@
 //! `comtrade measure`: what is measured in a record, or in a part of it.
 
 use crate::view::put_part_fault;
-use comtrade_cli::{Cursor, Part, ToolFault, Viewed, put, write_out};
 use comtrade_format::File;
+use comtrade_io::{Cursor, Part, ToolFault, Viewed, put, write_out};
 use comtrade_measure::MeasureFault;
 use comtrade_part::{is_whole, part_of};
 use comtrade_views::{Measuring, Shown, measure_text};

@@ -2,9 +2,9 @@
 
 use crate::load::{Inputs, NO_ENCODING, file_spelled, pair_of, read_pair};
 use crate::{complain, is_folder, print_bytes, say};
-use comtrade_cli::{Names, Survey, ToolFault, fault_of, put, put_safe};
 use comtrade_diagnostics::{Pair, put_remarks};
 use comtrade_format::File;
+use comtrade_io::{Names, Survey, ToolFault, fault_of, put, put_safe};
 use comtrade_part::Encoding;
 use comtrade_views::{
     Event, Summary, add_events, fault_summary, put_events, put_events_json, put_summaries,

@@ -3,9 +3,9 @@
 use crate::load::file_spelled;
 use crate::measure::measure_over;
 use comtrade_check::check_over;
-use comtrade_cli::{Part, Picture, ToolFault, View, Viewed, put, put_safe, write_out};
 use comtrade_diagnostics::{Pair, put_remarks};
 use comtrade_format::File;
+use comtrade_io::{Part, Picture, ToolFault, View, Viewed, put, put_safe, write_out};
 use comtrade_part::{PartFault, is_whole, part_of};
 use comtrade_plot::{PlotOptions, page_over, plot_over};
 use comtrade_views::{Spelling, csv_over, put_text, show_json, show_over, times_since_trigger};

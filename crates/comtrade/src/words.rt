@@ -1,7 +1,7 @@
 //! The words after the program's name, and why they ask for nothing.
 
 use crate::{out_of_memory, say};
-use comtrade_cli::{put, put_safe};
+use comtrade_io::{put, put_safe};
 use std::alloc::{AllocError, Allocator};
 use std::io::ErrorKind;
 use std::rt::Env;

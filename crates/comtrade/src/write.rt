@@ -3,9 +3,9 @@
 use crate::load::{Inputs, file_spelled, pair_of, read_pair};
 use crate::view::put_part_fault;
 use crate::{complain, note_size, out_of_memory, say};
-use comtrade_cli::{Converted, ToolFault, fault_of, put_safe, write_out};
 use comtrade_diagnostics::{Pair, put_refusal};
 use comtrade_format::{File as Record, Kind, WriteFault};
+use comtrade_io::{Converted, ToolFault, fault_of, put_safe, write_out};
 use comtrade_part::{PartFault, is_whole, part_of};
 use comtrade_read::{ConvertFault, converted, written_of};
 use std::alloc::AllocError;

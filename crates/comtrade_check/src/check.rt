@@ -4,8 +4,8 @@ ghost use Rattle.std.specs.Prelude.{◌≡◌, IfOk, true, false};
 ghost use Rattle.comtrade_read.specs.Verdicts.{IsFile};
 ghost use Rattle.comtrade_read.specs.Reads.{IsNoFile};
 
-use comtrade_cli::{ToolFault, write_out};
 use comtrade_diagnostics::{Pair, put_fault, put_hint, put_no_fault};
+use comtrade_io::{ToolFault, write_out};
 use comtrade_read::{Fault, ReadFault, read};
 use std::alloc::{AllocError, Allocator};
 use std::io::Write;

@@ -1,5 +1,5 @@
 -- What the words after the program's name ask for.
-use Rattle.std.specs.Prelude.{◌≡◌, ◌≢◌, ◌↔◌, ◌⊎◌, ℕ, Bool, true, false, List, [], Option, Some, None, codes, map, option_map, unwrap_or, is_some, IsSomeAnd, if◌then◌else◌}
+use Rattle.std.specs.Prelude.{◌≡◌, ◌≢◌, ◌↔◌, ◌⊎◌, ℕ, Bool, true, false, List, [], Option, Some, None, codes, map, option_map, unwrap_or, IsSomeAnd}
 use Rattle.std.specs.Borrow.{Bor}
 use Rattle.clap.specs.Words.{Kinds, IsAmong, Row, Text, all_of, fault_of, first_of, subcommand_of}
 use Rattle.clap.specs.declared.error.kind.ErrorKind.{ErrorKind}
@@ -19,7 +19,7 @@ use Rattle.comtrade_io.specs.declared.words.Asked.{Asked}
 use Rattle.comtrade_io.specs.declared.words.Asked.TheVariants as asks
 use Rattle.comtrade_cli.specs.declared.asked.Answer.{Answer}
 use Rattle.comtrade_cli.specs.declared.asked.Answer.TheVariants.{Do, Print, Refuse}
-use Rattle.comtrade_io.specs.Verbs.{view_name, survey_name}
+use Rattle.comtrade_io.specs.Verbs.{view_name, survey_name, data_name, pair_name}
 use Rattle.comtrade_cli.specs.Commands.{AreKinds, program}
 
 -- the text that was given for an argument, if any was
@@ -76,14 +76,13 @@ pub record IsViewed (rows : List Row) (v : Viewed) : Type 0 where
   pub cursor : AreCursor rows v.cursor
   pub json : IsFlag rows (codes "json") v.json
 
--- the last of two or three names is the new pair's, the second of three the data file's
+-- two or three names: the pair's, its data file's where there are three, and the new pair's
 pub record IsConverted (rows : List Row) (made : Converted) : Type 0 where
   pub file : first_of (codes "FILE") rows ≡ Some made.names.file.now
-  pub second : is_some (first_of (codes "NAME") rows) ≡ true
-  pub dat : option_map (λ s. s.now) made.names.dat
-      ≡ (if is_some (first_of (codes "LAST") rows) then first_of (codes "NAME") rows else None)
-  pub name : (if is_some (first_of (codes "LAST") rows) then first_of (codes "LAST") rows else first_of (codes "NAME") rows)
-      ≡ Some made.name.now
+  pub second : Text
+  pub second_given : first_of (codes "NAME") rows ≡ Some second
+  pub dat : option_map (λ s. s.now) made.names.dat ≡ data_name second (first_of (codes "LAST") rows)
+  pub name : made.name.now ≡ pair_name second (first_of (codes "LAST") rows)
   pub named : IsNamed made.names.file.now (option_map (λ s. s.now) made.names.dat)
   pub data_kind : (made.kind ≡ kind.Binary) ↔ (first_of (codes "KIND") rows ≡ Some (codes "binary"))
   pub part : ArePart rows made.part

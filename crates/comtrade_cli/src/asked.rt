@@ -12,7 +12,9 @@ use crate::matched::{
 };
 use clap::error::ErrorKind;
 use clap::{ArgMatches, Error};
-use comtrade_io::{Asked, Compared, Converted, Survey, View, Viewed, survey_of, view_of};
+use comtrade_io::{
+    Asked, Compared, Converted, Survey, View, Viewed, new_names, survey_of, view_of,
+};
 use std::alloc::{AllocError, Global};
 
 /// What is to be done with words.
@@ -53,11 +55,7 @@ fn converted_of<'a>(found: &ArgMatches<'a>) -> Option<Converted<'a>>
 {
     let file = text_of(found, "FILE")?;
     let second = text_of(found, "NAME")?;
-    let third = text_of(found, "LAST");
-    let (dat, name) = match third {
-        Some(name) => (Some(second), name),
-        None => (None, second),
-    };
+    let (dat, name) = new_names(second, text_of(found, "LAST"));
     Some(Converted {
         names: named(file, dat)?,
         kind: kind_of(found),

@@ -8,8 +8,8 @@ use crate::describe_data::put_dat_fault;
 use crate::line::put_line;
 use crate::names::Counts;
 use crate::remarks::put_remarks;
-use comtrade_cli::{kind_name, put, put_count, put_safe};
 use comtrade_format::{File, Head};
+use comtrade_io::{kind_name, put, put_count, put_safe};
 use comtrade_read::{Fault, Part, ReadFault, read_cfg};
 use std::alloc::{AllocError, Allocator};
 

@@ -7,7 +7,7 @@ use crate::forms::put_other_form;
 use crate::names::{
     Counts, Place, field_at, fields_wanted, place_at, place_name, rate_count_line, type_line,
 };
-use comtrade_cli::{put, put_count, put_number, put_quoted, put_with};
+use comtrade_io::{put, put_count, put_number, put_quoted, put_with};
 use comtrade_read::ReadFault;
 use dfr_channels::{fields_of, integer_of, lines_of, without_blank_end};
 use std::alloc::{AllocError, Allocator};

@@ -2,7 +2,7 @@
 
 use crate::describe::{line_at, put_field, put_field_count, put_place};
 use crate::names::{Counts, Place, row_field};
-use comtrade_cli::{put, put_count, put_with};
+use comtrade_io::{put, put_count, put_with};
 use comtrade_read::ReadFault;
 use dfr_channels::lines_of;
 use std::alloc::{AllocError, Allocator};

@@ -5,7 +5,7 @@ ghost use Rattle.comtrade_diagnostics.specs.Places.{AreFew, IsPlace};
 
 use crate::describe::{line_at, put_line};
 use crate::names::{Counts, Place, place_at, rate_count_line};
-use comtrade_cli::{put, put_quoted};
+use comtrade_io::{put, put_quoted};
 use dfr_channels::{Decimal, fields_of};
 use std::alloc::{AllocError, Allocator};
 

@@ -5,8 +5,8 @@ ghost use Rattle.comtrade_diagnostics.specs.Puts.{PutsLine};
 
 use crate::check::Pair;
 use crate::line::put_line;
-use comtrade_cli::{put, put_safe};
 use comtrade_import::{Choices, ImportFault, Imported, Key, Note, import, import_single};
+use comtrade_io::{put, put_safe};
 use std::alloc::{AllocError, Allocator};
 
 /// What files are by a repair that they need.

@@ -3,7 +3,7 @@
 ghost use Rattle.std.specs.Prelude.{◌≡◌, OnErr, OnOk};
 ghost use Rattle.comtrade_diagnostics.specs.Puts.{PutsLine};
 
-use comtrade_cli::put;
+use comtrade_io::put;
 use std::alloc::{AllocError, Allocator};
 
 /// Appends the line, to which it adds its end; nothing where an allocation fails.

@@ -7,8 +7,8 @@ use crate::check::Pair;
 use crate::describe::put_line_of;
 use crate::line::put_line;
 use crate::remarks::sample_in;
-use comtrade_cli::{put, put_safe, put_signed, put_with};
 use comtrade_format::{Kind, WriteFault};
+use comtrade_io::{put, put_safe, put_signed, put_with};
 use comtrade_read::read;
 use std::alloc::{AllocError, Allocator};
 

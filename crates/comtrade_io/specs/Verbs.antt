@@ -1,5 +1,5 @@
--- What the commands that print are called.
-use Rattle.std.specs.Prelude.{ℕ, List, codes}
+-- What the commands that print are called, and what the names after a pair's first one mean.
+use Rattle.std.specs.Prelude.{ℕ, List, Option, Some, None, codes}
 use Rattle.comtrade_io.specs.declared.words.View.{View}
 use Rattle.comtrade_io.specs.declared.words.View.TheVariants as view
 use Rattle.comtrade_io.specs.declared.words.Survey.{Survey}
@@ -16,3 +16,13 @@ view_name view.Measure = codes "measure"
 abbrev pub survey_name : Survey → List ℕ
 survey_name survey.List = codes "list"
 survey_name survey.Events = codes "events"
+
+-- the second of three names is the data file's
+abbrev pub data_name : List ℕ → Option (List ℕ) → Option (List ℕ)
+data_name second None = None
+data_name second (Some third) = Some second
+
+-- the last of two or three names is the new pair's
+abbrev pub pair_name : List ℕ → Option (List ℕ) → List ℕ
+pair_name second None = second
+pair_name second (Some third) = third

@@ -18,5 +18,5 @@ pub use seen::seen_len;
 pub use text::{kind_name, put, put_count, put_number, put_quoted, put_safe, put_signed, put_with};
 pub use words::{
     Asked, Compared, Converted, Cursor, Form, Names, Part, Picture, Survey, View, Viewed,
-    survey_of, view_of,
+    new_names, survey_of, view_of,
 };

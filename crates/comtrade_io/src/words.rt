@@ -1,7 +1,8 @@
 //! What the words of the program can ask for.
 
-ghost use Rattle.std.specs.Prelude.{◌≡◌, MatchOption};
+ghost use Rattle.std.specs.Prelude.{◌≡◌, MatchOption, option_map};
 ghost use Rattle.comtrade_io.specs.Verbs as verbs;
+ghost use Rattle.comtrade_io.specs.Verbs.{data_name, pair_name};
 
 use comtrade_format::Kind;
 
@@ -174,4 +175,15 @@ pub fn survey_of(verb: &str) -> Option<Survey>
         return Some(Survey::Events);
     }
     None
+}
+
+/// What the names after a pair's first one mean: one is the new pair's; of two the second is, and the first is the data file's.
+pub fn new_names<'a>(second: &'a str, third: Option<&'a str>) -> (Option<&'a str>, &'a str)
+    ensures dat { option_map (λ s. s.now) result.0 ≡ data_name second.now (option_map (λ s. s.now) third.entry) }
+    ensures name { result.1.now ≡ pair_name second.now (option_map (λ s. s.now) third.entry) }
+{
+    match third {
+        Some(name) => (Some(second), name),
+        None => (None, second),
+    }
 }

@@ -3,8 +3,8 @@
 use crate::rows::{bit_at, reading_at};
 use crate::sheet::Sheet;
 use base64::engine::general_purpose::STANDARD;
-use comtrade_cli::{ToolFault, write_out};
 use comtrade_format::Row;
+use comtrade_io::{ToolFault, write_out};
 use dfr_channels::Reading;
 use std::alloc::{AllocError, Allocator};
 use std::io::Write;

@@ -11,9 +11,9 @@ use crate::layout::Chart;
 use crate::plot::PlotOptions;
 use crate::record::{Part, Record, USUAL_CYCLE, chart_of, part_in, record_of};
 use crate::sheet::Sheet;
-use comtrade_cli::ToolFault;
 use comtrade_format::File;
 use comtrade_frame::{LEFT, partners_of, places_of};
+use comtrade_io::ToolFault;
 use std::alloc::Allocator;
 use std::io::Write;
 

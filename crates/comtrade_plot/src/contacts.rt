@@ -6,9 +6,9 @@ use crate::layout::{CONTACT, Chart, contact_height};
 use crate::legend::{NAMES, put_name};
 use crate::rows::bit_at;
 use crate::sheet::Sheet;
-use comtrade_cli::ToolFault;
 use comtrade_format::Row;
 use comtrade_frame::{LEFT, RIGHT};
+use comtrade_io::ToolFault;
 use dfr_channels::StatusChannel;
 use std::alloc::Allocator;
 

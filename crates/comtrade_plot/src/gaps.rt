@@ -1,7 +1,7 @@
 //! Stretches without scans.
 
-use comtrade_cli::ToolFault;
 use comtrade_frame::Frame;
+use comtrade_io::ToolFault;
 use std::alloc::Allocator;
 
 /// Rows that were lost between two times, and how many.

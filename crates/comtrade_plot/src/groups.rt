@@ -5,7 +5,7 @@ ghost use Rattle.std.specs.Prelude.{◌≡◌, length, IfOk};
 use crate::names::{Likeness, likeness_of};
 use crate::phases::{Hue, other_hue, phase_hue};
 use crate::survey::Survey;
-use comtrade_cli::ToolFault;
+use comtrade_io::ToolFault;
 use comtrade_values::Scale;
 use dfr_channels::AnalogChannel;
 use std::alloc::{AllocError, Allocator};

@@ -4,9 +4,9 @@ use crate::axis::rounded_out;
 use crate::layout::NOWHERE;
 use crate::record::{Record, USUAL_CYCLE, lasting};
 use crate::rows::{last_change, whole_frame};
-use comtrade_cli::ToolFault;
 use comtrade_format::File;
 use comtrade_frame::{Frame, Moment, course_of, window_of};
+use comtrade_io::ToolFault;
 use std::alloc::Allocator;
 
 /// Times so much later; none where one has no number of 64 bits.

@@ -8,9 +8,9 @@ use crate::overview::{STRIP, put_overview};
 use crate::panels::put_panels;
 use crate::record::{Part, Record, chart_of, choice_of, part_of, record_of, whole_of};
 use crate::sheet::Sheet;
-use comtrade_cli::ToolFault;
 use comtrade_format::File;
 use comtrade_frame::{Frame, LEFT};
+use comtrade_io::ToolFault;
 use std::alloc::Allocator;
 use std::io::Write;
 

@@ -1,7 +1,7 @@
 //! Text that is made piece by piece, and the parts of an SVG picture. An allocation that fails is kept in mind until the end.
 
-use comtrade_cli::{ToolFault, put, put_number, put_safe, put_signed, seen_len, write_out};
 use comtrade_format::put_decimal;
+use comtrade_io::{ToolFault, put, put_number, put_safe, put_signed, seen_len, write_out};
 use dfr_channels::Decimal;
 use std::alloc::{AllocError, Allocator};
 use std::io::Write;

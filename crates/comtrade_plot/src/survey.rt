@@ -1,8 +1,8 @@
 //! What the drawn rows say of each channel: its least and greatest sample, its effective values.
 
-use comtrade_cli::ToolFault;
 use comtrade_format::{File, Row};
 use comtrade_frame::Frame;
+use comtrade_io::ToolFault;
 use comtrade_values::Scale;
 use dfr_channels::Reading;
 use std::alloc::Allocator;

@@ -1,7 +1,7 @@
 //! How long a cycle is.
 
-use comtrade_cli::ToolFault;
 use comtrade_format::File;
+use comtrade_io::ToolFault;
 use comtrade_values::nearest_f64;
 use std::alloc::Allocator;
 use std::num::saturating_f64_to_i64;

@@ -1,8 +1,8 @@
 //! The names of columns of comma-separated values.
 
 use crate::comma_separated::end_cell;
-use comtrade_cli::{ToolFault, put, put_safe, put_with};
 use comtrade_format::Head;
+use comtrade_io::{ToolFault, put, put_safe, put_with};
 use csv::Writer;
 use std::alloc::{AllocError, Allocator};
 use std::collections::BTreeMap;

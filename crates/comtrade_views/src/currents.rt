@@ -1,8 +1,8 @@
 //! The greatest current of a record, beside its channel's nominal one.
 
 use crate::peaks::{Peaks, peaks_at, peaks_of};
-use comtrade_cli::ToolFault;
 use comtrade_format::File;
+use comtrade_io::ToolFault;
 use comtrade_values::nearest_f64;
 use dfr_channels::{AnalogChannel, Decimal, Side};
 use std::alloc::Allocator;

@@ -3,7 +3,7 @@
 use crate::events::Event;
 use crate::instant::{put_instant, put_millis};
 use crate::table::{end_cell, end_row, put_table};
-use comtrade_cli::{ToolFault, put, put_safe, put_with};
+use comtrade_io::{ToolFault, put, put_safe, put_with};
 use std::alloc::{AllocError, Allocator};
 
 fn put_moment<A: Allocator>(out: &mut Vec<u8, A>, event: &Event<A>) -> Result<(), AllocError> {

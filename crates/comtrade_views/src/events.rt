@@ -2,8 +2,8 @@
 
 use crate::peaks::{bit_at, reading_at};
 use crate::times::times_since_trigger;
-use comtrade_cli::{ToolFault, put, put_count, put_safe, put_with};
 use comtrade_format::{File, Row};
+use comtrade_io::{ToolFault, put, put_count, put_safe, put_with};
 use dfr_channels::Reading;
 use std::alloc::{AllocError, Allocator, Global};
 

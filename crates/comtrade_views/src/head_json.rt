@@ -7,8 +7,8 @@ use crate::peaks::peaks_of;
 use crate::show::Clock;
 use crate::show_analog::put_rows;
 use crate::show_status::put_contacts;
-use comtrade_cli::{ToolFault, kind_name, put, put_with};
 use comtrade_format::{File, Head, Rate};
+use comtrade_io::{ToolFault, kind_name, put, put_with};
 use dfr_channels::Decimal;
 use std::alloc::{AllocError, Global};
 

@@ -1,6 +1,6 @@
 //! Instants as dates, and spans of time.
 
-use comtrade_cli::put;
+use comtrade_io::put;
 use comtrade_values::civil_of;
 use itoa::Buffer;
 use jiff_core::civil::DateTime;

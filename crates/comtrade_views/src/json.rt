@@ -1,7 +1,7 @@
 //! Tables as JSON: an array with an object for each row, whose members are the cells.
 
 use crate::table::CELL;
-use comtrade_cli::{put, put_safe};
+use comtrade_io::{put, put_safe};
 use std::alloc::{AllocError, Global};
 
 /// A member of each object: its key, and whether cells are texts, or numbers and arrays of them. A cell that is no number is null.

@@ -7,8 +7,8 @@ use crate::sequence_table::put_sequences;
 use crate::show::put_row_time;
 use crate::shown::{Shown, put_cycle};
 use crate::table::put_table;
-use comtrade_cli::{put, put_safe, put_with};
 use comtrade_format::File;
+use comtrade_io::{put, put_safe, put_with};
 use comtrade_measure::{
     MeasureFault, Measured, Phasor, Window, last_cycle, measures_of, reference_in, whole_cycles,
 };

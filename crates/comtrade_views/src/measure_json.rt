@@ -3,7 +3,7 @@
 use crate::json::{Member, put_rows_json};
 use crate::measure::Measures;
 use crate::shown::Shown;
-use comtrade_cli::{put, put_number, put_with};
+use comtrade_io::{put, put_number, put_with};
 use std::alloc::{AllocError, Global};
 
 /// The rows, cycles and reference of what was measured, as members of an object.

@@ -4,8 +4,8 @@ use crate::number::{put_decimal, put_value, rounded, scale_of, value_of};
 use crate::peaks::{Peak, Peaks, peaks_at};
 use crate::show::{Clock, put_row_time};
 use crate::table::{end_cell, end_row, put_cell, put_number_cell, put_table};
-use comtrade_cli::{put, put_count, put_number, put_safe, put_signed};
 use comtrade_format::File;
+use comtrade_io::{put, put_count, put_number, put_safe, put_signed};
 use dfr_channels::{AnalogChannel, Decimal, Side};
 use std::alloc::{AllocError, Allocator};
 

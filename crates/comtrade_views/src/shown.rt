@@ -3,7 +3,7 @@
 use crate::float::{Digits, put_float};
 use crate::show::Clock;
 use crate::table::{put_number_cell, put_safe_cell};
-use comtrade_cli::put;
+use comtrade_io::put;
 use comtrade_measure::Window;
 use dfr_channels::AnalogChannel;
 use std::alloc::{AllocError, Allocator};

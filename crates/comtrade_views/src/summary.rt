@@ -6,8 +6,8 @@ use crate::number::{put_decimal, put_value, rounded, scale_of, value_of};
 use crate::peaks::changes_of;
 use crate::table::{end_cell, end_row, put_number_cell, put_safe_cell, put_table};
 use crate::times::times_of;
-use comtrade_cli::{ToolFault, put, put_count, put_number, put_safe};
 use comtrade_format::File;
+use comtrade_io::{ToolFault, put, put_count, put_number, put_safe};
 use dfr_channels::AnalogChannel;
 use std::alloc::{AllocError, Allocator, Global};
 

@@ -1,6 +1,6 @@
 //! Tables of text in columns.
 
-use comtrade_cli::{put, put_number, put_safe};
+use comtrade_io::{put, put_number, put_safe};
 use std::alloc::{AllocError, Allocator};
 
 /// Ends a cell; texts of a file hold no such byte once they are printable.

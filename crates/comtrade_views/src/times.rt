@@ -1,7 +1,7 @@
 //! When each row was taken.
 
-use comtrade_cli::ToolFault;
 use comtrade_format::File;
+use comtrade_io::ToolFault;
 use comtrade_values::clock_of;
 use std::alloc::{AllocError, Allocator};
 

@@ -16,7 +16,7 @@ use crate::outcome::{complain, out_of_memory};
 use crate::output::Lines;
 use crate::record::{keep_of, plan_of, record};
 use crate::words::{Answer, Asked, answer_of};
-use comtrade_cli::{ToolFault, fault_of, put, put_safe};
+use comtrade_io::{ToolFault, fault_of, put, put_safe};
 use dfr_station::Printer;
 use rtrb::{Consumer, RingBuffer};
 use std::alloc::{AllocError, Allocator};

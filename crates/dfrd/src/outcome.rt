@@ -1,6 +1,6 @@
 //! What is said on standard error.
 
-use comtrade_cli::put_safe;
+use comtrade_io::put_safe;
 use std::fmt::Display;
 
 /// That an allocation failed: a text that doesn't allocate.

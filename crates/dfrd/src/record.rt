@@ -3,7 +3,7 @@
 use crate::folder::Keep;
 use crate::outcome::{complain, out_of_memory};
 use crate::words::Asked;
-use comtrade_cli::{ToolFault, fault_of, read_up_to};
+use comtrade_io::{ToolFault, fault_of, read_up_to};
 use dfr_recorder::Recorder;
 use dfr_station::{
     First, Printer, Recorded, RunFault, Station, Store, frame_len, now, read_first, recorder_of,
