@@ -14,17 +14,25 @@ except ImportError:
 
 _EPOCH = datetime.datetime(1970, 1, 1)
 _NUMBERS = {"i": "int32", "d": "float64", "B": "uint8", "Q": "uint64", "q": "int64"}
+_TYPES = {"i": ctypes.c_int32, "d": ctypes.c_double, "B": ctypes.c_uint8}
+# Tables of more bytes are read a channel at a time.
+_MOST = 1 << 30
+# Of so many samples or bits a block of rows stays in the processor's cache.
+_BLOCK = 1 << 17
 
 
-def _filled(code: str, count: int, call: Any) -> Any:
-    """An array of so many numbers that a call fills: numpy's where it is, else `array.array`."""
+def _tables(code: str, tables: int, count: int) -> List[Any]:
+    """So many arrays of so many numbers: numpy's where it is, else `array.array`."""
     if numpy is not None:
-        found = numpy.empty(count, _NUMBERS[code])
-        need(call(found.ctypes.data if count else None))
-        return found
-    found = array.array(code, [0]) * count
-    need(call(found.buffer_info()[0] if count else None))
-    return found
+        return list(numpy.empty((tables, count), _NUMBERS[code]))
+    return [array.array(code, [0]) * count for _ in range(tables)]
+
+
+def _place(table: Any) -> Any:
+    """Where an array's numbers stand; None where it has none."""
+    if not len(table):
+        return None
+    return table.ctypes.data if numpy is not None else table.buffer_info()[0]
 
 
 class Rate(NamedTuple):
@@ -42,6 +50,7 @@ class _Kept:
         self.head = c.Head()
         need(c.library.comtrade_head(at, ctypes.byref(self.head)))
         self.rows: int = self.head.rows
+        self._columns: Dict[str, Dict[int, Any]] = {}
 
     def __del__(self) -> None:
         c.library.comtrade_close(self.at)
@@ -52,6 +61,27 @@ class _Kept:
         text = ctypes.create_string_buffer(needed.value + 1)
         need(c.library.comtrade_text(self.at, which, channel, text, len(text), None))
         return text.raw[: needed.value].decode("utf-8", "surrogateescape")
+
+    def column(self, name: str, code: str, channel: int, channels: int) -> Any:
+        """What a channel has in each row. The first channel that is asked for is read alone; with the second all are, some rows at a
+        time, since the rows of a record stand one after the other, and each pass over them takes about as long."""
+        columns = self._columns.setdefault(name, {})
+        if channel not in columns:
+            is_alone = not columns or channels * self.rows * ctypes.sizeof(_TYPES[code]) > _MOST
+            asked = [channel] if is_alone else [k for k in range(channels) if k not in columns]
+            columns.update(zip(asked, self._read(name, code, asked)))
+        return columns[channel]
+
+    def _read(self, name: str, code: str, channels: List[int]) -> List[Any]:
+        call, size = getattr(c.library, "comtrade_" + name), ctypes.sizeof(_TYPES[code])
+        tables = _tables(code, len(channels), self.rows)
+        places = [_place(table) for table in tables]
+        step = max(256, _BLOCK // len(channels)) if len(channels) > 1 else max(1, self.rows)
+        for row in range(0, self.rows, step):
+            count = min(step, self.rows - row)
+            for channel, place in zip(channels, places):
+                need(call(self.at, channel, row, count, place + row * size))
+        return tables
 
     def rate(self, number: int) -> Rate:
         said = c.Rate()
@@ -65,13 +95,6 @@ class _Channel(Sequence):
     def __init__(self, kept: _Kept, number: int, texts: Sequence[int]):
         self._record, self._number = kept, number
         self.id, self.phase, self.component = (kept.text(which, number) for which in texts)
-        self._read: Dict[str, Any] = {}
-
-    def _rows(self, name: str, code: str) -> Any:
-        if name not in self._read:
-            call = getattr(c.library, "comtrade_" + name)
-            self._read[name] = _filled(code, len(self), lambda to: call(self._record.at, self._number, 0, len(self), to))
-        return self._read[name]
 
     @property
     def name(self) -> str:
@@ -111,12 +134,12 @@ class AnalogChannel(_Channel):
     @property
     def samples(self) -> Any:
         """The sample of each row, as int32."""
-        return self._rows("samples", "i")
+        return self._record.column("samples", "i", self._number, self._record.head.analog)
 
     @property
     def values(self) -> Any:
         """The value of each row in `unit`, as float64."""
-        return self._rows("values", "d")
+        return self._record.column("values", "d", self._number, self._record.head.analog)
 
     _items = values.fget  # type: ignore[assignment]
 
@@ -133,7 +156,7 @@ class StatusChannel(_Channel):
     @property
     def bits(self) -> Any:
         """The bit of each row, as uint8."""
-        return self._rows("bits", "B")
+        return self._record.column("bits", "B", self._number, self._record.head.status)
 
     _items = bits.fget  # type: ignore[assignment]
 
@@ -186,8 +209,9 @@ class Record:
 
     def _of_rows(self, name: str, code: str) -> Any:
         if name not in self._read:
-            call = getattr(c.library, "comtrade_" + name)
-            self._read[name] = _filled(code, len(self), lambda to: call(self._record.at, 0, len(self), to))
+            (table,) = _tables(code, 1, len(self))
+            need(getattr(c.library, "comtrade_" + name)(self._record.at, 0, len(self), _place(table)))
+            self._read[name] = table
         return self._read[name]
 
     @property

@@ -21,11 +21,24 @@ fn reading_of(made: &mut Made, num: Option<Num>) -> Reading {
     let Some(num) = num else {
         return Reading::Missing;
     };
-    let (n, off) = made.fit.whole_of(num);
+    let whole = made.fit.whole_of(num);
+    reading_at(made, whole)
+}
+
+/// The reading of a whole number that is so far off.
+fn reading_at(made: &mut Made, (n, off): (i64, i64)) -> Reading {
     made.worst = made.worst.max(off);
     match i32::try_from(n) {
         Ok(n) => Reading::Value(n),
         Err(_) => Reading::Missing,
+    }
+}
+
+/// The reading that a float becomes.
+fn reading_of_float(made: &mut Made, bits: u32) -> Reading {
+    match made.fit.whole_of_float(bits) {
+        Some(whole) => reading_at(made, whole),
+        None => reading_of(made, num_of_float(bits)),
     }
 }
 
@@ -51,8 +64,8 @@ fn readings_of_floats<A: Allocator + Copy>(
 ) -> Result<Vec<Reading, A>, ImportFault> {
     let mut values = Vec::with_capacity(alloc, made.len())?;
     for (channel, made) in made.iter_mut().enumerate() {
-        let num = num_of_float(float_at(row, channel, packed));
-        values.push(reading_of(made, num))?;
+        let bits = float_at(row, channel, packed);
+        values.push(reading_of_float(made, bits))?;
     }
     Ok(values)
 }

@@ -1,7 +1,7 @@
 //! Samples as whole numbers that a file of 1999 holds, with the scale that gives them back.
 
 use crate::exact::{Exact, exact_of};
-use crate::num::{Num, ten_to};
+use crate::num::{Num, size_of_float, ten_to};
 use crate::scale::{Scale, over};
 use crate::span::{Bounds, Span};
 
@@ -30,7 +30,7 @@ pub(crate) struct Steps {
 }
 
 /// The most steps to one side.
-const MOST: i64 = 32_767;
+const MOST: u64 = 32_767;
 
 /// A number as a multiple of a power of ten with at most nine digits, and that power.
 fn nine_digits(n: i64) -> (i64, i64) {
@@ -70,23 +70,45 @@ fn upper(a: u64, b: u64) -> u64 {
 }
 
 impl Steps {
-    /// The number of steps that is nearest, halves away from 0: by the inverse, which gives two too few at most, since a division
-    /// for each sample takes longer than all else.
-    fn nearest(self, from: i64) -> i64 {
+    /// The number of steps that is nearest to a number in the scale's unit, halves away from 0, at most 32,767, and how far that is off: by the
+    /// inverse, which gives two too few at most, since a division for each sample takes longer than all else.
+    fn nearest(self, near: i64) -> (i64, i64) {
+        let from = near.saturating_sub(self.middle);
         let unit = self.unit.unsigned_abs();
-        let size = from.unsigned_abs().saturating_add(unit.wrapping_shr(1));
+        let half = unit.wrapping_shr(1);
+        let size = from.unsigned_abs().saturating_add(half);
         let mut count = upper(size, self.inverse);
+        let mut rest = size.wrapping_sub(count.wrapping_mul(unit));
         for _ in 0..2 {
-            if unit <= size.wrapping_sub(count.wrapping_mul(unit)) {
+            if unit <= rest {
                 count = count.wrapping_add(1);
+                rest = rest.wrapping_sub(unit);
             }
         }
-        let count = i64::try_from(count).unwrap_or(i64::MAX);
-        if from < 0 {
+        let mut off = rest.max(half).wrapping_sub(rest.min(half));
+        if MOST < count {
+            count = MOST;
+            off = size.wrapping_sub(half).wrapping_sub(MOST.wrapping_mul(unit));
+        }
+        let count = i64::try_from(count).unwrap_or(0);
+        let count = if from < 0 {
             count.wrapping_neg()
         } else {
             count
-        }
+        };
+        (count, i64::try_from(off).unwrap_or(i64::MAX))
+    }
+
+    /// The same for a float, where 64 bits are enough for it.
+    fn of_float(self, bits: u32) -> Option<(i64, i64)> {
+        let (size, two) = size_of_float(bits)?;
+        let near = self.scale.near_in_64(u64::from(size), two)?;
+        let near = if bits.wrapping_shr(31) == 1 {
+            near.wrapping_neg()
+        } else {
+            near
+        };
+        Some(self.nearest(near))
     }
 }
 
@@ -148,14 +170,6 @@ pub(crate) fn fit_of(span: &Span, bounds: Bounds, is_unsigned: bool) -> Fit {
     }
 }
 
-/// The whole number of so many steps that is nearest, and how far it is off in the scale's unit.
-fn step_of(steps: Steps, num: Num) -> (i64, i64) {
-    let from = steps.scale.nearest(num).saturating_sub(steps.middle);
-    let step = steps.nearest(from).max(-MOST).min(MOST);
-    let off = from.saturating_sub(step.saturating_mul(steps.unit));
-    (step, off.saturating_abs())
-}
-
 impl Fit {
     /// The whole number that a sample becomes, and how far it is off in the scale's unit.
     pub(crate) fn whole_of(&self, num: Num) -> (i64, i64) {
@@ -163,8 +177,16 @@ impl Fit {
             Fit::Same => (num.whole().unwrap_or(0), 0),
             Fit::Shift(by) => (num.whole().unwrap_or(0).saturating_sub(*by), 0),
             Fit::Tens(scale) => (scale.nearest(num), 0),
-            Fit::Steps(steps) => step_of(*steps, num),
+            Fit::Steps(steps) => steps.nearest(steps.scale.nearest(num)),
             Fit::Flat(_) => (0, 0),
+        }
+    }
+
+    /// The same for a float, where it is told the short way: steps, in 64 bits.
+    pub(crate) fn whole_of_float(&self, bits: u32) -> Option<(i64, i64)> {
+        match self {
+            Fit::Steps(steps) => steps.of_float(bits),
+            _ => None,
         }
     }
 

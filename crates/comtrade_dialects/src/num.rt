@@ -154,21 +154,23 @@ fn digits_of(size: u64) -> i32 {
     digits
 }
 
-/// The number that the bits of a float of 32 bits say; none for infinities and what is no number.
-pub(crate) fn num_of_float(bits: u32) -> Option<Num> {
+/// The size of a float of 32 bits, as a number of at most 24 bits and a power of two; none for infinities and what is no number.
+pub(crate) fn size_of_float(bits: u32) -> Option<(u32, i32)> {
     let exponent = bits.wrapping_shr(23) & 0xff;
     let fraction = bits & 0x7f_ffff;
-    if exponent == 255 {
-        return None;
-    }
-    let (mant, two) = if exponent == 0 {
-        (fraction, -149i32)
-    } else {
-        (
+    match exponent {
+        255 => None,
+        0 => Some((fraction, -149)),
+        _ => Some((
             fraction | 0x80_0000,
             i32::try_from(exponent).unwrap_or(0).saturating_sub(150),
-        )
-    };
+        )),
+    }
+}
+
+/// The number that the bits of a float say, where they say one.
+pub(crate) fn num_of_float(bits: u32) -> Option<Num> {
+    let (mant, two) = size_of_float(bits)?;
     if mant == 0 {
         return Some(Num::of(0));
     }

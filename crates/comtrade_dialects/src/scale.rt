@@ -50,10 +50,7 @@ impl Scale {
     fn near(self, size: u64, two: i32) -> i64 {
         let size = u128::from(size);
         let near = if self.shift < 0 {
-            tenth(
-                size.checked_mul(power_of_two(two)).unwrap_or(u128::MAX),
-                self.shift.unsigned_abs(),
-            )
+            tenth(shifted(size, two), self.shift.unsigned_abs())
         } else {
             shifted(
                 size.saturating_mul(self.fives),
@@ -64,16 +61,35 @@ impl Scale {
     }
 
     /// The same, where 64 bits are enough for it.
-    fn near_in_64(self, size: u64, two: i32) -> Option<i64> {
-        let right = 0i32.saturating_sub(self.shift.saturating_add(two));
-        if self.short == 0 || 0x100_0000 <= size || right < 1 || 62 < right {
+    pub(crate) fn near_in_64(self, size: u64, two: i32) -> Option<i64> {
+        if self.short == 0 || self.shift < 0 || 0x100_0000 <= size {
             return None;
         }
-        let right = right.unsigned_abs();
-        let half = 1u64.wrapping_shl(right.wrapping_sub(1));
-        let sum = size.wrapping_mul(self.short).wrapping_add(half);
-        i64::try_from(sum.wrapping_shr(right)).ok()
+        let product = size.wrapping_mul(self.short);
+        let power = self.shift.saturating_add(two);
+        if power < 0 {
+            over_power(product, power.unsigned_abs())
+        } else {
+            times_power(product, power.unsigned_abs())
+        }
     }
+}
+
+/// A size of at most 63 bits over 2^n, rounded.
+fn over_power(size: u64, n: u32) -> Option<i64> {
+    if 62 < n {
+        return None;
+    }
+    let half = 1u64.wrapping_shl(n.wrapping_sub(1));
+    i64::try_from(size.wrapping_add(half).wrapping_shr(n)).ok()
+}
+
+/// A size times 2^n, where that has at most 63 bits.
+fn times_power(size: u64, n: u32) -> Option<i64> {
+    if size.leading_zeros() <= n {
+        return None;
+    }
+    i64::try_from(size.wrapping_shl(n)).ok()
 }
 
 fn power_of_two(n: i32) -> u128 {

@@ -1,18 +1,26 @@
 //! When the rows of a data file were taken.
 
-ghost use Rattle.std.specs.Prelude.{◌≡◌, ◌<◌, ◌≤◌, ◌^◌, ℕ, Option, length};
+ghost use Rattle.std.specs.Prelude.{◌≡◌, ◌<◌, ◌≤◌, ◌*◌, ◌^◌, ℕ, Option, length, IfSome};
 ghost use Rattle.comtrade_values.specs.Times as Times;
 
 use comtrade_format::{Head, Rate};
 use dfr_channels::Decimal;
 use std::alloc::Allocator;
 
-/// 10^zeros.
+/// 10^zeros. Rates have few places, and a power is dear to a call for each row.
 fn ten_to(zeros: u8) -> u128
     requires { zeros < 39 }
     ensures { result ≡ 10 ^ zeros }
 {
-    10u128.pow(zeros as u32)
+    match zeros {
+        0 => 1,
+        9 => 1_000_000_000,
+        10 => 10_000_000_000,
+        11 => 100_000_000_000,
+        12 => 1_000_000_000_000,
+        13 => 10_000_000_000_000,
+        _ => 10u128.pow(zeros as u32),
+    }
 }
 
 /// The units of a number that isn't negative.
@@ -26,11 +34,24 @@ fn size_of(number: Decimal) -> Option<u128>
     Some(units.unsigned_abs())
 }
 
-/// The product, where it has 128 bits.
+/// The product, where it and both numbers have 64 bits.
+#[inline(always)]
+fn short_product(x: u128, y: u128) -> Option<u64>
+    ensures { IfSome result (λ n. n ≡ x * y) }
+{
+    let x = u64::try_from(x).ok()?;
+    let y = u64::try_from(y).ok()?;
+    x.checked_mul(y)
+}
+
+/// The product, where it has 128 bits; nearly all have 64.
 fn product(x: u128, y: u128) -> Option<u128>
     ensures { result ≡ Times.product x y }
 {
-    x.checked_mul(y)
+    match short_product(x, y) {
+        Some(n) => Some(n as u128),
+        None => x.checked_mul(y),
+    }
 }
 
 /// The quotient, rounded down.
@@ -114,6 +135,7 @@ fn next<'a>(paces: Paces<'a>, rate: &Rate, more: &'a [Rate]) -> Paces<'a>
 }
 
 /// The rates without those of which all rows are before this one.
+#[inline(always)] // for each row: to hand its answer over in memory takes as long as to find it
 fn past<'a>(paces: Paces<'a>, row: u64) -> Paces<'a>
     ensures since { (later : ℕ) → row ≤ later → Times.since_by result later ≡ Times.since_by paces.entry later }
     ensures first { Times.IsFirst row result.rates.now }
