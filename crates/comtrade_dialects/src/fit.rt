@@ -88,7 +88,9 @@ impl Steps {
         let mut off = rest.max(half).wrapping_sub(rest.min(half));
         if MOST < count {
             count = MOST;
-            off = size.wrapping_sub(half).wrapping_sub(MOST.wrapping_mul(unit));
+            off = size
+                .wrapping_sub(half)
+                .wrapping_sub(MOST.wrapping_mul(unit));
         }
         let count = i64::try_from(count).unwrap_or(0);
         let count = if from < 0 {
