@@ -188,8 +188,9 @@ int32_t comtrade_open(const uint8_t *cfg, size_t cfg_length, const uint8_t *dat,
     if (!record || (cfg_length && !cfg) || (dat_length && !dat)) return COMTRADE_BAD_CALL;
     if (!fault) fault = &unsaid;
     cfg = some(cfg), dat = some(dat);
-    comtrade *r = (comtrade *)calloc(1, sizeof *r);
+    comtrade *r = (comtrade *)malloc(sizeof *r);
     if (!r) return COMTRADE_NO_MEMORY;
+    memset(r, 0, sizeof *r);
     int32_t answer = comtrade_core_head(cfg, cfg_length, &r->head, fault);
     if (answer == COMTRADE_DONE) answer = read_channels(r, cfg, cfg_length, fault);
     if (answer == COMTRADE_DONE) answer = read_rows(r, cfg, cfg_length, dat, dat_length, fault);

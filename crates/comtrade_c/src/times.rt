@@ -31,7 +31,10 @@ fn put_times<A: Allocator>(head: &Head<A>, stamps: &[u64], times: &mut [i64])
 {
     let mut clock = clock_of(head);
     for (k, stamp) in stamps.iter().enumerate() {
-        clock = clock.at(k as u64);
+        // a clock that begins some rows before is as quick
+        if k % 256 == 0 {
+            clock = clock.at(k as u64);
+        }
         times[k] = time_in(clock.nanos(k as u64, stamp_of(*stamp)));
     }
 }

@@ -1,8 +1,9 @@
-use Rattle.std.proofs.Common.{◌≡◌, ◌∙◌, ap, arith, w64, rules}
+use Rattle.std.proofs.Common.{◌≡◌, ◌≤◌, ◌∙◌, ℕ, Option, ap, arith, w64, rules}
 use Rattle.std.proofs.lemmas.Int.{to_z-of_z}
-use Rattle.comtrade_values.specs.Times.{time_of}
+use Rattle.comtrade_values.specs.Times.{time_by, time_of}
 use Rattle.comtrade_c.specs.Times.{time_in}
 use Rattle.comtrade_c.proofs.Timed.{timed_more, all_timed}
+use Rattle.comtrade_c.proofs.times.put_times.Goals.{then-k-eq0, else-k-eq0}
 use Rattle.comtrade_c.proofs.times.put_times.Goals as goal
 
 pub loop-k-preserved : goal.loop-k-preserved
@@ -10,12 +11,16 @@ loop-k-preserved g c =
     let k = c.loop-k.k in
     let taken = time_of c.args.head.now in
     let stamp = c.stamp_of.result in
-    let is : c.nanos.result ≡ taken k stamp =
-    c.nanos.ensures ∙ c.at-clock.ensures k stamp (omega arith) ∙ c.loop-k.invariant.same k stamp (omega arith) in
+    let now : (later : ℕ) (given : Option ℕ) → k ≤ later → time_by c.if-k-eq0.clock later given ≡ taken later given =
+        elim c.if-k-eq0.branch [
+            then-k-eq0 w ↦ λ later given below. ap (λ x. time_by x later given) w.clock-is ∙ w.at-clock.ensures later given below
+                ∙ c.loop-k.invariant.same later given below
+            | else-k-eq0 w ↦ λ later given below. ap (λ x. time_by x later given) w.clock-is ∙ c.loop-k.invariant.same later given below ] in
+    let is : c.nanos.result ≡ taken k stamp = c.nanos.ensures ∙ now k stamp (omega arith) in
     record {
       laid = timed_more taken c.args.stamps.now c.loop-k.times c.args.times.now k _ (search rules) (search rules) c.loop-k.invariant.laid
           (to_z-of_z w64 c.time_in.result (search rules) ∙ c.time_in.ensures ∙ ap time_in (is ∙ ap (taken k) c.stamp_of.ensures));
-      same = λ later stamp below. c.at-clock.ensures later stamp (omega arith) ∙ c.loop-k.invariant.same later stamp (omega arith);
+      same = λ later given below. now later given (omega arith);
     }
 
 pub returns : goal.returns
