@@ -12,10 +12,11 @@ loop-k-preserved g c =
     let taken = time_of c.args.head.now in
     let stamp = c.stamp_of.result in
     let now : (later : ℕ) (given : Option ℕ) → k ≤ later → time_by c.if-k-eq0.clock later given ≡ taken later given =
-        elim c.if-k-eq0.branch [
-            then-k-eq0 w ↦ λ later given below. ap (λ x. time_by x later given) w.clock-is ∙ w.at-clock.ensures later given below
-                ∙ c.loop-k.invariant.same later given below
-            | else-k-eq0 w ↦ λ later given below. ap (λ x. time_by x later given) w.clock-is ∙ c.loop-k.invariant.same later given below ] in
+    elim c.if-k-eq0.branch [
+      | then-k-eq0 w ↦ λ later given below. ap (λ x. time_by x later given) w.clock-is ∙ w.at-clock.ensures later given below
+          ∙ c.loop-k.invariant.same later given below
+      | else-k-eq0 w ↦ λ later given below. ap (λ x. time_by x later given) w.clock-is ∙ c.loop-k.invariant.same later given below
+    ] in
     let is : c.nanos.result ≡ taken k stamp = c.nanos.ensures ∙ now k stamp (omega arith) in
     record {
       laid = timed_more taken c.args.stamps.now c.loop-k.times c.args.times.now k _ (search rules) (search rules) c.loop-k.invariant.laid
