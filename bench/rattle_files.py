@@ -73,7 +73,8 @@ def body_of(lines, at, indent):
     for place in range(at, len(lines)):
         has_clause |= bool(re.match(rf"{indent}    (requires|ensures|ghost|decreases)\b", lines[place]))
         if lines[place] == indent + "{" or not has_clause and lines[place].endswith(" {"):
-            return place, lines.index(indent + "}", place)
+            last = lines.index(indent + "}", place)
+            return None if any('r#' in it for it in lines[place:last]) else (place, last)  # (a raw text has lines of its own)
         if lines[place].endswith((";", "{}")) or not has_clause and lines[place].endswith("}"):
             return None
 
