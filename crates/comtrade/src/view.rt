@@ -2,8 +2,7 @@
 
 use crate::load::file_spelled;
 use crate::measure::measure_over;
-use comtrade_check::check_over;
-use comtrade_diagnostics::{Pair, put_remarks};
+use comtrade_diagnostics::{Pair, check_over, put_remarks};
 use comtrade_format::File;
 use comtrade_io::{Part, Picture, ToolFault, View, Viewed, put, put_safe, write_out};
 use comtrade_part::{PartFault, is_whole, part_of};

@@ -10,8 +10,10 @@ mod line;
 mod names;
 mod refuse;
 mod remarks;
+mod verdict;
 
 pub use check::{Pair, put_fault, put_no_fault};
 pub use hints::{put_hint, put_single};
 pub use refuse::put_refusal;
 pub use remarks::put_remarks;
+pub use verdict::check_over;

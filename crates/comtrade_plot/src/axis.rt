@@ -4,8 +4,8 @@ use crate::gaps::Gap;
 use crate::instant::{TimeUnit, put_places, put_span, time_unit};
 use crate::layout::Chart;
 use crate::legend::NAMES;
+use crate::plan::{Frame, LEFT, RIGHT};
 use crate::sheet::Sheet;
-use comtrade_frame::{Frame, LEFT, RIGHT};
 use std::alloc::Allocator;
 
 /// The least of 1, 2 and 5 times a power of ten that is at least so much.

@@ -8,9 +8,9 @@ use crate::layers::Layer;
 use crate::layout::{Chart, NOWHERE, panel_count};
 use crate::legend::put_mark;
 use crate::phases::Hue;
+use crate::plan::LEFT;
 use crate::plot::PlotOptions;
 use crate::sheet::Sheet;
-use comtrade_frame::LEFT;
 use dfr_channels::AnalogChannel;
 use std::alloc::Allocator;
 

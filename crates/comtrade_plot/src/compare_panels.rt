@@ -6,9 +6,9 @@ use crate::layout::{Chart, LINE_HEIGHT, TITLE, least_height, legends_height, pan
 use crate::legend::{put_legend, put_small};
 use crate::panels::put_panel;
 use crate::phases::Hue;
+use crate::plan::Differences;
 use crate::quantity::put_quantity;
 use crate::sheet::Sheet;
-use comtrade_frame::Differences;
 use std::alloc::Allocator;
 
 /// The channel of a panel.

@@ -1,8 +1,8 @@
 //! How far equal channels of two records differ.
 
 use crate::layout::Chart;
+use crate::plan::{Differences, Moment, Point, between};
 use crate::rows::reading_at;
-use comtrade_frame::{Differences, Moment, Point, between};
 use dfr_channels::Reading;
 use std::alloc::Allocator;
 

@@ -1,6 +1,6 @@
 //! Stretches without scans.
 
-use comtrade_frame::Frame;
+use crate::plan::Frame;
 use comtrade_io::ToolFault;
 use std::alloc::Allocator;
 

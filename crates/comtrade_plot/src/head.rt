@@ -3,11 +3,11 @@
 use crate::instant::{put_instant, put_range};
 use crate::layout::{Chart, panel_count};
 use crate::legend::peak_of;
+use crate::plan::{LEFT, WIDTH};
 use crate::plot::PlotOptions;
 use crate::quantity::put_quantity;
 use crate::sheet::Sheet;
 use comtrade_format::{File, Head};
-use comtrade_frame::{LEFT, WIDTH};
 use std::alloc::Allocator;
 
 /// Colours for dark pages, and line styles for print.

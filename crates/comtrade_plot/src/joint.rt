@@ -2,10 +2,10 @@
 
 use crate::axis::rounded_out;
 use crate::layout::NOWHERE;
+use crate::plan::{Frame, Moment, course_of, window_of};
 use crate::record::{Record, USUAL_CYCLE, lasting};
 use crate::rows::{last_change, whole_frame};
 use comtrade_format::File;
-use comtrade_frame::{Frame, Moment, course_of, window_of};
 use comtrade_io::ToolFault;
 use std::alloc::Allocator;
 

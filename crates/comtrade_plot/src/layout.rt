@@ -2,9 +2,9 @@
 
 use crate::gaps::Gap;
 use crate::layers::Layer;
+use crate::plan::Frame;
 use crate::survey::Survey;
 use comtrade_format::File;
-use comtrade_frame::Frame;
 use comtrade_values::Scale;
 use dfr_channels::{AnalogChannel, StatusChannel};
 use std::alloc::Allocator;

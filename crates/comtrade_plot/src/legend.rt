@@ -3,11 +3,11 @@
 use crate::layers::Layer;
 use crate::layout::{Chart, LINE_HEIGHT, first_line, legend_height};
 use crate::phases::Hue;
+use crate::plan::RIGHT;
 use crate::quantity::put_quantity;
 use crate::sheet::Sheet;
 use crate::survey::Survey;
 use crate::units::is_alternating;
-use comtrade_frame::RIGHT;
 use comtrade_values::Scale;
 use dfr_channels::AnalogChannel;
 use std::alloc::Allocator;

@@ -2,9 +2,9 @@
 
 use crate::instant::put_places;
 use crate::layout::Chart;
+use crate::plan::{LEFT, Panel, RIGHT};
 use crate::sheet::Sheet;
 use crate::units::power_of_ten;
-use comtrade_frame::{LEFT, Panel, RIGHT};
 use std::alloc::Allocator;
 use std::num::{nearest_i64_to_f64, nearest_u64_to_f64, saturating_f64_to_i64};
 

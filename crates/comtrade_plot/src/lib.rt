@@ -23,6 +23,7 @@ mod overview;
 mod page;
 mod panels;
 mod phases;
+mod plan;
 mod plot;
 mod quantity;
 mod record;

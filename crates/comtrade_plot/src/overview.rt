@@ -4,9 +4,9 @@ use crate::instant::{put_range, put_span};
 use crate::layout::Chart;
 use crate::legend::NAMES;
 use crate::panels::{edges_of, put_frame, put_traces};
+use crate::plan::{Frame, LEFT, Panel, RIGHT};
 use crate::sheet::Sheet;
 use crate::units::is_current;
-use comtrade_frame::{Frame, LEFT, Panel, RIGHT};
 use std::alloc::Allocator;
 
 /// How high the strip is, with what is below it.

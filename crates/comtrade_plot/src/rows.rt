@@ -1,7 +1,7 @@
 //! What rows say: readings, bits, which rows are lost, where they stand.
 
+use crate::plan::{Frame, later_change};
 use comtrade_format::{File, Row};
-use comtrade_frame::{Frame, later_change};
 use comtrade_io::ToolFault;
 use dfr_channels::Reading;
 use std::alloc::Allocator;

@@ -1,7 +1,7 @@
 //! What the drawn rows say of each channel: its least and greatest sample, its effective values.
 
+use crate::plan::Frame;
 use comtrade_format::{File, Row};
-use comtrade_frame::Frame;
 use comtrade_io::ToolFault;
 use comtrade_values::Scale;
 use dfr_channels::Reading;

@@ -1,9 +1,9 @@
 //! The traces of channels, at most two points for each half pixel: no peak is lost.
 
+use crate::plan::Panel;
 use crate::rows::reading_at;
 use crate::sheet::Sheet;
 use comtrade_format::Row;
-use comtrade_frame::Panel;
 use comtrade_values::Scale;
 use dfr_channels::Reading;
 use std::alloc::Allocator;

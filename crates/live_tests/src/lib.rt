@@ -27,8 +27,6 @@ mod progress;
 #[cfg(test)]
 mod runs;
 #[cfg(test)]
-mod soak;
-#[cfg(test)]
 mod station;
 #[cfg(test)]
 mod stations;

@@ -1,0 +1,65 @@
+//! The check of a pair of files.
+
+ghost use Rattle.std.specs.Prelude.{◌≡◌, IfOk, true, false};
+ghost use Rattle.comtrade_read.specs.Verdicts.{IsFile};
+ghost use Rattle.comtrade_read.specs.Reads.{IsNoFile};
+
+use crate::check::{Pair, put_fault, put_no_fault};
+use crate::hints::put_hint;
+use comtrade_io::{ToolFault, write_out};
+use comtrade_read::{Fault, ReadFault, read};
+use std::alloc::{AllocError, Allocator};
+use std::io::Write;
+
+/// The first fault of a pair, and whether `import` reads it.
+fn put_faulty<A: Allocator + Copy>(
+    alloc: A,
+    out: &mut Vec<u8, A>,
+    pair: Pair<'_>,
+    found: Fault,
+) -> Result<(), AllocError> {
+    put_fault(alloc, out, pair, found)?;
+    put_hint(alloc, out, pair)
+}
+
+/// Puts the first fault of a pair in words, and whether `import` reads it; or that it has none, and what is odd about it. True where it has
+/// none.
+fn put_verdict<A: Allocator + Copy>(
+    alloc: A,
+    out: &mut Vec<u8, A>,
+    pair: Pair<'_>,
+) -> Result<bool, ToolFault>
+    ensures sound { IfOk result (λ r. r ≡ true → IsFile pair.entry.cfg.now pair.entry.dat.now) }
+    ensures faulty { IfOk result (λ r. r ≡ false → IsNoFile pair.entry.cfg.now pair.entry.dat.now) }
+{
+    match read(alloc, pair.cfg, pair.dat) {
+        Ok(file) => {
+            let put = put_no_fault(alloc, out, pair, &file);
+            // here, so that neither exit proves the drop of its parts
+            drop(file);
+            put?;
+            Ok(true)
+        }
+        Err((_, ReadFault::Memory)) => Err(ToolFault::Memory),
+        Err((part, fault)) => {
+            put_faulty(alloc, out, pair, Fault { part, fault })?;
+            Ok(false)
+        }
+    }
+}
+
+/// Prints the first fault of a pair in words, and whether `import` reads it; or that it has none, and what is odd about it. True where it
+/// has none, and then the pair reads to a file; false where it has one, and then it reads to none.
+pub fn check_over<A: Allocator + Copy, W: Write>(
+    alloc: A,
+    pair: Pair<'_>,
+    w: &mut W,
+) -> Result<bool, ToolFault>
+    ensures sound { IfOk result (λ r. r ≡ true → IsFile pair.entry.cfg.now pair.entry.dat.now) }
+    ensures faulty { IfOk result (λ r. r ≡ false → IsNoFile pair.entry.cfg.now pair.entry.dat.now) }
+{
+    let mut out = Vec::new(alloc);
+    let is_sound = put_verdict(alloc, &mut out, pair)?;
+    write_out(w, &out)?;
+    Ok(is_sound)
+}

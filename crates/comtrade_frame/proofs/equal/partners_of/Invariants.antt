@@ -1,7 +1,0 @@
-use Rattle.std.proofs.Common.{take}
-use Rattle.std.specs.List.{AllZip}
-use Rattle.comtrade_frame.specs.Equal.{IsPartner}
-use Rattle.comtrade_frame.proofs.equal.partners_of.Given as goal
-
-abbrev pub invariant-loop-one : goal.invariant-loop-one
-invariant-loop-one g l = AllZip (IsPartner l.others) (take l.one-index l.ones) l.partners.items

@@ -1,0 +1,16 @@
+//! What pictures are laid out by: which times of a record are drawn, where times and values stand, which row of one record stands beside
+//! which time of another, which channels are the same, how far they differ.
+
+mod beside;
+mod course;
+mod differences;
+mod equal;
+mod frame;
+mod windows;
+
+pub use beside::{place_of, places_of};
+pub use course::{Moment, course_of};
+pub use differences::{Differences, Point, between};
+pub use equal::{is_equal, partners_of};
+pub use frame::{ACROSS, Frame, LEFT, Panel, RIGHT, WIDTH};
+pub use windows::{later_change, window_of};
