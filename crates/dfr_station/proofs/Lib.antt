@@ -1,1 +1,4 @@
 pub mod Stamps
+pub mod Groups
+pub mod Parts
+pub mod Steps

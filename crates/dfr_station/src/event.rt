@@ -1,7 +1,7 @@
 //! What happens, as it is told.
 
+use crate::intake::Why;
 use crate::key::Key;
-use dfr_frames::Why;
 use dfr_recorder::{Extent, Hit, TriggerFault};
 
 /// Why something that came is skipped.

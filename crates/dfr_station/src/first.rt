@@ -1,8 +1,8 @@
 //! What comes up to the first scan, whose instant is that of scan 0.
 
+use crate::intake::{HEAD_LEN, is_scan_line};
 use crate::station::Input;
 use dfr_channels::Lines;
-use dfr_frames::{HEAD_LEN, is_scan_line};
 use std::alloc::{AllocError, Allocator, Global};
 use std::io::Read;
 

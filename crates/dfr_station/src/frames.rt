@@ -1,10 +1,10 @@
 //! Frames as they come, in pieces of any size.
 
 use crate::event::Event;
+use crate::intake::{frame_len, give_frames};
 use crate::scans::Scans;
 use crate::signals::Signals;
 use dfr_channels::Layout;
-use dfr_frames::{frame_len, give_frames};
 use dfr_live::{LossFault, Session, Source};
 use std::alloc::Allocator;
 use std::io::Read;

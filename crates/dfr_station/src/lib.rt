@@ -8,6 +8,7 @@ mod event;
 mod export;
 mod first;
 mod frames;
+mod intake;
 mod key;
 mod operator;
 mod orders;
@@ -24,12 +25,12 @@ mod telling;
 mod text_buffer;
 mod text_lines;
 
-pub use dfr_frames::{
+pub use event::{Asked, Event, Replied, Skipped, Trouble};
+pub use first::{First, read_first};
+pub use intake::{
     Came, Recorded, RunFault, Tally, Why, commands_of, frame_len, give, give_frames, is_scan_line,
     lose, scan_of_frame, surplus_bytes,
 };
-pub use event::{Asked, Event, Replied, Skipped, Trouble};
-pub use first::{First, read_first};
 pub use key::{Key, key_at, key_in, put_key};
 pub use prepared::{SetupRefusal, recorder_of};
 pub use printed::put_event;

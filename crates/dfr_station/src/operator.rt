@@ -1,9 +1,9 @@
 //! The lines of an operator, which come while scans are recorded.
 
 use crate::event::{Asked, Event, Skipped};
+use crate::intake::{HEAD, commands_of};
 use crate::orders::{Trigger, skipped_of};
 use dfr_channels::{Rule, Rules};
-use dfr_frames::{HEAD, commands_of};
 use dfr_live::{Order, Session, Shared};
 use dfr_script::{Command, ScriptRefusal, Word};
 use rtrb::Consumer;

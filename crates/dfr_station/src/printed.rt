@@ -1,8 +1,8 @@
 //! Events as lines: the instant, what happened, and its numbers with their names.
 
 use crate::event::{Asked, Event, Replied, Skipped, Trouble};
+use crate::intake::Why;
 use crate::key::{put_key, put_padded};
-use dfr_frames::Why;
 use dfr_recorder::{Cause, Extent, Hit, TriggerFault};
 use itoa::Buffer;
 use jiff_core::civil::DateTime;

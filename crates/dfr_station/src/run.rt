@@ -3,19 +3,19 @@
 ghost use Rattle.std.specs.Prelude.{◌≡◌, IfOk};
 ghost use Rattle.dfr_recorder.specs.History.{Opening};
 ghost use Rattle.dfr_live.specs.Seen.{opening_of};
-ghost use Rattle.dfr_frames.specs.Runs.{Leaves};
+ghost use Rattle.dfr_station.specs.Runs.{Leaves};
 
 use crate::acquire::Acquisition;
 use crate::begin::{How, queues_in, tasks_of};
 use crate::event::Event;
 use crate::export::Exports;
 use crate::first::First;
+use crate::intake::{Recorded, RunFault, ended_of};
 use crate::orders::Trigger;
 use crate::station::{Printer, Station, Store};
 use crate::tasks::{Tasks, in_threads};
 use crate::teller::put_line;
 use crate::telling::{Telling, now};
-use dfr_frames::{Recorded, RunFault, ended_of};
 use dfr_live::{Opened, Session, Shared, Source, Token, open};
 use std::alloc::Allocator;
 use std::io::Read;

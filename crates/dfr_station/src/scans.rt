@@ -1,9 +1,9 @@
 //! The scans that came, as they are counted and told.
 
 use crate::event::Event;
+use crate::intake::{Came, Tally, Why};
 use crate::signals::Signals;
 use crate::teller::Teller;
-use dfr_frames::{Came, Tally, Why};
 use std::alloc::{Allocator, Global};
 use std::sync::atomic::Ordering;
 

@@ -1,7 +1,7 @@
 //! Lines in the buffer of the input, which has room for the shortest set-up at its front.
 
 use crate::frames::moved_up;
-use dfr_frames::{HEAD, HEAD_LEN, is_scan_line};
+use crate::intake::{HEAD, HEAD_LEN, is_scan_line};
 use memchr::{memchr, memrchr};
 
 /// How many line feeds a text has.

@@ -1,6 +1,9 @@
 //! Lines as they come, in pieces of any size.
 
 use crate::event::{Event, Skipped};
+use crate::intake::{
+    Came, HEAD_LEN, HEAD_LINES, Tally, Why, commands_of, give, is_scan_line, lose,
+};
 use crate::orders::{Placed, skipped_of};
 use crate::scans::Scans;
 use crate::signals::Signals;
@@ -8,7 +11,6 @@ use crate::text_buffer::{
     feeds_in, kept_after, line_at, line_end, piece_end, whole_end, with_head,
 };
 use dfr_channels::{Layout, Rule, Rules, Scan};
-use dfr_frames::{Came, HEAD_LEN, HEAD_LINES, Tally, Why, commands_of, give, is_scan_line, lose};
 use dfr_live::{LossFault, Order, Session, Source};
 use dfr_script::{Command, ScriptFault, ScriptRefusal, Word};
 use memchr::memchr;

@@ -1,6 +1,6 @@
 use Rattle.std.proofs.Common.{◌≡◌, length, refl, arith}
-use Rattle.dfr_frames.specs.Frames.{frame_len}
-use Rattle.dfr_frames.proofs.Parts.{whole_parts}
+use Rattle.dfr_station.specs.Frames.{frame_len}
+use Rattle.dfr_station.proofs.Parts.{whole_parts}
 use Rattle.dfr_station.proofs.frames.give_whole.Goals as goal
 
 pub give_frames-requires : goal.give_frames-requires

@@ -1,6 +1,6 @@
 use Rattle.std.proofs.Common.{subst}
 use Rattle.dfr_recorder.specs.History.{Opening}
-use Rattle.dfr_frames.specs.Runs.{Leaves}
+use Rattle.dfr_station.specs.Runs.{Leaves}
 use Rattle.dfr_station.proofs.run.run_station.Goals as goal
 
 pub returns-in-Ok-open : goal.returns-in-Ok-open
