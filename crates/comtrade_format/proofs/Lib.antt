@@ -3,6 +3,7 @@ pub mod Civil
 pub mod Lines
 pub mod Points
 pub mod Numbered
+pub mod Pairs
 pub mod Bits
 pub mod Refusals
 pub mod Appending

@@ -1,15 +1,15 @@
 //! Rows with a stamp, in the writers' spelling, read in one pass.
 
-ghost use Rattle.std.specs.Prelude.{◌≡◌, ◌<◌, ◌+◌, ◌*◌, [], IfOk, IfSome, option_copied, option_map, Some, Ok, true, pos, negsuc, length};
+ghost use Rattle.std.specs.Prelude.{◌≡◌, ◌<◌, ◌<ℤ◌, ◌+◌, ◌-◌, ◌*◌, ◌^◌, [], IfOk, IfSome, option_copied, option_map, Some, Ok, true, pos, negsuc, length};
 ghost use Rattle.dfr_channels.specs.Lines.{fields};
-ghost use Rattle.dfr_channels.specs.PlainNumbers.{fields_behind};
+ghost use Rattle.dfr_channels.specs.PlainNumbers.{Begins, fields_behind};
 ghost use Rattle.dfr_channels.specs.Fields.{within, up_to, bit as read_bit};
 ghost use Rattle.comtrade_read.specs.Fields.{natural, ten_digits};
 ghost use Rattle.comtrade_read.specs.Ascii as spec;
 ghost use Rattle.comtrade_read.specs.Inner.PlainRows.{IsNext, AreNext, AreBits};
 
 use comtrade_format::Row;
-use dfr_channels::{Items, Reading, plain_number};
+use dfr_channels::{Items, Reading, plain_number, sample_number};
 use std::alloc::{AllocError, Allocator};
 
 /// The number, where a row's number or stamp can be it.
@@ -42,6 +42,19 @@ fn next_stamp(left: Option<&[u8]>) -> Option<(u64, Option<&[u8]>)>
     Some((stamp, behind))
 }
 
+/// What `plain_number` says; the values of most samples have four or five digits.
+#[inline(always)]
+fn value_number(text: &[u8]) -> Option<(i64, Option<&[u8]>)>
+    ensures first { IfSome result (λ r. Begins text.now r.0 (option_copied r.1)) }
+    ensures above { IfSome result (λ r. negsuc (10 ^ 10 - 1) <ℤ r.0) }
+    ensures below { IfSome result (λ r. r.0 <ℤ pos (10 ^ 10)) }
+{
+    match sample_number(text) {
+        Some((number, behind)) => Some((number as i64, behind)),
+        None => plain_number(text),
+    }
+}
+
 /// A number as a value; 99,999 stands for a missing one.
 fn reading(number: i64) -> Option<Reading>
     ensures { result ≡ option_map spec.reading (within (negsuc 99998) (pos 99999) (Some number)) }
@@ -62,7 +75,7 @@ fn reading(number: i64) -> Option<Reading>
 fn next_value(left: Option<&[u8]>) -> Option<(Reading, Option<&[u8]>)>
     ensures { IfSome result (λ r. IsNext spec.value (fields_behind (option_copied left.entry)) r.0 (fields_behind (option_copied r.1))) }
 {
-    let (number, behind) = plain_number(left?)?;
+    let (number, behind) = value_number(left?)?;
     let value = reading(number)?;
     Some((value, behind))
 }

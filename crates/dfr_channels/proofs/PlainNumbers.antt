@@ -16,14 +16,14 @@ use Rattle.dfr_channels.specs.Spelling.{is_blank, is_numeral, trimmed, trim_star
 use Rattle.dfr_channels.specs.Lines.{fields}
 use Rattle.dfr_channels.specs.PlainNumbers.{tail, fields_behind, before_comma, is_short, begins_short, DigitsFirst, Begins}
 
-abbrev is_comma : ℕ → Bool
+abbrev pub is_comma : ℕ → Bool
 is_comma b = eqb b 44
 
 -- neither a comma nor a blank
 abbrev is_solid : ℕ → Bool
 is_solid b = not (is_comma b) && not (is_blank b)
 
-both : (a b : Bool) → (a && b) ≡ true → (a ≡ true) × (b ≡ true)
+pub both : (a b : Bool) → (a && b) ≡ true → (a ≡ true) × (b ≡ true)
 both true b h = (refl, h)
 both false b h = absurd cc
 
@@ -140,13 +140,13 @@ room n i d h few digit =
 ends_here : (b : ℕ) (bs : List ℕ) → is_comma b ≡ true → before_comma (b ∷ bs) ≡ []
 ends_here b bs h = rw h refl
 
-goes_on : (b : ℕ) (bs : List ℕ) → is_comma b ≡ false → before_comma (b ∷ bs) ≡ b ∷ before_comma bs
+pub goes_on : (b : ℕ) (bs : List ℕ) → is_comma b ≡ false → before_comma (b ∷ bs) ≡ b ∷ before_comma bs
 goes_on b bs h =
     let k : ℕ = position_or_len (λ x. x == 44) bs in
     let on : 1 + k ≡ suc k = omega arith in
     rw h (ap (λ n. take n (b ∷ bs)) on)
 
-at_front : (t : Bool) (b : ℕ) (bs : List ℕ) → is_comma b ≡ t → before_comma (b ∷ bs) ≡ cond t [] (b ∷ before_comma bs)
+pub at_front : (t : Bool) (b : ℕ) (bs : List ℕ) → is_comma b ≡ t → before_comma (b ∷ bs) ≡ cond t [] (b ∷ before_comma bs)
 at_front true b bs h = ends_here b bs h
 at_front false b bs h = goes_on b bs h
 
@@ -157,7 +157,7 @@ before_digits (d ∷ ds) rest h =
     let s = both (not (is_comma d)) (not (is_blank d)) (digit_solid d p.0) in
     goes_on d (ds ++ rest) (no (is_comma d) s.0) ∙ ap (λ l. d ∷ l) (before_digits ds rest p.1)
 
-before : (text : List ℕ) (n : ℕ) → all_ascii_digits (take n text) ≡ true → before_comma text ≡ take n text ++ before_comma (drop n text)
+pub before : (text : List ℕ) (n : ℕ) → all_ascii_digits (take n text) ≡ true → before_comma text ≡ take n text ++ before_comma (drop n text)
 before text n h = ap before_comma (sym (take-append-drop n text)) ∙ before_digits (take n text) (drop n text) h
 
 pub short_digits : (text : List ℕ) (n : ℕ) → n ≤ length text → 0 < n → n ≤ 10 → all_ascii_digits (take n text) ≡ true → before_comma (drop n text) ≡ [] → begins_short text ≡ true
@@ -167,7 +167,7 @@ short_digits text n within some few all ends =
     let e : before_comma text ≡ take n text = before text n all ∙ rw ends (append-nil (take n text)) in
     rw (e, len, all, lt-ltb 0 n some, le-leb n 10 few) refl
 
-not_digits : (ds : List ℕ) (y : ℕ) (ys : List ℕ) → is_ascii_digit y ≡ false → all_ascii_digits (ds ++ y ∷ ys) ≡ false
+pub not_digits : (ds : List ℕ) (y : ℕ) (ys : List ℕ) → is_ascii_digit y ≡ false → all_ascii_digits (ds ++ y ∷ ys) ≡ false
 not_digits [] y ys h = rw h refl
 not_digits (d ∷ ds) y ys h = rw (not_digits ds y ys h, and-false (is_ascii_digit d)) refl
 
@@ -179,11 +179,11 @@ short_end text n within past some few all = short_digits text n within (omega ar
 pub short_comma : (text : List ℕ) (n : ℕ) → n < length text → (n ≡ 0 → ⊥) → n ≤ 10 → all_ascii_digits (take n text) ≡ true → get_or text n 0 ≡ 44 → begins_short text ≡ true
 short_comma text n inside some few all comma = short_digits text n (omega arith) (omega arith) few all (rw (drop_more text n 0 inside, comma) refl)
 
-no_second : (a c : Bool) → (a && false && c) ≡ false
+pub no_second : (a c : Bool) → (a && false && c) ≡ false
 no_second true c = refl
 no_second false c = refl
 
-no_third : (a b : Bool) → (a && b && false) ≡ false
+pub no_third : (a b : Bool) → (a && b && false) ≡ false
 no_third true b = and-false b
 no_third false b = refl
 

@@ -8,7 +8,7 @@ ghost use Rattle.dfr_channels.specs.PlainNumbers.{DigitsFirst, Begins, behind_mi
 
 /// Whether a minus stands first, and what follows it.
 #[inline(always)]
-fn without_minus(text: &[u8]) -> (bool, &[u8])
+pub(crate) fn without_minus(text: &[u8]) -> (bool, &[u8])
     ensures cut { text.now ≡ (if result.0 then 45 ∷ result.1.now else result.1.now) }
     ensures behind { result.1.now ≡ behind_minus text.now }
 {
@@ -18,24 +18,19 @@ fn without_minus(text: &[u8]) -> (bool, &[u8])
     }
 }
 
-/// The digits at the front of a text, so many at most, of which the first `start` are read already: how many, and the number that
-/// they make.
+/// The digits at the front of a text, so many at most: how many, and the number that they make.
 #[inline(always)]
-fn digits_from(text: &[u8], start: usize, begun: u64, most: usize) -> (usize, u64)
-    requires order { start ≤ most }
+fn digits_from(text: &[u8], most: usize) -> (usize, u64)
     requires room { most ≤ length text.now }
     requires ten { most ≤ 10 }
-    requires digits { all_ascii_digits (take start text.now) ≡ true }
-    requires value { begun ≡ digits_value 10 (take start text.now) }
-    requires small { begun < 10 ^ start }
     ensures few { result.0 ≤ most }
     ensures digits { all_ascii_digits (take result.0 text.now) ≡ true }
     ensures value { result.1 ≡ digits_value 10 (take result.0 text.now) }
     ensures small { result.1 < 10 ^ result.0 }
     ensures all { (nat_lt result.0 most && is_ascii_digit (get_or text.now result.0 0)) ≡ false }
 {
-    let mut count = start;
-    let mut number = begun;
+    let mut count = 0;
+    let mut number = 0;
     while count < most {
         let digit = text[count];
         if !digit.is_ascii_digit() {
@@ -45,48 +40,6 @@ fn digits_from(text: &[u8], start: usize, begun: u64, most: usize) -> (usize, u6
         count += 1;
     }
     (count, number)
-}
-
-/// The number of four digits with the fifth, where one stands there, and how many they are. It takes no branch, since whether a
-/// number has four digits or five can't be foreseen.
-#[inline(always)]
-fn with_fifth(text: &[u8], four: u64) -> (usize, u64)
-    requires long { 5 ≤ length text.now }
-    requires digits { all_ascii_digits (take 4 text.now) ≡ true }
-    requires value { four ≡ digits_value 10 (take 4 text.now) }
-    requires small { four < 10 ^ 4 }
-    ensures some { 4 ≤ result.0 }
-    ensures few { result.0 ≤ 5 }
-    ensures digits { all_ascii_digits (take result.0 text.now) ≡ true }
-    ensures value { result.1 ≡ digits_value 10 (take result.0 text.now) }
-    ensures small { result.1 < 10 ^ result.0 }
-    ensures all { (nat_lt result.0 5 && is_ascii_digit (get_or text.now result.0 0)) ≡ false }
-{
-    let fifth = text[4];
-    let longer = four * 10 + fifth as u64;
-    if fifth.is_ascii_digit() {
-        (5, longer - 48)
-    } else {
-        (4, four)
-    }
-}
-
-/// What a text says whose digits end at a comma.
-#[inline(always)]
-fn at_comma(text: &[u8], count: usize, number: u64) -> Option<(u64, Option<&[u8]>)>
-    requires some { 0 < count }
-    requires few { count ≤ 10 }
-    requires within { count < length text.now }
-    requires comma { get_or text.now count 0 ≡ 44 }
-    requires digits { all_ascii_digits (take count text.now) ≡ true }
-    requires value { number ≡ digits_value 10 (take count text.now) }
-    requires small { number < 10 ^ 10 }
-    ensures plain { is_some result ≡ begins_short text.now }
-    ensures first { IfSome result (λ r. DigitsFirst text.now r.0 (option_copied r.1)) }
-    ensures small { IfSome result (λ r. r.0 < 10 ^ 10) }
-    ensures shorter { IfSome result (λ r. IfSome r.1 (λ behind. length behind.now < length text.now)) }
-{
-    Some((number, Some(&text[count + 1..])))
 }
 
 /// What a text says that has these digits at its front, and no eleventh.
@@ -115,27 +68,6 @@ fn behind_digits(text: &[u8], count: usize, number: u64) -> Option<(u64, Option<
     Some((number, Some(&text[count + 1..])))
 }
 
-/// The same of a text of more than ten bytes, where the compiler has no loop for the first digits.
-#[inline(always)]
-fn digits_of_long(text: &[u8]) -> Option<(u64, Option<&[u8]>)>
-    requires { 10 < length text.now }
-    ensures plain { is_some result ≡ begins_short text.now }
-    ensures first { IfSome result (λ r. DigitsFirst text.now r.0 (option_copied r.1)) }
-    ensures small { IfSome result (λ r. r.0 < 10 ^ 10) }
-    ensures shorter { IfSome result (λ r. IfSome r.1 (λ behind. length behind.now < length text.now)) }
-{
-    let (count, number) = digits_from(text, 0, 0, 4);
-    if count < 4 {
-        return behind_digits(text, count, number);
-    }
-    let (count, number) = with_fifth(text, number);
-    if text[count] == b',' {
-        return at_comma(text, count, number);
-    }
-    let (count, number) = digits_from(text, count, number, 10);
-    behind_digits(text, count, number)
-}
-
 /// The number of the one to ten digits that a text begins with, and what stands after its comma if it has one.
 #[inline(always)]
 fn plain_digits(text: &[u8]) -> Option<(u64, Option<&[u8]>)>
@@ -144,10 +76,7 @@ fn plain_digits(text: &[u8]) -> Option<(u64, Option<&[u8]>)>
     ensures small { IfSome result (λ r. r.0 < 10 ^ 10) }
     ensures shorter { IfSome result (λ r. IfSome r.1 (λ behind. length behind.now < length text.now)) }
 {
-    if 10 < text.len() {
-        return digits_of_long(text);
-    }
-    let (count, number) = digits_from(text, 0, 0, text.len());
+    let (count, number) = digits_from(text, text.len().min(10));
     behind_digits(text, count, number)
 }
 

@@ -1,6 +1,7 @@
 //! The commands that stand after `go`.
 
-ghost use Rattle.std.specs.Prelude.{◌≡◌, Some, option_map};
+ghost use Rattle.std.specs.Prelude.{◌≡◌, Some, option_map, codes};
+ghost use Rattle.std.specs.Str.{bytes_eq};
 ghost use Rattle.dfr_script.specs.Faults.{Is};
 ghost use Rattle.dfr_script.specs.Commands as spec;
 
@@ -33,12 +34,19 @@ pub(crate) enum Verb {
     Rules,
 }
 
+/// Whether the word is that of most lines, told by its four bytes.
+fn is_scan(word: &[u8]) -> bool
+    ensures { result ≡ bytes_eq word.now (codes "scan") }
+{
+    matches!(word, [b's', b'c', b'a', b'n'])
+}
+
 /// The command that the word names.
 #[tactic(auto, unfolding(crate::specs::Commands::verb))]
 fn verb_of(word: &[u8]) -> Option<Verb>
     ensures { result ≡ spec.verb word.now }
 {
-    if is_word(word, "scan") {
+    if is_scan(word) {
         Some(Verb::Scan)
     } else if is_word(word, "lost") {
         Some(Verb::Lost)

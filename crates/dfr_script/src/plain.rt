@@ -3,7 +3,7 @@
 ghost use Rattle.std.specs.Prelude.{◌≡◌, ◌<◌, IfSome, option_copied, length};
 ghost use Rattle.dfr_script.specs.Plain.{Begins};
 
-use dfr_channels::plain_number;
+use dfr_channels::{plain_number, sample_number};
 
 /// The reading that a text begins with, and what stands after its comma if it has one, where the field is a minus or nothing
 /// and one to ten digits. None says no more than that the field is spelled otherwise or doesn't fit.
@@ -11,6 +11,9 @@ pub(crate) fn plain_field(text: &[u8]) -> Option<(i32, Option<&[u8]>)>
     ensures first { IfSome result (λ r. Begins text.now r.0 (option_copied r.1)) }
     ensures shorter { IfSome result (λ r. IfSome r.1 (λ behind. length behind.now < length text.now)) }
 {
+    if let Some(sample) = sample_number(text) {
+        return Some(sample);
+    }
     let (number, behind) = plain_number(text)?;
     if number < (i32::MIN as i64) {
         return None;

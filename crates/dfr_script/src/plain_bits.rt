@@ -1,7 +1,8 @@
 //! Bits in their plain spelling, read in two passes without a branch.
 
-ghost use Rattle.std.specs.Prelude.{◌≡◌, ◌*◌, ◌+◌, IfOk, IfSome, length, true};
+ghost use Rattle.std.specs.Prelude.{◌≡◌, ◌*◌, ◌+◌, IfOk, IfSome, None, length, position, true};
 ghost use Rattle.dfr_script.specs.PlainBits.{AreBits, ReadsBits};
+ghost use Rattle.dfr_script.specs.ScanLines.{is_slash};
 
 use std::alloc::{AllocError, Allocator};
 
@@ -30,13 +31,14 @@ fn write_bits(slot: &mut [bool], text: &[u8])
     }
 }
 
-/// The bits of a text, where each is one digit and stands by itself between the commas. None says no more than that one is
-/// spelled otherwise.
+/// The bits of a text, where each is one digit and stands by itself between the commas, and so there is no slash. None says no
+/// more than that one is spelled otherwise.
 pub(crate) fn plain_bits<A: Allocator>(
     alloc: A,
     text: &[u8],
 ) -> Result<Option<Vec<bool, A>>, AllocError>
-    ensures { IfOk result (λ read. IfSome read (λ bits. ReadsBits text.now bits.items)) }
+    ensures bits { IfOk result (λ read. IfSome read (λ bits. ReadsBits text.now bits.items)) }
+    ensures slash { IfOk result (λ read. IfSome read (λ _. position is_slash text.now ≡ None)) }
 {
     let count = text.len() / 2 + 1;
     if text.len() % 2 == 0 || !are_bits(text, count) {

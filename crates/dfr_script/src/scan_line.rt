@@ -1,10 +1,11 @@
 //! The readings and bits of a scan's line.
 
-ghost use Rattle.std.specs.Prelude.{◌≡◌, ◌<◌, ◌∷◌, ◌++◌, ◌&&◌, IfSome, is_some, length, position, option_copied, option_to_list};
+ghost use Rattle.std.specs.Prelude.{◌≡◌, ◌<◌, ◌∷◌, ◌++◌, ◌&&◌, IfSome, None, is_some, length, position, option_copied, option_to_list};
 ghost use Rattle.std.specs.List.{filter_map};
 ghost use Rattle.dfr_channels.specs.Fields.{bit};
 ghost use Rattle.dfr_script.specs.Faults.{Is};
 ghost use Rattle.dfr_script.specs.Fields.{reads_all};
+ghost use Rattle.dfr_script.specs.PlainBits.{ReadsBits};
 ghost use Rattle.dfr_script.specs.ScanLines as spec;
 
 use crate::fault::{LineRefusal, Word};
@@ -113,19 +114,21 @@ fn next_bit(text: &[u8]) -> (Option<bool>, Option<&[u8]>)
     (bit_of(field), behind)
 }
 
-/// The bits between the commas of a part; none in an empty one.
+/// The bits between the commas of a part, of which the plain ones are read already; none in an empty one.
 #[tactic(auto, unfolding(crate::specs::ScanLines::part_fields))]
 fn bits_of<A: Allocator + Copy>(
     alloc: A,
     part: &[u8],
+    plain: Option<Vec<bool, A>>,
     room: usize,
 ) -> Result<Vec<bool, A>, LineRefusal>
+    requires { IfSome plain (λ bits. ReadsBits part.now bits.items) }
     ensures { Is (λ v. v.items) (spec.part bit part.now) result }
 {
     if trim(part).is_empty() {
         return Ok(Vec::new(alloc));
     }
-    if let Some(bits) = plain_bits(alloc, part)? {
+    if let Some(bits) = plain {
         return Ok(bits);
     }
     let mut list = Vec::with_capacity(alloc, room.min(part.len() / 2 + 1))?;
@@ -136,6 +139,14 @@ fn bits_of<A: Allocator + Copy>(
         left = behind;
     }
     Ok(list)
+}
+
+/// Whether a slash stands in a part. It isn't looked for among plain bits.
+fn has_slash<A: Allocator>(part: &[u8], plain: &Option<Vec<bool, A>>) -> bool
+    requires { IfSome plain.now (λ _. position spec.is_slash part.now ≡ None) }
+    ensures { result ≡ is_some (position spec.is_slash part.now) }
+{
+    !part.is_empty() && plain.is_none() && place_of_slash(part).is_some()
 }
 
 /// The scan that the rest of a line says: readings, one slash, bits.
@@ -152,10 +163,11 @@ pub(crate) fn scan_of<A: Allocator + Copy>(
     };
     let front = &rest[..at];
     let back = &rest[at + 1..];
-    if place_of_slash(back).is_some() {
+    let plain = plain_bits(alloc, back)?;
+    if has_slash(back, &plain) {
         return Err(LineRefusal::Fault(Word::Fields));
     }
     let readings = readings_of(alloc, front, size.analog)?;
-    let bits = bits_of(alloc, back, size.status)?;
+    let bits = bits_of(alloc, back, plain, size.status)?;
     Ok(Scan::new(readings, bits))
 }

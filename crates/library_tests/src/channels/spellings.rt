@@ -2,7 +2,7 @@
 
 use dfr_channels::{
     Decimal, Side, bit_of, fields_of, free_bit_of, free_scale_of, integer_of, is_plain, lines_of,
-    numeral_of, plain_number, side_of, trim, without_blank_end,
+    numeral_of, plain_number, sample_number, side_of, trim, without_blank_end,
 };
 use std::alloc::{AllocError, Global};
 use std::test::Fail;
@@ -122,6 +122,44 @@ fn plain_numbers(rt: HostRuntime) {
         b"10000000000",
     ] {
         assert!(rt; plain_number(text).is_none());
+    }
+}
+
+/// Whether a text is read as `plain_number` reads it.
+fn is_sample(text: &[u8]) -> bool {
+    match (sample_number(text), plain_number(text)) {
+        (Some((number, rest)), Some((wanted, behind))) => number as i64 == wanted && rest == behind,
+        _ => false,
+    }
+}
+
+#[test]
+fn numbers_of_samples(rt: HostRuntime) {
+    for text in [
+        b"1234".as_slice(),
+        b"12345",
+        b"1234,",
+        b"-0000,1",
+        b"-12345,6,7",
+        b"99999,",
+        b"-99999",
+    ] {
+        assert!(rt; is_sample(text));
+    }
+    for text in [
+        b"".as_slice(),
+        b"-",
+        b"123",
+        b"123,45",
+        b"123456",
+        b"1234567,",
+        b"12a4,5",
+        b"1234 ",
+        b"1234a5",
+        b"12345 ,",
+        b"+1234",
+    ] {
+        assert!(rt; sample_number(text).is_none());
     }
 }
 

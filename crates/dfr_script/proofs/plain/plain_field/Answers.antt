@@ -16,3 +16,10 @@ returns-clause-first c =
     let high : z ≤ℤ pos 2147483647 = not_below (pos 2147483647) z (rw wide at c.if-number-2.false) in
     let narrow : to_z w32 (of_z w32 z) ≡ z = omega (arith, ints) in
     rw (wide, narrow) (begins c.args.text.now z _ c.in_ok-number.ensures.first low high)
+
+pub returns-in-Some-clause-first : goal.returns-in-Some-clause-first
+returns-in-Some-clause-first c =
+    let z : ℤ = c.in-Some.sample.0 in
+    let low : negsuc 2147483647 ≤ℤ z = omega (arith, ints, c.in-Some.ensures.above) in
+    let high : z ≤ℤ pos 2147483647 = omega (arith, ints, c.in-Some.ensures.below) in
+    begins c.args.text.now z _ c.in-Some.ensures.first low high
