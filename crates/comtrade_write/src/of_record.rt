@@ -193,6 +193,24 @@ fn rows<A: Allocator + Copy>(
     Ok(Items::of(list))
 }
 
+/// The File of a record that matches the layout.
+pub(crate) fn own_file<A: Allocator + Copy>(
+    alloc: A,
+    layout: &Layout<A>,
+    taken: &Record<A>,
+    kind: Kind,
+) -> Result<File<A>, Memory>
+    requires { own.is_own layout.now taken.now ≡ true }
+    ensures file { IfOk result (λ f. f ≡ spec.file layout.now taken.now kind) }
+    ensures writable { IfOk result (λ f. IsWritable f) }
+{
+    let _whole = taken.extent();
+    let rate = layout.rate();
+    let head = head(alloc, layout, taken, kind)?;
+    let rows = rows(alloc, rate, taken.scans())?;
+    Ok(File { head, rows })
+}
+
 /// The File of a record, for data of this kind: the layout's texts, channels and line frequency, one rate, the instants of
 /// the first scan and of the trigger, and a row for each scan with its stamp in microseconds since the first. The writers
 /// refuse it only when out of memory.
@@ -208,9 +226,6 @@ pub fn file_of<A: Allocator + Copy>(
     if !is_own(layout, taken) {
         return Err(FileFault::Foreign);
     }
-    let _whole = taken.extent();
-    let rate = layout.rate();
-    let head = head(alloc, layout, taken, kind)?;
-    let rows = rows(alloc, rate, taken.scans())?;
-    Ok(File { head, rows })
+    let file = own_file(alloc, layout, taken, kind)?;
+    Ok(file)
 }

@@ -18,7 +18,7 @@ fn four_digits(text: &[u8]) -> Option<u64>
     ensures small { IfSome result (λ n. n < 10 ^ 4) }
 {
     let digits = u8x4::from_slice(text) - u8x4::splat(b'0');
-    if !digits.simd_lt(u8x4::splat(10)).all() {
+    if digits.simd_gt(u8x4::splat(9)).to_bitmask() != 0 {
         return None;
     }
     let three = digits.dot4(u8x4::from_array([100, 10, 1, 0])).to_array()[0] as u64;

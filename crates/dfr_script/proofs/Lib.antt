@@ -1,3 +1,4 @@
+pub mod Bare
 pub mod CutFields
 pub mod FirstByte
 pub mod FirstFault

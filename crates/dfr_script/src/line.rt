@@ -2,6 +2,7 @@
 
 ghost use Rattle.std.specs.Prelude.{◌≡◌, position};
 ghost use Rattle.std.specs.Str.{bytes_eq};
+ghost use Rattle.dfr_channels.specs.Lines.{is_blank_line};
 ghost use Rattle.dfr_script.specs.Words as spec;
 
 use dfr_channels::trim;
@@ -32,9 +33,23 @@ pub(crate) fn cut(line: &[u8]) -> (&[u8], &[u8])
     ensures word { result.0.now ≡ spec.word line.now }
     ensures rest { result.1.now ≡ spec.rest line.now }
 {
+    // most lines
+    if let [b's', b'c', b'a', b'n', b' ', rest @ ..] = line {
+        return (&line[..4], trim(rest));
+    }
     match place_of_blank(line) {
         None => (line, &[]),
         Some(at) => (&line[..at], trim(&line[at + 1..])),
+    }
+}
+
+/// Whether a text has nothing but blanks.
+pub(crate) fn is_bare(text: &[u8]) -> bool
+    ensures { result ≡ is_blank_line text.now }
+{
+    match text {
+        [first, ..] if !is_blank(*first) => false,
+        _ => trim(text).is_empty(),
     }
 }
 
@@ -45,6 +60,6 @@ pub(crate) fn is_silent(line: &[u8]) -> bool
 {
     match line {
         [b'#', ..] => true,
-        _ => trim(line).is_empty(),
+        _ => is_bare(line),
     }
 }

@@ -10,7 +10,7 @@ ghost use Rattle.dfr_script.specs.ScanLines as spec;
 
 use crate::fault::{LineRefusal, Word};
 use crate::fields::{needed, small_of};
-use crate::line::is_word;
+use crate::line::{is_bare, is_word};
 use crate::plain::plain_field;
 use crate::plain_bits::plain_bits;
 use dfr_channels::{Reading, Scan, bit_of, trim};
@@ -88,7 +88,7 @@ fn readings_of<A: Allocator>(
 ) -> Result<Vec<Reading, A>, LineRefusal>
     ensures { Is (λ v. v.items) (spec.part spec.reading part.now) result }
 {
-    if trim(part).is_empty() {
+    if is_bare(part) {
         return Ok(Vec::new(alloc));
     }
     // no more readings than this can be read of a text, however many channels there are
@@ -125,7 +125,7 @@ fn bits_of<A: Allocator + Copy>(
     requires { IfSome plain (λ bits. ReadsBits part.now bits.items) }
     ensures { Is (λ v. v.items) (spec.part bit part.now) result }
 {
-    if trim(part).is_empty() {
+    if is_bare(part) {
         return Ok(Vec::new(alloc));
     }
     if let Some(bits) = plain {

@@ -1,12 +1,12 @@
-use Rattle.std.proofs.Common.{sym, ◌∙◌, subst, refl, arith}
+use Rattle.std.proofs.Common.{sym, subst, refl, arith}
 use Rattle.comtrade_format.specs.Data.{IsWritable}
 use Rattle.comtrade_write.specs.OfRecord.{file}
 use Rattle.comtrade_write.proofs.Own.{own_parts, own_writable, earlier_instant, scans_few}
-use Rattle.comtrade_write.proofs.of_record.file_of.Goals as goal
+use Rattle.comtrade_write.proofs.of_record.own_file.Goals as goal
 
 pub head-requires : goal.head-requires
 head-requires g c =
-    let o = own_parts c.args.layout.now c.args.taken.now (sym c.is_own.ensures ∙ c.if-not-is_own.false) in
+    let o = own_parts c.args.layout.now c.args.taken.now c.requires in
     let w = c.extent-whole.ensures.whole in
     record {
       first = earlier_instant c.args.layout.now c.args.taken.now.extent.first c.args.taken.now.extent.last (omega (arith, w.begun, w.ended)) o.last;
@@ -15,18 +15,15 @@ head-requires g c =
 
 pub rows-requires-clause-few : goal.rows-requires-clause-few
 rows-requires-clause-few g c =
-    let o = own_parts c.args.layout.now c.args.taken.now (sym c.is_own.ensures ∙ c.if-not-is_own.false) in
+    let o = own_parts c.args.layout.now c.args.taken.now c.requires in
     rw c.scans.ensures (scans_few c.args.layout.now c.args.taken.now c.rate-rate.ensures.lawful o)
 
-pub returns-clause-answer : goal.returns-clause-answer
+pub returns-clause-file : goal.returns-clause-file
 unfolding file
-returns-clause-answer g c =
-    let own = sym c.is_own.ensures ∙ c.if-not-is_own.false in
-    (own, rw (c.in_ok-head.ensures, c.in_ok-rows.ensures, c.scans.ensures, c.rate-rate.ensures.value) refl)
+returns-clause-file g c = rw (c.in_ok-head.ensures, c.in_ok-rows.ensures, c.scans.ensures, c.rate-rate.ensures.value) refl
 
 pub returns-clause-writable : goal.returns-clause-writable
 unfolding file
 returns-clause-writable g c =
-    let own = sym c.is_own.ensures ∙ c.if-not-is_own.false in
-    let w = own_writable c.args.layout.now c.args.taken.now c.args.kind c.rate-rate.ensures.lawful c.extent-whole.ensures.whole own in
+    let w = own_writable c.args.layout.now c.args.taken.now c.args.kind c.rate-rate.ensures.lawful c.extent-whole.ensures.whole c.requires in
     subst IsWritable (sym (rw (c.in_ok-head.ensures, c.in_ok-rows.ensures, c.scans.ensures, c.rate-rate.ensures.value) refl)) w
