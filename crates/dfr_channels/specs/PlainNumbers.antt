@@ -38,16 +38,16 @@ abbrev pub begins_plain : List ℕ → Bool
 begins_plain text = begins_short (behind_minus text)
 
 -- four or five digits
-abbrev pub is_middling : List ℕ → Bool
-is_middling ds = nat_lt 3 (length ds) && nat_lt (length ds) 6 && all_ascii_digits ds
+abbrev pub is_four_or_five : List ℕ → Bool
+is_four_or_five ds = nat_lt 3 (length ds) && nat_lt (length ds) 6 && all_ascii_digits ds
 
 -- four or five digits stand before the first comma
-unfoldable pub begins_middling : List ℕ → Bool
-begins_middling text = is_middling (before_comma text)
+unfoldable pub begins_four_or_five : List ℕ → Bool
+begins_four_or_five text = is_four_or_five (before_comma text)
 
 -- the same after a minus or nothing, as most samples begin
 abbrev pub begins_sample : List ℕ → Bool
-begins_sample text = begins_middling (behind_minus text)
+begins_sample text = begins_four_or_five (behind_minus text)
 
 -- digits that make this number stand first
 pub record DigitsFirst (text : List ℕ) (number : ℕ) (behind : Option (List ℕ)) : Type 0 where

@@ -4,7 +4,7 @@ ghost use Rattle.std.specs.Prelude.{◌≡◌, Some, ◌≤◌, ◌<◌, ◌<ℤ
 ghost use Rattle.std.specs.Char.{is_ascii_digit};
 ghost use Rattle.std.specs.Str.{all_ascii_digits};
 ghost use Rattle.std.specs.Str.Parse.{digits_value};
-ghost use Rattle.dfr_channels.specs.PlainNumbers.{DigitsFirst, Begins, begins_middling, begins_sample};
+ghost use Rattle.dfr_channels.specs.PlainNumbers.{DigitsFirst, Begins, begins_four_or_five, begins_sample};
 
 use crate::plain_numbers::without_minus;
 use std::simd::prelude::*;
@@ -57,7 +57,7 @@ fn at_end(text: &[u8], four: u64) -> Option<(u64, Option<&[u8]>)>
     requires digits { all_ascii_digits (take 4 text.now) ≡ true }
     requires value { four ≡ digits_value 10 (take 4 text.now) }
     requires small { four < 10 ^ 4 }
-    ensures sample { is_some result ≡ begins_middling text.now }
+    ensures sample { is_some result ≡ begins_four_or_five text.now }
     ensures first { IfSome result (λ r. DigitsFirst text.now r.0 (option_copied r.1)) }
     ensures small { IfSome result (λ r. r.0 < 10 ^ 5) }
     ensures shorter { IfSome result (λ r. IfSome r.1 (λ behind. length behind.now < length text.now)) }
@@ -91,8 +91,8 @@ fn behind_comma(text: &[u8], count: usize, number: u64) -> &[u8]
 
 /// The number of the four or five digits that a text begins with, and what stands after its comma if it has one.
 #[inline(always)]
-fn middling_digits(text: &[u8]) -> Option<(u64, Option<&[u8]>)>
-    ensures sample { is_some result ≡ begins_middling text.now }
+fn four_or_five_digits(text: &[u8]) -> Option<(u64, Option<&[u8]>)>
+    ensures sample { is_some result ≡ begins_four_or_five text.now }
     ensures first { IfSome result (λ r. DigitsFirst text.now r.0 (option_copied r.1)) }
     ensures small { IfSome result (λ r. r.0 < 10 ^ 5) }
     ensures shorter { IfSome result (λ r. IfSome r.1 (λ behind. length behind.now < length text.now)) }
@@ -136,6 +136,6 @@ pub fn sample_number(text: &[u8]) -> Option<(i32, Option<&[u8]>)>
     ensures shorter { IfSome result (λ r. IfSome r.1 (λ behind. length behind.now < length text.now)) }
 {
     let (minus, digits) = without_minus(text);
-    let (number, behind) = middling_digits(digits)?;
+    let (number, behind) = four_or_five_digits(digits)?;
     Some((signed(minus, number), behind))
 }

@@ -1,6 +1,6 @@
 use Rattle.std.proofs.Common.{sym, arith, length, ◌<◌}
 use Rattle.dfr_channels.proofs.SampleNumbers.{sample_no, sample_comma, sample_stops}
-use Rattle.dfr_channels.proofs.sample_numbers.middling_digits.Goals as goal
+use Rattle.dfr_channels.proofs.sample_numbers.four_or_five_digits.Goals as goal
 
 pub returns-then-text-lt4-clause-sample : goal.returns-then-text-lt4-clause-sample
 returns-then-text-lt4-clause-sample c = sym (sample_no c.args.text.now (λ long. absurd (omega (arith, long, c.if-text-lt4.true))))
