@@ -2,6 +2,7 @@ ghost use Rattle.std.specs.Prelude.{◌≡◌};
 ghost use Rattle.dfr_channels.specs.Spelling.{trimmed};
 
 /// The text without the blanks at both ends.
+#[inline(always)]
 pub fn trim(text: &[u8]) -> &[u8]
     ensures { result.now ≡ trimmed text.now }
 {

@@ -27,16 +27,26 @@ pub(crate) fn is_word(word: &[u8], text: &str) -> bool
     word == text.as_bytes()
 }
 
-/// What stands before the first blank, and what stands after it without the blanks around it.
-#[tactic(auto, using(dfr_channels::proofs::Cuts::cuts), unfolding(crate::specs::Words::word, crate::specs::Words::rest))]
+/// What stands before the first blank, and what stands after it without the blanks around it. Most lines are scans, which are told
+/// by their first bytes.
+#[inline(always)]
+#[tactic(auto, unfolding(crate::specs::Words::word, crate::specs::Words::rest))]
 pub(crate) fn cut(line: &[u8]) -> (&[u8], &[u8])
     ensures word { result.0.now ≡ spec.word line.now }
     ensures rest { result.1.now ≡ spec.rest line.now }
 {
-    // most lines
-    if let [b's', b'c', b'a', b'n', b' ', rest @ ..] = line {
-        return (&line[..4], trim(rest));
+    match line {
+        [b's', b'c', b'a', b'n', b' ', rest @ ..] => (&line[..4], trim(rest)),
+        _ => cut_at_blank(line),
     }
+}
+
+/// The same, whatever the line begins with.
+#[tactic(auto, using(dfr_channels::proofs::Cuts::cuts), unfolding(crate::specs::Words::word, crate::specs::Words::rest))]
+fn cut_at_blank(line: &[u8]) -> (&[u8], &[u8])
+    ensures word { result.0.now ≡ spec.word line.now }
+    ensures rest { result.1.now ≡ spec.rest line.now }
+{
     match place_of_blank(line) {
         None => (line, &[]),
         Some(at) => (&line[..at], trim(&line[at + 1..])),
