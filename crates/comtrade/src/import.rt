@@ -3,7 +3,7 @@
 use crate::load::{put_notes, read_inputs, refuse_import};
 use crate::write::{is_name, write_named};
 use crate::{complain, out_of_memory};
-use comtrade_import::{Choices, Imported, Key, Order, import, import_single};
+use comtrade_diagnostics::{Choices, Imported, Key, Order, import, import_single};
 use comtrade_io::{Names, write_out};
 use std::alloc::AllocError;
 use std::io;

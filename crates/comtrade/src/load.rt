@@ -3,12 +3,13 @@
 
 use crate::find::{Pairing, pairing_of};
 use crate::{complain, out_of_memory, read_named, say};
-use comtrade_diagnostics::{Pair, put_fault};
+use comtrade_diagnostics::{
+    Choices, ImportFault, Imported, Note, Pair, import, import_single, put_fault,
+};
 use comtrade_format::File;
-use comtrade_import::{Choices, ImportFault, Imported, Note, import, import_single};
 use comtrade_io::{Names, ToolFault, put, put_safe};
-use comtrade_part::{Encoding, spell_in_utf8};
 use comtrade_read::{Fault, Part, ReadFault, read};
+use comtrade_views::{Encoding, spell_in_utf8};
 use std::alloc::{AllocError, Allocator};
 use std::rt::Files;
 

@@ -3,9 +3,7 @@
 use crate::view::put_part_fault;
 use comtrade_format::File;
 use comtrade_io::{Cursor, Part, ToolFault, Viewed, put, write_out};
-use comtrade_measure::MeasureFault;
-use comtrade_part::{is_whole, part_of};
-use comtrade_views::{Measuring, Shown, measure_text};
+use comtrade_views::{MeasureFault, Measuring, Shown, is_whole, measure_text, part_of};
 use std::alloc::Global;
 use std::io::Write;
 

@@ -5,10 +5,9 @@ use crate::{complain, is_folder, print_bytes, say};
 use comtrade_diagnostics::{Pair, put_remarks};
 use comtrade_format::File;
 use comtrade_io::{Names, Survey, ToolFault, fault_of, put, put_safe};
-use comtrade_part::Encoding;
 use comtrade_views::{
-    Event, Summary, add_events, fault_summary, put_events, put_events_json, put_summaries,
-    put_summaries_json, sort_events, sort_summaries, summary_of,
+    Encoding, Event, Summary, add_events, fault_summary, put_events, put_events_json,
+    put_summaries, put_summaries_json, sort_events, sort_summaries, summary_of,
 };
 use std::alloc::{AllocError, Global};
 use std::fs;

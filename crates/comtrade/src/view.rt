@@ -5,9 +5,11 @@ use crate::measure::measure_over;
 use comtrade_diagnostics::{Pair, check_over, put_remarks};
 use comtrade_format::File;
 use comtrade_io::{Part, Picture, ToolFault, View, Viewed, put, put_safe, write_out};
-use comtrade_part::{PartFault, is_whole, part_of};
 use comtrade_plot::{PlotOptions, page_over, plot_over};
-use comtrade_views::{Spelling, csv_over, put_text, show_json, show_over, times_since_trigger};
+use comtrade_views::{
+    PartFault, Spelling, csv_over, is_whole, part_of, put_text, show_json, show_over,
+    times_since_trigger,
+};
 use std::alloc::{AllocError, Allocator, Global};
 use std::io::Write;
 

@@ -4,8 +4,10 @@ ghost use Rattle.std.specs.Prelude.{◌≡◌, OnErr, OnOk};
 ghost use Rattle.comtrade_diagnostics.specs.Puts.{PutsLine};
 
 use crate::check::Pair;
+use crate::importing::{Imported, import};
 use crate::line::put_line;
-use comtrade_import::{Choices, ImportFault, Imported, Key, Note, import, import_single};
+use crate::single::import_single;
+use comtrade_dialects::{Choices, ImportFault, Key, Note};
 use comtrade_io::{put, put_safe};
 use std::alloc::{AllocError, Allocator};
 

@@ -1,8 +1,8 @@
 //! What is odd about a pair that can be read, in words: a line for each kind, with its first place.
 
 use crate::check::Pair;
+use comtrade_dialects::{Doubt, doubts_of};
 use comtrade_format::File;
-use comtrade_import::{Doubt, doubts_of};
 use comtrade_io::{put, put_count, put_safe, put_signed, put_with};
 use dfr_channels::Reading;
 use std::alloc::{AllocError, Allocator};

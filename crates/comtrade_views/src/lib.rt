@@ -1,9 +1,11 @@
-//! Tools over the value of a pair of COMTRADE files of C37.111-1999: what is in it, its rows as CSV.
+//! What can be seen of a pair of COMTRADE files of C37.111-1999 that was read, or of a part of it: what is in it, its rows as CSV, what is
+//! measured over its cycles.
 #![tactic(auto)]
 
 mod column_names;
 mod comma_separated;
 mod currents;
+mod cycles;
 mod event_table;
 mod events;
 mod float;
@@ -15,6 +17,7 @@ mod measure_json;
 mod measure_record;
 mod measure_tables;
 mod number;
+mod part;
 mod peaks;
 mod sequence_table;
 mod show;
@@ -28,11 +31,13 @@ mod table;
 mod times;
 
 pub use comma_separated::csv_over;
+pub use cycles::MeasureFault;
 pub use event_table::put_events;
 pub use events::{Event, add_events, sort_events};
 pub use head_json::show_json;
 pub use json::put_text;
 pub use measure::{Measuring, measure_text};
+pub use part::{Cut, Encoding, PartFault, is_whole, part_of, spell_in_utf8};
 pub use show::show_over;
 pub use shown::Shown;
 pub use spelling::Spelling;

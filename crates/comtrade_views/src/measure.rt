@@ -1,5 +1,8 @@
 //! What is measured in a record.
 
+use crate::cycles::{
+    MeasureFault, Measured, Phasor, Window, last_cycle, measures_of, reference_in, whole_cycles,
+};
 use crate::measure_json::put_measures_json;
 use crate::measure_record::put_record;
 use crate::measure_tables::{put_channels, put_order_table};
@@ -9,9 +12,6 @@ use crate::shown::{Shown, put_cycle};
 use crate::table::put_table;
 use comtrade_format::File;
 use comtrade_io::{put, put_safe, put_with};
-use comtrade_measure::{
-    MeasureFault, Measured, Phasor, Window, last_cycle, measures_of, reference_in, whole_cycles,
-};
 use std::alloc::{AllocError, Allocator, Global};
 
 /// What of a record is measured.

@@ -1,5 +1,6 @@
 //! Where the currents of a record left their earlier course, for people.
 
+use crate::cycles::{Course, MeasureFault, Window, course_of, is_current, whole_record};
 use crate::float::put_places;
 use crate::json::{Member, put_rows_json};
 use crate::measure_tables::put_float_cell;
@@ -8,7 +9,6 @@ use crate::shown::{Shown, put_channel, put_cycle};
 use crate::table::{end_cell, end_row, put_table};
 use comtrade_format::File;
 use comtrade_io::{put, put_number};
-use comtrade_measure::{Course, MeasureFault, Window, course_of, is_current, whole_record};
 use comtrade_values::nearest_f64;
 use dfr_channels::AnalogChannel;
 use std::alloc::{AllocError, Allocator, Global};

@@ -1,12 +1,12 @@
 //! The tables of what is measured over whole cycles: channels, harmonics.
 
+use crate::cycles::{Measured, Phasor};
 use crate::float::{Digits, put_float, put_places};
 use crate::show::put_row_time;
 use crate::shown::{Shown, put_channel};
 use crate::table::{end_cell, end_row};
 use comtrade_format::File;
 use comtrade_io::{put, put_number};
-use comtrade_measure::{Measured, Phasor};
 use dfr_channels::AnalogChannel;
 use std::alloc::{AllocError, Allocator};
 

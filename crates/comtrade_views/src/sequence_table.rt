@@ -1,11 +1,11 @@
 //! The table of sequence components.
 
+use crate::cycles::{Measured, Phasor, Sequence, Three, sequence_of, threes_of};
 use crate::measure_tables::{put_angle_cell, put_float_cell};
 use crate::shown::Shown;
 use crate::table::{end_cell, end_row, put_safe_cell};
 use comtrade_format::File;
 use comtrade_io::put;
-use comtrade_measure::{Measured, Phasor, Sequence, Three, sequence_of, threes_of};
 use dfr_channels::AnalogChannel;
 use std::alloc::{AllocError, Allocator};
 

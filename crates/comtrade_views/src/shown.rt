@@ -1,10 +1,10 @@
 //! The rows of a record that are measured, and their channels.
 
+use crate::cycles::Window;
 use crate::float::{Digits, put_float};
 use crate::show::Clock;
 use crate::table::{put_number_cell, put_safe_cell};
 use comtrade_io::put;
-use comtrade_measure::Window;
 use dfr_channels::AnalogChannel;
 use std::alloc::{AllocError, Allocator};
 use std::num::nearest_u64_to_f64;

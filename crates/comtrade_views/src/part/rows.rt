@@ -1,7 +1,7 @@
 //! Rows from one moment to another.
 
-use crate::fault::PartFault;
-use crate::moment::{Moment, moment_of};
+use crate::part::fault::PartFault;
+use crate::part::moment::{Moment, moment_of};
 use comtrade_format::{File, Row};
 use comtrade_values::clock_of;
 use std::alloc::Allocator;

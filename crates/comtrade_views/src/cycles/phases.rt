@@ -1,7 +1,7 @@
 //! Sequence components of three phases.
 
-use crate::fit::Measured;
-use crate::phasor::Phasor;
+use crate::cycles::fit::Measured;
+use crate::cycles::phasor::Phasor;
 use dfr_channels::{AnalogChannel, trim};
 use std::alloc::{AllocError, Allocator};
 

@@ -1,6 +1,6 @@
 //! The rows that are measured.
 
-use crate::fault::MeasureFault;
+use crate::cycles::fault::MeasureFault;
 use comtrade_format::{File, Head};
 use comtrade_values::{Cycle, cycle_of};
 use dfr_channels::Decimal;

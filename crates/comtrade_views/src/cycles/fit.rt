@@ -1,11 +1,11 @@
 //! The channels of a file over a window's whole cycles.
 
-use crate::fault::MeasureFault;
-use crate::matrix::{Matrix, at, zeros};
-use crate::phasor::Phasor;
-use crate::readings::value_in;
-use crate::sums::{Turning, add_row, equations, place_of};
-use crate::window::Window;
+use crate::cycles::fault::MeasureFault;
+use crate::cycles::matrix::{Matrix, at, zeros};
+use crate::cycles::phasor::Phasor;
+use crate::cycles::readings::value_in;
+use crate::cycles::sums::{Turning, add_row, equations, place_of};
+use crate::cycles::window::Window;
 use comtrade_format::{File, Row};
 use comtrade_values::{Scale, nearest_f64, scale_of};
 use dfr_channels::{AnalogChannel, Decimal};

@@ -1,7 +1,7 @@
 //! A record's rows and channels, cut out of it.
 
-use crate::names::Channels;
-use crate::rows::Rows;
+use crate::part::names::Channels;
+use crate::part::rows::Rows;
 use comtrade_format::{File, Head, Rate, Row};
 use comtrade_values::clock_of;
 use dfr_channels::{AnalogChannel, Items, Memory, Reading, StatusChannel, TryClone};

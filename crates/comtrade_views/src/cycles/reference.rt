@@ -1,7 +1,7 @@
 //! The channel from which angles are counted.
 
-use crate::fault::MeasureFault;
-use crate::fit::Measured;
+use crate::cycles::fault::MeasureFault;
+use crate::cycles::fit::Measured;
 use comtrade_format::Head;
 use std::alloc::Allocator;
 

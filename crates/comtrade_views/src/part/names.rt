@@ -1,6 +1,6 @@
 //! Channels by their names.
 
-use crate::fault::PartFault;
+use crate::part::fault::PartFault;
 use comtrade_format::{Head, Row};
 use dfr_channels::{AnalogChannel, StatusChannel};
 use std::alloc::{AllocError, Allocator};

@@ -1,10 +1,10 @@
 //! The part of a record that words ask for.
 
-use crate::cut::cut_of;
-use crate::fault::PartFault;
-use crate::names::channels_of;
-use crate::rows::rows_between;
-use crate::side::turn;
+use crate::part::cut::cut_of;
+use crate::part::fault::PartFault;
+use crate::part::names::channels_of;
+use crate::part::rows::rows_between;
+use crate::part::side::turn;
 use comtrade_format::File;
 use comtrade_io::Part;
 use dfr_channels::{AnalogChannel, Items, Side};

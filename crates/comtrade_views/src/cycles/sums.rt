@@ -1,8 +1,8 @@
 //! Sums over rows, against the cosines and sines of the harmonics.
 
-use crate::matrix::{Matrix, at, zeros};
-use crate::phasor::Phasor;
-use crate::window::Window;
+use crate::cycles::matrix::{Matrix, at, zeros};
+use crate::cycles::phasor::Phasor;
+use crate::cycles::window::Window;
 use comtrade_values::Cycle;
 use std::alloc::{AllocError, Allocator};
 use std::f64::consts::TAU;

@@ -1,9 +1,9 @@
 //! Where a current left its earlier course.
 
-use crate::fault::MeasureFault;
-use crate::matrix::at;
-use crate::readings::value_in;
-use crate::window::Window;
+use crate::cycles::fault::MeasureFault;
+use crate::cycles::matrix::at;
+use crate::cycles::readings::value_in;
+use crate::cycles::window::Window;
 use comtrade_format::{File, Row};
 use comtrade_values::{Cycle, Scale, scale_of};
 use dfr_channels::AnalogChannel;
