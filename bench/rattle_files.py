@@ -1,5 +1,5 @@
 """The functions of a crate's files, as `rt fmt` lays them out: where their bodies stand, what the prover calls them, and files in which
-they have none."""
+they have none, or in which one has a copy."""
 
 import glob
 import os
@@ -47,8 +47,7 @@ def without_bodies(crate, folder, functions):
     """The files of a crate in which all functions but these have an empty body and a hole for a proof, each with its text, or None where it
     goes. Left as they are: constant ones, ones that answer an `impl`, and methods of types that aren't the crate's or of traits with types."""
     sources = {os.path.relpath(it, folder): read(it) for it in glob.glob(f"{folder}/src/**/*.rt", recursive=True)}
-    types = {it: modules_of(path) for path, text in sources.items() for it in re.findall(r"^(?:pub(?:\(\w+\))? )?(?:struct|enum) (\w+)", text, re.M)}
-    files = {}
+    types, files = types_of(folder), {}
     for path, text in sources.items():
         lines = text.split("\n")
         for head in reversed(list(re.finditer(FUNCTION, text, re.M))):
@@ -64,6 +63,45 @@ def without_bodies(crate, folder, functions):
     return files
 
 
+def with_copy(crate, folder, path, function, copy, texts, into=None):
+    """The files of a crate's other copy `into` with one more function: the same as one of `folder` under another name, its proof too, with other
+    texts. Nothing where it can't have a copy, as a trait's method."""
+    text, now = read(f"{folder}/{path}"), read(f"{into or folder}/{path}")
+    first, last = lines_of(path, text, function)
+    impl = impl_at(text, text.index("\n".join(text.split("\n")[first:last + 1])))
+    types = types_of(folder)
+    place = place_of(function, impl, modules_of(path), types)
+    if not last or not place or " for " in impl:
+        return {}
+    made = "\n".join(text.split("\n")[first:last + 1])
+    for _, old, new in texts:
+        made = made.replace(old, new)
+    own, name = function.rpartition("::")[2], copy.rpartition("::")[2]
+    made, lines, after = re.sub(rf"\bfn {own}\b", f"fn {name}", made, count=1), now.split("\n"), lines_of(path, now, function)[1]
+    lines[after + 1:after + 1] = ["", *made.split("\n")]
+    files = {path: "\n".join(lines)}
+    for it in glob.glob(f"{folder}/proofs/{'/'.join(place)}/*.antt"):
+        proof = read(it).replace(f"proofs.{'.'.join(place)}.", f"proofs.{'.'.join([*place[:-1], name])}.")
+        files[f"proofs/{'/'.join([*place[:-1], name])}/{os.path.basename(it)}"] = proof
+    return files
+
+
+def lines_of(path, text, function):
+    """The first and the last line of a function, without its comment; the last is 0 where that isn't known."""
+    for head in re.finditer(FUNCTION, text, re.M):
+        if function_at(path, text, head.end()) == function:
+            at = text.count("\n", 0, head.start())
+            return at, (body_of(text.split("\n"), at, head[1]) or (0, 0))[1]
+    return 0, 0
+
+
+def types_of(folder):
+    """The module of each type of a crate."""
+    sources = {os.path.relpath(it, folder): read(it) for it in glob.glob(f"{folder}/src/**/*.rt", recursive=True)}
+    heads = r"^(?:pub(?:\(\w+\))? )?(?:struct|enum) (\w+)"
+    return {it: modules_of(path) for path, text in sources.items() for it in re.findall(heads, text, re.M)}
+
+
 HOLE = "use {module}.Statement as stated\n\npub {name}_spec : {{M : Type 1}} → stated.statement M\n{name}_spec = ?\n"
 
 
@@ -75,7 +113,8 @@ def body_of(lines, at, indent):
         if lines[place] == indent + "{" or not has_clause and lines[place].endswith(" {"):
             last = lines.index(indent + "}", place)
             return None if any('r#' in it for it in lines[place:last]) else (place, last)  # (a raw text has lines of its own)
-        if lines[place].endswith((";", "{}")) or not has_clause and lines[place].endswith("}"):
+        said = "".join(lines[at:place + 1])
+        if lines[place].endswith((";", "{}")) and said.count("{") == said.count("}") or not has_clause and lines[place].endswith("}"):
             return None
 
 
