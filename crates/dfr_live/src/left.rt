@@ -24,13 +24,20 @@ impl<A: Allocator> Model for Left<A> {
     ghost view = { λ l. record { lost = l.lost; scan = l.scan } };
 }
 
+/// A step that was made: its answer, what is left to step, and the scan that left the ring.
+pub(crate) type Made<A> = (
+    Result<Scanned, ScanRefusal>,
+    Option<Left<A>>,
+    Option<Scan<A>>,
+);
+
 /// The next step of so many lost scans and then this scan. What is left comes back with the answer,
 /// and all of it where an allocation failed.
 pub(crate) fn step_next<A: Allocator + Copy>(
     recorder: &mut Recorder<A>,
     lost: u32,
     scan: Scan<A>,
-) -> Result<(Result<Scanned, ScanRefusal>, Option<Left<A>>), Left<A>>
+) -> Result<Made<A>, Left<A>>
     ensures { MatchResult result
         (λ r. StepsNext recorder.old (record { lost = lost; scan = scan }) r.0 r.1 recorder.new)
         (λ back. (back ≡ record { lost = lost; scan = scan })
@@ -44,6 +51,7 @@ pub(crate) fn step_next<A: Allocator + Copy>(
                     lost: lost - 1,
                     scan,
                 }),
+                None,
             )),
             Err(LostRefusal::ClockEnd) => Ok((
                 Err(ScanRefusal::ClockEnd),
@@ -51,15 +59,20 @@ pub(crate) fn step_next<A: Allocator + Copy>(
                     lost: lost - 1,
                     scan,
                 }),
+                None,
             )),
             Err(LostRefusal::Memory) => Err(Left { lost, scan }),
         };
     }
-    match recorder.scan(scan) {
-        Ok(scanned) => Ok((Ok(scanned), None)),
-        Err((ScanRefusal::Memory, scan)) => Err(Left { lost, scan }),
-        Err((ScanRefusal::Shape, _)) => Ok((Err(ScanRefusal::Shape), None)),
-        Err((ScanRefusal::Range(i), _)) => Ok((Err(ScanRefusal::Range(i)), None)),
-        Err((ScanRefusal::ClockEnd, _)) => Ok((Err(ScanRefusal::ClockEnd), None)),
+    let mut leaves = None;
+    match recorder.scan_leaving(scan, &mut leaves) {
+        Ok(scanned) => Ok((Ok(scanned), None, leaves)),
+        Err((ScanRefusal::Memory, scan)) => {
+            drop(leaves);
+            Err(Left { lost, scan })
+        }
+        Err((ScanRefusal::Shape, _)) => Ok((Err(ScanRefusal::Shape), None, leaves)),
+        Err((ScanRefusal::Range(i), _)) => Ok((Err(ScanRefusal::Range(i)), None, leaves)),
+        Err((ScanRefusal::ClockEnd, _)) => Ok((Err(ScanRefusal::ClockEnd), None, leaves)),
     }
 }

@@ -1,5 +1,5 @@
 -- What a recorder keeps of its past.
-use Rattle.std.specs.Prelude.{ℕ, ◌≡◌, ◌+◌, ◌-◌, List, [], ◌∷◌, length, drop, Option, option_map, option_to_list}
+use Rattle.std.specs.Prelude.{ℕ, ◌≡◌, ◌+◌, ◌-◌, ◌++◌, if◌then◌else◌, List, [], ◌∷◌, length, drop, nat_lt, slice_get, Option, None, option_map, option_to_list}
 use Rattle.dfr_channels.specs.Parts.{SetupParts, ScanParts}
 use Rattle.dfr_channels.specs.declared.rule.Rule.{Rule}
 use Rattle.dfr_recorder.specs.declared.limits.Limits.{Limits}
@@ -25,6 +25,10 @@ pub record Kept : Type 0 where
 abbrev pub latest : {X : Type 0} → ℕ → List X → List X
 latest n xs = drop (length xs - n) xs
 
+-- the oldest scan of a ring, which leaves it when one is taken in where all places are filled
+abbrev pub leaving_of : ℕ → List ScanParts → ScanParts → Option ScanParts
+leaving_of places ring scan = if nat_lt (length ring) places then None else slice_get (ring ++ scan ∷ []) 0
+
 abbrev pub kept_of : SetupParts → Limits → Past → Kept
 kept_of layout limits p = record {
   layout = layout;
@@ -45,6 +49,10 @@ kept_by layout limits rules n ring newest recording shelf =
 -- what is kept after a history
 abbrev pub kept : Opening → List StepParts → Kept
 kept o h = kept_of o.layout o.limits (past o h)
+
+-- the scan that leaves the ring when one is accepted
+abbrev pub leaving : Kept → ScanParts → Option ScanParts
+leaving k scan = leaving_of (k.limits.pre + 1) k.ring scan
 
 -- what a step is answered after a history
 abbrev pub reply : Opening → List StepParts → StepParts → AnswerParts

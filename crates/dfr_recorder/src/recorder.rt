@@ -1,11 +1,13 @@
 //! The recorder.
 
+mod accepting;
+
 use crate::lost::{lost_refusal, lost_scan};
-use crate::marks::{Newest, is_covered, mark, mark_if, refused_when_full, scanned};
-use crate::open_record::{grow, met_by, place, scans_so_far, shelve};
+use crate::marks::{Newest, is_covered, mark, refused_when_full};
+use crate::open_record::{met_by, place, scans_so_far};
 use crate::recording::Recording;
 use crate::refusals::refusal;
-use crate::ring::{fires, keep};
+use crate::ring::fires;
 use crate::shelf::scans_in;
 use crate::{Cause, Hit, Limits, LostRefusal, Record, ScanRefusal, Scanned, TriggerFault};
 use circular_buffer::HeapCircularBuffer;
@@ -136,16 +138,14 @@ impl<A: Allocator> Recorder<A> {
 }
 
 impl<A: Allocator + Copy> Recorder<A> {
-    ghost use Rattle.std.specs.Prelude.{◌≡◌, ◌≢◌, ◌≤◌, [], None, IfOk, IfErr, OnErr, IsTrue, is_some};
-    ghost use Rattle.dfr_channels.specs.Setups.{end_of_time};
+    ghost use Rattle.std.specs.Prelude.{◌≡◌, ◌≢◌, [], IfOk, IfErr, OnErr, MatchResult, IsTrue};
     ghost use Rattle.dfr_channels.specs.Firing.{rules_fit};
     ghost use Rattle.dfr_recorder.specs.Limits.{has_stamps};
     ghost use Rattle.dfr_recorder.specs.Steps as step;
     ghost use Rattle.dfr_recorder.specs.Answers as answer;
-    ghost use Rattle.dfr_recorder.specs.History.{opening, refusal};
-    ghost use Rattle.dfr_recorder.specs.Kept.{kept, IsStep};
+    ghost use Rattle.dfr_recorder.specs.History.{opening};
+    ghost use Rattle.dfr_recorder.specs.Kept.{kept, leaving, IsStep};
     ghost use Rattle.dfr_recorder.specs.Memory.{GrowsRecord, AddsLost, OpensRecord};
-    ghost use Rattle.dfr_recorder.specs.Recording.{fired_mark, IsAccepted};
 
     /// A new recorder. The limits and the rules have to fit the layout. The room of ring and shelf is made here; where
     /// that fails, layout and rules are handed back.
@@ -187,12 +187,30 @@ impl<A: Allocator + Copy> Recorder<A> {
         ensures opening { (self.new.layout ≡ self.old.layout) × (self.new.limits ≡ self.old.limits) }
         ensures memory { IfErr result (λ refused. refused.0 ≡ ScanRefusal.Memory → GrowsRecord self.old scan) }
     {
+        let mut leaves = None;
+        self.scan_leaving(scan, &mut leaves)
+    }
+
+    /// Processes a scan as [`Recorder::scan`] does, and hands out the one that leaves the ring for it, if any: a thread that made
+    /// it can give its memory back. `leaves` stays as it is where the scan is refused.
+    pub fn scan_leaving(
+        &mut self,
+        scan: Scan<A>,
+        leaves: &mut Option<Scan<A>>,
+    ) -> Result<Scanned, (ScanRefusal, Scan<A>)>
+        ensures ok { IfOk result (λ scanned. IsStep self.old (step.Scan scan) (answer.Scan (Ok scanned)) self.new) }
+        ensures refused { IfErr result (λ refused. refused.0 ≢ ScanRefusal.Memory → IsStep self.old (step.Scan scan) (answer.Scan (Err refused.0)) self.new) }
+        ensures back { IfErr result (λ refused. (refused.1 ≡ scan) × (self.new ≡ self.old)) }
+        ensures opening { (self.new.layout ≡ self.old.layout) × (self.new.limits ≡ self.old.limits) }
+        ensures memory { IfErr result (λ refused. refused.0 ≡ ScanRefusal.Memory → GrowsRecord self.old scan) }
+        ensures leaves { MatchResult result (λ _. leaves.new ≡ leaving self.old scan) (λ _. leaves.new ≡ leaves.old) }
+    {
         match refusal(&self.layout, self.count, &scan) {
             Some(refused) => return Err((refused, scan)),
             None => {}
         }
         let fired = fires(&self.rules, &self.ring, &scan);
-        match self.accept(scan, fired) {
+        match self.accept(scan, fired, leaves) {
             Ok(scanned) => Ok(scanned),
             Err(scan) => Err((ScanRefusal::Memory, scan)),
         }
@@ -213,64 +231,11 @@ impl<A: Allocator + Copy> Recorder<A> {
         let Ok(scan) = lost_scan(&self.layout, &self.ring) else {
             return Err(LostRefusal::Memory);
         };
-        let Ok(accepted) = self.accept(scan, None) else {
+        let mut leaves = None;
+        let Ok(accepted) = self.accept(scan, None, &mut leaves) else {
             return Err(LostRefusal::Memory);
         };
         Ok(accepted)
-    }
-
-    /// Takes in a scan that fires this rule or none; out of memory it hands it back, which only an open record or an opening can cause.
-    #[inline(always)] // with what it calls, for speed: as a call it costs a scan a third more instructions
-    fn accept(&mut self, scan: Scan<A>, fired: Option<u32>) -> Result<Scanned, Scan<A>>
-        requires fits { refusal self.old.layout self.old.scans scan ≡ None }
-        requires early { self.old.scans ≤ end_of_time }
-        ensures ok { IfOk result (λ scanned. IsAccepted self.old scan fired scanned self.new) }
-        ensures back { IfErr result (λ back. (back ≡ scan) × (self.new ≡ self.old)) }
-        ensures memory { IfErr result (λ _. IsTrue (is_some (fired_mark self.old fired).extent)) }
-    {
-        if fired.is_none() && self.recording.is_none() {
-            return Ok(self.pass(scan));
-        }
-        self.record(scan, fired)
-    }
-
-    /// A scan that no record gets.
-    #[inline(always)]
-    fn pass(&mut self, scan: Scan<A>) -> Scanned
-        requires idle { self.old.recording ≡ None }
-        requires fits { refusal self.old.layout self.old.scans scan ≡ None }
-        requires early { self.old.scans ≤ end_of_time }
-        ensures { IsAccepted self.old scan None result self.new }
-    {
-        let n = self.count;
-        keep(&mut self.ring, scan);
-        self.count += 1;
-        Scanned {
-            number: n,
-            trigger: None,
-            closed: None,
-        }
-    }
-
-    /// A scan that an open record may get, or that may open one.
-    fn record(&mut self, scan: Scan<A>, fired: Option<u32>) -> Result<Scanned, Scan<A>>
-        requires fits { refusal self.old.layout self.old.scans scan ≡ None }
-        requires early { self.old.scans ≤ end_of_time }
-        ensures ok { IfOk result (λ scanned. IsAccepted self.old scan fired scanned self.new) }
-        ensures back { IfErr result (λ back. (back ≡ scan) × (self.new ≡ self.old)) }
-        ensures memory { IfErr result (λ _. IsTrue (is_some (fired_mark self.old fired).extent)) }
-    {
-        let n = self.count;
-        let met = met_by(self.limits, self.newest, &self.recording, &self.shelf);
-        let marked = mark_if(self.limits, n, fired, met);
-        if grow(&mut self.recording, marked.extent, n, &self.ring, &scan).is_err() {
-            return Err(scan);
-        }
-        shelve(&mut self.recording, n, &mut self.shelf);
-        keep(&mut self.ring, scan);
-        self.count = n + 1;
-        self.newest = marked.newest;
-        Ok(scanned(n, marked))
     }
 
     /// A manual trigger, at the last scan. A refused one changes nothing. Only an opening allocates.

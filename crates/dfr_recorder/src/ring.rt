@@ -2,7 +2,7 @@
 
 ghost use Rattle.std.specs.Prelude.{◌≡◌, ◌<◌, ◌-◌, ◌++◌, [], ◌∷◌, Some, length, slice_get, IfOk};
 ghost use Rattle.dfr_channels.specs.Firing.{lowest_holding};
-ghost use Rattle.dfr_recorder.specs.Kept.{latest};
+ghost use Rattle.dfr_recorder.specs.Kept.{latest, leaving_of};
 
 use circular_buffer::HeapCircularBuffer;
 use dfr_channels::{Memory, Rules, Scan};
@@ -19,13 +19,17 @@ pub(crate) fn fires<A: Allocator>(
     rules.fires(ring.back(), scan)
 }
 
-/// Takes a scan into the ring, which drops its oldest where it is full.
+/// Takes a scan into the ring. Where it is full its oldest leaves it.
 #[inline(always)]
-pub(crate) fn keep<A: Allocator>(ring: &mut HeapCircularBuffer<Scan<A>, A>, scan: Scan<A>)
+pub(crate) fn keep<A: Allocator>(
+    ring: &mut HeapCircularBuffer<Scan<A>, A>,
+    scan: Scan<A>,
+) -> Option<Scan<A>>
     ensures items { ring.new.items ≡ latest ring.old.capacity (ring.old.items ++ scan ∷ []) }
     ensures places { ring.new.capacity ≡ ring.old.capacity }
+    ensures leaves { result ≡ leaving_of ring.old.capacity ring.old.items scan }
 {
-    let _ = ring.push_back(scan);
+    ring.push_back(scan)
 }
 
 /// The ring's scan at this place, from its oldest.

@@ -1,5 +1,5 @@
 use Rattle.std.proofs.Common.{ℕ, ◌+◌, ◌≡◌, [], ◌∷◌, ◌++◌, arith, ap, ◌∙◌, None}
-use Rattle.dfr_recorder.specs.Kept.{Kept, latest}
+use Rattle.dfr_recorder.specs.Kept.{Kept, latest, leaving}
 use Rattle.dfr_recorder.proofs.Body.{idle_body}
 use Rattle.dfr_recorder.proofs.Lawful.{sound_taken_in}
 use Rattle.dfr_recorder.proofs.recorder.Recorder.pass.Goals as goal
@@ -16,7 +16,10 @@ invariant_of-self g c =
       shelf = c.self.invariant.shelf;
     }
 
-pub returns : goal.returns
-returns g c =
+pub returns-clause-accepted : goal.returns-clause-accepted
+returns-clause-accepted g c =
     let ring : c.keep.new.ring.items ≡ latest (c.self.inside.limits.pre + 1) (c.self.inside.ring.items ++ c.args.scan ∷ []) = c.keep.ensures.items ∙ ap (λ (m : ℕ). latest m (c.self.inside.ring.items ++ c.args.scan ∷ [])) c.self.invariant.ring in
     idle_body _ _ _ _ c.self.view_is (ap (λ (k : Kept). k.recording) c.self.view_is ∙ c.requires.idle) ring
+
+pub returns-clause-leaves : goal.returns-clause-leaves
+returns-clause-leaves g c = rw (c.self.invariant.ring) at c.keep.ensures.leaves ∙ ap (λ (k : Kept). leaving k c.args.scan) c.self.view_is

@@ -1,7 +1,7 @@
 use Rattle.std.proofs.Common.{ℕ, ◌+◌, ◌<◌, ◌≡◌, [], ◌∷◌, ◌++◌, true, length, arith, ap, subst, sym, ◌∙◌, Option, rules, deque_len, deque_capacity}
 use Rattle.std.specs.Prelude.{IfSome, is_some}
 use Rattle.dfr_recorder.specs.Parts.{RecordParts}
-use Rattle.dfr_recorder.specs.Kept.{Kept, kept_by, latest}
+use Rattle.dfr_recorder.specs.Kept.{Kept, kept_by, latest, leaving}
 use Rattle.dfr_recorder.specs.Sound.{IsSoundBody}
 use Rattle.dfr_recorder.proofs.Memory.{finds_law}
 use Rattle.dfr_recorder.proofs.Runs.{ok_gives, err_gives}
@@ -52,3 +52,6 @@ returns-clause-ok g c =
     let grown = ok_gives c.grow.result (sym c.is_err.ensures.value ∙ c.if-is_err.false) c.grow.ensures.ok in
     let ring : c.keep.new.ring.items ≡ latest (c.self.inside.limits.pre + 1) (c.self.inside.ring.items ++ c.args.scan ∷ []) = c.keep.ensures.items ∙ ap (λ (m : ℕ). latest m (c.self.inside.ring.items ++ c.args.scan ∷ [])) c.self.invariant.ring in
     accept_body _ _ _ _ _ _ _ _ _ _ _ c.self.view_is c.met_by-met.ensures c.mark_if-marked.ensures grown c.shelve.ensures.going_on c.shelve.ensures.shelf ring c.scanned.ensures
+
+pub returns-clause-leaves : goal.returns-clause-leaves
+returns-clause-leaves g c = rw (c.self.invariant.ring) at c.keep.ensures.leaves ∙ ap (λ (k : Kept). leaving k c.args.scan) c.self.view_is

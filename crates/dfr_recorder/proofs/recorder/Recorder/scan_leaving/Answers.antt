@@ -3,7 +3,7 @@ use Rattle.dfr_recorder.specs.History.{refusal}
 use Rattle.dfr_recorder.proofs.Memory.{grows_law}
 use Rattle.dfr_recorder.proofs.Body.{scan_body}
 use Rattle.dfr_recorder.proofs.Told.{is_step}
-use Rattle.dfr_recorder.proofs.recorder.Recorder.scan.Goals as goal
+use Rattle.dfr_recorder.proofs.recorder.Recorder.scan_leaving.Goals as goal
 
 pub returns-in-Ok-clause-ok : goal.returns-in-Ok-clause-ok
 returns-in-Ok-clause-ok g c =
