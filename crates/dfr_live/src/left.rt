@@ -3,8 +3,10 @@
 ghost use Rattle.std.specs.Prelude.{◌≡◌, MatchResult};
 ghost use Rattle.dfr_live.specs.Calls.{StepsNext};
 
+use crate::returned::hand_back;
 use dfr_channels::Scan;
 use dfr_recorder::{LostRefusal, Recorder, ScanRefusal, Scanned};
+use rtrb::Producer;
 use std::alloc::{Allocator, Global};
 use std::marker::Model;
 
@@ -24,20 +26,14 @@ impl<A: Allocator> Model for Left<A> {
     ghost view = { λ l. record { lost = l.lost; scan = l.scan } };
 }
 
-/// A step that was made: its answer, what is left to step, and the scan that left the ring.
-pub(crate) type Made<A> = (
-    Result<Scanned, ScanRefusal>,
-    Option<Left<A>>,
-    Option<Scan<A>>,
-);
-
 /// The next step of so many lost scans and then this scan. What is left comes back with the answer,
-/// and all of it where an allocation failed.
+/// and all of it where an allocation failed. The scan that leaves the ring is handed back.
 pub(crate) fn step_next<A: Allocator + Copy>(
     recorder: &mut Recorder<A>,
+    back: &mut Producer<Scan<A>, A>,
     lost: u32,
     scan: Scan<A>,
-) -> Result<Made<A>, Left<A>>
+) -> Result<(Result<Scanned, ScanRefusal>, Option<Left<A>>), Left<A>>
     ensures { MatchResult result
         (λ r. StepsNext recorder.old (record { lost = lost; scan = scan }) r.0 r.1 recorder.new)
         (λ back. (back ≡ record { lost = lost; scan = scan })
@@ -51,7 +47,6 @@ pub(crate) fn step_next<A: Allocator + Copy>(
                     lost: lost - 1,
                     scan,
                 }),
-                None,
             )),
             Err(LostRefusal::ClockEnd) => Ok((
                 Err(ScanRefusal::ClockEnd),
@@ -59,20 +54,18 @@ pub(crate) fn step_next<A: Allocator + Copy>(
                     lost: lost - 1,
                     scan,
                 }),
-                None,
             )),
             Err(LostRefusal::Memory) => Err(Left { lost, scan }),
         };
     }
     let mut leaves = None;
-    match recorder.scan_leaving(scan, &mut leaves) {
-        Ok(scanned) => Ok((Ok(scanned), None, leaves)),
-        Err((ScanRefusal::Memory, scan)) => {
-            drop(leaves);
-            Err(Left { lost, scan })
-        }
-        Err((ScanRefusal::Shape, _)) => Ok((Err(ScanRefusal::Shape), None, leaves)),
-        Err((ScanRefusal::Range(i), _)) => Ok((Err(ScanRefusal::Range(i)), None, leaves)),
-        Err((ScanRefusal::ClockEnd, _)) => Ok((Err(ScanRefusal::ClockEnd), None, leaves)),
+    let scanned = recorder.scan_leaving(scan, &mut leaves);
+    hand_back(back, leaves);
+    match scanned {
+        Ok(scanned) => Ok((Ok(scanned), None)),
+        Err((ScanRefusal::Memory, scan)) => Err(Left { lost, scan }),
+        Err((ScanRefusal::Shape, _)) => Ok((Err(ScanRefusal::Shape), None)),
+        Err((ScanRefusal::Range(i), _)) => Ok((Err(ScanRefusal::Range(i)), None)),
+        Err((ScanRefusal::ClockEnd, _)) => Ok((Err(ScanRefusal::ClockEnd), None)),
     }
 }

@@ -6,7 +6,7 @@ use rtrb::{Consumer, Producer};
 use std::alloc::Allocator;
 
 /// How many scans wait on their way back at most. (So few stay in the processor's nearest memory.)
-pub(crate) const PLACES: usize = 64;
+pub(crate) const PLACES: usize = 32;
 
 /// Hands a scan back; where all places are taken it is let go here.
 #[inline(always)]

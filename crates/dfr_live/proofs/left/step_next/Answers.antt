@@ -12,8 +12,8 @@ returns-in-Ok g c = (step.Lost, answers.Lost (Ok c.in-Ok.scanned), loses c.args.
 pub returns-in-Err-ClockEnd : goal.returns-in-Err-ClockEnd
 returns-in-Err-ClockEnd g c = (step.Lost, answers.Lost (Err c.in-Err-ClockEnd.field-0), loses c.args.lost c.args.scan (omega (arith, c.if-lost-gt0.true)), ap (λ v. as_scanned (Err v)) c.in-Err-ClockEnd.field-0-is, c.in-Err-ClockEnd.ensures.step (λ e. absurd (cc (e, c.in-Err-ClockEnd.field-0-is))))
 
-pub returns-in-Ok-scan_leaving : goal.returns-in-Ok-scan_leaving
-returns-in-Ok-scan_leaving g c = (step.Scan c.args.scan, answers.Scan (Ok c.in-Ok-scan_leaving.scanned), loses-none c.args.lost c.args.scan (omega (arith, c.if-lost-gt0.false)), refl, c.in-Ok-scan_leaving.ensures.ok)
+pub returns-in-Ok-scanned : goal.returns-in-Ok-scanned
+returns-in-Ok-scanned g c = (step.Scan c.args.scan, answers.Scan (Ok c.in-Ok-scanned.scanned), loses-none c.args.lost c.args.scan (omega (arith, c.if-lost-gt0.false)), refl, c.in-Ok-scanned.ensures.ok)
 
 pub returns-in-Err-Shape-default : goal.returns-in-Err-Shape-default
 returns-in-Err-Shape-default g c = (step.Scan c.args.scan, answers.Scan (Err c.in-Err-Shape-default.field-0-0), loses-none c.args.lost c.args.scan (omega (arith, c.if-lost-gt0.false)), ap (λ (v : ScanRefusal). Err v) c.in-Err-Shape-default.field-0-0-is, c.in-Err-Shape-default.ensures.refused (λ e. absurd (cc (e, c.in-Err-Shape-default.field-0-0-is))))
