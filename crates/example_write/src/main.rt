@@ -12,16 +12,25 @@ mod texts;
 use crate::record::record;
 use crate::texts::{Texts, texts_of};
 use anyhow::{Context, Result};
+use std::alloc::Global;
 use std::io::Write;
 use std::rt::Files;
 use std::{env, fs, io};
 
-/// Writes both files. A file that is there already is replaced.
+/// Writes one of both files. A file that is there already is replaced.
+fn write_file<R: Files + AllocGlobal>(
+    rt: &R,
+    name: &str,
+    ending: &str,
+    text: &[u8],
+) -> io::Result<()> {
+    let path = format!(in rt.alloc(); "{name}.{ending}")?;
+    fs::write(rt, path.as_str(), text)
+}
+
 fn write_named<R: Files + AllocGlobal>(rt: &R, name: &str, texts: &Texts) -> io::Result<()> {
-    let cfg = format!(in rt.alloc(); "{name}.cfg")?;
-    let dat = format!(in rt.alloc(); "{name}.dat")?;
-    fs::write(rt, cfg.as_str(), texts.cfg.as_slice())?;
-    fs::write(rt, dat.as_str(), texts.dat.as_slice())
+    write_file(rt, name, "cfg", &texts.cfg)?;
+    write_file(rt, name, "dat", &texts.dat)
 }
 
 /// Prints both files, one after the other.
@@ -32,9 +41,14 @@ fn print_all<R: Print>(rt: &R, texts: &Texts) -> io::Result<()> {
     out.flush()
 }
 
+/// The texts of the record.
+fn record_texts(alloc: Global) -> Result<Texts> {
+    let file = record(alloc)?;
+    texts_of(alloc, &file).context("not written")
+}
+
 fn main(rt: HostRuntime) -> Result<()> {
-    let file = record(rt.alloc())?;
-    let texts = texts_of(rt.alloc(), &file).context("not written")?;
+    let texts = record_texts(rt.alloc())?;
     match env::args(&rt)?.nth(1) {
         Some(name) => write_named(&rt, name.as_str(), &texts)?,
         None => print_all(&rt, &texts)?,

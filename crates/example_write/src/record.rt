@@ -1,8 +1,7 @@
 //! A record, made by hand.
 
-ghost use Rattle.std.specs.Prelude.{◌<◌};
+ghost use Rattle.std.specs.Prelude.{◌<◌, ◌≤◌};
 
-use anyhow::{Context, Result};
 use comtrade_format::{File, Head, Kind, Rate, Row};
 use dfr_channels::{AnalogChannel, Decimal, Items, Reading, Side, StatusChannel};
 use std::alloc::{AllocError, Global};
@@ -24,30 +23,39 @@ fn text(alloc: Global, text: &str) -> Result<Items<u8>, AllocError> {
     Ok(Items::of(Vec::from_slice(alloc, text.as_bytes())?))
 }
 
-/// units / 10^places.
-fn decimal(units: i128, places: u8) -> Result<Decimal> {
-    Decimal::new(units, places).context("a decimal that a file can hold")
+/// A list of one.
+fn one<T: Drop>(alloc: Global, item: T) -> Result<Items<T>, AllocError> {
+    let mut list = Vec::new(alloc);
+    list.push(item)?;
+    Ok(Items::of(list))
+}
+
+/// units / 10^places, which a file can hold.
+fn decimal(units: i32, places: u8) -> Decimal
+    requires { places ≤ 80 }
+{
+    Decimal::new(units as i128, places).unwrap()
 }
 
 /// A current in steps of 0.5 A, by a transformer of 600 to 1 A; the values are those of the primary side.
-fn current(alloc: Global) -> Result<AnalogChannel> {
+fn current(alloc: Global) -> Result<AnalogChannel, AllocError> {
     Ok(AnalogChannel {
         id: text(alloc, "IA")?,
         phase: text(alloc, "A")?,
         component: text(alloc, "Line 3")?,
         unit: text(alloc, "A")?,
-        a: decimal(5, 1)?,
-        b: decimal(0, 0)?,
-        skew: decimal(0, 0)?,
+        a: decimal(5, 1),
+        b: decimal(0, 0),
+        skew: decimal(0, 0),
         min: -32_767,
         max: 32_767,
-        primary: decimal(600, 0)?,
-        secondary: decimal(1, 0)?,
+        primary: decimal(600, 0),
+        secondary: decimal(1, 0),
         side: Side::Primary,
     })
 }
 
-fn breaker(alloc: Global) -> Result<StatusChannel> {
+fn breaker(alloc: Global) -> Result<StatusChannel, AllocError> {
     Ok(StatusChannel {
         id: text(alloc, "Breaker open")?,
         phase: text(alloc, "")?,
@@ -60,12 +68,11 @@ fn breaker(alloc: Global) -> Result<StatusChannel> {
 fn row(alloc: Global, k: usize) -> Result<Row, AllocError>
     requires { k < ROWS }
 {
-    let sample = PERIOD[k % 20];
     Ok(Row {
         number: k as u64 + 1,
         stamp: Some(k as u64 * 1000),
-        values: Items::of(vec![in alloc; Reading::Value(sample)]?),
-        bits: Items::of(vec![in alloc; OPEN <= k]?),
+        values: one(alloc, Reading::Value(PERIOD[k % 20]))?,
+        bits: one(alloc, OPEN <= k)?,
     })
 }
 
@@ -78,29 +85,29 @@ fn rows(alloc: Global) -> Result<Items<Row>, AllocError> {
 }
 
 /// The instants are microseconds since 1970-01-01 00:00:00: 2024-07-01 10:30:00, and 20 ms later.
-fn head(alloc: Global) -> Result<Head> {
+fn head(alloc: Global) -> Result<Head, AllocError> {
     let rate = Rate {
-        samp: decimal(1000, 0)?,
+        samp: decimal(1000, 0),
         endsamp: ROWS as u64,
     };
     Ok(Head {
         station: text(alloc, "Northfield 110 kV")?,
         device: text(alloc, "Example")?,
-        analog: Items::of(vec![in alloc; current(alloc)?]?),
-        status: Items::of(vec![in alloc; breaker(alloc)?]?),
-        line_freq: decimal(50, 0)?,
+        rates: one(alloc, rate)?,
+        status: one(alloc, breaker(alloc)?)?,
+        analog: one(alloc, current(alloc)?)?,
+        line_freq: decimal(50, 0),
         nrates: 1,
-        rates: Items::of(vec![in alloc; rate]?),
         first: 1_719_829_800_000_000,
         trigger: 1_719_829_800_020_000,
         kind: Kind::Ascii,
-        timemult: decimal(1, 0)?,
+        timemult: decimal(1, 0),
     })
 }
 
 /// The whole record. What a file can't hold is found when it is written: `WriteFault` says where it stands.
-pub fn record(alloc: Global) -> Result<File> {
-    let head = head(alloc)?;
+pub fn record(alloc: Global) -> Result<File, AllocError> {
     let rows = rows(alloc)?;
+    let head = head(alloc)?;
     Ok(File { head, rows })
 }
