@@ -7,8 +7,7 @@ ghost use Rattle.comtrade_cli.specs.Commands.{IsCommand, IsKinded};
 ghost use Rattle.comtrade_cli.specs.Commands as Spec;
 
 use crate::options::{
-    free_word, option, with, with_cursor, with_encoding, with_json, with_part, with_picture,
-    with_table, word, words,
+    free_word, option, with, with_encoding, with_json, with_part, with_picture, word, words,
 };
 use clap::Command;
 use std::alloc::{AllocError, Global};
@@ -67,13 +66,6 @@ fn command<'a>(alloc: Global, name: &'a str, about: &'a str, end: &'a str) -> Co
     Command::new(alloc, name).about(about).after_help(end)
 }
 
-/// A command whose words are told so.
-fn with_usage<'a>(command: Command<'a>, usage: &'a str) -> Command<'a>
-    ensures { (a : App) → IsCommand a command.entry → IsCommand a result }
-{
-    command.override_usage(usage)
-}
-
 /// A command over a pair of files.
 fn over_pair<'a>(alloc: Global, name: &'a str, about: &'a str) -> Result<Command<'a>, AllocError>
     ensures { IfOk result (IsCommand (Spec.over_pair name.entry.now)) }
@@ -108,7 +100,10 @@ fn csv<'a>(alloc: Global) -> Result<Command<'a>, AllocError>
     let about = "Prints the rows: instants, values a*x + b, contacts";
     let pair = over_pair(alloc, "csv", about)?;
     let part = with_part(alloc, pair)?;
-    with_table(alloc, part)
+    let separator = "What separates cells, as ';' or tab";
+    let decimal = "What stands before the places of a number: . or ,";
+    let one = with(part, option(alloc, "separator", "TEXT", separator))?;
+    with(one, option(alloc, "decimal", "TEXT", decimal))
 }
 
 fn plot<'a>(alloc: Global) -> Result<Command<'a>, AllocError>
@@ -134,8 +129,11 @@ fn measure<'a>(alloc: Global) -> Result<Command<'a>, AllocError>
         "Prints where currents left their course; of a moment or window phasors, harmonics, sequence components";
     let pair = over_pair(alloc, "measure", about)?;
     let part = with_part(alloc, pair)?;
-    let cursor = with_cursor(alloc, part)?;
-    with_json(alloc, cursor)
+    let at = "The moment whose last whole cycle is measured, said as --from is";
+    let reference = "The channel from which angles are counted, by its id or number";
+    let one = with(part, option(alloc, "at", "MOMENT", at))?;
+    let two = with(one, option(alloc, "reference", "CHANNEL", reference))?;
+    with_json(alloc, two)
 }
 
 /// The names of `convert`: with three of them the second is the data file's.
@@ -145,7 +143,7 @@ fn convert_names<'a>(alloc: Global) -> Result<Command<'a>, AllocError>
     let about =
         "Writes NAME.cfg and NAME.dat, which say the same with data of another kind; neither may be there";
     let usage = "comtrade convert --kind <KIND> [OPTIONS] <FILE> [DAT] <NAME>";
-    let bare = with_usage(command(alloc, "convert", about, STATUS), usage);
+    let bare = command(alloc, "convert", about, STATUS).override_usage(usage);
     let file = word(alloc, "FILE", "A file of the pair, or what both are called");
     let name =
         "What both new files are called, without .cfg and .dat; before a third name the data file";
@@ -182,19 +180,12 @@ fn extract<'a>(alloc: Global) -> Result<Command<'a>, AllocError>
     with(bare, word(alloc, "DIR", folder))
 }
 
-/// A command over folders and files, without its options.
-fn named<'a>(alloc: Global, name: &'a str, about: &'a str) -> Result<Command<'a>, AllocError>
-    ensures { IfOk result (IsCommand (Spec.named name.entry.now)) }
-{
-    let bare = command(alloc, name, about, SURVEY_STATUS);
-    with(bare, words(alloc, "NAMES", "Folders with pairs, and pairs"))
-}
-
 /// A command over folders and files.
 fn over_names<'a>(alloc: Global, name: &'a str, about: &'a str) -> Result<Command<'a>, AllocError>
     ensures { IfOk result (IsCommand (Spec.over_names name.entry.now)) }
 {
-    let named = named(alloc, name, about)?;
+    let bare = command(alloc, name, about, SURVEY_STATUS);
+    let named = with(bare, words(alloc, "NAMES", "Folders with pairs, and pairs"))?;
     let json = with_json(alloc, named)?;
     with_encoding(alloc, json)
 }
@@ -219,23 +210,16 @@ fn events<'a>(alloc: Global) -> Result<Command<'a>, AllocError>
     )
 }
 
-/// The names of two records.
-fn compare_names<'a>(alloc: Global) -> Result<Command<'a>, AllocError>
-    ensures { IfOk result (IsCommand Spec.compare_names) }
+fn compare<'a>(alloc: Global) -> Result<Command<'a>, AllocError>
+    ensures { IfOk result (IsCommand Spec.compare) }
 {
     let about = "Prints two records in one picture, as SVG, and how far equal channels differ";
     let bare = command(alloc, "compare", about, COMPARE_STATUS);
     let by = "What falls together: instant (so it is without this) or trigger";
     let one = with(bare, word(alloc, "A", "A record"))?;
     let two = with(one, word(alloc, "B", "The record that is laid over it"))?;
-    with(two, option(alloc, "by", "WHAT", by))
-}
-
-fn compare<'a>(alloc: Global) -> Result<Command<'a>, AllocError>
-    ensures { IfOk result (IsCommand Spec.compare) }
-{
-    let named = compare_names(alloc)?;
-    let part = with_part(alloc, named)?;
+    let three = with(two, option(alloc, "by", "WHAT", by))?;
+    let part = with_part(alloc, three)?;
     with_picture(alloc, part)
 }
 
@@ -279,19 +263,12 @@ fn with_choice<'a>(command: Command<'a>) -> Command<'a>
         .subcommand_required(true)
 }
 
-/// The program without its commands.
-fn top<'a>(alloc: Global) -> Result<Command<'a>, AllocError>
-    ensures { IfOk result (IsCommand Spec.top) }
-{
-    let named = named_top(alloc)?;
-    Ok(with_choice(named))
-}
-
 /// The program's words.
 pub(crate) fn comtrade<'a>(alloc: Global) -> Result<Command<'a>, AllocError>
     ensures { IfOk result (IsKinded Spec.program) }
 {
-    let top = top(alloc)?;
+    let named = named_top(alloc)?;
+    let top = with_choice(named);
     let viewing = views(alloc, top)?;
     let surveying = surveys(alloc, viewing)?;
     surveying

@@ -120,25 +120,10 @@ pub(crate) fn with_picture<'a>(
         two,
         option(alloc, "width", "PIXELS", "How wide it is shown"),
     )?;
-    let four = with(
+    with(
         three,
         option(alloc, "height", "PIXELS", "How high it is shown"),
-    )?;
-    Ok(four)
-}
-
-/// A moment, and the channel from which angles are counted.
-pub(crate) fn with_cursor<'a>(
-    alloc: Global,
-    command: Command<'a>,
-) -> Result<Command<'a>, AllocError>
-    ensures { (a : App) → IsCommand a command.entry → IfOk result (IsCommand (Spec.with_cursor a)) }
-{
-    let at = "The moment whose last whole cycle is measured, said as --from is";
-    let reference = "The channel from which angles are counted, by its id or number";
-    let one = with(command, option(alloc, "at", "MOMENT", at))?;
-    let two = with(one, option(alloc, "reference", "CHANNEL", reference))?;
-    Ok(two)
+    )
 }
 
 /// Whether it is printed as JSON.
@@ -146,29 +131,4 @@ pub(crate) fn with_json<'a>(alloc: Global, command: Command<'a>) -> Result<Comma
     ensures { (a : App) → IsCommand a command.entry → IfOk result (IsCommand (Spec.with_json a)) }
 {
     with(command, flag(alloc, "json", "As JSON, in one line"))
-}
-
-/// How a table of values is written.
-pub(crate) fn with_table<'a>(alloc: Global, command: Command<'a>) -> Result<Command<'a>, AllocError>
-    ensures { (a : App) → IsCommand a command.entry → IfOk result (IsCommand (Spec.with_table a)) }
-{
-    let one = with(
-        command,
-        option(
-            alloc,
-            "separator",
-            "TEXT",
-            "What separates cells, as ';' or tab",
-        ),
-    )?;
-    let two = with(
-        one,
-        option(
-            alloc,
-            "decimal",
-            "TEXT",
-            "What stands before the places of a number: . or ,",
-        ),
-    )?;
-    Ok(two)
 }

@@ -4,7 +4,7 @@ use Rattle.comtrade_cli.proofs.commands.comtrade.Goals as goal
 
 pub returns : goal.returns
 returns c =
-    let viewing = c.in_ok-viewing.ensures c.in_ok-top.ensures in
+    let viewing = c.in_ok-viewing.ensures (c.with_choice-top.ensures _ c.in_ok-named.ensures) in
     let surveying = c.in_ok-surveying.ensures _ viewing in
     let kinded = c.in_ok-convert.ensures in
     let measuring = added _ _ _ _ _ surveying c.in_ok-measure.ensures c.in_ok-subcommand.ensures in
