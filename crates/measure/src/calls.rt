@@ -2,11 +2,10 @@
 
 mod clock;
 mod files;
-mod numbers;
 mod recorders;
 mod station;
 
-pub use crate::calls::clock::Amount;
+use crate::amount::Amount;
 use anyhow::Result;
 use std::alloc::AllocGlobal;
 use std::rt::Clock;

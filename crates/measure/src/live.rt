@@ -4,8 +4,7 @@ mod lane;
 mod threads;
 mod times;
 
-pub use crate::live::times::Amount;
-use crate::station::{scans_of, script};
+use crate::amount::Amount;
 use anyhow::Result;
 use std::alloc::AllocGlobal;
 use std::rt::Clock;
@@ -16,8 +15,6 @@ pub fn measure<R: Wait + Threads + Sync + Clock + Print + AllocGlobal>(
     rt: &R,
     amount: Amount,
 ) -> Result<()> {
-    let text = script(rt.alloc(), 64)?;
-    let set = scans_of(rt.alloc(), &text)?;
-    lane::measure(rt, &text, &set, amount)?;
-    threads::measure(rt, &text, &set, amount)
+    lane::measure(rt, amount)?;
+    threads::measure(rt, amount)
 }

@@ -9,13 +9,16 @@
 //! the calls) or `station` (`run_live`, whose feed and sink may fail). `bench/soak` makes the scripts and judges.
 #![tactic(auto)]
 
+mod amount;
 mod calls;
 mod live;
 mod maker;
+mod numbers;
 mod runner;
 mod soak;
 mod station;
 
+use crate::amount::Amount;
 use anyhow::{Context, Result};
 use std::env;
 use std::env::Args;
@@ -52,8 +55,8 @@ fn main(rt: HostRuntime) -> Result<()> {
     let mut words = env::args(&rt)?;
     let _program = words.next();
     match first_word(&mut words).context("calls, live or soak")? {
-        Work::Calls => calls::measure(&rt, calls::Amount::of(runs_of(&mut words)?)),
-        Work::Live => live::measure(&rt, live::Amount::of(runs_of(&mut words)?)),
+        Work::Calls => calls::measure(&rt, Amount::of(runs_of(&mut words)?)),
+        Work::Live => live::measure(&rt, Amount::of(runs_of(&mut words)?)),
         Work::Soak => soak::soak(&rt, &mut words),
     }
 }

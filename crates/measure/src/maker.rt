@@ -1,12 +1,13 @@
-//! The one maker of recorders: each other place that made one would be dear to prove. What is let go is let go by name, so that
-//! its proof is one function's.
+//! The one maker of recorders, and the one place where they are opened: each other place would be dear to prove. What is let go is
+//! let go by name, so that its proof is one function's.
 
 ghost use Rattle.std.specs.Prelude.{IfSome, IsTrue};
 ghost use Rattle.dfr_recorder.specs.Limits.{has_stamps};
 
 use dfr_channels::{Layout, Memory, Rule, Rules, Setup};
+use dfr_live::{Opened, open};
 use dfr_recorder::{Limits, Recorder};
-use dfr_script::LimitNumbers;
+use dfr_script::{LimitNumbers, script_of};
 use std::alloc::Allocator;
 
 fn lawful<A: Allocator>(layout: &Layout<A>, numbers: LimitNumbers) -> Option<Limits> {
@@ -79,6 +80,14 @@ fn with_layout<A: Allocator + Copy>(
     }
 }
 
+/// The set-up that a script's text says.
+pub fn setup_of<A: Allocator + Copy>(alloc: A, text: &[u8]) -> Option<Setup<A>> {
+    match script_of(alloc, text) {
+        Ok(script) => Some(script.setup),
+        Err(_) => None,
+    }
+}
+
 /// The layout of a set-up, where that is lawful.
 pub fn layout_of<A: Allocator>(setup: Setup<A>) -> Option<Layout<A>> {
     match Layout::new(setup) {
@@ -101,6 +110,22 @@ pub fn recorder_of<A: Allocator + Copy>(
         Some(layout) => with_layout(alloc, layout, numbers, list),
         None => {
             drop(list);
+            None
+        }
+    }
+}
+
+/// The recorder opened, with so many places in its lane and so many tokens.
+pub fn opened_of<A: Allocator + Copy>(
+    alloc: A,
+    recorder: Recorder<A>,
+    places: usize,
+    seats: u32,
+) -> Option<Opened<A>> {
+    match open(alloc, recorder, places, seats) {
+        Ok(opened) => Some(opened),
+        Err((_, recorder)) => {
+            drop(recorder);
             None
         }
     }

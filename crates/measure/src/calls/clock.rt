@@ -1,45 +1,9 @@
-//! How often a work is done, over how much, and what it took.
+//! What a work took.
 
+use crate::amount::Amount;
 use std::io;
 use std::rt::Clock;
 use std::time::{Duration, Instant};
-
-/// How much is measured.
-#[derive(Clone, Copy)]
-pub struct Amount {
-    pub runs: u32,
-    pub scans: u32,
-    pub rows: u32,
-    pub prints: bool,
-}
-
-impl Amount {
-    /// So many runs, or one over little.
-    pub fn of(runs: Option<u32>) -> Amount {
-        match runs {
-            Some(runs) => Amount::full(runs),
-            None => Amount::little(),
-        }
-    }
-
-    fn full(runs: u32) -> Amount {
-        Amount {
-            runs,
-            scans: 5_000,
-            rows: 100_000,
-            prints: true,
-        }
-    }
-
-    fn little() -> Amount {
-        Amount {
-            runs: 1,
-            scans: 20,
-            rows: 20,
-            prints: false,
-        }
-    }
-}
 
 /// The least time of a work so far.
 #[derive(Clone, Copy)]
@@ -62,7 +26,7 @@ impl Least {
         let Some(least) = self.0 else {
             return Ok(());
         };
-        if amount.prints {
+        if amount.is_full {
             let nanos = least.as_nanos();
             println!(rt; "{name}: {nanos} ns for {of}")?;
         }

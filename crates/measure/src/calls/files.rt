@@ -2,9 +2,10 @@
 
 ghost use Rattle.std.specs.Prelude.{◌+◌, ◌<◌, length};
 
-use crate::calls::clock::{Amount, Least, now, since};
-use crate::calls::numbers::Numbers;
+use crate::amount::Amount;
+use crate::calls::clock::{Least, now, since};
 use crate::calls::station::recorder;
+use crate::numbers::Numbers;
 use anyhow::{Context, Result};
 use comtrade_read::{ReadFault, read_cfg, read_dat};
 use comtrade_write::{File, Head, Kind, cfg_bytes, dat_bytes, file_of};
@@ -43,11 +44,20 @@ fn file(alloc: Global, rows: u32, kind: Kind) -> Result<File> {
     file_from(alloc, &mut recorder, post, kind)
 }
 
+fn cfg_of(alloc: Global, file: &File) -> Option<Vec<u8>> {
+    cfg_bytes(alloc, file).ok()
+}
+
+fn dat_of(alloc: Global, file: &File) -> Option<Vec<u8>> {
+    dat_bytes(alloc, file).ok()
+}
+
 fn write_once<R: Clock + AllocGlobal>(rt: &R, file: &File, least: &mut Least) -> Result<()> {
-    let start = now(rt)?;
-    let written = dat_bytes(rt.alloc(), file).ok().context("a lawful file")?;
-    least.add(start.elapsed(rt)?);
-    drop(written);
+    let start = now(rt);
+    let written = dat_of(rt.alloc(), file);
+    let time = since(rt, start);
+    drop(written.context("a lawful file")?);
+    least.add(time?);
     Ok(())
 }
 
@@ -123,9 +133,11 @@ fn measure_reading<R: Clock + Print + AllocGlobal>(
 
 /// The texts of the two files.
 fn texts(alloc: Global, file: &File) -> Result<(Vec<u8>, Vec<u8>)> {
-    let cfg = cfg_bytes(alloc, file).ok().context("a lawful file")?;
-    let dat = dat_bytes(alloc, file).ok().context("a lawful file")?;
-    Ok((cfg, dat))
+    let cfg = cfg_of(alloc, file).context("a lawful file")?;
+    match dat_of(alloc, file) {
+        Some(dat) => Ok((cfg, dat)),
+        None => None.context("a lawful file"),
+    }
 }
 
 fn measure_both<R: Clock + Print + AllocGlobal>(
@@ -155,7 +167,7 @@ fn measure_kind<R: Clock + Print + AllocGlobal>(
     kind: Kind,
     names: (&str, &str),
 ) -> Result<()> {
-    let file = file(rt.alloc(), amount.rows, kind)?;
+    let file = file(rt.alloc(), amount.over(100_000, 20), kind)?;
     measure_file(rt, amount, &file, names)
 }
 

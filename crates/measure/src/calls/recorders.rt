@@ -1,8 +1,9 @@
 //! Scans of an idle recorder, of one with rules, and of one with a record open.
 
-use crate::calls::clock::{Amount, Least, now, since};
-use crate::calls::numbers::Numbers;
+use crate::amount::Amount;
+use crate::calls::clock::{Least, now, since};
 use crate::calls::station::recorder;
+use crate::numbers::Numbers;
 use anyhow::{Context, Result};
 use dfr_channels::Scan;
 use dfr_recorder::Recorder;
@@ -92,11 +93,12 @@ fn measure_state<R: Clock + Print + AllocGlobal>(
     amount: Amount,
     state: State,
 ) -> Result<()> {
+    let scans = amount.over(5_000, 20);
     let mut least = Least::none();
     for _ in 0..amount.runs {
-        measure_once(rt, amount.scans, state, &mut least)?;
+        measure_once(rt, scans, state, &mut least)?;
     }
-    least.print(rt, amount, state.name, amount.scans as u64)?;
+    least.print(rt, amount, state.name, scans as u64)?;
     Ok(())
 }
 

@@ -1,6 +1,7 @@
 //! The recorder that is measured.
 
-use crate::station::{recorder_with, script};
+use crate::station;
+use crate::station::LIMITS;
 use anyhow::{Context, Result};
 use dfr_channels::Rule;
 use dfr_recorder::Recorder;
@@ -22,14 +23,12 @@ fn rules(alloc: Global, count: u32) -> Result<Vec<Rule>, AllocError> {
 
 /// All of it is lawful: only memory may be wanting.
 pub fn recorder(alloc: Global, pre: u32, post: u32, rule_count: u32) -> Result<Recorder> {
-    let text = script(alloc, 0)?;
-    let list = rules(alloc, rule_count)?;
     let numbers = LimitNumbers {
         pre,
         post,
-        longest: 1_000_000,
         shelf: 1,
-        unshared: false,
+        ..LIMITS
     };
-    recorder_with(alloc, &text, numbers, list).context("memory")
+    let list = rules(alloc, rule_count)?;
+    station::recorder(alloc, numbers, list).context("memory")
 }

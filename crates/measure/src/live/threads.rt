@@ -1,8 +1,10 @@
 //! Three threads.
 
-use crate::live::times::{Amount, none, note, tell};
+use crate::amount::Amount;
+use crate::live::times::{none, note, tell};
+use crate::numbers::Numbers;
 use crate::runner::ran;
-use crate::station::recorder;
+use crate::station::{LIMITS, recorder};
 use anyhow::{Context, Result};
 use comtrade_write::Kind;
 use dfr_channels::Scan;
@@ -57,30 +59,61 @@ impl Orders<Global> for Each {
     }
 }
 
-#[derive(Drop)]
-struct Bytes {
-    bytes: u64,
-}
+/// Lets the files go.
+#[derive(Clone, Copy)]
+struct Nowhere;
 
-impl Sink for Bytes {
-    fn put(&mut self, _extent: Extent, cfg: &[u8], dat: &[u8]) -> std::result::Result<(), u32> {
-        self.bytes = self
-            .bytes
-            .saturating_add(cfg.len() as u64)
-            .saturating_add(dat.len() as u64);
+impl Sink for Nowhere {
+    fn put(&mut self, _extent: Extent, _cfg: &[u8], _dat: &[u8]) -> std::result::Result<(), u32> {
         Ok(())
     }
 }
 
-/// What is run: the places of the lane, the kind of files, a trigger after each so many scans, and
-/// how many scans.
+/// What is run: the places of the lane, the kind of files, a trigger after each so many scans, and how many scans, or how many
+/// where little is measured.
 #[derive(Clone, Copy)]
 struct Run {
+    name: &'static str,
     places: usize,
     kind: Kind,
     step: u64,
-    scans: u64,
+    scans: (u32, u32),
 }
+
+const ASCII: Run = Run {
+    name: "run_live, ASCII records",
+    places: 1_024,
+    kind: Kind::Ascii,
+    step: 10_000,
+    scans: (200_000, 100),
+};
+
+const BINARY: Run = Run {
+    name: "run_live, BINARY records",
+    kind: Kind::Binary,
+    ..ASCII
+};
+
+const RUNS: [Run; 5] = [
+    Run {
+        name: "run_live, no record",
+        step: u64::MAX,
+        ..ASCII
+    },
+    ASCII,
+    BINARY,
+    Run {
+        name: "the same, a lane of 8",
+        places: 8,
+        ..BINARY
+    },
+    Run {
+        name: "the same, a lane of 1",
+        places: 1,
+        scans: (20_000, 10),
+        ..BINARY
+    },
+];
 
 /// Whether all went well.
 fn ran_well<R: Wait + Threads + Sync + AllocGlobal>(
@@ -88,18 +121,18 @@ fn ran_well<R: Wait + Threads + Sync + AllocGlobal>(
     recorder: Recorder,
     set: &[Scan],
     run: Run,
+    scans: u64,
 ) -> bool {
     let mut feed = Copies {
         set,
         at: 0,
-        left: run.scans,
+        left: scans,
     };
     let mut orders = Each {
         place: 0,
         step: run.step,
-        end: run.scans,
+        end: scans,
     };
-    let mut sink = Bytes { bytes: 0 };
     let how = (run.places, run.kind);
     is_report(ran(
         rt,
@@ -108,7 +141,7 @@ fn ran_well<R: Wait + Threads + Sync + AllocGlobal>(
         how,
         &mut feed,
         &mut orders,
-        &mut sink,
+        &mut Nowhere,
     ))
 }
 
@@ -124,65 +157,48 @@ fn is_report(came: std::result::Result<LiveReport, LiveFault>) -> bool {
 
 fn once<R: Wait + Threads + Sync + Clock + AllocGlobal>(
     rt: &R,
-    text: &str,
     set: &[Scan],
     run: Run,
+    scans: u64,
     times: &mut Vec<u64>,
 ) -> Result<()> {
-    let recorder = recorder(rt.alloc(), text).context("a recorder")?;
+    let recorder = recorder(rt.alloc(), LIMITS, Vec::new(rt.alloc())).context("a recorder")?;
     let start = Instant::now(rt);
-    let ran = ran_well(rt, recorder, set, run);
+    let ran = ran_well(rt, recorder, set, run, scans);
     note(times, start?.elapsed(rt)?.as_nanos())?;
     if ran { Ok(()) } else { None.context("a run") }
 }
 
 fn all<R: Wait + Threads + Sync + Clock + Print + AllocGlobal>(
     rt: &R,
-    text: &str,
     set: &[Scan],
     amount: Amount,
-    name: &str,
     run: Run,
 ) -> Result<()> {
+    let (full, little) = run.scans;
+    let scans = amount.over(full, little) as u64;
     let mut times = none(rt.alloc());
     for _ in 0..amount.runs {
-        once(rt, text, set, run, &mut times)?;
+        once(rt, set, run, scans, &mut times)?;
     }
-    tell(rt, amount, name, run.scans, &mut times)
+    tell(rt, amount, run.name, scans, &mut times)
+}
+
+fn runs<R: Wait + Threads + Sync + Clock + Print + AllocGlobal>(
+    rt: &R,
+    set: &[Scan],
+    amount: Amount,
+) -> Result<()> {
+    for run in RUNS {
+        all(rt, set, amount, run)?;
+    }
+    Ok(())
 }
 
 pub fn measure<R: Wait + Threads + Sync + Clock + Print + AllocGlobal>(
     rt: &R,
-    text: &str,
-    set: &[Scan],
     amount: Amount,
 ) -> Result<()> {
-    let idle = Run {
-        places: 1_024,
-        kind: Kind::Ascii,
-        step: u64::MAX,
-        scans: amount.scans,
-    };
-    let ascii = Run {
-        step: 10_000,
-        ..idle
-    };
-    let binary = Run {
-        kind: Kind::Binary,
-        ..ascii
-    };
-    let narrow = Run {
-        places: 8,
-        ..binary
-    };
-    let single = Run {
-        places: 1,
-        scans: amount.scans / 10,
-        ..binary
-    };
-    all(rt, text, set, amount, "run_live, no record", idle)?;
-    all(rt, text, set, amount, "run_live, ASCII records", ascii)?;
-    all(rt, text, set, amount, "run_live, BINARY records", binary)?;
-    all(rt, text, set, amount, "the same, a lane of 8", narrow)?;
-    all(rt, text, set, amount, "the same, a lane of 1", single)
+    let set = Numbers::not_negative(1).scans(rt.alloc(), 64)?;
+    runs(rt, &set, amount)
 }

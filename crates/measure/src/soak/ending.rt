@@ -10,7 +10,7 @@ use std::alloc::Allocator;
 use std::sync::Mutex;
 
 /// What is wrong with the first end.
-#[derive(Clone, Copy, PartialEq, Eq)]
+#[derive(Clone, Copy, Debug)]
 pub enum Trouble {
     /// A token is missing.
     Missing,
@@ -148,7 +148,7 @@ fn end_with<N: Session<A>, A: Allocator + Copy>(
     let (inner, source, mut tokens) = parts;
     let missing = trouble_tokens(alloc, &mut tokens, trouble);
     let seat = seat_of(&missing);
-    if trouble == Trouble::Refused {
+    if let Trouble::Refused = trouble {
         heap.refuse(1);
     }
     match end(alloc, inner, source, tokens) {
@@ -163,7 +163,7 @@ fn end_with<N: Session<A>, A: Allocator + Copy>(
             Ends {
                 seat,
                 first: Some(fault),
-                last: end_again(alloc, parts, missing, trouble == Trouble::Stranger),
+                last: end_again(alloc, parts, missing, matches!(trouble, Trouble::Stranger)),
             }
         }
     }
@@ -180,33 +180,23 @@ pub fn end_desk<N: Session<A>, A: Allocator + Copy>(
     end_with(heap, alloc, parts_of(alloc, desk, chance), trouble)
 }
 
-fn trouble_text(trouble: Trouble) -> &'static str {
-    match trouble {
-        Trouble::Missing => "Missing ",
-        Trouble::Stranger => "Stranger ",
-        Trouble::Refused => "Refused ",
-        Trouble::None => "None ",
-    }
-}
-
-fn fault_text(fault: EndFault) -> &'static str {
-    match fault {
-        EndFault::Tokens => "end Tokens\n",
-        EndFault::Mismatch => "end Mismatch\n",
-        EndFault::Memory => "end Memory\n",
-    }
+fn put_fault(out: &mut Out, fault: EndFault) {
+    out.put("end ");
+    out.debug(fault);
+    out.put("\n");
 }
 
 pub fn put_ends<A: Allocator + Copy>(out: &mut Out, trouble: Trouble, ends: Ends<A>) {
     out.put("end with ");
-    out.item(trouble_text(trouble), ends.seat.unwrap_or(0) as u64);
+    out.debug(trouble);
+    out.item(" ", ends.seat.unwrap_or(0) as u64);
     out.put("\n");
     if let Some(fault) = ends.first {
         out.put("first ");
-        out.put(fault_text(fault));
+        put_fault(out, fault);
     }
     match ends.last {
         Ok(ended) => put_ended(out, ended),
-        Err(fault) => out.put(fault_text(fault)),
+        Err(fault) => put_fault(out, fault),
     }
 }

@@ -2,11 +2,11 @@
 
 ghost use Rattle.std.specs.Prelude.{◌≡◌};
 
-use crate::maker::{layout_of, recorder_of};
-use dfr_channels::{Layout, Rule, Rules, Scan, Setup};
-use dfr_live::{Opened, Session, Token, open};
+use crate::maker::{layout_of, opened_of, recorder_of, setup_of};
+use dfr_channels::{Layout, Rule, Rules, Scan};
+use dfr_live::{Opened, Session, Token};
 use dfr_recorder::Recorder;
-use dfr_script::{Command, LimitNumbers, Script, script_of};
+use dfr_script::{Command, LimitNumbers, Script};
 use std::alloc::Allocator;
 use std::collections::VecDeque;
 use std::marker::Brand;
@@ -44,15 +44,8 @@ pub struct Given<A: Allocator> {
 const WIDE: &[u8] =
     b"station W\ndevice W\nanalog a,,,V,1,0,0,-9,9,1,1,P\nanalog a,,,V,1,0,0,-9,9,1,1,P\nanalog a,,,V,1,0,0,-9,9,1,1,P\nanalog a,,,V,1,0,0,-9,9,1,1,P\nanalog a,,,V,1,0,0,-9,9,1,1,P\nanalog a,,,V,1,0,0,-9,9,1,1,P\nstatus s,,,0\nstatus s,,,0\nstatus s,,,0\nstatus s,,,0\nstatus s,,,0\nstatus s,,,0\nfreq 50\nrate 1\nstart 0\nlimits 0,1,2,1\ngo\n";
 
-fn wide_setup<A: Allocator + Copy>(alloc: A) -> Option<Setup<A>> {
-    match script_of(alloc, WIDE) {
-        Ok(script) => Some(script.setup),
-        Err(_) => None,
-    }
-}
-
 fn wide<A: Allocator + Copy>(alloc: A) -> Option<Layout<A>> {
-    layout_of(wide_setup(alloc)?)
+    layout_of(setup_of(alloc, WIDE)?)
 }
 
 impl<A: Allocator> Lists<A> {
@@ -164,16 +157,13 @@ const ONE_SCAN: LimitNumbers = LimitNumbers {
 };
 
 fn another<A: Allocator + Copy>(alloc: A) -> Option<Recorder<A>> {
-    recorder_of(alloc, wide_setup(alloc)?, ONE_SCAN, Vec::new(alloc))
+    recorder_of(alloc, setup_of(alloc, WIDE)?, ONE_SCAN, Vec::new(alloc))
 }
 
 /// The token of another opening, of seat 0.
 pub fn stranger<A: Allocator + Copy>(alloc: A) -> Option<Token<A>> {
-    match open(alloc, another(alloc)?, 1, 1) {
-        Ok(opened) => token_named::<Brand, A>(opened),
-        Err((_, recorder)) => {
-            drop(recorder);
-            None
-        }
+    match opened_of(alloc, another(alloc)?, 1, 1) {
+        Some(opened) => token_named::<Brand, A>(opened),
+        None => None,
     }
 }

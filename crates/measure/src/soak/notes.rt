@@ -6,7 +6,7 @@ use dfr_recorder::{Extent, Hit, Record, TriggerFault};
 use std::alloc::Allocator;
 
 /// A token's call and its answer.
-#[derive(Clone, Copy)]
+#[derive(Clone, Copy, Debug)]
 pub enum Note {
     Pump(u32, Pumped),
     Trigger(Result<Hit, TriggerFault>),

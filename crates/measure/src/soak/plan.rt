@@ -2,7 +2,7 @@
 
 use std::env::Args;
 
-#[derive(Clone, Copy, PartialEq, Eq)]
+#[derive(Clone, Copy)]
 pub enum Way {
     /// All threads at once.
     Free,

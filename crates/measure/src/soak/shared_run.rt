@@ -2,6 +2,7 @@
 
 ghost use Rattle.std.specs.Prelude.{◌≡◌};
 
+use crate::maker::opened_of;
 use crate::soak::chance::Chance;
 use crate::soak::desk::{Acquiring, Desk, Heap, Held};
 use crate::soak::ending::{Trouble, end_desk, put_ends};
@@ -10,7 +11,7 @@ use crate::soak::out::Out;
 use crate::soak::plan::{Plan, Way};
 use crate::soak::threads::{at_once, in_order};
 use crate::soak::told::put_callers;
-use dfr_live::{Opened, Session, Token, open};
+use dfr_live::{Opened, Session, Token};
 use std::alloc::{AllocGlobal, Allocator, Global};
 use std::marker::Brand;
 use std::sync::{Mutex, Wait};
@@ -86,10 +87,9 @@ pub fn run<A: Allocator + Copy + Send + Sync, R: Wait + Threads + Sync + AllocGl
     plan: Plan,
 ) {
     let Given { recorder, lists } = given;
-    match open(alloc, recorder, plan.lane, plan.seats) {
-        Ok(opened) => named::<Brand, A, R>(rt, out, (heap, alloc), opened, lists, plan),
-        Err((_, recorder)) => {
-            drop(recorder);
+    match opened_of(alloc, recorder, plan.lane, plan.seats) {
+        Some(opened) => named::<Brand, A, R>(rt, out, (heap, alloc), opened, lists, plan),
+        None => {
             drop(lists);
             out.put("not opened\n");
         }

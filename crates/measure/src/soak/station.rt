@@ -103,7 +103,7 @@ impl Sink for Slow {
 fn put_files(out: &mut Out, got: &[Files]) {
     for (extent, cfg, dat) in got {
         out.put("sink ");
-        out.extent(*extent);
+        out.debug(*extent);
         out.item(" ", *cfg);
         out.item(" ", *dat);
         out.put("\n");
@@ -112,23 +112,14 @@ fn put_files(out: &mut Out, got: &[Files]) {
 
 type Report<A> = Result<LiveReport<A>, LiveFault>;
 
-fn put_code(out: &mut Out, word: &str, code: u32) {
-    out.item(word, code as u64);
-    out.put(")\n");
-}
-
 fn put_fault(out: &mut Out, fault: LiveFault) {
+    out.put("fault ");
     match fault {
-        LiveFault::Feed(code) => put_code(out, "fault Feed(", code),
-        LiveFault::Sink(code) => put_code(out, "fault Sink(", code),
-        LiveFault::Turns => out.put("fault Turns\n"),
-        LiveFault::Counter => out.put("fault Counter\n"),
-        LiveFault::Memory => out.put("fault Memory\n"),
-        LiveFault::Open(OpenFault::Memory) => out.put("fault Open(Memory)\n"),
-        LiveFault::Open(_) => out.put("fault Open\n"),
-        LiveFault::End(EndFault::Memory) => out.put("fault End(Memory)\n"),
-        LiveFault::End(_) => out.put("fault End\n"),
+        LiveFault::Open(OpenFault::Used | OpenFault::Lane | OpenFault::Seats) => out.put("Open"),
+        LiveFault::End(EndFault::Tokens | EndFault::Mismatch) => out.put("End"),
+        _ => out.debug(fault),
     }
+    out.put("\n");
 }
 
 fn put_report<A: Allocator + Copy>(out: &mut Out, report: Report<A>) {

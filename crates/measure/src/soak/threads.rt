@@ -1,4 +1,4 @@
-//! The threads: one offers scans, the others call.
+//! The threads: the first offers scans, the others call.
 
 use crate::soak::chance::Chance;
 use crate::soak::desk::Desk;
@@ -7,75 +7,61 @@ use std::alloc::Allocator;
 use std::sync::Wait;
 use std::thread::{self, Scope, Threads};
 
-fn acquire<N: Session<A>, A: Allocator>(rt: &impl Wait, desk: &Desk<'_, N, A>) {
-    let mut chance = Chance::of(desk.seed, 1000);
-    desk.acquiring.lock(rt).acquire(&mut chance);
+/// What thread 0 does, which offers the scans, or another one, which calls.
+fn work<N: Session<A>, A: Allocator + Copy>(rt: &impl Wait, desk: &Desk<'_, N, A>, thread: u64) {
+    match thread.checked_sub(1) {
+        Some(number) => desk.work(rt, number),
+        None => {
+            let mut chance = Chance::of(desk.seed, 1000);
+            desk.acquiring.lock(rt).acquire(&mut chance);
+        }
+    }
 }
 
-fn start_source<
+fn start<
     's,
     E,
     N: Session<A> + Send + Sync,
     A: Allocator + Copy + Send + Sync,
     R: Threads + Wait + Sync,
->(scope: &Scope<'s, E>, rt: &'s R, desk: &'s Desk<'_, N, A>) -> bool {
-    scope.spawn(move || acquire(rt, desk)).is_ok()
+>(scope: &Scope<'s, E>, rt: &'s R, desk: &'s Desk<'_, N, A>, thread: u64) -> bool {
+    scope.spawn(move || work(rt, desk, thread)).is_ok()
 }
 
-fn start_caller<
+fn start_all<
     's,
     E,
     N: Session<A> + Send + Sync,
     A: Allocator + Copy + Send + Sync,
     R: Threads + Wait + Sync,
->(scope: &Scope<'s, E>, rt: &'s R, desk: &'s Desk<'_, N, A>, number: u64) -> bool {
-    scope.spawn(move || desk.work(rt, number)).is_ok()
-}
-
-fn start_callers<
-    's,
-    E,
-    N: Session<A> + Send + Sync,
-    A: Allocator + Copy + Send + Sync,
-    R: Threads + Wait + Sync,
->(scope: &Scope<'s, E>, rt: &'s R, desk: &'s Desk<'_, N, A>, threads: u64) -> bool {
-    for number in 0..threads {
-        if !start_caller(scope, rt, desk, number) {
+>(scope: &Scope<'s, E>, rt: &'s R, desk: &'s Desk<'_, N, A>, first: u64, end: u64) -> bool {
+    for thread in first..end {
+        if !start(scope, rt, desk, thread) {
             return false;
         }
     }
     true
 }
 
-/// All at once. False where a thread can't be started.
+/// Runs the threads of these numbers. False where one can't be started.
+fn run<N: Session<A> + Send + Sync, A: Allocator + Copy + Send + Sync, R: Threads + Wait + Sync>(
+    rt: &R,
+    desk: &Desk<'_, N, A>,
+    first: u64,
+    end: u64,
+) -> bool {
+    thread::scope(thread::scope_env(), rt, |scope| {
+        start_all(scope, rt, desk, first, end)
+    })
+}
+
+/// All at once.
 pub fn at_once<
     N: Session<A> + Send + Sync,
     A: Allocator + Copy + Send + Sync,
     R: Threads + Wait + Sync,
->(rt: &R, desk: &Desk<'_, N, A>, threads: u64) -> bool {
-    thread::scope(thread::scope_env(), rt, |scope| {
-        start_source(scope, rt, desk) && start_callers(scope, rt, desk, threads)
-    })
-}
-
-fn source_alone<
-    N: Session<A> + Send + Sync,
-    A: Allocator + Copy + Send + Sync,
-    R: Threads + Wait + Sync,
->(rt: &R, desk: &Desk<'_, N, A>) -> bool {
-    thread::scope(thread::scope_env(), rt, |scope| {
-        start_source(scope, rt, desk)
-    })
-}
-
-fn callers_alone<
-    N: Session<A> + Send + Sync,
-    A: Allocator + Copy + Send + Sync,
-    R: Threads + Wait + Sync,
->(rt: &R, desk: &Desk<'_, N, A>, threads: u64) -> bool {
-    thread::scope(thread::scope_env(), rt, |scope| {
-        start_callers(scope, rt, desk, threads)
-    })
+>(rt: &R, desk: &Desk<'_, N, A>, callers: u64) -> bool {
+    run(rt, desk, 0, callers.saturating_add(1))
 }
 
 /// First the source, then the callers.
@@ -83,6 +69,6 @@ pub fn in_order<
     N: Session<A> + Send + Sync,
     A: Allocator + Copy + Send + Sync,
     R: Threads + Wait + Sync,
->(rt: &R, desk: &Desk<'_, N, A>, threads: u64) -> bool {
-    source_alone(rt, desk) && callers_alone(rt, desk, threads)
+>(rt: &R, desk: &Desk<'_, N, A>, callers: u64) -> bool {
+    run(rt, desk, 0, 1) && run(rt, desk, 1, callers.saturating_add(1))
 }

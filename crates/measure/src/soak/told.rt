@@ -36,7 +36,8 @@ fn put_notes<A: Allocator>(out: &mut Out, held: &Held<A>) {
     for note in &held.notes {
         out.item("", seat);
         out.put(" ");
-        out.note(*note);
+        out.debug(*note);
+        out.put("\n");
     }
     out.item("", seat);
     out.item(" pumped ", held.token.pumped());
@@ -50,11 +51,9 @@ pub fn put_callers<N: Session<A>, A: Allocator>(
     desk: &Desk<'_, N, A>,
     started: bool,
 ) {
-    out.put(if started {
-        "started true\n"
-    } else {
-        "started false\n"
-    });
+    out.put("started ");
+    out.debug(started);
+    out.put("\n");
     for held in &desk.tokens {
         put_notes(out, &held.lock(rt));
     }
@@ -65,7 +64,7 @@ fn put_entry<A: Allocator>(out: &mut Out, entry: &Entry<A>) {
     out.item("log ", entry.caller as u64);
     out.item(" ", entry.at);
     out.put(" ");
-    out.reply(&entry.reply);
+    out.debug(entry.reply);
     if let Call::SetRules(rules) = &entry.call {
         out.put(" ");
         out.rules(rules.list());
@@ -82,11 +81,8 @@ fn put_left<A: Allocator>(out: &mut Out, item: &Left<A>) {
 fn put_counts<A: Allocator + Copy>(out: &mut Out, recorder: &Recorder<A>) {
     out.item("recorder ", recorder.scans());
     out.item(" ", recorder.waiting() as u64);
-    out.put(if recorder.is_recording() {
-        " true"
-    } else {
-        " false"
-    });
+    out.put(" ");
+    out.debug(recorder.is_recording());
     out.item(" ", recorder.held());
     out.put("\nrules ");
     out.rules(recorder.rules().list());
@@ -95,7 +91,7 @@ fn put_counts<A: Allocator + Copy>(out: &mut Out, recorder: &Recorder<A>) {
 
 fn put_waiting<A: Allocator + Copy>(out: &mut Out, record: &Record<A>) {
     out.put("waits ");
-    out.extent(record.extent());
+    out.debug(record.extent());
     out.item(" ", record_sum(record));
     out.put("\n");
 }
