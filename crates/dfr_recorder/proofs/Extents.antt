@@ -9,7 +9,6 @@ use Rattle.dfr_recorder.specs.declared.record.Cause.{Cause}
 use Rattle.dfr_recorder.specs.declared.record.Cause.TheVariants as cause
 use Rattle.dfr_recorder.specs.declared.record.Extent.{Extent}
 use Rattle.dfr_recorder.specs.declared.marks.Newest.{Newest}
-use Rattle.dfr_recorder.specs.Steps as step
 use Rattle.dfr_recorder.specs.Parts.{RecordParts}
 use Rattle.dfr_recorder.specs.Marks.{mark, mark_if, first_scan}
 use Rattle.dfr_recorder.specs.History as history
