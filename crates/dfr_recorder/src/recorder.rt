@@ -193,6 +193,7 @@ impl<A: Allocator + Copy> Recorder<A> {
 
     /// Processes a scan as [`Recorder::scan`] does, and hands out the one that leaves the ring for it, if any: a thread that made
     /// it can give its memory back. `leaves` stays as it is where the scan is refused.
+    #[inline(always)] // for speed, as `accept` is
     pub fn scan_leaving(
         &mut self,
         scan: Scan<A>,
