@@ -1,7 +1,7 @@
 //! The one-thread recorder: small runs, worked out by hand. They show that the calls succeed, which no clause says, what the
 //! readers answer, and that a recorder holds no memory besides what contracts see. More runs, by script, are the cases of `dfr replay`.
 
-mod fixture;
+pub mod fixture;
 mod held;
 mod limits;
 mod memory;

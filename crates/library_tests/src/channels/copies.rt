@@ -1,30 +1,15 @@
 //! A copy is as its source, part by part.
 
 use super::setups::{layout_in, one_of, scan, setup, with};
-use crate::reader::same::{are_analogs, are_statuses};
+use crate::reader::same::is_same;
 use crate::writer::fixture::{analog, give_text, number, text};
 use crate::writer::texts::status_with;
 use dfr_channels::{AnalogChannel, Items, Layout, Reading, Scan, Side, StatusChannel};
 use std::alloc::Global;
 
-fn has_names(one: &Layout, other: &Layout) -> bool {
-    one.station() == other.station() && one.device() == other.device()
-}
-
-fn has_clock(one: &Layout, other: &Layout) -> bool {
-    one.rate() == other.rate()
-        && one.start() == other.start()
-        && one.line_freq() == other.line_freq()
-}
-
 /// Whether the layouts have one channel of each kind and are the same.
-fn is_layout(one: &Layout, other: &Layout) -> bool {
-    has_names(one, other)
-        && one.analog().len() == 1
-        && are_analogs(one.analog(), other.analog())
-        && one.status().len() == 1
-        && are_statuses(one.status(), other.status())
-        && has_clock(one, other)
+fn is_layout(alloc: Global, one: &Layout, other: &Layout) -> bool {
+    one.analog().len() == 1 && one.status().len() == 1 && is_same(alloc, one, other)
 }
 
 fn scale(channel: &mut AnalogChannel) {
@@ -62,10 +47,10 @@ fn layout(alloc: Global) -> Option<Layout> {
     layout_in(with(setup, one_of(alloc, labelled(alloc))))
 }
 
-fn is_copied(made: &Layout) -> bool {
+fn is_copied(alloc: Global, made: &Layout) -> bool {
     match made.try_clone() {
         Ok(copy) => {
-            let same = is_layout(made, &copy);
+            let same = is_layout(alloc, made, &copy);
             drop(copy);
             same
         }
@@ -73,10 +58,10 @@ fn is_copied(made: &Layout) -> bool {
     }
 }
 
-fn is_copied_layout(made: Option<Layout>) -> bool {
+fn is_copied_layout(alloc: Global, made: Option<Layout>) -> bool {
     match made {
         Some(made) => {
-            let copied = is_copied(&made);
+            let copied = is_copied(alloc, &made);
             drop(made);
             copied
         }
@@ -86,7 +71,7 @@ fn is_copied_layout(made: Option<Layout>) -> bool {
 
 #[test]
 fn copied_layout(rt: HostRuntime) {
-    assert!(rt; is_copied_layout(layout(rt.alloc())));
+    assert!(rt; is_copied_layout(rt.alloc(), layout(rt.alloc())));
 }
 
 fn is_scan_copied(made: &Scan, readings: &[Reading], bits: &[bool]) -> bool {

@@ -6,10 +6,10 @@ use comtrade_write::Head;
 use dfr_channels::{
     AnalogChannel, Items, Layout, Place, Reading, Scan, Setup, SetupFault, StatusChannel,
 };
-use std::alloc::Global;
+use std::alloc::{Allocator, Global};
 
 /// So many scans a second of these channels, from this instant on.
-pub fn setup_of(head: Head, rate: u32, start: i64) -> Setup {
+pub fn setup_of<A: Allocator>(head: Head<A>, rate: u32, start: i64) -> Setup<A> {
     Setup {
         station: head.station,
         device: head.device,

@@ -1,16 +1,13 @@
 //! Recorders of a bay, and the steps that they make.
 
-use crate::channels::setups::setup_of;
-use comtrade_read::read_cfg;
-use dfr_channels::{Layout, Reading, Rule, Rules, Scan};
-use dfr_recorder::{Limits, Recorder, Step};
+use crate::channels::setups;
+use crate::recorder::fixture::{ONE, layout_of, recorder_over};
+use dfr_channels::{Layout, Reading};
+use dfr_recorder::{Recorder, Step};
 use std::alloc::Global;
 use std::collections::VecDeque;
 
-/// Configuration files with the channels of a bay: one analogue channel, six of each kind, and one beside seventeen contacts.
-const ONE: &[u8] =
-    b"Bay 1,DFR,1999\n1,1A,0D\n1,IA,A,,A,1.5E-3,-.5,0.0,-32767,32767,1,1,P\n50\n1\n1,1\n01/01/1970,0:0:0\n01/01/1970,0:0:0\nASCII\n1";
-
+/// Configuration files with the channels of a bay: six of each kind, and one analogue channel beside seventeen contacts.
 pub const SIX: &[u8] =
     b"Bay 1,DFR,1999\n12,6A,6D\n1,IA,A,,A,1,0,0,-32767,32767,1,1,P\n2,IB,B,,A,1,0,0,-32767,32767,1,1,P\n3,IC,C,,A,1,0,0,-32767,32767,1,1,P\n4,UA,A,,V,1,0,0,-32767,32767,1,1,S\n5,UB,B,,V,1,0,0,-32767,32767,1,1,S\n6,UC,C,,V,1,0,0,-32767,32767,1,1,S\n1,TRIP,,CB 1,1\n2,TRIP,,CB 1,1\n3,TRIP,,CB 1,1\n4,TRIP,,CB 1,1\n5,TRIP,,CB 1,1\n6,TRIP,,CB 1,1\n50\n1\n1,1\n01/01/1970,0:0:0\n01/01/1970,0:0:0\nASCII\n1";
 
@@ -55,71 +52,15 @@ pub const FAST: Bay = Bay {
 };
 
 pub fn layout(alloc: Global, bay: Bay) -> Option<Layout> {
-    match read_cfg(alloc, bay.channels) {
-        Ok(head) => Layout::new(setup_of(head, bay.rate, bay.start)).ok(),
-        Err(_) => None,
-    }
-}
-
-fn level(alloc: Global, layout: &Layout) -> Option<Rules> {
-    let level = Rule::Level {
-        channel: 0,
-        over: true,
-        threshold: 100,
-    };
-    match Vec::from_slice(alloc, &[level]) {
-        Ok(list) => Rules::new(layout, list).ok(),
-        Err(_) => None,
-    }
-}
-
-fn rules(alloc: Global, layout: &Layout, at_100: bool) -> Option<Rules> {
-    if at_100 {
-        return level(alloc, layout);
-    }
-    Rules::new(layout, Vec::new(alloc)).ok()
-}
-
-fn begin(alloc: Global, layout: Layout, limits: Limits, rules: Rules) -> Option<Recorder> {
-    if limits.fits(&layout) && rules.fits(&layout) {
-        return Recorder::new(alloc, layout, limits, rules).ok();
-    }
-    drop(layout);
-    drop(rules);
-    None
-}
-
-fn begin_under(alloc: Global, layout: Layout, limits: Limits, at_100: bool) -> Option<Recorder> {
-    match rules(alloc, &layout, at_100) {
-        Some(rules) => begin(alloc, layout, limits, rules),
-        None => {
-            drop(layout);
-            None
-        }
-    }
-}
-
-fn limits(layout: &Layout, (pre, post, longest, shelf): (u32, u32, u32, u32)) -> Option<Limits> {
-    Limits::new(layout, pre, post, longest, shelf).ok()
+    layout_of(alloc, bay.channels, bay.rate, bay.start)
 }
 
 pub fn recorder(alloc: Global, bay: Bay) -> Option<Recorder> {
-    let layout = layout(alloc, bay)?;
-    match limits(&layout, bay.limits) {
-        Some(limits) => begin_under(alloc, layout, limits, bay.at_100),
-        None => {
-            drop(layout);
-            None
-        }
-    }
+    recorder_over(alloc, layout(alloc, bay)?, bay.limits, bay.at_100)
 }
 
 fn scan(alloc: Global, readings: &[Reading], bits: &[bool]) -> Option<Step> {
-    let readings = Vec::from_slice(alloc, readings).ok()?;
-    match Vec::from_slice(alloc, bits) {
-        Ok(bits) => Some(Step::Scan(Scan::new(readings, bits))),
-        Err(_) => None,
-    }
+    Some(Step::Scan(setups::scan(alloc, readings, bits)?))
 }
 
 fn six(alloc: Global) -> Option<Step> {

@@ -3,7 +3,7 @@
 ghost use Rattle.std.specs.Prelude.{◌+◌, ◌<◌, length, IfSome};
 
 use super::CFG;
-use super::same::is_same_head;
+use super::same::is_same;
 use comtrade_read::{ReadFault, read_cfg, read_dat};
 use comtrade_write::Head;
 use dfr_channels::Items;
@@ -41,7 +41,7 @@ fn fault_without_rates(alloc: Global, dat: &[u8], head: &Head) -> Option<ReadFau
             None
         }
         Err((fault, back)) => {
-            let same = is_same_head(&back, head);
+            let same = is_same(alloc, &back, head);
             drop(back);
             same.then_some(fault)
         }

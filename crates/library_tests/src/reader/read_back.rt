@@ -15,7 +15,7 @@ use std::collections::VecDeque;
 fn is_read(alloc: Global, cfg: &[u8], dat: &[u8], file: &File) -> bool {
     match read(alloc, cfg, dat) {
         Ok(again) => {
-            let same = is_same(&again, file);
+            let same = is_same(alloc, &again, file);
             drop(again);
             same
         }

@@ -1,11 +1,14 @@
-//! A recorder of one analogue channel, and what it is given.
+//! Recorders over the channels of a text, and what they are given.
 
-use crate::writer::fixture::number;
-use dfr_channels::{
-    AnalogChannel, Items, Layout, Reading, Rule, Rules, Scan, Setup, Side, StatusChannel,
-};
+use crate::channels::setups::setup_of;
+use comtrade_read::read_cfg;
+use dfr_channels::{Layout, Reading, Rule, Rules, Scan};
 use dfr_recorder::{Limits, Recorder};
 use std::alloc::Allocator;
+
+/// A configuration file of one analogue channel.
+pub const ONE: &[u8] =
+    b"Bay 1,DFR,1999\n1,1A,0D\n1,IA,A,,A,1.5E-3,-.5,0.0,-32767,32767,1,1,P\n50\n1\n1,1\n01/01/1970,0:0:0\n01/01/1970,0:0:0\nASCII\n1";
 
 /// A list of one item.
 pub fn one<T: Drop, A: Allocator + Copy>(alloc: A, item: T) -> Option<Vec<T, A>> {
@@ -16,72 +19,22 @@ pub fn one<T: Drop, A: Allocator + Copy>(alloc: A, item: T) -> Option<Vec<T, A>>
     None
 }
 
-pub fn blank<A: Allocator>(alloc: A) -> Items<u8, A> {
-    Items::of(Vec::new(alloc))
-}
-
-fn analog<A: Allocator + Copy>(alloc: A) -> Option<AnalogChannel<A>> {
-    let one = number(1);
-    let unit = Vec::from_slice(alloc, b"A").ok()?;
-    Some(AnalogChannel {
-        id: blank(alloc),
-        phase: blank(alloc),
-        component: blank(alloc),
-        unit: Items::of(unit),
-        a: one,
-        b: one,
-        skew: one,
-        min: -32_767,
-        max: 32_767,
-        primary: one,
-        secondary: one,
-        side: Side::Primary,
-    })
-}
-
-type Analogs<A> = Vec<AnalogChannel<A>, A>;
-
-type Statuses<A> = Vec<StatusChannel<A>, A>;
-
-fn analogs<A: Allocator + Copy>(alloc: A) -> Option<Analogs<A>> {
-    one(alloc, analog(alloc)?)
-}
-
-/// These channels, from 1970 on.
-fn setup_of<A: Allocator + Copy>(
+/// The channels of a configuration file, at so many scans a second from this instant on.
+pub fn layout_of<A: Allocator + Copy>(
     alloc: A,
+    channels: &[u8],
     rate: u32,
-    analog: Analogs<A>,
-    status: Statuses<A>,
-) -> Setup<A> {
-    Setup {
-        station: blank(alloc),
-        device: blank(alloc),
-        analog: Items::of(analog),
-        status: Items::of(status),
-        line_freq: number(50),
-        rate,
-        start: 0,
-    }
-}
-
-/// One analogue channel and these status channels.
-pub fn layout_with<A: Allocator + Copy>(
-    alloc: A,
-    rate: u32,
-    status: Statuses<A>,
+    start: i64,
 ) -> Option<Layout<A>> {
-    match analogs(alloc) {
-        Some(analog) => Layout::new(setup_of(alloc, rate, analog, status)).ok(),
-        None => {
-            drop(status);
-            None
-        }
+    match read_cfg(alloc, channels) {
+        Ok(head) => Layout::new(setup_of(head, rate, start)).ok(),
+        Err(_) => None,
     }
 }
 
+/// The one channel from 1970 on.
 pub fn layout<A: Allocator + Copy>(alloc: A, rate: u32) -> Option<Layout<A>> {
-    layout_with(alloc, rate, Vec::new(alloc))
+    layout_of(alloc, ONE, rate, 0)
 }
 
 /// A scan of that one channel.
@@ -90,22 +43,26 @@ pub fn value<A: Allocator + Copy>(alloc: A, x: i32) -> Option<Scan<A>> {
     Some(Scan::new(analog, Vec::new(alloc)))
 }
 
-/// 2 scans before a trigger, 2 after it and 6 at most.
-fn limits<A: Allocator>(layout: &Layout<A>, shelf: u32) -> Option<Limits> {
-    Limits::new(layout, 2, 2, 6, shelf).ok()
+fn limits<A: Allocator>(
+    layout: &Layout<A>,
+    (pre, post, longest, shelf): (u32, u32, u32, u32),
+) -> Option<Limits> {
+    Limits::new(layout, pre, post, longest, shelf).ok()
 }
 
-fn no_rules<A: Allocator + Copy>(alloc: A, layout: &Layout<A>) -> Option<Rules<A>> {
-    Rules::new(layout, Vec::new(alloc)).ok()
-}
+const OVER_100: Rule = Rule::Level {
+    channel: 0,
+    over: true,
+    threshold: 100,
+};
 
-fn over_100<A: Allocator + Copy>(alloc: A, layout: &Layout<A>) -> Option<Rules<A>> {
-    let level = Rule::Level {
-        channel: 0,
-        over: true,
-        threshold: 100,
+fn rules<A: Allocator + Copy>(alloc: A, layout: &Layout<A>, at_100: bool) -> Option<Rules<A>> {
+    let list = if at_100 {
+        one(alloc, OVER_100)?
+    } else {
+        Vec::new(alloc)
     };
-    Rules::new(layout, one(alloc, level)?).ok()
+    Rules::new(layout, list).ok()
 }
 
 fn joined<A: Allocator + Copy>(
@@ -126,8 +83,9 @@ fn recorder_under<A: Allocator + Copy>(
     alloc: A,
     layout: Layout<A>,
     limits: Limits,
+    at_100: bool,
 ) -> Option<Recorder<A>> {
-    match no_rules(alloc, &layout) {
+    match rules(alloc, &layout, at_100) {
         Some(rules) => joined(alloc, layout, limits, rules),
         None => {
             drop(layout);
@@ -136,13 +94,15 @@ fn recorder_under<A: Allocator + Copy>(
     }
 }
 
-fn recorder_over<A: Allocator + Copy>(
+/// A recorder with these limits, and with a rule that fires from 100 on where there is to be one.
+pub fn recorder_over<A: Allocator + Copy>(
     alloc: A,
     layout: Layout<A>,
-    shelf: u32,
+    numbers: (u32, u32, u32, u32),
+    at_100: bool,
 ) -> Option<Recorder<A>> {
-    match limits(&layout, shelf) {
-        Some(limits) => recorder_under(alloc, layout, limits),
+    match limits(&layout, numbers) {
+        Some(limits) => recorder_under(alloc, layout, limits, at_100),
         None => {
             drop(layout);
             None
@@ -150,13 +110,13 @@ fn recorder_over<A: Allocator + Copy>(
     }
 }
 
-/// A recorder at a thousand scans a second, without rules.
+/// A recorder at a thousand scans a second, without rules: 2 scans before a trigger, 2 after it and 6 at most.
 pub fn recorder<A: Allocator + Copy>(alloc: A, shelf: u32) -> Option<Recorder<A>> {
-    recorder_over(alloc, layout(alloc, 1000)?, shelf)
+    recorder_over(alloc, layout(alloc, 1000)?, (2, 2, 6, shelf), false)
 }
 
 fn fires_at_100<A: Allocator + Copy>(alloc: A, recorder: &mut Recorder<A>) -> bool {
-    match over_100(alloc, recorder.layout()) {
+    match rules(alloc, recorder.layout(), true) {
         Some(rules) => recorder.set_rules(rules).is_ok(),
         None => false,
     }

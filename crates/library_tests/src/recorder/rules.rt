@@ -1,23 +1,10 @@
 //! Rules that don't fit.
 
-use super::fixture::{blank, layout_with, one, recorder_at_100};
-use dfr_channels::{Layout, Rule, Rules, StatusChannel};
+use super::fixture::{layout_of, one, recorder_at_100};
+use crate::reader::bay::CONTACTS;
+use dfr_channels::{Layout, Rule, Rules};
 use dfr_recorder::Recorder;
 use std::alloc::Global;
-
-fn trip(alloc: Global) -> StatusChannel {
-    StatusChannel {
-        id: blank(alloc),
-        phase: blank(alloc),
-        component: blank(alloc),
-        normal: false,
-    }
-}
-
-/// A layout of one channel of each kind.
-fn with_status(alloc: Global) -> Option<Layout> {
-    layout_with(alloc, 1000, one(alloc, trip(alloc))?)
-}
 
 const RISE: Rule = Rule::Edge {
     channel: 0,
@@ -28,8 +15,9 @@ fn edges_over(alloc: Global, layout: &Layout) -> Option<Rules> {
     Rules::new(layout, one(alloc, RISE)?).ok()
 }
 
+/// Over a layout that has a contact.
 fn edges(alloc: Global) -> Option<Rules> {
-    let layout = with_status(alloc)?;
+    let layout = layout_of(alloc, CONTACTS, 1000, 0)?;
     let edges = edges_over(alloc, &layout);
     drop(layout);
     edges
