@@ -1,10 +1,10 @@
 //! How a recorder takes in a scan that isn't refused.
 
+use crate::Scanned;
 use crate::marks::{mark_if, scanned};
 use crate::open_record::{grow, met_by, shelve};
 use crate::recorder::Recorder;
 use crate::ring::keep;
-use crate::Scanned;
 use dfr_channels::Scan;
 use std::alloc::Allocator;
 
