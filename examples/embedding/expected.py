@@ -34,7 +34,7 @@ def rates():
 
 
 def plain():
-    """3 and 1 channels in BINARY, as crates/example_peaks has them."""
+    """3 and 1 channels in BINARY, as crates/examples/data has them."""
     head = ["Northfield 110 kV,Example,1999", "4,3A,1D"]
     for n, (name, phase, unit, a, b) in enumerate([("UA", "A", "kV", "0.01", "0.5"), ("IA", "A", "A", "-0.25", "0"), ("IB", "B", "A", "0.1", "0")], 1):
         head.append(f"{n},{name},{phase},Line 3,{unit},{a},{b},0,-32767,32767,1,1,P")

@@ -1,19 +1,16 @@
 //! Prints the least and the greatest value of each analogue channel of a pair of COMTRADE files: an example of a program over
 //! `comtrade_read` and `comtrade_values`.
-//!
-//!     example_peaks CFG DAT
-#![tactic(auto)]
 
 mod span;
 
-use crate::span::span_of;
+use crate::peaks::span::span_of;
 use anyhow::{Context, Result, anyhow};
 use comtrade_format::{File, Row};
 use comtrade_read::read;
 use comtrade_values::{civil_of, scale_of};
 use dfr_channels::AnalogChannel;
 use std::rt::Files;
-use std::{env, fs};
+use std::fs;
 
 /// Reads both files. A pair that isn't valid has a first fault, and the part of the pair that has it.
 fn file_in<R: Files + AllocGlobal>(rt: &R, cfg: &str, dat: &str) -> Result<File> {
@@ -60,20 +57,12 @@ fn print_peaks<R: Print + AllocGlobal>(
 }
 
 /// The first instant, and a line for each analogue channel.
-fn print_all<R: Print + AllocGlobal>(rt: &R, file: &File) -> Result<()> {
-    print_first(rt, file)?;
+pub fn print<R: Files + Print + AllocGlobal>(rt: &R, cfg: &str, dat: &str) -> Result<()> {
+    let file = file_in(rt, cfg, dat)?;
+    print_first(rt, &file)?;
     let rows = file.rows.items();
     for (number, channel) in file.head.analog.items().iter().enumerate() {
         print_peaks(rt, rows, number, channel)?;
     }
     Ok(())
-}
-
-fn main(rt: HostRuntime) -> Result<()> {
-    let mut words = env::args(&rt)?.skip(1);
-    let (Some(cfg), Some(dat)) = (words.next(), words.next()) else {
-        return Err(anyhow!("wanted is: example_peaks CFG DAT"));
-    };
-    let file = file_in(&rt, cfg.as_str(), dat.as_str())?;
-    print_all(&rt, &file)
 }

@@ -1,5 +1,4 @@
 //! A recorder of one's own in three threads: one samples a line, one triggers, one takes the records. Prints both files of each record.
-#![tactic(auto)]
 
 use anyhow::{Context, Result};
 use comtrade_read::read_cfg;
@@ -96,7 +95,8 @@ fn recorder(alloc: Global, layout: Layout) -> Result<Recorder> {
         .context("out of memory")
 }
 
-fn main(rt: HostRuntime) -> Result<()> {
+/// Runs it until no scan comes any more, and prints what it kept.
+pub fn record<R: Threads + Wait + Print + AllocGlobal + Sync>(rt: &R) -> Result<()> {
     let alloc = rt.alloc();
     let recorder = recorder(alloc, layout(read_cfg(alloc, CHANNELS)?)?)?;
     let mut feed = Line { alloc, next: 0 };
@@ -106,7 +106,7 @@ fn main(rt: HostRuntime) -> Result<()> {
     };
     let (lane, turns) = (64, 1_000_000_000); // places for scans; looks in a row at which a thread may find nothing
     run_live(
-        &rt,
+        rt,
         alloc,
         recorder,
         lane,
@@ -116,7 +116,7 @@ fn main(rt: HostRuntime) -> Result<()> {
         &mut orders,
         &mut sink,
     )?;
-    let mut out = io::writer(&rt);
+    let mut out = io::writer(rt);
     out.write_all(&sink.files)?;
     Ok(out.flush()?)
 }

@@ -7,8 +7,8 @@ use Rattle.std.proofs.lemmas.Int.{ints, clamps}
 use Rattle.std.proofs.lemmas.List.{take_more, get_or_at, get_or_append_left, append-nil}
 use Rattle.std.proofs.lemmas.List.Elements.{All-push, All-weaker, filter_map-append}
 use Rattle.comtrade_format.specs.Parts.{RowParts}
-use Rattle.example_peaks.specs.declared.span.Span.{Span}
-use Rattle.example_peaks.specs.Samples.{sample, samples, IsSpan, Spans}
+use Rattle.examples.specs.declared.peaks.span.Span.{Span}
+use Rattle.examples.specs.Samples.{sample, samples, IsSpan, Spans}
 
 min_is : (a b : ℤ) → (int_min a b ≡ a) ⊎ (int_min a b ≡ b)
 min_is a b = elim (int_lt b a) as (λ v. (cond v b a ≡ a) ⊎ (cond v b a ≡ b)) [ true ↦ inr refl | false ↦ inl refl ]

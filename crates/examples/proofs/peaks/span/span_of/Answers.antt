@@ -2,11 +2,11 @@ use Rattle.std.proofs.Common.{◌≡◌, ◌+◌, ℤ, FitsSigned, to_z, of_z, w
 use Rattle.std.specs.Prelude.{unwrap_or}
 use Rattle.std.specs.Int.{int_min, int_max}
 use Rattle.std.proofs.lemmas.Int.{to_z-of_z}
-use Rattle.example_peaks.specs.declared.span.Span.{Span}
-use Rattle.example_peaks.specs.Samples.{sample, samples, IsSpan, Spans}
-use Rattle.example_peaks.proofs.Spanned.{spans_more, some_more, none_more}
-use Rattle.example_peaks.proofs.span.span_of.Goals as goal
-use Rattle.example_peaks.proofs.span.span_of.Goals.{in-Some, in_default}
+use Rattle.examples.specs.declared.peaks.span.Span.{Span}
+use Rattle.examples.specs.Samples.{sample, samples, IsSpan, Spans}
+use Rattle.examples.proofs.Spanned.{spans_more, some_more, none_more}
+use Rattle.examples.proofs.peaks.span.span_of.Goals as goal
+use Rattle.examples.proofs.peaks.span.span_of.Goals.{in-Some, in_default}
 
 pub loop-row-preserved : goal.loop-row-preserved
 loop-row-preserved c =

@@ -2,7 +2,7 @@
 
 ghost use Rattle.std.specs.Prelude.{◌≡◌};
 ghost use Rattle.std.specs.Int.{int_min, int_max};
-ghost use Rattle.example_peaks.specs.Samples as Samples;
+ghost use Rattle.examples.specs.Samples as Samples;
 
 use comtrade_format::Row;
 use dfr_channels::Reading;

@@ -4,7 +4,7 @@ use Rattle.std.specs.List.{All, Contains, filter_map}
 use Rattle.dfr_channels.specs.declared.scan.Reading.{Reading}
 use Rattle.dfr_channels.specs.declared.scan.Reading.TheVariants.{Value, Missing}
 use Rattle.comtrade_format.specs.Parts.{RowParts}
-use Rattle.example_peaks.specs.declared.span.Span.{Span}
+use Rattle.examples.specs.declared.peaks.span.Span.{Span}
 
 abbrev pub sample_in : Option Reading → Option ℤ
 sample_in (Some (Value x)) = Some x

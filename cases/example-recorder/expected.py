@@ -1,5 +1,5 @@
 #!/usr/bin/env python3
-"""Makes stdout by the layout of C37.111-1999, without the program: ./expected.py in this folder."""
+"""Makes out by the layout of C37.111-1999, without the program: ./expected.py in this folder."""
 import datetime
 
 START = datetime.datetime(2024, 7, 1, 10, 30)
@@ -21,5 +21,5 @@ def files(first, trigger, last):
 
 
 # 5 scans before the trigger; 10 after the last scan at which the rule holds; an order after 80 scans triggers at scan 79
-with open("stdout", "w", newline="") as out:
+with open("out", "w", newline="") as out:
     out.write(files(30 - 5, 30, 39 + 10) + files(79 - 5, 79, 79 + 10))
