@@ -21,9 +21,10 @@ use crate::survey::run_survey;
 use crate::view::view_over;
 use crate::words::{refuse_start, refuse_words, words_of};
 use crate::write::run_convert;
-use comtrade_cli::{Answer, answer_of};
 use comtrade_diagnostics::{Pair, put_single};
-use comtrade_io::{Asked, ToolFault, View, Viewed, fault_of, put_safe, read_up_to, write_out};
+use comtrade_io::{
+    Answer, Asked, ToolFault, View, Viewed, answer_of, fault_of, put_safe, read_up_to, write_out,
+};
 use comtrade_read::{read_cfg, verdict_of};
 use std::fs::File;
 use std::io::IsTerminal;

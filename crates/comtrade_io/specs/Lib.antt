@@ -4,3 +4,5 @@ pub mod Written
 pub mod Replayed
 pub mod Pieces
 pub mod Verbs
+pub mod Commands
+pub mod Asking

@@ -1,7 +1,8 @@
-//! What the tools over COMTRADE files share: what their words can ask for, and what they read and print: bytes up to a limit, texts of a file
-//! as printable characters alone, the records that a replay printed, and why a tool stopped.
+//! What the tools over COMTRADE files share: the command line, and what they read and print: bytes up to a limit, texts of a file as
+//! printable characters alone, the records that a replay printed, and why a tool stopped.
 #![tactic(auto)]
 
+mod command_line;
 mod fault;
 mod input;
 mod output;
@@ -10,6 +11,7 @@ mod seen;
 mod text;
 mod words;
 
+pub use command_line::{Answer, answer_of};
 pub use fault::{ToolFault, fault_of};
 pub use input::read_up_to;
 pub use output::{flush_if_full, write_out};

@@ -9,8 +9,8 @@ use comtrade_format::{File, Row};
 use comtrade_read::read;
 use comtrade_values::{civil_of, scale_of};
 use dfr_channels::AnalogChannel;
-use std::rt::Files;
 use std::fs;
+use std::rt::Files;
 
 /// Reads both files. A pair that isn't valid has a first fault, and the part of the pair that has it.
 fn file_in<R: Files + AllocGlobal>(rt: &R, cfg: &str, dat: &str) -> Result<File> {

@@ -1,4 +1,0 @@
-use Rattle.comtrade_cli.proofs.commands.check.Goals as goal
-
-pub returns : goal.returns
-returns c = c.with_json.ensures _ c.in_ok-pair.ensures

@@ -1,4 +1,0 @@
-use Rattle.comtrade_cli.proofs.commands.page.Goals as goal
-
-pub returns : goal.returns
-returns c = c.with_part.ensures _ c.in_ok-pair.ensures

@@ -1,4 +1,0 @@
-use Rattle.comtrade_cli.proofs.options.with_json.Goals as goal
-
-pub returns : goal.returns
-returns c = λ a is_command. c.with.ensures a _ is_command c.flag.ensures.rule c.flag.ensures.local

@@ -1,8 +1,0 @@
-use Rattle.comtrade_cli.proofs.options.with_picture.Goals as goal
-
-pub returns : goal.returns
-returns c = λ a is_command.
-    let one = c.in_ok-one.ensures a _ is_command c.flag.ensures.rule c.flag.ensures.local in
-    let two = c.in_ok-two.ensures _ _ one c.flag-2.ensures.rule c.flag-2.ensures.local in
-    let three = c.in_ok-three.ensures _ _ two c.option.ensures.rule c.option.ensures.local in
-    c.with-4.ensures _ _ three c.option-2.ensures.rule c.option-2.ensures.local

@@ -1,0 +1,217 @@
+//! What words ask for.
+
+ghost use Rattle.std.specs.Prelude.{◌≡◌, IfOk, MatchOption, codes, map};
+ghost use Rattle.clap.specs.Words.{found_of, kind_of, rows_of, subcommand_rows_of};
+ghost use Rattle.comtrade_io.specs.Asking.{AnswersTo, Asks, AsksAs, Does, FitsNothing, Tells};
+ghost use Rattle.comtrade_io.specs.Asking as Spec;
+ghost use Rattle.comtrade_io.specs.Verbs as verbs;
+
+use crate::command_line::commands::comtrade;
+use crate::command_line::matched::{
+    cursor_of, form_of, is_set, kind_of, named, names_of, part_of, picture_of, text_of, texts_of,
+};
+use crate::words::{
+    Asked, Compared, Converted, Survey, View, Viewed, new_names, survey_of, view_of,
+};
+use clap::error::ErrorKind;
+use clap::{ArgMatches, Error};
+use std::alloc::{AllocError, Global};
+
+/// What is to be done with words.
+#[derive(Debug, Drop)]
+pub enum Answer<'a> {
+    /// What they ask for.
+    Do(Asked<'a>),
+    /// A text that they ask for: help or the version.
+    Print(String),
+    /// Why they ask for nothing, as text of whole lines, with the words as they came.
+    Refuse(String),
+}
+
+/// A pair, and what is printed of it.
+#[tactic(auto, using(crate::proofs::MetCommands::no_view))]
+fn viewed_of<'a>(view: View, found: &ArgMatches<'a>) -> Option<Asked<'a>>
+    ensures { MatchOption result (FitsNothing (Asks (rows_of (found_of found.now)) (verbs.view_name view)))
+        (Asks (rows_of (found_of found.now)) (verbs.view_name view)) }
+{
+    let names = names_of(found)?;
+    Some(Asked::View(
+        view,
+        Viewed {
+            names,
+            part: part_of(found),
+            form: form_of(found),
+            picture: picture_of(found),
+            cursor: cursor_of(found),
+            json: is_set(found, "json"),
+        },
+    ))
+}
+
+/// What the last word names, and a pair: with three names the second is the data file's.
+fn converted_of<'a>(found: &ArgMatches<'a>) -> Option<Converted<'a>>
+    ensures { MatchOption result ((made : Converted) → Spec.IsConverted (rows_of (found_of found.now)) made → ⊥)
+        (Spec.IsConverted (rows_of (found_of found.now))) }
+{
+    let file = text_of(found, "FILE")?;
+    let second = text_of(found, "NAME")?;
+    let (dat, name) = new_names(second, text_of(found, "LAST"));
+    Some(Converted {
+        names: named(file, dat)?,
+        kind: kind_of(found),
+        part: part_of(found),
+        name,
+    })
+}
+
+/// A pair, and the pair that is written.
+#[tactic(auto, using(crate::proofs::MetCommands::no_convert))]
+fn convert_of<'a>(found: &ArgMatches<'a>) -> Option<Asked<'a>>
+    ensures { MatchOption result (FitsNothing (Asks (rows_of (found_of found.now)) (codes "convert")))
+        (Asks (rows_of (found_of found.now)) (codes "convert")) }
+{
+    match converted_of(found) {
+        Some(made) => Some(Asked::Convert(made)),
+        None => None,
+    }
+}
+
+/// The names of two records, and how they are compared.
+fn compared_of<'a>(found: &ArgMatches<'a>) -> Option<Compared<'a>>
+    ensures { MatchOption result ((made : Compared) → Spec.IsCompared (rows_of (found_of found.now)) made → ⊥)
+        (Spec.IsCompared (rows_of (found_of found.now))) }
+{
+    Some(Compared {
+        one: text_of(found, "A")?,
+        other: text_of(found, "B")?,
+        by: text_of(found, "by"),
+        part: part_of(found),
+        picture: picture_of(found),
+    })
+}
+
+/// Two records.
+#[tactic(auto, using(crate::proofs::MetCommands::no_compare))]
+fn compare_of<'a>(found: &ArgMatches<'a>) -> Option<Asked<'a>>
+    ensures { MatchOption result (FitsNothing (Asks (rows_of (found_of found.now)) (codes "compare")))
+        (Asks (rows_of (found_of found.now)) (codes "compare")) }
+{
+    match compared_of(found) {
+        Some(made) => Some(Asked::Compare(made)),
+        None => None,
+    }
+}
+
+/// The folder of an extract.
+#[tactic(auto, using(crate::proofs::MetCommands::no_extract))]
+fn extract_of<'a>(found: &ArgMatches<'a>) -> Option<Asked<'a>>
+    ensures { MatchOption result (FitsNothing (Asks (rows_of (found_of found.now)) (codes "extract")))
+        (Asks (rows_of (found_of found.now)) (codes "extract")) }
+{
+    match text_of(found, "DIR") {
+        Some(folder) => Some(Asked::Extract(folder)),
+        None => None,
+    }
+}
+
+/// Folders and files.
+fn surveyed_of<'a>(
+    alloc: Global,
+    survey: Survey,
+    found: &ArgMatches<'a>,
+) -> Result<Asked<'a>, AllocError>
+    ensures { IfOk result (Asks (rows_of (found_of found.now)) (verbs.survey_name survey)) }
+{
+    let names = texts_of(alloc, found, "NAMES")?;
+    Ok(Asked::Survey(
+        survey,
+        is_set(found, "json"),
+        text_of(found, "encoding"),
+        names,
+    ))
+}
+
+/// What a command's matches ask for.
+#[tactic(auto, using(crate::proofs::MetCommands::no_command))]
+fn asked_of<'a>(
+    alloc: Global,
+    verb: &str,
+    found: &ArgMatches<'a>,
+) -> Result<Option<Asked<'a>>, AllocError>
+    ensures { IfOk result (λ asked. MatchOption asked (FitsNothing (Asks (rows_of (found_of found.now)) verb.now))
+        (Asks (rows_of (found_of found.now)) verb.now)) }
+{
+    if verb == "extract" {
+        return Ok(extract_of(found));
+    }
+    if verb == "convert" {
+        return Ok(convert_of(found));
+    }
+    if verb == "compare" {
+        return Ok(compare_of(found));
+    }
+    if let Some(view) = view_of(verb) {
+        return Ok(viewed_of(view, found));
+    }
+    match survey_of(verb) {
+        Some(survey) => Ok(Some(surveyed_of(alloc, survey, found)?)),
+        None => Ok(None),
+    }
+}
+
+/// What matches ask for; none where a pair isn't named by its words.
+#[tactic(auto, using(crate::proofs::MetCommands::asks_met))]
+fn asked_in<'a>(alloc: Global, matches: &ArgMatches<'a>) -> Result<Option<Asked<'a>>, AllocError>
+    ensures { IfOk result (λ asked. MatchOption asked (FitsNothing (AsksAs (subcommand_rows_of matches.now))) (AsksAs (subcommand_rows_of matches.now))) }
+{
+    match matches.subcommand() {
+        Some((verb, found)) => asked_of(alloc, verb, found),
+        None => Ok(None),
+    }
+}
+
+/// What is to be done with matches: all that the parse lets through are asked for, but for a pair whose words don't name it.
+fn answer_to<'a>(alloc: Global, matches: &ArgMatches<'a>) -> Result<Answer<'a>, AllocError>
+    ensures { IfOk result (Does (subcommand_rows_of matches.now)) }
+{
+    match asked_in(alloc, matches)? {
+        Some(asked) => Ok(Answer::Do(asked)),
+        None => Ok(Answer::Refuse(String::from_str(
+            alloc,
+            "error: only one of both files can be -, standard input, and the other has to be named\n",
+        )?)),
+    }
+}
+
+/// Help and the version are texts that words ask for.
+fn is_text(kind: ErrorKind) -> bool
+    ensures { result ≡ Spec.is_text kind }
+{
+    matches!(kind, ErrorKind::DisplayHelp | ErrorKind::DisplayVersion)
+}
+
+/// The text of a parse that found nothing to do: help or the version, else why. A parse that ran out of memory has none.
+fn told<'a>(alloc: Global, error: &Error) -> Result<Answer<'a>, AllocError>
+    ensures { IfOk result (Tells (kind_of error.now)) }
+{
+    let kind = error.kind();
+    if let ErrorKind::OutOfMemory = kind {
+        return Err(AllocError);
+    }
+    let text = format!(in alloc; "{error}")?;
+    if is_text(kind) {
+        Ok(Answer::Print(text))
+    } else {
+        Ok(Answer::Refuse(text))
+    }
+}
+
+/// What is to be done with the words after the program's name: what they ask for, if they ask for anything.
+pub fn answer_of<'a>(alloc: Global, words: &'a [&'a str]) -> Result<Answer<'a>, AllocError>
+    ensures { IfOk result (AnswersTo (map (λ s. s.now) words.entry.now)) }
+{
+    match comtrade(alloc)?.try_get_matches_from(words) {
+        Ok(matches) => answer_to(alloc, &matches),
+        Err(error) => told(alloc, &error),
+    }
+}
