@@ -42,47 +42,75 @@ fn long_of(reading: Reading) -> i32 {
 }
 
 /// A channel's samples as little-endian integers of 16 bits, or of 32 bits.
-pub(crate) fn samples_of<A: Allocator + Copy>(
-    alloc: A,
-    rows: &[Row<A>],
-    channel: usize,
-    is_wide: bool,
-) -> Result<Vec<u8, A>, AllocError> {
-    let mut bytes = Vec::new(alloc);
-    for row in rows {
-        let reading = reading_at(row, channel);
-        if is_wide {
-            bytes.extend_from_slice(&long_of(reading).to_le_bytes())?;
-        } else {
-            bytes.extend_from_slice(&short_of(reading).to_le_bytes())?;
-        }
-    }
-    Ok(bytes)
+#[derive(Drop)]
+pub(crate) struct Samples<A: Allocator> {
+    pub(crate) bytes: Vec<u8, A>,
+    pub(crate) is_wide: bool,
 }
 
-/// A contact's bits, eight in a byte, the first one lowest.
-pub(crate) fn bits_of<A: Allocator + Copy>(
-    alloc: A,
+impl<A: Allocator> Samples<A> {
+    fn add(&mut self, reading: Reading) -> Result<(), AllocError> {
+        if self.is_wide {
+            self.bytes
+                .extend_from_slice(&long_of(reading).to_le_bytes())
+        } else {
+            self.bytes
+                .extend_from_slice(&short_of(reading).to_le_bytes())
+        }
+    }
+}
+
+/// Adds the samples of channels that follow each other, from this one on, by one look over the rows.
+pub(crate) fn gather_samples<A: Allocator>(
+    channels: &mut [Samples<A>],
     rows: &[Row<A>],
-    channel: usize,
-) -> Result<Vec<u8, A>, AllocError> {
-    let mut bytes = Vec::new(alloc);
-    let mut byte = 0u8;
+    first: usize,
+) -> Result<(), AllocError> {
+    for row in rows {
+        for (i, channel) in channels.iter_mut().enumerate() {
+            channel.add(reading_at(row, first.saturating_add(i)))?;
+        }
+    }
+    Ok(())
+}
+
+/// A contact's bits, eight in a byte, the first one lowest, and those of the byte that isn't full yet.
+#[derive(Drop)]
+pub(crate) struct Bits<A: Allocator> {
+    pub(crate) bytes: Vec<u8, A>,
+    pub(crate) byte: u8,
+}
+
+/// Ends the byte of each contact.
+fn end_bytes<A: Allocator>(contacts: &mut [Bits<A>]) -> Result<(), AllocError> {
+    for contact in contacts.iter_mut() {
+        contact.bytes.push(contact.byte)?;
+        contact.byte = 0;
+    }
+    Ok(())
+}
+
+/// Adds the bits of contacts that follow each other, from this one on, by one look over the rows.
+pub(crate) fn gather_bits<A: Allocator>(
+    contacts: &mut [Bits<A>],
+    rows: &[Row<A>],
+    first: usize,
+) -> Result<(), AllocError> {
     let mut mask = 1u8;
     for row in rows {
-        if bit_at(row, channel) {
-            byte |= mask;
+        for (i, contact) in contacts.iter_mut().enumerate() {
+            if bit_at(row, first.saturating_add(i)) {
+                contact.byte |= mask;
+            }
         }
         if mask == 128 {
-            bytes.push(byte)?;
-            byte = 0;
+            end_bytes(contacts)?;
             mask = 1;
         } else {
             mask = mask.saturating_mul(2);
         }
     }
-    bytes.push(byte)?;
-    Ok(bytes)
+    end_bytes(contacts)
 }
 
 /// When rows were taken, as little-endian doubles; a row without a time, or with one that goes back, has the one before it.

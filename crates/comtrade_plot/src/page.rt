@@ -1,6 +1,6 @@
 //! A page that shows a record in a browser: one file, with its data and what draws them.
 
-use crate::blocks::{bits_of, samples_of, times_of_rows, write_block};
+use crate::blocks::{Bits, Samples, gather_bits, gather_samples, times_of_rows, write_block};
 use crate::groups::hue_in;
 use crate::head::put_station;
 use crate::instant::put_instant;
@@ -172,29 +172,51 @@ fn name_of<A: Allocator + Copy>(alloc: A, letter: &str, n: usize) -> Sheet<A> {
     name
 }
 
-/// Writes the samples of all channels.
+/// Writes the samples of all channels, some of them by one look over the rows, whose readings lie apart.
 fn write_samples<A: Allocator + Copy, W: Write>(
     alloc: A,
     file: &File<A>,
     part: &Part<A>,
     w: &mut W,
 ) -> Result<(), ToolFault> {
-    for (i, survey) in part.surveys.iter().enumerate() {
-        let bytes = samples_of(alloc, file.rows.items(), i, is_wide(*survey))?;
-        write_block(alloc, &name_of(alloc, "s", i), &bytes, w)?;
+    let mut n = 0usize;
+    for surveys in part.surveys.chunks(8) {
+        let mut channels = Vec::new(alloc);
+        for survey in surveys {
+            channels.push(Samples {
+                bytes: Vec::new(alloc),
+                is_wide: is_wide(*survey),
+            })?;
+        }
+        gather_samples(&mut channels, file.rows.items(), n)?;
+        for channel in &channels {
+            write_block(alloc, &name_of(alloc, "s", n), &channel.bytes, w)?;
+            n = n.saturating_add(1);
+        }
     }
     Ok(())
 }
 
-/// Writes the bits of all contacts.
+/// Writes the bits of all contacts, in the same way.
 fn write_bits<A: Allocator + Copy, W: Write>(
     alloc: A,
     file: &File<A>,
     w: &mut W,
 ) -> Result<(), ToolFault> {
-    for (i, _) in file.head.status.items().iter().enumerate() {
-        let bytes = bits_of(alloc, file.rows.items(), i)?;
-        write_block(alloc, &name_of(alloc, "d", i), &bytes, w)?;
+    let mut n = 0usize;
+    for some in file.head.status.items().chunks(64) {
+        let mut contacts = Vec::new(alloc);
+        for _ in some {
+            contacts.push(Bits {
+                bytes: Vec::new(alloc),
+                byte: 0,
+            })?;
+        }
+        gather_bits(&mut contacts, file.rows.items(), n)?;
+        for contact in &contacts {
+            write_block(alloc, &name_of(alloc, "d", n), &contact.bytes, w)?;
+            n = n.saturating_add(1);
+        }
     }
     Ok(())
 }

@@ -1,12 +1,52 @@
-//! The names of columns of comma-separated values.
+//! The names of columns of comma-separated values: the first line.
 
-use crate::comma_separated::end_cell;
 use comtrade_format::Head;
-use comtrade_io::{ToolFault, put, put_safe, put_with};
-use csv::Writer;
+use comtrade_io::{ToolFault, fault_of, put, put_safe, put_with};
+use csv::{Error, ErrorKind, Terminator, Writer, WriterBuilder};
 use std::alloc::{AllocError, Allocator};
 use std::collections::BTreeMap;
 use std::io::Write;
+
+/// Why a table can't be written.
+fn csv_fault(error: &Error) -> ToolFault {
+    match error.kind() {
+        ErrorKind::Io(error) => fault_of(error.kind(), ToolFault::Output),
+        _ => ToolFault::Memory,
+    }
+}
+
+/// Writes a cell, and empties it.
+fn end_cell<A: Allocator, W: Write>(
+    table: &mut Writer<&mut W>,
+    cell: &mut Vec<u8, A>,
+) -> Result<(), ToolFault> {
+    let written = table.write_field(cell);
+    cell.clear();
+    match written {
+        Ok(()) => Ok(()),
+        Err(error) => Err(csv_fault(&error)),
+    }
+}
+
+/// Ends the line, and writes all of it.
+fn end_line<W: Write>(table: &mut Writer<&mut W>) -> Result<(), ToolFault> {
+    if let Err(error) = table.end_record() {
+        return Err(csv_fault(&error));
+    }
+    match table.flush() {
+        Ok(()) => Ok(()),
+        Err(error) => Err(csv_fault(&error)),
+    }
+}
+
+fn put_name<A: Allocator, W: Write>(
+    table: &mut Writer<&mut W>,
+    cell: &mut Vec<u8, A>,
+    name: &str,
+) -> Result<(), ToolFault> {
+    put(cell, name)?;
+    end_cell(table, cell)
+}
 
 /// A text of the file, after an apostrophe where a spreadsheet would read a formula.
 fn put_name_of<A: Allocator>(cell: &mut Vec<u8, A>, id: &[u8]) -> Result<(), AllocError> {
@@ -91,7 +131,7 @@ fn put_status_names<A: Allocator + Copy, W: Write>(
 }
 
 /// The names of the channels' columns; none of them is seen yet.
-pub(crate) fn put_channel_names<A: Allocator + Copy, W: Write>(
+fn put_channel_names<A: Allocator + Copy, W: Write>(
     table: &mut Writer<&mut W>,
     cell: &mut Vec<u8, A>,
     head: &Head<A>,
@@ -99,4 +139,33 @@ pub(crate) fn put_channel_names<A: Allocator + Copy, W: Write>(
 ) -> Result<(), ToolFault> {
     put_analog_names(table, cell, head, &mut seen)?;
     put_status_names(table, cell, head, &mut seen)
+}
+
+/// The names of all columns.
+fn put_names<A: Allocator + Copy, W: Write>(
+    table: &mut Writer<&mut W>,
+    cell: &mut Vec<u8, A>,
+    head: &Head<A>,
+) -> Result<(), ToolFault> {
+    put_name(table, cell, "row")?;
+    put_name(table, cell, "instant")?;
+    put_name(table, cell, "ms since trigger")?;
+    let seen = BTreeMap::new(*cell.allocator());
+    put_channel_names(table, cell, head, seen)?;
+    end_line(table)
+}
+
+/// Writes the line of the names of the columns.
+pub(crate) fn write_names<A: Allocator + Copy, W: Write>(
+    alloc: A,
+    head: &Head<A>,
+    separator: u8,
+    w: &mut W,
+) -> Result<(), ToolFault> {
+    let mut cell = Vec::new(alloc);
+    let mut table = WriterBuilder::new()
+        .delimiter(separator)
+        .terminator(Terminator::CRLF)
+        .from_writer(w);
+    put_names(&mut table, &mut cell, head)
 }

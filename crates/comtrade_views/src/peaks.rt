@@ -108,40 +108,68 @@ pub(crate) fn peaks_at(peaks: &[Peaks], channel: usize) -> Peaks {
     }
 }
 
-/// Counts the contacts that change from one row to the next: mostly none does.
-fn add_changes<A: Allocator>(changes: &mut [u64], before: &Row<A>, row: &Row<A>) {
-    if before.bits.items() == row.bits.items() {
-        return;
-    }
-    for (i, count) in changes.iter_mut().enumerate() {
-        if bit_at(before, i) != bit_at(row, i) {
-            *count = count.saturating_add(1);
+/// How many changes of a contact, and gaps of a channel, are listed.
+pub(crate) const LISTED: u64 = 20;
+
+/// How often a contact changes, and the indexes of the first rows, at most `LISTED`, that differ from the row before.
+#[derive(Drop)]
+pub(crate) struct Changes<A: Allocator> {
+    pub(crate) count: u64,
+    pub(crate) first: Vec<usize, A>,
+}
+
+impl<A: Allocator> Changes<A> {
+    /// With a change at a row more.
+    fn add(&mut self, row: usize) -> Result<(), AllocError> {
+        if self.count < LISTED {
+            self.first.push(row)?;
         }
+        self.count = self.count.saturating_add(1);
+        Ok(())
     }
 }
 
-/// Counts the changes of contacts from each row to the next.
-fn add_all_changes<A: Allocator>(changes: &mut [u64], rows: &[Row<A>]) {
-    for (before, row) in rows.iter().zip(rows.iter().skip(1)) {
-        add_changes(changes, before, row);
+/// Adds the contacts that change from one row to the next, which has this index: mostly none does.
+fn add_changes<A: Allocator>(
+    changes: &mut [Changes<A>],
+    before: &Row<A>,
+    row: &Row<A>,
+    at: usize,
+) -> Result<(), AllocError> {
+    if before.bits.items() == row.bits.items() {
+        return Ok(());
     }
-}
-
-/// Adds a count of 0 for each contact.
-fn add_zeros<A: Allocator>(changes: &mut Vec<u64, A>, file: &File<A>) -> Result<(), AllocError> {
-    for _ in file.head.status.items() {
-        changes.push(0u64)?;
+    for (i, known) in changes.iter_mut().enumerate() {
+        if bit_at(before, i) != bit_at(row, i) {
+            known.add(at)?;
+        }
     }
     Ok(())
 }
 
-/// How often each contact changes, by one look over the rows.
+/// Adds the changes of contacts from each row to the next.
+fn add_all_changes<A: Allocator>(
+    changes: &mut [Changes<A>],
+    rows: &[Row<A>],
+) -> Result<(), AllocError> {
+    for (i, (before, row)) in rows.iter().zip(rows.iter().skip(1)).enumerate() {
+        add_changes(changes, before, row, i.saturating_add(1))?;
+    }
+    Ok(())
+}
+
+/// How often each contact changes, and where first, by one look over the rows.
 pub(crate) fn changes_of<A: Allocator + Copy>(
     alloc: A,
     file: &File<A>,
-) -> Result<Vec<u64, A>, AllocError> {
+) -> Result<Vec<Changes<A>, A>, AllocError> {
     let mut changes = Vec::new(alloc);
-    add_zeros(&mut changes, file)?;
-    add_all_changes(&mut changes, file.rows.items());
+    for _ in file.head.status.items() {
+        changes.push(Changes {
+            count: 0,
+            first: Vec::new(alloc),
+        })?;
+    }
+    add_all_changes(&mut changes, file.rows.items())?;
     Ok(changes)
 }

@@ -2,9 +2,9 @@
 
 use crate::instant::{put_instant, put_millis};
 use crate::number::put_decimal;
-use crate::peaks::{Peaks, peaks_at, peaks_of, reading_at};
+use crate::peaks::{LISTED, Peaks, peaks_at, peaks_of, reading_at};
 use crate::show_analog::put_analog;
-use crate::show_status::{LISTED, put_more, put_status};
+use crate::show_status::{put_more, put_status};
 use crate::times::trigger_since_first;
 use comtrade_format::{File, Head, Rate, Row};
 use comtrade_io::{ToolFault, kind_name, put, put_count, put_safe, put_with, write_out};

@@ -1,6 +1,6 @@
 //! The table of status channels, with their changes.
 
-use crate::peaks::{bit_at, changes_of};
+use crate::peaks::{Changes, LISTED, bit_at, changes_of};
 use crate::show::{Clock, put_row_time};
 use crate::show_analog::put_names;
 use crate::table::{end_row, put_cell, put_table};
@@ -8,9 +8,6 @@ use comtrade_format::{File, Row};
 use comtrade_io::{put, put_count, put_with};
 use dfr_channels::StatusChannel;
 use std::alloc::{AllocError, Allocator};
-
-/// How many changes of a contact, and gaps of a channel, are listed.
-pub(crate) const LISTED: u64 = 20;
 
 /// A change of a contact.
 fn put_change<A: Allocator>(
@@ -36,38 +33,22 @@ pub(crate) fn put_more<A: Allocator>(out: &mut Vec<u8, A>, count: u64) -> Result
     Ok(())
 }
 
-/// The first changes of a contact, at most so many.
-fn put_listed<A: Allocator>(
-    table: &mut Vec<u8, A>,
-    rows: &[Row<A>],
-    clock: Clock<'_>,
-    at: usize,
-    most: u64,
-) -> Result<(), AllocError> {
-    let mut listed = 0u64;
-    for (i, (before, row)) in rows.iter().zip(rows.iter().skip(1)).enumerate() {
-        if most <= listed {
-            break;
-        }
-        let bit = bit_at(row, at);
-        if bit_at(before, at) != bit {
-            put_change(table, clock, i.saturating_add(1), bit, listed)?;
-            listed = listed.saturating_add(1);
-        }
-    }
-    Ok(())
-}
-
-/// The first of so many changes of a contact.
+/// The first changes of a contact, and how many there are more.
 fn put_changes<A: Allocator>(
     table: &mut Vec<u8, A>,
     rows: &[Row<A>],
     clock: Clock<'_>,
     at: usize,
-    count: u64,
+    changes: &Changes<A>,
 ) -> Result<(), AllocError> {
-    put_listed(table, rows, clock, at, count.min(LISTED))?;
-    put_more(table, count)?;
+    for (n, i) in changes.first.iter().enumerate() {
+        let bit = match rows.get(*i) {
+            Some(row) => bit_at(row, at),
+            None => false,
+        };
+        put_change(table, clock, *i, bit, n as u64)?;
+    }
+    put_more(table, changes.count)?;
     end_row(table)
 }
 
@@ -98,29 +79,29 @@ fn put_contact<A: Allocator>(
     put_cell(table, if channel.normal { "1" } else { "0" })
 }
 
-/// The row of a contact that changes so often.
+/// The row of a contact that changes so.
 fn put_line<A: Allocator>(
     table: &mut Vec<u8, A>,
     file: &File<A>,
     clock: Clock<'_>,
     (at, channel): (usize, &StatusChannel<A>),
-    count: u64,
+    changes: &Changes<A>,
 ) -> Result<(), AllocError> {
     put_contact(table, channel, at.saturating_add(1))?;
     put_first(table, file.rows.items(), at)?;
-    put_changes(table, file.rows.items(), clock, at, count)
+    put_changes(table, file.rows.items(), clock, at, changes)
 }
 
-/// The rows of contacts that change so often.
+/// The rows of contacts that change so.
 fn put_lines<A: Allocator>(
     table: &mut Vec<u8, A>,
     file: &File<A>,
     clock: Clock<'_>,
-    changes: &[u64],
+    changes: &[Changes<A>],
 ) -> Result<(), AllocError> {
-    for (i, channel) in file.head.status.items().iter().enumerate() {
-        let count = changes.get(i).copied().unwrap_or(0);
-        put_line(table, file, clock, (i, channel), count)?;
+    let channels = file.head.status.items().iter();
+    for (i, (channel, changes)) in channels.zip(changes.iter()).enumerate() {
+        put_line(table, file, clock, (i, channel), changes)?;
     }
     Ok(())
 }

@@ -3,7 +3,7 @@
 use crate::currents::{greatest_current, nominal_of};
 use crate::instant::{put_instant, put_millis};
 use crate::number::{put_decimal, put_value, rounded, scale_of, value_of};
-use crate::peaks::changes_of;
+use crate::peaks::{Changes, changes_of};
 use crate::table::{end_cell, end_row, put_number_cell, put_safe_cell, put_table};
 use crate::times::times_of;
 use comtrade_format::File;
@@ -26,11 +26,11 @@ pub struct Summary<A: Allocator = Global> {
     pub(crate) text: Vec<u8, A>,
 }
 
-/// How many counts aren't 0.
-fn nonzero(counts: &[u64]) -> u64 {
+/// How many contacts of these change.
+fn nonzero<A: Allocator>(contacts: &[Changes<A>]) -> u64 {
     let mut count = 0u64;
-    for changes in counts {
-        if *changes != 0 {
+    for changes in contacts {
+        if changes.count != 0 {
             count = count.saturating_add(1);
         }
     }
