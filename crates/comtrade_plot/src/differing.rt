@@ -65,10 +65,13 @@ pub(crate) fn differences_of<A: Allocator>(
     let mut differences = Differences::none();
     let rows = beside.times.iter().zip(beside.places.iter());
     for (row, (time, place)) in rows.enumerate() {
-        if let (Some(time), Some(place)) = (*time, *place) {
+        let (Some(time), Some(place)) = (*time, *place) else {
+            continue;
+        };
+        if beside.one.frame.has(time) {
             let value = value_in(beside.one, row, channel);
             let theirs = value_beside(beside, partner, place, time);
-            if let (true, Some(value), Some(theirs)) = (beside.one.frame.has(time), value, theirs) {
+            if let (Some(value), Some(theirs)) = (value, theirs) {
                 differences = differences.with(time, value - theirs);
             }
         }
