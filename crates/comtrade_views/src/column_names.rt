@@ -16,15 +16,6 @@ fn put_name_of<A: Allocator>(cell: &mut Vec<u8, A>, id: &[u8]) -> Result<(), All
     put_safe(cell, id)
 }
 
-/// ` (2)` after the second one of a name, and so on.
-fn put_repeat<A: Allocator>(cell: &mut Vec<u8, A>, before: u64) -> Result<(), AllocError> {
-    if before == 0 {
-        return Ok(());
-    }
-    put_with(cell, " (", before.saturating_add(1))?;
-    put(cell, ")")
-}
-
 /// How often a name was seen before; now it is seen once more.
 fn times_seen<A: Allocator + Copy>(
     name: &[u8],
@@ -38,7 +29,7 @@ fn times_seen<A: Allocator + Copy>(
     Ok(before)
 }
 
-/// Writes the name of a column, told apart from the same name before it.
+/// Writes the name of a column: ` (2)` stands after the second one of a name, and so on.
 fn end_name<A: Allocator + Copy, W: Write>(
     table: &mut Writer<&mut W>,
     cell: &mut Vec<u8, A>,
@@ -46,57 +37,30 @@ fn end_name<A: Allocator + Copy, W: Write>(
 ) -> Result<(), ToolFault> {
     let alloc = *cell.allocator();
     let before = times_seen(cell.as_slice(), seen, alloc)?;
-    put_repeat(cell, before)?;
+    if before != 0 {
+        put_with(cell, " (", before.saturating_add(1))?;
+        put(cell, ")")?;
+    }
     end_cell(table, cell)
 }
 
-/// An analogue channel's id and unit.
-fn put_channel<A: Allocator>(
-    cell: &mut Vec<u8, A>,
-    id: &[u8],
-    unit: &[u8],
-) -> Result<(), AllocError> {
-    put_name_of(cell, id)?;
-    put(cell, " [")?;
-    put_safe(cell, unit)?;
-    put(cell, "]")
-}
-
-/// The names of the analogue channels' columns.
-fn put_analog_names<A: Allocator + Copy, W: Write>(
+/// The names of the channels' columns: of analogue channels with their units. None of them is seen yet.
+pub(crate) fn put_channel_names<A: Allocator + Copy, W: Write>(
     table: &mut Writer<&mut W>,
     cell: &mut Vec<u8, A>,
     head: &Head<A>,
     seen: &mut BTreeMap<Vec<u8, A>, u64, A>,
 ) -> Result<(), ToolFault> {
     for channel in head.analog.items() {
-        put_channel(cell, channel.id.items(), channel.unit.items())?;
+        put_name_of(cell, channel.id.items())?;
+        put(cell, " [")?;
+        put_safe(cell, channel.unit.items())?;
+        put(cell, "]")?;
         end_name(table, cell, seen)?;
     }
-    Ok(())
-}
-
-/// The names of the contacts' columns.
-fn put_status_names<A: Allocator + Copy, W: Write>(
-    table: &mut Writer<&mut W>,
-    cell: &mut Vec<u8, A>,
-    head: &Head<A>,
-    seen: &mut BTreeMap<Vec<u8, A>, u64, A>,
-) -> Result<(), ToolFault> {
     for channel in head.status.items() {
         put_name_of(cell, channel.id.items())?;
         end_name(table, cell, seen)?;
     }
     Ok(())
-}
-
-/// The names of the channels' columns; none of them is seen yet.
-pub(crate) fn put_channel_names<A: Allocator + Copy, W: Write>(
-    table: &mut Writer<&mut W>,
-    cell: &mut Vec<u8, A>,
-    head: &Head<A>,
-    mut seen: BTreeMap<Vec<u8, A>, u64, A>,
-) -> Result<(), ToolFault> {
-    put_analog_names(table, cell, head, &mut seen)?;
-    put_status_names(table, cell, head, &mut seen)
 }

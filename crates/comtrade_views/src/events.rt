@@ -21,9 +21,11 @@ pub struct Event<A: Allocator = Global> {
     pub(crate) text: Vec<u8, A>,
 }
 
-/// When the rows of one record were taken.
-#[derive(Clone, Copy)]
-struct Source<'a> {
+/// A record, and when its rows were taken.
+#[derive(Drop)]
+struct Source<'a, A: Allocator> {
+    file: &'a File<A>,
+    /// Its place in the list, from 0.
     record: usize,
     /// The trigger, in nanoseconds since 1970-01-01 00:00:00.
     trigger: i128,
@@ -32,7 +34,7 @@ struct Source<'a> {
 }
 
 /// What happened at a row, with a text that is put after.
-fn event_at<A: Allocator + Copy>(alloc: A, source: Source<'_>, row: usize) -> Event<A> {
+fn event_at<A: Allocator + Copy>(alloc: A, source: &Source<'_, A>, row: usize) -> Event<A> {
     let since = match source.times.get(row) {
         Some(Some(nanos)) => Some(*nanos as i128),
         _ => None,
@@ -59,64 +61,23 @@ fn put_change<A: Allocator>(
     put(text, if bit { " 1" } else { " 0" })
 }
 
-/// A change of a contact at a row.
-fn add_change<A: Allocator + Copy>(
-    alloc: A,
-    events: &mut Vec<Event<A>, A>,
-    source: Source<'_>,
-    row: usize,
-    place: usize,
-    id: &[u8],
-    bit: bool,
-) -> Result<(), ToolFault> {
-    let mut event = event_at(alloc, source, row);
-    put_change(&mut event.text, place, id, bit)?;
-    add(events, event)
-}
-
-/// Adds an event.
-fn add<A: Allocator>(events: &mut Vec<Event<A>, A>, event: Event<A>) -> Result<(), ToolFault> {
-    match events.push(event) {
-        Ok(_) => Ok(()),
-        Err(_) => Err(ToolFault::Memory),
-    }
-}
-
-/// The changes of contacts at a row, after the one before.
-fn add_changes_at<A: Allocator + Copy>(
-    alloc: A,
-    events: &mut Vec<Event<A>, A>,
-    source: Source<'_>,
-    file: &File<A>,
-    at: usize,
-    (before, row): (&Row<A>, &Row<A>),
-) -> Result<(), ToolFault> {
-    for (place, channel) in file.head.status.items().iter().enumerate() {
-        let bit = bit_at(row, place);
-        if bit_at(before, place) != bit {
-            add_change(alloc, events, source, at, place, channel.id.items(), bit)?;
-        }
-    }
-    Ok(())
-}
-
 /// The changes of contacts from one row to the next.
 fn add_changes<A: Allocator + Copy>(
     alloc: A,
     events: &mut Vec<Event<A>, A>,
-    source: Source<'_>,
-    file: &File<A>,
+    source: &Source<'_, A>,
 ) -> Result<(), ToolFault> {
+    let file = source.file;
     let rows = file.rows.items();
     for (i, (before, row)) in rows.iter().zip(rows.iter().skip(1)).enumerate() {
-        add_changes_at(
-            alloc,
-            events,
-            source,
-            file,
-            i.saturating_add(1),
-            (before, row),
-        )?;
+        for (place, channel) in file.head.status.items().iter().enumerate() {
+            let bit = bit_at(row, place);
+            if bit_at(before, place) != bit {
+                let mut event = event_at(alloc, source, i.saturating_add(1));
+                put_change(&mut event.text, place, channel.id.items(), bit)?;
+                events.push(event)?;
+            }
+        }
     }
     Ok(())
 }
@@ -149,18 +110,19 @@ fn put_gap<A: Allocator>(text: &mut Vec<u8, A>, gap: Gap) -> Result<(), AllocErr
     put_with(text, " to ", (gap.to as u64).saturating_add(1))
 }
 
+/// Adds a run of rows that miss readings, where there is one.
 fn add_gap<A: Allocator + Copy>(
     alloc: A,
     events: &mut Vec<Event<A>, A>,
-    source: Source<'_>,
+    source: &Source<'_, A>,
     gap: Option<Gap>,
 ) -> Result<(), ToolFault> {
-    let Some(gap) = gap else {
-        return Ok(());
-    };
-    let mut event = event_at(alloc, source, gap.from);
-    put_gap(&mut event.text, gap)?;
-    add(events, event)
+    if let Some(gap) = gap {
+        let mut event = event_at(alloc, source, gap.from);
+        put_gap(&mut event.text, gap)?;
+        events.push(event)?;
+    }
+    Ok(())
 }
 
 /// The run with one row more.
@@ -183,11 +145,11 @@ fn with_row(gap: Option<Gap>, row: usize, missing: u64) -> Gap {
 fn add_gaps<A: Allocator + Copy>(
     alloc: A,
     events: &mut Vec<Event<A>, A>,
-    source: Source<'_>,
-    rows: &[Row<A>],
+    source: &Source<'_, A>,
 ) -> Result<(), ToolFault> {
+    let file = source.file;
     let mut begun: Option<Gap> = None;
-    for (i, row) in rows.iter().enumerate() {
+    for (i, row) in file.rows.items().iter().enumerate() {
         let missing = missing_in(row);
         if 0 < missing {
             begun = Some(with_row(begun, i, missing));
@@ -211,31 +173,18 @@ fn put_trigger<A: Allocator>(text: &mut Vec<u8, A>, file: &File<A>) -> Result<()
 fn add_trigger<A: Allocator + Copy>(
     alloc: A,
     events: &mut Vec<Event<A>, A>,
-    source: Source<'_>,
-    file: &File<A>,
+    source: &Source<'_, A>,
 ) -> Result<(), ToolFault> {
     let mut text = Vec::new(alloc);
-    put_trigger(&mut text, file)?;
-    let event = Event {
+    put_trigger(&mut text, source.file)?;
+    events.push(Event {
         at: Some(source.trigger),
         since: Some(0),
         record: source.record,
         row: 0,
         text,
-    };
-    add(events, event)
-}
-
-/// Adds what happened in a record whose rows were taken at these times.
-fn add_all<A: Allocator + Copy>(
-    alloc: A,
-    events: &mut Vec<Event<A>, A>,
-    source: Source<'_>,
-    file: &File<A>,
-) -> Result<(), ToolFault> {
-    add_trigger(alloc, events, source, file)?;
-    add_changes(alloc, events, source, file)?;
-    add_gaps(alloc, events, source, file.rows.items())
+    })?;
+    Ok(())
 }
 
 /// Adds what happened in a record, whose place in the list is this.
@@ -247,11 +196,14 @@ pub fn add_events<A: Allocator + Copy>(
 ) -> Result<(), ToolFault> {
     let times = times_since_trigger(alloc, file)?;
     let source = Source {
+        file,
         record,
         trigger: file.head.trigger as i128 * 1000,
         times: &times,
     };
-    add_all(alloc, events, source, file)
+    add_trigger(alloc, events, &source)?;
+    add_changes(alloc, events, &source)?;
+    add_gaps(alloc, events, &source)
 }
 
 /// Brings the events into their order in time, those without an instant after all others.

@@ -55,7 +55,10 @@ pub(crate) fn put_float<A: Allocator>(
 ) -> Result<(), AllocError> {
     let beside = match digits {
         Digits::Six(beside) => beside,
-        Digits::All => return put_all(out, x),
+        Digits::All if x.is_finite() => {
+            return out.extend_from_slice(Buffer::new().format_finite(x).as_bytes());
+        }
+        Digits::All => return out.extend_from_slice(b"-"),
     };
     if x.abs() <= beside * 1e-9 {
         return out.extend_from_slice(b"0");
@@ -64,14 +67,6 @@ pub(crate) fn put_float<A: Allocator>(
         Some(number) => put_value(out, rounded(number)),
         None => out.extend_from_slice(b"-"),
     }
-}
-
-/// A float with all of its digits.
-fn put_all<A: Allocator>(out: &mut Vec<u8, A>, x: f64) -> Result<(), AllocError> {
-    if x.is_finite() {
-        return out.extend_from_slice(Buffer::new().format_finite(x).as_bytes());
-    }
-    out.extend_from_slice(b"-")
 }
 
 /// A float with so many places at most.

@@ -20,19 +20,18 @@ pub(crate) fn put_padded<A: Allocator>(
     out.extend_from_slice(digits)
 }
 
-/// A number of two digits after a separator.
-fn put_two<A: Allocator>(out: &mut Vec<u8, A>, before: &str, n: u8) -> Result<(), AllocError> {
-    put(out, before)?;
-    put_padded(out, n as u64, 2)
-}
-
 fn put_civil<A: Allocator>(out: &mut Vec<u8, A>, civil: DateTime) -> Result<(), AllocError> {
     put_padded(out, civil.date.year.unsigned_abs() as u64, 4)?;
-    put_two(out, "-", civil.date.month)?;
-    put_two(out, "-", civil.date.day)?;
-    put_two(out, " ", civil.time.hour)?;
-    put_two(out, ":", civil.time.minute)?;
-    put_two(out, ":", civil.time.second)?;
+    for (before, n) in [
+        ("-", civil.date.month),
+        ("-", civil.date.day),
+        (" ", civil.time.hour),
+        (":", civil.time.minute),
+        (":", civil.time.second),
+    ] {
+        put(out, before)?;
+        put_padded(out, n as u64, 2)?;
+    }
     put(out, ".")?;
     put_padded(out, (civil.time.subsec_nanosecond / 1000) as u64, 6)
 }

@@ -18,20 +18,21 @@ pub(crate) struct Peaks {
     pub(crate) missing: u64,
 }
 
+/// Those of a channel of which nothing is known.
+const NONE: Peaks = Peaks {
+    extremes: None,
+    missing: 0,
+};
+
 /// The reading of a channel, counted from 0.
 pub(crate) fn reading_at<A: Allocator>(row: &Row<A>, channel: usize) -> Reading {
-    match row.values.items().get(channel) {
-        Some(reading) => *reading,
-        None => Reading::Missing,
-    }
+    let readings = row.values.items();
+    readings.get(channel).copied().unwrap_or(Reading::Missing)
 }
 
 /// The bit of a status channel, counted from 0.
 pub(crate) fn bit_at<A: Allocator>(row: &Row<A>, channel: usize) -> bool {
-    match row.bits.items().get(channel) {
-        Some(bit) => *bit,
-        None => false,
-    }
+    row.bits.items().get(channel).copied().unwrap_or(false)
 }
 
 /// The extremes with one sample more.
@@ -66,17 +67,6 @@ impl Peaks {
     }
 }
 
-/// Adds no peaks for each analogue channel.
-fn add_none<A: Allocator>(peaks: &mut Vec<Peaks, A>, file: &File<A>) -> Result<(), AllocError> {
-    for _ in file.head.analog.items() {
-        peaks.push(Peaks {
-            extremes: None,
-            missing: 0,
-        })?;
-    }
-    Ok(())
-}
-
 /// Brings the readings of the rows into the peaks of their channels.
 fn add_rows<A: Allocator>(peaks: &mut [Peaks], rows: &[Row<A>]) {
     for (i, row) in rows.iter().enumerate() {
@@ -92,20 +82,16 @@ pub(crate) fn peaks_of<A: Allocator + Copy>(
     file: &File<A>,
 ) -> Result<Vec<Peaks, A>, AllocError> {
     let mut peaks = Vec::new(alloc);
-    add_none(&mut peaks, file)?;
+    for _ in file.head.analog.items() {
+        peaks.push(NONE)?;
+    }
     add_rows(&mut peaks, file.rows.items());
     Ok(peaks)
 }
 
 /// The peaks of a channel, counted from 0.
 pub(crate) fn peaks_at(peaks: &[Peaks], channel: usize) -> Peaks {
-    match peaks.get(channel) {
-        Some(peaks) => *peaks,
-        None => Peaks {
-            extremes: None,
-            missing: 0,
-        },
-    }
+    peaks.get(channel).copied().unwrap_or(NONE)
 }
 
 /// Counts the contacts that change from one row to the next: mostly none does.
@@ -120,28 +106,18 @@ fn add_changes<A: Allocator>(changes: &mut [u64], before: &Row<A>, row: &Row<A>)
     }
 }
 
-/// Counts the changes of contacts from each row to the next.
-fn add_all_changes<A: Allocator>(changes: &mut [u64], rows: &[Row<A>]) {
-    for (before, row) in rows.iter().zip(rows.iter().skip(1)) {
-        add_changes(changes, before, row);
-    }
-}
-
-/// Adds a count of 0 for each contact.
-fn add_zeros<A: Allocator>(changes: &mut Vec<u64, A>, file: &File<A>) -> Result<(), AllocError> {
-    for _ in file.head.status.items() {
-        changes.push(0u64)?;
-    }
-    Ok(())
-}
-
 /// How often each contact changes, by one look over the rows.
 pub(crate) fn changes_of<A: Allocator + Copy>(
     alloc: A,
     file: &File<A>,
 ) -> Result<Vec<u64, A>, AllocError> {
     let mut changes = Vec::new(alloc);
-    add_zeros(&mut changes, file)?;
-    add_all_changes(&mut changes, file.rows.items());
+    for _ in file.head.status.items() {
+        changes.push(0u64)?;
+    }
+    let rows = file.rows.items();
+    for (before, row) in rows.iter().zip(rows.iter().skip(1)) {
+        add_changes(&mut changes, before, row);
+    }
     Ok(changes)
 }

@@ -12,21 +12,6 @@ use std::alloc::{AllocError, Allocator};
 /// How many changes of a contact, and gaps of a channel, are listed.
 pub(crate) const LISTED: u64 = 20;
 
-/// A change of a contact.
-fn put_change<A: Allocator>(
-    table: &mut Vec<u8, A>,
-    clock: Clock<'_>,
-    row: usize,
-    bit: bool,
-    n: u64,
-) -> Result<(), AllocError> {
-    if n != 0 {
-        put(table, ", ")?;
-    }
-    put(table, if bit { "1 at " } else { "0 at " })?;
-    put_row_time(table, clock, row)
-}
-
 /// What stands after the listed ones.
 pub(crate) fn put_more<A: Allocator>(out: &mut Vec<u8, A>, count: u64) -> Result<(), AllocError> {
     if LISTED < count {
@@ -36,29 +21,7 @@ pub(crate) fn put_more<A: Allocator>(out: &mut Vec<u8, A>, count: u64) -> Result
     Ok(())
 }
 
-/// The first changes of a contact, at most so many.
-fn put_listed<A: Allocator>(
-    table: &mut Vec<u8, A>,
-    rows: &[Row<A>],
-    clock: Clock<'_>,
-    at: usize,
-    most: u64,
-) -> Result<(), AllocError> {
-    let mut listed = 0u64;
-    for (i, (before, row)) in rows.iter().zip(rows.iter().skip(1)).enumerate() {
-        if most <= listed {
-            break;
-        }
-        let bit = bit_at(row, at);
-        if bit_at(before, at) != bit {
-            put_change(table, clock, i.saturating_add(1), bit, listed)?;
-            listed = listed.saturating_add(1);
-        }
-    }
-    Ok(())
-}
-
-/// The first of so many changes of a contact.
+/// The first of so many changes of a contact, up to the end of the row.
 fn put_changes<A: Allocator>(
     table: &mut Vec<u8, A>,
     rows: &[Row<A>],
@@ -66,90 +29,69 @@ fn put_changes<A: Allocator>(
     at: usize,
     count: u64,
 ) -> Result<(), AllocError> {
-    put_listed(table, rows, clock, at, count.min(LISTED))?;
+    let mut listed = 0u64;
+    for (i, (before, row)) in rows.iter().zip(rows.iter().skip(1)).enumerate() {
+        if count.min(LISTED) <= listed {
+            break;
+        }
+        let bit = bit_at(row, at);
+        if bit_at(before, at) != bit {
+            put(table, if listed == 0 { "" } else { ", " })?;
+            put(table, if bit { "1 at " } else { "0 at " })?;
+            put_row_time(table, clock, i.saturating_add(1))?;
+            listed = listed.saturating_add(1);
+        }
+    }
     put_more(table, count)?;
     end_row(table)
 }
 
-/// A contact's bit in the first row.
-fn put_first<A: Allocator>(
-    table: &mut Vec<u8, A>,
-    rows: &[Row<A>],
-    at: usize,
-) -> Result<(), AllocError> {
-    match rows.first() {
-        Some(row) => put_cell(table, if bit_at(row, at) { "1" } else { "0" }),
-        None => Ok(()),
-    }
-}
-
+/// The row of a contact that changes so often: its names, its normal bit, that in the first row, its changes.
 fn put_contact<A: Allocator>(
-    table: &mut Vec<u8, A>,
-    channel: &StatusChannel<A>,
-    n: usize,
-) -> Result<(), AllocError> {
-    put_names(
-        table,
-        n,
-        channel.id.items(),
-        channel.phase.items(),
-        channel.component.items(),
-    )?;
-    put_cell(table, if channel.normal { "1" } else { "0" })
-}
-
-/// The row of a contact that changes so often.
-fn put_line<A: Allocator>(
     table: &mut Vec<u8, A>,
     file: &File<A>,
     clock: Clock<'_>,
     (at, channel): (usize, &StatusChannel<A>),
     count: u64,
 ) -> Result<(), AllocError> {
-    put_contact(table, channel, at.saturating_add(1))?;
-    put_first(table, file.rows.items(), at)?;
-    put_changes(table, file.rows.items(), clock, at, count)
+    let (id, phase) = (channel.id.items(), channel.phase.items());
+    put_names(table, at, id, phase, channel.component.items())?;
+    put_cell(table, if channel.normal { "1" } else { "0" })?;
+    let rows = file.rows.items();
+    if let Some(row) = rows.first() {
+        put_cell(table, if bit_at(row, at) { "1" } else { "0" })?;
+    }
+    put_changes(table, rows, clock, at, count)
 }
 
-/// The rows of contacts that change so often.
-fn put_lines<A: Allocator>(
+/// The rows of contacts that change so often, a line of names above them.
+fn put_contacts<A: Allocator>(
     table: &mut Vec<u8, A>,
     file: &File<A>,
     clock: Clock<'_>,
     changes: &[u64],
 ) -> Result<(), AllocError> {
-    for (i, channel) in file.head.status.items().iter().enumerate() {
-        let count = changes.get(i).copied().unwrap_or(0);
-        put_line(table, file, clock, (i, channel), count)?;
-    }
-    Ok(())
-}
-
-/// The rows of the table, a line of names above them.
-pub(crate) fn put_contacts<A: Allocator + Copy>(
-    alloc: A,
-    table: &mut Vec<u8, A>,
-    file: &File<A>,
-    clock: Clock<'_>,
-) -> Result<(), AllocError> {
     put(
         table,
         "n\x1Fid\x1Fphase\x1Fcomponent\x1Fnormal\x1Fat first\x1Fchanges\n",
     )?;
-    let changes = changes_of(alloc, file)?;
-    put_lines(table, file, clock, &changes)
+    for (i, channel) in file.head.status.items().iter().enumerate() {
+        let count = changes.get(i).copied().unwrap_or(0);
+        put_contact(table, file, clock, (i, channel), count)?;
+    }
+    Ok(())
 }
 
 /// The table of contacts.
-fn put_contact_table<A: Allocator + Copy>(
+pub(crate) fn contact_table<A: Allocator + Copy>(
     alloc: A,
-    out: &mut Vec<u8, A>,
     file: &File<A>,
     clock: Clock<'_>,
-) -> Result<(), AllocError> {
+) -> Result<Vec<u8, A>, AllocError> {
+    let changes = changes_of(alloc, file)?;
     let mut table = Vec::new(alloc);
-    put_contacts(alloc, &mut table, file, clock)?;
-    put_table(alloc, out, &table)
+    put_contacts(&mut table, file, clock, &changes)?;
+    Ok(table)
 }
 
 /// The status channels.
@@ -159,16 +101,12 @@ pub(crate) fn put_status<A: Allocator + Copy>(
     file: &File<A>,
     clock: Clock<'_>,
 ) -> Result<(), AllocError> {
-    let channels = file.head.status.items();
+    let count = file.head.status.items().len() as u64;
     put(out, "\n")?;
-    put_count(
-        out,
-        channels.len() as u64,
-        " status channel\n",
-        " status channels\n",
-    )?;
-    if channels.is_empty() {
+    put_count(out, count, " status channel\n", " status channels\n")?;
+    if count == 0 {
         return Ok(());
     }
-    put_contact_table(alloc, out, file, clock)
+    let table = contact_table(alloc, file, clock)?;
+    put_table(alloc, out, &table)
 }

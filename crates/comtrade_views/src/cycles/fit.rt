@@ -36,6 +36,17 @@ impl<A: Allocator> Measured<A> {
     }
 }
 
+/// What was measured of the channel at this place, where its readings are there.
+pub fn measured_at<A: Allocator>(
+    measures: &[Option<Measured<A>>],
+    place: usize,
+) -> Option<&Measured<A>> {
+    match measures.get(place) {
+        Some(Some(measured)) => Some(measured),
+        _ => None,
+    }
+}
+
 /// What a channel's rows come to.
 #[derive(Drop)]
 struct Totals<A: Allocator> {
@@ -146,7 +157,7 @@ fn measure<A: Allocator + Copy>(
         None => &[],
     };
     let scale = scale_of(alloc, channel)?;
-    let Some(totals) = totals_of(alloc, rows, window, place, scale, matrix.side())? else {
+    let Some(totals) = totals_of(alloc, rows, window, place, scale, matrix.side)? else {
         return Ok(None);
     };
     let skew = skew_of(alloc, channel, file.head.line_freq)?;

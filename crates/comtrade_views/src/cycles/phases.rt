@@ -1,6 +1,6 @@
 //! Sequence components of three phases.
 
-use crate::cycles::fit::Measured;
+use crate::cycles::fit::{Measured, measured_at};
 use crate::cycles::phasor::Phasor;
 use dfr_channels::{AnalogChannel, trim};
 use std::alloc::{AllocError, Allocator};
@@ -98,11 +98,8 @@ pub fn threes_of<A: Allocator + Copy>(
 }
 
 /// The phasor of one channel, where it was measured.
-fn phasor_in<A: Allocator>(measures: &[Option<Measured<A>>], place: usize) -> Option<Phasor> {
-    match measures.get(place) {
-        Some(Some(measured)) => Some(measured.phasor),
-        _ => None,
-    }
+pub fn phasor_in<A: Allocator>(measures: &[Option<Measured<A>>], place: usize) -> Option<Phasor> {
+    Some(measured_at(measures, place)?.phasor)
 }
 
 /// A third of a + turn * b + turn^2 * c, where turn is 120 degrees ahead or behind.
