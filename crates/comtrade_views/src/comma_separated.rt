@@ -2,13 +2,13 @@
 
 use crate::column_names::put_channel_names;
 use crate::instant::put_instant;
-use crate::number::{Number, Scale, put_sample, put_value, scale_of};
+use crate::number::{Number, put_sample, put_value, scale_of};
 use crate::spelling::Spelling;
 use comtrade_format::{File, Head, Row};
 use comtrade_io::{ToolFault, fault_of, put, put_number};
 use csv::{Error, ErrorKind, Terminator, Writer, WriterBuilder};
-use dfr_channels::Reading;
-use std::alloc::{AllocError, Allocator};
+use dfr_channels::{AnalogChannel, Reading};
+use std::alloc::Allocator;
 use std::collections::BTreeMap;
 use std::io::Write;
 
@@ -95,13 +95,13 @@ fn put_front<A: Allocator, W: Write>(
 fn put_readings<A: Allocator, W: Write>(
     table: &mut Writer<&mut W>,
     cell: &mut Vec<u8, A>,
-    scales: &[Scale],
+    channels: &[AnalogChannel<A>],
     row: &Row<A>,
     decimal: u8,
 ) -> Result<(), ToolFault> {
-    for (scale, reading) in scales.iter().zip(row.values.items()) {
+    for (channel, reading) in channels.iter().zip(row.values.items()) {
         if let Reading::Value(sample) = *reading {
-            put_sample(cell, *scale, sample)?;
+            put_sample(cell, scale_of(channel), sample)?;
             respell(cell, decimal);
         }
         end_cell(table, cell)?;
@@ -112,21 +112,11 @@ fn put_readings<A: Allocator, W: Write>(
     Ok(())
 }
 
-/// What each analogue channel makes of its samples.
-fn scales_of<A: Allocator + Copy>(alloc: A, head: &Head<A>) -> Result<Vec<Scale, A>, AllocError> {
-    let mut scales = Vec::new(alloc);
-    for channel in head.analog.items() {
-        scales.push(scale_of(channel))?;
-    }
-    Ok(scales)
-}
-
 /// The names, and the rows, written as they are made.
 fn put_table<A: Allocator + Copy, W: Write>(
     table: &mut Writer<&mut W>,
     cell: &mut Vec<u8, A>,
     file: &File<A>,
-    scales: &[Scale],
     times: &[Option<i64>],
     decimal: u8,
 ) -> Result<(), ToolFault> {
@@ -134,7 +124,7 @@ fn put_table<A: Allocator + Copy, W: Write>(
     let trigger = file.head.trigger;
     for (row, since) in file.rows.items().iter().zip(times) {
         put_front(table, cell, row.number, (trigger, *since), decimal)?;
-        put_readings(table, cell, scales, row, decimal)?;
+        put_readings(table, cell, file.head.analog.items(), row, decimal)?;
         outcome_of(table.end_record())?;
     }
     outcome_of(table.flush())
@@ -149,18 +139,10 @@ pub fn csv_over<A: Allocator + Copy, W: Write>(
     spelling: Spelling,
     w: &mut W,
 ) -> Result<(), ToolFault> {
-    let scales = scales_of(alloc, &file.head)?;
     let mut cell = Vec::new(alloc);
     let mut table = WriterBuilder::new()
         .delimiter(spelling.separator)
         .terminator(Terminator::CRLF)
         .from_writer(w);
-    put_table(
-        &mut table,
-        &mut cell,
-        file,
-        &scales,
-        times,
-        spelling.decimal,
-    )
+    put_table(&mut table, &mut cell, file, times, spelling.decimal)
 }

@@ -117,11 +117,6 @@ fn measures_with<A: Allocator + Copy>(
     Ok(made)
 }
 
-/// Whether a table has a row below the names of its columns.
-fn has_rows(table: &[u8]) -> bool {
-    table.iter().filter(|b| **b == b'\n').count() > 1
-}
-
 /// What was measured, for people.
 fn put_measures<A: Allocator + Copy>(
     alloc: A,
@@ -141,7 +136,8 @@ fn put_measures<A: Allocator + Copy>(
     put_with(out, "\nharmonics from 2 to ", orders)?;
     put(out, " of at least 0.1 % of the magnitude, in %\n")?;
     put_table(alloc, out, &measures.orders)?;
-    if !has_rows(&measures.sequences) {
+    let lines = measures.sequences.iter().filter(|b| **b == b'\n').count();
+    if lines <= 1 {
         return put(
             out,
             "\nno sequence components: no channels of one unit are of the phases A, B and C\n",

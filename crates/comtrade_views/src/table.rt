@@ -52,11 +52,6 @@ fn widen<A: Allocator>(
     Ok(())
 }
 
-/// Whether a byte begins a character of UTF-8.
-fn begins(b: u8) -> bool {
-    b < 0x80 || 0xC0 <= b
-}
-
 /// The widest that a column gets: a longer cell, which the standard allows in no field, moves its own row alone.
 const WIDEST: usize = 64;
 
@@ -81,11 +76,12 @@ fn after(spot: Spot, b: u8) -> Spot {
             width: 0,
         },
         b'\n' => BEGIN,
-        _ if begins(b) => Spot {
+        // (a byte within a character of UTF-8)
+        0x80..=0xBF => spot,
+        _ => Spot {
             column: spot.column,
             width: spot.width.saturating_add(1),
         },
-        _ => spot,
     }
 }
 
