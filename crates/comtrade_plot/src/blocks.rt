@@ -10,38 +10,30 @@ use std::alloc::{AllocError, Allocator};
 use std::io::Write;
 use std::num::{f64_to_bits_with_nan, nearest_i64_to_f64};
 
-/// Writes a block of the page: a letter and a number are its name.
+/// Writes a block of the page, whose name is a word, or a letter and a number.
 pub(crate) fn write_block<A: Allocator + Copy, W: Write>(
     alloc: A,
-    name: &Sheet<A>,
-    bytes: &[u8],
+    name: &str,
+    number: Option<usize>,
+    bytes: Vec<u8, A>,
     w: &mut W,
 ) -> Result<(), ToolFault> {
-    let text = STANDARD.encode(alloc, bytes)?;
-    write_out(w, b"<script type=\"text/plain\" id=\"")?;
-    name.write(w)?;
-    write_out(w, b"\">")?;
+    let text = STANDARD.encode(alloc, bytes.as_slice());
+    // here, so that no exit proves its drop
+    drop(bytes);
+    let text = text?;
+    let mut head = Sheet::new(alloc);
+    head.texts(&["<script type=\"text/plain\" id=\"", name]);
+    if let Some(n) = number {
+        head.number(n as u64);
+    }
+    head.text("\">");
+    head.write(w)?;
     write_out(w, text.as_bytes())?;
     write_out(w, b"</script>\n")
 }
 
-/// A sample in 16 bits; a missing one, and one that has no room, is the least number.
-fn short_of(reading: Reading) -> i16 {
-    match reading {
-        Reading::Value(sample) => i16::try_from(sample).unwrap_or(i16::MIN),
-        Reading::Missing => i16::MIN,
-    }
-}
-
-/// A sample in 32 bits; a missing one is the least number.
-fn long_of(reading: Reading) -> i32 {
-    match reading {
-        Reading::Value(sample) => sample,
-        Reading::Missing => i32::MIN,
-    }
-}
-
-/// A channel's samples as little-endian integers of 16 bits, or of 32 bits.
+/// A channel's samples as little-endian integers of 16 bits, or of 32 bits; a missing one, and one that has no room, is the least number.
 pub(crate) fn samples_of<A: Allocator + Copy>(
     alloc: A,
     rows: &[Row<A>],
@@ -50,11 +42,15 @@ pub(crate) fn samples_of<A: Allocator + Copy>(
 ) -> Result<Vec<u8, A>, AllocError> {
     let mut bytes = Vec::new(alloc);
     for row in rows {
-        let reading = reading_at(row, channel);
+        let sample = match reading_at(row, channel) {
+            Reading::Value(sample) => sample,
+            Reading::Missing => i32::MIN,
+        };
         if is_wide {
-            bytes.extend_from_slice(&long_of(reading).to_le_bytes())?;
+            bytes.extend_from_slice(&sample.to_le_bytes())?;
         } else {
-            bytes.extend_from_slice(&short_of(reading).to_le_bytes())?;
+            let short = i16::try_from(sample).unwrap_or(i16::MIN);
+            bytes.extend_from_slice(&short.to_le_bytes())?;
         }
     }
     Ok(bytes)

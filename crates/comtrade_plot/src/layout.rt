@@ -36,6 +36,16 @@ const LINE: usize = 32;
 /// The most lines of a name.
 const LINES: u32 = 3;
 
+/// The first channel of a panel.
+pub(crate) fn channel_in<A: Allocator>(chart: &Chart<'_, A>, panel: usize) -> Option<usize> {
+    for (i, its) in chart.panels.iter().enumerate() {
+        if *its == panel {
+            return Some(i);
+        }
+    }
+    None
+}
+
 /// How high a line of a legend is.
 pub(crate) const LINE_HEIGHT: u32 = 140;
 

@@ -3,8 +3,8 @@
 use crate::instant::{put_range, put_span};
 use crate::layout::Chart;
 use crate::legend::NAMES;
-use crate::panels::{edges_of, put_frame, put_traces};
-use crate::plan::{Frame, LEFT, Panel, RIGHT};
+use crate::panels::{panel_of, put_frame, put_traces};
+use crate::plan::{Frame, LEFT, RIGHT};
 use crate::sheet::Sheet;
 use crate::units::is_current;
 use std::alloc::Allocator;
@@ -38,15 +38,6 @@ fn put_ends<A: Allocator>(sheet: &mut Sheet<A>, whole: Frame, y: u32) {
     sheet.end_text();
 }
 
-/// The part of the record that is drawn below, as a box in the strip: a few pixels wide at least.
-fn put_part<A: Allocator>(sheet: &mut Sheet<A>, whole: Frame, part: Frame, top: u32) {
-    let from = whole.across(part.from).saturating_sub(10).max(LEFT);
-    let to = whole.across(part.to).saturating_add(10).min(RIGHT);
-    let width = to.saturating_sub(from).max(20);
-    sheet.begin_box((from, top.saturating_sub(20)), (width, HEIGHT + 40));
-    sheet.text(" class=\"q\" fill=\"#f0b429\" fill-opacity=\"0.3\" stroke=\"#b07a00\"/>\n");
-}
-
 /// What the strip is, beside it.
 fn put_words<A: Allocator>(sheet: &mut Sheet<A>, whole: Frame, part: Frame, y: u32) {
     sheet.begin_text(NAMES, y, "");
@@ -65,7 +56,7 @@ fn put_words<A: Allocator>(sheet: &mut Sheet<A>, whole: Frame, part: Frame, y: u
     );
 }
 
-/// The strip of a whole record, of which a part is drawn below, at a height.
+/// The strip of a whole record, at a height. The part that is drawn below is a box in it: a few pixels wide at least.
 pub(crate) fn put_overview<A: Allocator>(
     sheet: &mut Sheet<A>,
     whole: &Chart<'_, A>,
@@ -73,17 +64,16 @@ pub(crate) fn put_overview<A: Allocator>(
     top: u32,
 ) {
     let number = chosen_panel(whole);
-    if let Some((low, high)) = edges_of(whole, number) {
-        let panel = Panel {
-            top,
-            height: HEIGHT,
-            low,
-            high,
-        };
+    if let Some(panel) = panel_of(&[whole], number, top, HEIGHT) {
         put_traces(sheet, whole, panel, number);
     }
     put_frame(sheet, top, HEIGHT);
-    put_part(sheet, whole.frame, part, top);
-    put_ends(sheet, whole.frame, top.saturating_add(HEIGHT + 150));
-    put_words(sheet, whole.frame, part, top.saturating_add(110));
+    let frame = whole.frame;
+    let from = frame.across(part.from).saturating_sub(10).max(LEFT);
+    let to = frame.across(part.to).saturating_add(10).min(RIGHT);
+    let width = to.saturating_sub(from).max(20);
+    sheet.begin_box((from, top.saturating_sub(20)), (width, HEIGHT + 40));
+    sheet.text(" class=\"q\" fill=\"#f0b429\" fill-opacity=\"0.3\" stroke=\"#b07a00\"/>\n");
+    put_ends(sheet, frame, top.saturating_add(HEIGHT + 150));
+    put_words(sheet, frame, part, top.saturating_add(110));
 }

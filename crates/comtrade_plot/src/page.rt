@@ -46,14 +46,20 @@ fn is_wide(survey: Survey) -> bool {
     }
 }
 
-/// What the page has to know of an analogue channel.
+/// What the page has to know of the analogue channel of this index.
 fn put_analog<A: Allocator>(
     sheet: &mut Sheet<A>,
-    channel: &AnalogChannel<A>,
-    panel: usize,
-    hue: &str,
-    is_wide: bool,
+    channels: &[AnalogChannel<A>],
+    part: &Part<A>,
+    at: usize,
 ) {
+    let (Some(channel), Some(panel), Some(survey)) = (
+        channels.get(at),
+        part.panels.get(at),
+        part.surveys.get(at),
+    ) else {
+        return;
+    };
     put_text(sheet, "{\"id\":", channel.id.items());
     put_text(sheet, ",\"phase\":", channel.phase.items());
     put_text(sheet, ",\"component\":", channel.component.items());
@@ -71,35 +77,18 @@ fn put_analog<A: Allocator>(
         Side::Primary => ",\"side\":\"P\"",
         Side::Secondary => ",\"side\":\"S\"",
     });
-    sheet.texts(&[",\"hue\":\"", hue, "\",\"panel\":"]);
-    sheet.number(panel as u64);
-    put_flag(sheet, "wide", is_wide);
-    sheet.text("}");
-}
-
-/// What the page has to know of the analogue channel of this index.
-fn put_analog_at<A: Allocator>(
-    sheet: &mut Sheet<A>,
-    channels: &[AnalogChannel<A>],
-    part: &Part<A>,
-    at: usize,
-) {
-    let (Some(channel), Some(panel), Some(survey)) = (
-        channels.get(at),
-        part.panels.get(at),
-        part.surveys.get(at),
-    ) else {
-        return;
-    };
     let hue = hue_in(channels, &part.panels, at);
-    put_analog(sheet, channel, *panel, hue.class(), is_wide(*survey));
+    sheet.texts(&[",\"hue\":\"", hue.class(), "\",\"panel\":"]);
+    sheet.number(*panel as u64);
+    put_flag(sheet, "wide", is_wide(*survey));
+    sheet.text("}");
 }
 
 fn put_analogs<A: Allocator>(sheet: &mut Sheet<A>, channels: &[AnalogChannel<A>], part: &Part<A>) {
     sheet.text(",\"analog\":[");
     for i in 0..channels.len() {
         sheet.text(if i == 0 { "" } else { ",\n" });
-        put_analog_at(sheet, channels, part, i);
+        put_analog(sheet, channels, part, i);
     }
     sheet.text("]");
 }
@@ -164,50 +153,26 @@ fn put_begin<A: Allocator>(sheet: &mut Sheet<A>, file: &File<A>) {
     sheet.text(BODY);
 }
 
-/// The name of a block: a letter and a number.
-fn name_of<A: Allocator + Copy>(alloc: A, letter: &str, n: usize) -> Sheet<A> {
-    let mut name = Sheet::new(alloc);
-    name.text(letter);
-    name.number(n as u64);
-    name
-}
-
-/// Writes the samples of all channels.
-fn write_samples<A: Allocator + Copy, W: Write>(
+/// Writes when rows were taken, the samples of all channels, and the bits of all contacts.
+fn write_data<A: Allocator + Copy, W: Write>(
     alloc: A,
     file: &File<A>,
+    record: &Record<A>,
     part: &Part<A>,
     w: &mut W,
 ) -> Result<(), ToolFault> {
+    let rows = file.rows.items();
+    let times = times_of_rows(alloc, &record.times)?;
+    write_block(alloc, "times", None, times, w)?;
     for (i, survey) in part.surveys.iter().enumerate() {
-        let bytes = samples_of(alloc, file.rows.items(), i, is_wide(*survey))?;
-        write_block(alloc, &name_of(alloc, "s", i), &bytes, w)?;
+        let samples = samples_of(alloc, rows, i, is_wide(*survey))?;
+        write_block(alloc, "s", Some(i), samples, w)?;
+    }
+    for i in 0..file.head.status.items().len() {
+        let bits = bits_of(alloc, rows, i)?;
+        write_block(alloc, "d", Some(i), bits, w)?;
     }
     Ok(())
-}
-
-/// Writes the bits of all contacts.
-fn write_bits<A: Allocator + Copy, W: Write>(
-    alloc: A,
-    file: &File<A>,
-    w: &mut W,
-) -> Result<(), ToolFault> {
-    for (i, _) in file.head.status.items().iter().enumerate() {
-        let bytes = bits_of(alloc, file.rows.items(), i)?;
-        write_block(alloc, &name_of(alloc, "d", i), &bytes, w)?;
-    }
-    Ok(())
-}
-
-fn write_times<A: Allocator + Copy, W: Write>(
-    alloc: A,
-    record: &Record<A>,
-    w: &mut W,
-) -> Result<(), ToolFault> {
-    let bytes = times_of_rows(alloc, &record.times)?;
-    let mut name = Sheet::new(alloc);
-    name.text("times");
-    write_block(alloc, &name, &bytes, w)
 }
 
 /// Writes the page's end, with the script.
@@ -232,8 +197,6 @@ pub fn page_over<A: Allocator + Copy, W: Write>(
     put_begin(&mut sheet, file);
     put_json(&mut sheet, file, &record, &part, choice);
     sheet.write(w)?;
-    write_times(alloc, &record, w)?;
-    write_samples(alloc, file, &part, w)?;
-    write_bits(alloc, file, w)?;
+    write_data(alloc, file, &record, &part, w)?;
     write_end(alloc, w)
 }

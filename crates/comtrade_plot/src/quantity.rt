@@ -21,23 +21,18 @@ fn places_for(size: f64) -> u8 {
     }
 }
 
-/// A number of at most a million or so, to four digits and whole ones.
-fn put_digits<A: Allocator>(sheet: &mut Sheet<A>, number: f64) {
-    let places = places_for(number.abs());
-    let power = power_of_ten(i32::from(places));
-    let half = if number < 0.0 { -0.5 } else { 0.5 };
-    put_places(
-        sheet,
-        saturating_f64_to_i64(number * power + half),
-        u32::from(places),
-    );
-}
-
-/// A value with its unit.
+/// A value with its unit, to four digits and whole ones.
 pub(crate) fn put_quantity<A: Allocator>(sheet: &mut Sheet<A>, value: f64, unit: &[u8]) {
     let unit = unit_of(unit);
     let exponent = shown_exponent(unit, value.abs());
-    put_digits(sheet, value / power_of_ten(exponent));
+    let number = value / power_of_ten(exponent);
+    let places = places_for(number.abs());
+    let half = if number < 0.0 { -0.5 } else { 0.5 };
+    put_places(
+        sheet,
+        saturating_f64_to_i64(number * power_of_ten(i32::from(places)) + half),
+        u32::from(places),
+    );
     sheet.text(" ");
     put_unit(sheet, unit, exponent);
 }
