@@ -95,28 +95,20 @@ pub fn put_fault<A: Allocator + Copy>(
     put_line(out, &mut line)
 }
 
-/// The line of a pair that can be read, with this head.
-fn put_sound<A: Allocator>(
+/// That a pair has no fault, and what is odd about the file that it reads to.
+pub fn put_no_fault<A: Allocator + Copy>(
+    alloc: A,
     out: &mut Vec<u8, A>,
     pair: Pair<'_>,
-    head: &Head<A>,
+    file: &File<A>,
 ) -> Result<(), AllocError> {
+    let counts = counts_of(&file.head);
     put_safe(out, pair.cfg_name)?;
     put(out, ", ")?;
     put_safe(out, pair.dat_name)?;
     put(out, ": no fault; ")?;
-    put(out, kind_name(head.kind))?;
+    put(out, kind_name(file.head.kind))?;
     put(out, " data, ")?;
-    put_head_counts(out, counts_of(head), rows_of(head))?;
-    put(out, "\n")
-}
-
-/// The numbers of channels and rows.
-fn put_head_counts<A: Allocator>(
-    out: &mut Vec<u8, A>,
-    counts: Counts,
-    rows: u64,
-) -> Result<(), AllocError> {
     put_count(
         out,
         counts.analog,
@@ -129,16 +121,6 @@ fn put_head_counts<A: Allocator>(
         " status channel, ",
         " status channels, ",
     )?;
-    put_count(out, rows, " row", " rows")
-}
-
-/// That a pair has no fault, and what is odd about the file that it reads to.
-pub fn put_no_fault<A: Allocator + Copy>(
-    alloc: A,
-    out: &mut Vec<u8, A>,
-    pair: Pair<'_>,
-    file: &File<A>,
-) -> Result<(), AllocError> {
-    put_sound(out, pair, &file.head)?;
+    put_count(out, rows_of(&file.head), " row\n", " rows\n")?;
     put_remarks(alloc, out, pair, file)
 }

@@ -25,19 +25,6 @@ fn text_field(line: u64, field: u32) -> (&'static str, &'static str) {
     }
 }
 
-fn put_text<A: Allocator + Copy>(
-    alloc: A,
-    out: &mut Vec<u8, A>,
-    cfg: &[u8],
-    (line, field): (u64, u32),
-) -> Result<(), AllocError> {
-    let (name, wanted) = text_field(line, field);
-    put_line_of(alloc, out, cfg, line, field, name)?;
-    put(out, "; a file that is written holds ")?;
-    put(out, wanted)?;
-    put(out, " there")
-}
-
 /// The sample of a row and a channel, both counted from 1, of the file that a pair reads to.
 fn sample_at<A: Allocator + Copy>(alloc: A, pair: Pair<'_>, row: u64, channel: u32) -> Option<i32> {
     match read(alloc, pair.cfg, pair.dat) {
@@ -73,21 +60,23 @@ fn put_refused<A: Allocator + Copy>(
 ) -> Result<(), AllocError> {
     match fault {
         WriteFault::Text(line, field) => {
+            let (name, wanted) = text_field(line, field);
             put_safe(out, pair.cfg_name)?;
             put(out, ": ")?;
-            put_text(alloc, out, pair.cfg, (line, field))?;
+            put_line_of(alloc, out, pair.cfg, line, field, name)?;
+            put(out, "; a file that is written holds ")?;
+            put(out, wanted)?;
+            put(out, " there")?;
         }
         WriteFault::Value(row, channel) => {
             put_safe(out, pair.dat_name)?;
             put(out, ": ")?;
             put_sample(alloc, out, pair, (row, channel))?;
-            put(
-                out,
-                match kind {
-                    Kind::Ascii => "ASCII data hold -99999 to 99998",
-                    Kind::Binary => "BINARY data hold -32767 to 32767",
-                },
-            )?;
+            let held = match kind {
+                Kind::Ascii => "ASCII data hold -99999 to 99998",
+                Kind::Binary => "BINARY data hold -32767 to 32767",
+            };
+            put(out, held)?;
         }
         WriteFault::Stamp(row) => {
             put_safe(out, pair.dat_name)?;
@@ -96,13 +85,11 @@ fn put_refused<A: Allocator + Copy>(
                 out,
                 ": its number or its stamp is greater than the data can hold: ",
             )?;
-            put(
-                out,
-                match kind {
-                    Kind::Ascii => "9999999999",
-                    Kind::Binary => "4294967295 and 4294967294",
-                },
-            )?;
+            let most = match kind {
+                Kind::Ascii => "9999999999",
+                Kind::Binary => "4294967295 and 4294967294",
+            };
+            put(out, most)?;
         }
         _ => put(out, "the numbers of the file don't agree")?,
     }
