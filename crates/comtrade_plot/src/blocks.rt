@@ -15,13 +15,10 @@ pub(crate) fn write_block<A: Allocator + Copy, W: Write>(
     alloc: A,
     name: &str,
     number: Option<usize>,
-    bytes: Vec<u8, A>,
+    bytes: &[u8],
     w: &mut W,
 ) -> Result<(), ToolFault> {
-    let text = STANDARD.encode(alloc, bytes.as_slice());
-    // here, so that no exit proves its drop
-    drop(bytes);
-    let text = text?;
+    let text = STANDARD.encode(alloc, bytes)?;
     let mut head = Sheet::new(alloc);
     head.texts(&["<script type=\"text/plain\" id=\"", name]);
     if let Some(n) = number {

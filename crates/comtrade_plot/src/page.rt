@@ -162,15 +162,14 @@ fn write_data<A: Allocator + Copy, W: Write>(
     w: &mut W,
 ) -> Result<(), ToolFault> {
     let rows = file.rows.items();
-    let times = times_of_rows(alloc, &record.times)?;
-    write_block(alloc, "times", None, times, w)?;
+    let times = &record.times;
+    write_block(alloc, "times", None, &times_of_rows(alloc, times)?, w)?;
     for (i, survey) in part.surveys.iter().enumerate() {
         let samples = samples_of(alloc, rows, i, is_wide(*survey))?;
-        write_block(alloc, "s", Some(i), samples, w)?;
+        write_block(alloc, "s", Some(i), &samples, w)?;
     }
     for i in 0..file.head.status.items().len() {
-        let bits = bits_of(alloc, rows, i)?;
-        write_block(alloc, "d", Some(i), bits, w)?;
+        write_block(alloc, "d", Some(i), &bits_of(alloc, rows, i)?, w)?;
     }
     Ok(())
 }

@@ -3,7 +3,7 @@
 use crate::peaks::{Peaks, peaks_at, peaks_of};
 use comtrade_format::File;
 use comtrade_io::ToolFault;
-use comtrade_values::nearest_f64;
+use comtrade_values::{nearest_f64, scale_of};
 use dfr_channels::{AnalogChannel, Decimal, Side};
 use std::alloc::Allocator;
 
@@ -23,19 +23,6 @@ pub(crate) fn nominal_of<A: Allocator>(channel: &AnalogChannel<A>) -> Decimal {
     }
 }
 
-/// How often a value of a sample is the channel's nominal current.
-fn times_nominal<A: Allocator + Copy>(
-    alloc: A,
-    channel: &AnalogChannel<A>,
-    sample: i32,
-) -> Result<f64, ToolFault> {
-    let scale = comtrade_values::scale_of(alloc, channel)?;
-    let nominal = nearest_f64(alloc, nominal_of(channel))?;
-    let value = scale.value(sample);
-    let size = if value < 0.0 { -value } else { value };
-    Ok(if 0.0 < nominal { size / nominal } else { 0.0 })
-}
-
 /// The greatest current of a channel, by its nominal one, or the greatest before it.
 fn greatest_of<A: Allocator + Copy>(
     alloc: A,
@@ -47,9 +34,12 @@ fn greatest_of<A: Allocator + Copy>(
     let Some((least, most)) = peaks.extremes else {
         return Ok(before);
     };
+    let scale = scale_of(alloc, channel)?;
+    let nominal = nearest_f64(alloc, nominal_of(channel))?;
     let mut greatest = before;
     for sample in [least.sample, most.sample] {
-        let times = times_nominal(alloc, channel, sample)?;
+        let size = scale.value(sample).abs();
+        let times = if 0.0 < nominal { size / nominal } else { 0.0 };
         let known = match greatest {
             Some(current) => current.times,
             None => 0.0,

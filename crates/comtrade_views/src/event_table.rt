@@ -12,11 +12,6 @@ const ONE: &str = "instant\x1Fms since trigger\x1Fsince before\x1Fwhat\x1F\n";
 /// The columns of the table of several records.
 const MANY: &str = "instant\x1Fms since trigger\x1Fsince before\x1Frecord\x1Fwhat\x1F\n";
 
-/// The time from one event to the next.
-fn between(before: Option<i128>, at: Option<i128>) -> Option<i128> {
-    Some(at?.saturating_sub(before?))
-}
-
 /// A line of the table: the instant, how long after the trigger and after the event before it is, the record where there are several, and
 /// what happened.
 fn put_event<A: Allocator>(
@@ -30,7 +25,11 @@ fn put_event<A: Allocator>(
         None => put_with(table, "row ", event.row)?,
     }
     end_cell(table)?;
-    for nanos in [event.since, between(before, event.at)] {
+    let since_before = match (before, event.at) {
+        (Some(before), Some(at)) => Some(at.saturating_sub(before)),
+        _ => None,
+    };
+    for nanos in [event.since, since_before] {
         if let Some(nanos) = nanos {
             put_millis(table, nanos)?;
         }
@@ -70,7 +69,6 @@ pub fn put_events<A: Allocator + Copy>(
     events: &[Event<A>],
     names: &[String],
 ) -> Result<(), ToolFault> {
-    let table = event_table(alloc, events, names)?;
-    put_table(alloc, out, &table)?;
+    put_table(alloc, out, &event_table(alloc, events, names)?)?;
     Ok(())
 }

@@ -1,6 +1,6 @@
 //! What happened in records, in one list: triggers, changes of contacts, gaps.
 
-use crate::peaks::{bit_at, reading_at};
+use crate::peaks::bit_at;
 use crate::times::times_since_trigger;
 use comtrade_format::{File, Row};
 use comtrade_io::{ToolFault, put, put_count, put_safe, put_with};
@@ -82,17 +82,6 @@ fn add_changes<A: Allocator + Copy>(
     Ok(())
 }
 
-/// How many readings a row misses.
-fn missing_in<A: Allocator>(row: &Row<A>) -> u64 {
-    let mut missing = 0u64;
-    for (i, _) in row.values.items().iter().enumerate() {
-        if reading_at(row, i) == Reading::Missing {
-            missing = missing.saturating_add(1);
-        }
-    }
-    missing
-}
-
 /// A run of rows that miss readings.
 #[derive(Clone, Copy)]
 struct Gap {
@@ -125,22 +114,6 @@ fn add_gap<A: Allocator + Copy>(
     Ok(())
 }
 
-/// The run with one row more.
-fn with_row(gap: Option<Gap>, row: usize, missing: u64) -> Gap {
-    match gap {
-        Some(gap) => Gap {
-            from: gap.from,
-            to: row,
-            channels: gap.channels.max(missing),
-        },
-        None => Gap {
-            from: row,
-            to: row,
-            channels: missing,
-        },
-    }
-}
-
 /// The runs of rows that miss readings.
 fn add_gaps<A: Allocator + Copy>(
     alloc: A,
@@ -150,9 +123,20 @@ fn add_gaps<A: Allocator + Copy>(
     let file = source.file;
     let mut begun: Option<Gap> = None;
     for (i, row) in file.rows.items().iter().enumerate() {
-        let missing = missing_in(row);
+        let readings = row.values.items().iter();
+        let missing = readings
+            .filter(|reading| **reading == Reading::Missing)
+            .count() as u64;
         if 0 < missing {
-            begun = Some(with_row(begun, i, missing));
+            let (from, channels) = match begun {
+                Some(gap) => (gap.from, gap.channels.max(missing)),
+                None => (i, missing),
+            };
+            begun = Some(Gap {
+                from,
+                to: i,
+                channels,
+            });
         } else {
             add_gap(alloc, events, source, begun)?;
             begun = None;

@@ -5,19 +5,6 @@ use ryu::Buffer;
 use std::alloc::{AllocError, Allocator};
 use std::num::saturating_f64_to_i64;
 
-/// The number that digits are, one after another.
-fn units_of(whole: &str, places: &str) -> i128 {
-    let mut units = 0i128;
-    for b in whole.bytes().chain(places.bytes()) {
-        if b.is_ascii_digit() {
-            units = units
-                .saturating_mul(10)
-                .saturating_add(i128::from(b.saturating_sub(b'0')));
-        }
-    }
-    units
-}
-
 /// A float as its shortest decimal; none where it is no number.
 fn number_of(x: f64) -> Option<Number> {
     let size = x.abs();
@@ -29,7 +16,14 @@ fn number_of(x: f64) -> Option<Number> {
     let (digits, exponent) = text.split_once('e').unwrap_or((text, "0"));
     let (whole, places) = digits.split_once('.').unwrap_or((digits, ""));
     let exponent = exponent.parse::<i32>().ok()?;
-    let units = units_of(whole, places);
+    let mut units = 0i128;
+    for b in whole.bytes().chain(places.bytes()) {
+        if b.is_ascii_digit() {
+            units = units
+                .saturating_mul(10)
+                .saturating_add(i128::from(b.saturating_sub(b'0')));
+        }
+    }
     Some(Number {
         units: if x < 0.0 {
             units.saturating_mul(-1)

@@ -1,7 +1,7 @@
 //! What is in a pair of files, as JSON.
 
 use crate::instant::put_instant;
-use crate::json::{put_rows_json, put_text};
+use crate::json::{Objects, put_rows_json, put_text};
 use crate::number::put_decimal;
 use crate::peaks::peaks_of;
 use crate::show::Clock;
@@ -11,10 +11,15 @@ use comtrade_format::{File, Head};
 use comtrade_io::{ToolFault, kind_name, put, put_with};
 use std::alloc::{AllocError, Global};
 
-const ANALOG: &str =
-    "n# id phase component unit a# b# range ratio side least# least_ms# greatest# greatest_ms# missing#";
+const ANALOG: Objects = Objects {
+    before: ",\"analog\":",
+    members: "n# id phase component unit a# b# range ratio side least# least_ms# greatest# greatest_ms# missing#",
+};
 
-const STATUS: &str = "n# id phase component normal# first# changes";
+const STATUS: Objects = Objects {
+    before: ",\"status\":",
+    members: "n# id phase component normal# first# changes",
+};
 
 /// A key and an instant.
 fn put_when(alloc: Global, out: &mut Vec<u8>, key: &str, instant: i64) -> Result<(), AllocError> {
@@ -59,18 +64,6 @@ fn put_head(alloc: Global, out: &mut Vec<u8>, file: &File) -> Result<(), AllocEr
     put_decimal(out, head.timemult)
 }
 
-/// The analogue channels.
-fn put_analog(
-    alloc: Global,
-    out: &mut Vec<u8>,
-    file: &File,
-    clock: Clock<'_>,
-) -> Result<(), AllocError> {
-    let peaks = peaks_of(alloc, file)?;
-    let table = analog_table(alloc, file, clock, &peaks)?;
-    put_rows_json(alloc, out, ",\"analog\":", ANALOG, &table)
-}
-
 /// What is in a file.
 fn put_file(
     alloc: Global,
@@ -79,9 +72,10 @@ fn put_file(
     clock: Clock<'_>,
 ) -> Result<(), AllocError> {
     put_head(alloc, out, file)?;
-    put_analog(alloc, out, file, clock)?;
-    let table = contact_table(alloc, file, clock)?;
-    put_rows_json(alloc, out, ",\"status\":", STATUS, &table)?;
+    let analog = analog_table(alloc, file, clock, &peaks_of(alloc, file)?)?;
+    put_rows_json(alloc, out, ANALOG, &analog)?;
+    drop(analog);
+    put_rows_json(alloc, out, STATUS, &contact_table(alloc, file, clock)?)?;
     put(out, "}\n")
 }
 

@@ -3,7 +3,6 @@
 use comtrade_io::put;
 use comtrade_values::civil_of;
 use itoa::Buffer;
-use jiff_core::civil::DateTime;
 use std::alloc::{AllocError, Allocator};
 
 /// A number with zeros in front, `width` digits at least.
@@ -20,7 +19,20 @@ pub(crate) fn put_padded<A: Allocator>(
     out.extend_from_slice(digits)
 }
 
-fn put_civil<A: Allocator>(out: &mut Vec<u8, A>, civil: DateTime) -> Result<(), AllocError> {
+/// Microseconds since 1970-01-01 00:00:00 as `yyyy-mm-dd hh:mm:ss.ssssss`; an instant outside the years 1 to 9999 has a text.
+pub(crate) fn put_instant<A: Allocator>(
+    out: &mut Vec<u8, A>,
+    instant: i128,
+) -> Result<(), AllocError> {
+    let civil = match i64::try_from(instant) {
+        Ok(near) => civil_of(near),
+        Err(_) => None,
+    };
+    let civil = match civil {
+        Some(civil) if 1 <= civil.date.year => civil,
+        _ if instant < 0 => return put(out, "before the year 1"),
+        _ => return put(out, "after the year 9999"),
+    };
     put_padded(out, civil.date.year.unsigned_abs() as u64, 4)?;
     for (before, n) in [
         ("-", civil.date.month),
@@ -34,22 +46,6 @@ fn put_civil<A: Allocator>(out: &mut Vec<u8, A>, civil: DateTime) -> Result<(), 
     }
     put(out, ".")?;
     put_padded(out, (civil.time.subsec_nanosecond / 1000) as u64, 6)
-}
-
-/// Microseconds since 1970-01-01 00:00:00 as `yyyy-mm-dd hh:mm:ss.ssssss`; an instant outside the years 1 to 9999 has a text.
-pub(crate) fn put_instant<A: Allocator>(
-    out: &mut Vec<u8, A>,
-    instant: i128,
-) -> Result<(), AllocError> {
-    let civil = match i64::try_from(instant) {
-        Ok(near) => civil_of(near),
-        Err(_) => None,
-    };
-    match civil {
-        Some(civil) if 1 <= civil.date.year => put_civil(out, civil),
-        _ if instant < 0 => put(out, "before the year 1"),
-        _ => put(out, "after the year 9999"),
-    }
 }
 
 /// Nanoseconds as milliseconds with three places.

@@ -156,11 +156,14 @@ fn put_window_of(
     name: Option<&str>,
     shown: Shown<'_>,
 ) -> Result<(), MeasureFault> {
-    let measures = measures_of(alloc, file, window)?;
-    let made = measures_with(alloc, file, window, name, shown, &measures);
-    // here, so that no exit proves the drop of its items
-    drop(measures);
-    let made = made?;
+    let made = measures_with(
+        alloc,
+        file,
+        window,
+        name,
+        shown,
+        &measures_of(alloc, file, window)?,
+    )?;
     let outcome = if shown.json {
         put_measures_json(alloc, out, &made, shown)
     } else {

@@ -138,6 +138,5 @@ pub(crate) fn put_analog<A: Allocator + Copy>(
         out,
         "; values are a*x + b, times are ms since the trigger\n",
     )?;
-    let table = analog_table(alloc, file, clock, peaks)?;
-    put_table(alloc, out, &table)
+    put_table(alloc, out, &analog_table(alloc, file, clock, peaks)?)
 }

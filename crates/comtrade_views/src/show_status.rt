@@ -107,6 +107,5 @@ pub(crate) fn put_status<A: Allocator + Copy>(
     if count == 0 {
         return Ok(());
     }
-    let table = contact_table(alloc, file, clock)?;
-    put_table(alloc, out, &table)
+    put_table(alloc, out, &contact_table(alloc, file, clock)?)
 }

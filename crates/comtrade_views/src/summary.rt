@@ -180,8 +180,7 @@ pub fn put_summaries<A: Allocator + Copy>(
     out: &mut Vec<u8, A>,
     records: &[Summary<A>],
 ) -> Result<(), ToolFault> {
-    let table = summary_table(alloc, records)?;
-    put_table(alloc, out, &table)?;
+    put_table(alloc, out, &summary_table(alloc, records)?)?;
     put_faults(out, records)?;
     Ok(())
 }

@@ -110,20 +110,7 @@ fn blanks_after(widths: &[usize], spot: Spot, blanks: usize, b: u8) -> usize {
     blanks.saturating_add(wanted.saturating_sub(spot.width).saturating_add(2))
 }
 
-/// A byte of a table, after so many blanks; cells end in none.
-fn put_byte<A: Allocator>(out: &mut Vec<u8, A>, blanks: usize, b: u8) -> Result<(), AllocError> {
-    if b == CELL {
-        return Ok(());
-    }
-    if b != b'\n' {
-        for _ in 0..blanks {
-            out.extend_from_slice(b" ")?;
-        }
-    }
-    out.extend_from_slice(&[b])
-}
-
-/// A table with columns of these widths.
+/// A table with columns of these widths: blanks before each character, and none at a line's end.
 fn put_columns<A: Allocator>(
     out: &mut Vec<u8, A>,
     table: &[u8],
@@ -132,7 +119,13 @@ fn put_columns<A: Allocator>(
     let mut spot = BEGIN;
     let mut blanks = 2usize;
     for b in table {
-        put_byte(out, blanks, *b)?;
+        if *b != CELL {
+            let before = if *b == b'\n' { 0 } else { blanks };
+            for _ in 0..before {
+                out.extend_from_slice(b" ")?;
+            }
+            out.extend_from_slice(&[*b])?;
+        }
         blanks = blanks_after(widths, spot, blanks, *b);
         spot = after(spot, *b);
     }

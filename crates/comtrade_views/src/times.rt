@@ -15,25 +15,17 @@ pub(crate) fn times_of<A: Allocator + Copy>(
     let mut clock = clock_of(&file.head);
     for (i, row) in file.rows.items().iter().enumerate() {
         clock = clock.at(i as u64);
-        times.push(near(clock.nanos(i as u64, row.stamp)))?;
+        times.push(match clock.nanos(i as u64, row.stamp) {
+            Some(nanos) => i64::try_from(nanos).ok(),
+            None => None,
+        })?;
     }
     Ok(times)
-}
-
-/// A time of at most 292 years.
-fn near(nanos: Option<u128>) -> Option<i64> {
-    i64::try_from(nanos?).ok()
 }
 
 /// When the trigger was, in nanoseconds since the instant of the first row.
 pub(crate) fn trigger_since_first<A: Allocator>(file: &File<A>) -> i128 {
     (file.head.trigger as i128 - file.head.first as i128) * 1000
-}
-
-/// A time since the first row as one since the trigger.
-fn since(time: Option<i64>, trigger: i128) -> Option<i64> {
-    let nanos = time? as i128;
-    i64::try_from(nanos.saturating_sub(trigger)).ok()
 }
 
 /// When each row was taken, in nanoseconds since the trigger; none where nothing says it, and beyond 292 years.
@@ -44,7 +36,9 @@ pub fn times_since_trigger<A: Allocator + Copy>(
     let trigger = trigger_since_first(file);
     let mut times = times_of(alloc, file)?;
     for time in times.iter_mut() {
-        *time = since(*time, trigger);
+        if let Some(nanos) = *time {
+            *time = i64::try_from((nanos as i128).saturating_sub(trigger)).ok();
+        }
     }
     Ok(times)
 }

@@ -96,15 +96,6 @@ fn phasor_at(parts: &[f64], order: usize) -> Phasor {
     }
 }
 
-/// The mean of the squares that the parts leave.
-fn rest_of(squares: f64, sums: &[f64], parts: &[f64], rows: usize) -> f64 {
-    let mut rest = squares;
-    for (i, sum) in sums.iter().enumerate() {
-        rest -= sum * at(parts, i);
-    }
-    rest.max(0.0) / nearest_usize_to_f64(rows)
-}
-
 /// What totals say of a channel.
 fn measured_of<A: Allocator + Copy>(
     alloc: A,
@@ -115,7 +106,12 @@ fn measured_of<A: Allocator + Copy>(
     let mut parts = Vec::from_slice(alloc, &totals.sums)?;
     matrix.solve(&mut parts);
     let dc = at(&parts, 0);
-    let mut square = dc * dc + rest_of(totals.squares, &totals.sums, &parts, rows);
+    // the squares that the parts leave
+    let mut rest = totals.squares;
+    for (i, sum) in totals.sums.iter().enumerate() {
+        rest -= sum * at(&parts, i);
+    }
+    let mut square = dc * dc + rest.max(0.0) / nearest_usize_to_f64(rows);
     let mut orders = Vec::new(alloc);
     for order in 1..=parts.len() / 2 {
         let size = phasor_at(&parts, order).magnitude();

@@ -13,16 +13,6 @@ fn has_angle<A: Allocator>(measures: &[Option<Measured<A>>], place: usize) -> bo
     }
 }
 
-/// The place of the first channel that has an angle.
-fn first_with_angle<A: Allocator>(measures: &[Option<Measured<A>>]) -> Option<usize> {
-    for place in 0..measures.len() {
-        if has_angle(measures, place) {
-            return Some(place);
-        }
-    }
-    None
-}
-
 /// The place of the first channel with this id, in any case of letters, else that of this number from 1.
 fn place_of<A: Allocator>(head: &Head<A>, name: &str) -> Option<usize> {
     for (place, channel) in head.analog.items().iter().enumerate() {
@@ -46,7 +36,12 @@ pub fn reference_in<A: Allocator>(
     name: Option<&str>,
 ) -> Result<Option<usize>, MeasureFault> {
     let Some(name) = name else {
-        return Ok(first_with_angle(measures));
+        for place in 0..measures.len() {
+            if has_angle(measures, place) {
+                return Ok(Some(place));
+            }
+        }
+        return Ok(None);
     };
     match place_of(head, name) {
         Some(place) if has_angle(measures, place) => Ok(Some(place)),

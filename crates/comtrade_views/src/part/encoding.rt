@@ -29,19 +29,15 @@ impl Encoding {
     }
 }
 
-/// A byte of Latin-1 as UTF-8: one from 80 on has two.
-fn put_letter<A: Allocator>(out: &mut Vec<u8, A>, b: u8) -> Result<(), AllocError> {
-    if b < 0x80 {
-        return out.extend_from_slice(&[b]);
-    }
-    out.extend_from_slice(&[0xC0 | b >> 6, 0x80 | b & 0x3F])
-}
-
-/// Makes a text of Latin-1 one of UTF-8.
+/// Makes a text of Latin-1 one of UTF-8: a byte from 80 on has two there.
 fn turn<A: Allocator>(alloc: A, text: &mut Items<u8, A>) -> Result<(), AllocError> {
     let mut made = Vec::new(alloc);
     for b in text.items() {
-        put_letter(&mut made, *b)?;
+        if *b < 0x80 {
+            made.push(*b)?;
+        } else {
+            made.extend_from_slice(&[0xC0 | *b >> 6, 0x80 | *b & 0x3F])?;
+        }
     }
     *text = Items::of(made);
     Ok(())

@@ -60,11 +60,6 @@ fn is_between(from: Bound, to: Bound, index: u64, time: Option<i128>) -> bool {
     is_after && is_before
 }
 
-/// When a row was taken, where that is at most what 127 bits hold.
-fn time_of(nanos: Option<u128>) -> Option<i128> {
-    i128::try_from(nanos?).ok()
-}
-
 /// The rows between both bounds, from the first of them to the last; none where there is none.
 fn between<A: Allocator>(
     file: &File<A>,
@@ -78,7 +73,10 @@ fn between<A: Allocator>(
     for (i, row) in rows.iter().enumerate() {
         let index = i as u64;
         clock = clock.at(index);
-        let time = time_of(clock.nanos(index, row.stamp));
+        let time = match clock.nanos(index, row.stamp) {
+            Some(nanos) => i128::try_from(nanos).ok(),
+            None => None,
+        };
         has_times = has_times || time.is_some();
         if is_between(from, to, index, time) {
             let first = match found {
