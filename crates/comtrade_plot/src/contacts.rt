@@ -12,13 +12,6 @@ use comtrade_io::ToolFault;
 use dfr_channels::StatusChannel;
 use std::alloc::Allocator;
 
-/// Marks the contacts whose bits differ.
-fn mark_changed(changed: &mut [bool], one: &[bool], other: &[bool]) {
-    for (mark, (a, b)) in changed.iter_mut().zip(one.iter().zip(other.iter())) {
-        *mark = *mark || a != b;
-    }
-}
-
 /// The first row that is drawn.
 fn first_drawn<'a, A: Allocator>(chart: &Chart<'a, A>) -> Option<&'a Row<A>> {
     let file = chart.file;
@@ -40,7 +33,10 @@ fn mark_drawn<A: Allocator>(chart: &Chart<'_, A>, changed: &mut [bool]) {
     let rows = file.rows.items();
     for (row, place) in rows.iter().zip(chart.places.iter()) {
         if place.is_some() {
-            mark_changed(changed, first.bits.items(), row.bits.items());
+            let bits = first.bits.items().iter().zip(row.bits.items().iter());
+            for (mark, (one, other)) in changed.iter_mut().zip(bits) {
+                *mark = *mark || one != other;
+            }
         }
     }
     if unmarked(changed) == 1 {

@@ -49,18 +49,6 @@ fn first_tick(step: Step, low: f64) -> i64 {
     }
 }
 
-fn put_tick<A: Allocator>(sheet: &mut Sheet<A>, step: Step, tick: i64) {
-    let units = tick.saturating_mul(step.digit);
-    if step.exponent < 0 {
-        return put_places(sheet, units, step.exponent.unsigned_abs());
-    }
-    let mut units = units;
-    for _ in 0..step.exponent {
-        units = units.saturating_mul(10);
-    }
-    sheet.signed(units);
-}
-
 /// A level's line, and its value, which is made narrower where it has more than ten characters.
 fn put_level<A: Allocator + Copy>(
     sheet: &mut Sheet<A>,
@@ -74,7 +62,11 @@ fn put_level<A: Allocator + Copy>(
     sheet.along("H", RIGHT);
     sheet.text("\"/>");
     let mut label = Sheet::new(chart.alloc);
-    put_tick(&mut label, step, tick);
+    let mut units = tick.saturating_mul(step.digit);
+    for _ in 0..step.exponent {
+        units = units.saturating_mul(10);
+    }
+    put_places(&mut label, units, step.exponent.min(0).unsigned_abs());
     let narrow = " text-anchor=\"end\" textLength=\"68\" lengthAdjust=\"spacingAndGlyphs\"";
     let rest = if 10 < label.len() {
         narrow

@@ -6,7 +6,7 @@ use crate::legend::NAMES;
 use crate::panels::{panel_of, put_frame, put_traces};
 use crate::plan::{Frame, LEFT, RIGHT};
 use crate::sheet::Sheet;
-use crate::units::is_current;
+use crate::units::unit_of;
 use std::alloc::Allocator;
 
 /// How high the strip is, with what is below it.
@@ -19,7 +19,7 @@ fn chosen_panel<A: Allocator>(chart: &Chart<'_, A>) -> usize {
     let file = chart.file;
     let channels = file.head.analog.items();
     for (channel, panel) in channels.iter().zip(chart.panels.iter()) {
-        if is_current(channel.unit.items()) {
+        if unit_of(channel.unit.items()).base == b"A".as_slice() {
             return *panel;
         }
     }

@@ -24,12 +24,6 @@ const NONE: Peaks = Peaks {
     missing: 0,
 };
 
-/// The reading of a channel, counted from 0.
-pub(crate) fn reading_at<A: Allocator>(row: &Row<A>, channel: usize) -> Reading {
-    let readings = row.values.items();
-    readings.get(channel).copied().unwrap_or(Reading::Missing)
-}
-
 /// The bit of a status channel, counted from 0.
 pub(crate) fn bit_at<A: Allocator>(row: &Row<A>, channel: usize) -> bool {
     row.bits.items().get(channel).copied().unwrap_or(false)
@@ -55,27 +49,6 @@ fn with_sample(extremes: Option<(Peak, Peak)>, peak: Peak) -> (Peak, Peak) {
     }
 }
 
-impl Peaks {
-    /// With the reading of a row more.
-    fn add(&mut self, reading: Reading, row: usize) {
-        match reading {
-            Reading::Missing => self.missing = self.missing.saturating_add(1),
-            Reading::Value(sample) => {
-                self.extremes = Some(with_sample(self.extremes, Peak { sample, row }));
-            }
-        }
-    }
-}
-
-/// Brings the readings of the rows into the peaks of their channels.
-fn add_rows<A: Allocator>(peaks: &mut [Peaks], rows: &[Row<A>]) {
-    for (i, row) in rows.iter().enumerate() {
-        for (known, reading) in peaks.iter_mut().zip(row.values.items().iter()) {
-            known.add(*reading, i);
-        }
-    }
-}
-
 /// The peaks of each analogue channel, by one look over the rows.
 pub(crate) fn peaks_of<A: Allocator + Copy>(
     alloc: A,
@@ -85,7 +58,16 @@ pub(crate) fn peaks_of<A: Allocator + Copy>(
     for _ in file.head.analog.items() {
         peaks.push(NONE)?;
     }
-    add_rows(&mut peaks, file.rows.items());
+    for (i, row) in file.rows.items().iter().enumerate() {
+        for (known, reading) in peaks.iter_mut().zip(row.values.items().iter()) {
+            match *reading {
+                Reading::Missing => known.missing = known.missing.saturating_add(1),
+                Reading::Value(sample) => {
+                    known.extremes = Some(with_sample(known.extremes, Peak { sample, row: i }));
+                }
+            }
+        }
+    }
     Ok(peaks)
 }
 

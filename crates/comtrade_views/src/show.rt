@@ -2,7 +2,7 @@
 
 use crate::instant::{put_instant, put_millis};
 use crate::number::put_decimal;
-use crate::peaks::{Peaks, peaks_at, peaks_of, reading_at};
+use crate::peaks::{Peaks, peaks_at, peaks_of};
 use crate::show_analog::put_analog;
 use crate::show_status::{LISTED, put_more, put_status};
 use crate::times::trigger_since_first;
@@ -135,10 +135,10 @@ fn put_gaps_of<A: Allocator>(
         begun: None,
     };
     for (i, row) in rows.iter().enumerate() {
-        if reading_at(row, at) == Reading::Missing {
-            gaps.begun = gaps.begun.or(Some(i));
-        } else {
+        if let Some(Reading::Value(_)) = row.values.items().get(at) {
             gaps = end_gap(out, clock, gaps, i)?;
+        } else {
+            gaps.begun = gaps.begun.or(Some(i));
         }
     }
     let gaps = end_gap(out, clock, gaps, rows.len())?;
