@@ -25,6 +25,19 @@ fn text_field(line: u64, field: u32) -> (&'static str, &'static str) {
     }
 }
 
+fn put_text<A: Allocator + Copy>(
+    alloc: A,
+    out: &mut Vec<u8, A>,
+    cfg: &[u8],
+    (line, field): (u64, u32),
+) -> Result<(), AllocError> {
+    let (name, wanted) = text_field(line, field);
+    put_line_of(alloc, out, cfg, line, field, name)?;
+    put(out, "; a file that is written holds ")?;
+    put(out, wanted)?;
+    put(out, " there")
+}
+
 /// The sample of a row and a channel, both counted from 1, of the file that a pair reads to.
 fn sample_at<A: Allocator + Copy>(alloc: A, pair: Pair<'_>, row: u64, channel: u32) -> Option<i32> {
     match read(alloc, pair.cfg, pair.dat) {
@@ -60,13 +73,9 @@ fn put_refused<A: Allocator + Copy>(
 ) -> Result<(), AllocError> {
     match fault {
         WriteFault::Text(line, field) => {
-            let (name, wanted) = text_field(line, field);
             put_safe(out, pair.cfg_name)?;
             put(out, ": ")?;
-            put_line_of(alloc, out, pair.cfg, line, field, name)?;
-            put(out, "; a file that is written holds ")?;
-            put(out, wanted)?;
-            put(out, " there")?;
+            put_text(alloc, out, pair.cfg, (line, field))?;
         }
         WriteFault::Value(row, channel) => {
             put_safe(out, pair.dat_name)?;

@@ -149,7 +149,7 @@ fn put_over<'a, A: Allocator + Copy>(
     files: (&'a File<A>, &'a File<A>),
     records: (&'a Record<A>, &'a Record<A>),
     parts: (&'a Part<A>, &'a Part<A>),
-    laid: Laid,
+    is_part: bool,
     options: CompareOptions,
 ) -> Result<(), ToolFault> {
     let one = chart_of(alloc, files.0, records.0, parts.0);
@@ -164,6 +164,11 @@ fn put_over<'a, A: Allocator + Copy>(
         moments: &moments,
         places: &places,
         most: records.0.cycle.unwrap_or(USUAL_CYCLE) / 8,
+    };
+    let laid = Laid {
+        by: options.by,
+        is_part,
+        is_whole: options.picture.is_whole,
     };
     put_picture(sheet, &beside, laid, options)
 }
@@ -223,18 +228,13 @@ fn draw<A: Allocator + Copy, W: Write>(
     let first = part_in(alloc, one, records.0, drawn.frame, panels)?;
     let second = part_in(alloc, other, records.1, drawn.frame, beside)?;
     let mut sheet = Sheet::new(alloc);
-    let laid = Laid {
-        by: options.by,
-        is_part: drawn.is_part,
-        is_whole,
-    };
     put_over(
         alloc,
         &mut sheet,
         files,
         records,
         (&first, &second),
-        laid,
+        drawn.is_part,
         options,
     )?;
     sheet.text("</svg>\n");

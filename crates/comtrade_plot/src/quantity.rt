@@ -12,7 +12,7 @@ pub(crate) fn put_quantity<A: Allocator>(sheet: &mut Sheet<A>, value: f64, unit:
     let exponent = shown_exponent(unit, value.abs());
     let number = value / power_of_ten(exponent);
     let size = number.abs();
-    let places = if size < 1.0 {
+    let places: i32 = if size < 1.0 {
         4
     } else if size < 10.0 {
         3
