@@ -2,7 +2,7 @@
 
 use crate::peaks::bit_at;
 use crate::times::times_since_trigger;
-use comtrade_format::{File, Row};
+use comtrade_format::File;
 use comtrade_io::{ToolFault, put, put_count, put_safe, put_with};
 use dfr_channels::Reading;
 use std::alloc::{AllocError, Allocator, Global};
