@@ -121,19 +121,19 @@ fn put_bars<A: Allocator>(sheet: &mut Sheet<A>, chart: &Chart<'_, A>, top: u32, 
             bar = None;
             continue;
         };
-        let is_open = bit_at(row, channel);
+        let is_one = bit_at(row, channel);
         bar = match bar {
-            Some(bar) if bar.is_open || is_open && x <= bar.to.saturating_add(5) => Some(Bar {
+            Some(bar) if bar.is_open || is_one && x <= bar.to.saturating_add(5) => Some(Bar {
                 from: bar.from,
                 to: x,
-                is_open,
+                is_open: is_one,
             }),
-            ended if is_open => {
+            ended if is_one => {
                 put_bar(sheet, ended, top);
                 Some(Bar {
                     from: x,
                     to: x,
-                    is_open,
+                    is_open: true,
                 })
             }
             ended => ended,

@@ -11,15 +11,11 @@ pub(crate) fn put_instant<A: Allocator>(sheet: &mut Sheet<A>, instant: i64) {
         return;
     };
     sheet.padded(civil.date.year.unsigned_abs() as u64, 4);
-    for (before, n) in [
-        ("-", civil.date.month),
-        ("-", civil.date.day),
-        (" ", civil.time.hour),
-        (":", civil.time.minute),
-        (":", civil.time.second),
-    ] {
+    let (date, time) = (civil.date, civil.time);
+    let parts = [date.month, date.day, time.hour, time.minute, time.second];
+    for (before, n) in ["-", "-", " ", ":", ":"].iter().zip(parts.iter()) {
         sheet.text(before);
-        sheet.padded(u64::from(n), 2);
+        sheet.padded(u64::from(*n), 2);
     }
     sheet.text(".");
     sheet.padded((civil.time.subsec_nanosecond / 1000) as u64, 6);

@@ -36,16 +36,6 @@ const LINE: usize = 32;
 /// The most lines of a name.
 const LINES: u32 = 3;
 
-/// The first channel of a panel.
-pub(crate) fn channel_in<A: Allocator>(chart: &Chart<'_, A>, panel: usize) -> Option<usize> {
-    for (i, its) in chart.panels.iter().enumerate() {
-        if *its == panel {
-            return Some(i);
-        }
-    }
-    None
-}
-
 /// How high a line of a legend is.
 pub(crate) const LINE_HEIGHT: u32 = 140;
 
@@ -143,6 +133,16 @@ pub(crate) fn legends_height<A: Allocator>(chart: &Chart<'_, A>, panel: usize) -
 /// How high a panel is, without its title.
 pub(crate) fn height_of<A: Allocator>(chart: &Chart<'_, A>, panel: usize, count: usize) -> u32 {
     legends_height(chart, panel).max(least_height(count))
+}
+
+/// The first channel of a panel.
+pub(crate) fn channel_in<A: Allocator>(chart: &Chart<'_, A>, panel: usize) -> Option<usize> {
+    for (i, its) in chart.panels.iter().enumerate() {
+        if *its == panel {
+            return Some(i);
+        }
+    }
+    None
 }
 
 /// How many panels there are.

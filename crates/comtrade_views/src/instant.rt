@@ -34,15 +34,11 @@ pub(crate) fn put_instant<A: Allocator>(
         _ => return put(out, "after the year 9999"),
     };
     put_padded(out, civil.date.year.unsigned_abs() as u64, 4)?;
-    for (before, n) in [
-        ("-", civil.date.month),
-        ("-", civil.date.day),
-        (" ", civil.time.hour),
-        (":", civil.time.minute),
-        (":", civil.time.second),
-    ] {
+    let (date, time) = (civil.date, civil.time);
+    let parts = [date.month, date.day, time.hour, time.minute, time.second];
+    for (before, n) in ["-", "-", " ", ":", ":"].iter().zip(parts.iter()) {
         put(out, before)?;
-        put_padded(out, n as u64, 2)?;
+        put_padded(out, *n as u64, 2)?;
     }
     put(out, ".")?;
     put_padded(out, (civil.time.subsec_nanosecond / 1000) as u64, 6)
