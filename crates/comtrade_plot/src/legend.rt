@@ -7,7 +7,7 @@ use crate::plan::RIGHT;
 use crate::quantity::put_quantity;
 use crate::sheet::Sheet;
 use crate::survey::Survey;
-use crate::units::is_alternating;
+use crate::units::unit_of;
 use comtrade_values::Scale;
 use std::alloc::Allocator;
 
@@ -72,9 +72,10 @@ pub(crate) fn peak_of(survey: Survey, scale: Scale) -> Option<f64> {
     Some(if high.abs() < low.abs() { low } else { high })
 }
 
-/// The effective values around the trigger, where they are known.
+/// The effective values of a current or voltage around the trigger, where they are known.
 fn put_rms<A: Allocator>(sheet: &mut Sheet<A>, survey: Survey, unit: &[u8]) {
-    if !is_alternating(unit) {
+    let base = unit_of(unit).base;
+    if base != b"A".as_slice() && base != b"V".as_slice() {
         return;
     }
     if let Some(before) = survey.before.rms() {

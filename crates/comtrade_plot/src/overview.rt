@@ -38,25 +38,7 @@ fn put_ends<A: Allocator>(sheet: &mut Sheet<A>, whole: Frame, y: u32) {
     sheet.end_text();
 }
 
-/// What the strip is, beside it.
-fn put_words<A: Allocator>(sheet: &mut Sheet<A>, whole: Frame, part: Frame, y: u32) {
-    sheet.begin_text(NAMES, y, "");
-    sheet.text("the whole record, ");
-    put_span(sheet, whole.to.saturating_sub(whole.from));
-    sheet.end_text();
-    sheet.begin_text(NAMES, y.saturating_add(140), "");
-    sheet.text("drawn below: ");
-    put_range(sheet, part.from, part.to);
-    sheet.end_text();
-    sheet.label(
-        NAMES,
-        y.saturating_add(280),
-        " class=\"f\" font-size=\"10.5\" fill=\"#55595f\"",
-        "comtrade plot --whole draws all",
-    );
-}
-
-/// The strip of a whole record, at a height. The part that is drawn below is a box in it: a few pixels wide at least.
+/// The strip of a whole record, at a height, and beside it what it is. The part that is drawn below is a box in it: a few pixels wide at least.
 pub(crate) fn put_overview<A: Allocator>(
     sheet: &mut Sheet<A>,
     whole: &Chart<'_, A>,
@@ -75,5 +57,18 @@ pub(crate) fn put_overview<A: Allocator>(
     sheet.begin_box((from, top.saturating_sub(20)), (width, HEIGHT + 40));
     sheet.text(" class=\"q\" fill=\"#f0b429\" fill-opacity=\"0.3\" stroke=\"#b07a00\"/>\n");
     put_ends(sheet, frame, top.saturating_add(HEIGHT + 150));
-    put_words(sheet, frame, part, top.saturating_add(110));
+    sheet.begin_text(NAMES, top.saturating_add(110), "");
+    sheet.text("the whole record, ");
+    put_span(sheet, frame.to.saturating_sub(frame.from));
+    sheet.end_text();
+    sheet.begin_text(NAMES, top.saturating_add(250), "");
+    sheet.text("drawn below: ");
+    put_range(sheet, part.from, part.to);
+    sheet.end_text();
+    sheet.label(
+        NAMES,
+        top.saturating_add(390),
+        " class=\"f\" font-size=\"10.5\" fill=\"#55595f\"",
+        "comtrade plot --whole draws all",
+    );
 }

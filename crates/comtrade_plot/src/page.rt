@@ -174,13 +174,6 @@ fn write_data<A: Allocator + Copy, W: Write>(
     Ok(())
 }
 
-/// Writes the page's end, with the script.
-fn write_end<A: Allocator + Copy, W: Write>(alloc: A, w: &mut W) -> Result<(), ToolFault> {
-    let mut sheet = Sheet::new(alloc);
-    sheet.texts(&["<script>\n", script(), "</script>\n</body></html>\n"]);
-    sheet.write(w)
-}
-
 /// Prints a page that shows a file in a browser, without a network; its rows were taken at these times, in nanoseconds since the
 /// trigger.
 pub fn page_over<A: Allocator + Copy, W: Write>(
@@ -197,5 +190,7 @@ pub fn page_over<A: Allocator + Copy, W: Write>(
     put_json(&mut sheet, file, &record, &part, choice);
     sheet.write(w)?;
     write_data(alloc, file, &record, &part, w)?;
-    write_end(alloc, w)
+    let mut end = Sheet::new(alloc);
+    end.texts(&["<script>\n", script(), "</script>\n</body></html>\n"]);
+    end.write(w)
 }

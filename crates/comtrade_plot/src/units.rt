@@ -61,12 +61,6 @@ pub(crate) fn unit_of(unit: &[u8]) -> Unit<'_> {
     }
 }
 
-/// Whether a unit is one of currents or voltages, whose effective values are told.
-pub(crate) fn is_alternating(unit: &[u8]) -> bool {
-    let base = unit_of(unit).base;
-    base == b"A".as_slice() || base == b"V".as_slice()
-}
-
 fn prefix_of(exponent: i32) -> Option<&'static str> {
     match exponent {
         -24 => Some("y"),
