@@ -14,18 +14,6 @@ pub(crate) const STRIP: u32 = 760;
 
 const HEIGHT: u32 = 440;
 
-/// The panel of the strip: the first one of currents, else the first one.
-fn chosen_panel<A: Allocator>(chart: &Chart<'_, A>) -> usize {
-    let file = chart.file;
-    let channels = file.head.analog.items();
-    for (channel, panel) in channels.iter().zip(chart.panels.iter()) {
-        if unit_of(channel.unit.items()).base == b"A".as_slice() {
-            return *panel;
-        }
-    }
-    0
-}
-
 /// The times at both ends of the record.
 fn put_ends<A: Allocator>(sheet: &mut Sheet<A>, whole: Frame, y: u32) {
     let rest = " font-size=\"10.5\" class=\"f\" fill=\"#55595f\"";
@@ -36,6 +24,18 @@ fn put_ends<A: Allocator>(sheet: &mut Sheet<A>, whole: Frame, y: u32) {
     sheet.begin_text(RIGHT, y, rest);
     put_span(sheet, whole.to);
     sheet.end_text();
+}
+
+/// The panel of the strip: the first one of currents, else the first one.
+fn chosen_panel<A: Allocator>(chart: &Chart<'_, A>) -> usize {
+    let file = chart.file;
+    let channels = file.head.analog.items();
+    for (channel, panel) in channels.iter().zip(chart.panels.iter()) {
+        if unit_of(channel.unit.items()).base == b"A".as_slice() {
+            return *panel;
+        }
+    }
+    0
 }
 
 /// The strip of a whole record, at a height, and beside it what it is. The part that is drawn below is a box in it: a few pixels wide at least.
