@@ -10,7 +10,7 @@ use crate::names::Counts;
 use crate::remarks::put_remarks;
 use comtrade_format::{File, Head};
 use comtrade_io::{kind_name, put, put_count, put_safe};
-use comtrade_read::{Fault, Part, ReadFault, read_cfg};
+use comtrade_read::{Fault, Part, read_cfg};
 use std::alloc::{AllocError, Allocator};
 
 /// The bytes of two files, and what they are called.
@@ -38,26 +38,6 @@ fn rows_of<A: Allocator>(head: &Head<A>) -> u64 {
     }
 }
 
-/// The fault of a data file beside a configuration file that can be read.
-fn put_data_fault<A: Allocator + Copy>(
-    alloc: A,
-    out: &mut Vec<u8, A>,
-    pair: Pair<'_>,
-    fault: ReadFault,
-) -> Result<(), AllocError> {
-    match read_cfg(alloc, pair.cfg) {
-        Ok(head) => put_dat_fault(
-            alloc,
-            out,
-            counts_of(&head),
-            rows_of(&head),
-            pair.dat,
-            fault,
-        ),
-        Err(_) => Err(AllocError),
-    }
-}
-
 /// A fault's words: the file, the line, the field, what stands there and what is wanted.
 fn put_fault_words<A: Allocator + Copy>(
     alloc: A,
@@ -69,15 +49,24 @@ fn put_fault_words<A: Allocator + Copy>(
         Part::Cfg => {
             put_safe(out, pair.cfg_name)?;
             put(out, ": ")?;
-            put_cfg_fault(alloc, out, pair.cfg, found.fault)?;
+            put_cfg_fault(alloc, out, pair.cfg, found.fault)
         }
         Part::Dat => {
             put_safe(out, pair.dat_name)?;
             put(out, ": ")?;
-            put_data_fault(alloc, out, pair, found.fault)?;
+            match read_cfg(alloc, pair.cfg) {
+                Ok(head) => put_dat_fault(
+                    alloc,
+                    out,
+                    counts_of(&head),
+                    rows_of(&head),
+                    pair.dat,
+                    found.fault,
+                ),
+                Err(_) => Err(AllocError),
+            }
         }
     }
-    Ok(())
 }
 
 /// The line that names a fault: the file, the line, the field, what stands there and what is wanted.
@@ -95,28 +84,20 @@ pub fn put_fault<A: Allocator + Copy>(
     put_line(out, &mut line)
 }
 
-/// The line of a pair that can be read, with this head.
-fn put_sound<A: Allocator>(
+/// That a pair has no fault, and what is odd about the file that it reads to.
+pub fn put_no_fault<A: Allocator + Copy>(
+    alloc: A,
     out: &mut Vec<u8, A>,
     pair: Pair<'_>,
-    head: &Head<A>,
+    file: &File<A>,
 ) -> Result<(), AllocError> {
+    let counts = counts_of(&file.head);
     put_safe(out, pair.cfg_name)?;
     put(out, ", ")?;
     put_safe(out, pair.dat_name)?;
     put(out, ": no fault; ")?;
-    put(out, kind_name(head.kind))?;
+    put(out, kind_name(file.head.kind))?;
     put(out, " data, ")?;
-    put_head_counts(out, counts_of(head), rows_of(head))?;
-    put(out, "\n")
-}
-
-/// The numbers of channels and rows.
-fn put_head_counts<A: Allocator>(
-    out: &mut Vec<u8, A>,
-    counts: Counts,
-    rows: u64,
-) -> Result<(), AllocError> {
     put_count(
         out,
         counts.analog,
@@ -129,16 +110,6 @@ fn put_head_counts<A: Allocator>(
         " status channel, ",
         " status channels, ",
     )?;
-    put_count(out, rows, " row", " rows")
-}
-
-/// That a pair has no fault, and what is odd about the file that it reads to.
-pub fn put_no_fault<A: Allocator + Copy>(
-    alloc: A,
-    out: &mut Vec<u8, A>,
-    pair: Pair<'_>,
-    file: &File<A>,
-) -> Result<(), AllocError> {
-    put_sound(out, pair, &file.head)?;
+    put_count(out, rows_of(&file.head), " row\n", " rows\n")?;
     put_remarks(alloc, out, pair, file)
 }

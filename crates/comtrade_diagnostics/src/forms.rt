@@ -37,14 +37,10 @@ fn is_number(text: &[u8]) -> bool {
     Decimal::read(text).is_some()
 }
 
-fn is_type(text: &[u8]) -> bool {
-    text.starts_with(b"ASCII") || text.starts_with(b"BINARY")
-}
-
 /// The form of a line with these fields, where it has that of one kind alone.
 fn form_of(fields: &[&[u8]]) -> Option<Form> {
     match fields {
-        [text] if is_type(text) => Some(Form::Type),
+        [text] if text.starts_with(b"ASCII") || text.starts_with(b"BINARY") => Some(Form::Type),
         [text] if is_number(text) => Some(Form::Number),
         [date, time] if date.contains(&b'/') && time.contains(&b':') => Some(Form::Instant),
         [samp, endsamp] if is_number(samp) && is_number(endsamp) => Some(Form::Rate),
@@ -56,21 +52,18 @@ fn form_of(fields: &[&[u8]]) -> Option<Form> {
     }
 }
 
-/// Whether counts that don't agree with the lines put a line of this form here. A frequency that looks like a rate has a decimal
-/// comma, and a rate that looks like a number has no last row.
-fn is_misplaced(form: Form, place: Place) -> bool {
-    match place {
-        Place::Analog(_) | Place::Status(_) => true,
-        Place::Frequency | Place::TimeMultiplier => form != Form::Rate,
-        _ => form != Form::Number,
-    }
-}
-
 /// The form of a line with these fields, where one of another form is wanted.
 fn other_form(fields: &[&[u8]], place: Place) -> Option<Form> {
     let wanted = form_wanted(place)?;
     let form = form_of(fields)?;
-    if form != wanted && is_misplaced(form, place) {
+    // whether counts that don't agree with the lines put it here: a frequency that looks like a rate has a decimal comma, and a rate that
+    // looks like a number has no last row
+    let is_misplaced = match place {
+        Place::Analog(_) | Place::Status(_) => true,
+        Place::Frequency | Place::TimeMultiplier => form != Form::Rate,
+        _ => form != Form::Number,
+    };
+    if form != wanted && is_misplaced {
         Some(form)
     } else {
         None

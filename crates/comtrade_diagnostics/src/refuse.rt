@@ -81,13 +81,11 @@ fn put_refused<A: Allocator + Copy>(
             put_safe(out, pair.dat_name)?;
             put(out, ": ")?;
             put_sample(alloc, out, pair, (row, channel))?;
-            put(
-                out,
-                match kind {
-                    Kind::Ascii => "ASCII data hold -99999 to 99998",
-                    Kind::Binary => "BINARY data hold -32767 to 32767",
-                },
-            )?;
+            let held = match kind {
+                Kind::Ascii => "ASCII data hold -99999 to 99998",
+                Kind::Binary => "BINARY data hold -32767 to 32767",
+            };
+            put(out, held)?;
         }
         WriteFault::Stamp(row) => {
             put_safe(out, pair.dat_name)?;
@@ -96,13 +94,11 @@ fn put_refused<A: Allocator + Copy>(
                 out,
                 ": its number or its stamp is greater than the data can hold: ",
             )?;
-            put(
-                out,
-                match kind {
-                    Kind::Ascii => "9999999999",
-                    Kind::Binary => "4294967295 and 4294967294",
-                },
-            )?;
+            let most = match kind {
+                Kind::Ascii => "9999999999",
+                Kind::Binary => "4294967295 and 4294967294",
+            };
+            put(out, most)?;
         }
         _ => put(out, "the numbers of the file don't agree")?,
     }

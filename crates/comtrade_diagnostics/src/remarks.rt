@@ -3,46 +3,43 @@
 use crate::check::Pair;
 use comtrade_dialects::{Doubt, doubts_of};
 use comtrade_format::File;
-use comtrade_io::{put, put_count, put_safe, put_signed, put_with};
+use comtrade_io::{put, put_safe, put_signed, put_with};
 use dfr_channels::Reading;
 use std::alloc::{AllocError, Allocator};
 
-/// The front of a line on rows: the data file, and the first row.
-fn put_row<A: Allocator>(
+/// The front of a line: the file, and the number of its first place.
+fn put_front<A: Allocator>(
     out: &mut Vec<u8, A>,
-    pair: Pair<'_>,
-    doubt: Doubt,
+    name: &[u8],
+    place: &str,
+    number: u64,
 ) -> Result<(), AllocError> {
     put(out, "note: ")?;
-    put_safe(out, pair.dat_name)?;
-    put_with(out, ": row ", doubt.row)
+    put_safe(out, name)?;
+    put_with(out, place, number)
 }
 
-/// The end of a line: how many places there are.
-fn put_end<A: Allocator>(
-    out: &mut Vec<u8, A>,
-    doubt: Doubt,
-    one: &str,
-    more: &str,
-) -> Result<(), AllocError> {
-    put(out, "; ")?;
-    put_count(out, doubt.count, one, more)?;
-    put(out, "\n")
+/// The end of a line: how many such places there are.
+fn put_end<A: Allocator>(out: &mut Vec<u8, A>, doubt: Doubt, noun: &str) -> Result<(), AllocError> {
+    put_with(out, "; ", doubt.count)?;
+    put(out, noun)?;
+    put(out, if doubt.count == 1 { "\n" } else { "s\n" })
 }
 
-/// A line on rows, where there is a doubt.
-fn put_rows<A: Allocator>(
+/// A line on rows, or on lines of the configuration file, where there is one.
+fn put_places<A: Allocator>(
     out: &mut Vec<u8, A>,
-    pair: Pair<'_>,
+    (name, place): (&[u8], &str),
     doubt: Doubt,
     words: &str,
+    noun: &str,
 ) -> Result<(), AllocError> {
     if doubt.count == 0 {
         return Ok(());
     }
-    put_row(out, pair, doubt)?;
+    put_front(out, name, place, doubt.row)?;
     put(out, words)?;
-    put_end(out, doubt, " such row", " such rows")
+    put_end(out, doubt, noun)
 }
 
 /// The least and the greatest sample that a channel says.
@@ -73,58 +70,25 @@ pub(crate) fn sample_in<A: Allocator>(file: &File<A>, row: u64, channel: u64) ->
     }
 }
 
-/// A line on samples outside their range, where there is one.
-fn put_outside<A: Allocator>(
+/// A line on samples at a channel's range, where there is one: the words before the sample and after it.
+fn put_samples<A: Allocator>(
     out: &mut Vec<u8, A>,
     pair: Pair<'_>,
     file: &File<A>,
     doubt: Doubt,
+    (before, after): (&str, &str),
+    noun: &str,
 ) -> Result<(), AllocError> {
     let Some(sample) = sample_in(file, doubt.row, doubt.channel) else {
         return Ok(());
     };
-    put_row(out, pair, doubt)?;
+    put_front(out, pair.dat_name, ": row ", doubt.row)?;
     put_with(out, " (analogue channel ", doubt.channel)?;
-    put(out, "): the sample ")?;
+    put(out, before)?;
     put_signed(out, i64::from(sample))?;
-    put(out, " is outside its range, ")?;
+    put(out, after)?;
     put_range(out, file, doubt.channel, " to ")?;
-    put_end(out, doubt, " such sample", " such samples")
-}
-
-/// A line on samples that stay at an end of their range, where there is one.
-fn put_flat<A: Allocator>(
-    out: &mut Vec<u8, A>,
-    pair: Pair<'_>,
-    file: &File<A>,
-    doubt: Doubt,
-) -> Result<(), AllocError> {
-    let Some(sample) = sample_in(file, doubt.row, doubt.channel) else {
-        return Ok(());
-    };
-    put_row(out, pair, doubt)?;
-    put_with(out, " (analogue channel ", doubt.channel)?;
-    put(out, "): three samples or more in a row are ")?;
-    put_signed(out, i64::from(sample))?;
-    put(out, ", an end of the range ")?;
-    put_range(out, file, doubt.channel, " to ")?;
-    put_end(out, doubt, " such run", " such runs")
-}
-
-/// A line on texts that aren't ASCII, where there is one.
-fn put_foreign<A: Allocator>(
-    out: &mut Vec<u8, A>,
-    pair: Pair<'_>,
-    doubt: Doubt,
-) -> Result<(), AllocError> {
-    if doubt.count == 0 {
-        return Ok(());
-    }
-    put(out, "note: ")?;
-    put_safe(out, pair.cfg_name)?;
-    put_with(out, ": line ", doubt.row)?;
-    put(out, ": a text isn't ASCII, as the standard wants it")?;
-    put_end(out, doubt, " such line", " such lines")
+    put_end(out, doubt, noun)
 }
 
 /// A line on channels whose min is over their max, where there is one.
@@ -137,12 +101,11 @@ fn put_turned<A: Allocator>(
     if doubt.count == 0 {
         return Ok(());
     }
-    put(out, "note: ")?;
-    put_safe(out, pair.cfg_name)?;
-    put_with(out, ": analogue channel ", doubt.channel)?;
+    let channel = doubt.channel;
+    put_front(out, pair.cfg_name, ": analogue channel ", channel)?;
     put(out, ": min ")?;
-    put_range(out, file, doubt.channel, " is over max ")?;
-    put_end(out, doubt, " such channel", " such channels")
+    put_range(out, file, channel, " is over max ")?;
+    put_end(out, doubt, " such channel")
 }
 
 /// What is odd about a pair that reads to this file, which is no fault: a line for each kind, as `note: x.dat: row 2 ..`.
@@ -153,26 +116,35 @@ pub fn put_remarks<A: Allocator + Copy>(
     file: &File<A>,
 ) -> Result<(), AllocError> {
     let doubts = doubts_of(alloc, file)?;
-    put_foreign(out, pair, doubts.foreign)?;
+    put_places(
+        out,
+        (pair.cfg_name, ": line "),
+        doubts.foreign,
+        ": a text isn't ASCII, as the standard wants it",
+        " such line",
+    )?;
     put_turned(out, pair, file, doubts.turned)?;
-    put_rows(
-        out,
-        pair,
-        doubts.repeated,
-        ": its number isn't above that of the row before",
-    )?;
-    put_rows(
-        out,
-        pair,
-        doubts.falling,
-        ": its stamp is below that of the row before",
-    )?;
-    put_rows(
-        out,
-        pair,
-        doubts.off,
-        ": its stamp and the rate disagree by over half an interval; the rate says the times",
-    )?;
-    put_outside(out, pair, file, doubts.outside)?;
-    put_flat(out, pair, file, doubts.flat)
+    for (doubt, words) in [
+        (
+            doubts.repeated,
+            ": its number isn't above that of the row before",
+        ),
+        (
+            doubts.falling,
+            ": its stamp is below that of the row before",
+        ),
+        (
+            doubts.off,
+            ": its stamp and the rate disagree by over half an interval; the rate says the times",
+        ),
+    ] {
+        put_places(out, (pair.dat_name, ": row "), doubt, words, " such row")?;
+    }
+    let outside = ("): the sample ", " is outside its range, ");
+    put_samples(out, pair, file, doubts.outside, outside, " such sample")?;
+    let flat = (
+        "): three samples or more in a row are ",
+        ", an end of the range ",
+    );
+    put_samples(out, pair, file, doubts.flat, flat, " such run")
 }

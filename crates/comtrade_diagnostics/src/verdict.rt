@@ -8,19 +8,8 @@ use crate::check::{Pair, put_fault, put_no_fault};
 use crate::hints::put_hint;
 use comtrade_io::{ToolFault, write_out};
 use comtrade_read::{Fault, ReadFault, read};
-use std::alloc::{AllocError, Allocator};
+use std::alloc::Allocator;
 use std::io::Write;
-
-/// The first fault of a pair, and whether `import` reads it.
-fn put_faulty<A: Allocator + Copy>(
-    alloc: A,
-    out: &mut Vec<u8, A>,
-    pair: Pair<'_>,
-    found: Fault,
-) -> Result<(), AllocError> {
-    put_fault(alloc, out, pair, found)?;
-    put_hint(alloc, out, pair)
-}
 
 /// Puts the first fault of a pair in words, and whether `import` reads it; or that it has none, and what is odd about it. True where it has
 /// none.
@@ -42,7 +31,8 @@ fn put_verdict<A: Allocator + Copy>(
         }
         Err((_, ReadFault::Memory)) => Err(ToolFault::Memory),
         Err((part, fault)) => {
-            put_faulty(alloc, out, pair, Fault { part, fault })?;
+            put_fault(alloc, out, pair, Fault { part, fault })?;
+            put_hint(alloc, out, pair)?;
             Ok(false)
         }
     }

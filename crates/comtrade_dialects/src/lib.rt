@@ -34,6 +34,7 @@ mod packed_row;
 mod pair;
 mod range;
 mod rates;
+mod readings;
 mod row;
 mod said_instant;
 mod scale;

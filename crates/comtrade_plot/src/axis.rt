@@ -216,18 +216,7 @@ pub(crate) fn put_gaps<A: Allocator>(
     sheet.text("\"/>\n");
 }
 
-/// How long a gap is, or how many rows it has.
-fn put_length<A: Allocator>(sheet: &mut Sheet<A>, chart: &Chart<'_, A>, gap: Gap) {
-    sheet.text("gap ");
-    if chart.is_timed {
-        put_span(sheet, gap.to.saturating_sub(gap.from));
-    } else {
-        sheet.number(gap.rows);
-        sheet.text(if gap.rows == 1 { " row" } else { " rows" });
-    }
-}
-
-/// The lengths of gaps at a height, as far as there is room.
+/// The lengths of gaps at a height, or how many rows they have, as far as there is room.
 pub(crate) fn put_gap_names<A: Allocator>(sheet: &mut Sheet<A>, chart: &Chart<'_, A>, y: u32) {
     let mut end = 0u32;
     for gap in chart.gaps {
@@ -239,7 +228,13 @@ pub(crate) fn put_gap_names<A: Allocator>(sheet: &mut Sheet<A>, chart: &Chart<'_
                 y,
                 " text-anchor=\"middle\" font-size=\"10.5\" class=\"f\" fill=\"#55595f\"",
             );
-            put_length(sheet, chart, *gap);
+            sheet.text("gap ");
+            if chart.is_timed {
+                put_span(sheet, gap.to.saturating_sub(gap.from));
+            } else {
+                sheet.number(gap.rows);
+                sheet.text(if gap.rows == 1 { " row" } else { " rows" });
+            }
             sheet.end_text();
             end = middle.saturating_add(800);
         }

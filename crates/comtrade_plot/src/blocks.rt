@@ -10,38 +10,27 @@ use std::alloc::{AllocError, Allocator};
 use std::io::Write;
 use std::num::{f64_to_bits_with_nan, nearest_i64_to_f64};
 
-/// Writes a block of the page: a letter and a number are its name.
+/// Writes a block of the page, whose name is a word, or a letter and a number.
 pub(crate) fn write_block<A: Allocator + Copy, W: Write>(
     alloc: A,
-    name: &Sheet<A>,
+    name: &str,
+    number: Option<usize>,
     bytes: &[u8],
     w: &mut W,
 ) -> Result<(), ToolFault> {
     let text = STANDARD.encode(alloc, bytes)?;
-    write_out(w, b"<script type=\"text/plain\" id=\"")?;
-    name.write(w)?;
-    write_out(w, b"\">")?;
+    let mut head = Sheet::new(alloc);
+    head.texts(&["<script type=\"text/plain\" id=\"", name]);
+    if let Some(n) = number {
+        head.number(n as u64);
+    }
+    head.text("\">");
+    head.write(w)?;
     write_out(w, text.as_bytes())?;
     write_out(w, b"</script>\n")
 }
 
-/// A sample in 16 bits; a missing one, and one that has no room, is the least number.
-fn short_of(reading: Reading) -> i16 {
-    match reading {
-        Reading::Value(sample) => i16::try_from(sample).unwrap_or(i16::MIN),
-        Reading::Missing => i16::MIN,
-    }
-}
-
-/// A sample in 32 bits; a missing one is the least number.
-fn long_of(reading: Reading) -> i32 {
-    match reading {
-        Reading::Value(sample) => sample,
-        Reading::Missing => i32::MIN,
-    }
-}
-
-/// A channel's samples as little-endian integers of 16 bits, or of 32 bits.
+/// A channel's samples as little-endian integers of 16 bits, or of 32 bits; a missing one, and one that has no room, is the least number.
 #[derive(Drop)]
 pub(crate) struct Samples<A: Allocator> {
     pub(crate) bytes: Vec<u8, A>,
@@ -50,12 +39,15 @@ pub(crate) struct Samples<A: Allocator> {
 
 impl<A: Allocator> Samples<A> {
     fn add(&mut self, reading: Reading) -> Result<(), AllocError> {
+        let sample = match reading {
+            Reading::Value(sample) => sample,
+            Reading::Missing => i32::MIN,
+        };
         if self.is_wide {
-            self.bytes
-                .extend_from_slice(&long_of(reading).to_le_bytes())
+            self.bytes.extend_from_slice(&sample.to_le_bytes())
         } else {
-            self.bytes
-                .extend_from_slice(&short_of(reading).to_le_bytes())
+            let short = i16::try_from(sample).unwrap_or(i16::MIN);
+            self.bytes.extend_from_slice(&short.to_le_bytes())
         }
     }
 }

@@ -5,10 +5,10 @@ use crate::compare_head::{Laid, put_compare_head, put_singles, singles_in};
 use crate::compare_panels::{pairs_end, put_pairs};
 use crate::contacts::{bars_of, contacts_height, put_contacts};
 use crate::differing::Beside;
-use crate::joint::{drawn_of, is_any, moments_of, own_panels, panels_beside, shifted};
+use crate::joint::{drawn_of, own_panels, panels_beside, shifted};
 use crate::layers::Layer;
-use crate::layout::Chart;
-use crate::plan::{LEFT, partners_of, places_of};
+use crate::layout::panel_count;
+use crate::plan::{LEFT, course_of, partners_of, places_of};
 use crate::plot::PlotOptions;
 use crate::record::{Part, Record, USUAL_CYCLE, chart_of, part_in, record_of};
 use crate::sheet::Sheet;
@@ -109,33 +109,20 @@ fn put_scales<A: Allocator>(sheet: &mut Sheet<A>, beside: &Beside<'_, A>, places
     );
 }
 
-fn has_contacts<A: Allocator>(chart: &Chart<'_, A>) -> bool {
-    let file = chart.file;
-    !file.head.status.items().is_empty()
-}
-
-/// Which contacts of both records are drawn; none of the other's where none of the one's was asked for.
-fn bars_in<A: Allocator + Copy>(
+/// The picture of two records; no contact of the other's is drawn where none of the one's was asked for.
+fn put_picture<A: Allocator + Copy>(
+    sheet: &mut Sheet<A>,
     beside: &Beside<'_, A>,
+    laid: Laid,
     options: CompareOptions,
-) -> Result<(Vec<bool, A>, Vec<bool, A>), ToolFault> {
+) -> Result<(), ToolFault> {
     let mut other_bars = bars_of(beside.other, options.picture.shows_all)?;
-    if options.is_chosen && !has_contacts(beside.one) {
+    let file = beside.one.file;
+    if options.is_chosen && file.head.status.items().is_empty() {
         other_bars.clear();
     }
     let bars = bars_of(beside.one, options.picture.shows_all)?;
-    Ok((bars, other_bars))
-}
-
-/// The picture of two records with these contacts.
-fn put_drawn<A: Allocator + Copy>(
-    sheet: &mut Sheet<A>,
-    beside: &Beside<'_, A>,
-    bars: (&[bool], &[bool]),
-    laid: Laid,
-    options: CompareOptions,
-) {
-    let places = places_in(beside, bars.0, bars.1);
+    let places = places_in(beside, &bars, &other_bars);
     let has_one = singles_in(beside.one) != 0;
     let has_other = !options.is_chosen && singles_in(beside.other) != 0;
     let first = places.times.saturating_add(590);
@@ -143,8 +130,8 @@ fn put_drawn<A: Allocator + Copy>(
     let end = second.saturating_add(160 * u32::from(has_other));
     put_compare_head(sheet, beside, laid, options.picture, end);
     put_pairs(sheet, beside, places.panels);
-    put_contacts(sheet, beside.one, bars.0, places.contacts);
-    put_contacts(sheet, beside.other, bars.1, places.others);
+    put_contacts(sheet, beside.one, &bars, places.contacts);
+    put_contacts(sheet, beside.other, &other_bars, places.others);
     put_scales(sheet, beside, places);
     if has_one {
         put_singles(sheet, beside.one, beside.other, first);
@@ -152,17 +139,6 @@ fn put_drawn<A: Allocator + Copy>(
     if has_other {
         put_singles(sheet, beside.other, beside.one, second);
     }
-}
-
-/// The picture of two records.
-fn put_picture<A: Allocator + Copy>(
-    sheet: &mut Sheet<A>,
-    beside: &Beside<'_, A>,
-    laid: Laid,
-    options: CompareOptions,
-) -> Result<(), ToolFault> {
-    let (bars, other_bars) = bars_in(beside, options)?;
-    put_drawn(sheet, beside, (&bars, &other_bars), laid, options);
     Ok(())
 }
 
@@ -173,12 +149,13 @@ fn put_over<'a, A: Allocator + Copy>(
     files: (&'a File<A>, &'a File<A>),
     records: (&'a Record<A>, &'a Record<A>),
     parts: (&'a Part<A>, &'a Part<A>),
-    laid: Laid,
+    is_part: bool,
     options: CompareOptions,
 ) -> Result<(), ToolFault> {
     let one = chart_of(alloc, files.0, records.0, parts.0);
     let other = chart_of(alloc, files.1, records.1, parts.1);
-    let moments = moments_of(alloc, records.1)?;
+    // (also the rows that were lost, which have no readings)
+    let moments = course_of(alloc, &records.1.times)?;
     let places = places_of(alloc, &moments, &records.0.kept)?;
     let beside = Beside {
         one: &one,
@@ -188,31 +165,12 @@ fn put_over<'a, A: Allocator + Copy>(
         places: &places,
         most: records.0.cycle.unwrap_or(USUAL_CYCLE) / 8,
     };
+    let laid = Laid {
+        by: options.by,
+        is_part,
+        is_whole: options.picture.is_whole,
+    };
     put_picture(sheet, &beside, laid, options)
-}
-
-/// Why the triggers of two records can't be laid over each other: an instant that isn't known is the first of 1970.
-fn untriggered<A: Allocator>(one: &File<A>, other: &File<A>) -> Option<Refusal> {
-    if one.head.trigger == 0 {
-        return Some(Refusal::UntriggeredOne);
-    }
-    if other.head.trigger == 0 {
-        Some(Refusal::UntriggeredOther)
-    } else {
-        None
-    }
-}
-
-/// Why times of two records can't be.
-fn timeless<A: Allocator>(one: &Record<A>, other: &Record<A>) -> Option<Refusal> {
-    if !one.is_timed {
-        return Some(Refusal::TimelessOne);
-    }
-    if other.is_timed {
-        None
-    } else {
-        Some(Refusal::TimelessOther)
-    }
 }
 
 /// Prints a picture of two records; or why they can't be compared, and nothing is printed.
@@ -223,12 +181,17 @@ pub fn compare_over<A: Allocator + Copy, W: Write>(
     options: CompareOptions,
     w: &mut W,
 ) -> Result<Option<Refusal>, ToolFault> {
-    if let Some(refusal) = untriggered(one.file, other.file) {
-        return Ok(Some(refusal));
+    let files = (one.file, other.file);
+    let (from, to) = (files.0.head.trigger, files.1.head.trigger);
+    // an instant that isn't known is the first of 1970
+    match (from, to) {
+        (0, _) => return Ok(Some(Refusal::UntriggeredOne)),
+        (_, 0) => return Ok(Some(Refusal::UntriggeredOther)),
+        _ => {}
     }
     let shift = match options.by {
         By::Trigger => 0,
-        By::Instant => shift_of(one.file, other.file),
+        By::Instant => to.saturating_sub(from).saturating_mul(1000),
     };
     let mut first = record_of(alloc, one.file, one.times)?;
     first.layer = Layer::One;
@@ -236,16 +199,11 @@ pub fn compare_over<A: Allocator + Copy, W: Write>(
     let mut second = record_of(alloc, other.file, &times)?;
     second.layer = Layer::Other;
     second.trigger = shift;
-    match timeless(&first, &second) {
-        Some(refusal) => Ok(Some(refusal)),
-        None => draw(alloc, (one.file, other.file), (&first, &second), options, w),
+    match (first.is_timed, second.is_timed) {
+        (false, _) => Ok(Some(Refusal::TimelessOne)),
+        (true, false) => Ok(Some(Refusal::TimelessOther)),
+        (true, true) => draw(alloc, files, (&first, &second), options, w),
     }
-}
-
-/// By how much the other's trigger is after the one's, in nanoseconds.
-fn shift_of<A: Allocator>(one: &File<A>, other: &File<A>) -> i64 {
-    let micros = other.head.trigger.saturating_sub(one.head.trigger);
-    micros.saturating_mul(1000)
 }
 
 fn draw<A: Allocator + Copy, W: Write>(
@@ -258,30 +216,25 @@ fn draw<A: Allocator + Copy, W: Write>(
     let (one, other) = files;
     let others = other.head.analog.items();
     let partners = partners_of(alloc, one.head.analog.items(), others)?;
-    if !is_any(&partners) {
+    let panels = own_panels(alloc, &partners)?;
+    if panel_count(&panels) == 0 {
         return Ok(Some(Refusal::NoEqual));
     }
     let is_whole = options.picture.is_whole;
     let Some(drawn) = drawn_of(one, records.0, records.1, is_whole) else {
         return Ok(Some(Refusal::Apart));
     };
-    let panels = own_panels(alloc, &partners)?;
     let beside = panels_beside(alloc, &partners, others.len())?;
     let first = part_in(alloc, one, records.0, drawn.frame, panels)?;
     let second = part_in(alloc, other, records.1, drawn.frame, beside)?;
     let mut sheet = Sheet::new(alloc);
-    let laid = Laid {
-        by: options.by,
-        is_part: drawn.is_part,
-        is_whole,
-    };
     put_over(
         alloc,
         &mut sheet,
         files,
         records,
         (&first, &second),
-        laid,
+        drawn.is_part,
         options,
     )?;
     sheet.text("</svg>\n");

@@ -27,15 +27,6 @@ pub(crate) struct Laid {
     pub(crate) is_whole: bool,
 }
 
-/// The names of both stations.
-fn put_stations<A: Allocator>(sheet: &mut Sheet<A>, beside: &Beside<'_, A>) {
-    let (one, other) = (beside.one.file, beside.other.file);
-    sheet.text("A: ");
-    put_station(sheet, &one.head);
-    sheet.text("; B: ");
-    put_station(sheet, &other.head);
-}
-
 /// What the picture shows, for those who hear it.
 fn put_description<A: Allocator>(sheet: &mut Sheet<A>, beside: &Beside<'_, A>) {
     sheet.text("<desc id=\"desc\">Two records, A and B, in one picture. ");
@@ -111,7 +102,11 @@ pub(crate) fn put_compare_head<A: Allocator>(
 ) {
     put_tag(sheet, options, height);
     sheet.text("<title id=\"title\">");
-    put_stations(sheet, beside);
+    let (one, other) = (beside.one.file, beside.other.file);
+    sheet.text("A: ");
+    put_station(sheet, &one.head);
+    sheet.text("; B: ");
+    put_station(sheet, &other.head);
     sheet.text("</title>\n");
     put_description(sheet, beside);
     sheet.text(STYLE);
@@ -132,18 +127,6 @@ fn is_named<A: Allocator>(channels: &[AnalogChannel<A>], id: &[u8]) -> bool {
     false
 }
 
-/// A channel that is only in one record, with the reason where the other has its name.
-fn put_single<A: Allocator>(
-    sheet: &mut Sheet<A>,
-    channel: &AnalogChannel<A>,
-    others: &[AnalogChannel<A>],
-) {
-    sheet.name(channel.id.items());
-    if is_named(others, channel.id.items()) {
-        sheet.text(" (another unit, side, phase or component)");
-    }
-}
-
 /// How many channels aren't drawn.
 pub(crate) fn singles_in<A: Allocator>(chart: &Chart<'_, A>) -> usize {
     let mut count = 0usize;
@@ -155,7 +138,7 @@ pub(crate) fn singles_in<A: Allocator>(chart: &Chart<'_, A>) -> usize {
     count
 }
 
-/// The channels that are only in the one of two records, at a height, as far as there is room.
+/// The channels that are only in the one of two records, at a height, as far as there is room; with the reason where the other has its name.
 pub(crate) fn put_singles<A: Allocator + Copy>(
     sheet: &mut Sheet<A>,
     one: &Chart<'_, A>,
@@ -168,7 +151,10 @@ pub(crate) fn put_singles<A: Allocator + Copy>(
     for (channel, panel) in file.head.analog.items().iter().zip(one.panels.iter()) {
         if *panel == NOWHERE && names.len() < NAMED {
             names.text(if names.len() == 0 { "" } else { ", " });
-            put_single(&mut names, channel, others.head.analog.items());
+            names.name(channel.id.items());
+            if is_named(others.head.analog.items(), channel.id.items()) {
+                names.text(" (another unit, side, phase or component)");
+            }
             left = left.saturating_sub(1);
         }
     }

@@ -2,7 +2,7 @@
 
 use crate::differing::{Beside, differences_of};
 use crate::instant::put_span;
-use crate::layout::{Chart, LINE_HEIGHT, TITLE, least_height, legends_height, panel_count};
+use crate::layout::{LINE_HEIGHT, TITLE, channel_in, least_height, legends_height, panel_count};
 use crate::legend::{put_legend, put_small};
 use crate::panels::put_panel;
 use crate::phases::Hue;
@@ -10,16 +10,6 @@ use crate::plan::Differences;
 use crate::quantity::put_quantity;
 use crate::sheet::Sheet;
 use std::alloc::Allocator;
-
-/// The channel of a panel.
-pub(crate) fn channel_in<A: Allocator>(chart: &Chart<'_, A>, number: usize) -> Option<usize> {
-    for (i, its) in chart.panels.iter().enumerate() {
-        if *its == number {
-            return Some(i);
-        }
-    }
-    None
-}
 
 /// How high a panel is, without its title: both names, and the differences.
 pub(crate) fn pair_height<A: Allocator>(beside: &Beside<'_, A>, number: usize) -> u32 {
@@ -41,15 +31,7 @@ pub(crate) fn pairs_end<A: Allocator>(beside: &Beside<'_, A>, top: u32) -> u32 {
     end
 }
 
-/// The greatest difference, and when it is.
-fn put_greatest<A: Allocator>(sheet: &mut Sheet<A>, differences: Differences, unit: &[u8]) {
-    sheet.text("A \u{2212} B: greatest ");
-    put_quantity(sheet, differences.greatest, unit);
-    sheet.text(" at ");
-    put_span(sheet, differences.time);
-}
-
-/// Both lines on the differences of a channel and its partner, from a height on.
+/// Both lines on the differences of a channel and its partner, from a height on: the greatest one and when it is, and how they are in all.
 fn put_differences<A: Allocator + Copy>(
     sheet: &mut Sheet<A>,
     alloc: A,
@@ -61,15 +43,16 @@ fn put_differences<A: Allocator + Copy>(
     let mut second = Sheet::new(alloc);
     match differences.rms() {
         Some(rms) => {
-            put_greatest(&mut first, differences, unit);
+            first.text("A \u{2212} B: greatest ");
+            put_quantity(&mut first, differences.greatest, unit);
+            first.text(" at ");
+            put_span(&mut first, differences.time);
             second.text("A \u{2212} B: rms ");
             put_quantity(&mut second, rms, unit);
             second.text(", instants: ");
             second.number(differences.count);
         }
-        None => {
-            first.text("A \u{2212} B: no common instants");
-        }
+        None => first.text("A \u{2212} B: no common instants"),
     }
     put_small(sheet, y, &first);
     put_small(sheet, y.saturating_add(LINE_HEIGHT), &second);
@@ -82,10 +65,8 @@ fn put_pair_legend<A: Allocator + Copy>(
     number: usize,
     top: u32,
 ) {
-    let (Some(channel), Some(partner)) = (
-        channel_in(beside.one, number),
-        channel_in(beside.other, number),
-    ) else {
+    let channel = channel_in(beside.one, number);
+    let (Some(channel), Some(partner)) = (channel, channel_in(beside.other, number)) else {
         return;
     };
     let y = put_legend(
@@ -114,7 +95,7 @@ pub(crate) fn put_pairs<A: Allocator + Copy>(
     for number in 0..panel_count(beside.one.panels) {
         let height = pair_height(beside, number);
         y = y.saturating_add(TITLE);
-        put_panel(sheet, beside.one, beside.other, number, y, height);
+        put_panel(sheet, &[beside.one, beside.other], number, y, height);
         put_pair_legend(sheet, beside, number, y);
         y = y.saturating_add(height);
     }

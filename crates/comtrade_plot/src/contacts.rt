@@ -12,13 +12,6 @@ use comtrade_io::ToolFault;
 use dfr_channels::StatusChannel;
 use std::alloc::Allocator;
 
-/// Marks the contacts whose bits differ.
-fn mark_changed(changed: &mut [bool], one: &[bool], other: &[bool]) {
-    for (mark, (a, b)) in changed.iter_mut().zip(one.iter().zip(other.iter())) {
-        *mark = *mark || a != b;
-    }
-}
-
 /// The first row that is drawn.
 fn first_drawn<'a, A: Allocator>(chart: &Chart<'a, A>) -> Option<&'a Row<A>> {
     let file = chart.file;
@@ -40,10 +33,13 @@ fn mark_drawn<A: Allocator>(chart: &Chart<'_, A>, changed: &mut [bool]) {
     let rows = file.rows.items();
     for (row, place) in rows.iter().zip(chart.places.iter()) {
         if place.is_some() {
-            mark_changed(changed, first.bits.items(), row.bits.items());
+            let bits = first.bits.items().iter().zip(row.bits.items().iter());
+            for (mark, (one, other)) in changed.iter_mut().zip(bits) {
+                *mark = *mark || one != other;
+            }
         }
     }
-    if count_of(changed, false) == 1 {
+    if unmarked(changed) == 1 {
         for mark in changed.iter_mut() {
             *mark = true;
         }
@@ -65,11 +61,11 @@ pub(crate) fn bars_of<A: Allocator + Copy>(
     Ok(changed)
 }
 
-/// How many marks are so.
-pub(crate) fn count_of(marks: &[bool], wanted: bool) -> u32 {
+/// How many have no mark.
+fn unmarked(marks: &[bool]) -> u32 {
     let mut count = 0u32;
     for mark in marks {
-        if *mark == wanted {
+        if !*mark {
             count = count.saturating_add(1);
         }
     }
@@ -90,7 +86,7 @@ fn bars_height<A: Allocator>(chart: &Chart<'_, A>, bars: &[bool]) -> u32 {
 
 /// How high the bars of contacts are, with the line for the others.
 pub(crate) fn contacts_height<A: Allocator>(chart: &Chart<'_, A>, bars: &[bool]) -> u32 {
-    let others = count_of(bars, false).min(1);
+    let others = unmarked(bars).min(1);
     bars_height(chart, bars).saturating_add(others.saturating_mul(CONTACT))
 }
 
@@ -102,68 +98,46 @@ struct Bar {
     is_open: bool,
 }
 
-impl Bar {
-    fn put<A: Allocator>(self, sheet: &mut Sheet<A>, top: u32) {
-        let width = self.to.saturating_sub(self.from).max(5);
-        sheet.point("M", self.from.min(RIGHT - 5), top.saturating_add(30));
-        sheet.along("h", width.min(RIGHT.saturating_sub(self.from).max(5)));
-        sheet.text("v12h-");
-        sheet.tenths(width.min(RIGHT.saturating_sub(self.from).max(5)));
+fn put_bar<A: Allocator>(sheet: &mut Sheet<A>, bar: Option<Bar>, top: u32) {
+    if let Some(bar) = bar {
+        let room = RIGHT.saturating_sub(bar.from).max(5);
+        let width = bar.to.saturating_sub(bar.from).max(5).min(room);
+        sheet.point("M", bar.from.min(RIGHT - 5), top.saturating_add(30));
+        sheet.along("h", width);
+        sheet.along("v12h-", width);
         sheet.text("z");
     }
 }
 
-fn put_bar<A: Allocator>(sheet: &mut Sheet<A>, bar: Option<Bar>, top: u32) {
-    if let Some(bar) = bar {
-        bar.put(sheet, top);
-    }
-}
-
-/// The bar after a row whose bit is 1: it goes on where less than half a pixel is between.
-fn with_one<A: Allocator>(sheet: &mut Sheet<A>, top: u32, bar: Option<Bar>, x: u32) -> Option<Bar> {
-    match bar {
-        Some(bar) if bar.is_open || x <= bar.to.saturating_add(5) => Some(Bar {
-            from: bar.from,
-            to: x,
-            is_open: true,
-        }),
-        _ => {
-            put_bar(sheet, bar, top);
-            Some(Bar {
-                from: x,
-                to: x,
-                is_open: true,
-            })
-        }
-    }
-}
-
-/// The bar after a row whose bit is 0: it ends there, unless it has ended.
-fn with_zero(bar: Option<Bar>, x: u32) -> Option<Bar> {
-    match bar {
-        Some(bar) if bar.is_open => Some(Bar {
-            from: bar.from,
-            to: x,
-            is_open: false,
-        }),
-        _ => bar,
-    }
-}
-
-/// The bars of a contact, from each row in which its bit is 1 to the next in which it is 0; none over a gap.
+/// The bars of a contact, from each row in which its bit is 1 to the next in which it is 0; none over a gap. A bar goes on where less than
+/// half a pixel is between.
 fn put_bars<A: Allocator>(sheet: &mut Sheet<A>, chart: &Chart<'_, A>, top: u32, channel: usize) {
     let file = chart.file;
     let rows = file.rows.items();
-    let mut bar = None;
+    let mut bar: Option<Bar> = None;
     for (row, place) in rows.iter().zip(chart.places.iter()) {
-        match *place {
-            Some(x) if bit_at(row, channel) => bar = with_one(sheet, top, bar, x),
-            Some(x) => bar = with_zero(bar, x),
-            None => {
-                put_bar(sheet, bar, top);
-                bar = None;
+        let Some(x) = *place else {
+            put_bar(sheet, bar, top);
+            bar = None;
+            continue;
+        };
+        let is_one = bit_at(row, channel);
+        bar = match bar {
+            Some(bar) if bar.is_open || is_one && x <= bar.to.saturating_add(5) => Some(Bar {
+                from: bar.from,
+                to: x,
+                is_open: is_one,
+            }),
+            ended if is_one => {
+                put_bar(sheet, ended, top);
+                Some(Bar {
+                    from: x,
+                    to: x,
+                    is_open: true,
+                })
             }
-        }
+            ended => ended,
+        };
     }
     put_bar(sheet, bar, top);
 }
@@ -245,7 +219,7 @@ pub(crate) fn put_contacts<A: Allocator>(
         }
     }
     put_trigger(sheet, chart, top, bottom);
-    if count_of(bars, false) != 0 {
+    if unmarked(bars) != 0 {
         put_unchanged(sheet, chart, bars, y);
     }
 }

@@ -13,12 +13,6 @@ use std::alloc::{AllocError, Allocator};
 /// The most channels of a panel.
 const TOGETHER: usize = 4;
 
-/// A trace whose values go over less than this part of its panel would be a line.
-const HIDDEN: f64 = 40.0;
-
-/// A trace of fewer steps than this is noise, or nothing.
-const NOISE: i64 = 10;
-
 /// What is known of a panel: its first channel, how many it has, their hues, and the least and greatest extent of a trace.
 #[derive(Clone, Copy)]
 struct Bunch {
@@ -27,6 +21,9 @@ struct Bunch {
     hues: u8,
     extents: Option<(f64, f64)>,
 }
+
+/// A trace of fewer steps than this is noise, or nothing.
+const NOISE: i64 = 10;
 
 /// Over how many units the values of a channel go, where that is more than noise.
 fn extent_of(survey: Survey, scale: Scale) -> Option<f64> {
@@ -37,6 +34,9 @@ fn extent_of(survey: Survey, scale: Scale) -> Option<f64> {
     let (low, high) = survey.values(scale)?;
     Some(high - low)
 }
+
+/// A trace whose values go over less than this part of its panel would be a line.
+const HIDDEN: f64 = 40.0;
 
 /// The extents with one more; None where one scale would hide one of them.
 fn joined(extents: Option<(f64, f64)>, extent: Option<f64>) -> Option<Option<(f64, f64)>> {

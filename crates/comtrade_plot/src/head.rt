@@ -19,16 +19,12 @@ svg{fill:#e8eaed}.p{fill:#14171c}.f{fill:#a9b0b8}.g{stroke:#2c323a}.e{stroke:#7b
 @media print{.b{stroke-dasharray:8 2}.c{stroke-dasharray:3 2}.n{stroke-dasharray:8 2 2 2}\
 .v{stroke-dasharray:8 2}.w{stroke-dasharray:3 2}.z{stroke-dasharray:8 2 2 2}}</style>\n";
 
-/// The height of a picture that is so wide and keeps its form.
-fn height_for(width: u32, height: u32) -> u32 {
-    let pixels = u64::from(width).saturating_mul(u64::from(height)) / 12_000;
-    u32::try_from(pixels).unwrap_or(u32::MAX)
-}
-
-/// The picture's tag: as high as it is wide where only one is asked for.
+/// The picture's tag: it keeps its form where only its width is asked for.
 pub(crate) fn put_tag<A: Allocator>(sheet: &mut Sheet<A>, options: PlotOptions, height: u32) {
     let width = options.width.unwrap_or(WIDTH / 10);
-    let shown = options.height.unwrap_or(height_for(width, height));
+    let pixels = u64::from(width).saturating_mul(u64::from(height)) / 12_000;
+    let kept = u32::try_from(pixels).unwrap_or(u32::MAX);
+    let shown = options.height.unwrap_or(kept);
     sheet.text("<svg xmlns=\"http://www.w3.org/2000/svg\" width=\"");
     sheet.number(u64::from(width));
     sheet.text("\" height=\"");

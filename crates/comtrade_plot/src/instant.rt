@@ -2,31 +2,23 @@
 
 use crate::sheet::Sheet;
 use comtrade_values::civil_of;
-use jiff_core::civil::DateTime;
 use std::alloc::Allocator;
-
-fn put_two<A: Allocator>(sheet: &mut Sheet<A>, before: &str, n: u8) {
-    sheet.text(before);
-    sheet.padded(u64::from(n), 2);
-}
-
-fn put_civil<A: Allocator>(sheet: &mut Sheet<A>, civil: DateTime) {
-    sheet.padded(civil.date.year.unsigned_abs() as u64, 4);
-    put_two(sheet, "-", civil.date.month);
-    put_two(sheet, "-", civil.date.day);
-    put_two(sheet, " ", civil.time.hour);
-    put_two(sheet, ":", civil.time.minute);
-    put_two(sheet, ":", civil.time.second);
-    sheet.text(".");
-    sheet.padded((civil.time.subsec_nanosecond / 1000) as u64, 6);
-}
 
 /// Microseconds since 1970-01-01 00:00:00 as `yyyy-mm-dd hh:mm:ss.ssssss`.
 pub(crate) fn put_instant<A: Allocator>(sheet: &mut Sheet<A>, instant: i64) {
-    match civil_of(instant) {
-        Some(civil) => put_civil(sheet, civil),
-        None => sheet.text("?"),
+    let Some(civil) = civil_of(instant) else {
+        sheet.text("?");
+        return;
+    };
+    sheet.padded(civil.date.year.unsigned_abs() as u64, 4);
+    let (date, time) = (civil.date, civil.time);
+    let parts = [date.month, date.day, time.hour, time.minute, time.second];
+    for (before, n) in ["-", "-", " ", ":", ":"].iter().zip(parts.iter()) {
+        sheet.text(before);
+        sheet.padded(u64::from(*n), 2);
     }
+    sheet.text(".");
+    sheet.padded((civil.time.subsec_nanosecond / 1000) as u64, 6);
 }
 
 /// What times are counted in: how many nanoseconds, its decimal places, its name.

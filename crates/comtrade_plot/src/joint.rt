@@ -2,7 +2,7 @@
 
 use crate::axis::rounded_out;
 use crate::layout::NOWHERE;
-use crate::plan::{Frame, Moment, course_of, window_of};
+use crate::plan::{Frame, window_of};
 use crate::record::{Record, USUAL_CYCLE, lasting};
 use crate::rows::{last_change, whole_frame};
 use comtrade_format::File;
@@ -23,16 +23,6 @@ pub(crate) fn shifted<A: Allocator + Copy>(
         })?;
     }
     Ok(later)
-}
-
-/// Whether a channel has a partner.
-pub(crate) fn is_any(partners: &[Option<usize>]) -> bool {
-    for partner in partners {
-        if partner.is_some() {
-            return true;
-        }
-    }
-    false
 }
 
 /// The panels of channels with these partners: one for each that has one.
@@ -75,40 +65,11 @@ pub(crate) fn panels_beside<A: Allocator + Copy>(
     Ok(panels)
 }
 
-/// The rows of a record in the order of their times, also those that were lost, which have no readings.
-pub(crate) fn moments_of<A: Allocator + Copy>(
-    alloc: A,
-    record: &Record<A>,
-) -> Result<Vec<Moment, A>, ToolFault> {
-    Ok(course_of(alloc, &record.times)?)
-}
-
 /// The times that are drawn of two records, and whether they are a part of what both have.
 #[derive(Clone, Copy)]
 pub(crate) struct Drawn {
     pub(crate) frame: Frame,
     pub(crate) is_part: bool,
-}
-
-/// The times that two frames have in common.
-fn common(one: Frame, other: Frame) -> Option<Frame> {
-    let frame = Frame {
-        from: one.from.max(other.from),
-        to: one.to.min(other.to),
-    };
-    if frame.from <= frame.to {
-        Some(frame)
-    } else {
-        None
-    }
-}
-
-/// The times of two frames.
-fn all(one: Frame, other: Frame) -> Frame {
-    Frame {
-        from: one.from.min(other.from),
-        to: one.to.max(other.to),
-    }
 }
 
 /// Which times are drawn of two records: those that both have, around the trigger where these are long, or all; None where they have none
@@ -121,10 +82,20 @@ pub(crate) fn drawn_of<A: Allocator>(
 ) -> Option<Drawn> {
     let cycle = one.cycle.unwrap_or(USUAL_CYCLE);
     let (first, second) = (whole_frame(&one.kept)?, whole_frame(&other.kept)?);
-    let both = common(first, second)?;
+    let both = Frame {
+        from: first.from.max(second.from),
+        to: first.to.min(second.to),
+    };
+    if both.to < both.from {
+        return None;
+    }
     if is_whole {
+        let all = Frame {
+            from: first.from.min(second.from),
+            to: first.to.max(second.to),
+        };
         return Some(Drawn {
-            frame: rounded_out(lasting(Some(all(first, second)), cycle)),
+            frame: rounded_out(lasting(Some(all), cycle)),
             is_part: false,
         });
     }

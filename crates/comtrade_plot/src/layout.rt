@@ -135,6 +135,16 @@ pub(crate) fn height_of<A: Allocator>(chart: &Chart<'_, A>, panel: usize, count:
     legends_height(chart, panel).max(least_height(count))
 }
 
+/// The first channel of a panel.
+pub(crate) fn channel_in<A: Allocator>(chart: &Chart<'_, A>, panel: usize) -> Option<usize> {
+    for (i, its) in chart.panels.iter().enumerate() {
+        if *its == panel {
+            return Some(i);
+        }
+    }
+    None
+}
+
 /// How many panels there are.
 pub(crate) fn panel_count(panels: &[usize]) -> usize {
     let mut count = 0usize;

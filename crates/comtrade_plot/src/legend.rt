@@ -7,9 +7,8 @@ use crate::plan::RIGHT;
 use crate::quantity::put_quantity;
 use crate::sheet::Sheet;
 use crate::survey::Survey;
-use crate::units::is_alternating;
+use crate::units::unit_of;
 use comtrade_values::Scale;
-use dfr_channels::AnalogChannel;
 use std::alloc::Allocator;
 
 /// Where names begin.
@@ -73,42 +72,20 @@ pub(crate) fn peak_of(survey: Survey, scale: Scale) -> Option<f64> {
     Some(if high.abs() < low.abs() { low } else { high })
 }
 
-/// The effective values around the trigger, where they are known.
+/// The effective values of a current or voltage around the trigger, where they are known.
 fn put_rms<A: Allocator>(sheet: &mut Sheet<A>, survey: Survey, unit: &[u8]) {
-    if !is_alternating(unit) {
+    let base = unit_of(unit).base;
+    if base != b"A".as_slice() && base != b"V".as_slice() {
         return;
     }
-    match (survey.before.rms(), survey.after.rms()) {
-        (Some(before), Some(after)) => {
-            sheet.text(", rms ");
-            put_quantity(sheet, before, unit);
-            sheet.text(" \u{2192} ");
-            put_quantity(sheet, after, unit);
+    if let Some(before) = survey.before.rms() {
+        sheet.text(", rms ");
+        put_quantity(sheet, before, unit);
+        sheet.text(" \u{2192} ");
+        match survey.after.rms() {
+            Some(after) => put_quantity(sheet, after, unit),
+            None => sheet.text("?"),
         }
-        (Some(before), None) => {
-            sheet.text(", rms ");
-            put_quantity(sheet, before, unit);
-            sheet.text(" \u{2192} ?");
-        }
-        _ => {}
-    }
-}
-
-/// A channel's peak and effective values.
-fn put_numbers<A: Allocator>(
-    sheet: &mut Sheet<A>,
-    channel: &AnalogChannel<A>,
-    survey: Survey,
-    scale: Scale,
-) {
-    let unit = channel.unit.items();
-    match peak_of(survey, scale) {
-        Some(peak) => {
-            sheet.text("peak ");
-            put_quantity(sheet, peak, unit);
-            put_rms(sheet, survey, unit);
-        }
-        None => sheet.text("no readings"),
     }
 }
 
@@ -122,7 +99,7 @@ pub(crate) fn put_small<A: Allocator>(sheet: &mut Sheet<A>, y: u32, text: &Sheet
     sheet.end_text();
 }
 
-/// A channel's legend at a height; the height of the next one.
+/// A channel's legend at a height, its peak and effective values below its name; the height of the next one.
 pub(crate) fn put_legend<A: Allocator + Copy>(
     sheet: &mut Sheet<A>,
     chart: &Chart<'_, A>,
@@ -144,7 +121,15 @@ pub(crate) fn put_legend<A: Allocator + Copy>(
     let (id, phase) = (channel.id.items(), channel.phase.items());
     let end = put_name(sheet, layer.tag(), id, phase, y);
     let mut numbers = Sheet::new(chart.alloc);
-    put_numbers(&mut numbers, channel, *survey, *scale);
+    match peak_of(*survey, *scale) {
+        Some(peak) => {
+            let unit = channel.unit.items();
+            numbers.text("peak ");
+            put_quantity(&mut numbers, peak, unit);
+            put_rms(&mut numbers, *survey, unit);
+        }
+        None => numbers.text("no readings"),
+    }
     put_small(sheet, end.saturating_add(LINE_HEIGHT - 10), &numbers);
     y.saturating_add(legend_height(channel))
 }

@@ -16,29 +16,19 @@ struct Step {
     size: f64,
 }
 
-/// The digit 1, 2 or 5 with which a step of this power is at least the size, where one is.
-fn digit_of(size: f64, power: f64) -> Option<i64> {
-    if size <= power {
-        Some(1)
-    } else if size <= power * 2.0 {
-        Some(2)
-    } else if size <= power * 5.0 {
-        Some(5)
-    } else {
-        None
-    }
-}
-
 /// The least such step of at least this size, from 1E-16 on.
-fn step_of(size: f64) -> Step {
+fn step_of(least: f64) -> Step {
     let mut power = 1e-16;
     for exponent in -16..20 {
-        if let Some(digit) = digit_of(size, power) {
-            return Step {
-                digit,
-                exponent,
-                size: power * nearest_i64_to_f64(digit),
-            };
+        for digit in [1i64, 2, 5] {
+            let size = power * nearest_i64_to_f64(digit);
+            if least <= size {
+                return Step {
+                    digit,
+                    exponent,
+                    size,
+                };
+            }
         }
         power *= 10.0;
     }
@@ -59,23 +49,6 @@ fn first_tick(step: Step, low: f64) -> i64 {
     }
 }
 
-fn put_tick<A: Allocator>(sheet: &mut Sheet<A>, step: Step, tick: i64) {
-    let units = tick.saturating_mul(step.digit);
-    if step.exponent < 0 {
-        return put_places(sheet, units, step.exponent.unsigned_abs());
-    }
-    let mut units = units;
-    for _ in 0..step.exponent {
-        units = units.saturating_mul(10);
-    }
-    sheet.signed(units);
-}
-
-/// How many steps a panel has: one for each 20 pixels, five at most.
-fn steps_in(panel: Panel) -> f64 {
-    nearest_u64_to_f64(u64::from((panel.height / 200).clamp(1, 5)))
-}
-
 /// A level's line, and its value, which is made narrower where it has more than ten characters.
 fn put_level<A: Allocator + Copy>(
     sheet: &mut Sheet<A>,
@@ -89,7 +62,11 @@ fn put_level<A: Allocator + Copy>(
     sheet.along("H", RIGHT);
     sheet.text("\"/>");
     let mut label = Sheet::new(chart.alloc);
-    put_tick(&mut label, step, tick);
+    let mut units = tick.saturating_mul(step.digit);
+    for _ in 0..step.exponent {
+        units = units.saturating_mul(10);
+    }
+    put_places(&mut label, units, step.exponent.min(0).unsigned_abs());
     let narrow = " text-anchor=\"end\" textLength=\"68\" lengthAdjust=\"spacingAndGlyphs\"";
     let rest = if 10 < label.len() {
         narrow
@@ -101,7 +78,7 @@ fn put_level<A: Allocator + Copy>(
     sheet.end_text();
 }
 
-/// The level lines of a panel, whose values are shown divided by a power of ten.
+/// The level lines of a panel, whose values are shown divided by a power of ten: one for each 20 pixels, five at most.
 pub(crate) fn put_levels<A: Allocator + Copy>(
     sheet: &mut Sheet<A>,
     chart: &Chart<'_, A>,
@@ -110,7 +87,8 @@ pub(crate) fn put_levels<A: Allocator + Copy>(
 ) {
     let power = power_of_ten(exponent);
     let (low, high) = (panel.low / power, panel.high / power);
-    let step = step_of((high - low) / steps_in(panel));
+    let steps = u64::from((panel.height / 200).clamp(1, 5));
+    let step = step_of((high - low) / nearest_u64_to_f64(steps));
     let first = first_tick(step, low);
     for i in 0..6i64 {
         let tick = first.saturating_add(i);

@@ -32,7 +32,6 @@ mod script_text;
 mod sheet;
 mod style_text;
 mod survey;
-mod times;
 mod trace;
 mod units;
 

@@ -73,13 +73,6 @@ fn outer_words(name: &[u8]) -> Option<(&[u8], &[u8])> {
     Some((name.get(..first)?, name.get(last..)?))
 }
 
-fn share_a_word(one: &[u8], other: &[u8]) -> bool {
-    match (outer_words(one), outer_words(other)) {
-        (Some(one), Some(other)) => one.0 == other.0 || one.1 == other.1,
-        _ => true,
-    }
-}
-
 /// How well two channels go together: those of different units, components or sides don't.
 pub(crate) fn likeness_of<A: Allocator>(
     one: &AnalogChannel<A>,
@@ -94,7 +87,11 @@ pub(crate) fn likeness_of<A: Allocator>(
     if differ_in_phase(one, other) {
         return Likeness::Close;
     }
-    if !one.component.items().is_empty() || share_a_word(one.id.items(), other.id.items()) {
+    let share_a_word = match (outer_words(one.id.items()), outer_words(other.id.items())) {
+        (Some(words), Some(others)) => words.0 == others.0 || words.1 == others.1,
+        _ => true,
+    };
+    if share_a_word || !one.component.items().is_empty() {
         return Likeness::Loose;
     }
     Likeness::None

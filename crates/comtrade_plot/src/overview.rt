@@ -3,28 +3,16 @@
 use crate::instant::{put_range, put_span};
 use crate::layout::Chart;
 use crate::legend::NAMES;
-use crate::panels::{edges_of, put_frame, put_traces};
-use crate::plan::{Frame, LEFT, Panel, RIGHT};
+use crate::panels::{panel_of, put_frame, put_traces};
+use crate::plan::{Frame, LEFT, RIGHT};
 use crate::sheet::Sheet;
-use crate::units::is_current;
+use crate::units::unit_of;
 use std::alloc::Allocator;
 
 /// How high the strip is, with what is below it.
 pub(crate) const STRIP: u32 = 760;
 
 const HEIGHT: u32 = 440;
-
-/// The panel of the strip: the first one of currents, else the first one.
-fn chosen_panel<A: Allocator>(chart: &Chart<'_, A>) -> usize {
-    let file = chart.file;
-    let channels = file.head.analog.items();
-    for (channel, panel) in channels.iter().zip(chart.panels.iter()) {
-        if is_current(channel.unit.items()) {
-            return *panel;
-        }
-    }
-    0
-}
 
 /// The times at both ends of the record.
 fn put_ends<A: Allocator>(sheet: &mut Sheet<A>, whole: Frame, y: u32) {
@@ -38,34 +26,19 @@ fn put_ends<A: Allocator>(sheet: &mut Sheet<A>, whole: Frame, y: u32) {
     sheet.end_text();
 }
 
-/// The part of the record that is drawn below, as a box in the strip: a few pixels wide at least.
-fn put_part<A: Allocator>(sheet: &mut Sheet<A>, whole: Frame, part: Frame, top: u32) {
-    let from = whole.across(part.from).saturating_sub(10).max(LEFT);
-    let to = whole.across(part.to).saturating_add(10).min(RIGHT);
-    let width = to.saturating_sub(from).max(20);
-    sheet.begin_box((from, top.saturating_sub(20)), (width, HEIGHT + 40));
-    sheet.text(" class=\"q\" fill=\"#f0b429\" fill-opacity=\"0.3\" stroke=\"#b07a00\"/>\n");
+/// The panel of the strip: the first one of currents, else the first one.
+fn chosen_panel<A: Allocator>(chart: &Chart<'_, A>) -> usize {
+    let file = chart.file;
+    let channels = file.head.analog.items();
+    for (channel, panel) in channels.iter().zip(chart.panels.iter()) {
+        if unit_of(channel.unit.items()).base == b"A".as_slice() {
+            return *panel;
+        }
+    }
+    0
 }
 
-/// What the strip is, beside it.
-fn put_words<A: Allocator>(sheet: &mut Sheet<A>, whole: Frame, part: Frame, y: u32) {
-    sheet.begin_text(NAMES, y, "");
-    sheet.text("the whole record, ");
-    put_span(sheet, whole.to.saturating_sub(whole.from));
-    sheet.end_text();
-    sheet.begin_text(NAMES, y.saturating_add(140), "");
-    sheet.text("drawn below: ");
-    put_range(sheet, part.from, part.to);
-    sheet.end_text();
-    sheet.label(
-        NAMES,
-        y.saturating_add(280),
-        " class=\"f\" font-size=\"10.5\" fill=\"#55595f\"",
-        "comtrade plot --whole draws all",
-    );
-}
-
-/// The strip of a whole record, of which a part is drawn below, at a height.
+/// The strip of a whole record, at a height, and beside it what it is. The part that is drawn below is a box in it: a few pixels wide at least.
 pub(crate) fn put_overview<A: Allocator>(
     sheet: &mut Sheet<A>,
     whole: &Chart<'_, A>,
@@ -73,17 +46,29 @@ pub(crate) fn put_overview<A: Allocator>(
     top: u32,
 ) {
     let number = chosen_panel(whole);
-    if let Some((low, high)) = edges_of(whole, number) {
-        let panel = Panel {
-            top,
-            height: HEIGHT,
-            low,
-            high,
-        };
+    if let Some(panel) = panel_of(&[whole], number, top, HEIGHT) {
         put_traces(sheet, whole, panel, number);
     }
     put_frame(sheet, top, HEIGHT);
-    put_part(sheet, whole.frame, part, top);
-    put_ends(sheet, whole.frame, top.saturating_add(HEIGHT + 150));
-    put_words(sheet, whole.frame, part, top.saturating_add(110));
+    let frame = whole.frame;
+    let from = frame.across(part.from).saturating_sub(10).max(LEFT);
+    let to = frame.across(part.to).saturating_add(10).min(RIGHT);
+    let width = to.saturating_sub(from).max(20);
+    sheet.begin_box((from, top.saturating_sub(20)), (width, HEIGHT + 40));
+    sheet.text(" class=\"q\" fill=\"#f0b429\" fill-opacity=\"0.3\" stroke=\"#b07a00\"/>\n");
+    put_ends(sheet, frame, top.saturating_add(HEIGHT + 150));
+    sheet.begin_text(NAMES, top.saturating_add(110), "");
+    sheet.text("the whole record, ");
+    put_span(sheet, frame.to.saturating_sub(frame.from));
+    sheet.end_text();
+    sheet.begin_text(NAMES, top.saturating_add(250), "");
+    sheet.text("drawn below: ");
+    put_range(sheet, part.from, part.to);
+    sheet.end_text();
+    sheet.label(
+        NAMES,
+        top.saturating_add(390),
+        " class=\"f\" font-size=\"10.5\" fill=\"#55595f\"",
+        "comtrade plot --whole draws all",
+    );
 }

@@ -9,7 +9,7 @@ use crate::script_text::script;
 use crate::sheet::Sheet;
 use crate::style_text::style;
 use crate::survey::Survey;
-use comtrade_format::File;
+use comtrade_format::{File, Row};
 use comtrade_io::ToolFault;
 use dfr_channels::{AnalogChannel, Side, StatusChannel};
 use std::alloc::Allocator;
@@ -46,14 +46,20 @@ fn is_wide(survey: Survey) -> bool {
     }
 }
 
-/// What the page has to know of an analogue channel.
+/// What the page has to know of the analogue channel of this index.
 fn put_analog<A: Allocator>(
     sheet: &mut Sheet<A>,
-    channel: &AnalogChannel<A>,
-    panel: usize,
-    hue: &str,
-    is_wide: bool,
+    channels: &[AnalogChannel<A>],
+    part: &Part<A>,
+    at: usize,
 ) {
+    let (Some(channel), Some(panel), Some(survey)) = (
+        channels.get(at),
+        part.panels.get(at),
+        part.surveys.get(at),
+    ) else {
+        return;
+    };
     put_text(sheet, "{\"id\":", channel.id.items());
     put_text(sheet, ",\"phase\":", channel.phase.items());
     put_text(sheet, ",\"component\":", channel.component.items());
@@ -71,35 +77,18 @@ fn put_analog<A: Allocator>(
         Side::Primary => ",\"side\":\"P\"",
         Side::Secondary => ",\"side\":\"S\"",
     });
-    sheet.texts(&[",\"hue\":\"", hue, "\",\"panel\":"]);
-    sheet.number(panel as u64);
-    put_flag(sheet, "wide", is_wide);
-    sheet.text("}");
-}
-
-/// What the page has to know of the analogue channel of this index.
-fn put_analog_at<A: Allocator>(
-    sheet: &mut Sheet<A>,
-    channels: &[AnalogChannel<A>],
-    part: &Part<A>,
-    at: usize,
-) {
-    let (Some(channel), Some(panel), Some(survey)) = (
-        channels.get(at),
-        part.panels.get(at),
-        part.surveys.get(at),
-    ) else {
-        return;
-    };
     let hue = hue_in(channels, &part.panels, at);
-    put_analog(sheet, channel, *panel, hue.class(), is_wide(*survey));
+    sheet.texts(&[",\"hue\":\"", hue.class(), "\",\"panel\":"]);
+    sheet.number(*panel as u64);
+    put_flag(sheet, "wide", is_wide(*survey));
+    sheet.text("}");
 }
 
 fn put_analogs<A: Allocator>(sheet: &mut Sheet<A>, channels: &[AnalogChannel<A>], part: &Part<A>) {
     sheet.text(",\"analog\":[");
     for i in 0..channels.len() {
         sheet.text(if i == 0 { "" } else { ",\n" });
-        put_analog_at(sheet, channels, part, i);
+        put_analog(sheet, channels, part, i);
     }
     sheet.text("]");
 }
@@ -164,33 +153,25 @@ fn put_begin<A: Allocator>(sheet: &mut Sheet<A>, file: &File<A>) {
     sheet.text(BODY);
 }
 
-/// The name of a block: a letter and a number.
-fn name_of<A: Allocator + Copy>(alloc: A, letter: &str, n: usize) -> Sheet<A> {
-    let mut name = Sheet::new(alloc);
-    name.text(letter);
-    name.number(n as u64);
-    name
-}
-
 /// Writes the samples of all channels, some of them by one look over the rows, whose readings lie apart.
 fn write_samples<A: Allocator + Copy, W: Write>(
     alloc: A,
-    file: &File<A>,
-    part: &Part<A>,
+    rows: &[Row<A>],
+    surveys: &[Survey],
     w: &mut W,
 ) -> Result<(), ToolFault> {
     let mut n = 0usize;
-    for surveys in part.surveys.chunks(8) {
+    for some in surveys.chunks(8) {
         let mut channels = Vec::new(alloc);
-        for survey in surveys {
+        for survey in some {
             channels.push(Samples {
                 bytes: Vec::new(alloc),
                 is_wide: is_wide(*survey),
             })?;
         }
-        gather_samples(&mut channels, file.rows.items(), n)?;
+        gather_samples(&mut channels, rows, n)?;
         for channel in &channels {
-            write_block(alloc, &name_of(alloc, "s", n), &channel.bytes, w)?;
+            write_block(alloc, "s", Some(n), &channel.bytes, w)?;
             n = n.saturating_add(1);
         }
     }
@@ -214,29 +195,11 @@ fn write_bits<A: Allocator + Copy, W: Write>(
         }
         gather_bits(&mut contacts, file.rows.items(), n)?;
         for contact in &contacts {
-            write_block(alloc, &name_of(alloc, "d", n), &contact.bytes, w)?;
+            write_block(alloc, "d", Some(n), &contact.bytes, w)?;
             n = n.saturating_add(1);
         }
     }
     Ok(())
-}
-
-fn write_times<A: Allocator + Copy, W: Write>(
-    alloc: A,
-    record: &Record<A>,
-    w: &mut W,
-) -> Result<(), ToolFault> {
-    let bytes = times_of_rows(alloc, &record.times)?;
-    let mut name = Sheet::new(alloc);
-    name.text("times");
-    write_block(alloc, &name, &bytes, w)
-}
-
-/// Writes the page's end, with the script.
-fn write_end<A: Allocator + Copy, W: Write>(alloc: A, w: &mut W) -> Result<(), ToolFault> {
-    let mut sheet = Sheet::new(alloc);
-    sheet.texts(&["<script>\n", script(), "</script>\n</body></html>\n"]);
-    sheet.write(w)
 }
 
 /// Prints a page that shows a file in a browser, without a network; its rows were taken at these times, in nanoseconds since the
@@ -254,8 +217,16 @@ pub fn page_over<A: Allocator + Copy, W: Write>(
     put_begin(&mut sheet, file);
     put_json(&mut sheet, file, &record, &part, choice);
     sheet.write(w)?;
-    write_times(alloc, &record, w)?;
-    write_samples(alloc, file, &part, w)?;
+    write_block(
+        alloc,
+        "times",
+        None,
+        &times_of_rows(alloc, &record.times)?,
+        w,
+    )?;
+    write_samples(alloc, file.rows.items(), &part.surveys, w)?;
     write_bits(alloc, file, w)?;
-    write_end(alloc, w)
+    let mut end = Sheet::new(alloc);
+    end.texts(&["<script>\n", script(), "</script>\n</body></html>\n"]);
+    end.write(w)
 }

@@ -3,60 +3,46 @@
 use crate::axis::{put_gaps, put_grid, put_trigger};
 use crate::edges::{spread, with_edges};
 use crate::groups::hue_in;
-use crate::layers::Layer;
-use crate::layout::{Chart, TITLE, height_of, panel_count};
+use crate::layout::{Chart, TITLE, channel_in, height_of, panel_count};
 use crate::legend::put_legend;
 use crate::levels::put_levels;
-use crate::phases::Hue;
 use crate::plan::{ACROSS, LEFT, Panel, RIGHT};
 use crate::sheet::Sheet;
-use crate::trace::{put_dots, put_trace};
+use crate::trace::put_channel;
 use crate::units::{put_unit, shown_exponent, unit_of};
-use comtrade_values::Scale;
 use dfr_channels::{AnalogChannel, Side};
 use std::alloc::Allocator;
 
-/// A record of so many rows or fewer has a dot at each sample.
-const DOTTED: usize = 60;
-
-/// The least and the greatest value of a panel; None where it has no readings.
-fn bounds_of<A: Allocator>(chart: &Chart<'_, A>, panel: usize) -> Option<(f64, f64)> {
+/// A panel of one chart, or of more that are drawn over each other, from a height on; None where it has no readings.
+pub(crate) fn panel_of<A: Allocator>(
+    charts: &[&Chart<'_, A>],
+    number: usize,
+    top: u32,
+    height: u32,
+) -> Option<Panel> {
     let mut bounds = None;
-    let known = chart.surveys.iter().zip(chart.scales.iter());
-    for (its, (survey, scale)) in chart.panels.iter().zip(known) {
-        if *its == panel {
-            bounds = spread(bounds, survey.values(*scale));
+    for chart in charts {
+        let known = chart.surveys.iter().zip(chart.scales.iter());
+        for (its, (survey, scale)) in chart.panels.iter().zip(known) {
+            if *its == number {
+                bounds = spread(bounds, survey.values(*scale));
+            }
         }
     }
-    bounds
-}
-
-/// The values at the edges of a panel; None where it has no readings.
-pub(crate) fn edges_of<A: Allocator>(chart: &Chart<'_, A>, panel: usize) -> Option<(f64, f64)> {
-    let (low, high) = bounds_of(chart, panel)?;
-    Some(with_edges(low, high))
-}
-
-/// The values at the edges of a panel of two charts that are drawn over each other. A picture of one record has it as both.
-fn edges_over<'a, A: Allocator>(
-    one: &Chart<'a, A>,
-    other: &Chart<'a, A>,
-    panel: usize,
-) -> Option<(f64, f64)> {
-    let (low, high) = spread(bounds_of(one, panel), bounds_of(other, panel))?;
-    Some(with_edges(low, high))
+    let (low, high) = bounds?;
+    let (low, high) = with_edges(low, high);
+    Some(Panel {
+        top,
+        height,
+        low,
+        high,
+    })
 }
 
 /// The first channel of a panel.
 fn first_of<'a, A: Allocator>(chart: &Chart<'a, A>, panel: usize) -> Option<&'a AnalogChannel<A>> {
     let file = chart.file;
-    let channels = file.head.analog.items();
-    for (channel, its) in channels.iter().zip(chart.panels.iter()) {
-        if *its == panel {
-            return Some(channel);
-        }
-    }
-    None
+    file.head.analog.items().get(channel_in(chart, panel)?)
 }
 
 /// The power of ten by which a panel's values are divided where they are shown.
@@ -87,32 +73,6 @@ fn put_title<A: Allocator>(
         sheet.name(channel.component.items());
     }
     sheet.end_text();
-}
-
-/// A channel's trace in a panel.
-fn put_channel<A: Allocator>(
-    sheet: &mut Sheet<A>,
-    chart: &Chart<'_, A>,
-    panel: Panel,
-    at: usize,
-    hue: Hue,
-) {
-    let file = chart.file;
-    let Some(scale) = chart.scales.get(at) else {
-        return;
-    };
-    let rows = file.rows.items();
-    let dashes = chart.layer.dashes();
-    sheet.texts(&["<path class=\"", hue.class(), "\" stroke=\"", hue.colour()]);
-    sheet.texts(&["\"", dashes, " d=\""]);
-    put_trace(sheet, rows, chart.places, at, panel, *scale);
-    sheet.text("\"/>\n");
-    if rows.len() <= DOTTED {
-        sheet.texts(&["<path class=\"", hue.class(), "\" stroke=\"", hue.colour()]);
-        sheet.text("\" stroke-width=\"5\" d=\"");
-        put_dots(sheet, rows, chart.places, at, panel, *scale);
-        sheet.text("\"/>\n");
-    }
 }
 
 /// The traces of a panel's channels.
@@ -176,84 +136,41 @@ fn put_empty<A: Allocator>(sheet: &mut Sheet<A>, chart: &Chart<'_, A>, top: u32,
     );
 }
 
-/// The traces of a panel of one chart, or of two over each other.
-fn put_layers<'a, A: Allocator>(
-    sheet: &mut Sheet<A>,
-    one: &Chart<'a, A>,
-    other: &Chart<'a, A>,
-    panel: Panel,
-    number: usize,
-) {
-    put_traces(sheet, one, panel, number);
-    if other.layer != Layer::Alone {
-        put_traces(sheet, other, panel, number);
-    }
-}
-
-/// The gaps of a panel, and the lines of its times.
-fn put_ground<'a, A: Allocator>(
-    sheet: &mut Sheet<A>,
-    one: &Chart<'a, A>,
-    other: &Chart<'a, A>,
-    top: u32,
-    bottom: u32,
-) {
-    put_gaps(sheet, one, top, bottom);
-    if other.layer != Layer::Alone {
-        put_gaps(sheet, other, top, bottom);
-    }
-    put_grid(sheet, one.frame, top, bottom);
-}
-
-/// The triggers' lines of a panel, and its frame.
-fn put_edges<'a, A: Allocator>(
-    sheet: &mut Sheet<A>,
-    one: &Chart<'a, A>,
-    other: &Chart<'a, A>,
-    top: u32,
-    height: u32,
-) {
-    let bottom = top.saturating_add(height);
-    put_trigger(sheet, one, top, bottom);
-    if other.layer != Layer::Alone {
-        put_trigger(sheet, other, top, bottom);
-    }
-    put_frame(sheet, top, height);
-}
-
 /// A panel of one chart, or of two over each other, below its title, at a height.
-pub(crate) fn put_panel<'a, A: Allocator + Copy>(
+pub(crate) fn put_panel<A: Allocator + Copy>(
     sheet: &mut Sheet<A>,
-    one: &Chart<'a, A>,
-    other: &Chart<'a, A>,
+    charts: &[&Chart<'_, A>],
     number: usize,
     top: u32,
     height: u32,
 ) {
+    let Some(one) = charts.first() else {
+        return;
+    };
     let Some(first) = first_of(one, number) else {
         return;
     };
-    put_ground(sheet, one, other, top, top.saturating_add(height));
-    let title = top.saturating_sub(50);
-    match edges_over(one, other, number) {
-        Some((low, high)) => {
-            let panel = Panel {
-                top,
-                height,
-                low,
-                high,
-            };
-            let exponent = exponent_of(first, panel);
-            put_title(sheet, first, exponent, title);
-            put_levels(sheet, one, panel, exponent);
-            put_layers(sheet, one, other, panel, number);
-        }
-        None => {
-            put_title(sheet, first, 0, title);
-            put_empty(sheet, one, top, height);
-        }
+    let bottom = top.saturating_add(height);
+    for chart in charts {
+        put_gaps(sheet, chart, top, bottom);
     }
-    put_edges(sheet, one, other, top, height);
+    put_grid(sheet, one.frame, top, bottom);
+    let title = top.saturating_sub(50);
+    if let Some(panel) = panel_of(charts, number, top, height) {
+        let exponent = exponent_of(first, panel);
+        put_title(sheet, first, exponent, title);
+        put_levels(sheet, one, panel, exponent);
+        for chart in charts {
+            put_traces(sheet, chart, panel, number);
+        }
+    } else {
+        put_title(sheet, first, 0, title);
+        put_empty(sheet, one, top, height);
+    }
+    for chart in charts {
+        put_trigger(sheet, chart, top, bottom);
+    }
+    put_frame(sheet, top, height);
 }
 
 /// All panels from a height on.
@@ -267,7 +184,7 @@ pub(crate) fn put_panels<A: Allocator + Copy>(
     for number in 0..count {
         let height = height_of(chart, number, count);
         y = y.saturating_add(TITLE);
-        put_panel(sheet, chart, chart, number, y, height);
+        put_panel(sheet, &[chart], number, y, height);
         put_names(sheet, chart, y, number);
         y = y.saturating_add(height);
     }

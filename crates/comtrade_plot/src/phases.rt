@@ -16,17 +16,6 @@ pub(crate) enum Hue {
     Fourth,
 }
 
-/// The hue of a phase by its last letter, where it has one.
-fn hue_of_letter(letter: u8) -> Option<Hue> {
-    match letter {
-        b'A' | b'a' | b'1' | b'R' | b'r' => Some(Hue::A),
-        b'B' | b'b' | b'2' | b'S' | b's' => Some(Hue::B),
-        b'C' | b'c' | b'3' | b'T' | b't' => Some(Hue::C),
-        b'N' | b'n' | b'G' | b'g' | b'E' | b'e' | b'0' => Some(Hue::N),
-        _ => None,
-    }
-}
-
 /// The letter of a channel's phase: of a channel without one that of a short name as IA or UL1, where it has one.
 fn letter_of<A: Allocator>(channel: &AnalogChannel<A>) -> Option<u8> {
     let phase = channel.phase.items();
@@ -41,9 +30,15 @@ fn letter_of<A: Allocator>(channel: &AnalogChannel<A>) -> Option<u8> {
     Some(*id.last()?)
 }
 
-/// The hue of a channel's phase, where it has one.
+/// The hue of a channel's phase by its last letter, where it has one.
 pub(crate) fn phase_hue<A: Allocator>(channel: &AnalogChannel<A>) -> Option<Hue> {
-    hue_of_letter(letter_of(channel)?)
+    match letter_of(channel)? {
+        b'A' | b'a' | b'1' | b'R' | b'r' => Some(Hue::A),
+        b'B' | b'b' | b'2' | b'S' | b's' => Some(Hue::B),
+        b'C' | b'c' | b'3' | b'T' | b't' => Some(Hue::C),
+        b'N' | b'n' | b'G' | b'g' | b'E' | b'e' | b'0' => Some(Hue::N),
+        _ => None,
+    }
 }
 
 /// The hue of a channel without a phase, by its place in the panel.

@@ -6,7 +6,7 @@ use crate::head::put_head;
 use crate::layout::{Chart, panels_end};
 use crate::overview::{STRIP, put_overview};
 use crate::panels::put_panels;
-use crate::plan::{Frame, LEFT};
+use crate::plan::LEFT;
 use crate::record::{Part, Record, chart_of, choice_of, part_of, record_of, whole_of};
 use crate::sheet::Sheet;
 use comtrade_format::File;
@@ -21,18 +21,6 @@ pub struct PlotOptions {
     pub shows_all: bool,
     pub width: Option<u32>,
     pub height: Option<u32>,
-}
-
-/// The note about effective values, below all.
-fn put_note<A: Allocator>(sheet: &mut Sheet<A>, chart: &Chart<'_, A>, y: u32) {
-    if chart.cycle.is_some() {
-        sheet.label(
-            LEFT,
-            y,
-            " class=\"f\" font-size=\"10.5\" fill=\"#55595f\"",
-            "peak: of what is drawn; rms: of the last cycle before the trigger \u{2192} of the first cycle after it",
-        );
-    }
 }
 
 /// Where the parts of a picture are: the times above, the panels, the contacts, their end.
@@ -58,7 +46,7 @@ fn places_in<A: Allocator>(chart: &Chart<'_, A>, bars: &[bool], is_part: bool) -
     }
 }
 
-/// What is drawn beside panels and contacts: times, cycles, gaps, the note.
+/// What is drawn beside panels and contacts: times, cycles, gaps, the note about effective values.
 fn put_scales<A: Allocator>(sheet: &mut Sheet<A>, chart: &Chart<'_, A>, places: Places) {
     put_times(sheet, chart, places.names);
     put_times_name(sheet, chart, places.names);
@@ -66,27 +54,18 @@ fn put_scales<A: Allocator>(sheet: &mut Sheet<A>, chart: &Chart<'_, A>, places: 
     put_times(sheet, chart, places.end.saturating_add(170));
     put_times_name(sheet, chart, places.end.saturating_add(170));
     put_cycles(sheet, chart, places.end.saturating_add(240));
-    put_note(sheet, chart, places.end.saturating_add(580));
+    if chart.cycle.is_some() {
+        sheet.label(
+            LEFT,
+            places.end.saturating_add(580),
+            " class=\"f\" font-size=\"10.5\" fill=\"#55595f\"",
+            "peak: of what is drawn; rms: of the last cycle before the trigger \u{2192} of the first cycle after it",
+        );
+    }
 }
 
-/// The picture of a chart up to its end, with room for the strip where it is a part of a record.
-fn put_picture<A: Allocator + Copy>(
-    sheet: &mut Sheet<A>,
-    chart: &Chart<'_, A>,
-    is_part: bool,
-    options: PlotOptions,
-) -> Result<(), ToolFault> {
-    let bars = bars_of(chart, options.shows_all)?;
-    let places = places_in(chart, &bars, is_part);
-    put_head(sheet, chart, options, places.end.saturating_add(640));
-    put_panels(sheet, chart, places.panels);
-    put_contacts(sheet, chart, &bars, places.contacts);
-    put_scales(sheet, chart, places);
-    Ok(())
-}
-
-/// The picture of what is drawn of a record.
-fn put_drawn<'a, A: Allocator + Copy>(
+/// The picture of what is drawn of a record up to its end, with room for the strip where that is a part of it.
+fn put_picture<'a, A: Allocator + Copy>(
     alloc: A,
     sheet: &mut Sheet<A>,
     file: &'a File<A>,
@@ -96,20 +75,13 @@ fn put_drawn<'a, A: Allocator + Copy>(
     options: PlotOptions,
 ) -> Result<(), ToolFault> {
     let chart = chart_of(alloc, file, record, part);
-    put_picture(sheet, &chart, is_part, options)
-}
-
-/// The strip of the whole record, of which these times are drawn.
-fn put_strip<'a, A: Allocator + Copy>(
-    alloc: A,
-    sheet: &mut Sheet<A>,
-    file: &'a File<A>,
-    record: &'a Record<A>,
-    all: &'a Part<A>,
-    drawn: Frame,
-) {
-    let chart = chart_of(alloc, file, record, all);
-    put_overview(sheet, &chart, drawn, 560);
+    let bars = bars_of(&chart, options.shows_all)?;
+    let places = places_in(&chart, &bars, is_part);
+    put_head(sheet, &chart, options, places.end.saturating_add(640));
+    put_panels(sheet, &chart, places.panels);
+    put_contacts(sheet, &chart, &bars, places.contacts);
+    put_scales(sheet, &chart, places);
+    Ok(())
 }
 
 /// Prints a picture of a file, whose rows were taken at these times, in nanoseconds since the trigger.
@@ -124,7 +96,7 @@ pub fn plot_over<A: Allocator + Copy, W: Write>(
     let choice = choice_of(file, &record, options.is_whole);
     let part = part_of(alloc, file, &record, choice.drawn)?;
     let mut sheet = Sheet::new(alloc);
-    put_drawn(
+    put_picture(
         alloc,
         &mut sheet,
         file,
@@ -135,7 +107,8 @@ pub fn plot_over<A: Allocator + Copy, W: Write>(
     )?;
     if choice.is_part {
         let all = whole_of(alloc, file, &record, &part, choice.whole)?;
-        put_strip(alloc, &mut sheet, file, &record, &all, choice.drawn);
+        let strip = chart_of(alloc, file, &record, &all);
+        put_overview(&mut sheet, &strip, choice.drawn, 560);
     }
     sheet.text("</svg>\n");
     sheet.write(w)

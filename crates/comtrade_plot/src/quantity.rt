@@ -6,9 +6,13 @@ use crate::units::{power_of_ten, put_unit, shown_exponent, unit_of};
 use std::alloc::Allocator;
 use std::num::saturating_f64_to_i64;
 
-/// How many places a number of this size has, where it has four digits.
-fn places_for(size: f64) -> u8 {
-    if size < 1.0 {
+/// A value with its unit, to four digits and whole ones.
+pub(crate) fn put_quantity<A: Allocator>(sheet: &mut Sheet<A>, value: f64, unit: &[u8]) {
+    let unit = unit_of(unit);
+    let exponent = shown_exponent(unit, value.abs());
+    let number = value / power_of_ten(exponent);
+    let size = number.abs();
+    let places: i32 = if size < 1.0 {
         4
     } else if size < 10.0 {
         3
@@ -18,26 +22,13 @@ fn places_for(size: f64) -> u8 {
         1
     } else {
         0
-    }
-}
-
-/// A number of at most a million or so, to four digits and whole ones.
-fn put_digits<A: Allocator>(sheet: &mut Sheet<A>, number: f64) {
-    let places = places_for(number.abs());
-    let power = power_of_ten(i32::from(places));
+    };
     let half = if number < 0.0 { -0.5 } else { 0.5 };
     put_places(
         sheet,
-        saturating_f64_to_i64(number * power + half),
-        u32::from(places),
+        saturating_f64_to_i64(number * power_of_ten(places) + half),
+        places.unsigned_abs(),
     );
-}
-
-/// A value with its unit.
-pub(crate) fn put_quantity<A: Allocator>(sheet: &mut Sheet<A>, value: f64, unit: &[u8]) {
-    let unit = unit_of(unit);
-    let exponent = shown_exponent(unit, value.abs());
-    put_digits(sheet, value / power_of_ten(exponent));
     sheet.text(" ");
     put_unit(sheet, unit, exponent);
 }

@@ -8,12 +8,12 @@ use crate::layout::Chart;
 use crate::plan::{Frame, window_of};
 use crate::rows::{kept_times, last_change, numbers_of, places_of, whole_frame};
 use crate::survey::{Survey, add_cycles, drop_partial, surveys_of};
-use crate::times::cycle_of;
 use comtrade_format::File;
 use comtrade_io::ToolFault;
-use comtrade_values::{Scale, scale_of};
+use comtrade_values::{Scale, nearest_f64, scale_of};
 use dfr_channels::AnalogChannel;
 use std::alloc::Allocator;
+use std::num::saturating_f64_to_i64;
 
 /// A cycle of 50 Hz, in nanoseconds.
 pub(crate) const USUAL_CYCLE: i64 = 20_000_000;
@@ -31,8 +31,8 @@ fn scales_of<A: Allocator + Copy>(
 }
 
 /// What is known of a file whichever part of it is drawn: when its rows were taken, and those that weren't lost, in nanoseconds since the
-/// trigger, or their numbers where the file has no times; what turns samples into values; how long a cycle is; when the trigger was, and
-/// which record of the picture it is.
+/// trigger, or their numbers where the file has no times; what turns samples into values; how long a cycle of the line's frequency is, where
+/// that is one; when the trigger was, and which record of the picture it is.
 #[derive(Drop)]
 pub(crate) struct Record<A: Allocator> {
     pub(crate) times: Vec<Option<i64>, A>,
@@ -50,6 +50,12 @@ pub(crate) fn record_of<A: Allocator + Copy>(
     times: &[Option<i64>],
 ) -> Result<Record<A>, ToolFault> {
     let is_timed = whole_frame(times).is_some();
+    let hertz = nearest_f64(alloc, file.head.line_freq)?;
+    let cycle = if is_timed && 0.1 <= hertz && hertz <= 10_000.0 {
+        Some(saturating_f64_to_i64(1e9 / hertz))
+    } else {
+        None
+    };
     let times = if is_timed {
         Vec::from_slice(alloc, times)?
     } else {
@@ -57,12 +63,11 @@ pub(crate) fn record_of<A: Allocator + Copy>(
     };
     let kept = kept_times(alloc, file, &times)?;
     let scales = scales_of(alloc, file.head.analog.items())?;
-    let cycle = cycle_of(alloc, file)?;
     Ok(Record {
         times,
         kept,
         scales,
-        cycle: if is_timed { cycle } else { None },
+        cycle,
         is_timed,
         trigger: 0,
         layer: Layer::Alone,

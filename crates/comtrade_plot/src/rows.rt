@@ -8,18 +8,13 @@ use std::alloc::Allocator;
 
 /// The reading of a channel, counted from 0.
 pub(crate) fn reading_at<A: Allocator>(row: &Row<A>, channel: usize) -> Reading {
-    match row.values.items().get(channel) {
-        Some(reading) => *reading,
-        None => Reading::Missing,
-    }
+    let readings = row.values.items();
+    readings.get(channel).copied().unwrap_or(Reading::Missing)
 }
 
 /// The bit of a status channel, counted from 0.
 pub(crate) fn bit_at<A: Allocator>(row: &Row<A>, channel: usize) -> bool {
-    match row.bits.items().get(channel) {
-        Some(bit) => *bit,
-        None => false,
-    }
+    row.bits.items().get(channel).copied().unwrap_or(false)
 }
 
 /// Whether a scan was lost: the row has no reading, though there are channels.

@@ -15,11 +15,6 @@ fn hex_digit(n: u8) -> u8 {
     }
 }
 
-/// Whether XML has a use of its own for a sign.
-fn is_xml_sign(b: u8) -> bool {
-    b == b'&' || b == b'<' || b == b'>' || b == b'"'
-}
-
 /// What was made so far, and whether an allocation failed on the way.
 #[derive(Drop)]
 pub(crate) struct Sheet<A: Allocator> {
@@ -91,21 +86,11 @@ impl<A: Allocator> Sheet<A> {
         }
     }
 
-    /// A sign that XML has a use of its own for.
-    fn xml_sign(&mut self, b: u8) {
-        match b {
-            b'&' => self.text("&amp;"),
-            b'<' => self.text("&lt;"),
-            b'>' => self.text("&gt;"),
-            _ => self.text("&quot;"),
-        }
-    }
-
     /// A text of a file, as characters of XML that are seen.
     pub(crate) fn name(&mut self, text: &[u8]) {
         let mut left = text;
         for _ in 0..=text.len() {
-            let at = left.iter().position(|b| is_xml_sign(*b));
+            let at = left.iter().position(|b| b"&<>\"".contains(b));
             let (front, rest) = left
                 .split_at_checked(at.unwrap_or(left.len()))
                 .unwrap_or((left, &[]));
@@ -114,7 +99,12 @@ impl<A: Allocator> Sheet<A> {
             let Some((sign, more)) = rest.split_first() else {
                 return;
             };
-            self.xml_sign(*sign);
+            self.text(match *sign {
+                b'&' => "&amp;",
+                b'<' => "&lt;",
+                b'>' => "&gt;",
+                _ => "&quot;",
+            });
             left = more;
         }
     }
@@ -141,18 +131,8 @@ impl<A: Allocator> Sheet<A> {
         }
     }
 
-    /// The first character of a text where it has several bytes and is seen, else its first byte; and what is left of it.
-    fn json_front<'a>(&mut self, text: &'a [u8]) -> &'a [u8] {
-        let count = seen_len(text).max(1);
-        let (front, rest) = text.split_at_checked(count).unwrap_or((text, &[]));
-        match front {
-            [b] => self.json_byte(*b),
-            _ => self.raw(front),
-        }
-        rest
-    }
-
-    /// A text of a file as one of JSON, which can stand in a page: a byte of no character that is seen as the letter of Latin-1.
+    /// A text of a file as one of JSON, which can stand in a page: a character that is seen and has several bytes as it is, a byte of none as the
+    /// letter of Latin-1.
     pub(crate) fn json(&mut self, text: &[u8]) {
         self.text("\"");
         let mut left = text;
@@ -160,7 +140,13 @@ impl<A: Allocator> Sheet<A> {
             if left.is_empty() {
                 break;
             }
-            left = self.json_front(left);
+            let count = seen_len(left).max(1);
+            let (front, rest) = left.split_at_checked(count).unwrap_or((left, &[]));
+            match front {
+                [b] => self.json_byte(*b),
+                _ => self.raw(front),
+            }
+            left = rest;
         }
         self.text("\"");
     }
@@ -199,20 +185,14 @@ impl<A: Allocator> Sheet<A> {
         self.tenths(n);
     }
 
-    /// ` name="n"`, with n in tenths of a pixel.
-    pub(crate) fn attribute(&mut self, name: &str, n: u32) {
-        self.texts(&[" ", name, "=\""]);
-        self.tenths(n);
-        self.text("\"");
-    }
-
-    /// A rectangle from its corner on, so wide and so high, up to what follows in its tag.
+    /// A rectangle from its corner on, so wide and so high in tenths of a pixel, up to what follows in its tag.
     pub(crate) fn begin_box(&mut self, (x, y): (u32, u32), (width, height): (u32, u32)) {
         self.text("<rect");
-        self.attribute("x", x);
-        self.attribute("y", y);
-        self.attribute("width", width);
-        self.attribute("height", height);
+        for (name, n) in [("x", x), ("y", y), ("width", width), ("height", height)] {
+            self.texts(&[" ", name, "=\""]);
+            self.tenths(n);
+            self.text("\"");
+        }
     }
 
     /// What was made by another sheet.

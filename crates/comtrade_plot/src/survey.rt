@@ -64,15 +64,6 @@ impl Survey {
     }
 }
 
-/// Adds a row's readings to the bounds.
-fn add_bounds(surveys: &mut [Survey], readings: &[Reading]) {
-    for (survey, reading) in surveys.iter_mut().zip(readings.iter()) {
-        if let Reading::Value(sample) = *reading {
-            *survey = survey.with(sample);
-        }
-    }
-}
-
 /// The bounds of each channel over the rows of a frame.
 pub(crate) fn surveys_of<A: Allocator + Copy>(
     alloc: A,
@@ -90,7 +81,13 @@ pub(crate) fn surveys_of<A: Allocator + Copy>(
     }
     for (row, time) in file.rows.items().iter().zip(kept.iter()) {
         match *time {
-            Some(time) if frame.has(time) => add_bounds(&mut surveys, row.values.items()),
+            Some(time) if frame.has(time) => {
+                for (survey, reading) in surveys.iter_mut().zip(row.values.items().iter()) {
+                    if let Reading::Value(sample) = *reading {
+                        *survey = survey.with(sample);
+                    }
+                }
+            }
             _ => {}
         }
     }

@@ -1,9 +1,10 @@
 //! The traces of channels, at most two points for each half pixel: no peak is lost.
 
+use crate::layout::Chart;
+use crate::phases::Hue;
 use crate::plan::Panel;
 use crate::rows::reading_at;
 use crate::sheet::Sheet;
-use comtrade_format::Row;
 use comtrade_values::Scale;
 use dfr_channels::Reading;
 use std::alloc::Allocator;
@@ -67,22 +68,32 @@ impl Stroke {
     }
 }
 
-/// Draws the stroke of a run's last column, where there is one.
-fn end_run<A: Allocator>(sheet: &mut Sheet<A>, stroke: Option<Stroke>) {
-    if let Some(stroke) = stroke {
-        stroke.put(sheet);
+/// Where a reading stands, if its row is drawn and it isn't missing.
+fn point_of(
+    panel: Panel,
+    scale: Scale,
+    place: Option<u32>,
+    reading: Reading,
+) -> Option<(u32, u32)> {
+    match (place, reading) {
+        (Some(x), Reading::Value(sample)) => Some((x, panel.level(scale.value(sample)))),
+        _ => None,
     }
 }
 
-/// The stroke after a sample: the one before is drawn where the sample stands in another column.
+/// The stroke after a point: the one before is drawn where the point stands in another column, or there is none, which ends the run.
 fn moved<A: Allocator>(
     sheet: &mut Sheet<A>,
     stroke: Option<Stroke>,
-    x: u32,
-    y: u32,
+    point: Option<(u32, u32)>,
 ) -> Option<Stroke> {
     let Some(stroke) = stroke else {
+        let (x, y) = point?;
         return Some(Stroke::at(x, y, true));
+    };
+    let Some((x, y)) = point else {
+        stroke.put(sheet);
+        return None;
     };
     if stroke.x / COLUMN == x / COLUMN {
         return Some(stroke.with(y));
@@ -95,46 +106,40 @@ fn moved<A: Allocator>(
     Some(Stroke::at(x, y, false))
 }
 
-/// The path of a channel over rows that stand at these places; a missing reading interrupts it.
-pub(crate) fn put_trace<A: Allocator>(
-    sheet: &mut Sheet<A>,
-    rows: &[Row<A>],
-    places: &[Option<u32>],
-    channel: usize,
-    panel: Panel,
-    scale: Scale,
-) {
-    let mut stroke = None;
-    for (row, place) in rows.iter().zip(places.iter()) {
-        let Some(x) = *place else {
-            end_run(sheet, stroke);
-            stroke = None;
-            continue;
-        };
-        stroke = match reading_at(row, channel) {
-            Reading::Value(sample) => { moved(sheet, stroke, x, panel.level(scale.value(sample))) }
-            Reading::Missing => {
-                end_run(sheet, stroke);
-                None
-            }
-        };
-    }
-    end_run(sheet, stroke);
-}
+/// A record of so many rows or fewer has a dot at each sample.
+const DOTTED: usize = 60;
 
-/// A dot at each sample of a channel, for records of few rows.
-pub(crate) fn put_dots<A: Allocator>(
+/// A channel's trace in a panel, which a missing reading interrupts.
+pub(crate) fn put_channel<A: Allocator>(
     sheet: &mut Sheet<A>,
-    rows: &[Row<A>],
-    places: &[Option<u32>],
-    channel: usize,
+    chart: &Chart<'_, A>,
     panel: Panel,
-    scale: Scale,
+    at: usize,
+    hue: Hue,
 ) {
-    for (row, place) in rows.iter().zip(places.iter()) {
-        if let (Some(x), Reading::Value(sample)) = (*place, reading_at(row, channel)) {
-            sheet.point("M", x, panel.level(scale.value(sample)));
-            sheet.text("h0");
+    let file = chart.file;
+    let rows = file.rows.items();
+    let Some(scale) = chart.scales.get(at) else {
+        return;
+    };
+    sheet.texts(&["<path class=\"", hue.class(), "\" stroke=\"", hue.colour()]);
+    sheet.texts(&["\"", chart.layer.dashes(), " d=\""]);
+    let mut stroke = None;
+    for (row, place) in rows.iter().zip(chart.places.iter()) {
+        let point = point_of(panel, *scale, *place, reading_at(row, at));
+        stroke = moved(sheet, stroke, point);
+    }
+    moved(sheet, stroke, None);
+    sheet.text("\"/>\n");
+    if rows.len() <= DOTTED {
+        sheet.texts(&["<path class=\"", hue.class(), "\" stroke=\"", hue.colour()]);
+        sheet.text("\" stroke-width=\"5\" d=\"");
+        for (row, place) in rows.iter().zip(chart.places.iter()) {
+            if let Some((x, y)) = point_of(panel, *scale, *place, reading_at(row, at)) {
+                sheet.point("M", x, y);
+                sheet.text("h0");
+            }
         }
+        sheet.text("\"/>\n");
     }
 }

@@ -24,22 +24,18 @@ fn is_base(unit: &[u8]) -> bool {
     false
 }
 
-fn exponent_of(prefix: u8) -> Option<i32> {
-    match prefix {
-        b'n' => Some(-9),
-        b'u' => Some(-6),
-        b'm' => Some(-3),
-        b'k' | b'K' => Some(3),
-        b'M' => Some(6),
-        b'G' => Some(9),
-        _ => None,
-    }
-}
-
 /// The unit with a prefix taken off.
 fn without_prefix(unit: &[u8]) -> Option<Unit<'_>> {
     let (first, base) = unit.split_first()?;
-    let exponent = exponent_of(*first)?;
+    let exponent = match first {
+        b'n' => -9,
+        b'u' => -6,
+        b'm' => -3,
+        b'k' | b'K' => 3,
+        b'M' => 6,
+        b'G' => 9,
+        _ => return None,
+    };
     if !is_base(base) {
         return None;
     }
@@ -63,16 +59,6 @@ pub(crate) fn unit_of(unit: &[u8]) -> Unit<'_> {
         Some(unit) => unit,
         None => plain,
     }
-}
-
-/// Whether a unit is one of currents or voltages, whose effective values are told.
-pub(crate) fn is_alternating(unit: &[u8]) -> bool {
-    let base = unit_of(unit).base;
-    base == b"A".as_slice() || base == b"V".as_slice()
-}
-
-pub(crate) fn is_current(unit: &[u8]) -> bool {
-    unit_of(unit).base == b"A".as_slice()
 }
 
 fn prefix_of(exponent: i32) -> Option<&'static str> {

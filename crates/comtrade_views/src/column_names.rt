@@ -7,11 +7,14 @@ use std::alloc::{AllocError, Allocator};
 use std::collections::BTreeMap;
 use std::io::Write;
 
-/// Why a table can't be written.
-fn csv_fault(error: &Error) -> ToolFault {
+/// What came of a write to a table.
+fn outcome_of(written: Result<(), Error>) -> Result<(), ToolFault> {
+    let Err(error) = written else {
+        return Ok(());
+    };
     match error.kind() {
-        ErrorKind::Io(error) => fault_of(error.kind(), ToolFault::Output),
-        _ => ToolFault::Memory,
+        ErrorKind::Io(error) => Err(fault_of(error.kind(), ToolFault::Output)),
+        _ => Err(ToolFault::Memory),
     }
 }
 
@@ -22,30 +25,7 @@ fn end_cell<A: Allocator, W: Write>(
 ) -> Result<(), ToolFault> {
     let written = table.write_field(cell);
     cell.clear();
-    match written {
-        Ok(()) => Ok(()),
-        Err(error) => Err(csv_fault(&error)),
-    }
-}
-
-/// Ends the line, and writes all of it.
-fn end_line<W: Write>(table: &mut Writer<&mut W>) -> Result<(), ToolFault> {
-    if let Err(error) = table.end_record() {
-        return Err(csv_fault(&error));
-    }
-    match table.flush() {
-        Ok(()) => Ok(()),
-        Err(error) => Err(csv_fault(&error)),
-    }
-}
-
-fn put_name<A: Allocator, W: Write>(
-    table: &mut Writer<&mut W>,
-    cell: &mut Vec<u8, A>,
-    name: &str,
-) -> Result<(), ToolFault> {
-    put(cell, name)?;
-    end_cell(table, cell)
+    outcome_of(written)
 }
 
 /// A text of the file, after an apostrophe where a spreadsheet would read a formula.
@@ -54,15 +34,6 @@ fn put_name_of<A: Allocator>(cell: &mut Vec<u8, A>, id: &[u8]) -> Result<(), All
         put(cell, "'")?;
     }
     put_safe(cell, id)
-}
-
-/// ` (2)` after the second one of a name, and so on.
-fn put_repeat<A: Allocator>(cell: &mut Vec<u8, A>, before: u64) -> Result<(), AllocError> {
-    if before == 0 {
-        return Ok(());
-    }
-    put_with(cell, " (", before.saturating_add(1))?;
-    put(cell, ")")
 }
 
 /// How often a name was seen before; now it is seen once more.
@@ -78,7 +49,7 @@ fn times_seen<A: Allocator + Copy>(
     Ok(before)
 }
 
-/// Writes the name of a column, told apart from the same name before it.
+/// Writes the name of a column: ` (2)` stands after the second one of a name, and so on.
 fn end_name<A: Allocator + Copy, W: Write>(
     table: &mut Writer<&mut W>,
     cell: &mut Vec<u8, A>,
@@ -86,59 +57,32 @@ fn end_name<A: Allocator + Copy, W: Write>(
 ) -> Result<(), ToolFault> {
     let alloc = *cell.allocator();
     let before = times_seen(cell.as_slice(), seen, alloc)?;
-    put_repeat(cell, before)?;
+    if before != 0 {
+        put_with(cell, " (", before.saturating_add(1))?;
+        put(cell, ")")?;
+    }
     end_cell(table, cell)
 }
 
-/// An analogue channel's id and unit.
-fn put_channel<A: Allocator>(
-    cell: &mut Vec<u8, A>,
-    id: &[u8],
-    unit: &[u8],
-) -> Result<(), AllocError> {
-    put_name_of(cell, id)?;
-    put(cell, " [")?;
-    put_safe(cell, unit)?;
-    put(cell, "]")
-}
-
-/// The names of the analogue channels' columns.
-fn put_analog_names<A: Allocator + Copy, W: Write>(
+/// The names of the channels' columns: of analogue channels with their units. None of them is seen yet.
+fn put_channel_names<A: Allocator + Copy, W: Write>(
     table: &mut Writer<&mut W>,
     cell: &mut Vec<u8, A>,
     head: &Head<A>,
     seen: &mut BTreeMap<Vec<u8, A>, u64, A>,
 ) -> Result<(), ToolFault> {
     for channel in head.analog.items() {
-        put_channel(cell, channel.id.items(), channel.unit.items())?;
+        put_name_of(cell, channel.id.items())?;
+        put(cell, " [")?;
+        put_safe(cell, channel.unit.items())?;
+        put(cell, "]")?;
         end_name(table, cell, seen)?;
     }
-    Ok(())
-}
-
-/// The names of the contacts' columns.
-fn put_status_names<A: Allocator + Copy, W: Write>(
-    table: &mut Writer<&mut W>,
-    cell: &mut Vec<u8, A>,
-    head: &Head<A>,
-    seen: &mut BTreeMap<Vec<u8, A>, u64, A>,
-) -> Result<(), ToolFault> {
     for channel in head.status.items() {
         put_name_of(cell, channel.id.items())?;
         end_name(table, cell, seen)?;
     }
     Ok(())
-}
-
-/// The names of the channels' columns; none of them is seen yet.
-fn put_channel_names<A: Allocator + Copy, W: Write>(
-    table: &mut Writer<&mut W>,
-    cell: &mut Vec<u8, A>,
-    head: &Head<A>,
-    mut seen: BTreeMap<Vec<u8, A>, u64, A>,
-) -> Result<(), ToolFault> {
-    put_analog_names(table, cell, head, &mut seen)?;
-    put_status_names(table, cell, head, &mut seen)
 }
 
 /// The names of all columns.
@@ -147,12 +91,14 @@ fn put_names<A: Allocator + Copy, W: Write>(
     cell: &mut Vec<u8, A>,
     head: &Head<A>,
 ) -> Result<(), ToolFault> {
-    put_name(table, cell, "row")?;
-    put_name(table, cell, "instant")?;
-    put_name(table, cell, "ms since trigger")?;
-    let seen = BTreeMap::new(*cell.allocator());
-    put_channel_names(table, cell, head, seen)?;
-    end_line(table)
+    for name in ["row", "instant", "ms since trigger"] {
+        put(cell, name)?;
+        end_cell(table, cell)?;
+    }
+    let mut seen = BTreeMap::new(*cell.allocator());
+    put_channel_names(table, cell, head, &mut seen)?;
+    outcome_of(table.end_record())?;
+    outcome_of(table.flush())
 }
 
 /// Writes the line of the names of the columns.

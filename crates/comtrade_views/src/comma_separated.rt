@@ -4,9 +4,9 @@ use crate::column_names::write_names;
 use crate::instant::put_instant;
 use crate::number::{Number, Scale, put_sample, put_value, scale_of};
 use crate::spelling::Spelling;
-use comtrade_format::{File, Head, Row};
+use comtrade_format::{File, Row};
 use comtrade_io::{ToolFault, flush_if_full, put, put_number, write_out};
-use dfr_channels::Reading;
+use dfr_channels::{AnalogChannel, Reading};
 use std::alloc::{AllocError, Allocator};
 use std::io::Write;
 
@@ -88,15 +88,15 @@ impl<A: Allocator> Lines<A> {
     /// The line of a row: number, times, values, bits.
     fn put_row(
         &mut self,
-        scales: &[Scale],
+        channels: &[AnalogChannel<A>],
         row: &Row<A>,
         trigger: i64,
         since: Option<i64>,
     ) -> Result<(), AllocError> {
         put_number(&mut self.text, row.number)?;
         self.put_times(trigger, since)?;
-        for (scale, reading) in scales.iter().zip(row.values.items()) {
-            self.put_reading(*scale, *reading)?;
+        for (channel, reading) in channels.iter().zip(row.values.items()) {
+            self.put_reading(scale_of(channel), *reading)?;
         }
         for bit in row.bits.items() {
             self.put_bit(*bit)?;
@@ -105,24 +105,16 @@ impl<A: Allocator> Lines<A> {
     }
 }
 
-fn scales_of<A: Allocator + Copy>(alloc: A, head: &Head<A>) -> Result<Vec<Scale, A>, AllocError> {
-    let mut scales = Vec::new(alloc);
-    for channel in head.analog.items() {
-        scales.push(scale_of(channel))?;
-    }
-    Ok(scales)
-}
-
 /// Writes the lines of the rows, a piece of them each time that enough has come together.
 fn write_rows<A: Allocator, W: Write>(
     lines: &mut Lines<A>,
     file: &File<A>,
-    scales: &[Scale],
     times: &[Option<i64>],
     w: &mut W,
 ) -> Result<(), ToolFault> {
+    let channels = file.head.analog.items();
     for (row, since) in file.rows.items().iter().zip(times) {
-        lines.put_row(scales, row, file.head.trigger, *since)?;
+        lines.put_row(channels, row, file.head.trigger, *since)?;
         flush_if_full(w, &mut lines.text)?;
     }
     write_out(w, &lines.text)
@@ -137,12 +129,11 @@ pub fn csv_over<A: Allocator + Copy, W: Write>(
     spelling: Spelling,
     w: &mut W,
 ) -> Result<(), ToolFault> {
-    let scales = scales_of(alloc, &file.head)?;
     write_names(alloc, &file.head, spelling.separator, w)?;
     let mut lines = Lines {
         text: Vec::new(alloc),
         cell: Vec::new(alloc),
         spelling,
     };
-    write_rows(&mut lines, file, &scales, times, w)
+    write_rows(&mut lines, file, times, w)
 }

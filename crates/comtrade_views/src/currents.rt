@@ -3,7 +3,7 @@
 use crate::peaks::{Peaks, peaks_at, peaks_of};
 use comtrade_format::File;
 use comtrade_io::ToolFault;
-use comtrade_values::nearest_f64;
+use comtrade_values::{nearest_f64, scale_of};
 use dfr_channels::{AnalogChannel, Decimal, Side};
 use std::alloc::Allocator;
 
@@ -15,10 +15,6 @@ pub(crate) struct Current {
     pub(crate) sample: i32,
 }
 
-fn is_current<A: Allocator>(channel: &AnalogChannel<A>) -> bool {
-    channel.unit.items() == b"A".as_slice()
-}
-
 /// The nominal current of a channel.
 pub(crate) fn nominal_of<A: Allocator>(channel: &AnalogChannel<A>) -> Decimal {
     match channel.side {
@@ -27,67 +23,33 @@ pub(crate) fn nominal_of<A: Allocator>(channel: &AnalogChannel<A>) -> Decimal {
     }
 }
 
-/// How often a value of a sample is the channel's nominal current.
-fn times_nominal<A: Allocator + Copy>(
-    alloc: A,
-    channel: &AnalogChannel<A>,
-    sample: i32,
-) -> Result<f64, ToolFault> {
-    let scale = comtrade_values::scale_of(alloc, channel)?;
-    let nominal = nearest_f64(alloc, nominal_of(channel))?;
-    let value = scale.value(sample);
-    let size = if value < 0.0 { -value } else { value };
-    Ok(if 0.0 < nominal { size / nominal } else { 0.0 })
-}
-
-/// The greatest current so far, with one sample more.
-fn greater<A: Allocator + Copy>(
-    alloc: A,
-    channel: &AnalogChannel<A>,
-    place: usize,
-    sample: i32,
-    greatest: Option<Current>,
-) -> Result<Option<Current>, ToolFault> {
-    let times = times_nominal(alloc, channel, sample)?;
-    let least = match greatest {
-        Some(current) => current.times,
-        None => 0.0,
-    };
-    if least < times {
-        return Ok(Some(Current {
-            times,
-            place,
-            sample,
-        }));
-    }
-    Ok(greatest)
-}
-
 /// The greatest current of a channel, by its nominal one, or the greatest before it.
 fn greatest_of<A: Allocator + Copy>(
     alloc: A,
     peaks: Peaks,
     channel: &AnalogChannel<A>,
     place: usize,
-    greatest: Option<Current>,
+    before: Option<Current>,
 ) -> Result<Option<Current>, ToolFault> {
     let Some((least, most)) = peaks.extremes else {
-        return Ok(greatest);
+        return Ok(before);
     };
-    let greatest = greater(alloc, channel, place, least.sample, greatest)?;
-    greater(alloc, channel, place, most.sample, greatest)
-}
-
-/// The greatest current of all channels, which have these peaks.
-fn greatest_by<A: Allocator + Copy>(
-    alloc: A,
-    file: &File<A>,
-    peaks: &[Peaks],
-) -> Result<Option<Current>, ToolFault> {
-    let mut greatest = None;
-    for (i, channel) in file.head.analog.items().iter().enumerate() {
-        if is_current(channel) {
-            greatest = greatest_of(alloc, peaks_at(peaks, i), channel, i, greatest)?;
+    let scale = scale_of(alloc, channel)?;
+    let nominal = nearest_f64(alloc, nominal_of(channel))?;
+    let mut greatest = before;
+    for sample in [least.sample, most.sample] {
+        let size = scale.value(sample).abs();
+        let times = if 0.0 < nominal { size / nominal } else { 0.0 };
+        let known = match greatest {
+            Some(current) => current.times,
+            None => 0.0,
+        };
+        if known < times {
+            greatest = Some(Current {
+                times,
+                place,
+                sample,
+            });
         }
     }
     Ok(greatest)
@@ -99,5 +61,11 @@ pub(crate) fn greatest_current<A: Allocator + Copy>(
     file: &File<A>,
 ) -> Result<Option<Current>, ToolFault> {
     let peaks = peaks_of(alloc, file)?;
-    greatest_by(alloc, file, &peaks)
+    let mut greatest = None;
+    for (i, channel) in file.head.analog.items().iter().enumerate() {
+        if channel.unit.items() == b"A".as_slice() {
+            greatest = greatest_of(alloc, peaks_at(&peaks, i), channel, i, greatest)?;
+        }
+    }
+    Ok(greatest)
 }

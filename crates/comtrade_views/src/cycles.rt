@@ -14,8 +14,8 @@ mod window;
 
 pub use course::{Course, course_of, is_current};
 pub use fault::MeasureFault;
-pub use fit::{Measured, measures_of};
-pub use phases::{Sequence, Three, sequence_of, threes_of};
+pub use fit::{Measured, measured_at, measures_of};
+pub use phases::{Sequence, Three, phasor_in, sequence_of, threes_of};
 pub use phasor::Phasor;
 pub use reference::reference_in;
 pub use window::{Window, last_cycle, whole_cycles, whole_record};

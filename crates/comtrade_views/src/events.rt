@@ -1,8 +1,8 @@
 //! What happened in records, in one list: triggers, changes of contacts, gaps.
 
-use crate::peaks::{bit_at, reading_at};
+use crate::peaks::bit_at;
 use crate::times::times_since_trigger;
-use comtrade_format::{File, Row};
+use comtrade_format::File;
 use comtrade_io::{ToolFault, put, put_count, put_safe, put_with};
 use dfr_channels::Reading;
 use std::alloc::{AllocError, Allocator, Global};
@@ -21,9 +21,11 @@ pub struct Event<A: Allocator = Global> {
     pub(crate) text: Vec<u8, A>,
 }
 
-/// When the rows of one record were taken.
-#[derive(Clone, Copy)]
-struct Source<'a> {
+/// A record, and when its rows were taken.
+#[derive(Drop)]
+struct Source<'a, A: Allocator> {
+    file: &'a File<A>,
+    /// Its place in the list, from 0.
     record: usize,
     /// The trigger, in nanoseconds since 1970-01-01 00:00:00.
     trigger: i128,
@@ -32,7 +34,7 @@ struct Source<'a> {
 }
 
 /// What happened at a row, with a text that is put after.
-fn event_at<A: Allocator + Copy>(alloc: A, source: Source<'_>, row: usize) -> Event<A> {
+fn event_at<A: Allocator + Copy>(alloc: A, source: &Source<'_, A>, row: usize) -> Event<A> {
     let since = match source.times.get(row) {
         Some(Some(nanos)) => Some(*nanos as i128),
         _ => None,
@@ -59,77 +61,25 @@ fn put_change<A: Allocator>(
     put(text, if bit { " 1" } else { " 0" })
 }
 
-/// A change of a contact at a row.
-fn add_change<A: Allocator + Copy>(
-    alloc: A,
-    events: &mut Vec<Event<A>, A>,
-    source: Source<'_>,
-    row: usize,
-    place: usize,
-    id: &[u8],
-    bit: bool,
-) -> Result<(), ToolFault> {
-    let mut event = event_at(alloc, source, row);
-    put_change(&mut event.text, place, id, bit)?;
-    add(events, event)
-}
-
-/// Adds an event.
-fn add<A: Allocator>(events: &mut Vec<Event<A>, A>, event: Event<A>) -> Result<(), ToolFault> {
-    match events.push(event) {
-        Ok(_) => Ok(()),
-        Err(_) => Err(ToolFault::Memory),
-    }
-}
-
-/// The changes of contacts at a row, after the one before.
-fn add_changes_at<A: Allocator + Copy>(
-    alloc: A,
-    events: &mut Vec<Event<A>, A>,
-    source: Source<'_>,
-    file: &File<A>,
-    at: usize,
-    (before, row): (&Row<A>, &Row<A>),
-) -> Result<(), ToolFault> {
-    for (place, channel) in file.head.status.items().iter().enumerate() {
-        let bit = bit_at(row, place);
-        if bit_at(before, place) != bit {
-            add_change(alloc, events, source, at, place, channel.id.items(), bit)?;
-        }
-    }
-    Ok(())
-}
-
 /// The changes of contacts from one row to the next.
 fn add_changes<A: Allocator + Copy>(
     alloc: A,
     events: &mut Vec<Event<A>, A>,
-    source: Source<'_>,
-    file: &File<A>,
+    source: &Source<'_, A>,
 ) -> Result<(), ToolFault> {
+    let file = source.file;
     let rows = file.rows.items();
     for (i, (before, row)) in rows.iter().zip(rows.iter().skip(1)).enumerate() {
-        add_changes_at(
-            alloc,
-            events,
-            source,
-            file,
-            i.saturating_add(1),
-            (before, row),
-        )?;
-    }
-    Ok(())
-}
-
-/// How many readings a row misses.
-fn missing_in<A: Allocator>(row: &Row<A>) -> u64 {
-    let mut missing = 0u64;
-    for (i, _) in row.values.items().iter().enumerate() {
-        if reading_at(row, i) == Reading::Missing {
-            missing = missing.saturating_add(1);
+        for (place, channel) in file.head.status.items().iter().enumerate() {
+            let bit = bit_at(row, place);
+            if bit_at(before, place) != bit {
+                let mut event = event_at(alloc, source, i.saturating_add(1));
+                put_change(&mut event.text, place, channel.id.items(), bit)?;
+                events.push(event)?;
+            }
         }
     }
-    missing
+    Ok(())
 }
 
 /// A run of rows that miss readings.
@@ -149,48 +99,44 @@ fn put_gap<A: Allocator>(text: &mut Vec<u8, A>, gap: Gap) -> Result<(), AllocErr
     put_with(text, " to ", (gap.to as u64).saturating_add(1))
 }
 
+/// Adds a run of rows that miss readings, where there is one.
 fn add_gap<A: Allocator + Copy>(
     alloc: A,
     events: &mut Vec<Event<A>, A>,
-    source: Source<'_>,
+    source: &Source<'_, A>,
     gap: Option<Gap>,
 ) -> Result<(), ToolFault> {
-    let Some(gap) = gap else {
-        return Ok(());
-    };
-    let mut event = event_at(alloc, source, gap.from);
-    put_gap(&mut event.text, gap)?;
-    add(events, event)
-}
-
-/// The run with one row more.
-fn with_row(gap: Option<Gap>, row: usize, missing: u64) -> Gap {
-    match gap {
-        Some(gap) => Gap {
-            from: gap.from,
-            to: row,
-            channels: gap.channels.max(missing),
-        },
-        None => Gap {
-            from: row,
-            to: row,
-            channels: missing,
-        },
+    if let Some(gap) = gap {
+        let mut event = event_at(alloc, source, gap.from);
+        put_gap(&mut event.text, gap)?;
+        events.push(event)?;
     }
+    Ok(())
 }
 
 /// The runs of rows that miss readings.
 fn add_gaps<A: Allocator + Copy>(
     alloc: A,
     events: &mut Vec<Event<A>, A>,
-    source: Source<'_>,
-    rows: &[Row<A>],
+    source: &Source<'_, A>,
 ) -> Result<(), ToolFault> {
+    let file = source.file;
     let mut begun: Option<Gap> = None;
-    for (i, row) in rows.iter().enumerate() {
-        let missing = missing_in(row);
+    for (i, row) in file.rows.items().iter().enumerate() {
+        let readings = row.values.items().iter();
+        let missing = readings
+            .filter(|reading| **reading == Reading::Missing)
+            .count() as u64;
         if 0 < missing {
-            begun = Some(with_row(begun, i, missing));
+            let (from, channels) = match begun {
+                Some(gap) => (gap.from, gap.channels.max(missing)),
+                None => (i, missing),
+            };
+            begun = Some(Gap {
+                from,
+                to: i,
+                channels,
+            });
         } else {
             add_gap(alloc, events, source, begun)?;
             begun = None;
@@ -211,31 +157,18 @@ fn put_trigger<A: Allocator>(text: &mut Vec<u8, A>, file: &File<A>) -> Result<()
 fn add_trigger<A: Allocator + Copy>(
     alloc: A,
     events: &mut Vec<Event<A>, A>,
-    source: Source<'_>,
-    file: &File<A>,
+    source: &Source<'_, A>,
 ) -> Result<(), ToolFault> {
     let mut text = Vec::new(alloc);
-    put_trigger(&mut text, file)?;
-    let event = Event {
+    put_trigger(&mut text, source.file)?;
+    events.push(Event {
         at: Some(source.trigger),
         since: Some(0),
         record: source.record,
         row: 0,
         text,
-    };
-    add(events, event)
-}
-
-/// Adds what happened in a record whose rows were taken at these times.
-fn add_all<A: Allocator + Copy>(
-    alloc: A,
-    events: &mut Vec<Event<A>, A>,
-    source: Source<'_>,
-    file: &File<A>,
-) -> Result<(), ToolFault> {
-    add_trigger(alloc, events, source, file)?;
-    add_changes(alloc, events, source, file)?;
-    add_gaps(alloc, events, source, file.rows.items())
+    })?;
+    Ok(())
 }
 
 /// Adds what happened in a record, whose place in the list is this.
@@ -247,11 +180,14 @@ pub fn add_events<A: Allocator + Copy>(
 ) -> Result<(), ToolFault> {
     let times = times_since_trigger(alloc, file)?;
     let source = Source {
+        file,
         record,
         trigger: file.head.trigger as i128 * 1000,
         times: &times,
     };
-    add_all(alloc, events, source, file)
+    add_trigger(alloc, events, &source)?;
+    add_changes(alloc, events, &source)?;
+    add_gaps(alloc, events, &source)
 }
 
 /// Brings the events into their order in time, those without an instant after all others.

@@ -5,19 +5,6 @@ use ryu::Buffer;
 use std::alloc::{AllocError, Allocator};
 use std::num::saturating_f64_to_i64;
 
-/// The number that digits are, one after another.
-fn units_of(whole: &str, places: &str) -> i128 {
-    let mut units = 0i128;
-    for b in whole.bytes().chain(places.bytes()) {
-        if b.is_ascii_digit() {
-            units = units
-                .saturating_mul(10)
-                .saturating_add(i128::from(b.saturating_sub(b'0')));
-        }
-    }
-    units
-}
-
 /// A float as its shortest decimal; none where it is no number.
 fn number_of(x: f64) -> Option<Number> {
     let size = x.abs();
@@ -29,7 +16,14 @@ fn number_of(x: f64) -> Option<Number> {
     let (digits, exponent) = text.split_once('e').unwrap_or((text, "0"));
     let (whole, places) = digits.split_once('.').unwrap_or((digits, ""));
     let exponent = exponent.parse::<i32>().ok()?;
-    let units = units_of(whole, places);
+    let mut units = 0i128;
+    for b in whole.bytes().chain(places.bytes()) {
+        if b.is_ascii_digit() {
+            units = units
+                .saturating_mul(10)
+                .saturating_add(i128::from(b.saturating_sub(b'0')));
+        }
+    }
     Some(Number {
         units: if x < 0.0 {
             units.saturating_mul(-1)
@@ -55,7 +49,10 @@ pub(crate) fn put_float<A: Allocator>(
 ) -> Result<(), AllocError> {
     let beside = match digits {
         Digits::Six(beside) => beside,
-        Digits::All => return put_all(out, x),
+        Digits::All if x.is_finite() => {
+            return out.extend_from_slice(Buffer::new().format_finite(x).as_bytes());
+        }
+        Digits::All => return out.extend_from_slice(b"-"),
     };
     if x.abs() <= beside * 1e-9 {
         return out.extend_from_slice(b"0");
@@ -64,14 +61,6 @@ pub(crate) fn put_float<A: Allocator>(
         Some(number) => put_value(out, rounded(number)),
         None => out.extend_from_slice(b"-"),
     }
-}
-
-/// A float with all of its digits.
-fn put_all<A: Allocator>(out: &mut Vec<u8, A>, x: f64) -> Result<(), AllocError> {
-    if x.is_finite() {
-        return out.extend_from_slice(Buffer::new().format_finite(x).as_bytes());
-    }
-    out.extend_from_slice(b"-")
 }
 
 /// A float with so many places at most.

@@ -1,69 +1,27 @@
 //! What is in a pair of files, as JSON.
 
 use crate::instant::put_instant;
-use crate::json::{Member, put_rows_json, put_text};
+use crate::json::{put_rows_json, put_text};
 use crate::number::put_decimal;
 use crate::peaks::peaks_of;
 use crate::show::Clock;
-use crate::show_analog::put_rows;
-use crate::show_status::put_contacts;
-use comtrade_format::{File, Head, Rate};
+use crate::show_analog::analog_table;
+use crate::show_status::contact_table;
+use comtrade_format::{File, Head};
 use comtrade_io::{ToolFault, kind_name, put, put_with};
-use dfr_channels::Decimal;
 use std::alloc::{AllocError, Global};
 
-const ANALOG: [Member; 15] = [
-    Member::Number("n"),
-    Member::Text("id"),
-    Member::Text("phase"),
-    Member::Text("component"),
-    Member::Text("unit"),
-    Member::Number("a"),
-    Member::Number("b"),
-    Member::Text("range"),
-    Member::Text("ratio"),
-    Member::Text("side"),
-    Member::Number("least"),
-    Member::Number("least_ms"),
-    Member::Number("greatest"),
-    Member::Number("greatest_ms"),
-    Member::Number("missing"),
-];
+const ANALOG: &str =
+    ",\"analog\": n# id phase component unit a# b# range ratio side least# least_ms# greatest# greatest_ms# missing#";
 
-const STATUS: [Member; 7] = [
-    Member::Number("n"),
-    Member::Text("id"),
-    Member::Text("phase"),
-    Member::Text("component"),
-    Member::Number("normal"),
-    Member::Number("first"),
-    Member::Text("changes"),
-];
-
-/// A key and a text.
-fn put_pair(alloc: Global, out: &mut Vec<u8>, key: &str, text: &[u8]) -> Result<(), AllocError> {
-    put(out, key)?;
-    put_text(alloc, out, text)
-}
+const STATUS: &str = ",\"status\": n# id phase component normal# first# changes";
 
 /// A key and an instant.
 fn put_when(alloc: Global, out: &mut Vec<u8>, key: &str, instant: i64) -> Result<(), AllocError> {
+    put(out, key)?;
     let mut text = Vec::new(alloc);
     put_instant(&mut text, instant as i128)?;
-    put_pair(alloc, out, key, &text)
-}
-
-/// A key and a number.
-fn put_exact(out: &mut Vec<u8>, key: &str, number: Decimal) -> Result<(), AllocError> {
-    put(out, key)?;
-    put_decimal(out, number)
-}
-
-/// A rate.
-fn put_rate(out: &mut Vec<u8>, before: &str, rate: &Rate) -> Result<(), AllocError> {
-    put_exact(out, before, rate.samp)?;
-    put_with(out, ",\"last_row\":", rate.endsamp)?;
-    put(out, "}")
+    put_text(alloc, out, &text)
 }
 
 /// The rates, as the file says them: none where the stamps say when rows were taken.
@@ -72,67 +30,33 @@ fn put_rates(out: &mut Vec<u8>, head: &Head) -> Result<(), AllocError> {
     let mut before = "{\"rate\":";
     for rate in head.rates.items() {
         if head.nrates != 0 {
-            put_rate(out, before, rate)?;
+            put(out, before)?;
+            put_decimal(out, rate.samp)?;
+            put_with(out, ",\"last_row\":", rate.endsamp)?;
+            put(out, "}")?;
             before = ",{\"rate\":";
         }
     }
     put(out, "]")
 }
 
-/// Names, instants and the frequency.
-fn put_names(alloc: Global, out: &mut Vec<u8>, head: &Head) -> Result<(), AllocError> {
-    put_pair(alloc, out, "{\"station\":", head.station.items())?;
-    put_pair(alloc, out, ",\"device\":", head.device.items())?;
-    put_when(alloc, out, ",\"first_row\":", head.first)?;
-    put_when(alloc, out, ",\"trigger\":", head.trigger)?;
-    put_exact(out, ",\"frequency\":", head.line_freq)
-}
-
 /// What the configuration file says beside its channels.
 fn put_head(alloc: Global, out: &mut Vec<u8>, file: &File) -> Result<(), AllocError> {
     let head = &file.head;
-    put_names(alloc, out, head)?;
+    put(out, "{\"station\":")?;
+    put_text(alloc, out, head.station.items())?;
+    put(out, ",\"device\":")?;
+    put_text(alloc, out, head.device.items())?;
+    put_when(alloc, out, ",\"first_row\":", head.first)?;
+    put_when(alloc, out, ",\"trigger\":", head.trigger)?;
+    put(out, ",\"frequency\":")?;
+    put_decimal(out, head.line_freq)?;
     put_rates(out, head)?;
-    put_pair(alloc, out, ",\"data\":", kind_name(head.kind).as_bytes())?;
+    put(out, ",\"data\":")?;
+    put_text(alloc, out, kind_name(head.kind).as_bytes())?;
     put_with(out, ",\"rows\":", file.rows.items().len() as u64)?;
-    put_exact(out, ",\"stamp_us\":", head.timemult)
-}
-
-/// The table of analogue channels.
-fn put_table(
-    alloc: Global,
-    table: &mut Vec<u8>,
-    file: &File,
-    clock: Clock<'_>,
-) -> Result<(), AllocError> {
-    let peaks = peaks_of(alloc, file)?;
-    put_rows(table, file, clock, &peaks)
-}
-
-/// The analogue channels.
-fn put_analog(
-    alloc: Global,
-    out: &mut Vec<u8>,
-    file: &File,
-    clock: Clock<'_>,
-) -> Result<(), AllocError> {
-    let mut table = Vec::new(alloc);
-    put_table(alloc, &mut table, file, clock)?;
-    put(out, ",\"analog\":")?;
-    put_rows_json(alloc, out, &ANALOG, &table)
-}
-
-/// The status channels.
-fn put_status(
-    alloc: Global,
-    out: &mut Vec<u8>,
-    file: &File,
-    clock: Clock<'_>,
-) -> Result<(), AllocError> {
-    let mut table = Vec::new(alloc);
-    put_contacts(alloc, &mut table, file, clock)?;
-    put(out, ",\"status\":")?;
-    put_rows_json(alloc, out, &STATUS, &table)
+    put(out, ",\"stamp_us\":")?;
+    put_decimal(out, head.timemult)
 }
 
 /// What is in a file.
@@ -143,8 +67,10 @@ fn put_file(
     clock: Clock<'_>,
 ) -> Result<(), AllocError> {
     put_head(alloc, out, file)?;
-    put_analog(alloc, out, file, clock)?;
-    put_status(alloc, out, file, clock)?;
+    let analog = analog_table(alloc, file, clock, &peaks_of(alloc, file)?)?;
+    put_rows_json(alloc, out, ANALOG, &analog)?;
+    drop(analog);
+    put_rows_json(alloc, out, STATUS, &contact_table(alloc, file, clock)?)?;
     put(out, "}\n")
 }
 

@@ -3,7 +3,6 @@
 use comtrade_io::put;
 use comtrade_values::civil_of;
 use itoa::Buffer;
-use jiff_core::civil::DateTime;
 use std::alloc::{AllocError, Allocator};
 
 /// A number with zeros in front, `width` digits at least.
@@ -20,23 +19,6 @@ pub(crate) fn put_padded<A: Allocator>(
     out.extend_from_slice(digits)
 }
 
-/// A number of two digits after a separator.
-fn put_two<A: Allocator>(out: &mut Vec<u8, A>, before: &str, n: u8) -> Result<(), AllocError> {
-    put(out, before)?;
-    put_padded(out, n as u64, 2)
-}
-
-fn put_civil<A: Allocator>(out: &mut Vec<u8, A>, civil: DateTime) -> Result<(), AllocError> {
-    put_padded(out, civil.date.year.unsigned_abs() as u64, 4)?;
-    put_two(out, "-", civil.date.month)?;
-    put_two(out, "-", civil.date.day)?;
-    put_two(out, " ", civil.time.hour)?;
-    put_two(out, ":", civil.time.minute)?;
-    put_two(out, ":", civil.time.second)?;
-    put(out, ".")?;
-    put_padded(out, (civil.time.subsec_nanosecond / 1000) as u64, 6)
-}
-
 /// Microseconds since 1970-01-01 00:00:00 as `yyyy-mm-dd hh:mm:ss.ssssss`; an instant outside the years 1 to 9999 has a text.
 pub(crate) fn put_instant<A: Allocator>(
     out: &mut Vec<u8, A>,
@@ -46,11 +28,20 @@ pub(crate) fn put_instant<A: Allocator>(
         Ok(near) => civil_of(near),
         Err(_) => None,
     };
-    match civil {
-        Some(civil) if 1 <= civil.date.year => put_civil(out, civil),
-        _ if instant < 0 => put(out, "before the year 1"),
-        _ => put(out, "after the year 9999"),
+    let civil = match civil {
+        Some(civil) if 1 <= civil.date.year => civil,
+        _ if instant < 0 => return put(out, "before the year 1"),
+        _ => return put(out, "after the year 9999"),
+    };
+    put_padded(out, civil.date.year.unsigned_abs() as u64, 4)?;
+    let (date, time) = (civil.date, civil.time);
+    let parts = [date.month, date.day, time.hour, time.minute, time.second];
+    for (before, n) in ["-", "-", " ", ":", ":"].iter().zip(parts.iter()) {
+        put(out, before)?;
+        put_padded(out, *n as u64, 2)?;
     }
+    put(out, ".")?;
+    put_padded(out, (civil.time.subsec_nanosecond / 1000) as u64, 6)
 }
 
 /// Nanoseconds as milliseconds with three places.

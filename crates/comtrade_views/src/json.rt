@@ -4,13 +4,6 @@ use crate::table::CELL;
 use comtrade_io::{put, put_safe};
 use std::alloc::{AllocError, Global};
 
-/// A member of each object: its key, and whether cells are texts, or numbers and arrays of them. A cell that is no number is null.
-#[derive(Clone, Copy)]
-pub(crate) enum Member {
-    Text(&'static str),
-    Number(&'static str),
-}
-
 /// A text of a file, its bytes outside 20 to 7E in hexadecimal as in what people read, between quotation marks.
 pub fn put_text(alloc: Global, out: &mut Vec<u8>, text: &[u8]) -> Result<(), AllocError> {
     let mut safe = Vec::new(alloc);
@@ -36,16 +29,16 @@ fn is_number(cell: &[u8]) -> bool {
     }
 }
 
-/// A cell under its key.
+/// A cell under its key. One that is to be a number and is none is null.
 fn put_member(
     alloc: Global,
     out: &mut Vec<u8>,
-    member: Member,
+    member: &str,
     cell: &[u8],
 ) -> Result<(), AllocError> {
-    let (key, is_text) = match member {
-        Member::Text(key) => (key, true),
-        Member::Number(key) => (key, false),
+    let (key, is_text) = match member.strip_suffix('#') {
+        Some(key) => (key, false),
+        None => (member, true),
     };
     put(out, "\"")?;
     put(out, key)?;
@@ -53,11 +46,6 @@ fn put_member(
     if is_text {
         return put_string(alloc, out, cell);
     }
-    put_number(out, cell)
-}
-
-/// A cell that is a number or an array, or null.
-fn put_number(out: &mut Vec<u8>, cell: &[u8]) -> Result<(), AllocError> {
     if is_number(cell) {
         return out.extend_from_slice(cell);
     }
@@ -73,54 +61,41 @@ fn cut_at(text: &[u8], end: u8) -> (&[u8], &[u8]) {
 }
 
 /// A row of a table as an object.
-fn put_row(
-    alloc: Global,
-    out: &mut Vec<u8>,
-    members: &[Member],
-    row: &[u8],
-) -> Result<(), AllocError> {
+fn put_row(alloc: Global, out: &mut Vec<u8>, members: &str, row: &[u8]) -> Result<(), AllocError> {
     let mut rest = row;
     let mut before = "{";
-    for member in members {
+    for member in members.split(' ') {
         let (cell, back) = cut_at(rest, CELL);
         put(out, before)?;
-        put_member(alloc, out, *member, cell)?;
+        put_member(alloc, out, member, cell)?;
         rest = back;
         before = ",";
     }
     put(out, "}")
 }
 
-/// The rows of a table as objects, each after a comma but the first.
-fn put_objects(
+/// An array with an object for each row of a table but the first, which are the names of its columns. The words of `objects` are what stands
+/// before the array, and the members of each object: those with a `#` behind their key are numbers or arrays of them, the others texts.
+pub(crate) fn put_rows_json(
     alloc: Global,
     out: &mut Vec<u8>,
-    members: &[Member],
+    objects: &str,
     table: &[u8],
 ) -> Result<(), AllocError> {
-    let mut rest = table;
-    let mut before = "";
+    let (before, members) = objects.split_once(' ').unwrap_or((objects, ""));
+    put(out, before)?;
+    put(out, "[")?;
+    let mut rest = cut_at(table, b'\n').1;
+    let mut between = "";
     for _ in 0..table.len() {
         if rest.is_empty() {
             break;
         }
         let (row, back) = cut_at(rest, b'\n');
-        put(out, before)?;
+        put(out, between)?;
         put_row(alloc, out, members, row)?;
         rest = back;
-        before = ",";
+        between = ",";
     }
-    Ok(())
-}
-
-/// The rows of a table after its first, which are the names of its columns.
-pub(crate) fn put_rows_json(
-    alloc: Global,
-    out: &mut Vec<u8>,
-    members: &[Member],
-    table: &[u8],
-) -> Result<(), AllocError> {
-    put(out, "[")?;
-    put_objects(alloc, out, members, cut_at(table, b'\n').1)?;
     put(out, "]")
 }

@@ -1,11 +1,11 @@
 //! What is measured in a record.
 
 use crate::cycles::{
-    MeasureFault, Measured, Phasor, Window, last_cycle, measures_of, reference_in, whole_cycles,
+    MeasureFault, Measured, Window, last_cycle, measures_of, phasor_in, reference_in, whole_cycles,
 };
 use crate::measure_json::put_measures_json;
 use crate::measure_record::put_record;
-use crate::measure_tables::{put_channels, put_order_table};
+use crate::measure_tables::{Found, put_channels, put_order_table};
 use crate::sequence_table::put_sequences;
 use crate::show::put_row_time;
 use crate::shown::{Shown, put_cycle};
@@ -24,8 +24,8 @@ pub enum Measuring<'a> {
     WholeCycles(Option<&'a str>),
 }
 
-/// Which rows are measured.
-fn put_rows<A: Allocator>(
+/// Which rows are measured, when they were taken, and how many cycles they are.
+fn put_window<A: Allocator>(
     out: &mut Vec<u8, A>,
     window: Window,
     shown: Shown<'_>,
@@ -33,30 +33,11 @@ fn put_rows<A: Allocator>(
     let last = window.to.saturating_sub(1);
     put_with(out, "rows       ", shown.number(window.from))?;
     put_with(out, " to ", shown.number(last))?;
-    put(out, ", ")
-}
-
-/// When they were taken.
-fn put_times<A: Allocator>(
-    out: &mut Vec<u8, A>,
-    window: Window,
-    shown: Shown<'_>,
-) -> Result<(), AllocError> {
+    put(out, ", ")?;
     put_row_time(out, shown.clock(), window.from)?;
     put(out, " to ")?;
-    put_row_time(out, shown.clock(), window.to.saturating_sub(1))?;
-    put(out, " ms since the trigger\n")
-}
-
-/// Which rows are measured, and how many cycles they are.
-fn put_window<A: Allocator>(
-    out: &mut Vec<u8, A>,
-    window: Window,
-    shown: Shown<'_>,
-) -> Result<(), AllocError> {
-    put_rows(out, window, shown)?;
-    put_times(out, window, shown)?;
-    put_with(out, "cycles     ", window.cycles)?;
+    put_row_time(out, shown.clock(), last)?;
+    put_with(out, " ms since the trigger\ncycles     ", window.cycles)?;
     put(out, ", ")?;
     put_cycle(out, window)
 }
@@ -95,29 +76,15 @@ pub(crate) struct Measures<A: Allocator> {
     pub(crate) sequences: Vec<u8, A>,
 }
 
-/// The phasor of the channel from which angles are counted.
-fn phasor_at<A: Allocator>(
-    measures: &[Option<Measured<A>>],
-    place: Option<usize>,
-) -> Option<Phasor> {
-    match measures.get(place?) {
-        Some(Some(measured)) => Some(measured.phasor),
-        _ => None,
-    }
-}
-
 /// The tables of what was measured of channels.
 fn put_tables<A: Allocator + Copy>(
     alloc: A,
     made: &mut Measures<A>,
-    file: &File<A>,
-    measures: &[Option<Measured<A>>],
-    reference: Option<Phasor>,
-    shown: Shown<'_>,
+    found: &Found<'_, A>,
 ) -> Result<(), AllocError> {
-    put_channels(&mut made.channels, file, measures, reference, shown)?;
-    put_order_table(&mut made.orders, file, measures, shown)?;
-    put_sequences(alloc, &mut made.sequences, file, measures, reference, shown)
+    put_channels(&mut made.channels, found)?;
+    put_order_table(&mut made.orders, found)?;
+    put_sequences(alloc, &mut made.sequences, found)
 }
 
 /// What was measured of channels over a window's whole cycles.
@@ -130,7 +97,15 @@ fn measures_with<A: Allocator + Copy>(
     measures: &[Option<Measured<A>>],
 ) -> Result<Measures<A>, MeasureFault> {
     let place = reference_in(&file.head, measures, name)?;
-    let reference = phasor_at(measures, place);
+    let found = Found {
+        file,
+        measures,
+        reference: match place {
+            Some(place) => phasor_in(measures, place),
+            None => None,
+        },
+        shown,
+    };
     let mut made = Measures {
         window,
         reference: place,
@@ -138,61 +113,8 @@ fn measures_with<A: Allocator + Copy>(
         orders: Vec::new(alloc),
         sequences: Vec::new(alloc),
     };
-    put_tables(alloc, &mut made, file, measures, reference, shown)?;
+    put_tables(alloc, &mut made, &found)?;
     Ok(made)
-}
-
-/// What is measured over a window's whole cycles.
-fn measures_in<A: Allocator + Copy>(
-    alloc: A,
-    file: &File<A>,
-    window: Window,
-    name: Option<&str>,
-    shown: Shown<'_>,
-) -> Result<Measures<A>, MeasureFault> {
-    let measures = measures_of(alloc, file, window)?;
-    measures_with(alloc, file, window, name, shown, &measures)
-}
-
-/// Whether a table has a row below the names of its columns.
-fn has_rows(table: &[u8]) -> bool {
-    table.iter().filter(|b| **b == b'\n').count() > 1
-}
-
-/// The tables of channels and of harmonics, for people.
-fn put_channel_tables<A: Allocator + Copy>(
-    alloc: A,
-    out: &mut Vec<u8, A>,
-    measures: &Measures<A>,
-) -> Result<(), AllocError> {
-    put(
-        out,
-        "\nrms of all, and rms and degrees of the part at the line frequency\n",
-    )?;
-    put_table(alloc, out, &measures.channels)?;
-    put_with(
-        out,
-        "\nharmonics from 2 to ",
-        measures.window.orders() as u64,
-    )?;
-    put(out, " of at least 0.1 % of the magnitude, in %\n")?;
-    put_table(alloc, out, &measures.orders)
-}
-
-/// The table of sequence components, for people.
-fn put_sequence_table<A: Allocator + Copy>(
-    alloc: A,
-    out: &mut Vec<u8, A>,
-    table: &[u8],
-) -> Result<(), AllocError> {
-    if !has_rows(table) {
-        return put(
-            out,
-            "\nno sequence components: no channels of one unit are of the phases A, B and C\n",
-        );
-    }
-    put(out, "\nsequence components\n")?;
-    put_table(alloc, out, table)
 }
 
 /// What was measured, for people.
@@ -205,25 +127,27 @@ fn put_measures<A: Allocator + Copy>(
 ) -> Result<(), AllocError> {
     put_window(out, measures.window, shown)?;
     put_reference(out, file, measures.reference)?;
-    put_channel_tables(alloc, out, measures)?;
-    put_sequence_table(alloc, out, &measures.sequences)
-}
-
-/// What was measured, as text or as JSON.
-fn put_made(
-    alloc: Global,
-    out: &mut Vec<u8>,
-    file: &File,
-    measures: &Measures<Global>,
-    shown: Shown<'_>,
-) -> Result<(), AllocError> {
-    if shown.json {
-        return put_measures_json(alloc, out, measures, shown);
+    put(
+        out,
+        "\nrms of all, and rms and degrees of the part at the line frequency\n",
+    )?;
+    put_table(alloc, out, &measures.channels)?;
+    let orders = measures.window.orders() as u64;
+    put_with(out, "\nharmonics from 2 to ", orders)?;
+    put(out, " of at least 0.1 % of the magnitude, in %\n")?;
+    put_table(alloc, out, &measures.orders)?;
+    let lines = measures.sequences.iter().filter(|b| **b == b'\n').count();
+    if lines <= 1 {
+        return put(
+            out,
+            "\nno sequence components: no channels of one unit are of the phases A, B and C\n",
+        );
     }
-    put_measures(alloc, out, file, measures, shown)
+    put(out, "\nsequence components\n")?;
+    put_table(alloc, out, &measures.sequences)
 }
 
-/// What is measured in a window, as text or as JSON.
+/// What is measured over a window's whole cycles, as text or as JSON.
 fn put_window_of(
     alloc: Global,
     out: &mut Vec<u8>,
@@ -232,9 +156,20 @@ fn put_window_of(
     name: Option<&str>,
     shown: Shown<'_>,
 ) -> Result<(), MeasureFault> {
-    let measures = measures_in(alloc, file, window, name, shown)?;
-    put_made(alloc, out, file, &measures, shown)?;
-    Ok(())
+    let made = measures_with(
+        alloc,
+        file,
+        window,
+        name,
+        shown,
+        &measures_of(alloc, file, window)?,
+    )?;
+    let outcome = if shown.json {
+        put_measures_json(alloc, out, &made, shown)
+    } else {
+        put_measures(alloc, out, file, &made, shown)
+    };
+    Ok(outcome?)
 }
 
 /// What is measured in a record.

@@ -140,21 +140,6 @@ pub(crate) fn rounded(number: Number) -> Number {
     }
 }
 
-/// Without zeros at the end of the places.
-fn trimmed(number: Number) -> Number {
-    let mut short = number;
-    for _ in 0..120 {
-        if 0 <= short.exponent || short.units % 10 != 0 {
-            break;
-        }
-        short = Number {
-            units: short.units / 10,
-            exponent: short.exponent.saturating_add(1),
-        };
-    }
-    short
-}
-
 pub(crate) fn put_zeros<A: Allocator>(out: &mut Vec<u8, A>, n: usize) -> Result<(), AllocError> {
     for _ in 0..n {
         out.extend_from_slice(b"0")?;
@@ -184,7 +169,16 @@ pub(crate) fn put_value<A: Allocator>(
     out: &mut Vec<u8, A>,
     number: Number,
 ) -> Result<(), AllocError> {
-    let number = trimmed(number);
+    let mut number = number;
+    for _ in 0..120 {
+        if 0 <= number.exponent || number.units % 10 != 0 {
+            break;
+        }
+        number = Number {
+            units: number.units / 10,
+            exponent: number.exponent.saturating_add(1),
+        };
+    }
     if number.units < 0 {
         out.extend_from_slice(b"-")?;
     }

@@ -18,20 +18,15 @@ pub(crate) struct Peaks {
     pub(crate) missing: u64,
 }
 
-/// The reading of a channel, counted from 0.
-pub(crate) fn reading_at<A: Allocator>(row: &Row<A>, channel: usize) -> Reading {
-    match row.values.items().get(channel) {
-        Some(reading) => *reading,
-        None => Reading::Missing,
-    }
-}
+/// Those of a channel of which nothing is known.
+const NONE: Peaks = Peaks {
+    extremes: None,
+    missing: 0,
+};
 
 /// The bit of a status channel, counted from 0.
 pub(crate) fn bit_at<A: Allocator>(row: &Row<A>, channel: usize) -> bool {
-    match row.bits.items().get(channel) {
-        Some(bit) => *bit,
-        None => false,
-    }
+    row.bits.items().get(channel).copied().unwrap_or(false)
 }
 
 /// The extremes with one sample more.
@@ -54,58 +49,31 @@ fn with_sample(extremes: Option<(Peak, Peak)>, peak: Peak) -> (Peak, Peak) {
     }
 }
 
-impl Peaks {
-    /// With the reading of a row more.
-    fn add(&mut self, reading: Reading, row: usize) {
-        match reading {
-            Reading::Missing => self.missing = self.missing.saturating_add(1),
-            Reading::Value(sample) => {
-                self.extremes = Some(with_sample(self.extremes, Peak { sample, row }));
-            }
-        }
-    }
-}
-
-/// Adds no peaks for each analogue channel.
-fn add_none<A: Allocator>(peaks: &mut Vec<Peaks, A>, file: &File<A>) -> Result<(), AllocError> {
-    for _ in file.head.analog.items() {
-        peaks.push(Peaks {
-            extremes: None,
-            missing: 0,
-        })?;
-    }
-    Ok(())
-}
-
-/// Brings the readings of the rows into the peaks of their channels.
-fn add_rows<A: Allocator>(peaks: &mut [Peaks], rows: &[Row<A>]) {
-    for (i, row) in rows.iter().enumerate() {
-        for (known, reading) in peaks.iter_mut().zip(row.values.items().iter()) {
-            known.add(*reading, i);
-        }
-    }
-}
-
 /// The peaks of each analogue channel, by one look over the rows.
 pub(crate) fn peaks_of<A: Allocator + Copy>(
     alloc: A,
     file: &File<A>,
 ) -> Result<Vec<Peaks, A>, AllocError> {
     let mut peaks = Vec::new(alloc);
-    add_none(&mut peaks, file)?;
-    add_rows(&mut peaks, file.rows.items());
+    for _ in file.head.analog.items() {
+        peaks.push(NONE)?;
+    }
+    for (i, row) in file.rows.items().iter().enumerate() {
+        for (known, reading) in peaks.iter_mut().zip(row.values.items().iter()) {
+            match *reading {
+                Reading::Missing => known.missing = known.missing.saturating_add(1),
+                Reading::Value(sample) => {
+                    known.extremes = Some(with_sample(known.extremes, Peak { sample, row: i }));
+                }
+            }
+        }
+    }
     Ok(peaks)
 }
 
 /// The peaks of a channel, counted from 0.
 pub(crate) fn peaks_at(peaks: &[Peaks], channel: usize) -> Peaks {
-    match peaks.get(channel) {
-        Some(peaks) => *peaks,
-        None => Peaks {
-            extremes: None,
-            missing: 0,
-        },
-    }
+    peaks.get(channel).copied().unwrap_or(NONE)
 }
 
 /// How many changes of a contact, and gaps of a channel, are listed.
@@ -147,17 +115,6 @@ fn add_changes<A: Allocator>(
     Ok(())
 }
 
-/// Adds the changes of contacts from each row to the next.
-fn add_all_changes<A: Allocator>(
-    changes: &mut [Changes<A>],
-    rows: &[Row<A>],
-) -> Result<(), AllocError> {
-    for (i, (before, row)) in rows.iter().zip(rows.iter().skip(1)).enumerate() {
-        add_changes(changes, before, row, i.saturating_add(1))?;
-    }
-    Ok(())
-}
-
 /// How often each contact changes, and where first, by one look over the rows.
 pub(crate) fn changes_of<A: Allocator + Copy>(
     alloc: A,
@@ -170,6 +127,9 @@ pub(crate) fn changes_of<A: Allocator + Copy>(
             first: Vec::new(alloc),
         })?;
     }
-    add_all_changes(&mut changes, file.rows.items())?;
+    let rows = file.rows.items();
+    for (i, (before, row)) in rows.iter().zip(rows.iter().skip(1)).enumerate() {
+        add_changes(&mut changes, before, row, i.saturating_add(1))?;
+    }
     Ok(changes)
 }

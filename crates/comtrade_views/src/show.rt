@@ -2,11 +2,11 @@
 
 use crate::instant::{put_instant, put_millis};
 use crate::number::put_decimal;
-use crate::peaks::{LISTED, Peaks, peaks_at, peaks_of, reading_at};
+use crate::peaks::{LISTED, Peaks, peaks_at, peaks_of};
 use crate::show_analog::put_analog;
 use crate::show_status::{put_more, put_status};
 use crate::times::trigger_since_first;
-use comtrade_format::{File, Head, Rate, Row};
+use comtrade_format::{File, Head, Row};
 use comtrade_io::{ToolFault, kind_name, put, put_count, put_safe, put_with, write_out};
 use dfr_channels::Reading;
 use std::alloc::{AllocError, Allocator};
@@ -31,73 +31,40 @@ pub(crate) fn put_row_time<A: Allocator>(
     }
 }
 
-fn put_line<A: Allocator>(out: &mut Vec<u8, A>, name: &str, text: &[u8]) -> Result<(), AllocError> {
-    put(out, name)?;
-    put_safe(out, text)?;
-    put(out, "\n")
-}
-
-/// The trigger, and how long after the first row it is.
-fn put_trigger<A: Allocator>(
+/// The names of the record, its instants, and the frequency.
+fn put_head<A: Allocator>(
     out: &mut Vec<u8, A>,
     head: &Head<A>,
     trigger: i128,
 ) -> Result<(), AllocError> {
+    put(out, "station    ")?;
+    put_safe(out, head.station.items())?;
+    put(out, "\ndevice     ")?;
+    put_safe(out, head.device.items())?;
+    put(out, "\nfirst row  ")?;
+    put_instant(out, head.first as i128)?;
     put(out, "\ntrigger    ")?;
     put_instant(out, head.trigger as i128)?;
     put(out, ", ")?;
-    put_millis(out, trigger)
-}
-
-fn put_instants<A: Allocator>(
-    out: &mut Vec<u8, A>,
-    head: &Head<A>,
-    trigger: i128,
-) -> Result<(), AllocError> {
-    put(out, "first row  ")?;
-    put_instant(out, head.first as i128)?;
-    put_trigger(out, head, trigger)?;
+    put_millis(out, trigger)?;
     put(out, " ms after the first row\nfrequency  ")?;
     put_decimal(out, head.line_freq)?;
     put(out, " Hz\n")
 }
 
-fn put_rate<A: Allocator>(out: &mut Vec<u8, A>, rate: &Rate) -> Result<(), AllocError> {
-    put(out, "rate       ")?;
-    put_decimal(out, rate.samp)?;
-    put_with(out, " scans/s to row ", rate.endsamp)?;
-    put(out, "\n")
-}
-
 /// The rates, as the file says them.
 fn put_rates<A: Allocator>(out: &mut Vec<u8, A>, head: &Head<A>) -> Result<(), AllocError> {
     if head.nrates == 0 {
-        put(
+        return put(
             out,
             "rate       none; the stamps say when rows were taken\n",
-        )?;
-    } else {
-        for rate in head.rates.items() {
-            put_rate(out, rate)?;
-        }
+        );
     }
-    Ok(())
-}
-
-/// How many rows there are, and how they are written.
-fn put_rows<A: Allocator>(out: &mut Vec<u8, A>, file: &File<A>) -> Result<(), AllocError> {
-    put(out, "data       ")?;
-    put(out, kind_name(file.head.kind))?;
-    put(out, ", ")?;
-    put_count(out, file.rows.items().len() as u64, " row", " rows")
-}
-
-/// How long the rows last.
-fn put_length<A: Allocator>(out: &mut Vec<u8, A>, clock: Clock<'_>) -> Result<(), AllocError> {
-    if let (Some(Some(first)), Some(Some(last))) = (clock.times.first(), clock.times.last()) {
-        put(out, ", ")?;
-        put_millis(out, (*last as i128).saturating_sub(*first as i128))?;
-        put(out, " ms long")?;
+    for rate in head.rates.items() {
+        put(out, "rate       ")?;
+        put_decimal(out, rate.samp)?;
+        put_with(out, " scans/s to row ", rate.endsamp)?;
+        put(out, "\n")?;
     }
     Ok(())
 }
@@ -108,49 +75,19 @@ fn put_data<A: Allocator>(
     file: &File<A>,
     clock: Clock<'_>,
 ) -> Result<(), AllocError> {
-    put_rows(out, file)?;
+    put(out, "data       ")?;
+    put(out, kind_name(file.head.kind))?;
+    put(out, ", ")?;
+    put_count(out, file.rows.items().len() as u64, " row", " rows")?;
     put(out, ", stamps in ")?;
     put_decimal(out, file.head.timemult)?;
     put(out, " us")?;
-    put_length(out, clock)?;
+    if let (Some(Some(first)), Some(Some(last))) = (clock.times.first(), clock.times.last()) {
+        put(out, ", ")?;
+        put_millis(out, (*last as i128).saturating_sub(*first as i128))?;
+        put(out, " ms long")?;
+    }
     put(out, "\n")
-}
-
-fn put_top<A: Allocator>(
-    out: &mut Vec<u8, A>,
-    file: &File<A>,
-    clock: Clock<'_>,
-) -> Result<(), AllocError> {
-    put_line(out, "station    ", file.head.station.items())?;
-    put_line(out, "device     ", file.head.device.items())?;
-    put_instants(out, &file.head, clock.trigger)?;
-    put_rates(out, &file.head)?;
-    put_data(out, file, clock)
-}
-
-/// The numbers of a run of rows.
-fn put_numbers<A: Allocator>(
-    out: &mut Vec<u8, A>,
-    first: usize,
-    last: usize,
-) -> Result<(), AllocError> {
-    put_with(out, ", rows ", (first as u64).saturating_add(1))?;
-    put_with(out, " to ", (last as u64).saturating_add(1))?;
-    put(out, "\n")
-}
-
-/// A run of rows in which a reading is missing.
-fn put_gap<A: Allocator>(
-    out: &mut Vec<u8, A>,
-    clock: Clock<'_>,
-    first: usize,
-    last: usize,
-) -> Result<(), AllocError> {
-    put(out, "  ")?;
-    put_row_time(out, clock, first)?;
-    put(out, " to ")?;
-    put_row_time(out, clock, last)?;
-    put_numbers(out, first, last)
 }
 
 /// The gaps of a channel so far: how many have ended, and the first row of the one that goes on.
@@ -160,7 +97,7 @@ struct Gaps {
     begun: Option<usize>,
 }
 
-/// Ends the gap that goes on before this row.
+/// Ends the gap that goes on before this row: the first and the last of its rows, with their times.
 fn end_gap<A: Allocator>(
     out: &mut Vec<u8, A>,
     clock: Clock<'_>,
@@ -170,23 +107,20 @@ fn end_gap<A: Allocator>(
     let Some(first) = gaps.begun else {
         return Ok(gaps);
     };
+    let last = row.saturating_sub(1);
     if gaps.count < LISTED {
-        put_gap(out, clock, first, row.saturating_sub(1))?;
+        put(out, "  ")?;
+        put_row_time(out, clock, first)?;
+        put(out, " to ")?;
+        put_row_time(out, clock, last)?;
+        put_with(out, ", rows ", (first as u64).saturating_add(1))?;
+        put_with(out, " to ", (last as u64).saturating_add(1))?;
+        put(out, "\n")?;
     }
     Ok(Gaps {
         count: gaps.count.saturating_add(1),
         begun: None,
     })
-}
-
-/// How many gaps aren't listed.
-fn put_unlisted<A: Allocator>(out: &mut Vec<u8, A>, count: u64) -> Result<(), AllocError> {
-    if count <= LISTED {
-        return Ok(());
-    }
-    put(out, " ")?;
-    put_more(out, count)?;
-    put(out, "\n")
 }
 
 /// The runs of rows in which a channel's reading is missing.
@@ -201,25 +135,22 @@ fn put_gaps_of<A: Allocator>(
         begun: None,
     };
     for (i, row) in rows.iter().enumerate() {
-        if reading_at(row, at) == Reading::Missing {
-            gaps.begun = gaps.begun.or(Some(i));
-        } else {
+        if let Some(Reading::Value(_)) = row.values.items().get(at) {
             gaps = end_gap(out, clock, gaps, i)?;
+        } else {
+            gaps.begun = gaps.begun.or(Some(i));
         }
     }
     let gaps = end_gap(out, clock, gaps, rows.len())?;
-    put_unlisted(out, gaps.count)
+    if gaps.count <= LISTED {
+        return Ok(());
+    }
+    put(out, " ")?;
+    put_more(out, gaps.count)?;
+    put(out, "\n")
 }
 
-/// The line above the gaps of a channel, counted from 1.
-fn put_gap_head<A: Allocator>(out: &mut Vec<u8, A>, n: u64, id: &[u8]) -> Result<(), AllocError> {
-    put_with(out, "\nmissing readings of analogue channel ", n)?;
-    put(out, ", ")?;
-    put_safe(out, id)?;
-    put(out, ", ms since the trigger\n")
-}
-
-/// The gaps of the channels that have any.
+/// The gaps of the channels that have any, a line above those of each.
 fn put_gaps<A: Allocator>(
     out: &mut Vec<u8, A>,
     file: &File<A>,
@@ -228,25 +159,15 @@ fn put_gaps<A: Allocator>(
 ) -> Result<(), AllocError> {
     for (i, channel) in file.head.analog.items().iter().enumerate() {
         if peaks_at(peaks, i).missing != 0 {
-            put_gap_head(out, (i as u64).saturating_add(1), channel.id.items())?;
+            let n = (i as u64).saturating_add(1);
+            put_with(out, "\nmissing readings of analogue channel ", n)?;
+            put(out, ", ")?;
+            put_safe(out, channel.id.items())?;
+            put(out, ", ms since the trigger\n")?;
             put_gaps_of(out, file.rows.items(), clock, i)?;
         }
     }
     Ok(())
-}
-
-/// What is in a file, by the peaks of its channels.
-fn put_parts<A: Allocator + Copy>(
-    alloc: A,
-    out: &mut Vec<u8, A>,
-    file: &File<A>,
-    clock: Clock<'_>,
-    peaks: &[Peaks],
-) -> Result<(), AllocError> {
-    put_top(out, file, clock)?;
-    put_analog(alloc, out, file, clock, peaks)?;
-    put_status(alloc, out, file, clock)?;
-    put_gaps(out, file, clock, peaks)
 }
 
 /// What is in a file.
@@ -256,8 +177,13 @@ fn put_all<A: Allocator + Copy>(
     file: &File<A>,
     clock: Clock<'_>,
 ) -> Result<(), AllocError> {
+    put_head(out, &file.head, clock.trigger)?;
+    put_rates(out, &file.head)?;
+    put_data(out, file, clock)?;
     let peaks = peaks_of(alloc, file)?;
-    put_parts(alloc, out, file, clock, &peaks)
+    put_analog(alloc, out, file, clock, &peaks)?;
+    put_status(alloc, out, file, clock)?;
+    put_gaps(out, file, clock, &peaks)
 }
 
 /// Prints what is in a file, whose rows were taken at these times, in nanoseconds since the trigger.

@@ -11,8 +11,16 @@ impl Spelling {
     /// The spelling with what words ask for: a separator of one printable character or `tab`, a decimal point or a comma; none where they ask
     /// for something else, or for one sign in both places.
     pub fn of(separator: Option<&str>, decimal: Option<&str>) -> Option<Spelling> {
-        let separator = separator_of(separator)?;
-        let decimal = decimal_of(decimal)?;
+        let separator = match separator.unwrap_or(",").as_bytes() {
+            b"tab" => b'\t',
+            [b] if is_sign(*b) => *b,
+            _ => return None,
+        };
+        let decimal = match decimal.unwrap_or(".").as_bytes() {
+            b"." => b'.',
+            b"," => b',',
+            _ => return None,
+        };
         if separator == decimal {
             return None;
         }
@@ -20,23 +28,7 @@ impl Spelling {
     }
 }
 
-fn separator_of(text: Option<&str>) -> Option<u8> {
-    match text.unwrap_or(",").as_bytes() {
-        b"tab" => Some(b'\t'),
-        [b] if is_sign(*b) => Some(*b),
-        _ => None,
-    }
-}
-
 /// A printable character that stands in no number and isn't a quotation mark.
 fn is_sign(b: u8) -> bool {
     33 <= b && b <= 126 && !b.is_ascii_alphanumeric() && b != b'"' && b != b'-'
-}
-
-fn decimal_of(text: Option<&str>) -> Option<u8> {
-    match text.unwrap_or(".").as_bytes() {
-        b"." => Some(b'.'),
-        b"," => Some(b','),
-        _ => None,
-    }
 }

@@ -3,12 +3,11 @@
 use crate::currents::{greatest_current, nominal_of};
 use crate::instant::{put_instant, put_millis};
 use crate::number::{put_decimal, put_value, rounded, scale_of, value_of};
-use crate::peaks::{Changes, changes_of};
+use crate::peaks::changes_of;
 use crate::table::{end_cell, end_row, put_number_cell, put_safe_cell, put_table};
 use crate::times::times_of;
 use comtrade_format::File;
-use comtrade_io::{ToolFault, put, put_count, put_number, put_safe};
-use dfr_channels::AnalogChannel;
+use comtrade_io::{ToolFault, put, put_count, put_number, put_safe, put_with};
 use std::alloc::{AllocError, Allocator, Global};
 
 /// The columns of the table.
@@ -26,89 +25,35 @@ pub struct Summary<A: Allocator = Global> {
     pub(crate) text: Vec<u8, A>,
 }
 
-/// How many contacts of these change.
-fn nonzero<A: Allocator>(contacts: &[Changes<A>]) -> u64 {
-    let mut count = 0u64;
-    for changes in contacts {
-        if changes.count != 0 {
-            count = count.saturating_add(1);
-        }
-    }
-    count
-}
-
-/// How many contacts change.
-fn changing<A: Allocator + Copy>(alloc: A, file: &File<A>) -> Result<u64, AllocError> {
-    Ok(nonzero(&changes_of(alloc, file)?))
-}
-
-/// The span from the first to the last of some times.
-fn put_span<A: Allocator>(text: &mut Vec<u8, A>, times: &[Option<i64>]) -> Result<(), AllocError> {
-    if let (Some(Some(first)), Some(Some(last))) = (times.first(), times.last()) {
-        put_millis(text, (*last as i128).saturating_sub(*first as i128))?;
-    }
-    end_cell(text)
-}
-
+/// How long the rows last.
 fn put_length<A: Allocator + Copy>(
     alloc: A,
     text: &mut Vec<u8, A>,
     file: &File<A>,
 ) -> Result<(), ToolFault> {
     let times = times_of(alloc, file)?;
-    put_span(text, &times)?;
+    if let (Some(Some(first)), Some(Some(last))) = (times.first(), times.last()) {
+        put_millis(text, (*last as i128).saturating_sub(*first as i128))?;
+    }
+    end_cell(text)?;
     Ok(())
 }
 
-/// The rate of the first rows; none where stamps alone say when rows were taken.
-fn put_rate<A: Allocator>(text: &mut Vec<u8, A>, file: &File<A>) -> Result<(), AllocError> {
-    match file.head.rates.items().first() {
-        Some(rate) if file.head.nrates != 0 => put_decimal(text, rate.samp)?,
-        _ => put(text, "-")?,
-    }
-    end_cell(text)
-}
-
+/// How many channels there are, and how many contacts change.
 fn put_channels<A: Allocator + Copy>(
     alloc: A,
     text: &mut Vec<u8, A>,
     file: &File<A>,
 ) -> Result<(), AllocError> {
-    put_counts(text, file)?;
-    put_number_cell(text, changing(alloc, file)?)
-}
-
-/// How many channels there are.
-fn put_counts<A: Allocator>(text: &mut Vec<u8, A>, file: &File<A>) -> Result<(), AllocError> {
     put_number(text, file.head.analog.items().len() as u64)?;
-    put(text, "A ")?;
-    put_number(text, file.head.status.items().len() as u64)?;
-    put(text, "D\x1F")
+    put_with(text, "A ", file.head.status.items().len() as u64)?;
+    put(text, "D\x1F")?;
+    let changes = changes_of(alloc, file)?;
+    let changed = changes.iter().filter(|contact| contact.count != 0).count();
+    put_number_cell(text, changed as u64)
 }
 
-/// A channel's id, and the value of a sample.
-fn put_value_of<A: Allocator>(
-    text: &mut Vec<u8, A>,
-    channel: &AnalogChannel<A>,
-    sample: i32,
-) -> Result<(), AllocError> {
-    put_safe(text, channel.id.items())?;
-    put(text, " ")?;
-    put_value(text, rounded(value_of(scale_of(channel), sample)))
-}
-
-/// A current of a channel.
-fn put_current_of<A: Allocator>(
-    text: &mut Vec<u8, A>,
-    channel: &AnalogChannel<A>,
-    sample: i32,
-) -> Result<(), AllocError> {
-    put_value_of(text, channel, sample)?;
-    put(text, " A, of nominal ")?;
-    put_decimal(text, nominal_of(channel))
-}
-
-/// `IB -10648.5 A, 17.7 times 600 A`
+/// `IB -10648.5 A, of nominal 600`
 fn put_current<A: Allocator + Copy>(
     alloc: A,
     text: &mut Vec<u8, A>,
@@ -116,21 +61,30 @@ fn put_current<A: Allocator + Copy>(
 ) -> Result<(), ToolFault> {
     if let Some(current) = greatest_current(alloc, file)? {
         if let Some(channel) = file.head.analog.items().get(current.place) {
-            put_current_of(text, channel, current.sample)?;
+            put_safe(text, channel.id.items())?;
+            put(text, " ")?;
+            let value = value_of(scale_of(channel), current.sample);
+            put_value(text, rounded(value))?;
+            put(text, " A, of nominal ")?;
+            put_decimal(text, nominal_of(channel))?;
         }
     }
     end_cell(text)?;
     Ok(())
 }
 
-/// The cells of a record after its instant.
+/// The cells of a record after its instant. It has no rate where stamps alone say when rows were taken.
 fn put_cells<A: Allocator + Copy>(
     alloc: A,
     text: &mut Vec<u8, A>,
     file: &File<A>,
 ) -> Result<(), ToolFault> {
     put_length(alloc, text, file)?;
-    put_rate(text, file)?;
+    match file.head.rates.items().first() {
+        Some(rate) if file.head.nrates != 0 => put_decimal(text, rate.samp)?,
+        _ => put(text, "-")?,
+    }
+    end_cell(text)?;
     put_channels(alloc, text, file)?;
     put_current(alloc, text, file)?;
     put_safe_cell(text, file.head.station.items())?;
@@ -190,43 +144,24 @@ fn put_summary<A: Allocator>(
     end_row(table)
 }
 
-/// The lines of the records without a fault, a line of names above them.
-fn put_lines<A: Allocator>(
-    table: &mut Vec<u8, A>,
-    records: &[Summary<A>],
-) -> Result<(), AllocError> {
-    put(table, NAMES)?;
-    for record in records {
-        put_summary(table, record)?;
-    }
-    Ok(())
-}
-
 /// The table of the records without a fault, a line of names above them.
 pub(crate) fn summary_table<A: Allocator + Copy>(
     alloc: A,
     records: &[Summary<A>],
 ) -> Result<Vec<u8, A>, AllocError> {
     let mut table = Vec::new(alloc);
-    put_lines(&mut table, records)?;
+    put(&mut table, NAMES)?;
+    for record in records {
+        put_summary(&mut table, record)?;
+    }
     Ok(table)
 }
 
-/// The table of records.
-fn put_summary_table<A: Allocator + Copy>(
-    alloc: A,
-    out: &mut Vec<u8, A>,
-    records: &[Summary<A>],
-) -> Result<(), AllocError> {
-    let table = summary_table(alloc, records)?;
-    put_table(alloc, out, &table)
-}
-
-/// The faults of records; how many there are.
+/// The faults of records, and how many records and faults there are.
 fn put_faults<A: Allocator>(
     out: &mut Vec<u8, A>,
     records: &[Summary<A>],
-) -> Result<u64, AllocError> {
+) -> Result<(), AllocError> {
     let mut faulty = 0u64;
     for record in records {
         if record.trigger.is_none() {
@@ -234,7 +169,9 @@ fn put_faults<A: Allocator>(
             out.extend_from_slice(&record.text)?;
         }
     }
-    Ok(faulty)
+    put_count(out, records.len() as u64, " pair, ", " pairs, ")?;
+    put_number(out, faulty)?;
+    put(out, " of them with a fault\n")
 }
 
 /// The table of records, then the faults, then how many there are.
@@ -243,10 +180,7 @@ pub fn put_summaries<A: Allocator + Copy>(
     out: &mut Vec<u8, A>,
     records: &[Summary<A>],
 ) -> Result<(), ToolFault> {
-    put_summary_table(alloc, out, records)?;
-    let faulty = put_faults(out, records)?;
-    put_count(out, records.len() as u64, " pair, ", " pairs, ")?;
-    put_number(out, faulty)?;
-    put(out, " of them with a fault\n")?;
+    put_table(alloc, out, &summary_table(alloc, records)?)?;
+    put_faults(out, records)?;
     Ok(())
 }

@@ -52,11 +52,6 @@ fn widen<A: Allocator>(
     Ok(())
 }
 
-/// Whether a byte begins a character of UTF-8.
-fn begins(b: u8) -> bool {
-    b < 0x80 || 0xC0 <= b
-}
-
 /// The widest that a column gets: a longer cell, which the standard allows in no field, moves its own row alone.
 const WIDEST: usize = 64;
 
@@ -67,57 +62,40 @@ struct Spot {
     width: usize,
 }
 
+/// Where a row begins.
+const BEGIN: Spot = Spot {
+    column: 0,
+    width: 0,
+};
+
 /// The spot after a byte.
 fn after(spot: Spot, b: u8) -> Spot {
-    if b == CELL {
-        return Spot {
+    match b {
+        CELL => Spot {
             column: spot.column.saturating_add(1),
             width: 0,
-        };
-    }
-    if b == b'\n' {
-        return Spot {
-            column: 0,
-            width: 0,
-        };
-    }
-    Spot {
-        column: spot.column,
-        width: if begins(b) {
-            spot.width.saturating_add(1)
-        } else {
-            spot.width
+        },
+        b'\n' => BEGIN,
+        // (a byte within a character of UTF-8)
+        0x80..=0xBF => spot,
+        _ => Spot {
+            column: spot.column,
+            width: spot.width.saturating_add(1),
         },
     }
 }
 
-/// Makes each column as wide as its widest cell.
-fn widen_all<A: Allocator>(widths: &mut Vec<usize, A>, table: &[u8]) -> Result<(), AllocError> {
-    let mut spot = Spot {
-        column: 0,
-        width: 0,
-    };
+/// How wide each column is: as wide as its widest cell.
+fn widths_of<A: Allocator>(alloc: A, table: &[u8]) -> Result<Vec<usize, A>, AllocError> {
+    let mut widths = Vec::new(alloc);
+    let mut spot = BEGIN;
     for b in table {
         if *b == CELL {
-            widen(widths, spot.column, spot.width.min(WIDEST))?;
+            widen(&mut widths, spot.column, spot.width.min(WIDEST))?;
         }
         spot = after(spot, *b);
     }
-    Ok(())
-}
-
-/// How wide each column is.
-fn widths_of<A: Allocator>(alloc: A, table: &[u8]) -> Result<Vec<usize, A>, AllocError> {
-    let mut widths = Vec::new(alloc);
-    widen_all(&mut widths, table)?;
     Ok(widths)
-}
-
-fn put_blanks<A: Allocator>(out: &mut Vec<u8, A>, count: usize) -> Result<(), AllocError> {
-    for _ in 0..count {
-        out.extend_from_slice(b" ")?;
-    }
-    Ok(())
 }
 
 /// How many blanks stand before the next character after a byte, where so many stood before this one.
@@ -132,30 +110,22 @@ fn blanks_after(widths: &[usize], spot: Spot, blanks: usize, b: u8) -> usize {
     blanks.saturating_add(wanted.saturating_sub(spot.width).saturating_add(2))
 }
 
-/// A byte of a table, after so many blanks; cells end in none.
-fn put_byte<A: Allocator>(out: &mut Vec<u8, A>, blanks: usize, b: u8) -> Result<(), AllocError> {
-    if b == CELL {
-        return Ok(());
-    }
-    if b != b'\n' {
-        put_blanks(out, blanks)?;
-    }
-    out.extend_from_slice(&[b])
-}
-
-/// A table with columns of these widths.
+/// A table with columns of these widths: blanks before each character, and none at a line's end.
 fn put_columns<A: Allocator>(
     out: &mut Vec<u8, A>,
     table: &[u8],
     widths: &[usize],
 ) -> Result<(), AllocError> {
-    let mut spot = Spot {
-        column: 0,
-        width: 0,
-    };
+    let mut spot = BEGIN;
     let mut blanks = 2usize;
     for b in table {
-        put_byte(out, blanks, *b)?;
+        if *b != CELL {
+            let before = if *b == b'\n' { 0 } else { blanks };
+            for _ in 0..before {
+                out.extend_from_slice(b" ")?;
+            }
+            out.extend_from_slice(&[*b])?;
+        }
         blanks = blanks_after(widths, spot, blanks, *b);
         spot = after(spot, *b);
     }

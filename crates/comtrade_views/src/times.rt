@@ -3,7 +3,7 @@
 use comtrade_format::File;
 use comtrade_io::ToolFault;
 use comtrade_values::clock_of;
-use std::alloc::{AllocError, Allocator};
+use std::alloc::Allocator;
 
 /// When each row was taken, in nanoseconds since the instant of the first: by the rates where the file says them, else by its stamp. None
 /// where neither says it, and beyond 292 years.
@@ -12,51 +12,20 @@ pub(crate) fn times_of<A: Allocator + Copy>(
     file: &File<A>,
 ) -> Result<Vec<Option<i64>, A>, ToolFault> {
     let mut times = Vec::new(alloc);
-    add_times(&mut times, file)?;
-    Ok(times)
-}
-
-/// Adds when each row was taken.
-fn add_times<A: Allocator>(
-    times: &mut Vec<Option<i64>, A>,
-    file: &File<A>,
-) -> Result<(), AllocError> {
     let mut clock = clock_of(&file.head);
     for (i, row) in file.rows.items().iter().enumerate() {
         clock = clock.at(i as u64);
-        times.push(near(clock.nanos(i as u64, row.stamp)))?;
+        times.push(match clock.nanos(i as u64, row.stamp) {
+            Some(nanos) => i64::try_from(nanos).ok(),
+            None => None,
+        })?;
     }
-    Ok(())
-}
-
-/// A time of at most 292 years.
-fn near(nanos: Option<u128>) -> Option<i64> {
-    i64::try_from(nanos?).ok()
+    Ok(times)
 }
 
 /// When the trigger was, in nanoseconds since the instant of the first row.
 pub(crate) fn trigger_since_first<A: Allocator>(file: &File<A>) -> i128 {
     (file.head.trigger as i128 - file.head.first as i128) * 1000
-}
-
-/// The same, at most 292 years either way.
-pub(crate) fn trigger_nanos<A: Allocator>(file: &File<A>) -> i64 {
-    let micros = file.head.trigger.saturating_sub(file.head.first);
-    micros.saturating_mul(1000)
-}
-
-/// When the row of this index was taken, in nanoseconds since the trigger; none beyond 292 years.
-pub(crate) fn since_trigger(times: &[Option<i64>], row: usize, trigger: i64) -> Option<i64> {
-    match times.get(row) {
-        Some(Some(nanos)) => nanos.checked_sub(trigger),
-        _ => None,
-    }
-}
-
-/// A time since the first row as one since the trigger.
-fn since(time: Option<i64>, trigger: i128) -> Option<i64> {
-    let nanos = time? as i128;
-    i64::try_from(nanos.saturating_sub(trigger)).ok()
 }
 
 /// When each row was taken, in nanoseconds since the trigger; none where nothing says it, and beyond 292 years.
@@ -67,7 +36,9 @@ pub fn times_since_trigger<A: Allocator + Copy>(
     let trigger = trigger_since_first(file);
     let mut times = times_of(alloc, file)?;
     for time in times.iter_mut() {
-        *time = since(*time, trigger);
+        if let Some(nanos) = *time {
+            *time = i64::try_from((nanos as i128).saturating_sub(trigger)).ok();
+        }
     }
     Ok(times)
 }

@@ -5,7 +5,7 @@ use crate::cycles::matrix::at;
 use crate::cycles::readings::value_in;
 use crate::cycles::window::Window;
 use comtrade_format::{File, Row};
-use comtrade_values::{Cycle, Scale, scale_of};
+use comtrade_values::{Scale, scale_of};
 use dfr_channels::AnalogChannel;
 use std::alloc::Allocator;
 use std::num::nearest_usize_to_f64;
@@ -36,13 +36,6 @@ pub fn is_current<A: Allocator>(channel: &AnalogChannel<A>) -> bool {
 struct Length {
     rows: usize,
     part: f64,
-}
-
-fn length_of(cycle: Cycle) -> Length {
-    Length {
-        rows: usize::try_from(cycle.rows_in(1)).unwrap_or(usize::MAX),
-        part: cycle.part(),
-    }
 }
 
 impl Length {
@@ -168,7 +161,10 @@ pub fn course_of<A: Allocator + Copy>(
     let Some(values) = values_of(alloc, file.rows.items(), place, scale)? else {
         return Ok(None);
     };
-    let length = length_of(window.cycle);
+    let length = Length {
+        rows: usize::try_from(window.cycle.rows_in(1)).unwrap_or(usize::MAX),
+        part: window.cycle.part(),
+    };
     let bound = bound_of(&values, length.first(), scale.a);
     match left_at(&values, length, bound) {
         Some(row) => Ok(Some(Some(course_from(&values, length, row, bound)))),

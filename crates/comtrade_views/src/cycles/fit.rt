@@ -36,6 +36,17 @@ impl<A: Allocator> Measured<A> {
     }
 }
 
+/// What was measured of the channel at this place, where its readings are there.
+pub fn measured_at<A: Allocator>(
+    measures: &[Option<Measured<A>>],
+    place: usize,
+) -> Option<&Measured<A>> {
+    match measures.get(place) {
+        Some(Some(measured)) => Some(measured),
+        _ => None,
+    }
+}
+
 /// What a channel's rows come to.
 #[derive(Drop)]
 struct Totals<A: Allocator> {
@@ -85,15 +96,6 @@ fn phasor_at(parts: &[f64], order: usize) -> Phasor {
     }
 }
 
-/// The mean of the squares that the parts leave.
-fn rest_of(squares: f64, sums: &[f64], parts: &[f64], rows: usize) -> f64 {
-    let mut rest = squares;
-    for (i, sum) in sums.iter().enumerate() {
-        rest -= sum * at(parts, i);
-    }
-    rest.max(0.0) / nearest_usize_to_f64(rows)
-}
-
 /// What totals say of a channel.
 fn measured_of<A: Allocator + Copy>(
     alloc: A,
@@ -104,7 +106,12 @@ fn measured_of<A: Allocator + Copy>(
     let mut parts = Vec::from_slice(alloc, &totals.sums)?;
     matrix.solve(&mut parts);
     let dc = at(&parts, 0);
-    let mut square = dc * dc + rest_of(totals.squares, &totals.sums, &parts, rows);
+    // the squares that the parts leave
+    let mut rest = totals.squares;
+    for (i, sum) in totals.sums.iter().enumerate() {
+        rest -= sum * at(&parts, i);
+    }
+    let mut square = dc * dc + rest.max(0.0) / nearest_usize_to_f64(rows);
     let mut orders = Vec::new(alloc);
     for order in 1..=parts.len() / 2 {
         let size = phasor_at(&parts, order).magnitude();
@@ -146,7 +153,7 @@ fn measure<A: Allocator + Copy>(
         None => &[],
     };
     let scale = scale_of(alloc, channel)?;
-    let Some(totals) = totals_of(alloc, rows, window, place, scale, matrix.side())? else {
+    let Some(totals) = totals_of(alloc, rows, window, place, scale, matrix.side)? else {
         return Ok(None);
     };
     let skew = skew_of(alloc, channel, file.head.line_freq)?;

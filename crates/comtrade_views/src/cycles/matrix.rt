@@ -22,7 +22,7 @@ pub(crate) fn zeros<A: Allocator>(alloc: A, count: usize) -> Result<Vec<f64, A>,
 /// A square matrix, row by row.
 #[derive(Drop)]
 pub(crate) struct Matrix<A: Allocator> {
-    side: usize,
+    pub(crate) side: usize,
     cells: Vec<f64, A>,
 }
 
@@ -31,10 +31,6 @@ impl<A: Allocator> Matrix<A> {
     pub(crate) fn new(alloc: A, side: usize) -> Result<Matrix<A>, AllocError> {
         let cells = zeros(alloc, side.saturating_mul(side))?;
         Ok(Matrix { side, cells })
-    }
-
-    pub(crate) fn side(&self) -> usize {
-        self.side
     }
 
     fn place(&self, row: usize, column: usize) -> usize {
@@ -47,9 +43,7 @@ impl<A: Allocator> Matrix<A> {
 
     pub(crate) fn put(&mut self, row: usize, column: usize, number: f64) {
         let place = self.place(row, column);
-        if let Some(cell) = self.cells.get_mut(place) {
-            *cell = number;
-        }
+        replace(&mut self.cells, place, number);
     }
 
     /// A cell less the products of both rows in the columns before it.

@@ -1,6 +1,6 @@
 //! Sequence components of three phases.
 
-use crate::cycles::fit::Measured;
+use crate::cycles::fit::{Measured, measured_at};
 use crate::cycles::phasor::Phasor;
 use dfr_channels::{AnalogChannel, trim};
 use std::alloc::{AllocError, Allocator};
@@ -42,21 +42,18 @@ fn phase_of<A: Allocator>(channel: &AnalogChannel<A>) -> Option<u8> {
     }
 }
 
-/// Whether two channels are of one unit, one component and one side.
-fn is_like<A: Allocator>(one: &AnalogChannel<A>, other: &AnalogChannel<A>) -> bool {
-    one.unit.items() == other.unit.items()
-        && one.component.items() == other.component.items()
-        && one.side == other.side
-}
-
-/// The place of the first channel of a phase among these that is like another one; none where one of the phase A is before it.
+/// The place of the first channel of a phase among these that is of another one's unit, component and side; none where one of the phase A is
+/// before it.
 fn next_of<A: Allocator>(
     channels: &[AnalogChannel<A>],
     one: &AnalogChannel<A>,
     phase: u8,
 ) -> Option<usize> {
     for (i, channel) in channels.iter().enumerate() {
-        if is_like(one, channel) {
+        let is_like = one.unit.items() == channel.unit.items()
+            && one.component.items() == channel.component.items()
+            && one.side == channel.side;
+        if is_like {
             match phase_of(channel) {
                 Some(found) if found == phase => return Some(i),
                 Some(0) => return None,
@@ -98,11 +95,8 @@ pub fn threes_of<A: Allocator + Copy>(
 }
 
 /// The phasor of one channel, where it was measured.
-fn phasor_in<A: Allocator>(measures: &[Option<Measured<A>>], place: usize) -> Option<Phasor> {
-    match measures.get(place) {
-        Some(Some(measured)) => Some(measured.phasor),
-        _ => None,
-    }
+pub fn phasor_in<A: Allocator>(measures: &[Option<Measured<A>>], place: usize) -> Option<Phasor> {
+    Some(measured_at(measures, place)?.phasor)
 }
 
 /// A third of a + turn * b + turn^2 * c, where turn is 120 degrees ahead or behind.

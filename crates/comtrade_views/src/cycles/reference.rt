@@ -1,26 +1,16 @@
 //! The channel from which angles are counted.
 
 use crate::cycles::fault::MeasureFault;
-use crate::cycles::fit::Measured;
+use crate::cycles::fit::{Measured, measured_at};
 use comtrade_format::Head;
 use std::alloc::Allocator;
 
-/// Whether a channel was measured, and has an angle.
-fn has_angle<A: Allocator>(measured: Option<&Option<Measured<A>>>) -> bool {
-    match measured {
-        Some(Some(measured)) => measured.has_angle(),
-        _ => false,
+/// Whether the channel at this place was measured, and has an angle.
+fn has_angle<A: Allocator>(measures: &[Option<Measured<A>>], place: usize) -> bool {
+    match measured_at(measures, place) {
+        Some(measured) => measured.has_angle(),
+        None => false,
     }
-}
-
-/// The place of the first channel that has an angle.
-fn first_with_angle<A: Allocator>(measures: &[Option<Measured<A>>]) -> Option<usize> {
-    for place in 0..measures.len() {
-        if has_angle(measures.get(place)) {
-            return Some(place);
-        }
-    }
-    None
 }
 
 /// The place of the first channel with this id, in any case of letters, else that of this number from 1.
@@ -46,10 +36,15 @@ pub fn reference_in<A: Allocator>(
     name: Option<&str>,
 ) -> Result<Option<usize>, MeasureFault> {
     let Some(name) = name else {
-        return Ok(first_with_angle(measures));
+        for place in 0..measures.len() {
+            if has_angle(measures, place) {
+                return Ok(Some(place));
+            }
+        }
+        return Ok(None);
     };
     match place_of(head, name) {
-        Some(place) if has_angle(measures.get(place)) => Ok(Some(place)),
+        Some(place) if has_angle(measures, place) => Ok(Some(place)),
         Some(_) => Err(MeasureFault::NoAngle),
         None => Err(MeasureFault::NoReference),
     }

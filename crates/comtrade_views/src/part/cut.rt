@@ -4,7 +4,7 @@ use crate::part::names::Channels;
 use crate::part::rows::Rows;
 use comtrade_format::{File, Head, Rate, Row};
 use comtrade_values::clock_of;
-use dfr_channels::{AnalogChannel, Items, Memory, Reading, StatusChannel, TryClone};
+use dfr_channels::{AnalogChannel, Items, Memory, StatusChannel, TryClone};
 use std::alloc::Allocator;
 
 /// The items at these places.
@@ -22,29 +22,16 @@ fn picked<T: TryClone, A: Allocator + Copy>(
     Ok(Items::of(picked))
 }
 
-fn readings_at<A: Allocator + Copy>(
+/// The same of items that are copied without memory.
+fn picked_copies<T: Copy, A: Allocator>(
     alloc: A,
-    values: &[Reading],
+    list: &[T],
     places: &[usize],
-) -> Result<Items<Reading, A>, Memory> {
+) -> Result<Items<T, A>, Memory> {
     let mut picked = Vec::with_capacity(alloc, places.len())?;
     for place in places {
-        if let Some(value) = values.get(*place) {
-            picked.push(*value)?;
-        }
-    }
-    Ok(Items::of(picked))
-}
-
-fn bits_at<A: Allocator + Copy>(
-    alloc: A,
-    bits: &[bool],
-    places: &[usize],
-) -> Result<Items<bool, A>, Memory> {
-    let mut picked = Vec::with_capacity(alloc, places.len())?;
-    for place in places {
-        if let Some(bit) = bits.get(*place) {
-            picked.push(*bit)?;
+        if let Some(item) = list.get(*place) {
+            picked.push(*item)?;
         }
     }
     Ok(Items::of(picked))
@@ -58,8 +45,8 @@ fn row_at<A: Allocator + Copy>(
     number: u64,
     base: u64,
 ) -> Result<Row<A>, Memory> {
-    let values = readings_at(alloc, row.values.items(), &channels.analog)?;
-    let bits = bits_at(alloc, row.bits.items(), &channels.status)?;
+    let values = picked_copies(alloc, row.values.items(), &channels.analog)?;
+    let bits = picked_copies(alloc, row.bits.items(), &channels.status)?;
     Ok(Row {
         number,
         stamp: row.stamp.map(|stamp| stamp.saturating_sub(base)),

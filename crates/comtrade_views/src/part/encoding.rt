@@ -1,6 +1,6 @@
 //! Texts in Latin-1 (ISO 8859-1) as UTF-8.
 
-use comtrade_format::{File, Head};
+use comtrade_format::File;
 use dfr_channels::{AnalogChannel, Items, StatusChannel};
 use std::alloc::{AllocError, Allocator};
 use std::mem;
@@ -29,60 +29,55 @@ impl Encoding {
     }
 }
 
-/// A byte of Latin-1 as UTF-8: one from 80 on has two.
-fn put_letter<A: Allocator>(out: &mut Vec<u8, A>, b: u8) -> Result<(), AllocError> {
-    if b < 0x80 {
-        return out.extend_from_slice(&[b]);
-    }
-    out.extend_from_slice(&[0xC0 | b >> 6, 0x80 | b & 0x3F])
-}
-
-/// Makes a text of Latin-1 one of UTF-8.
+/// Makes a text of Latin-1 one of UTF-8: a byte from 80 on has two there.
 fn turn<A: Allocator>(alloc: A, text: &mut Items<u8, A>) -> Result<(), AllocError> {
     let mut made = Vec::new(alloc);
     for b in text.items() {
-        put_letter(&mut made, *b)?;
+        if *b < 0x80 {
+            made.push(*b)?;
+        } else {
+            made.extend_from_slice(&[0xC0 | *b >> 6, 0x80 | *b & 0x3F])?;
+        }
     }
     *text = Items::of(made);
     Ok(())
 }
 
-fn turn_analog<A: Allocator + Copy>(
-    alloc: A,
-    channels: &mut [AnalogChannel<A>],
-) -> Result<(), AllocError> {
-    for channel in channels {
-        turn(alloc, &mut channel.id)?;
-        turn(alloc, &mut channel.phase)?;
-        turn(alloc, &mut channel.component)?;
-        turn(alloc, &mut channel.unit)?;
+/// A channel, whose texts are made texts of UTF-8.
+trait Named<A: Allocator>: Drop {
+    fn turn_texts(&mut self, alloc: A) -> Result<(), AllocError>;
+}
+
+impl<A: Allocator + Copy> Named<A> for AnalogChannel<A> {
+    fn turn_texts(&mut self, alloc: A) -> Result<(), AllocError> {
+        turn(alloc, &mut self.id)?;
+        turn(alloc, &mut self.phase)?;
+        turn(alloc, &mut self.component)?;
+        turn(alloc, &mut self.unit)
     }
-    Ok(())
 }
 
-fn turn_status<A: Allocator + Copy>(
-    alloc: A,
-    channels: &mut [StatusChannel<A>],
-) -> Result<(), AllocError> {
-    for channel in channels {
-        turn(alloc, &mut channel.id)?;
-        turn(alloc, &mut channel.phase)?;
-        turn(alloc, &mut channel.component)?;
+impl<A: Allocator + Copy> Named<A> for StatusChannel<A> {
+    fn turn_texts(&mut self, alloc: A) -> Result<(), AllocError> {
+        turn(alloc, &mut self.id)?;
+        turn(alloc, &mut self.phase)?;
+        turn(alloc, &mut self.component)
     }
-    Ok(())
 }
 
-fn turn_all_analog<A: Allocator + Copy>(alloc: A, head: &mut Head<A>) -> Result<(), AllocError> {
-    let mut channels = mem::replace(&mut head.analog, Items::of(Vec::new(alloc))).into_vec();
-    let turned = turn_analog(alloc, &mut channels);
-    head.analog = Items::of(channels);
-    turned
-}
-
-fn turn_all_status<A: Allocator + Copy>(alloc: A, head: &mut Head<A>) -> Result<(), AllocError> {
-    let mut channels = mem::replace(&mut head.status, Items::of(Vec::new(alloc))).into_vec();
-    let turned = turn_status(alloc, &mut channels);
-    head.status = Items::of(channels);
+/// Makes the texts of channels texts of UTF-8.
+fn turn_all<T: Named<A>, A: Allocator + Copy>(
+    alloc: A,
+    list: &mut Items<T, A>,
+) -> Result<(), AllocError> {
+    let mut channels = mem::replace(list, Items::of(Vec::new(alloc))).into_vec();
+    let mut turned = Ok(());
+    for channel in channels.iter_mut() {
+        if turned.is_ok() {
+            turned = channel.turn_texts(alloc);
+        }
+    }
+    *list = Items::of(channels);
     turned
 }
 
@@ -97,6 +92,6 @@ pub fn spell_in_utf8<A: Allocator + Copy>(
     }
     turn(alloc, &mut file.head.station)?;
     turn(alloc, &mut file.head.device)?;
-    turn_all_analog(alloc, &mut file.head)?;
-    turn_all_status(alloc, &mut file.head)
+    turn_all(alloc, &mut file.head.analog)?;
+    turn_all(alloc, &mut file.head.status)
 }

@@ -74,14 +74,6 @@ fn small(text: &str) -> Option<i8> {
     i8::try_from(digits(text)?).ok()
 }
 
-/// `yyyy-mm-dd`
-fn date_of(text: &str) -> Option<Date> {
-    let (year, rest) = text.split_once('-')?;
-    let (month, day) = rest.split_once('-')?;
-    let year = i16::try_from(digits(year)?).ok()?;
-    Date::new(year, small(month)?, small(day)?).ok()
-}
-
 /// `hh:mm:ss.fraction`, `hh:mm:ss` or `hh:mm`
 fn time_of(text: &str) -> Option<Time> {
     let (hour, rest) = text.split_once(':')?;
@@ -91,13 +83,16 @@ fn time_of(text: &str) -> Option<Time> {
     Time::new(small(hour)?, small(minute)?, small(second)?, nanos).ok()
 }
 
-/// A date and a time of day, with a T or a blank between them.
+/// A date `yyyy-mm-dd` and a time of day, with a T or a blank between them.
 fn instant_of(text: &str) -> Option<i128> {
     let (date, time) = match text.split_once('T') {
         Some(parts) => parts,
         None => text.split_once(' ')?,
     };
-    let date = date_of(date)?;
+    let (year, rest) = date.split_once('-')?;
+    let (month, day) = rest.split_once('-')?;
+    let year = i16::try_from(digits(year)?).ok()?;
+    let date = Date::new(year, small(month)?, small(day)?).ok()?;
     let time = time_of(time)?;
     Some(DateTime { date, time }.to_nanosecond())
 }

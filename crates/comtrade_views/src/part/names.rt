@@ -2,7 +2,6 @@
 
 use crate::part::fault::PartFault;
 use comtrade_format::{Head, Row};
-use dfr_channels::{AnalogChannel, StatusChannel};
 use std::alloc::{AllocError, Allocator};
 
 /// Which channels are meant, by their places from 0.
@@ -63,37 +62,6 @@ fn status_place(text: &str) -> Option<usize> {
     place_of(text.strip_prefix('D').or_else(|| text.strip_prefix('d'))?)
 }
 
-/// Marks the channels of which the id fits, and answers whether there is one.
-fn mark_analog<A: Allocator>(
-    marks: &mut [bool],
-    channels: &[AnalogChannel<A>],
-    name: &str,
-) -> bool {
-    let mut is_found = false;
-    for (mark, channel) in marks.iter_mut().zip(channels) {
-        if fits(name.as_bytes(), channel.id.items()) {
-            *mark = true;
-            is_found = true;
-        }
-    }
-    is_found
-}
-
-fn mark_status<A: Allocator>(
-    marks: &mut [bool],
-    channels: &[StatusChannel<A>],
-    name: &str,
-) -> bool {
-    let mut is_found = false;
-    for (mark, channel) in marks.iter_mut().zip(channels) {
-        if fits(name.as_bytes(), channel.id.items()) {
-            *mark = true;
-            is_found = true;
-        }
-    }
-    is_found
-}
-
 /// Marks the channel of a place, where there is one.
 fn mark_place(marks: &mut [bool], place: Option<usize>) -> bool {
     let Some(place) = place else {
@@ -115,12 +83,20 @@ fn mark<A: Allocator>(
     status: &mut [bool],
     name: &str,
 ) -> bool {
-    let in_analog = mark_analog(analog, head.analog.items(), name);
-    let in_status = mark_status(status, head.status.items(), name);
-    in_analog
-        || in_status
-        || mark_place(analog, place_of(name))
-        || mark_place(status, status_place(name))
+    let mut is_found = false;
+    for (mark, channel) in analog.iter_mut().zip(head.analog.items()) {
+        if fits(name.as_bytes(), channel.id.items()) {
+            *mark = true;
+            is_found = true;
+        }
+    }
+    for (mark, channel) in status.iter_mut().zip(head.status.items()) {
+        if fits(name.as_bytes(), channel.id.items()) {
+            *mark = true;
+            is_found = true;
+        }
+    }
+    is_found || mark_place(analog, place_of(name)) || mark_place(status, status_place(name))
 }
 
 /// The places that are marked.

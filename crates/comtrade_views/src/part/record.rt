@@ -13,11 +13,8 @@ use std::mem;
 
 /// Whether the whole record is meant, as it is.
 pub fn is_whole(part: Part<'_>) -> bool {
-    part.from.is_none() && part.to.is_none() && part.channels.is_none() && has_no_flag(part)
-}
-
-fn has_no_flag(part: Part<'_>) -> bool {
-    !part.changed && !part.primary && !part.secondary
+    let has_words = part.from.is_some() || part.to.is_some() || part.channels.is_some();
+    !(has_words || part.changed || part.primary || part.secondary)
 }
 
 /// The side that is asked for.

@@ -43,37 +43,21 @@ fn bound_of<'a, A: Allocator>(
     }
 }
 
-/// Whether a row is not before the bound.
-fn is_after(bound: Bound, index: u64, time: Option<i128>) -> bool {
-    match bound {
-        Bound::None => true,
-        Bound::Index(first) => first <= index,
-        Bound::Time(first) => match time {
-            Some(time) => first <= time,
-            None => false,
-        },
-    }
-}
-
-/// Whether a row is not after the bound.
-fn is_before(bound: Bound, index: u64, time: Option<i128>) -> bool {
-    match bound {
-        Bound::None => true,
-        Bound::Index(last) => index <= last,
-        Bound::Time(last) => match time {
-            Some(time) => time <= last,
-            None => false,
-        },
-    }
-}
-
-fn needs_time(bound: Bound) -> bool {
-    matches!(bound, Bound::Time(_))
-}
-
-/// When a row was taken, where that is at most what 127 bits hold.
-fn time_of(nanos: Option<u128>) -> Option<i128> {
-    i128::try_from(nanos?).ok()
+/// Whether a row is not before the first bound, and not after the second.
+fn is_between(from: Bound, to: Bound, index: u64, time: Option<i128>) -> bool {
+    let is_after = match (from, time) {
+        (Bound::None, _) => true,
+        (Bound::Index(first), _) => first <= index,
+        (Bound::Time(first), Some(time)) => first <= time,
+        (Bound::Time(_), None) => false,
+    };
+    let is_before = match (to, time) {
+        (Bound::None, _) => true,
+        (Bound::Index(last), _) => index <= last,
+        (Bound::Time(last), Some(time)) => time <= last,
+        (Bound::Time(_), None) => false,
+    };
+    is_after && is_before
 }
 
 /// The rows between both bounds, from the first of them to the last; none where there is none.
@@ -89,9 +73,12 @@ fn between<A: Allocator>(
     for (i, row) in rows.iter().enumerate() {
         let index = i as u64;
         clock = clock.at(index);
-        let time = time_of(clock.nanos(index, row.stamp));
+        let time = match clock.nanos(index, row.stamp) {
+            Some(nanos) => i128::try_from(nanos).ok(),
+            None => None,
+        };
         has_times = has_times || time.is_some();
-        if is_after(from, index, time) && is_before(to, index, time) {
+        if is_between(from, to, index, time) {
             let first = match found {
                 Some(rows) => rows.from,
                 None => i,
@@ -114,9 +101,10 @@ pub(crate) fn rows_between<'a, A: Allocator>(
     let from = bound_of(file, from)?;
     let to = bound_of(file, to)?;
     let (found, has_times) = between(file, file.rows.items(), from, to);
+    let needs_times = matches!(from, Bound::Time(_)) || matches!(to, Bound::Time(_));
     match found {
         Some(rows) => Ok(rows),
-        None if !has_times && (needs_time(from) || needs_time(to)) => Err(PartFault::Timeless),
+        None if needs_times && !has_times => Err(PartFault::Timeless),
         None => Err(PartFault::NoRow),
     }
 }
