@@ -1,5 +1,5 @@
-//! Tests of the libraries by their public calls, with enough memory: worked values from outside, each public call at its borders,
-//! and what no contract can say. They stand apart from the crates, since a crate that holds tests is proved twice.
+//! All tests of the libraries, by their public calls: worked values from outside, each public call at its borders, and what no contract
+//! can say. With enough memory but in `refused`. They stand apart from the crates, since a crate that holds tests is proved twice.
 #![tactic(auto)]
 
 #[cfg(test)]
@@ -7,10 +7,14 @@ mod allocator_counts;
 #[cfg(test)]
 mod channels;
 #[cfg(test)]
+mod live;
+#[cfg(test)]
 mod program;
 #[cfg(test)]
 mod reader;
 #[cfg(test)]
 mod recorder;
+#[cfg(test)]
+mod refused;
 #[cfg(test)]
 mod writer;

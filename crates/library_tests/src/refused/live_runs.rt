@@ -1,0 +1,296 @@
+//! Runs in three threads. Which call meets a refused allocation depends on the schedule; whichever it is, the run answers `Memory`,
+//! and the sink got nothing or the whole record. And a script's run whose writer fails at each call in turn.
+
+use crate::refused::common::{Heap, scan};
+use crate::refused::program::MANUAL;
+use crate::refused::recorder::recorder;
+use crate::refused::refusing::{NOTHING, Outcome, memory_if, noted, right_if};
+use crate::refused::texts::{FIRST, Pair, pair_in};
+use comtrade_write::Kind;
+use dfr_channels::Scan;
+use dfr_live::{
+    EndFault, Fed, Feed, LiveFault, LiveReport, OpenFault, Order, Orders, Sink, run_live,
+};
+use dfr_program::{RunFault, live_of};
+use dfr_recorder::{Extent, Recorder};
+use failing_allocator::Refusing;
+use std::alloc::{Allocator, Global};
+use std::collections::VecDeque;
+use std::io;
+use std::io::{Error, ErrorKind, Write};
+use std::sync::Wait;
+use std::thread::Threads;
+
+/// Gives scans that were made before.
+#[derive(Drop)]
+struct Given<A: Allocator> {
+    scans: VecDeque<Scan<A>, A>,
+}
+
+impl<A: Allocator> Feed<A> for Given<A> {
+    fn next(&mut self) -> Result<Fed<A>, u32> {
+        match self.scans.pop_front() {
+            Some(scan) => Ok(Fed::Scan(scan)),
+            None => Ok(Fed::Done),
+        }
+    }
+}
+
+/// A trigger after four scans.
+#[derive(Drop)]
+struct OneOrder {
+    is_given: bool,
+}
+
+impl<A: Allocator> Orders<A> for OneOrder {
+    fn next(&mut self) -> Option<(u64, Order<A>)> {
+        if self.is_given {
+            return None;
+        }
+        self.is_given = true;
+        Some((4, Order::Trigger))
+    }
+}
+
+/// How many records came, and whether each had these texts.
+#[derive(Drop)]
+struct Texts {
+    texts: Pair,
+    got: u64,
+    are_right: bool,
+}
+
+impl Sink for Texts {
+    fn put(&mut self, _extent: Extent, cfg: &[u8], dat: &[u8]) -> Result<(), u32> {
+        self.got = self.got.saturating_add(1);
+        self.are_right = self.are_right && cfg == self.texts.cfg && dat == self.texts.dat;
+        Ok(())
+    }
+}
+
+/// What a run works on.
+#[derive(Drop)]
+struct Start<A: Allocator> {
+    recorder: Recorder<A>,
+    feed: Given<A>,
+}
+
+fn push<A: Allocator + Copy>(alloc: A, scans: &mut VecDeque<Scan<A>, A>, x: i32) -> bool {
+    match scan(alloc, x, false) {
+        Some(scan) => scans.push_back(scan).is_ok(),
+        None => false,
+    }
+}
+
+/// Scans of the values 10 to 15.
+fn scans_given<A: Allocator + Copy>(alloc: A) -> Option<VecDeque<Scan<A>, A>> {
+    let mut scans = VecDeque::new(alloc);
+    let mut all = true;
+    for x in 10..16i32 {
+        all = push(alloc, &mut scans, x) && all;
+    }
+    if all { Some(scans) } else { None }
+}
+
+fn begin_with<A: Allocator>(
+    recorder: Recorder<A>,
+    scans: Option<VecDeque<Scan<A>, A>>,
+) -> Option<Start<A>> {
+    match scans {
+        Some(scans) => Some(Start {
+            recorder,
+            feed: Given { scans },
+        }),
+        None => {
+            drop(recorder);
+            None
+        }
+    }
+}
+
+fn begin<A: Allocator + Copy>(alloc: A) -> Option<Start<A>> {
+    match recorder(alloc) {
+        Some(recorder) => begin_with(recorder, scans_given(alloc)),
+        None => None,
+    }
+}
+
+/// The report is let go.
+fn is_whole<A: Allocator>(report: LiveReport<A>, got: u64) -> bool {
+    let whole = report.stepped == 6
+        && report.refused == 0
+        && report.records == 1
+        && got == 1
+        && report.ended.left.is_empty();
+    drop(report);
+    whole
+}
+
+/// A run that was refused an allocation says so.
+fn is_memory(fault: LiveFault) -> bool {
+    fault == LiveFault::Memory
+        || fault == LiveFault::Open(OpenFault::Memory)
+        || fault == LiveFault::End(EndFault::Memory)
+}
+
+fn outcome_of<A: Allocator>(report: Result<LiveReport<A>, LiveFault>, sink: &Texts) -> Outcome {
+    match report {
+        Ok(report) => right_if(is_whole(report, sink.got) && sink.are_right),
+        Err(fault) => memory_if(sink.are_right && sink.got < 2 && is_memory(fault)),
+    }
+}
+
+/// A run whose nth allocation is refused, or none where n is 0. Its threads must share the runtime, which no impl of a trait for all
+/// runtimes can promise: so these calls have a loop of their own.
+fn run<R: Threads + Wait + Sync>(rt: &R, heap: Heap, kind: Kind, n: u64) -> Outcome {
+    let Some(Start { recorder, mut feed }) = begin(heap) else {
+        return Outcome::Wrong;
+    };
+    let mut orders = OneOrder { is_given: false };
+    let mut sink = Texts {
+        texts: pair_in(kind),
+        got: 0,
+        are_right: true,
+    };
+    heap.refuse(n);
+    let report = run_live(
+        rt,
+        heap,
+        recorder,
+        8,
+        kind,
+        10_000_000,
+        &mut feed,
+        &mut orders,
+        &mut sink,
+    );
+    drop(feed);
+    outcome_of(report, &sink)
+}
+
+/// What a script of one record prints: its trigger's answer, and the counts.
+const PRINTED: &[u8] = b"at 4 trigger opened 1\nscans 6 refused 0 records 1 left 0\n";
+
+fn is_printed(done: bool, out: &[u8], sink: &Texts) -> bool {
+    done && out == PRINTED && sink.got == 1 && sink.are_right
+}
+
+/// A script that is recorded in threads. Out of memory it prints nothing.
+fn script<R: Threads + Wait + Sync>(rt: &R, heap: Heap, alloc: Global, n: u64) -> Outcome {
+    let mut out = Vec::new(alloc);
+    let mut sink = Texts {
+        texts: FIRST,
+        got: 0,
+        are_right: true,
+    };
+    heap.refuse(n);
+    match live_of(rt, heap, MANUAL, Kind::Ascii, &mut sink, &mut out) {
+        Ok(done) => right_if(is_printed(done, &out, &sink)),
+        Err(fault) => memory_if(fault == RunFault::Memory && out.is_empty() && sink.are_right),
+    }
+}
+
+/// A call that starts threads.
+#[derive(Clone, Copy)]
+enum Live {
+    Run(Kind),
+    Script,
+}
+
+fn call<R: Threads + Wait + Sync>(
+    rt: &R,
+    heap: Heap,
+    alloc: Global,
+    live: Live,
+    n: u64,
+) -> Outcome {
+    match live {
+        Live::Run(kind) => run(rt, heap, kind, n),
+        Live::Script => script(rt, heap, alloc, n),
+    }
+}
+
+/// Refuses each allocation of the call in turn, and makes it again after each refusal; at least one is answered by `Memory`.
+fn is_answered<R: Threads + Wait + Sync>(rt: &R, heap: Heap, alloc: Global, live: Live) -> bool {
+    let mut seen = NOTHING;
+    for n in 1..5000u64 {
+        let outcome = call(rt, heap, alloc, live, n);
+        match noted(heap, &mut seen, outcome) {
+            Some(true) => {
+                if call(rt, heap, alloc, live, 0) != Outcome::Right {
+                    return false;
+                }
+            }
+            Some(false) => return seen.answered,
+            None => return false,
+        }
+    }
+    false
+}
+
+#[test]
+fn live_runs_refused(rt: HostRuntime) {
+    let heap = Refusing::new(rt.alloc());
+    for kind in [Kind::Ascii, Kind::Binary] {
+        assert!(rt; is_answered(&rt, &heap, rt.alloc(), Live::Run(kind)));
+    }
+}
+
+#[test]
+fn live_scripts_refused(rt: HostRuntime) {
+    let heap = Refusing::new(rt.alloc());
+    assert!(rt; is_answered(&rt, &heap, rt.alloc(), Live::Script));
+}
+
+/// A writer that takes a byte a call, and fails at its call of this number, from 1.
+#[derive(Drop)]
+struct Narrow {
+    bytes: Vec<u8>,
+    calls: usize,
+    fails_at: usize,
+}
+
+impl Write for Narrow {
+    fn write(&mut self, buf: &[u8]) -> io::Result<usize> {
+        self.calls = self.calls.saturating_add(1);
+        match buf.first() {
+            Some(byte) => {
+                if self.calls == self.fails_at || self.bytes.push(*byte).is_err() {
+                    return Err(Error::from(ErrorKind::Other));
+                }
+                Ok(1)
+            }
+            None => Ok(0),
+        }
+    }
+
+    fn flush(&mut self) -> io::Result<()> {
+        Ok(())
+    }
+}
+
+/// The writer has what it took before that call, and the sink its record all the same.
+fn is_cut_at<R: Threads + Wait + Sync>(rt: &R, alloc: Global, fails_at: usize) -> bool {
+    let mut out = Narrow {
+        bytes: Vec::new(alloc),
+        calls: 0,
+        fails_at,
+    };
+    let mut sink = Texts {
+        texts: FIRST,
+        got: 0,
+        are_right: true,
+    };
+    let answer = live_of(rt, alloc, MANUAL, Kind::Ascii, &mut sink, &mut out);
+    answer == Err(RunFault::Output)
+        && PRINTED.get(..fails_at.saturating_sub(1)) == Some(out.bytes.as_slice())
+        && sink.got == 1
+        && sink.are_right
+}
+
+#[test]
+fn live_scripts_with_a_failing_writer(rt: HostRuntime) {
+    for fails_at in 1..=PRINTED.len() {
+        assert!(rt; is_cut_at(&rt, rt.alloc(), fails_at), "call {fails_at}");
+    }
+}

@@ -1,0 +1,203 @@
+//! Runs of steps: one that is stopped goes on to the same answers.
+
+ghost use Rattle.std.specs.Prelude.{IfSome};
+ghost use Rattle.std.specs.List.{All};
+ghost use Rattle.dfr_recorder.specs.Answers.{answer_of};
+ghost use Rattle.dfr_recorder.specs.Run.{IsOwnAnswer};
+
+use crate::refused::common::commands;
+use crate::refused::recorder::{is_the_record, recorder};
+use crate::refused::refusing::{Outcome, memory_if, right_if};
+use dfr_recorder::{Answer, Ran, Recorder, Step, run};
+use dfr_script::Command;
+use std::alloc::Allocator;
+use std::collections::VecDeque;
+
+fn step_of<A: Allocator>(command: Command<A>) -> Option<Step<A>> {
+    match command {
+        Command::Scan(scan) => Some(Step::Scan(scan)),
+        Command::Lost => Some(Step::Lost),
+        Command::Trigger => Some(Step::Trigger),
+        Command::Take => Some(Step::Take),
+        Command::Rules { line: _, list: _ } => None,
+    }
+}
+
+fn push<A: Allocator + Copy>(steps: &mut VecDeque<Step<A>, A>, command: Command<A>) -> bool {
+    match step_of(command) {
+        Some(step) => steps.push_back(step).is_ok(),
+        None => false,
+    }
+}
+
+fn steps_of<A: Allocator + Copy>(
+    alloc: A,
+    commands: Vec<Command<A>, A>,
+) -> Option<VecDeque<Step<A>, A>> {
+    let mut steps = VecDeque::new(alloc);
+    let mut all = true;
+    for command in commands {
+        all = push(&mut steps, command) && all;
+    }
+    if all { Some(steps) } else { None }
+}
+
+fn steps<A: Allocator + Copy>(alloc: A) -> Option<VecDeque<Step<A>, A>> {
+    match commands(alloc) {
+        Some(commands) => steps_of(alloc, commands),
+        None => None,
+    }
+}
+
+/// A recorder and the steps that it is to make: four scans, a trigger, two scans that fill the record, and a take.
+#[derive(Drop)]
+pub struct Start<A: Allocator> {
+    pub recorder: Recorder<A>,
+    pub steps: VecDeque<Step<A>, A>,
+}
+
+fn with_steps<A: Allocator>(
+    recorder: Recorder<A>,
+    steps: Option<VecDeque<Step<A>, A>>,
+) -> Option<Start<A>> {
+    match steps {
+        Some(steps) => Some(Start { recorder, steps }),
+        None => {
+            drop(recorder);
+            None
+        }
+    }
+}
+
+pub fn make_start<A: Allocator + Copy>(alloc: A) -> Option<Start<A>> {
+    match recorder(alloc) {
+        Some(recorder) => with_steps(recorder, steps(alloc)),
+        None => None,
+    }
+}
+
+/// What a run answered. The rest of it is let go.
+pub fn answers_of<A: Allocator>(ran: Ran<A>) -> Vec<Answer<A>, A> {
+    let Ran {
+        recorder,
+        answers,
+        stopped,
+        rest,
+    } = ran;
+    drop(recorder);
+    drop(stopped);
+    drop(rest);
+    answers
+}
+
+fn recorder_in<A: Allocator>(ran: Ran<A>) -> Recorder<A> {
+    let Ran {
+        recorder,
+        answers,
+        stopped,
+        rest,
+    } = ran;
+    drop(answers);
+    drop(stopped);
+    drop(rest);
+    recorder
+}
+
+pub fn ran<A: Allocator + Copy>(alloc: A) -> Option<Ran<A>>
+    ensures { IfSome result (λ ran. All (λ answer. IsOwnAnswer ran.recorder.layout (answer_of answer)) ran.answers.items) }
+{
+    match make_start(alloc) {
+        Some(start) => Some(run(alloc, start.recorder, start.steps)),
+        None => None,
+    }
+}
+
+fn without_last<A: Allocator>(steps: VecDeque<Step<A>, A>) -> VecDeque<Step<A>, A> {
+    let mut steps = steps;
+    let _ = steps.pop_back();
+    steps
+}
+
+fn before_last<A: Allocator + Copy>(alloc: A, start: Start<A>) -> Ran<A> {
+    run(alloc, start.recorder, without_last(start.steps))
+}
+
+/// The recorder before the take: a record waits.
+pub fn closed<A: Allocator + Copy>(alloc: A) -> Option<Recorder<A>> {
+    match make_start(alloc) {
+        Some(start) => Some(recorder_in(before_last(alloc, start))),
+        None => None,
+    }
+}
+
+fn is_last<A: Allocator>(answers: &[Answer<A>]) -> bool {
+    match answers.last() {
+        Some(Answer::Take(Some(record))) => is_the_record(record),
+        _ => false,
+    }
+}
+
+/// The run made the last of eight steps, of which others were made before.
+fn ends<A: Allocator>(ran: Ran<A>, before: usize) -> bool {
+    let right = ran.stopped.is_none()
+        && ran.answers.len().checked_add(before) == Some(8)
+        && is_last(&ran.answers);
+    drop(ran);
+    right
+}
+
+fn with_first<A: Allocator>(
+    step: Step<A>,
+    rest: VecDeque<Step<A>, A>,
+) -> Option<VecDeque<Step<A>, A>> {
+    let mut steps = rest;
+    if steps.push_front(step).is_ok() {
+        Some(steps)
+    } else {
+        None
+    }
+}
+
+fn is_ended<A: Allocator + Copy>(
+    alloc: A,
+    recorder: Recorder<A>,
+    steps: Option<VecDeque<Step<A>, A>>,
+    before: usize,
+) -> bool {
+    match steps {
+        Some(steps) => ends(run(alloc, recorder, steps), before),
+        None => {
+            drop(recorder);
+            false
+        }
+    }
+}
+
+/// The answers of all eight steps.
+fn are_all<A: Allocator>(answers: Vec<Answer<A>, A>) -> bool {
+    let all = answers.len() == 8 && is_last(&answers);
+    drop(answers);
+    all
+}
+
+/// A run. Where it is stopped it goes on from the step at which it was.
+pub fn goes_on<A: Allocator + Copy>(alloc: A, of: Start<A>) -> Outcome {
+    let Ran {
+        recorder,
+        answers,
+        stopped,
+        rest,
+    } = run(alloc, of.recorder, of.steps);
+    match stopped {
+        Some(step) => {
+            let before = answers.len();
+            drop(answers);
+            memory_if(is_ended(alloc, recorder, with_first(step, rest), before))
+        }
+        None => {
+            drop(recorder);
+            drop(rest);
+            right_if(are_all(answers))
+        }
+    }
+}
