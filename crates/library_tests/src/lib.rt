@@ -5,6 +5,8 @@
 #[cfg(test)]
 mod allocator_counts;
 #[cfg(test)]
+mod bay;
+#[cfg(test)]
 mod channels;
 #[cfg(test)]
 mod live;
@@ -16,5 +18,11 @@ mod reader;
 mod recorder;
 #[cfg(test)]
 mod refused;
+#[cfg(test)]
+mod samples;
+#[cfg(test)]
+mod steps;
+#[cfg(test)]
+mod streams;
 #[cfg(test)]
 mod writer;

@@ -1,8 +1,8 @@
 //! Tests of recorders that threads share: the calls of one thread, tokens that don't belong, runs in threads, and stations over a feed
 //! in memory.
 
-mod acts;
-mod ends;
+pub mod acts;
+pub mod ends;
 mod gate;
 mod handed;
 mod lent;
@@ -10,6 +10,7 @@ mod load;
 mod losses;
 mod one_thread;
 mod opening;
+pub mod parts;
 mod play;
 mod progress;
 mod runs;

@@ -2,7 +2,7 @@
 //! allocation made up for it or its input has a fault; and the same call with enough memory is answered as if nothing had been refused.
 
 mod channels;
-mod common;
+pub mod common;
 mod files;
 mod live_calls;
 mod live_ends;
@@ -19,7 +19,6 @@ mod records;
 mod refusing;
 mod runs;
 mod script;
-mod texts;
 mod token_calls;
 mod unshared;
 mod writers;

@@ -29,7 +29,7 @@ pub fn setup(alloc: Global, bits: usize) -> Option<Setup> {
     }
 }
 
-pub fn layout_in(setup: Option<Setup>) -> Option<Layout> {
+pub fn layout_in<A: Allocator>(setup: Option<Setup<A>>) -> Option<Layout<A>> {
     match setup {
         Some(setup) => Layout::new(setup).ok(),
         None => None,
@@ -191,7 +191,7 @@ fn refused_contacts(rt: HostRuntime) {
     assert!(rt; is_refused(bare(alloc, 0), SetupFault::Channels));
 }
 
-pub fn scan(alloc: Global, readings: &[Reading], bits: &[bool]) -> Option<Scan> {
+pub fn scan<A: Allocator + Copy>(alloc: A, readings: &[Reading], bits: &[bool]) -> Option<Scan<A>> {
     let readings = Vec::from_slice(alloc, readings).ok()?;
     match Vec::from_slice(alloc, bits) {
         Ok(bits) => Some(Scan::new(readings, bits)),

@@ -1,16 +1,22 @@
 //! Calls of one thread as a list, with what each is answered.
 
-use crate::live::station::{edge, is_in_order, is_value, level_over, scan, value};
+use crate::bay::OVER_100;
+use crate::channels::rules::{RISE, rules};
+use crate::channels::setups::scan;
+use crate::live::station::is_in_order;
+use crate::steps::{is_value, value};
 use dfr_channels::{Reading, Rules, Scan};
 use dfr_live::{
     Call, End, Entry, Full, Pumped, Reply, RulesRefusal, Session, Shared, Source, Token,
 };
 use dfr_recorder::{Extent, Hit, Record, TriggerFault};
-use std::alloc::Global;
+use std::alloc::{Allocator, Global};
 use std::sync::Wait;
 
 /// The value of the first scan that the lists offer; each further one is one more.
 const FIRST: u64 = 10;
+
+const TWO_READINGS: [Reading; 2] = [Reading::Value(1), Reading::Value(2)];
 
 /// A call and its answer.
 #[derive(Clone, Copy)]
@@ -37,33 +43,32 @@ pub enum Act {
     Edge,
 }
 
-/// It waits for nobody: it is given no runtime.
-fn offer<N: Session<Global>>(source: &mut Source<N>, scan: Option<Scan>) -> Result<(), Full> {
+/// Whether the lane takes the scan or, where it is full, hands one of this value back. It waits for nobody: it is given no runtime.
+pub fn offers<N: Session<A>, A: Allocator>(
+    source: &mut Source<N, A>,
+    scan: Option<Scan<A>>,
+    full: Option<i32>,
+) -> bool {
     match scan {
-        Some(scan) => source.offer(scan),
-        None => Ok(()),
+        Some(scan) => match source.offer(scan) {
+            Ok(()) => full.is_none(),
+            Err(Full(back)) => {
+                let is_back = matches!(full, Some(x) if is_value(&back, x));
+                drop(back);
+                is_back
+            }
+        },
+        None => false,
     }
-}
-
-fn offers<N: Session<Global>>(source: &mut Source<N>, scan: Option<Scan>) -> bool {
-    scan.is_some() && offer(source, scan).is_ok()
 }
 
 fn are_offered<N: Session<Global>>(alloc: Global, source: &mut Source<N>, values: &[i32]) -> bool {
     for x in values {
-        if !offers(source, value(alloc, *x)) {
+        if !offers(source, value(alloc, *x), None) {
             return false;
         }
     }
     true
-}
-
-/// Where the lane is full the scan comes back.
-fn is_full<N: Session<Global>>(source: &mut Source<N>, scan: Option<Scan>, x: i32) -> bool {
-    match offer(source, scan) {
-        Ok(()) => false,
-        Err(Full(back)) => is_value(&back, x),
-    }
 }
 
 fn is_taken(record: &Record, first: u64, last: u64) -> bool {
@@ -106,8 +111,8 @@ fn takes<N: Session<Global>>(
 fn is_offered<N: Session<Global>>(alloc: Global, source: &mut Source<N>, act: Act) -> bool {
     match act {
         Act::Offer(values) => are_offered(alloc, source, values),
-        Act::Full(x) => is_full(source, value(alloc, x), x),
-        Act::TwoReadings => offers(source, scan(alloc, &[Reading::Value(1), Reading::Value(2)])),
+        Act::Full(x) => offers(source, value(alloc, x), Some(x)),
+        Act::TwoReadings => offers(source, scan(alloc, &TWO_READINGS, &[]), None),
         Act::Lose(n) => source.lose() == Ok(n),
         Act::Lost(n) => source.lost() == n,
         _ => false,
@@ -127,8 +132,8 @@ fn is_called<N: Session<Global>>(
         Act::Trigger(wanted) => shared.trigger(rt, token) == wanted,
         Act::Take(first, last) => takes(rt, shared, token, Some((first, last))),
         Act::TakeNone => takes(rt, shared, token, None),
-        Act::Level => sets(rt, shared, token, level_over(alloc, 100), true),
-        Act::Edge => sets(rt, shared, token, edge(alloc), false),
+        Act::Level => sets(rt, shared, token, rules(alloc, &[OVER_100]), true),
+        Act::Edge => sets(rt, shared, token, rules(alloc, &[RISE]), false),
         _ => false,
     }
 }

@@ -1,14 +1,16 @@
 //! A run in which calls are held until another thread's call has been entered: no order of the calls but one fits, so the three
 //! works run side by side.
 
-use crate::live::station::{recorder, value};
+use crate::live::parts::fed;
+use crate::live::progress::passes;
+use crate::live::station::recorder;
 use comtrade_write::Kind;
 use dfr_live::{Fed, Feed, LiveFault, Order, Orders, Sink, run_live};
 use dfr_recorder::{Extent, Recorder};
 use std::alloc::Global;
 use std::sync::Wait;
 use std::sync::atomic::{AtomicBool, Ordering};
-use std::thread::{self, Threads};
+use std::thread::Threads;
 
 const LOOKS: u64 = 1_000_000_000;
 
@@ -34,17 +36,6 @@ fn enter(flag: &AtomicBool) {
     flag.store(true, Ordering::SeqCst);
 }
 
-/// Holds the caller until that call has been entered.
-fn passes(flag: &AtomicBool) -> bool {
-    for _ in 0..LOOKS {
-        if flag.load(Ordering::SeqCst) {
-            return true;
-        }
-        thread::yield_now();
-    }
-    false
-}
-
 #[derive(Drop)]
 struct GateFeed<'a> {
     alloc: Global,
@@ -58,21 +49,14 @@ fn is_let_in(gate: &Gate, k: u32) -> bool {
     match k {
         2 => {
             enter(&gate.scan_2);
-            passes(&gate.order)
+            passes(&gate.order, LOOKS)
         }
-        12 => passes(&gate.put),
+        12 => passes(&gate.put, LOOKS),
         29 => {
             enter(&gate.scan_29);
             true
         }
         _ => true,
-    }
-}
-
-fn fed(alloc: Global, k: u32) -> Result<Fed, u32> {
-    match value(alloc, (k % 100) as i32) {
-        Some(scan) => Ok(Fed::Scan(scan)),
-        None => Err(8),
     }
 }
 
@@ -90,7 +74,7 @@ impl Feed<Global> for GateFeed<'_> {
             return Err(5);
         }
         self.given = k.saturating_add(1);
-        fed(self.alloc, k)
+        fed(self.alloc, (k % 100) as i32)
     }
 }
 
@@ -107,7 +91,7 @@ impl Orders<Global> for GateOrders<'_> {
         }
         self.given = true;
         enter(&self.gate.order);
-        passes(&self.gate.scan_2).then_some((4, Order::Trigger))
+        passes(&self.gate.scan_2, LOOKS).then_some((4, Order::Trigger))
     }
 }
 
@@ -126,7 +110,7 @@ impl Sink for GateSink<'_> {
         if self.fails {
             return Err(9);
         }
-        if !passes(&self.gate.scan_29) {
+        if !passes(&self.gate.scan_29, LOOKS) {
             return Err(6);
         }
         self.put = self.put.saturating_add(1);

@@ -2,22 +2,18 @@
 
 ghost use Rattle.std.specs.Prelude.{◌≡◌};
 
-use crate::live::acts::{Act, are_entries};
+use crate::bay::{self, Bay};
+use crate::channels::rules::{RISE, rules};
+use crate::live::acts::{Act, are_entries, offers};
 use crate::live::ends::opened;
-use crate::live::station::{edge, recorder, recorder_at_the_end, value};
+use crate::live::station::{STATION, recorder};
+use crate::steps::value;
 use dfr_channels::Rules;
 use dfr_live::{EndFault, Inner, One, Opened, RulesRefusal, Session, Shared, Source, Token, end};
 use dfr_recorder::{Hit, ScanRefusal, Scanned};
 use std::alloc::Global;
 use std::marker::Brand;
 use std::sync::Wait;
-
-fn offers<N: Session<Global>>(alloc: Global, source: &mut Source<N>, x: i32) -> bool {
-    match value(alloc, x) {
-        Some(scan) => source.offer(scan).is_ok(),
-        None => false,
-    }
-}
 
 fn steps<N: Session<Global>>(inner: &mut Inner<N>, number: u64) -> bool {
     let scanned = Scanned {
@@ -53,7 +49,7 @@ fn are_lent<N: Session<Global>>(alloc: Global, inner: &mut Inner<N>, token: &mut
         && inner.pump_one() == One::Empty
         && inner.trigger_as(token) == Ok(Hit::Opened(1))
         && takes_none(inner, token)
-        && comes_back(inner, token, edge(alloc))
+        && comes_back(inner, token, rules(alloc, &[RISE]))
 }
 
 const ENTRIES: [(u64, Act); 3] = [
@@ -97,8 +93,8 @@ fn lends<N: Session<Global>, R: Wait>(rt: &R, alloc: Global, opened: Opened) -> 
 {
     let (shared, mut source, mut tokens) = opened.share::<N>();
     let begun = is_opened(rt, &shared)
-        && offers(alloc, &mut source, 10)
-        && offers(alloc, &mut source, 11);
+        && offers(&mut source, value(alloc, 10), None)
+        && offers(&mut source, value(alloc, 11), None);
     let mut inner = shared.unlock();
     let lent = begun && is_lent(alloc, &mut inner, &mut tokens);
     is_mismatch(alloc, inner, source, tokens) && lent
@@ -132,13 +128,21 @@ fn loses_at_the_end<N: Session<Global>>(alloc: Global, opened: Opened) -> bool
         × (opened.seats ≡ N.seats) }
 {
     let (shared, mut source, _) = opened.share::<N>();
-    let begun = source.lose() == Ok(1) && source.lose() == Ok(2) && offers(alloc, &mut source, 10);
+    let begun = source.lose() == Ok(1)
+        && source.lose() == Ok(2)
+        && offers(&mut source, value(alloc, 10), None);
     let mut inner = shared.unlock();
     begun && are_past(&mut inner)
 }
 
+/// From the last instant of the year 9999 on.
+const AT_THE_END: Bay = Bay {
+    start: 253_402_300_799_999_000,
+    ..STATION
+};
+
 fn is_refused(alloc: Global) -> bool {
-    match opened(alloc, recorder_at_the_end(alloc), 8, 1) {
+    match opened(alloc, bay::recorder(alloc, AT_THE_END), 8, 1) {
         Some(opened) => loses_at_the_end::<Brand>(alloc, opened),
         None => false,
     }

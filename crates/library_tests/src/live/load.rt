@@ -3,7 +3,8 @@
 ghost use Rattle.std.specs.Prelude.{◌≡◌};
 
 use crate::live::ends::{ended, opened};
-use crate::live::station::{is_in_order, recorder, value};
+use crate::live::station::{is_in_order, recorder};
+use crate::steps::value;
 use dfr_live::{Ended, Full, Opened, Session, Shared, Source, Token};
 use std::alloc::Global;
 use std::marker::Brand;

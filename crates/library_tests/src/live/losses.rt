@@ -1,9 +1,11 @@
 //! Runs in three threads whose feed loses scans.
 
-use crate::live::station::{recorder, value};
+use crate::live::parts::{OneTrigger, Texts, fed, is_report};
+use crate::live::station::recorder;
+use crate::samples::{FIRST_CFG, Pair};
 use comtrade_write::Kind;
-use dfr_live::{Fed, Feed, LiveFault, LiveReport, Order, Orders, Sink, run_live};
-use dfr_recorder::{Extent, Recorder};
+use dfr_live::{Fed, Feed, LiveFault, LiveReport, run_live};
+use dfr_recorder::Recorder;
 use std::alloc::Global;
 use std::sync::Wait;
 use std::thread::Threads;
@@ -22,7 +24,10 @@ const GIVEN: [Option<i32>; 9] = [
 ];
 
 /// The record of a trigger after four scan steps.
-const ROWS: &[u8] = b"1,0,11\r\n2,1000,99999\r\n3,2000,99999\r\n4,3000,14\r\n5,4000,15\r\n\x1a";
+const RECORD: Pair = Pair {
+    cfg: FIRST_CFG,
+    dat: b"1,0,11\r\n2,1000,99999\r\n3,2000,99999\r\n4,3000,14\r\n5,4000,15\r\n\x1A",
+};
 
 const MILLION: u32 = 1_000_000;
 
@@ -39,13 +44,6 @@ struct Losing {
     alloc: Global,
     giving: Giving,
     calls: u32,
-}
-
-fn fed(alloc: Global, x: i32) -> Result<Fed, u32> {
-    match value(alloc, x) {
-        Some(scan) => Ok(Fed::Scan(scan)),
-        None => Err(8),
-    }
 }
 
 /// What the nth call gives, from 0; None where no scan comes any more.
@@ -73,45 +71,6 @@ impl Feed<Global> for Losing {
     }
 }
 
-/// One trigger, after four scan steps, or none.
-#[derive(Drop)]
-struct OneTrigger {
-    left: bool,
-}
-
-impl Orders<Global> for OneTrigger {
-    fn next(&mut self) -> Option<(u64, Order)> {
-        if self.left {
-            self.left = false;
-            return Some((4, Order::Trigger));
-        }
-        None
-    }
-}
-
-/// How many records came, and whether the rows of each are these.
-#[derive(Drop)]
-struct Rows {
-    got: u64,
-    are_right: bool,
-}
-
-impl Sink for Rows {
-    fn put(&mut self, _extent: Extent, _cfg: &[u8], dat: &[u8]) -> Result<(), u32> {
-        self.got = self.got.saturating_add(1);
-        self.are_right = self.are_right && dat == ROWS;
-        Ok(())
-    }
-}
-
-fn is_report(report: &LiveReport, steps: u64, records: u64) -> bool {
-    report.stepped == steps
-        && report.refused == 0
-        && report.records == records
-        && report.ended.left.is_empty()
-        && report.ended.recorder.scans() == steps
-}
-
 fn is_done(report: &Result<LiveReport, LiveFault>, steps: u64, records: u64) -> bool {
     match report {
         Ok(report) => is_report(report, steps, records),
@@ -132,8 +91,11 @@ fn runs<R: Threads + Wait + Sync>(
         giving,
         calls: 0,
     };
-    let mut orders = OneTrigger { left: records > 0 };
-    let mut sink = Rows {
+    let mut orders = OneTrigger {
+        is_given: records == 0,
+    };
+    let mut sink = Texts {
+        texts: RECORD,
         got: 0,
         are_right: true,
     };

@@ -1,23 +1,11 @@
 //! Openings that are refused.
 
-use crate::live::ends::opened;
-use crate::live::station::{recorder, value};
-use dfr_live::{OpenFault, open};
+use crate::live::ends::{given_back, opened};
+use crate::live::station::recorder;
+use crate::steps::{is_scanned, value};
+use dfr_live::OpenFault;
 use dfr_recorder::Recorder;
 use std::alloc::Global;
-
-/// The fault and the recorder that come back.
-fn given_back(
-    alloc: Global,
-    recorder: Option<Recorder>,
-    lane: usize,
-    seats: u32,
-) -> Option<(OpenFault, Recorder)> {
-    match recorder {
-        Some(recorder) => open(alloc, recorder, lane, seats).err(),
-        None => None,
-    }
-}
 
 /// Why the recorder isn't opened so, and how many scans the recorder has that comes back.
 fn refused(
@@ -32,17 +20,10 @@ fn refused(
     }
 }
 
-fn is_scanned(alloc: Global, recorder: &mut Recorder) -> bool {
-    match value(alloc, 10) {
-        Some(scan) => recorder.scan(scan).is_ok(),
-        None => false,
-    }
-}
-
 /// A recorder that has accepted a scan.
 fn used(alloc: Global) -> Option<Recorder> {
     let mut recorder = recorder(alloc, 1)?;
-    if is_scanned(alloc, &mut recorder) {
+    if is_scanned(&mut recorder, value(alloc, 10)) {
         return Some(recorder);
     }
     None

@@ -2,11 +2,12 @@
 
 ghost use Rattle.std.specs.Prelude.{◌≡◌};
 
+use crate::bay::{self, Bay};
 use crate::live::acts::{Act, are_entries, are_made};
 use crate::live::ends::{ended, opened};
-use crate::live::station::{is_value, recorder, unshared_recorder};
+use crate::live::station::STATION;
+use crate::steps::is_value;
 use dfr_live::{Ended, Left, Opened, Session, Shared, Source, Token};
-use dfr_recorder::Recorder;
 use std::alloc::Global;
 use std::marker::Brand;
 use std::sync::Wait;
@@ -77,15 +78,13 @@ fn plays<N: Session<Global>, R: Wait>(rt: &R, alloc: Global, opened: Opened, pla
     ends(alloc, shared, source, tokens, play) && called
 }
 
-fn recorder_of(alloc: Global, play: Play) -> Option<Recorder> {
-    if play.is_shared {
-        return recorder(alloc, play.shelf);
-    }
-    unshared_recorder(alloc, play.shelf)
-}
-
 pub fn is_played<R: Wait>(rt: &R, alloc: Global, play: Play) -> bool {
-    match opened(alloc, recorder_of(alloc, play), play.lane, 1) {
+    let bay = Bay {
+        limits: (2, 2, 6, play.shelf),
+        is_shared: play.is_shared,
+        ..STATION
+    };
+    match opened(alloc, bay::recorder(alloc, bay), play.lane, 1) {
         Some(opened) => plays::<Brand, R>(rt, alloc, opened, play),
         None => false,
     }

@@ -29,6 +29,17 @@ pub fn tell_ordered(progress: &Progress) {
     progress.is_ordered.store(true, Ordering::SeqCst);
 }
 
+/// Holds the caller until the flag is set. False after so many looks.
+pub fn passes(flag: &AtomicBool, looks: u64) -> bool {
+    for _ in 0..looks {
+        if flag.load(Ordering::SeqCst) {
+            return true;
+        }
+        thread::yield_now();
+    }
+    false
+}
+
 /// Holds the caller until there is room for one more record than were ordered so far.
 pub fn finds_room(progress: &Progress, ordered: u64, room: u64) -> bool {
     for _ in 0..LOOKS {
@@ -42,12 +53,7 @@ pub fn finds_room(progress: &Progress, ordered: u64, room: u64) -> bool {
 
 /// Holds the caller until the last order was made, and then long enough for the trigger thread to end.
 pub fn wait_for_orders(progress: &Progress) {
-    for _ in 0..LOOKS {
-        if progress.is_ordered.load(Ordering::SeqCst) {
-            break;
-        }
-        thread::yield_now();
-    }
+    let _is_ordered = passes(&progress.is_ordered, LOOKS);
     for _ in 0..10_000 {
         thread::yield_now();
     }

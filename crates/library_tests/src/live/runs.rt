@@ -1,9 +1,10 @@
 //! A run in three threads over a feed, orders and a sink that do as they are told, and fail where they are told to.
 
+use crate::live::parts::fed;
 use crate::live::progress::{
     Progress, begun, count_handed, finds_room, tell_ordered, wait_for_orders,
 };
-use crate::live::station::{recorder, value};
+use crate::live::station::recorder;
 use comtrade_read::read;
 use comtrade_write::{File, Kind, Row};
 use dfr_channels::Reading;
@@ -69,27 +70,21 @@ struct ToldFeed {
     given: u32,
 }
 
-/// The scan of place k has the value k mod 100.
-fn fed(alloc: Global, k: u32) -> Result<Fed, u32> {
-    match value(alloc, (k % 100) as i32) {
-        Some(scan) => Ok(Fed::Scan(scan)),
-        None => Err(8),
-    }
-}
-
 impl Feed<Global> for ToldFeed {
     fn next(&mut self) -> Result<Fed, u32> {
         let k = self.given;
         self.given = k.saturating_add(1);
+        // The scan of place k has the value k mod 100.
+        let x = (k % 100) as i32;
         match self.giving {
             Giving::Scans(n) => {
                 if k < n {
-                    fed(self.alloc, k)
+                    fed(self.alloc, x)
                 } else {
                     Ok(Fed::Done)
                 }
             }
-            Giving::FailsAt(n) => { if k < n { fed(self.alloc, k) } else { Err(7) } }
+            Giving::FailsAt(n) => { if k < n { fed(self.alloc, x) } else { Err(7) } }
             Giving::Never => Ok(Fed::NotYet),
         }
     }

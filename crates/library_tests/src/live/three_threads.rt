@@ -1,8 +1,9 @@
 //! Runs in three threads: faults, places of orders, and load.
 
+use crate::live::parts::is_report;
 use crate::live::runs::{Came, Giving, Placing, RUN, Run, fault, outcome};
 use comtrade_write::Kind;
-use dfr_live::{Entry, LiveFault, LiveReport, OpenFault, Reply};
+use dfr_live::{Entry, LiveFault, OpenFault, Reply};
 use dfr_recorder::{Hit, TriggerFault};
 use std::alloc::Global;
 use std::sync::Wait;
@@ -99,15 +100,6 @@ fn has_triggers(log: &[Entry], wanted: Told) -> bool {
             .zip(wanted)
             .all(|(entry, (at, answer))| is_trigger(entry, *at, *answer))
         && log.iter().all(|entry| entry.caller < 2)
-}
-
-fn is_report(report: &LiveReport, scans: u64, records: u64) -> bool {
-    report.stepped == scans
-        && report.refused == 0
-        && report.records == records
-        && report.ended.left.is_empty()
-        && report.ended.recorder.waiting() == 0
-        && report.ended.recorder.scans() == scans
 }
 
 /// The run made so many scan steps and gave the sink so many whole records.

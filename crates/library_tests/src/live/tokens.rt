@@ -2,9 +2,11 @@
 
 ghost use Rattle.std.specs.Prelude.{◌≡◌};
 
+use crate::live::acts::offers;
 use crate::live::ends;
 use crate::live::handed::{Handed, and, backwards, idle, mended, missing, right, twice};
-use crate::live::station::{recorder, value};
+use crate::live::station::recorder;
+use crate::steps::value;
 use dfr_live::{EndFault, Inner, Opened, Session, Shared, Source, Token, end};
 use dfr_recorder::TriggerFault;
 use std::alloc::Global;
@@ -94,13 +96,6 @@ fn ends_as<N: Session<Global>>(
     }
 }
 
-fn offers<N: Session<Global>>(alloc: Global, source: &mut Source<N>) -> bool {
-    match value(alloc, 10) {
-        Some(scan) => source.offer(scan).is_ok(),
-        None => false,
-    }
-}
-
 /// A stranger's pump of one scan, or its trigger before any.
 fn is_called<N: Session<Global>>(
     rt: &impl Wait,
@@ -153,7 +148,8 @@ fn are_called<N: Session<Global>>(
         Case::Many(_) => all_take(rt, shared, tokens),
         Case::Missing | Case::Twice | Case::Exchanged => true,
         Case::Trigger => is_called(rt, shared, stranger, false),
-        Case::Pump => offers(alloc, source) && is_called(rt, shared, stranger, true),
+        Case::Pump => offers(source, value(alloc, 10), None)
+            && is_called(rt, shared, stranger, true),
     }
 }
 

@@ -1,8 +1,9 @@
 //! Records that a recorder took, read back from their own texts.
 
-use super::bay::{BAY, Bay, CONTACTS, FAST, SHORT, SIX, TWO, recorder, steps};
 use super::same::is_same;
-use super::{CFG, DAT};
+use crate::bay::{BAY, Bay, CONTACTS, FAST, OVER_100, SHORT, SIX, TWO, recorder};
+use crate::samples::{FIRST_CFG, FIRST_DAT};
+use crate::steps::{ran, steps};
 use crate::writer::fixture::give_text;
 use comtrade_read::{read, read_of_file};
 use comtrade_write::{File, Kind, WriteFault, cfg_bytes, dat_bytes, file_of};
@@ -70,18 +71,6 @@ fn has_records(alloc: Global, ran: &Ran, records: usize) -> bool {
         && records_of(alloc, ran, Kind::Binary) == Some(records)
 }
 
-/// What a run of the script's steps left.
-fn ran(alloc: Global, bay: Bay, script: &[u8]) -> Option<Ran> {
-    let recorder = recorder(alloc, bay)?;
-    match steps(alloc, script) {
-        Some(steps) => Some(run(alloc, recorder, steps)),
-        None => {
-            drop(recorder);
-            None
-        }
-    }
-}
-
 fn are_read_back(alloc: Global, bay: Bay, script: &[u8], records: usize) -> bool {
     match ran(alloc, bay, script) {
         Some(ran) => {
@@ -94,12 +83,12 @@ fn are_read_back(alloc: Global, bay: Bay, script: &[u8], records: usize) -> bool
 }
 
 const TWO_AT_100: Bay = Bay {
-    at_100: true,
+    rules: &[OVER_100],
     ..TWO
 };
 
 const EIGHT_AT_100: Bay = Bay {
-    at_100: true,
+    rules: &[OVER_100],
     limits: (2, 2, 8, 1),
     ..BAY
 };
@@ -262,7 +251,7 @@ fn fault_with(alloc: Global, file: &mut File, station: &[u8]) -> Option<WriteFau
 }
 
 fn fault_at(alloc: Global, station: &[u8]) -> Option<WriteFault> {
-    match read(alloc, CFG, DAT) {
+    match read(alloc, FIRST_CFG, FIRST_DAT) {
         Ok(mut file) => {
             let fault = fault_with(alloc, &mut file, station);
             drop(file);

@@ -1,12 +1,12 @@
 //! Copies of set-ups, channels, scans, rules and lists, and texts that are cut.
 
-use crate::refused::common::{
-    Heap, are_the_rules, is_the_layout, lawful, layout, rules, scan, setup,
-};
+use crate::bay::{layout, setup};
+use crate::channels::rules::rules_in;
+use crate::refused::common::{Heap, RULES, SCRIPTED, are_the_rules, is_the_layout, lawful, scan};
 use crate::refused::refusing::{Must, Outcome, Trial, memory_if, refuses, right_if};
 use dfr_channels::{
-    AnalogChannel, Items, Layout, Memory, Reading, Rule, Rules, Scan, Setup, StatusChannel,
-    copies_of, fields_of, lines_of,
+    AnalogChannel, Items, Layout, Memory, Reading, Rules, Scan, Setup, StatusChannel, copies_of,
+    fields_of, lines_of,
 };
 use failing_allocator::Refusing;
 use std::alloc::Allocator;
@@ -149,10 +149,10 @@ impl<A: Allocator + Copy> Trial for Copied<A> {
 
 fn copy_of<A: Allocator + Copy>(alloc: A, part: Part) -> Option<Copied<A>> {
     Some(match part {
-        Part::Layout => Copied::Layout(layout(alloc)?),
+        Part::Layout => Copied::Layout(layout(alloc, SCRIPTED)?),
         Part::Scan => Copied::Scan(scan(alloc, 7, true)?),
         Part::Rules => Copied::Rules(lawful(alloc)?),
-        part => Copied::Setup(setup(alloc)?, part),
+        part => Copied::Setup(setup(alloc, SCRIPTED)?, part),
     })
 }
 
@@ -205,8 +205,8 @@ fn takes_none<'a>(
 }
 
 fn layout_takes_none(heap: Heap) -> bool {
-    match layout(heap) {
-        Some(layout) => takes_none(heap, &layout, rules(heap, &layout)),
+    match layout(heap, SCRIPTED) {
+        Some(layout) => takes_none(heap, &layout, rules_in(&layout, RULES, heap)),
         None => false,
     }
 }

@@ -1,9 +1,11 @@
 //! The File of a record, what files write, and files that are read again.
 
-use crate::refused::common::{Heap, layout, setup};
+use crate::bay::{layout, setup};
+use crate::refused::common::{Heap, SCRIPTED};
 use crate::refused::refusing::{Must, Outcome, Trial, memory_if, refuses, right_if};
 use crate::refused::runs::{answers_of, ran};
-use crate::refused::texts::{Pair as Texts, pair_in};
+use crate::samples::{Pair as Texts, pair_in};
+use crate::writer::bytes::is_text;
 use comtrade_read::{read, read_of_file};
 use comtrade_write::{File, FileFault, Kind, WriteFault, cfg_bytes, dat_bytes, file_of};
 use dfr_channels::{Items, Layout, Setup};
@@ -36,13 +38,6 @@ fn record<A: Allocator + Copy>(alloc: A) -> Option<Record<A>> {
 pub fn file<A: Allocator + Copy>(alloc: A, kind: Kind) -> Option<File<A>> {
     let texts = pair_in(kind);
     read(alloc, texts.cfg, texts.dat).ok()
-}
-
-fn is_text<A: Allocator>(written: Result<Vec<u8, A>, WriteFault>, wanted: &[u8]) -> bool {
-    match written {
-        Ok(bytes) => bytes.as_slice() == wanted,
-        Err(_) => false,
-    }
 }
 
 /// The file writes this configuration file.
@@ -102,7 +97,7 @@ fn without_status<A: Allocator + Copy>(alloc: A, setup: Setup<A>) -> Setup<A> {
 }
 
 fn other_layout<A: Allocator + Copy>(alloc: A) -> Option<Layout<A>> {
-    match setup(alloc) {
+    match setup(alloc, SCRIPTED) {
         Some(setup) => Layout::new(without_status(alloc, setup)).ok(),
         None => None,
     }
@@ -168,7 +163,7 @@ fn own_text(heap: Heap, kind: Kind) -> Option<Own> {
 }
 
 fn own_record(heap: Heap, kind: Kind) -> Option<Own> {
-    let origin = Origin::Record(with_record(heap, layout(heap))?);
+    let origin = Origin::Record(with_record(heap, layout(heap, SCRIPTED))?);
     Some(Own { origin, kind })
 }
 

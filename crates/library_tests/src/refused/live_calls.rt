@@ -1,23 +1,20 @@
 //! Calls of a recorder that threads share: what a refusal leaves, and that the call made again goes on as if nothing had happened.
 
+use crate::live::ends::given_back;
 use crate::refused::common::{Heap, are_the_rules, is_the_layout};
 use crate::refused::live_ends::Leaving;
 use crate::refused::live_play::{Act, Play, is_played};
 use crate::refused::recorder::recorder;
 use crate::refused::refusing::{Consuming, Must, Outcome, memory_if, refuses_anew};
 use crate::refused::token_calls::Call;
-use dfr_live::{OpenFault, open};
+use dfr_live::OpenFault;
 use dfr_recorder::{Hit, Recorder, TriggerFault};
 use failing_allocator::Refusing;
 use std::alloc::Allocator;
 
 type Refusal<A> = (OpenFault, Recorder<A>);
 
-/// None where it is opened, and then let go.
-fn refusal_of<A: Allocator + Copy>(alloc: A, recorder: Recorder<A>) -> Option<Refusal<A>> {
-    open(alloc, recorder, 8, 2).err()
-}
-
+/// Whether it is opened, and then let go.
 fn is_none<A: Allocator>(refusal: Option<Refusal<A>>) -> bool {
     let none = refusal.is_none();
     drop(refusal);
@@ -30,7 +27,7 @@ fn is_as_before<A: Allocator>(back: &Recorder<A>) -> bool {
 
 fn is_opened_then<'a>(heap: Heap<'a>, back: Recorder<Heap<'a>>) -> bool {
     let before = is_as_before(&back);
-    is_none(refusal_of(heap, back)) && before
+    is_none(given_back(heap, Some(back), 8, 2)) && before
 }
 
 /// A recorder that is opened. Where there is no memory for it, it comes back and is opened then.
@@ -47,7 +44,7 @@ impl<'a> Consuming for Opening<'a> {
     }
 
     fn call(&self, recorder: Recorder<Heap<'a>>) -> Outcome {
-        let refusal = refusal_of(self.heap, recorder);
+        let refusal = given_back(self.heap, Some(recorder), 8, 2);
         self.heap.refuse_no_more();
         match refusal {
             None => Outcome::Right,

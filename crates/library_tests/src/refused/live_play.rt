@@ -2,13 +2,14 @@
 
 ghost use Rattle.std.specs.Prelude.{◌≡◌};
 
+use crate::live::acts::offers;
+use crate::live::ends::opened;
 use crate::refused::common::{Heap, scan};
 use crate::refused::live_ends::{Leaving, ends, sets_rules};
 use crate::refused::recorder::recorder_of;
 use crate::refused::token_calls::{Call, is_called};
 use dfr_channels::Scan;
-use dfr_live::{End, Full, Opened, Session, Shared, Source, Token, open};
-use dfr_recorder::Recorder;
+use dfr_live::{End, Opened, Session, Shared, Source, Token};
 use std::alloc::Allocator;
 use std::marker::Brand;
 use std::sync::Wait;
@@ -39,32 +40,14 @@ pub struct Play<'p> {
     pub leaving: Leaving,
 }
 
-/// Whether the lane takes the scan; where it is full the scan comes back.
-fn is_offered<N: Session<A>, A: Allocator>(
-    source: &mut Source<N, A>,
-    scan: Option<Scan<A>>,
-    is_taken: bool,
-) -> bool {
-    match scan {
-        Some(scan) => match source.offer(scan) {
-            Ok(()) => is_taken,
-            Err(Full(back)) => {
-                drop(back);
-                !is_taken
-            }
-        },
-        None => false,
-    }
-}
-
-fn offers<N: Session<A>, A: Allocator + Copy>(
+fn is_offered<N: Session<A>, A: Allocator + Copy>(
     heap: Heap,
     source: &mut Source<N, A>,
     scan: Option<Scan<A>>,
-    is_taken: bool,
+    full: Option<i32>,
 ) -> bool {
     heap.refuse_all();
-    let offered = is_offered(source, scan, is_taken);
+    let offered = offers(source, scan, full);
     heap.refuse_none();
     offered
 }
@@ -76,7 +59,7 @@ fn are_offered<N: Session<A>, A: Allocator + Copy>(
     values: &[i32],
 ) -> bool {
     for x in values {
-        if !offers(heap, source, scan(alloc, *x, false), true) {
+        if !is_offered(heap, source, scan(alloc, *x, false), None) {
             return false;
         }
     }
@@ -121,7 +104,7 @@ fn is_made<N: Session<A>, R: Wait, A: Allocator + Copy>(
     let (rt, heap, alloc, shared) = (desk.rt, desk.heap, desk.alloc, desk.shared);
     match act {
         Act::Offer(values) => are_offered(heap, alloc, desk.source, values),
-        Act::Full(x) => offers(heap, desk.source, scan(alloc, x, false), false),
+        Act::Full(x) => is_offered(heap, desk.source, scan(alloc, x, false), Some(x)),
         Act::Lose(n) => loses(heap, desk.source, n),
         Act::Idle(scans) => idles(rt, heap, shared, desk.token, scans),
         Act::Rules => sets_rules(rt, heap, alloc, shared, desk.token),
@@ -181,17 +164,6 @@ fn plays<'x, N: Session<A>, R: Wait, A: Allocator + Copy>(
     ends(heap, alloc, (shared.unlock(), source, tokens), play.leaving) && called
 }
 
-fn opened<A: Allocator + Copy>(
-    alloc: A,
-    recorder: Option<Recorder<A>>,
-    lane: usize,
-) -> Option<Opened<A>> {
-    match recorder {
-        Some(recorder) => open(alloc, recorder, lane, 1).ok(),
-        None => None,
-    }
-}
-
 /// The allocator is the heap.
 pub fn is_played<'x, R: Wait, A: Allocator + Copy>(
     rt: &'x R,
@@ -199,7 +171,7 @@ pub fn is_played<'x, R: Wait, A: Allocator + Copy>(
     alloc: A,
     play: Play,
 ) -> bool {
-    match opened(alloc, recorder_of(alloc, play.is_shared), play.lane) {
+    match opened(alloc, recorder_of(alloc, play.is_shared), play.lane, 1) {
         Some(opened) => plays::<Brand, R, A>(rt, heap, alloc, opened, play),
         None => false,
     }

@@ -1,23 +1,21 @@
 //! Runs in three threads. Which call meets a refused allocation depends on the schedule; whichever it is, the run answers `Memory`,
 //! and the sink got nothing or the whole record. And a script's run whose writer fails at each call in turn.
 
+use crate::live::parts::{OneTrigger, Texts, is_report};
 use crate::refused::common::{Heap, scan};
-use crate::refused::program::MANUAL;
 use crate::refused::recorder::recorder;
 use crate::refused::refusing::{NOTHING, Outcome, memory_if, noted, right_if};
-use crate::refused::texts::{FIRST, Pair, pair_in};
+use crate::samples::{FIRST, MANUAL, pair_in};
+use crate::streams::taking;
 use comtrade_write::Kind;
 use dfr_channels::Scan;
-use dfr_live::{
-    EndFault, Fed, Feed, LiveFault, LiveReport, OpenFault, Order, Orders, Sink, run_live,
-};
+use dfr_live::{EndFault, Fed, Feed, LiveFault, LiveReport, OpenFault, run_live};
 use dfr_program::{RunFault, live_of};
-use dfr_recorder::{Extent, Recorder};
+use dfr_recorder::Recorder;
 use failing_allocator::Refusing;
 use std::alloc::{Allocator, Global};
 use std::collections::VecDeque;
-use std::io;
-use std::io::{Error, ErrorKind, Write};
+use std::io::ErrorKind;
 use std::sync::Wait;
 use std::thread::Threads;
 
@@ -33,38 +31,6 @@ impl<A: Allocator> Feed<A> for Given<A> {
             Some(scan) => Ok(Fed::Scan(scan)),
             None => Ok(Fed::Done),
         }
-    }
-}
-
-/// A trigger after four scans.
-#[derive(Drop)]
-struct OneOrder {
-    is_given: bool,
-}
-
-impl<A: Allocator> Orders<A> for OneOrder {
-    fn next(&mut self) -> Option<(u64, Order<A>)> {
-        if self.is_given {
-            return None;
-        }
-        self.is_given = true;
-        Some((4, Order::Trigger))
-    }
-}
-
-/// How many records came, and whether each had these texts.
-#[derive(Drop)]
-struct Texts {
-    texts: Pair,
-    got: u64,
-    are_right: bool,
-}
-
-impl Sink for Texts {
-    fn put(&mut self, _extent: Extent, cfg: &[u8], dat: &[u8]) -> Result<(), u32> {
-        self.got = self.got.saturating_add(1);
-        self.are_right = self.are_right && cfg == self.texts.cfg && dat == self.texts.dat;
-        Ok(())
     }
 }
 
@@ -117,11 +83,7 @@ fn begin<A: Allocator + Copy>(alloc: A) -> Option<Start<A>> {
 
 /// The report is let go.
 fn is_whole<A: Allocator>(report: LiveReport<A>, got: u64) -> bool {
-    let whole = report.stepped == 6
-        && report.refused == 0
-        && report.records == 1
-        && got == 1
-        && report.ended.left.is_empty();
+    let whole = is_report(&report, 6, 1) && got == 1;
     drop(report);
     whole
 }
@@ -146,7 +108,7 @@ fn run<R: Threads + Wait + Sync>(rt: &R, heap: Heap, kind: Kind, n: u64) -> Outc
     let Some(Start { recorder, mut feed }) = begin(heap) else {
         return Outcome::Wrong;
     };
-    let mut orders = OneOrder { is_given: false };
+    let mut orders = OneTrigger { is_given: false };
     let mut sink = Texts {
         texts: pair_in(kind),
         got: 0,
@@ -242,40 +204,9 @@ fn live_scripts_refused(rt: HostRuntime) {
     assert!(rt; is_answered(&rt, &heap, rt.alloc(), Live::Script));
 }
 
-/// A writer that takes a byte a call, and fails at its call of this number, from 1.
-#[derive(Drop)]
-struct Narrow {
-    bytes: Vec<u8>,
-    calls: usize,
-    fails_at: usize,
-}
-
-impl Write for Narrow {
-    fn write(&mut self, buf: &[u8]) -> io::Result<usize> {
-        self.calls = self.calls.saturating_add(1);
-        match buf.first() {
-            Some(byte) => {
-                if self.calls == self.fails_at || self.bytes.push(*byte).is_err() {
-                    return Err(Error::from(ErrorKind::Other));
-                }
-                Ok(1)
-            }
-            None => Ok(0),
-        }
-    }
-
-    fn flush(&mut self) -> io::Result<()> {
-        Ok(())
-    }
-}
-
-/// The writer has what it took before that call, and the sink its record all the same.
-fn is_cut_at<R: Threads + Wait + Sync>(rt: &R, alloc: Global, fails_at: usize) -> bool {
-    let mut out = Narrow {
-        bytes: Vec::new(alloc),
-        calls: 0,
-        fails_at,
-    };
+/// A writer that fails after so many bytes, one a call, has just those, and the sink its record all the same.
+fn is_cut_after<R: Threads + Wait + Sync>(rt: &R, alloc: Global, limit: usize) -> bool {
+    let mut out = taking(alloc, limit, 1, Some(ErrorKind::Other));
     let mut sink = Texts {
         texts: FIRST,
         got: 0,
@@ -283,14 +214,14 @@ fn is_cut_at<R: Threads + Wait + Sync>(rt: &R, alloc: Global, fails_at: usize) -
     };
     let answer = live_of(rt, alloc, MANUAL, Kind::Ascii, &mut sink, &mut out);
     answer == Err(RunFault::Output)
-        && PRINTED.get(..fails_at.saturating_sub(1)) == Some(out.bytes.as_slice())
+        && PRINTED.get(..limit) == Some(out.taken.as_slice())
         && sink.got == 1
         && sink.are_right
 }
 
 #[test]
 fn live_scripts_with_a_failing_writer(rt: HostRuntime) {
-    for fails_at in 1..=PRINTED.len() {
-        assert!(rt; is_cut_at(&rt, rt.alloc(), fails_at), "call {fails_at}");
+    for limit in 0..PRINTED.len() {
+        assert!(rt; is_cut_after(&rt, rt.alloc(), limit), "after {limit} bytes");
     }
 }

@@ -1,8 +1,8 @@
 //! Lost scans of a recorder.
 
 use crate::refused::common::{Heap, scan};
-use crate::refused::recorder::is_scanned;
 use crate::refused::refusing::{Outcome, Trial, goes_on, memory_if, right_if};
+use crate::steps::is_scanned;
 use dfr_channels::{Reading, Scan};
 use dfr_recorder::{LostRefusal, Record, Recorder};
 use std::alloc::Allocator;

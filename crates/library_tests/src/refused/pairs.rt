@@ -2,7 +2,7 @@
 
 use crate::refused::common::Heap;
 use crate::refused::refusing::{Must, Outcome, Trial, memory_if, refuses, right_if};
-use crate::refused::texts::{FIRST_COUNTS, FIRST_DAT, Pair, pair_in};
+use crate::samples::{FIRST_COUNTS, FIRST_DAT, Pair, pair_in};
 use comtrade_read::{ConvertFault, Fault, Part, ReadFault, converted, verdict_of};
 use comtrade_write::Kind;
 use dfr_channels::Memory;

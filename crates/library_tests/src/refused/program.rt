@@ -2,15 +2,11 @@
 
 use crate::refused::common::Heap;
 use crate::refused::refusing::{Must, Outcome, Trial, memory_if, refuses, refuses_lent, right_if};
-use crate::refused::texts::{CFG, FIRST_CFG, FIRST_COUNTS, FIRST_DAT};
+use crate::samples::{CFG, FIRST_CFG, FIRST_COUNTS, FIRST_DAT, MANUAL};
 use comtrade_write::Kind;
 use dfr_program::{InputFault, RunFault, read_all, read_over, replay_over};
 use failing_allocator::Refusing;
 use std::alloc::{Allocator, Global};
-
-/// One record of one channel, by a trigger after four scans.
-pub const MANUAL: &[u8] =
-    b"station Bay 1\ndevice DFR\nanalog IA,A,,A,1,0,0,-32767,32767,1,1,P\nfreq 50\nrate 1000\nstart 0\nlimits 2,2,6,1\ngo\nscan 10/\nscan 11/\nscan 12/\nscan 13/\ntrigger\nscan 14/\nscan 15/\ntake\n";
 
 /// A record that grows to its greatest length, and one more that opens beside it.
 const LEVEL: &[u8] =

@@ -5,7 +5,7 @@ use crate::refused::files::{has_cfg, is_right_file};
 use crate::refused::refusing::{
     Consuming, Must, Outcome, Trial, memory_if, refuses, refuses_anew, right_if,
 };
-use crate::refused::texts::{CFG, FIRST_CFG, FIRST_DAT, Pair, pair_in};
+use crate::samples::{CFG, FIRST_BINARY, FIRST_CFG, FIRST_DAT, Pair, pair_in};
 use comtrade_read::{Part, ReadFault, read, read_cfg, read_dat};
 use comtrade_write::{File, Head, Kind};
 use failing_allocator::Refusing;
@@ -153,16 +153,13 @@ const PLAIN: Pair = Pair {
 /// The same of five rows in BINARY form, which has one spelling.
 const LENIENT_BINARY: Pair = Pair {
     cfg: b" Bay 1 , DFR,1999\n1,1a,0d\n1, IA ,A,,A,1.5E-3,+0,,-32767,32767,001,1,p\n\n1\n1000,5\n1/1/1970,0:0:0.001\n01/01/1970,00:00:00.003000\nbinary\n1",
-    dat: BINARY_DAT,
+    dat: FIRST_BINARY,
 };
 
 const PLAIN_BINARY: Pair = Pair {
     cfg: b"Bay 1,DFR,1999\r\n1,1A,0D\r\n1,IA,A,,A,0.0015,0,0,-32767,32767,1,1,P\r\n0\r\n1\r\n1000,5\r\n01/01/1970,00:00:00.001000\r\n01/01/1970,00:00:00.003000\r\nBINARY\r\n1\r\n",
-    dat: BINARY_DAT,
+    dat: FIRST_BINARY,
 };
-
-const BINARY_DAT: &[u8] =
-    b"\x01\0\0\0\0\0\0\0\x0B\0\x02\0\0\0\xE8\x03\0\0\x0C\0\x03\0\0\0\xD0\x07\0\0\x0D\0\x04\0\0\0\xB8\x0B\0\0\x0E\0\x05\0\0\0\xA0\x0F\0\0\x0F\0";
 
 #[test]
 fn lenient_pairs_refused(rt: HostRuntime) {

@@ -1,78 +1,23 @@
 //! The recorder that the tests work on, and how it is made.
 
-use crate::refused::common::{Heap, are_the_rules, is_the_layout, layout, rules, scan};
+use crate::bay::{self, Bay, Made, layout, limits, made};
+use crate::channels::rules::rules_in;
+use crate::refused::common::{Heap, RULES, SCRIPTED, are_the_rules, is_the_layout, scan};
 use crate::refused::refusing::{
     Consuming, Must, Outcome, Trial, goes_on, memory_if, refuses_anew, right_if,
 };
-use dfr_channels::{Layout, Memory, Rules, Scan};
+use crate::steps::is_scanned;
+use dfr_channels::{Layout, Memory, Rules};
 use dfr_recorder::{Hit, Limits, Record, Recorder, TriggerFault};
 use failing_allocator::Refusing;
 use std::alloc::Allocator;
 
-/// What a recorder is made of.
-#[derive(Drop)]
-struct Parts<A: Allocator> {
-    layout: Layout<A>,
-    rules: Rules<A>,
-}
-
-fn parts_of<A: Allocator + Copy>(alloc: A, layout: Layout<A>) -> Option<Parts<A>> {
-    match rules(alloc, &layout) {
-        Some(rules) => Some(Parts { layout, rules }),
-        None => {
-            drop(layout);
-            None
-        }
-    }
-}
-
-fn make_parts<A: Allocator + Copy>(alloc: A) -> Option<Parts<A>> {
-    match layout(alloc) {
-        Some(layout) => parts_of(alloc, layout),
-        None => None,
-    }
-}
-
-/// Two scans before and two after a trigger, six at most, one record on the shelf; whether records share scans.
-fn limits<A: Allocator>(layout: &Layout<A>, is_shared: bool) -> Option<Limits> {
-    match Limits::new(layout, 2, 2, 6, 1) {
-        Ok(limits) => Some(if is_shared { limits } else { limits.unshared() }),
-        Err(_) => None,
-    }
-}
-
-type Made<A> = Result<Recorder<A>, (Memory, Layout<A>, Rules<A>)>;
-
-fn made<A: Allocator + Copy>(
-    alloc: A,
-    layout: Layout<A>,
-    rules: Rules<A>,
-    is_shared: bool,
-) -> Option<Made<A>> {
-    if let Some(limits) = limits(&layout, is_shared)
-        && limits.fits(&layout)
-        && rules.fits(&layout)
-    {
-        Some(Recorder::new(alloc, layout, limits, rules))
-    } else {
-        drop(layout);
-        drop(rules);
-        None
-    }
-}
-
-fn recorder_in<A: Allocator>(made: Option<Made<A>>) -> Option<Recorder<A>> {
-    match made {
-        Some(made) => made.ok(),
-        None => None,
-    }
-}
-
 pub fn recorder_of<A: Allocator + Copy>(alloc: A, is_shared: bool) -> Option<Recorder<A>> {
-    match make_parts(alloc) {
-        Some(of) => recorder_in(made(alloc, of.layout, of.rules, is_shared)),
-        None => None,
-    }
+    let bay = Bay {
+        is_shared,
+        ..SCRIPTED
+    };
+    bay::recorder(alloc, bay)
 }
 
 /// A recorder whose records share scans.
@@ -80,21 +25,48 @@ pub fn recorder<A: Allocator + Copy>(alloc: A) -> Option<Recorder<A>> {
     recorder_of(alloc, true)
 }
 
+/// What a recorder is made of.
+#[derive(Drop)]
+struct Parts<A: Allocator> {
+    layout: Layout<A>,
+    limits: Limits,
+    rules: Rules<A>,
+}
+
+fn make_parts<A: Allocator + Copy>(alloc: A) -> Option<Parts<A>> {
+    let layout = layout(alloc, SCRIPTED)?;
+    match (limits(&layout, SCRIPTED), rules_in(&layout, RULES, alloc)) {
+        (Some(limits), Some(rules)) => Some(Parts {
+            layout,
+            limits,
+            rules,
+        }),
+        (_, rules) => {
+            drop(layout);
+            drop(rules);
+            None
+        }
+    }
+}
+
 fn is_made<A: Allocator>(made: Option<Made<A>>) -> bool {
-    match recorder_in(made) {
-        Some(recorder) => {
+    match made {
+        Some(Ok(recorder)) => {
             let fresh = recorder.scans() == 0;
             drop(recorder);
             fresh
         }
-        None => false,
+        other => {
+            drop(other);
+            false
+        }
     }
 }
 
 /// Parts that came back are as before, and serve a second time.
-fn serve_again<A: Allocator + Copy>(alloc: A, layout: Layout<A>, rules: Rules<A>) -> bool {
-    let before = is_the_layout(&layout) && are_the_rules(&rules);
-    is_made(made(alloc, layout, rules, true)) && before
+fn serve_again<A: Allocator + Copy>(alloc: A, of: Parts<A>) -> bool {
+    let before = is_the_layout(&of.layout) && are_the_rules(&of.rules);
+    is_made(made(alloc, of.layout, of.limits, of.rules)) && before
 }
 
 /// A recorder that is made. Where there is no memory for it its parts come back.
@@ -111,9 +83,15 @@ impl<A: Allocator + Copy> Consuming for New<A> {
     }
 
     fn call(&self, of: Parts<A>) -> Outcome {
-        match made(self.alloc, of.layout, of.rules, true) {
+        let limits = of.limits;
+        match made(self.alloc, of.layout, limits, of.rules) {
             Some(Err((Memory, layout, rules))) => {
-                memory_if(serve_again(self.alloc, layout, rules))
+                let back = Parts {
+                    layout,
+                    limits,
+                    rules,
+                };
+                memory_if(serve_again(self.alloc, back))
             }
             made => right_if(is_made(made)),
         }
@@ -141,13 +119,6 @@ pub fn was_the_record<A: Allocator>(record: Record<A>) -> bool {
 pub fn gives_the_record<A: Allocator>(recorder: &mut Recorder<A>) -> bool {
     match recorder.take() {
         Some(record) => was_the_record(record),
-        None => false,
-    }
-}
-
-pub fn is_scanned<A: Allocator + Copy>(recorder: &mut Recorder<A>, scan: Option<Scan<A>>) -> bool {
-    match scan {
-        Some(scan) => recorder.scan(scan).is_ok(),
         None => false,
     }
 }

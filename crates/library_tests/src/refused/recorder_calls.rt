@@ -1,10 +1,12 @@
 //! The calls of a recorder: each that is refused an allocation goes on, made again, as if nothing had happened.
 
+use crate::recorder::held::takes;
 use crate::refused::common::{Heap, scan};
 use crate::refused::lost::{loses, loses_after_a_scan};
-use crate::refused::recorder::{are_scanned, gives_the_record, is_scanned, opens, recorder_of};
+use crate::refused::recorder::{are_scanned, gives_the_record, opens, recorder_of};
 use crate::refused::refusing::{Outcome, Trial, goes_on, memory_if, put_back, right_if};
 use crate::refused::unshared::covers;
+use crate::steps::is_scanned;
 use dfr_channels::Scan;
 use dfr_recorder::{Hit, Recorder, ScanRefusal, Scanned, TriggerFault};
 use failing_allocator::Refusing;
@@ -83,13 +85,6 @@ fn scans_go_on<'a>(heap: Heap<'a>, recorder: &mut Recorder<Heap<'a>>) -> bool {
     all && gives_the_record(recorder)
 }
 
-fn takes_none<A: Allocator>(recorder: &mut Recorder<A>) -> bool {
-    let taken = recorder.take();
-    let none = taken.is_none();
-    drop(taken);
-    none
-}
-
 /// What doesn't allocate is answered while every allocation is refused.
 fn is_idle<'a>(
     heap: Heap<'a>,
@@ -102,7 +97,7 @@ fn is_idle<'a>(
     let second = is_scanned(recorder, second);
     first
         && second
-        && takes_none(recorder)
+        && !takes(recorder)
         && recorder.trigger().err() == Some(TriggerFault::Memory)
         && !recorder.is_recording()
 }

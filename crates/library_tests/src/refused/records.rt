@@ -3,7 +3,7 @@
 use crate::refused::common::Heap;
 use crate::refused::refusing::{Consuming, Must, Outcome, refuses_anew, right_if};
 use crate::refused::runs::closed;
-use crate::refused::texts::{Pair as Texts, pair_in};
+use crate::samples::{Pair as Texts, pair_in};
 use comtrade_write::{File, Kind, Pair, pair_of};
 use dfr_channels::Memory;
 use dfr_program::read_of_record;
@@ -19,51 +19,14 @@ struct Given<A: Allocator> {
     is_read: bool,
 }
 
-type Written<A> = Result<Pair<A>, Memory>;
-
-type Read<A> = Result<File<A>, Memory>;
-
-/// None where no record waits.
-fn writing_of<A: Allocator + Copy>(
-    alloc: A,
-    recorder: &mut Recorder<A>,
-    kind: Kind,
-) -> Option<Written<A>> {
-    match recorder.take() {
-        Some(record) => {
-            let written = pair_of(alloc, recorder.layout(), &record, kind);
-            drop(record);
-            Some(written)
-        }
-        None => None,
-    }
-}
-
-/// None where no record waits.
-fn reading_of<A: Allocator + Copy>(
-    alloc: A,
-    recorder: &mut Recorder<A>,
-    kind: Kind,
-) -> Option<Read<A>> {
-    match recorder.take() {
-        Some(record) => {
-            let read = read_of_record(alloc, recorder.layout(), &record, kind);
-            drop(record);
-            Some(read)
-        }
-        None => None,
-    }
-}
-
 fn is_pair_of<A: Allocator>(pair: &Pair<A>, texts: Texts) -> bool {
     pair.cfg.as_slice() == texts.cfg && pair.dat.as_slice() == texts.dat
 }
 
-fn written_as<A: Allocator>(written: Option<Written<A>>, texts: Texts) -> Outcome {
+fn written_as<A: Allocator>(written: Result<Pair<A>, Memory>, texts: Texts) -> Outcome {
     match written {
-        Some(Ok(pair)) => right_if(is_pair_of(&pair, texts)),
-        Some(Err(Memory)) => Outcome::Memory,
-        None => Outcome::Wrong,
+        Ok(pair) => right_if(is_pair_of(&pair, texts)),
+        Err(Memory) => Outcome::Memory,
     }
 }
 
@@ -73,12 +36,29 @@ fn has_five_rows<A: Allocator>(file: File<A>) -> bool {
     five
 }
 
-fn read_as<A: Allocator>(read: Option<Read<A>>) -> Outcome {
+fn read_as<A: Allocator>(read: Result<File<A>, Memory>) -> Outcome {
     match read {
-        Some(Ok(file)) => right_if(has_five_rows(file)),
-        Some(Err(Memory)) => Outcome::Memory,
-        None => Outcome::Wrong,
+        Ok(file) => right_if(has_five_rows(file)),
+        Err(Memory) => Outcome::Memory,
     }
+}
+
+/// The record that waits, written or read.
+fn outcome_of<A: Allocator + Copy>(of: &Given<A>, recorder: &mut Recorder<A>) -> Outcome {
+    let Some(record) = recorder.take() else {
+        return Outcome::Wrong;
+    };
+    let layout = recorder.layout();
+    let outcome = if of.is_read {
+        read_as(read_of_record(of.alloc, layout, &record, of.kind))
+    } else {
+        written_as(
+            pair_of(of.alloc, layout, &record, of.kind),
+            pair_in(of.kind),
+        )
+    };
+    drop(record);
+    outcome
 }
 
 impl<A: Allocator + Copy> Consuming for Given<A> {
@@ -90,12 +70,7 @@ impl<A: Allocator + Copy> Consuming for Given<A> {
 
     fn call(&self, recorder: Recorder<A>) -> Outcome {
         let mut recorder = recorder;
-        let outcome = if self.is_read {
-            read_as(reading_of(self.alloc, &mut recorder, self.kind))
-        } else {
-            let written = writing_of(self.alloc, &mut recorder, self.kind);
-            written_as(written, pair_in(self.kind))
-        };
+        let outcome = outcome_of(self, &mut recorder);
         drop(recorder);
         outcome
     }

@@ -5,49 +5,12 @@ ghost use Rattle.std.specs.List.{All};
 ghost use Rattle.dfr_recorder.specs.Answers.{answer_of};
 ghost use Rattle.dfr_recorder.specs.Run.{IsOwnAnswer};
 
-use crate::refused::common::commands;
 use crate::refused::recorder::{is_the_record, recorder};
 use crate::refused::refusing::{Outcome, memory_if, right_if};
+use crate::steps::steps;
 use dfr_recorder::{Answer, Ran, Recorder, Step, run};
-use dfr_script::Command;
 use std::alloc::Allocator;
 use std::collections::VecDeque;
-
-fn step_of<A: Allocator>(command: Command<A>) -> Option<Step<A>> {
-    match command {
-        Command::Scan(scan) => Some(Step::Scan(scan)),
-        Command::Lost => Some(Step::Lost),
-        Command::Trigger => Some(Step::Trigger),
-        Command::Take => Some(Step::Take),
-        Command::Rules { line: _, list: _ } => None,
-    }
-}
-
-fn push<A: Allocator + Copy>(steps: &mut VecDeque<Step<A>, A>, command: Command<A>) -> bool {
-    match step_of(command) {
-        Some(step) => steps.push_back(step).is_ok(),
-        None => false,
-    }
-}
-
-fn steps_of<A: Allocator + Copy>(
-    alloc: A,
-    commands: Vec<Command<A>, A>,
-) -> Option<VecDeque<Step<A>, A>> {
-    let mut steps = VecDeque::new(alloc);
-    let mut all = true;
-    for command in commands {
-        all = push(&mut steps, command) && all;
-    }
-    if all { Some(steps) } else { None }
-}
-
-fn steps<A: Allocator + Copy>(alloc: A) -> Option<VecDeque<Step<A>, A>> {
-    match commands(alloc) {
-        Some(commands) => steps_of(alloc, commands),
-        None => None,
-    }
-}
 
 /// A recorder and the steps that it is to make: four scans, a trigger, two scans that fill the record, and a take.
 #[derive(Drop)]
@@ -71,36 +34,24 @@ fn with_steps<A: Allocator>(
 
 pub fn make_start<A: Allocator + Copy>(alloc: A) -> Option<Start<A>> {
     match recorder(alloc) {
-        Some(recorder) => with_steps(recorder, steps(alloc)),
+        Some(recorder) => with_steps(recorder, steps(alloc, b"abcd!ef^")),
         None => None,
     }
 }
 
 /// What a run answered. The rest of it is let go.
 pub fn answers_of<A: Allocator>(ran: Ran<A>) -> Vec<Answer<A>, A> {
-    let Ran {
-        recorder,
-        answers,
-        stopped,
-        rest,
-    } = ran;
-    drop(recorder);
-    drop(stopped);
-    drop(rest);
-    answers
+    drop(ran.recorder);
+    drop(ran.stopped);
+    drop(ran.rest);
+    ran.answers
 }
 
 fn recorder_in<A: Allocator>(ran: Ran<A>) -> Recorder<A> {
-    let Ran {
-        recorder,
-        answers,
-        stopped,
-        rest,
-    } = ran;
-    drop(answers);
-    drop(stopped);
-    drop(rest);
-    recorder
+    drop(ran.answers);
+    drop(ran.stopped);
+    drop(ran.rest);
+    ran.recorder
 }
 
 pub fn ran<A: Allocator + Copy>(alloc: A) -> Option<Ran<A>>

@@ -1,13 +1,14 @@
 //! Scripts that are read.
 
-use crate::refused::common::{Heap, SCRIPT, is_the_layout};
+use crate::refused::common::{RULES, is_the_layout};
 use crate::refused::refusing::{Must, Outcome, Trial, refuses, right_if};
+use crate::samples::SCRIPT;
 use dfr_channels::Layout;
 use dfr_script::{Script, ScriptFault, ScriptRefusal, Word, script_of};
 use failing_allocator::Refusing;
 use std::alloc::Allocator;
 
-/// The script says eight commands.
+/// The script says eight commands and these rules.
 fn is_the_script<A: Allocator>(script: Script<A>) -> bool {
     let Script {
         setup,
@@ -15,7 +16,7 @@ fn is_the_script<A: Allocator>(script: Script<A>) -> bool {
         rules,
         commands,
     } = script;
-    let counts = commands.len() == 8 && rules.len() == 2;
+    let counts = commands.len() == 8 && rules.as_slice() == RULES;
     drop(rules);
     drop(commands);
     has_the_layout(Layout::new(setup).ok()) && counts

@@ -2,8 +2,8 @@
 
 use crate::refused::common::Heap;
 use crate::refused::files::file;
-use crate::refused::refusing::{Must, Outcome, Trial, memory_if, refuses, right_if};
-use crate::refused::texts::{Pair, pair_in};
+use crate::refused::refusing::{Must, Outcome, Trial, refuses, right_if};
+use crate::samples::{Pair, pair_in};
 use comtrade_read::read;
 use comtrade_write::{
     File, Head, Kind, WriteFault, ascii_bytes, binary_bytes, cfg_bytes, dat_bytes,

@@ -3,10 +3,11 @@
 ghost use Rattle.std.specs.Prelude.{IsTrue};
 ghost use Rattle.dfr_recorder.specs.Own.{is_own};
 
-use crate::reader::bay::{Bay, FAST, layout, recorder};
-use crate::writer::bytes::is_ascii;
-use comtrade_write::{File, FileFault, Kind, WriteFault, cfg_bytes, file_of};
-use dfr_channels::{Layout, Reading, Scan};
+use crate::bay::{Bay, FAST, layout, recorder};
+use crate::steps::{is_scanned, value};
+use crate::writer::bytes::is_text;
+use comtrade_write::{File, FileFault, Kind, ascii_bytes, file_of};
+use dfr_channels::Layout;
 use dfr_recorder::{Record, Recorder};
 use std::alloc::Global;
 
@@ -23,20 +24,13 @@ const LEAP: Bay = Bay {
 const TWO_CHANNELS: &[u8] =
     b"Bay 1,DFR,1999\n2,2A,0D\n1,IA,A,,A,1,0,0,-32767,32767,1,1,P\n2,IB,B,,A,1,0,0,-32767,32767,1,1,P\n50\n1\n1,1\n01/01/1970,0:0:0\n01/01/1970,0:0:0\nASCII\n1";
 
-fn scan(recorder: &mut Recorder, alloc: Global, value: i32) -> bool {
-    match Vec::from_slice(alloc, &[Reading::Value(value)]) {
-        Ok(readings) => recorder.scan(Scan::new(readings, Vec::new(alloc))).is_ok(),
-        Err(_) => false,
-    }
-}
-
 /// Whether the recorder then holds a closed record of the values 1 to 4.
 fn closes(recorder: &mut Recorder, alloc: Global) -> bool {
-    scan(recorder, alloc, 1)
+    is_scanned(recorder, value(alloc, 1))
         && recorder.trigger().is_ok()
-        && scan(recorder, alloc, 2)
-        && scan(recorder, alloc, 3)
-        && scan(recorder, alloc, 4)
+        && is_scanned(recorder, value(alloc, 2))
+        && is_scanned(recorder, value(alloc, 3))
+        && is_scanned(recorder, value(alloc, 4))
 }
 
 fn closed(alloc: Global) -> Option<Recorder> {
@@ -89,7 +83,7 @@ fn is_foreign(alloc: Global, bay: Bay) -> bool {
 fn is_file(alloc: Global, made: Made, wanted: &[u8]) -> bool {
     match made {
         Ok(file) => {
-            let right = is_ascii(alloc, &file, wanted);
+            let right = is_text(ascii_bytes(alloc, &file), wanted);
             drop(file);
             right
         }

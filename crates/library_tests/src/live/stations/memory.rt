@@ -1,7 +1,9 @@
 //! Each allocation of a station refused in turn: it is said, at most one scan is lost by it, and no pair is in halves.
 
 use crate::live::stations::runs::{FRAMES, LINES};
-use crate::live::stations::station::{Kept, Pieces, SETUP, Seen, is_told, nothing_seen, recorded};
+use crate::live::stations::station::{Kept, SETUP, Seen, is_told, nothing_seen, recorded};
+use crate::refused::common::Heap;
+use crate::streams::Pieces;
 use dfr_live::{EndFault, OpenFault};
 use dfr_station::{Input, Recorded, RunFault, SetupRefusal, recorder_of};
 use failing_allocator::Refusing;
@@ -9,8 +11,6 @@ use std::alloc::{Allocator, Global};
 use std::sync::Wait;
 use std::thread::Threads;
 use std::time::Clock;
-
-type Heap<'a> = &'a Refusing<Global>;
 
 /// How many rows a data file has, and how many of them have no value.
 fn counted(dat: &[u8]) -> (usize, usize) {
@@ -58,7 +58,11 @@ fn nth<R: Threads + Wait + Clock + Sync>(
     n: u64,
 ) -> Option<bool> {
     let mut seen = nothing_seen(alloc, 0);
-    let mut input = Pieces { bytes, size: 1000 };
+    let mut input = Pieces {
+        bytes,
+        size: 1000,
+        fault: None,
+    };
     heap.refuse(n);
     let left = recorded(rt, heap, form, &mut input, &mut seen);
     let was_refused = heap.has_refused();

@@ -1,6 +1,7 @@
 //! A station over a reader in memory: each frame and each line of a scan is one step, its scan or a lost one, in order.
 
-use crate::live::stations::station::{Pieces, is_told, nothing_seen, recorded};
+use crate::live::stations::station::{is_told, nothing_seen, recorded};
+use crate::streams::Pieces;
 use dfr_station::Input;
 use std::alloc::Global;
 use std::sync::Wait;
@@ -32,7 +33,11 @@ fn is_recorded<R: Threads + Wait + Clock + Sync>(
     troubles: u32,
 ) -> bool {
     let mut seen = nothing_seen(alloc, troubles);
-    let mut input = Pieces { bytes, size };
+    let mut input = Pieces {
+        bytes,
+        size,
+        fault: None,
+    };
     let scans = match recorded(rt, alloc, form, &mut input, &mut seen) {
         Ok(left) => left.ended.recorder.scans(),
         Err(_) => 0,

@@ -1,5 +1,6 @@
 //! A station of one channel and one contact, with a reader, a store and a printer in memory.
 
+use crate::streams::Pieces;
 use comtrade_write::Kind;
 use dfr_recorder::Recorder;
 use dfr_station::{
@@ -7,8 +8,6 @@ use dfr_station::{
     recorder_of, run_station,
 };
 use std::alloc::{Allocator, Global};
-use std::io;
-use std::io::Read;
 use std::sync::Wait;
 use std::thread::Threads;
 use std::time::Clock;
@@ -19,23 +18,6 @@ pub const SETUP: &[u8] =
 
 /// How many bytes a frame of it has.
 const FRAME: usize = 4;
-
-/// A reader that gives at most so many bytes a call.
-#[derive(Drop)]
-pub struct Pieces<'a> {
-    pub bytes: &'a [u8],
-    pub size: usize,
-}
-
-impl Read for Pieces<'_> {
-    fn read(&mut self, buf: &mut [u8]) -> io::Result<usize> {
-        let most = self.size.min(buf.len());
-        match buf.get_mut(..most) {
-            Some(room) => self.bytes.read(room),
-            None => Ok(0),
-        }
-    }
-}
 
 /// The last pair that came, how many came, and how often none is taken before.
 #[derive(Drop)]
