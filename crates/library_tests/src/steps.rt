@@ -1,5 +1,10 @@
 //! Scans, and the steps of a run.
 
+ghost use Rattle.std.specs.Prelude.{IfSome};
+ghost use Rattle.std.specs.List.{All};
+ghost use Rattle.dfr_recorder.specs.Answers.{answer_of};
+ghost use Rattle.dfr_recorder.specs.Run.{IsOwnAnswer};
+
 use crate::bay::{Bay, recorder};
 use crate::channels::setups::scan;
 use dfr_channels::{Reading, Scan};
@@ -90,7 +95,7 @@ fn push_all<A: Allocator + Copy>(
     true
 }
 
-pub fn steps<A: Allocator + Copy>(alloc: A, script: &[u8]) -> Option<VecDeque<Step<A>, A>> {
+fn steps<A: Allocator + Copy>(alloc: A, script: &[u8]) -> Option<VecDeque<Step<A>, A>> {
     let mut steps = VecDeque::new(alloc);
     if push_all(alloc, &mut steps, script) {
         return Some(steps);
@@ -99,14 +104,30 @@ pub fn steps<A: Allocator + Copy>(alloc: A, script: &[u8]) -> Option<VecDeque<St
     None
 }
 
-/// What a run of the script's steps left.
-pub fn ran(alloc: Global, bay: Bay, script: &[u8]) -> Option<Ran> {
+/// A recorder, and the steps that it is to make.
+#[derive(Drop)]
+pub struct Start<A: Allocator = Global> {
+    pub recorder: Recorder<A>,
+    pub steps: VecDeque<Step<A>, A>,
+}
+
+pub fn begun<A: Allocator + Copy>(alloc: A, bay: Bay, script: &[u8]) -> Option<Start<A>> {
     let recorder = recorder(alloc, bay)?;
     match steps(alloc, script) {
-        Some(steps) => Some(run(alloc, recorder, steps)),
+        Some(steps) => Some(Start { recorder, steps }),
         None => {
             drop(recorder);
             None
         }
+    }
+}
+
+/// What a run of these steps left.
+pub fn ran<A: Allocator + Copy>(alloc: A, bay: Bay, script: &[u8]) -> Option<Ran<A>>
+    ensures { IfSome result (λ ran. All (λ answer. IsOwnAnswer ran.recorder.layout (answer_of answer)) ran.answers.items) }
+{
+    match begun(alloc, bay, script) {
+        Some(start) => Some(run(alloc, start.recorder, start.steps)),
+        None => None,
     }
 }

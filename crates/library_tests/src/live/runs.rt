@@ -1,6 +1,6 @@
 //! A run in three threads over a feed, orders and a sink that do as they are told, and fail where they are told to.
 
-use crate::live::parts::fed;
+use crate::live::parts::{fed, is_report};
 use crate::live::progress::{
     Progress, begun, count_handed, finds_room, tell_ordered, wait_for_orders,
 };
@@ -8,8 +8,8 @@ use crate::live::station::recorder;
 use comtrade_read::read;
 use comtrade_write::{File, Kind, Row};
 use dfr_channels::Reading;
-use dfr_live::{Fed, Feed, LiveFault, LiveReport, Order, Orders, Sink, run_live};
-use dfr_recorder::{Extent, Recorder};
+use dfr_live::{Entry, Fed, Feed, LiveFault, LiveReport, Order, Orders, Reply, Sink, run_live};
+use dfr_recorder::{Extent, Hit, Recorder, TriggerFault};
 use std::alloc::Global;
 use std::sync::Wait;
 use std::thread::Threads;
@@ -34,9 +34,12 @@ pub enum Placing<'a> {
     Every(u64, u64, u64),
 }
 
+/// What triggers do, with the number of scan steps before each.
+pub type Told<'a> = &'a [(u64, Result<Hit, TriggerFault>)];
+
 /// A run: its lane, its shelf, the kind of its files, the turns, what the feed gives, the places of its triggers, how many records
-/// may be ordered and not handed to the sink, the record at which the sink waits for the last order, and the one at which it fails
-/// with code 9.
+/// may be ordered and not handed to the sink, the record at which the sink waits for the last order, the one at which it fails with
+/// code 9, and what its first triggers do.
 #[derive(Clone, Copy)]
 pub struct Run<'a> {
     pub lane: usize,
@@ -48,6 +51,7 @@ pub struct Run<'a> {
     pub room: u64,
     pub holds_at: u64,
     pub fails_at: u64,
+    pub told: Told<'a>,
 }
 
 /// Five scans, no trigger.
@@ -61,6 +65,7 @@ pub const RUN: Run = Run {
     room: u64::MAX,
     holds_at: 0,
     fails_at: 0,
+    told: &[],
 };
 
 #[derive(Drop)]
@@ -192,17 +197,48 @@ impl Sink for ToldSink<'_> {
     }
 }
 
-/// What came of a run: its report or its fault, how many records the sink got, the first and the last scan of the newest, and whether
-/// each of them was read back to the scans of its places.
-#[derive(Drop)]
-pub struct Came {
-    pub report: Result<LiveReport, LiveFault>,
-    pub got: u64,
-    pub newest: (u64, u64),
-    pub whole: bool,
+/// How many scan steps a run made and whether a record is still open, or its fault; how many records the sink got; the first and the
+/// last scan of the newest.
+pub type Came = (Result<(u64, bool), LiveFault>, u64, (u64, u64));
+
+fn ended(report: &Result<LiveReport, LiveFault>) -> Result<(u64, bool), LiveFault> {
+    match report {
+        Ok(report) => Ok((report.stepped, report.ended.recorder.is_recording())),
+        Err(fault) => Err(*fault),
+    }
 }
 
-fn came_of<R: Threads + Wait + Sync>(rt: &R, alloc: Global, recorder: Recorder, run: Run) -> Came {
+fn is_trigger(entry: &Entry, at: u64, answer: Result<Hit, TriggerFault>) -> bool {
+    entry.caller == 0 && entry.at == at && entry.reply == Reply::Trigger(answer)
+}
+
+/// The log has these triggers first; the takes of the export thread, which has seat 1, come after them.
+fn has_triggers(log: &[Entry], wanted: Told) -> bool {
+    let front = log.get(..wanted.len()).unwrap_or(&[]);
+    front.len() == wanted.len()
+        && front
+            .iter()
+            .zip(wanted)
+            .all(|(entry, (at, answer))| is_trigger(entry, *at, *answer))
+        && log.iter().all(|entry| entry.caller < 2)
+}
+
+/// A run that ended handed over as many records as the sink got, and made these triggers.
+fn is_right(report: &Result<LiveReport, LiveFault>, got: u64, told: Told) -> bool {
+    match report {
+        Ok(report) => {
+            is_report(report, report.stepped, got) && has_triggers(&report.ended.log, told)
+        }
+        Err(_) => true,
+    }
+}
+
+fn came_of<R: Threads + Wait + Sync>(
+    rt: &R,
+    alloc: Global,
+    recorder: Recorder,
+    run: Run,
+) -> Option<Came> {
     let progress = begun();
     let mut feed = ToldFeed {
         alloc,
@@ -235,37 +271,14 @@ fn came_of<R: Threads + Wait + Sync>(rt: &R, alloc: Global, recorder: Recorder, 
         &mut orders,
         &mut sink,
     );
-    Came {
-        report,
-        got: sink.got,
-        newest: sink.newest,
-        whole: sink.whole,
-    }
+    let came = (ended(&report), sink.got, sink.newest);
+    (sink.whole && is_right(&report, sink.got, run.told)).then_some(came)
 }
 
-/// None where no recorder could be made.
+/// None where no recorder could be made, a record wasn't read back to the scans of its places, or the report is another.
 pub fn outcome<R: Threads + Wait + Sync>(rt: &R, alloc: Global, run: Run) -> Option<Came> {
     match recorder(alloc, run.shelf) {
-        Some(recorder) => Some(came_of(rt, alloc, recorder, run)),
-        None => None,
-    }
-}
-
-fn fault_of(came: &Came) -> Option<(LiveFault, u64)> {
-    match came.report {
-        Err(fault) if came.whole => Some((fault, came.got)),
-        _ => None,
-    }
-}
-
-/// The run's fault, and how many records the sink had got before; each of them was whole.
-pub fn fault<R: Threads + Wait + Sync>(
-    rt: &R,
-    alloc: Global,
-    run: Run,
-) -> Option<(LiveFault, u64)> {
-    match outcome(rt, alloc, run) {
-        Some(came) => fault_of(&came),
+        Some(recorder) => came_of(rt, alloc, recorder, run),
         None => None,
     }
 }

@@ -1,10 +1,11 @@
 //! The File of a record, what files write, and files that are read again.
 
 use crate::bay::{layout, setup};
-use crate::refused::common::{Heap, SCRIPTED};
+use crate::refused::common::{Heap, SCRIPTED, STEPS};
 use crate::refused::refusing::{Must, Outcome, Trial, memory_if, refuses, right_if};
-use crate::refused::runs::{answers_of, ran};
+use crate::refused::runs::answers_of;
 use crate::samples::{Pair as Texts, pair_in};
+use crate::steps::ran;
 use crate::writer::bytes::is_text;
 use comtrade_read::{read, read_of_file};
 use comtrade_write::{File, FileFault, Kind, WriteFault, cfg_bytes, dat_bytes, file_of};
@@ -28,7 +29,7 @@ fn last_taken<A: Allocator>(answers: Vec<Answer<A>, A>) -> Option<Record<A>> {
 
 /// The record of five scans around a trigger.
 fn record<A: Allocator + Copy>(alloc: A) -> Option<Record<A>> {
-    match ran(alloc) {
+    match ran(alloc, SCRIPTED, STEPS) {
         Some(ran) => last_taken(answers_of(ran)),
         None => None,
     }

@@ -4,7 +4,7 @@ use crate::live::ends::given_back;
 use crate::refused::common::{Heap, are_the_rules, is_the_layout};
 use crate::refused::live_ends::Leaving;
 use crate::refused::live_play::{Act, Play, is_played};
-use crate::refused::recorder::recorder;
+use crate::refused::recorder::recorder_of;
 use crate::refused::refusing::{Consuming, Must, Outcome, memory_if, refuses_anew};
 use crate::refused::token_calls::Call;
 use dfr_live::OpenFault;
@@ -40,7 +40,7 @@ impl<'a> Consuming for Opening<'a> {
     type Made = Recorder<Heap<'a>>;
 
     fn make(&self) -> Option<Recorder<Heap<'a>>> {
-        recorder(self.heap)
+        recorder_of(self.heap, true)
     }
 
     fn call(&self, recorder: Recorder<Heap<'a>>) -> Outcome {

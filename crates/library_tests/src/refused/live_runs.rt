@@ -2,16 +2,15 @@
 //! and the sink got nothing or the whole record. And a script's run whose writer fails at each call in turn.
 
 use crate::live::parts::{OneTrigger, Texts, is_report};
-use crate::refused::common::{Heap, scan};
-use crate::refused::recorder::recorder;
+use crate::refused::common::{Heap, SCRIPTED};
 use crate::refused::refusing::{NOTHING, Outcome, memory_if, noted, right_if};
 use crate::samples::{FIRST, MANUAL, pair_in};
+use crate::steps::{Start, begun};
 use crate::streams::taking;
 use comtrade_write::Kind;
-use dfr_channels::Scan;
 use dfr_live::{EndFault, Fed, Feed, LiveFault, LiveReport, OpenFault, run_live};
 use dfr_program::{RunFault, live_of};
-use dfr_recorder::Recorder;
+use dfr_recorder::Step;
 use failing_allocator::Refusing;
 use std::alloc::{Allocator, Global};
 use std::collections::VecDeque;
@@ -19,65 +18,21 @@ use std::io::ErrorKind;
 use std::sync::Wait;
 use std::thread::Threads;
 
-/// Gives scans that were made before.
+/// Gives scans that were made before, as steps.
 #[derive(Drop)]
 struct Given<A: Allocator> {
-    scans: VecDeque<Scan<A>, A>,
+    steps: VecDeque<Step<A>, A>,
 }
 
 impl<A: Allocator> Feed<A> for Given<A> {
     fn next(&mut self) -> Result<Fed<A>, u32> {
-        match self.scans.pop_front() {
-            Some(scan) => Ok(Fed::Scan(scan)),
-            None => Ok(Fed::Done),
+        match self.steps.pop_front() {
+            Some(Step::Scan(scan)) => Ok(Fed::Scan(scan)),
+            other => {
+                drop(other);
+                Ok(Fed::Done)
+            }
         }
-    }
-}
-
-/// What a run works on.
-#[derive(Drop)]
-struct Start<A: Allocator> {
-    recorder: Recorder<A>,
-    feed: Given<A>,
-}
-
-fn push<A: Allocator + Copy>(alloc: A, scans: &mut VecDeque<Scan<A>, A>, x: i32) -> bool {
-    match scan(alloc, x, false) {
-        Some(scan) => scans.push_back(scan).is_ok(),
-        None => false,
-    }
-}
-
-/// Scans of the values 10 to 15.
-fn scans_given<A: Allocator + Copy>(alloc: A) -> Option<VecDeque<Scan<A>, A>> {
-    let mut scans = VecDeque::new(alloc);
-    let mut all = true;
-    for x in 10..16i32 {
-        all = push(alloc, &mut scans, x) && all;
-    }
-    if all { Some(scans) } else { None }
-}
-
-fn begin_with<A: Allocator>(
-    recorder: Recorder<A>,
-    scans: Option<VecDeque<Scan<A>, A>>,
-) -> Option<Start<A>> {
-    match scans {
-        Some(scans) => Some(Start {
-            recorder,
-            feed: Given { scans },
-        }),
-        None => {
-            drop(recorder);
-            None
-        }
-    }
-}
-
-fn begin<A: Allocator + Copy>(alloc: A) -> Option<Start<A>> {
-    match recorder(alloc) {
-        Some(recorder) => begin_with(recorder, scans_given(alloc)),
-        None => None,
     }
 }
 
@@ -105,9 +60,10 @@ fn outcome_of<A: Allocator>(report: Result<LiveReport<A>, LiveFault>, sink: &Tex
 /// A run whose nth allocation is refused, or none where n is 0. Its threads must share the runtime, which no impl of a trait for all
 /// runtimes can promise: so these calls have a loop of their own.
 fn run<R: Threads + Wait + Sync>(rt: &R, heap: Heap, kind: Kind, n: u64) -> Outcome {
-    let Some(Start { recorder, mut feed }) = begin(heap) else {
+    let Some(Start { recorder, steps }) = begun(heap, SCRIPTED, b"abcdef") else {
         return Outcome::Wrong;
     };
+    let mut feed = Given { steps };
     let mut orders = OneTrigger { is_given: false };
     let mut sink = Texts {
         texts: pair_in(kind),

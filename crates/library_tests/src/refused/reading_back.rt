@@ -1,9 +1,11 @@
 //! Runs that are refused an allocation, and the records of a run that are written and read back.
 
+use crate::refused::common::{SCRIPTED, STEPS};
 use crate::refused::refusing::{
     Consuming, Must, Outcome, Trial, memory_if, refuses, refuses_anew, right_if,
 };
-use crate::refused::runs::{Start, goes_on, make_start, ran};
+use crate::refused::runs::goes_on;
+use crate::steps::{Start, begun, ran};
 use comtrade_write::{File, Kind};
 use dfr_channels::Memory;
 use dfr_program::{read_of_run, run_and_read};
@@ -49,7 +51,7 @@ impl<A: Allocator + Copy> Trial for Own<A> {
 }
 
 fn own_run<A: Allocator + Copy>(alloc: A) -> Option<Own<A>> {
-    match ran(alloc) {
+    match ran(alloc, SCRIPTED, STEPS) {
         Some(ran) => Some(Own { alloc, ran }),
         None => None,
     }
@@ -99,7 +101,7 @@ impl<A: Allocator + Copy> Consuming for Running<A> {
     type Made = Start<A>;
 
     fn make(&self) -> Option<Start<A>> {
-        make_start(self.alloc)
+        begun(self.alloc, SCRIPTED, STEPS)
     }
 
     fn call(&self, of: Start<A>) -> Outcome {

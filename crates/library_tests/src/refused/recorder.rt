@@ -20,11 +20,6 @@ pub fn recorder_of<A: Allocator + Copy>(alloc: A, is_shared: bool) -> Option<Rec
     bay::recorder(alloc, bay)
 }
 
-/// A recorder whose records share scans.
-pub fn recorder<A: Allocator + Copy>(alloc: A) -> Option<Recorder<A>> {
-    recorder_of(alloc, true)
-}
-
 /// What a recorder is made of.
 #[derive(Drop)]
 struct Parts<A: Allocator> {

@@ -1,43 +1,12 @@
 //! Runs of steps: one that is stopped goes on to the same answers.
 
-ghost use Rattle.std.specs.Prelude.{IfSome};
-ghost use Rattle.std.specs.List.{All};
-ghost use Rattle.dfr_recorder.specs.Answers.{answer_of};
-ghost use Rattle.dfr_recorder.specs.Run.{IsOwnAnswer};
-
-use crate::refused::recorder::{is_the_record, recorder};
+use crate::refused::common::SCRIPTED;
+use crate::refused::recorder::is_the_record;
 use crate::refused::refusing::{Outcome, memory_if, right_if};
-use crate::steps::steps;
+use crate::steps::{Start, ran};
 use dfr_recorder::{Answer, Ran, Recorder, Step, run};
 use std::alloc::Allocator;
 use std::collections::VecDeque;
-
-/// A recorder and the steps that it is to make: four scans, a trigger, two scans that fill the record, and a take.
-#[derive(Drop)]
-pub struct Start<A: Allocator> {
-    pub recorder: Recorder<A>,
-    pub steps: VecDeque<Step<A>, A>,
-}
-
-fn with_steps<A: Allocator>(
-    recorder: Recorder<A>,
-    steps: Option<VecDeque<Step<A>, A>>,
-) -> Option<Start<A>> {
-    match steps {
-        Some(steps) => Some(Start { recorder, steps }),
-        None => {
-            drop(recorder);
-            None
-        }
-    }
-}
-
-pub fn make_start<A: Allocator + Copy>(alloc: A) -> Option<Start<A>> {
-    match recorder(alloc) {
-        Some(recorder) => with_steps(recorder, steps(alloc, b"abcd!ef^")),
-        None => None,
-    }
-}
 
 /// What a run answered. The rest of it is let go.
 pub fn answers_of<A: Allocator>(ran: Ran<A>) -> Vec<Answer<A>, A> {
@@ -54,29 +23,10 @@ fn recorder_in<A: Allocator>(ran: Ran<A>) -> Recorder<A> {
     ran.recorder
 }
 
-pub fn ran<A: Allocator + Copy>(alloc: A) -> Option<Ran<A>>
-    ensures { IfSome result (λ ran. All (λ answer. IsOwnAnswer ran.recorder.layout (answer_of answer)) ran.answers.items) }
-{
-    match make_start(alloc) {
-        Some(start) => Some(run(alloc, start.recorder, start.steps)),
-        None => None,
-    }
-}
-
-fn without_last<A: Allocator>(steps: VecDeque<Step<A>, A>) -> VecDeque<Step<A>, A> {
-    let mut steps = steps;
-    let _ = steps.pop_back();
-    steps
-}
-
-fn before_last<A: Allocator + Copy>(alloc: A, start: Start<A>) -> Ran<A> {
-    run(alloc, start.recorder, without_last(start.steps))
-}
-
 /// The recorder before the take: a record waits.
 pub fn closed<A: Allocator + Copy>(alloc: A) -> Option<Recorder<A>> {
-    match make_start(alloc) {
-        Some(start) => Some(recorder_in(before_last(alloc, start))),
+    match ran(alloc, SCRIPTED, b"abcd!ef") {
+        Some(ran) => Some(recorder_in(ran)),
         None => None,
     }
 }
