@@ -8,7 +8,7 @@ ghost use Rattle.dfr_recorder.specs.Run.{IsOwnAnswer};
 use crate::bay::{Bay, recorder};
 use crate::channels::setups::scan;
 use dfr_channels::{Reading, Scan};
-use dfr_recorder::{Ran, Recorder, Step, run};
+use dfr_recorder::{Ran, Record, Recorder, Step, run};
 use std::alloc::{Allocator, Global};
 use std::collections::VecDeque;
 
@@ -130,4 +130,29 @@ pub fn ran<A: Allocator + Copy>(alloc: A, bay: Bay, script: &[u8]) -> Option<Ran
         Some(start) => Some(run(alloc, start.recorder, start.steps)),
         None => None,
     }
+}
+
+/// The recorder after these steps, whose answers are let go.
+pub fn recorder_after<A: Allocator + Copy>(
+    alloc: A,
+    bay: Bay,
+    script: &[u8],
+) -> Option<Recorder<A>> {
+    match ran(alloc, bay, script) {
+        Some(ran) => {
+            drop(ran.answers);
+            drop(ran.stopped);
+            drop(ran.rest);
+            Some(ran.recorder)
+        }
+        None => None,
+    }
+}
+
+/// The record that waits after these steps.
+pub fn taken<A: Allocator + Copy>(alloc: A, bay: Bay, script: &[u8]) -> Option<Record<A>> {
+    let mut recorder = recorder_after(alloc, bay, script)?;
+    let record = recorder.take();
+    drop(recorder);
+    record
 }

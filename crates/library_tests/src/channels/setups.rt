@@ -125,25 +125,18 @@ impl Channels for Items<StatusChannel> {
     }
 }
 
-fn with_all<C: Channels + Drop>(setup: Setup, channels: Option<C>) -> Option<Setup> {
-    let mut setup = setup;
-    match channels {
-        Some(channels) => {
+/// The set-up with these channels in place of its own of their kind.
+pub fn with<C: Channels + Drop>(setup: Option<Setup>, channels: Option<C>) -> Option<Setup> {
+    match (setup, channels) {
+        (Some(mut setup), Some(channels)) => {
             channels.put_into(&mut setup);
             Some(setup)
         }
-        None => {
+        (setup, channels) => {
             drop(setup);
+            drop(channels);
             None
         }
-    }
-}
-
-/// The set-up with these channels in place of its own of their kind.
-pub fn with<C: Channels + Drop>(setup: Option<Setup>, channels: Option<C>) -> Option<Setup> {
-    match setup {
-        Some(setup) => with_all(setup, channels),
-        None => None,
     }
 }
 

@@ -2,7 +2,7 @@
 
 ghost use Rattle.std.specs.Prelude.{◌≡◌};
 
-use crate::bay::{self, Bay};
+use crate::bay::{Bay, recorder};
 use crate::live::acts::{Act, are_entries, are_made};
 use crate::live::ends::{ended, opened};
 use crate::live::station::STATION;
@@ -79,12 +79,12 @@ fn plays<N: Session<Global>, R: Wait>(rt: &R, alloc: Global, opened: Opened, pla
 }
 
 pub fn is_played<R: Wait>(rt: &R, alloc: Global, play: Play) -> bool {
-    let bay = Bay {
+    let station = Bay {
         limits: (2, 2, 6, play.shelf),
         is_shared: play.is_shared,
         ..STATION
     };
-    match opened(alloc, bay::recorder(alloc, bay), play.lane, 1) {
+    match opened(alloc, recorder(alloc, station), play.lane, 1) {
         Some(opened) => plays::<Brand, R>(rt, alloc, opened, play),
         None => false,
     }

@@ -23,6 +23,9 @@ pub const SCRIPTED: Bay = Bay {
 /// Its steps: four scans, a trigger, two scans that fill the record, and a take.
 pub const STEPS: &[u8] = b"abcd!ef^";
 
+/// Those before the take: a record waits.
+pub const CLOSES: &[u8] = b"abcd!ef";
+
 pub fn is_the_layout<A: Allocator>(layout: &Layout<A>) -> bool {
     layout.station() == b"Bay 1".as_slice()
         && layout.device() == b"DFR".as_slice()

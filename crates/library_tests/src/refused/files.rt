@@ -1,41 +1,19 @@
 //! The File of a record, what files write, and files that are read again.
 
 use crate::bay::{layout, setup};
-use crate::refused::common::{Heap, SCRIPTED, STEPS};
+use crate::refused::common::{CLOSES, Heap, SCRIPTED};
 use crate::refused::refusing::{Must, Outcome, Trial, memory_if, refuses, right_if};
-use crate::refused::runs::answers_of;
 use crate::samples::{Pair as Texts, pair_in};
-use crate::steps::ran;
+use crate::steps::taken;
 use crate::writer::bytes::is_text;
 use comtrade_read::{read, read_of_file};
 use comtrade_write::{File, FileFault, Kind, WriteFault, cfg_bytes, dat_bytes, file_of};
 use dfr_channels::{Items, Layout, Setup};
-use dfr_recorder::{Answer, Record};
+use dfr_recorder::Record;
 use failing_allocator::Refusing;
 use std::alloc::Allocator;
 
-fn last_taken<A: Allocator>(answers: Vec<Answer<A>, A>) -> Option<Record<A>> {
-    let mut answers = answers;
-    let last = answers.pop();
-    drop(answers);
-    match last {
-        Some(Answer::Take(record)) => record,
-        other => {
-            drop(other);
-            None
-        }
-    }
-}
-
-/// The record of five scans around a trigger.
-fn record<A: Allocator + Copy>(alloc: A) -> Option<Record<A>> {
-    match ran(alloc, SCRIPTED, STEPS) {
-        Some(ran) => last_taken(answers_of(ran)),
-        None => None,
-    }
-}
-
-/// The File of its two texts.
+/// The File of the two texts of `samples::SCRIPT`.
 pub fn file<A: Allocator + Copy>(alloc: A, kind: Kind) -> Option<File<A>> {
     let texts = pair_in(kind);
     read(alloc, texts.cfg, texts.dat).ok()
@@ -65,28 +43,19 @@ struct Taken<A: Allocator> {
     record: Record<A>,
 }
 
-fn taken_of<A: Allocator>(
-    alloc: A,
-    layout: Layout<A>,
-    record: Option<Record<A>>,
-) -> Option<Taken<A>> {
-    match record {
-        Some(record) => Some(Taken {
+/// The record of five scans around a trigger, and this layout.
+fn with_record<A: Allocator + Copy>(alloc: A, layout: Option<Layout<A>>) -> Option<Taken<A>> {
+    match (layout, taken(alloc, SCRIPTED, CLOSES)) {
+        (Some(layout), Some(record)) => Some(Taken {
             alloc,
             layout,
             record,
         }),
-        None => {
+        (layout, record) => {
             drop(layout);
+            drop(record);
             None
         }
-    }
-}
-
-fn with_record<A: Allocator + Copy>(alloc: A, layout: Option<Layout<A>>) -> Option<Taken<A>> {
-    match layout {
-        Some(layout) => taken_of(alloc, layout, record(alloc)),
-        None => None,
     }
 }
 

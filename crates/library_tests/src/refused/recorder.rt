@@ -1,6 +1,6 @@
 //! The recorder that the tests work on, and how it is made.
 
-use crate::bay::{self, Bay, Made, layout, limits, made};
+use crate::bay::{Bay, Made, layout, limits, made, recorder};
 use crate::channels::rules::rules_in;
 use crate::refused::common::{Heap, RULES, SCRIPTED, are_the_rules, is_the_layout, scan};
 use crate::refused::refusing::{
@@ -13,11 +13,11 @@ use failing_allocator::Refusing;
 use std::alloc::Allocator;
 
 pub fn recorder_of<A: Allocator + Copy>(alloc: A, is_shared: bool) -> Option<Recorder<A>> {
-    let bay = Bay {
+    let station = Bay {
         is_shared,
         ..SCRIPTED
     };
-    bay::recorder(alloc, bay)
+    recorder(alloc, station)
 }
 
 /// What a recorder is made of.

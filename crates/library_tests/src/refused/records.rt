@@ -1,9 +1,9 @@
 //! The record that a recorder gives, written and read back.
 
-use crate::refused::common::Heap;
+use crate::refused::common::{CLOSES, Heap, SCRIPTED};
 use crate::refused::refusing::{Consuming, Must, Outcome, refuses_anew, right_if};
-use crate::refused::runs::closed;
 use crate::samples::{Pair as Texts, pair_in};
+use crate::steps::recorder_after;
 use comtrade_write::{File, Kind, Pair, pair_of};
 use dfr_channels::Memory;
 use dfr_program::read_of_record;
@@ -65,7 +65,7 @@ impl<A: Allocator + Copy> Consuming for Given<A> {
     type Made = Recorder<A>;
 
     fn make(&self) -> Option<Recorder<A>> {
-        closed(self.alloc)
+        recorder_after(self.alloc, SCRIPTED, CLOSES)
     }
 
     fn call(&self, recorder: Recorder<A>) -> Outcome {

@@ -1,35 +1,11 @@
 //! Runs of steps: one that is stopped goes on to the same answers.
 
-use crate::refused::common::SCRIPTED;
 use crate::refused::recorder::is_the_record;
 use crate::refused::refusing::{Outcome, memory_if, right_if};
-use crate::steps::{Start, ran};
+use crate::steps::Start;
 use dfr_recorder::{Answer, Ran, Recorder, Step, run};
 use std::alloc::Allocator;
 use std::collections::VecDeque;
-
-/// What a run answered. The rest of it is let go.
-pub fn answers_of<A: Allocator>(ran: Ran<A>) -> Vec<Answer<A>, A> {
-    drop(ran.recorder);
-    drop(ran.stopped);
-    drop(ran.rest);
-    ran.answers
-}
-
-fn recorder_in<A: Allocator>(ran: Ran<A>) -> Recorder<A> {
-    drop(ran.answers);
-    drop(ran.stopped);
-    drop(ran.rest);
-    ran.recorder
-}
-
-/// The recorder before the take: a record waits.
-pub fn closed<A: Allocator + Copy>(alloc: A) -> Option<Recorder<A>> {
-    match ran(alloc, SCRIPTED, b"abcd!ef") {
-        Some(ran) => Some(recorder_in(ran)),
-        None => None,
-    }
-}
 
 fn is_last<A: Allocator>(answers: &[Answer<A>]) -> bool {
     match answers.last() {

@@ -211,20 +211,11 @@ pub fn rows(alloc: Global, list: &[(u64, u64, i32)]) -> Option<Items<Row>> {
     Some(Items::of(rows))
 }
 
-fn file_under(head: Head, rows: Option<Items<Row>>) -> Option<File> {
-    match rows {
-        Some(rows) => Some(File { head, rows }),
-        None => {
-            drop(head);
-            None
-        }
-    }
-}
-
 pub fn file_from(head: Option<Head>, rows: Option<Items<Row>>) -> Option<File> {
-    match head {
-        Some(head) => file_under(head, rows),
-        None => {
+    match (head, rows) {
+        (Some(head), Some(rows)) => Some(File { head, rows }),
+        (head, rows) => {
+            drop(head);
             drop(rows);
             None
         }
