@@ -2,6 +2,6 @@
 
 mod contacts;
 mod copies;
-mod rules;
+pub mod rules;
 pub mod setups;
 mod spellings;

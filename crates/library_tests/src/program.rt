@@ -1,66 +1,22 @@
 //! The program over readers and writers in memory: what no clause says of a reader or a writer that fails.
 
+use crate::samples::{FIRST_CFG, FIRST_DAT, MANUAL};
+use crate::streams::{Narrow, Pieces, taking};
 use comtrade_write::Kind;
 use dfr_program::{InputFault, RunFault, read_all, read_over, replay_over};
 use std::alloc::{AllocError, Global};
-use std::io;
-use std::io::{Error, ErrorKind, Read, Write};
+use std::io::{self, ErrorKind, Read};
 use std::test::Fail;
 
 const SET_UP: &[u8] =
     b"station Bay 1\ndevice DFR\nanalog IA,A,,A,1,0,0,-32767,32767,1,1,P\nfreq 50\nrate 1000\nstart 0\nlimits 2,2,6,1\ngo\n";
 
-const SCRIPT: &[u8] =
-    b"station Bay 1\ndevice DFR\nanalog IA,A,,A,1,0,0,-32767,32767,1,1,P\nfreq 50\nrate 1000\nstart 0\nlimits 2,2,6,1\ngo\nscan 10/\nscan 11/\nscan 12/\nscan 13/\ntrigger\nscan 14/\nscan 15/\ntake\n";
-
 /// What the script prints: the answers, and the two files of its record.
 const PRINTED: &[u8] =
     b"scan 0\nscan 1\nscan 2\nscan 3\ntrigger opened 1\nscan 4\nscan 5 closed 1\nrecord 1 1 3 5 manual\ncfg 142\nBay 1,DFR,1999\r\n1,1A,0D\r\n1,IA,A,,A,1,0,0,-32767,32767,1,1,P\r\n50\r\n1\r\n1000,5\r\n01/01/1970,00:00:00.001000\r\n01/01/1970,00:00:00.003000\r\nASCII\r\n1\r\ndat 53\n1,0,11\r\n2,1000,12\r\n3,2000,13\r\n4,3000,14\r\n5,4000,15\r\n\x1A\n";
 
-const CFG: &[u8] =
-    b"Bay 1,DFR,1999\r\n1,1A,0D\r\n1,IA,A,,A,1,0,0,-32767,32767,1,1,P\r\n50\r\n1\r\n1000,5\r\n01/01/1970,00:00:00.001000\r\n01/01/1970,00:00:00.003000\r\nASCII\r\n1\r\n";
-
-const DAT: &[u8] = b"1,0,11\r\n2,1000,12\r\n3,2000,13\r\n4,3000,14\r\n5,4000,15\r\n\x1a";
-
 const READING: &[u8] =
     b"station Bay 1\ndevice DFR\nanalog 1 status 0 rows 5\nfirst 1000 trigger 3000\n";
-
-/// A writer that takes one byte a call, and none after so many.
-struct Narrow<'a> {
-    bytes: &'a mut [u8],
-    len: usize,
-    limit: usize,
-}
-
-impl Drop for Narrow<'_> {
-    fn drop(self) {
-        let Narrow {
-            bytes: _,
-            len: _,
-            limit: _,
-        } = self;
-    }
-}
-
-impl Write for Narrow<'_> {
-    fn write(&mut self, buf: &[u8]) -> io::Result<usize> {
-        if self.len >= self.limit || self.len >= self.bytes.len() {
-            return Err(Error::from(ErrorKind::Other));
-        }
-        match buf.first() {
-            Some(byte) => {
-                self.bytes[self.len] = *byte;
-                self.len += 1;
-                Ok(1)
-            }
-            None => Ok(0),
-        }
-    }
-
-    fn flush(&mut self) -> io::Result<()> {
-        Ok(())
-    }
-}
 
 /// What a writer gets of the program.
 #[derive(Clone, Copy, Debug)]
@@ -78,37 +34,26 @@ fn text_of(output: Output) -> &'static [u8] {
     }
 }
 
-/// What the program answers where the writer takes so many bytes, and how many it took.
-fn written(
-    alloc: Global,
-    output: Output,
-    bytes: &mut [u8],
-    limit: usize,
-) -> (Result<bool, RunFault>, usize) {
-    let mut narrow = Narrow {
-        bytes,
-        len: 0,
-        limit,
-    };
-    let mut script = SCRIPT;
-    let ended = match output {
-        Output::Replay => replay_over(alloc, &mut script, &mut narrow, Kind::Ascii),
-        Output::Reading => read_over(alloc, CFG, DAT, &mut narrow),
-    };
-    (ended, narrow.len)
+/// What the program answers that prints this to the writer.
+fn written(alloc: Global, output: Output, writer: &mut Narrow) -> Result<bool, RunFault> {
+    let mut script = MANUAL;
+    match output {
+        Output::Replay => replay_over(alloc, &mut script, writer, Kind::Ascii),
+        Output::Reading => read_over(alloc, FIRST_CFG, FIRST_DAT, writer),
+    }
 }
 
-/// Whether just so many bytes of what the program prints are written, where the writer takes so many.
+/// Whether just so many bytes of what the program prints are written, where the writer takes so many, one a call.
 fn is_cut_after(alloc: Global, output: Output, limit: usize) -> bool {
-    let mut bytes = [0u8; 400];
-    let (ended, len) = written(alloc, output, &mut bytes, limit);
+    let mut narrow = taking(alloc, limit, 1, Some(ErrorKind::Other));
+    let ended = written(alloc, output, &mut narrow);
     let text = text_of(output);
     let wanted = if limit >= text.len() {
         Ok(true)
     } else {
         Err(RunFault::Output)
     };
-    ended == wanted && len == limit && bytes.get(..limit) == text.get(..limit)
+    ended == wanted && text.get(..limit) == Some(narrow.taken.as_slice())
 }
 
 #[test]
@@ -124,35 +69,7 @@ fn a_failing_writer_has_a_prefix(rt: HostRuntime) {
     }
 }
 
-/// A reader that gives a text byte by byte, fails once where it is to, and is at its end then.
-struct Slow<'a> {
-    text: &'a [u8],
-    fault: Option<ErrorKind>,
-}
-
-impl Drop for Slow<'_> {
-    fn drop(self) {
-        let Slow { text: _, fault: _ } = self;
-    }
-}
-
-impl Read for Slow<'_> {
-    fn read(&mut self, buf: &mut [u8]) -> io::Result<usize> {
-        match (self.text, buf.first_mut()) {
-            ([byte, rest @ ..], Some(place)) => {
-                *place = *byte;
-                self.text = rest;
-                Ok(1)
-            }
-            _ => match self.fault.take() {
-                Some(kind) => Err(Error::from(kind)),
-                None => Ok(0),
-            },
-        }
-    }
-}
-
-/// What a replay of the slow text answers, where it wrote this.
+/// What a replay of the text answers that comes byte by byte, where it wrote this.
 fn answer(
     alloc: Global,
     text: &[u8],
@@ -160,13 +77,18 @@ fn answer(
     wanted: &[u8],
 ) -> Option<Result<bool, RunFault>> {
     let mut out: Vec<u8> = Vec::new(alloc);
-    let ended = replay_over(alloc, &mut Slow { text, fault }, &mut out, Kind::Ascii);
+    let mut slow = Pieces {
+        bytes: text,
+        size: 1,
+        fault,
+    };
+    let ended = replay_over(alloc, &mut slow, &mut out, Kind::Ascii);
     (out.as_slice() == wanted).then_some(ended)
 }
 
 #[test]
 fn a_slow_reader_is_read_to_its_end(rt: HostRuntime) {
-    assert_eq!(rt; answer(rt.alloc(), SCRIPT, None, PRINTED), Some(Ok(true)));
+    assert_eq!(rt; answer(rt.alloc(), MANUAL, None, PRINTED), Some(Ok(true)));
 }
 
 /// None of these is tried again.
@@ -179,36 +101,7 @@ fn a_failing_reader_is_input(rt: HostRuntime) {
         ErrorKind::OutOfMemory,
     ] {
         assert_eq!(rt; answer(rt.alloc(), b"", Some(kind), b""), input);
-        assert_eq!(rt; answer(rt.alloc(), SCRIPT, Some(kind), b""), input);
-    }
-}
-
-/// A writer that takes ten bytes at its first call, is interrupted at its second, and takes all from then on.
-#[derive(Drop)]
-struct Relenting {
-    bytes: Vec<u8>,
-    calls: u64,
-}
-
-impl Write for Relenting {
-    fn write(&mut self, buf: &[u8]) -> io::Result<usize> {
-        self.calls = self.calls.saturating_add(1);
-        if self.calls == 2 {
-            return Err(Error::from(ErrorKind::Interrupted));
-        }
-        let count = if self.calls == 1 && buf.len() > 10 {
-            10
-        } else {
-            buf.len()
-        };
-        match self.bytes.extend_from_slice(&buf[..count]) {
-            Ok(()) => Ok(count),
-            Err(_) => Err(Error::from(ErrorKind::OutOfMemory)),
-        }
-    }
-
-    fn flush(&mut self) -> io::Result<()> {
-        Ok(())
+        assert_eq!(rt; answer(rt.alloc(), MANUAL, Some(kind), b""), input);
     }
 }
 
@@ -221,14 +114,12 @@ fn long_script(alloc: Global) -> Result<Vec<u8>, AllocError> {
     Ok(script)
 }
 
+/// Whether a writer that takes ten bytes, is interrupted, and would take all from then on has ten in the end.
 fn has_ten_bytes(alloc: Global, script: &[u8]) -> bool {
-    let mut writer = Relenting {
-        bytes: Vec::new(alloc),
-        calls: 0,
-    };
+    let mut writer = taking(alloc, 10, usize::MAX, Some(ErrorKind::Interrupted));
     let mut input = script;
     let ended = replay_over(alloc, &mut input, &mut writer, Kind::Ascii);
-    ended == Err(RunFault::Output) && writer.bytes.as_slice() == b"scan 0\nsca".as_slice()
+    ended == Err(RunFault::Output) && writer.taken.as_slice() == b"scan 0\nsca".as_slice()
 }
 
 #[test]

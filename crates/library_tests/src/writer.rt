@@ -1,6 +1,6 @@
 //! Files of records and their bytes.
 
-mod bytes;
+pub mod bytes;
 pub mod fixture;
 mod outputs;
 mod records;

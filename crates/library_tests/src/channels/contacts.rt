@@ -1,16 +1,9 @@
 //! Lists of contacts.
 
-use crate::writer::fixture::status;
+use crate::writer::fixture::{add, status};
 use crate::writer::texts::status_with;
 use dfr_channels::{Items, StatusChannel};
 use std::alloc::Global;
-
-fn add(list: &mut Vec<StatusChannel>, contact: Option<StatusChannel>) -> bool {
-    match contact {
-        Some(contact) => list.push(contact).is_ok(),
-        None => false,
-    }
-}
 
 fn add_two(list: &mut Vec<StatusChannel>, alloc: Global, last: &[u8]) -> bool {
     add(list, status(alloc)) && add(list, status_with(alloc, last))

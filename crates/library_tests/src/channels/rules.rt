@@ -2,7 +2,7 @@
 
 use super::setups::{layout, scan};
 use dfr_channels::{Layout, Reading, Rule, RuleFault, Rules, Scan};
-use std::alloc::Global;
+use std::alloc::{Allocator, Global};
 
 const OVER: Rule = Rule::Level {
     channel: 0,
@@ -16,12 +16,16 @@ const UNDER: Rule = Rule::Level {
     threshold: 0,
 };
 
-const RISE: Rule = Rule::Edge {
+pub const RISE: Rule = Rule::Edge {
     channel: 0,
     rise: true,
 };
 
-fn rules_in(layout: &Layout, list: &[Rule], alloc: Global) -> Option<Rules> {
+pub fn rules_in<A: Allocator + Copy>(
+    layout: &Layout<A>,
+    list: &[Rule],
+    alloc: A,
+) -> Option<Rules<A>> {
     match Vec::from_slice(alloc, list) {
         Ok(list) => Rules::new(layout, list).ok(),
         Err(_) => None,
@@ -36,7 +40,7 @@ fn rules_over(layout: Option<Layout>, list: &[Rule], alloc: Global) -> Option<Ru
 }
 
 /// The rules of a list over a layout of one contact.
-fn rules(alloc: Global, list: &[Rule]) -> Option<Rules> {
+pub fn rules(alloc: Global, list: &[Rule]) -> Option<Rules> {
     rules_over(layout(alloc, 1), list, alloc)
 }
 

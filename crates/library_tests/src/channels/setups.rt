@@ -29,7 +29,7 @@ pub fn setup(alloc: Global, bits: usize) -> Option<Setup> {
     }
 }
 
-pub fn layout_in(setup: Option<Setup>) -> Option<Layout> {
+pub fn layout_in<A: Allocator>(setup: Option<Setup<A>>) -> Option<Layout<A>> {
     match setup {
         Some(setup) => Layout::new(setup).ok(),
         None => None,
@@ -125,25 +125,18 @@ impl Channels for Items<StatusChannel> {
     }
 }
 
-fn with_all<C: Channels + Drop>(setup: Setup, channels: Option<C>) -> Option<Setup> {
-    let mut setup = setup;
-    match channels {
-        Some(channels) => {
+/// The set-up with these channels in place of its own of their kind.
+pub fn with<C: Channels + Drop>(setup: Option<Setup>, channels: Option<C>) -> Option<Setup> {
+    match (setup, channels) {
+        (Some(mut setup), Some(channels)) => {
             channels.put_into(&mut setup);
             Some(setup)
         }
-        None => {
+        (setup, channels) => {
             drop(setup);
+            drop(channels);
             None
         }
-    }
-}
-
-/// The set-up with these channels in place of its own of their kind.
-pub fn with<C: Channels + Drop>(setup: Option<Setup>, channels: Option<C>) -> Option<Setup> {
-    match setup {
-        Some(setup) => with_all(setup, channels),
-        None => None,
     }
 }
 
@@ -191,7 +184,7 @@ fn refused_contacts(rt: HostRuntime) {
     assert!(rt; is_refused(bare(alloc, 0), SetupFault::Channels));
 }
 
-pub fn scan(alloc: Global, readings: &[Reading], bits: &[bool]) -> Option<Scan> {
+pub fn scan<A: Allocator + Copy>(alloc: A, readings: &[Reading], bits: &[bool]) -> Option<Scan<A>> {
     let readings = Vec::from_slice(alloc, readings).ok()?;
     match Vec::from_slice(alloc, bits) {
         Ok(bits) => Some(Scan::new(readings, bits)),

@@ -2,8 +2,8 @@
 
 ghost use Rattle.std.specs.Prelude.{◌+◌, ◌<◌, length, IfSome};
 
-use super::CFG;
 use super::same::is_same;
+use crate::samples::FIRST_CFG;
 use comtrade_read::{ReadFault, read_cfg, read_dat};
 use comtrade_write::Head;
 use dfr_channels::Items;
@@ -13,7 +13,7 @@ use std::alloc::Global;
 fn without_rates(alloc: Global) -> Option<Head>
     ensures { IfSome result (λ head. length head.analog + length head.status < 1000000) }
 {
-    let mut head = read_cfg(alloc, CFG).ok()?;
+    let mut head = read_cfg(alloc, FIRST_CFG).ok()?;
     head.rates = Items::of(Vec::new(alloc));
     Some(head)
 }

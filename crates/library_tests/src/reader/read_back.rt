@@ -1,16 +1,16 @@
 //! Records that a recorder took, read back from their own texts.
 
-use super::bay::{BAY, Bay, CONTACTS, FAST, SHORT, SIX, TWO, recorder, steps};
 use super::same::is_same;
-use super::{CFG, DAT};
+use crate::bay::{BAY, Bay, CONTACTS, FAST, OVER_100, SHORT, SIX, TWO};
+use crate::samples::{FIRST_CFG, FIRST_DAT};
+use crate::steps::{Start, begun, ran};
 use crate::writer::fixture::give_text;
 use comtrade_read::{read, read_of_file};
 use comtrade_write::{File, Kind, WriteFault, cfg_bytes, dat_bytes, file_of};
 use dfr_channels::{Layout, Memory};
 use dfr_program::{read_of_record, read_of_run, run_and_read};
-use dfr_recorder::{Answer, Ran, Record, Recorder, Step, run};
+use dfr_recorder::{Answer, Ran, Record, Recorder, run};
 use std::alloc::Global;
-use std::collections::VecDeque;
 
 fn is_read(alloc: Global, cfg: &[u8], dat: &[u8], file: &File) -> bool {
     match read(alloc, cfg, dat) {
@@ -70,18 +70,6 @@ fn has_records(alloc: Global, ran: &Ran, records: usize) -> bool {
         && records_of(alloc, ran, Kind::Binary) == Some(records)
 }
 
-/// What a run of the script's steps left.
-fn ran(alloc: Global, bay: Bay, script: &[u8]) -> Option<Ran> {
-    let recorder = recorder(alloc, bay)?;
-    match steps(alloc, script) {
-        Some(steps) => Some(run(alloc, recorder, steps)),
-        None => {
-            drop(recorder);
-            None
-        }
-    }
-}
-
 fn are_read_back(alloc: Global, bay: Bay, script: &[u8], records: usize) -> bool {
     match ran(alloc, bay, script) {
         Some(ran) => {
@@ -94,12 +82,12 @@ fn are_read_back(alloc: Global, bay: Bay, script: &[u8], records: usize) -> bool
 }
 
 const TWO_AT_100: Bay = Bay {
-    at_100: true,
+    rules: &[OVER_100],
     ..TWO
 };
 
 const EIGHT_AT_100: Bay = Bay {
-    at_100: true,
+    rules: &[OVER_100],
     limits: (2, 2, 8, 1),
     ..BAY
 };
@@ -177,34 +165,24 @@ fn are_stamped(files: Result<Vec<File>, Memory>) -> bool {
     }
 }
 
-fn files_are_stamped(alloc: Global, recorder: Recorder, steps: VecDeque<Step>) -> bool {
-    let ran = run(alloc, recorder, steps);
+fn files_are_stamped(alloc: Global, start: Start) -> bool {
+    let ran = run(alloc, start.recorder, start.steps);
     let both = are_stamped(read_of_run(alloc, &ran, Kind::Ascii))
         && are_stamped(read_of_run(alloc, &ran, Kind::Binary));
     drop(ran);
     both
 }
 
-fn files_at_once_are_stamped(alloc: Global, recorder: Recorder, steps: VecDeque<Step>) -> bool {
-    let (ran, files) = run_and_read(alloc, recorder, steps, Kind::Binary);
+fn files_at_once_are_stamped(alloc: Global, start: Start) -> bool {
+    let (ran, files) = run_and_read(alloc, start.recorder, start.steps, Kind::Binary);
     drop(ran);
     are_stamped(files)
 }
 
-fn run_is_stamped(alloc: Global, recorder: Recorder, at_once: bool) -> bool {
-    match steps(alloc, b"1!234^") {
-        Some(steps) if at_once => files_at_once_are_stamped(alloc, recorder, steps),
-        Some(steps) => files_are_stamped(alloc, recorder, steps),
-        None => {
-            drop(recorder);
-            false
-        }
-    }
-}
-
 fn is_stamped(alloc: Global, at_once: bool) -> bool {
-    match recorder(alloc, FAST) {
-        Some(recorder) => run_is_stamped(alloc, recorder, at_once),
+    match begun(alloc, FAST, b"1!234^") {
+        Some(start) if at_once => files_at_once_are_stamped(alloc, start),
+        Some(start) => files_are_stamped(alloc, start),
         None => false,
     }
 }
@@ -262,7 +240,7 @@ fn fault_with(alloc: Global, file: &mut File, station: &[u8]) -> Option<WriteFau
 }
 
 fn fault_at(alloc: Global, station: &[u8]) -> Option<WriteFault> {
-    match read(alloc, CFG, DAT) {
+    match read(alloc, FIRST_CFG, FIRST_DAT) {
         Ok(mut file) => {
             let fault = fault_with(alloc, &mut file, station);
             drop(file);

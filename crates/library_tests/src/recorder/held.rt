@@ -1,7 +1,8 @@
 //! How many scans a recorder holds after each call.
 
-use super::fixture::{recorder, recorder_at_100, value};
 use super::records::{HIGH, are_scanned};
+use crate::bay::{BAY, TWO, recorder, recorder_at_100};
+use crate::steps::{is_scanned, value};
 use dfr_recorder::Recorder;
 use std::alloc::{Allocator, Global};
 
@@ -11,13 +12,6 @@ enum Call {
     Scan(i32),
     Trigger,
     Take,
-}
-
-pub fn scans<A: Allocator + Copy>(alloc: A, recorder: &mut Recorder<A>, x: i32) -> bool {
-    match value(alloc, x) {
-        Some(scan) => recorder.scan(scan).is_ok(),
-        None => false,
-    }
 }
 
 /// Whether a record is taken, and let go.
@@ -31,7 +25,7 @@ pub fn takes<A: Allocator>(recorder: &mut Recorder<A>) -> bool {
 /// Whether the call is answered as one that does something.
 fn does(alloc: Global, recorder: &mut Recorder, call: Call) -> bool {
     match call {
-        Call::Scan(x) => scans(alloc, recorder, x),
+        Call::Scan(x) => is_scanned(recorder, value(alloc, x)),
         Call::Trigger => recorder.trigger().is_ok(),
         Call::Take => takes(recorder),
     }
@@ -69,7 +63,7 @@ const EARLY: [(Call, u64); 5] = [
 ];
 
 fn new_holds(alloc: Global, calls: &[(Call, u64)]) -> bool {
-    match recorder(alloc, 1) {
+    match recorder(alloc, BAY) {
         Some(mut recorder) => {
             let right = holds(alloc, &mut recorder, calls);
             drop(recorder);
@@ -94,7 +88,7 @@ fn holds_two(alloc: Global, recorder: &mut Recorder) -> bool {
 }
 
 fn new_holds_two(alloc: Global) -> bool {
-    match recorder_at_100(alloc, 2) {
+    match recorder_at_100(alloc, TWO) {
         Some(mut recorder) => {
             let right = holds_two(alloc, &mut recorder);
             drop(recorder);

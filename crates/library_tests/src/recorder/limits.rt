@@ -1,6 +1,6 @@
 //! Limits that are taken and refused.
 
-use super::fixture::layout;
+use crate::bay::{BAY, Bay, layout};
 use dfr_channels::Layout;
 use dfr_recorder::{LimitFault, Limits};
 use std::alloc::Global;
@@ -25,7 +25,7 @@ fn are_limits(layout: &Layout) -> bool {
 }
 
 fn in_order(alloc: Global) -> bool {
-    match layout(alloc, 1) {
+    match layout(alloc, Bay { rate: 1, ..BAY }) {
         Some(layout) => {
             let are = are_limits(&layout);
             drop(layout);
@@ -42,7 +42,7 @@ fn limits_in_order(rt: HostRuntime) {
 
 /// Limits that a thousand scans a second allow.
 fn limits_of(alloc: Global, (pre, post, longest, shelf): (u32, u32, u32, u32)) -> Option<Limits> {
-    let layout = layout(alloc, 1000)?;
+    let layout = layout(alloc, BAY)?;
     let limits = Limits::new(&layout, pre, post, longest, shelf).ok();
     drop(layout);
     limits
@@ -51,7 +51,7 @@ fn limits_of(alloc: Global, (pre, post, longest, shelf): (u32, u32, u32, u32)) -
 /// Whether they fit a layout of this rate.
 fn fit_at(alloc: Global, rate: u32) -> Option<bool> {
     let limits = limits_of(alloc, (0, 1, 4296, 1))?;
-    let layout = layout(alloc, rate)?;
+    let layout = layout(alloc, Bay { rate, ..BAY })?;
     let fit = limits.fits(&layout);
     drop(layout);
     Some(fit)

@@ -1,8 +1,9 @@
 //! That a recorder holds nothing besides what contracts see: its memory grows neither with its scans nor with the records that were
 //! taken.
 
-use super::fixture::recorder;
-use super::held::{scans, takes};
+use super::held::takes;
+use crate::bay::{BAY, recorder};
+use crate::steps::{is_scanned, value};
 use dfr_recorder::Recorder;
 use linked_list_allocator::LocalHeap;
 use std::test::Fail;
@@ -11,7 +12,7 @@ type Local<'a> = Recorder<&'a LocalHeap>;
 
 fn takes_scans<'a>(heap: &'a LocalHeap, recorder: &mut Local<'a>, n: u32) -> bool {
     for _ in 0..n {
-        if !scans(heap, recorder, 0) {
+        if !is_scanned(recorder, value(heap, 0)) {
             return false;
         }
     }
@@ -56,7 +57,7 @@ fn stays<'a>(heap: &'a LocalHeap, recorder: &mut Local<'a>) -> bool {
 
 /// The ring is full after three scans.
 fn stays_when_full(heap: &LocalHeap) -> bool {
-    match recorder(heap, 1) {
+    match recorder(heap, BAY) {
         Some(mut recorder) => {
             let right = takes_scans(heap, &mut recorder, 3) && stays(heap, &mut recorder);
             drop(recorder);

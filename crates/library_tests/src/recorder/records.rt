@@ -1,7 +1,8 @@
 //! Records around manual triggers and those of a rule.
 
-use super::fixture::{recorder, recorder_at_100, value};
-use dfr_channels::{Reading, Scan};
+use crate::bay::{BAY, TWO, recorder, recorder_at_100};
+use crate::steps::{is_value, value};
+use dfr_channels::Scan;
 use dfr_recorder::{Cause, Extent, Hit, Record, Recorder, ScanRefusal, Scanned};
 use std::alloc::{Allocator, Global};
 
@@ -34,10 +35,6 @@ pub fn are_scanned<A: Allocator + Copy>(
         }
     }
     true
-}
-
-fn is_value<A: Allocator>(scan: &Scan<A>, x: i32) -> bool {
-    matches!(scan.analog(), [Reading::Value(y)] if *y == x)
 }
 
 fn are_values<A: Allocator>(scans: &[Scan<A>], values: &[i32]) -> bool {
@@ -102,7 +99,7 @@ fn takes_first(recorder: &mut Recorder) -> bool {
 }
 
 fn records(alloc: Global) -> bool {
-    match recorder(alloc, 1) {
+    match recorder(alloc, BAY) {
         Some(mut recorder) => {
             let right = opens(alloc, &mut recorder)
                 && closes(alloc, &mut recorder)
@@ -132,7 +129,7 @@ pub const HIGH: [Told; 8] = [
 ];
 
 fn grows(alloc: Global) -> bool {
-    match recorder_at_100(alloc, 2) {
+    match recorder_at_100(alloc, TWO) {
         Some(mut recorder) => {
             let right = are_scanned(alloc, &mut recorder, &HIGH);
             drop(recorder);

@@ -1,59 +1,10 @@
 //! Lists of steps, with enough memory.
 
-use super::fixture::{recorder, value};
 use super::records::is_first;
-use dfr_recorder::{Answer, Ran, Step, run};
-use std::alloc::Global;
-use std::collections::VecDeque;
-
-type Steps = VecDeque<Step>;
-
-fn add(steps: &mut Steps, step: Step) -> bool {
-    steps.push_back(step).is_ok()
-}
-
-fn add_scan(alloc: Global, steps: &mut Steps, x: i32) -> bool {
-    match value(alloc, x) {
-        Some(scan) => add(steps, Step::Scan(scan)),
-        None => false,
-    }
-}
-
-fn add_scans(alloc: Global, steps: &mut Steps, values: &[i32]) -> bool {
-    for x in values {
-        if !add_scan(alloc, steps, *x) {
-            return false;
-        }
-    }
-    true
-}
-
-/// Four scans, a trigger, and two scans, which close a record.
-fn add_first(alloc: Global, steps: &mut Steps) -> bool {
-    add_scans(alloc, steps, &[10, 11, 12, 13])
-        && add(steps, Step::Trigger)
-        && add_scans(alloc, steps, &[14, 15])
-}
-
-fn add_idle(alloc: Global, steps: &mut Steps, n: u32) -> bool {
-    for _ in 0..n {
-        if !add_scan(alloc, steps, 0) {
-            return false;
-        }
-    }
-    true
-}
-
-/// The steps made by a new recorder with a shelf of one.
-fn ran(alloc: Global, steps: Steps) -> Option<Ran> {
-    match recorder(alloc, 1) {
-        Some(recorder) => Some(run(alloc, recorder, steps)),
-        None => {
-            drop(steps);
-            None
-        }
-    }
-}
+use crate::bay::BAY;
+use crate::steps::ran;
+use dfr_recorder::{Answer, Ran};
+use std::alloc::{AllocError, Global};
 
 fn is_whole(ran: &Ran, answers: usize) -> bool {
     ran.stopped.is_none() && ran.rest.is_empty() && ran.answers.len() == answers
@@ -66,23 +17,9 @@ fn takes_first(answers: &[Answer]) -> bool {
     }
 }
 
-/// So many scans between the record and the step that takes it.
-fn takes_after(alloc: Global, steps: &mut Steps, n: u32) -> bool {
-    add_first(alloc, steps) && add_idle(alloc, steps, n) && add(steps, Step::Take)
-}
-
-/// The run of so many scans there.
-fn ran_after(alloc: Global, n: u32) -> Option<Ran> {
-    let mut steps = VecDeque::new(alloc);
-    if takes_after(alloc, &mut steps, n) {
-        return ran(alloc, steps);
-    }
-    drop(steps);
-    None
-}
-
-fn is_taken_after(alloc: Global, n: u32, answers: usize) -> bool {
-    match ran_after(alloc, n) {
+/// Whether so many steps are answered, and the last takes the record.
+fn is_taken(alloc: Global, script: &[u8], answers: usize) -> bool {
+    match ran(alloc, BAY, script) {
         Some(ran) => {
             let taken = is_whole(&ran, answers) && takes_first(&ran.answers);
             drop(ran);
@@ -94,26 +31,29 @@ fn is_taken_after(alloc: Global, n: u32, answers: usize) -> bool {
 
 #[test]
 fn runs_a_take(rt: HostRuntime) {
-    assert!(rt; is_taken_after(rt.alloc(), 0, 8));
+    assert!(rt; is_taken(rt.alloc(), b"0123!45^", 8));
+}
+
+/// The same with 1,200 scans between the record and the step that takes it.
+fn late(alloc: Global) -> Result<Vec<u8>, AllocError> {
+    let mut script = Vec::from_slice(alloc, b"0123!45")?;
+    script.extend_from_slice(&[b'z'; 1200])?;
+    script.push(b'^')?;
+    Ok(script)
 }
 
 /// With enough memory no step is handed back, however long the run was before it.
 #[test]
 fn runs_a_late_take(rt: HostRuntime) {
-    assert!(rt; is_taken_after(rt.alloc(), 1200, 1208));
-}
-
-fn ran_one(alloc: Global) -> Option<Ran> {
-    let mut steps = VecDeque::new(alloc);
-    if add(&mut steps, Step::Take) {
-        return ran(alloc, steps);
-    }
-    drop(steps);
-    None
+    let taken = match late(rt.alloc()) {
+        Ok(script) => is_taken(rt.alloc(), &script, 1208),
+        Err(_) => false,
+    };
+    assert!(rt; taken);
 }
 
 fn answers_none(alloc: Global) -> bool {
-    match ran_one(alloc) {
+    match ran(alloc, BAY, b"^") {
         Some(ran) => {
             let none = is_whole(&ran, 1) && matches!(ran.answers.as_slice(), [Answer::Take(None)]);
             drop(ran);

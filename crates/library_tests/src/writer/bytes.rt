@@ -1,12 +1,16 @@
 //! The bytes of small files.
 
+use crate::samples::{FIRST_BINARY, FIRST_CFG, FIRST_DAT};
 use crate::writer::fixture::{analog, file, give_rates, head, no_items, number, one, put};
-use comtrade_write::{File, Kind, Rate, ascii_bytes, binary_bytes, cfg_bytes, dat_bytes};
+use comtrade_write::{
+    File, Kind, Rate, WriteFault, ascii_bytes, binary_bytes, cfg_bytes, dat_bytes,
+};
 use dfr_channels::{AnalogChannel, Decimal, Items, Side};
-use std::alloc::Global;
+use std::alloc::{Allocator, Global};
 
-fn has_cfg(alloc: Global, file: &File, wanted: &[u8]) -> bool {
-    match cfg_bytes(alloc, file) {
+/// Whether these bytes are written.
+pub fn is_text<A: Allocator>(written: Result<Vec<u8, A>, WriteFault>, wanted: &[u8]) -> bool {
+    match written {
         Ok(bytes) => bytes.as_slice() == wanted,
         Err(_) => false,
     }
@@ -16,7 +20,7 @@ fn has_cfg(alloc: Global, file: &File, wanted: &[u8]) -> bool {
 fn is_cfg(alloc: Global, file: Option<File>, wanted: &[u8]) -> bool {
     match file {
         Some(file) => {
-            let has = has_cfg(alloc, &file, wanted);
+            let has = is_text(cfg_bytes(alloc, &file), wanted);
             drop(file);
             has
         }
@@ -24,27 +28,12 @@ fn is_cfg(alloc: Global, file: Option<File>, wanted: &[u8]) -> bool {
     }
 }
 
-/// Whether the data file in ASCII form has these bytes.
-pub fn is_ascii(alloc: Global, file: &File, wanted: &[u8]) -> bool {
-    match ascii_bytes(alloc, file) {
-        Ok(bytes) => bytes.as_slice() == wanted,
-        Err(_) => false,
-    }
-}
-
-/// Whether the data file in BINARY form has these bytes.
-pub fn is_binary(alloc: Global, file: &File, wanted: &[u8]) -> bool {
-    match binary_bytes(alloc, file) {
-        Ok(bytes) => bytes.as_slice() == wanted,
-        Err(_) => false,
-    }
-}
-
 /// Whether the data file has these bytes in ASCII and in BINARY form.
 pub fn are_data(alloc: Global, file: Option<File>, ascii: &[u8], binary: &[u8]) -> bool {
     match file {
         Some(file) => {
-            let are = is_ascii(alloc, &file, ascii) && is_binary(alloc, &file, binary);
+            let are = is_text(ascii_bytes(alloc, &file), ascii)
+                && is_text(binary_bytes(alloc, &file), binary);
             drop(file);
             are
         }
@@ -78,18 +67,13 @@ fn lengths(alloc: Global, file: Option<File>, kind: Kind) -> Option<(usize, usiz
 #[test]
 fn cfg_of_one_channel(rt: HostRuntime) {
     let alloc = rt.alloc();
-    let wanted =
-        b"Bay 1,DFR,1999\r\n1,1A,0D\r\n1,IA,A,,A,1,0,0,-32767,32767,1,1,P\r\n50\r\n1\r\n1000,5\r\n01/01/1970,00:00:00.001000\r\n01/01/1970,00:00:00.003000\r\nASCII\r\n1\r\n";
-    assert!(rt; is_cfg(alloc, file(alloc, 1000, 12), wanted));
+    assert!(rt; is_cfg(alloc, file(alloc, 1000, 12), FIRST_CFG));
 }
 
 #[test]
 fn data_of_one_channel(rt: HostRuntime) {
     let alloc = rt.alloc();
-    let ascii = b"1,0,11\r\n2,1000,12\r\n3,2000,13\r\n4,3000,14\r\n5,4000,15\r\n\x1A";
-    let binary =
-        b"\x01\0\0\0\0\0\0\0\x0B\0\x02\0\0\0\xE8\x03\0\0\x0C\0\x03\0\0\0\xD0\x07\0\0\x0D\0\x04\0\0\0\xB8\x0B\0\0\x0E\0\x05\0\0\0\xA0\x0F\0\0\x0F\0";
-    assert!(rt; are_data(alloc, file(alloc, 1000, 12), ascii, binary));
+    assert!(rt; are_data(alloc, file(alloc, 1000, 12), FIRST_DAT, FIRST_BINARY));
 }
 
 #[test]

@@ -106,9 +106,10 @@ impl Channel for StatusChannel {
     }
 }
 
-fn add<T: Channel + Drop>(list: &mut Vec<T>, alloc: Global) -> bool {
-    match T::made(alloc) {
-        Some(channel) => list.push(channel).is_ok(),
+/// Adds an item, where it was made.
+pub fn add<T: Drop>(list: &mut Vec<T>, item: Option<T>) -> bool {
+    match item {
+        Some(item) => list.push(item).is_ok(),
         None => false,
     }
 }
@@ -117,7 +118,7 @@ fn add<T: Channel + Drop>(list: &mut Vec<T>, alloc: Global) -> bool {
 fn many<T: Channel + Drop>(alloc: Global, n: usize) -> Option<Items<T>> {
     let mut list = Vec::new(alloc);
     for _ in 0..n {
-        if !add(&mut list, alloc) {
+        if !add(&mut list, T::made(alloc)) {
             return None;
         }
     }
@@ -195,13 +196,6 @@ pub fn row(
     }
 }
 
-pub fn add_row(list: &mut Vec<Row>, row: Option<Row>) -> bool {
-    match row {
-        Some(row) => list.push(row).is_ok(),
-        None => false,
-    }
-}
-
 fn row_of(alloc: Global, (number, stamp, value): (u64, u64, i32)) -> Option<Row> {
     row(alloc, (number, Some(stamp)), &[Reading::Value(value)], &[])
 }
@@ -210,27 +204,18 @@ fn row_of(alloc: Global, (number, stamp, value): (u64, u64, i32)) -> Option<Row>
 pub fn rows(alloc: Global, list: &[(u64, u64, i32)]) -> Option<Items<Row>> {
     let mut rows = Vec::new(alloc);
     for parts in list {
-        if !add_row(&mut rows, row_of(alloc, *parts)) {
+        if !add(&mut rows, row_of(alloc, *parts)) {
             return None;
         }
     }
     Some(Items::of(rows))
 }
 
-fn file_under(head: Head, rows: Option<Items<Row>>) -> Option<File> {
-    match rows {
-        Some(rows) => Some(File { head, rows }),
-        None => {
-            drop(head);
-            None
-        }
-    }
-}
-
 pub fn file_from(head: Option<Head>, rows: Option<Items<Row>>) -> Option<File> {
-    match head {
-        Some(head) => file_under(head, rows),
-        None => {
+    match (head, rows) {
+        (Some(head), Some(rows)) => Some(File { head, rows }),
+        (head, rows) => {
+            drop(head);
             drop(rows);
             None
         }

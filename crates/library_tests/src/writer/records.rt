@@ -3,10 +3,11 @@
 ghost use Rattle.std.specs.Prelude.{IsTrue};
 ghost use Rattle.dfr_recorder.specs.Own.{is_own};
 
-use crate::reader::bay::{Bay, FAST, layout, recorder};
-use crate::writer::bytes::is_ascii;
-use comtrade_write::{File, FileFault, Kind, WriteFault, cfg_bytes, file_of};
-use dfr_channels::{Layout, Reading, Scan};
+use crate::bay::{Bay, FAST, layout};
+use crate::steps::{recorder_after, taken};
+use crate::writer::bytes::is_text;
+use comtrade_write::{File, FileFault, Kind, ascii_bytes, file_of};
+use dfr_channels::Layout;
 use dfr_recorder::{Record, Recorder};
 use std::alloc::Global;
 
@@ -23,41 +24,8 @@ const LEAP: Bay = Bay {
 const TWO_CHANNELS: &[u8] =
     b"Bay 1,DFR,1999\n2,2A,0D\n1,IA,A,,A,1,0,0,-32767,32767,1,1,P\n2,IB,B,,A,1,0,0,-32767,32767,1,1,P\n50\n1\n1,1\n01/01/1970,0:0:0\n01/01/1970,0:0:0\nASCII\n1";
 
-fn scan(recorder: &mut Recorder, alloc: Global, value: i32) -> bool {
-    match Vec::from_slice(alloc, &[Reading::Value(value)]) {
-        Ok(readings) => recorder.scan(Scan::new(readings, Vec::new(alloc))).is_ok(),
-        Err(_) => false,
-    }
-}
-
-/// Whether the recorder then holds a closed record of the values 1 to 4.
-fn closes(recorder: &mut Recorder, alloc: Global) -> bool {
-    scan(recorder, alloc, 1)
-        && recorder.trigger().is_ok()
-        && scan(recorder, alloc, 2)
-        && scan(recorder, alloc, 3)
-        && scan(recorder, alloc, 4)
-}
-
-fn closed(alloc: Global) -> Option<Recorder> {
-    let mut recorder = recorder(alloc, LEAP)?;
-    if closes(&mut recorder, alloc) {
-        return Some(recorder);
-    }
-    drop(recorder);
-    None
-}
-
-fn taken(alloc: Global) -> Option<Record> {
-    match closed(alloc) {
-        Some(mut recorder) => {
-            let record = recorder.take();
-            drop(recorder);
-            record
-        }
-        None => None,
-    }
-}
+/// A trigger at the first scan, and three scans after it.
+const CLOSES: &[u8] = b"1!234";
 
 type Made = Result<File, FileFault>;
 
@@ -70,7 +38,7 @@ fn made_over(alloc: Global, record: &Record, layout: Option<Layout>) -> Option<M
 
 /// What `file_of` answers over the layout of this bay.
 fn made(alloc: Global, bay: Bay) -> Option<Made> {
-    let record = taken(alloc)?;
+    let record = taken(alloc, LEAP, CLOSES)?;
     let made = made_over(alloc, &record, layout(alloc, bay));
     drop(record);
     made
@@ -89,7 +57,7 @@ fn is_foreign(alloc: Global, bay: Bay) -> bool {
 fn is_file(alloc: Global, made: Made, wanted: &[u8]) -> bool {
     match made {
         Ok(file) => {
-            let right = is_ascii(alloc, &file, wanted);
+            let right = is_text(ascii_bytes(alloc, &file), wanted);
             drop(file);
             right
         }
@@ -104,11 +72,11 @@ fn is_made(alloc: Global, start: i64, wanted: &[u8]) -> bool {
     }
 }
 
-const DATA: [u8; 35] = *b"1,0,1\r\n2,208,2\r\n3,416,3\r\n4,625,4\r\n\x1A";
+const DATA: &[u8] = b"1,0,11\r\n2,208,12\r\n3,416,13\r\n4,625,14\r\n\x1A";
 
 #[test]
 fn file_of_a_record(rt: HostRuntime) {
-    assert!(rt; is_made(rt.alloc(), LEAP_DAY, &DATA));
+    assert!(rt; is_made(rt.alloc(), LEAP_DAY, DATA));
 }
 
 #[test]
@@ -128,7 +96,7 @@ fn last_scan_without_an_instant(rt: HostRuntime) {
         ..LEAP
     };
     assert!(rt; is_foreign(rt.alloc(), late));
-    assert!(rt; is_made(rt.alloc(), 253402300799999374, &DATA));
+    assert!(rt; is_made(rt.alloc(), 253402300799999374, DATA));
 }
 
 /// The File of a record over the layout of the recorder that gave it: that it is never foreign is proved here.
@@ -161,7 +129,7 @@ fn gives_a_file(alloc: Global, recorder: &mut Recorder) -> bool {
 }
 
 fn closed_gives_a_file(alloc: Global) -> bool {
-    match closed(alloc) {
+    match recorder_after(alloc, LEAP, CLOSES) {
         Some(mut recorder) => {
             let gives = gives_a_file(alloc, &mut recorder);
             drop(recorder);

@@ -1,5 +1,6 @@
 //! Rows of many channels, in both forms.
 
+use crate::steps::{SIX_BITS, SIX_READINGS};
 use crate::writer::bytes::are_data;
 use crate::writer::fixture::{file_from, head, one, row};
 use comtrade_write::{File, Row};
@@ -31,15 +32,6 @@ fn file(
 #[test]
 fn six_and_six(rt: HostRuntime) {
     let alloc = rt.alloc();
-    let values = [
-        Reading::Value(-760),
-        Reading::Value(1274),
-        Reading::Value(72),
-        Reading::Value(61),
-        Reading::Value(-140),
-        Reading::Value(-502),
-    ];
-    let bits = [false, false, false, false, true, true];
     let ascii = b"5,667,-760,1274,72,61,-140,-502,0,0,0,0,1,1\r\n\x1A";
     let binary = [
         0x05, 0, 0, 0, 0x9B, 0x02, 0, 0, 0x08, 0xFD, 0xFA, 0x04, 0x48, 0, 0x3D, 0, 0x74, 0xFF,
@@ -48,7 +40,7 @@ fn six_and_six(rt: HostRuntime) {
     assert!(rt;
         are_data(
             alloc,
-            file(alloc, (5, Some(667)), &values, &bits),
+            file(alloc, (5, Some(667)), &SIX_READINGS, &SIX_BITS),
             ascii,
             &binary
         )

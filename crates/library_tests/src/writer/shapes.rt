@@ -1,7 +1,7 @@
 //! Files without a shape that the writers can hold.
 
 use crate::writer::fixture::{
-    add_row, analog, file, file_from, give_rates, head, no_items, put, rate_to, row, rows,
+    add, analog, file, file_from, give_rates, head, no_items, put, rate_to, row, rows,
 };
 use crate::writer::texts::file_of_channel;
 use crate::writer::values::are_faults;
@@ -98,8 +98,8 @@ fn rates(rt: HostRuntime) {
 /// Two rows, where the second has these values and these bits.
 fn two_rows(alloc: Global, values: &[Reading], bits: &[bool]) -> Option<Items<Row>> {
     let mut list = Vec::new(alloc);
-    if add_row(&mut list, row(alloc, (1, None), &[Reading::Value(11)], &[]))
-        && add_row(&mut list, row(alloc, (2, None), values, bits))
+    if add(&mut list, row(alloc, (1, None), &[Reading::Value(11)], &[]))
+        && add(&mut list, row(alloc, (2, None), values, bits))
     {
         return Some(Items::of(list));
     }

@@ -1,4 +1,0 @@
-use Rattle.allocation_failures.proofs.live_play.is_played.Given as goal
-
-abbrev pub ghosts-plays : goal.ghosts-plays
-ghosts-plays g a = record { lane = a.opened.lane; opening = a.opened.opening; seats = a.opened.seats }

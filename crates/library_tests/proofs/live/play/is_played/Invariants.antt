@@ -1,0 +1,4 @@
+use Rattle.library_tests.proofs.live.play.is_played.Given as goal
+
+abbrev pub ghosts-plays : goal.ghosts-plays
+ghosts-plays g a = record { lane = a.opened.lane; opening = a.opened.opening; seats = a.opened.seats }

@@ -1,0 +1,140 @@
+//! A station of one channel and one contact, with a reader, a store and a printer in memory.
+
+use crate::streams::Pieces;
+use comtrade_write::Kind;
+use dfr_recorder::Recorder;
+use dfr_station::{
+    First, Input, Key, Printer, Recorded, RunFault, Station, Store, Stored, Trouble, read_first,
+    recorder_of, run_station,
+};
+use std::alloc::{Allocator, Global};
+use std::sync::Wait;
+use std::thread::Threads;
+use std::time::Clock;
+
+/// Nine scans before a trigger and one after it; a level over 100 opens a record.
+pub const SETUP: &[u8] =
+    b"station S\ndevice D\nanalog A,,,A,1,0,0,-200,200,1,1,P\nstatus T,,,0\nfreq 50\nrate 1000\nlimits 9,1,11,1\nrules level 0 over 100\n";
+
+/// How many bytes a frame of it has.
+const FRAME: usize = 4;
+
+/// The last pair that came, how many came, and how often none is taken before.
+#[derive(Drop)]
+pub struct Kept {
+    pub key: Option<Key>,
+    pub dat: Vec<u8>,
+    pub count: u64,
+    pub troubles: u32,
+}
+
+impl Store for Kept {
+    fn put(&mut self, key: Key, cfg: &[u8], dat: &[u8]) -> Result<Stored, Trouble> {
+        if self.troubles > 0 || cfg.is_empty() {
+            self.troubles = self.troubles.saturating_sub(1);
+            return Err(Trouble::Full);
+        }
+        self.key = Some(key);
+        self.count = self.count.saturating_add(1);
+        self.dat.clear();
+        match self.dat.extend_from_slice(dat) {
+            Ok(()) => Ok(Stored { key, removed: 0 }),
+            Err(_) => Err(Trouble::Memory),
+        }
+    }
+}
+
+/// All that was printed.
+#[derive(Drop)]
+pub struct Told {
+    pub text: Vec<u8>,
+}
+
+impl Printer for Told {
+    fn print(&mut self, text: &[u8]) {
+        let _ = self.text.extend_from_slice(text);
+    }
+}
+
+/// Whether a text was printed.
+pub fn is_told(told: &Told, text: &[u8]) -> bool {
+    let mut rest = told.text.as_slice();
+    for _ in 0..told.text.len() {
+        if rest.starts_with(text) {
+            return true;
+        }
+        match rest {
+            [_, tail @ ..] => rest = tail,
+            [] => return false,
+        }
+    }
+    false
+}
+
+/// What a station leaves in the store and at the printer.
+#[derive(Drop)]
+pub struct Seen {
+    pub kept: Kept,
+    pub told: Told,
+}
+
+pub fn nothing_seen(alloc: Global, troubles: u32) -> Seen {
+    Seen {
+        kept: Kept {
+            key: None,
+            dat: Vec::new(alloc),
+            count: 0,
+            troubles,
+        },
+        told: Told {
+            text: Vec::new(alloc),
+        },
+    }
+}
+
+fn station_of<A: Allocator>(recorder: Recorder<A>, form: Input) -> Station<A> {
+    Station {
+        recorder,
+        input: form,
+        kind: Kind::Ascii,
+        minutes: false,
+        operator: None,
+    }
+}
+
+/// What came up to the first scan, and the recorder; None where there is no memory for them.
+fn begun<A: Allocator + Copy>(
+    alloc: A,
+    form: Input,
+    input: &mut Pieces<'_>,
+) -> Option<(First<A>, Recorder<A>)> {
+    match read_first(alloc, input, form, FRAME) {
+        Ok(first) => match recorder_of(alloc, SETUP, 0) {
+            Ok(recorder) => Some((first, recorder)),
+            Err(_) => None,
+        },
+        Err(_) => None,
+    }
+}
+
+/// Records these bytes.
+pub fn recorded<A: Allocator + Copy + Send + Sync, R: Threads + Wait + Clock + Sync>(
+    rt: &R,
+    alloc: A,
+    form: Input,
+    input: &mut Pieces<'_>,
+    seen: &mut Seen,
+) -> Result<Recorded<A>, RunFault> {
+    match begun(alloc, form, input) {
+        Some((first, recorder)) => run_station(
+            rt,
+            alloc,
+            station_of(recorder, form),
+            first,
+            input,
+            &mut seen.kept,
+            &mut seen.told,
+        ),
+        None => Err(RunFault::Memory),
+    }
+}

@@ -1,4 +1,0 @@
-use Rattle.live_tests.proofs.lent.is_right.Given as goal
-
-abbrev pub ghosts-lends : goal.ghosts-lends
-ghosts-lends g a = record { lane = a.opened.lane; opening = a.opened.opening; seats = a.opened.seats }

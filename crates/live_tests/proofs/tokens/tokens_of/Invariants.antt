@@ -1,4 +1,0 @@
-use Rattle.live_tests.proofs.tokens.tokens_of.Given as goal
-
-abbrev pub ghosts-tokens_named : goal.ghosts-tokens_named
-ghosts-tokens_named a = record { lane = a.opened.lane; opening = a.opened.opening; seats = a.opened.seats }
