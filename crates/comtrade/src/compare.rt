@@ -1,13 +1,13 @@
 //! `comtrade compare`: two records in one picture.
 
 use crate::load::{Inputs, file_spelled, pair_of, read_pair};
+use crate::part::{Taken, taken_of};
 use crate::survey::say_repairs;
-use crate::view::{NO_SIZE, options_of, put_part_fault};
+use crate::view::{NO_SIZE, options_of};
 use crate::{complain, note_size, say};
 use comtrade_format::File;
 use comtrade_io::{Compared, Names, Part, ToolFault, put};
 use comtrade_plot::{By, CompareOptions, PlotOptions, Timed, compare_over};
-use comtrade_views::{Cut, is_whole, part_of, times_since_trigger};
 use std::alloc::Global;
 use std::io;
 use std::io::Write;
@@ -37,41 +37,6 @@ fn part_beside<'a>(part: Part<'a>) -> Part<'a> {
     }
 }
 
-/// A record or a part of it, and when its rows were taken, in nanoseconds since its trigger.
-#[derive(Drop)]
-struct Taken {
-    file: File,
-    times: Vec<Option<i64>>,
-}
-
-/// The part of a file that is asked for; none where it has none, which is put to `said`.
-fn taken_of(
-    alloc: Global,
-    file: File,
-    part: Part<'_>,
-    said: &mut Vec<u8>,
-) -> Result<Option<Taken>, ToolFault> {
-    let times = times_since_trigger(alloc, &file)?;
-    if is_whole(part) {
-        return Ok(Some(Taken { file, times }));
-    }
-    match part_of(alloc, &file, part) {
-        Ok(cut) => {
-            let Cut { file, from, to } = cut;
-            let kept = match times.get(from..to) {
-                Some(kept) => kept,
-                None => &[],
-            };
-            let times = Vec::from_slice(alloc, kept)?;
-            Ok(Some(Taken { file, times }))
-        }
-        Err(fault) => {
-            put_part_fault(said, fault)?;
-            Ok(None)
-        }
-    }
-}
-
 /// The file of a record that was read; none where it has none, which is said.
 fn file_from<R: Eprint + AllocGlobal>(
     rt: &R,
@@ -82,24 +47,14 @@ fn file_from<R: Eprint + AllocGlobal>(
     let mut said = Vec::new(rt.alloc());
     let pair = pair_of(inputs);
     match file_spelled(rt.alloc(), pair, part.strict, part.encoding, &mut said)? {
-        Some(file) => told(rt, name, &said, file),
+        Some(file) => {
+            say_repairs(rt, name, &said)?;
+            Ok(Some(file))
+        }
         None => {
             say(rt, &said);
             Ok(None)
         }
-    }
-}
-
-/// Says what was repaired of a file, and hands it on.
-fn told<R: Eprint + AllocGlobal>(
-    rt: &R,
-    name: &str,
-    said: &[u8],
-    file: File,
-) -> Result<Option<File>, ToolFault> {
-    match say_repairs(rt, name, said) {
-        Ok(()) => Ok(Some(file)),
-        Err(fault) => Err(fault),
     }
 }
 
@@ -180,20 +135,6 @@ fn draw<R: Print + Eprint + AllocGlobal>(
     Ok(is_drawn)
 }
 
-/// Reads the second record and draws both; false where that is refused, which is said.
-fn compare_with<R: Files + Input + Print + Eprint + AllocGlobal + Clone + Drop>(
-    rt: &R,
-    is_watched: bool,
-    asked: Compared<'_>,
-    options: CompareOptions,
-    one: &Taken,
-) -> Result<bool, ToolFault> {
-    match record_of(rt, is_watched, asked.other, part_beside(asked.part))? {
-        Some(other) => draw(rt, one, &other, options),
-        None => Ok(false),
-    }
-}
-
 /// Reads two records and draws them; false where that is refused, which is said.
 fn compare<R: Files + Input + Print + Eprint + AllocGlobal + Clone + Drop>(
     rt: &R,
@@ -207,8 +148,11 @@ fn compare<R: Files + Input + Print + Eprint + AllocGlobal + Clone + Drop>(
         picture,
         is_chosen: asked.part.channels.is_some(),
     };
-    match record_of(rt, is_watched, asked.one, asked.part)? {
-        Some(one) => compare_with(rt, is_watched, asked, options, &one),
+    let Some(one) = record_of(rt, is_watched, asked.one, asked.part)? else {
+        return Ok(false);
+    };
+    match record_of(rt, is_watched, asked.other, part_beside(asked.part))? {
+        Some(other) => draw(rt, &one, &other, options),
         None => Ok(false),
     }
 }

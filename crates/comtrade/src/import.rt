@@ -2,11 +2,10 @@
 
 use crate::load::{put_notes, read_inputs, refuse_import};
 use crate::write::{is_name, write_named};
-use crate::{complain, out_of_memory};
+use crate::{out_of_memory, print_bytes};
 use comtrade_diagnostics::{Choices, Imported, Key, Order, import, import_single};
-use comtrade_io::{Names, write_out};
+use comtrade_io::Names;
 use std::alloc::AllocError;
-use std::io;
 use std::rt::Files;
 
 const HELP: &str = "\
@@ -159,10 +158,7 @@ fn write<R: Files + Print + Eprint + AllocGlobal>(
     if status != 0 {
         return status;
     }
-    match write_out(&mut io::writer(rt), &lines) {
-        Ok(()) => 0,
-        Err(fault) => complain(rt, "standard output", fault),
-    }
+    print_bytes(rt, &lines)
 }
 
 /// Imports what two or three names name.

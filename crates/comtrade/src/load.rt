@@ -137,8 +137,13 @@ fn as_pair<R: Eprint + AllocGlobal>(rt: &R, inputs: Inputs, imported: Imported) 
     })
 }
 
-/// A pair as it stands, a single file as the pair that says the same; none where that was refused, which is said.
-fn unpacked<R: Eprint + AllocGlobal>(rt: &R, inputs: Inputs, is_strict: bool) -> Option<Inputs> {
+/// Reads a record as a pair: of a single file the pair that says the same; none where that was refused, which is said.
+pub(crate) fn read_pair<R: Files + Input + Eprint + AllocGlobal + Clone + Drop>(
+    rt: &R,
+    names: Names<'_>,
+    is_strict: bool,
+) -> Option<Inputs> {
+    let inputs = read_inputs(rt, names)?;
     if !inputs.is_single() {
         return Some(inputs);
     }
@@ -153,16 +158,6 @@ fn unpacked<R: Eprint + AllocGlobal>(rt: &R, inputs: Inputs, is_strict: bool) ->
             None
         }
     }
-}
-
-/// Reads a record as a pair; none where that was refused, which is said.
-pub(crate) fn read_pair<R: Files + Input + Eprint + AllocGlobal + Clone + Drop>(
-    rt: &R,
-    names: Names<'_>,
-    is_strict: bool,
-) -> Option<Inputs> {
-    let inputs = read_inputs(rt, names)?;
-    unpacked(rt, inputs, is_strict)
 }
 
 /// Whether a fault is that of the first line, by which files of other years and other texts are refused.

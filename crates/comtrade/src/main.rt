@@ -8,6 +8,7 @@ mod find;
 mod import;
 mod load;
 mod measure;
+mod part;
 mod survey;
 mod view;
 mod words;
@@ -210,20 +211,7 @@ fn run<R: Files + Input + Print + Eprint + AllocGlobal + Clone + Drop>(
     }
 }
 
-/// Does what is to be done with words; `is_watched` where standard error is a terminal.
-fn act<R: Files + Input + Print + Eprint + AllocGlobal + Clone + Drop>(
-    rt: &R,
-    is_watched: bool,
-    answer: Answer<'_>,
-) -> u8 {
-    match answer {
-        Answer::Do(asked) => run(rt, is_watched, asked),
-        Answer::Print(text) => print_bytes(rt, text.as_str().as_bytes()),
-        Answer::Refuse(text) => refuse_words(rt, text.as_str()),
-    }
-}
-
-/// Does what the words ask for.
+/// Does what the words ask for; `is_watched` where standard error is a terminal.
 fn answer<R: Files + Input + Print + Eprint + AllocGlobal + Clone + Drop>(
     rt: &R,
     is_watched: bool,
@@ -239,7 +227,9 @@ fn answer<R: Files + Input + Print + Eprint + AllocGlobal + Clone + Drop>(
         return run_import(rt, rest);
     }
     match answer_of(rt.alloc(), &texts) {
-        Ok(answer) => act(rt, is_watched, answer),
+        Ok(Answer::Do(asked)) => run(rt, is_watched, asked),
+        Ok(Answer::Print(text)) => print_bytes(rt, text.as_str().as_bytes()),
+        Ok(Answer::Refuse(text)) => refuse_words(rt, text.as_str()),
         Err(_) => out_of_memory(rt),
     }
 }

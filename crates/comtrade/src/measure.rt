@@ -1,9 +1,8 @@
 //! `comtrade measure`: what is measured in a record, or in a part of it.
 
-use crate::view::put_part_fault;
-use comtrade_format::File;
+use crate::part::Taken;
 use comtrade_io::{Cursor, Part, ToolFault, Viewed, put, write_out};
-use comtrade_views::{MeasureFault, Measuring, Shown, is_whole, measure_text, part_of};
+use comtrade_views::{MeasureFault, Measuring, Shown, measure_text};
 use std::alloc::Global;
 use std::io::Write;
 
@@ -21,35 +20,44 @@ fn measuring_of<'a>(part: Part<'a>, cursor: Cursor<'a>) -> Measuring<'a> {
     }
 }
 
-/// The part that ends with the moment, where one is said.
-fn up_to<'a>(part: Part<'a>, cursor: Cursor<'a>) -> Part<'a> {
-    match cursor.at {
-        Some(at) => Part {
-            to: Some(at),
-            ..part
-        },
-        None => part,
+/// The part that is measured, which ends with the moment where one is said; none where a window is said beside it, which is put to `said`.
+pub(crate) fn measured_part<'a>(
+    viewed: Viewed<'a>,
+    said: &mut Vec<u8>,
+) -> Result<Option<Part<'a>>, ToolFault> {
+    let part = viewed.part;
+    let Some(at) = viewed.cursor.at else {
+        return Ok(Some(part));
+    };
+    if part.from.is_some() || part.to.is_some() {
+        put(said, TWICE)?;
+        return Ok(None);
     }
+    Ok(Some(Part {
+        to: Some(at),
+        ..part
+    }))
 }
 
-fn shown_of<'a>(viewed: Viewed<'_>, times: &'a [Option<i64>], first: usize) -> Shown<'a> {
-    Shown {
-        times,
-        first,
-        json: viewed.json,
-    }
-}
-
-/// Prints what is measured; false where that is refused, which is put to `said`.
-fn put_measures<W: Write>(
+/// Prints what is measured in a record or the part of it that is asked for; false where that is refused, which is put to `said`.
+pub(crate) fn measure_over<W: Write>(
     alloc: Global,
-    file: &File,
-    measuring: Measuring<'_>,
-    shown: Shown<'_>,
+    viewed: Viewed<'_>,
+    taken: &Taken,
     w: &mut W,
     said: &mut Vec<u8>,
 ) -> Result<bool, ToolFault> {
-    match measure_text(alloc, file, measuring, shown) {
+    let shown = Shown {
+        times: &taken.times,
+        first: taken.before,
+        json: viewed.json,
+    };
+    match measure_text(
+        alloc,
+        &taken.file,
+        measuring_of(viewed.part, viewed.cursor),
+        shown,
+    ) {
         Ok(text) => {
             write_out(w, &text)?;
             Ok(true)
@@ -58,41 +66,6 @@ fn put_measures<W: Write>(
         Err(fault) => {
             let text = format!(in alloc; "comtrade: {fault}\n")?;
             put(said, text.as_str())?;
-            Ok(false)
-        }
-    }
-}
-
-/// Prints what is measured in the part of a file that is asked for, whose rows were taken at these times, in nanoseconds since the trigger;
-/// false where that is refused, which is put to `said`.
-pub(crate) fn measure_over<W: Write>(
-    alloc: Global,
-    viewed: Viewed<'_>,
-    file: &File,
-    times: &[Option<i64>],
-    w: &mut W,
-    said: &mut Vec<u8>,
-) -> Result<bool, ToolFault> {
-    let measuring = measuring_of(viewed.part, viewed.cursor);
-    if viewed.cursor.at.is_some() && (viewed.part.from.is_some() || viewed.part.to.is_some()) {
-        put(said, TWICE)?;
-        return Ok(false);
-    }
-    let part = up_to(viewed.part, viewed.cursor);
-    if is_whole(part) {
-        return put_measures(alloc, file, measuring, shown_of(viewed, times, 0), w, said);
-    }
-    match part_of(alloc, file, part) {
-        Ok(cut) => {
-            let times = match times.get(cut.from..cut.to) {
-                Some(times) => times,
-                None => &[],
-            };
-            let shown = shown_of(viewed, times, cut.from);
-            put_measures(alloc, &cut.file, measuring, shown, w, said)
-        }
-        Err(fault) => {
-            put_part_fault(said, fault)?;
             Ok(false)
         }
     }

@@ -2,7 +2,7 @@
 
 use crate::load::{Inputs, NO_ENCODING, file_spelled, pair_of, read_pair};
 use crate::{complain, is_folder, print_bytes, say};
-use comtrade_diagnostics::{Pair, put_remarks};
+use comtrade_diagnostics::put_remarks;
 use comtrade_format::File;
 use comtrade_io::{Names, Survey, ToolFault, fault_of, put, put_safe};
 use comtrade_views::{
@@ -132,20 +132,6 @@ fn add_file(
     Ok(())
 }
 
-/// Puts what is odd about a record that is listed and has no fault.
-fn put_oddities(
-    alloc: Global,
-    survey: Survey,
-    said: &mut Vec<u8>,
-    pair: Pair<'_>,
-    file: &File,
-) -> Result<(), ToolFault> {
-    if survey == Survey::List && said.is_empty() {
-        put_remarks(alloc, said, pair, file)?;
-    }
-    Ok(())
-}
-
 /// What is asked of each record, and how its texts are spelled.
 #[derive(Clone, Copy)]
 struct Asked<'a> {
@@ -153,7 +139,7 @@ struct Asked<'a> {
     encoding: Option<&'a str>,
 }
 
-/// Adds one pair that was read.
+/// Adds one pair that was read, and says what is odd about one that is listed and has no fault.
 fn add_pair<R: AllocGlobal + Eprint>(
     rt: &R,
     asked: Asked<'_>,
@@ -167,7 +153,9 @@ fn add_pair<R: AllocGlobal + Eprint>(
     let survey = asked.survey;
     match file_spelled(alloc, pair_of(inputs), false, asked.encoding, &mut said)? {
         Some(file) => {
-            put_oddities(alloc, survey, &mut said, pair_of(inputs), &file)?;
+            if survey == Survey::List && said.is_empty() {
+                put_remarks(alloc, &mut said, pair_of(inputs), &file)?;
+            }
             say_repairs(rt, name, &said)?;
             add_file(alloc, survey, found, &file, name)?;
         }
@@ -204,23 +192,18 @@ fn add_pairs<R: Files + Input + Eprint + AllocGlobal + Clone + Drop>(
     Ok(())
 }
 
-/// Brings what was found into its order.
-fn sort(survey: Survey, found: &mut Found) -> Result<(), ToolFault> {
-    match survey {
-        Survey::List => sort_summaries(&mut found.records),
-        Survey::Events => sort_events(&mut found.events),
-    }
-}
-
-/// The text of what was found, or the same as JSON.
+/// The text of what was found, in its order, or the same as JSON.
 fn text_of<R: AllocGlobal>(
     rt: &R,
     survey: Survey,
     json: bool,
     found: &mut Found,
 ) -> Result<Vec<u8>, ToolFault> {
+    match survey {
+        Survey::List => sort_summaries(&mut found.records)?,
+        Survey::Events => sort_events(&mut found.events)?,
+    }
     let mut out = Vec::new(rt.alloc());
-    sort(survey, found)?;
     match survey {
         Survey::List if json => put_summaries_json(rt.alloc(), &mut out, &found.records)?,
         Survey::Events if json => {

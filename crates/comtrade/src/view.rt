@@ -1,16 +1,14 @@
 //! What is said of a pair of files.
 
 use crate::load::file_spelled;
-use crate::measure::measure_over;
+use crate::measure::{measure_over, measured_part};
+use crate::part::taken_of;
 use comtrade_diagnostics::{Pair, check_over, put_remarks};
 use comtrade_format::File;
-use comtrade_io::{Part, Picture, ToolFault, View, Viewed, put, put_safe, write_out};
+use comtrade_io::{Picture, ToolFault, View, Viewed, put, write_out};
 use comtrade_plot::{PlotOptions, page_over, plot_over};
-use comtrade_views::{
-    PartFault, Spelling, csv_over, is_whole, part_of, put_text, show_json, show_over,
-    times_since_trigger,
-};
-use std::alloc::{AllocError, Allocator, Global};
+use comtrade_views::{Spelling, csv_over, put_text, show_json, show_over};
+use std::alloc::{AllocError, Global};
 use std::io::Write;
 
 const NO_SPELLING: &str = "\
@@ -75,48 +73,6 @@ fn put_view<W: Write>(
     }
 }
 
-/// Puts why a record has no such part; an allocation that failed is the fault of the tool.
-pub(crate) fn put_part_fault<A: Allocator + Copy>(
-    said: &mut Vec<u8, A>,
-    fault: PartFault<'_>,
-) -> Result<(), ToolFault> {
-    if fault == PartFault::Memory {
-        return Err(ToolFault::Memory);
-    }
-    let text = format!(in *said.allocator(); "{fault}")?;
-    put(said, "comtrade: ")?;
-    put_safe(said, text.as_str().as_bytes())?;
-    put(said, "\n")?;
-    Ok(())
-}
-
-/// Prints what is asked of a part of a file; false where it has none, which is put to `said`.
-fn put_part<W: Write>(
-    alloc: Global,
-    view: View,
-    look: Look,
-    part: Part<'_>,
-    file: &File,
-    times: &[Option<i64>],
-    w: &mut W,
-    said: &mut Vec<u8>,
-) -> Result<bool, ToolFault> {
-    match part_of(alloc, file, part) {
-        Ok(cut) => {
-            let times = match times.get(cut.from..cut.to) {
-                Some(times) => times,
-                None => &[],
-            };
-            put_view(alloc, view, look, &cut.file, times, w)?;
-            Ok(true)
-        }
-        Err(fault) => {
-            put_part_fault(said, fault)?;
-            Ok(false)
-        }
-    }
-}
-
 /// Prints the verdict on a pair, as text or as JSON.
 fn check<W: Write>(
     alloc: Global,
@@ -158,24 +114,6 @@ fn verdict_json(alloc: Global, is_sound: bool, text: &[u8]) -> Result<Vec<u8>, A
     Ok(out)
 }
 
-/// The file that a pair reads to. What is said of it is put to `said`, and of a pair that is shown and has no fault what is odd about it.
-fn file_to_view(
-    alloc: Global,
-    view: View,
-    part: Part<'_>,
-    pair: Pair<'_>,
-    said: &mut Vec<u8>,
-) -> Result<Option<File>, ToolFault> {
-    let found = file_spelled(alloc, pair, part.strict, part.encoding, said)?;
-    if let Some(file) = &found
-        && view == View::Show
-        && said.is_empty()
-    {
-        put_remarks(alloc, said, pair, file)?;
-    }
-    Ok(found)
-}
-
 /// How it is spelled and drawn; None where a separator or a size isn't one, which is put to `said`.
 fn look_of(viewed: Viewed<'_>, said: &mut Vec<u8>) -> Result<Option<Look>, ToolFault> {
     let Some(spelling) = Spelling::of(viewed.form.separator, viewed.form.decimal) else {
@@ -193,43 +131,37 @@ fn look_of(viewed: Viewed<'_>, said: &mut Vec<u8>) -> Result<Option<Look>, ToolF
     }))
 }
 
-/// Prints what is asked of a file whose rows were taken at these times.
-fn view_timed<W: Write>(
-    alloc: Global,
-    view: View,
-    viewed: Viewed<'_>,
-    look: Look,
-    file: &File,
-    times: &[Option<i64>],
-    w: &mut W,
-    said: &mut Vec<u8>,
-) -> Result<bool, ToolFault> {
-    if view == View::Measure {
-        return measure_over(alloc, viewed, file, times, w, said);
-    }
-    if is_whole(viewed.part) {
-        put_view(alloc, view, look, file, times, w)?;
-        return Ok(true);
-    }
-    put_part(alloc, view, look, viewed.part, file, times, w, said)
-}
-
-/// Prints what is asked of a file.
+/// Prints what is asked of a part of a file; false where it has none, which is put to `said`.
 fn view_file<W: Write>(
     alloc: Global,
     view: View,
     viewed: Viewed<'_>,
     look: Look,
-    file: &File,
+    file: File,
     w: &mut W,
     said: &mut Vec<u8>,
 ) -> Result<bool, ToolFault> {
-    let times = times_since_trigger(alloc, file)?;
-    view_timed(alloc, view, viewed, look, file, &times, w, said)
+    let part = if view == View::Measure {
+        measured_part(viewed, said)?
+    } else {
+        Some(viewed.part)
+    };
+    let Some(part) = part else {
+        return Ok(false);
+    };
+    match taken_of(alloc, file, part, said)? {
+        Some(taken) if view == View::Measure => measure_over(alloc, viewed, &taken, w, said),
+        Some(taken) => {
+            put_view(alloc, view, look, &taken.file, &taken.times, w)?;
+            Ok(true)
+        }
+        None => Ok(false),
+    }
 }
 
 /// Prints what is asked of a part of a pair: false where the pair has a fault, or no such part. The fault's line is what `Check` prints;
-/// the others put it to `said` and print nothing. The repairs of a pair that isn't read exactly are put to `said`, too.
+/// the others put it to `said` and print nothing. The repairs of a pair that isn't read exactly are put to `said`, too, and of a pair that
+/// is shown and has no fault what is odd about it.
 pub(crate) fn view_over<W: Write>(
     alloc: Global,
     view: View,
@@ -244,8 +176,15 @@ pub(crate) fn view_over<W: Write>(
     let Some(look) = look_of(viewed, said)? else {
         return Ok(false);
     };
-    match file_to_view(alloc, view, viewed.part, pair, said)? {
-        Some(file) => view_file(alloc, view, viewed, look, &file, w, said),
+    let found = file_spelled(alloc, pair, viewed.part.strict, viewed.part.encoding, said)?;
+    if let Some(file) = &found
+        && view == View::Show
+        && said.is_empty()
+    {
+        put_remarks(alloc, said, pair, file)?;
+    }
+    match found {
+        Some(file) => view_file(alloc, view, viewed, look, file, w, said),
         None => Ok(false),
     }
 }

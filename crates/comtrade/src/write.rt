@@ -1,7 +1,7 @@
 //! Writing pairs of files that are not there yet.
 
 use crate::load::{Inputs, file_spelled, pair_of, read_pair};
-use crate::view::put_part_fault;
+use crate::part::put_part_fault;
 use crate::{complain, note_size, out_of_memory, say};
 use comtrade_diagnostics::{Pair, put_refusal};
 use comtrade_format::{File as Record, Kind, WriteFault};
@@ -40,25 +40,7 @@ fn write_new<R: Files + Eprint + AllocGlobal>(rt: &R, name: &str, bytes: &[u8]) 
     true
 }
 
-/// Writes both files of a pair, or none of them: what becomes of each is said.
-fn write_pair<R: Files + Eprint + AllocGlobal>(
-    rt: &R,
-    cfg_name: &str,
-    dat_name: &str,
-    cfg: &[u8],
-    dat: &[u8],
-) -> u8 {
-    if !write_new(rt, cfg_name, cfg) {
-        return 1;
-    }
-    if !write_new(rt, dat_name, dat) {
-        take_back(rt, cfg_name);
-        return 1;
-    }
-    0
-}
-
-/// Writes the files of this name with `.cfg` and `.dat`.
+/// Writes the files of this name with `.cfg` and `.dat`, or none of them: what becomes of each is said.
 pub(crate) fn write_named<R: Files + Eprint + AllocGlobal>(
     rt: &R,
     name: &str,
@@ -68,10 +50,17 @@ pub(crate) fn write_named<R: Files + Eprint + AllocGlobal>(
     let Ok(cfg_name) = format!(in rt.alloc(); "{name}.cfg") else {
         return out_of_memory(rt);
     };
-    match format!(in rt.alloc(); "{name}.dat") {
-        Ok(dat_name) => write_pair(rt, cfg_name.as_str(), dat_name.as_str(), cfg, dat),
-        Err(_) => out_of_memory(rt),
+    let Ok(dat_name) = format!(in rt.alloc(); "{name}.dat") else {
+        return out_of_memory(rt);
+    };
+    if !write_new(rt, cfg_name.as_str(), cfg) {
+        return 1;
     }
+    if !write_new(rt, dat_name.as_str(), dat) {
+        take_back(rt, cfg_name.as_str());
+        return 1;
+    }
+    0
 }
 
 /// Says why a pair isn't converted.

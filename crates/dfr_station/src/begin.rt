@@ -53,29 +53,6 @@ pub(crate) struct How<A: Allocator> {
     pub(crate) first: First<A>,
 }
 
-/// The trigger thread's work.
-fn trigger_of<A: Allocator>(
-    alloc: A,
-    token: Token<A>,
-    orders: Consumer<Placed<A>, A>,
-    operator: Option<Operator<A>>,
-    teller: Teller<A>,
-    shelf: u32,
-) -> Trigger<A> {
-    Trigger {
-        alloc,
-        token,
-        orders,
-        next: None,
-        operator,
-        teller,
-        shelf,
-        is_full: false,
-        missed: 0,
-        told: 0,
-    }
-}
-
 /// The operator's lines, where there is one.
 fn operator_of<A: Allocator>(alloc: A, bytes: Option<Consumer<u8, A>>) -> Option<Operator<A>> {
     match bytes {
@@ -133,14 +110,18 @@ pub(crate) fn tasks_of<
             buffer: how.first.buffer,
             held: how.first.held,
         }),
-        trigger: Mutex::new(trigger_of(
+        trigger: Mutex::new(Trigger {
             alloc,
-            first,
-            orders.1,
-            operator_of(alloc, how.operator),
-            triggers,
+            token: first,
+            orders: orders.1,
+            next: None,
+            operator: operator_of(alloc, how.operator),
+            teller: triggers,
             shelf,
-        )),
+            is_full: false,
+            missed: 0,
+            told: 0,
+        }),
         exports: Mutex::new(Exports {
             store,
             token: second,

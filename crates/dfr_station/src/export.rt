@@ -67,15 +67,6 @@ fn pair_and_key<A: Allocator + Copy>(
     Ok((pair, key_at(instant, extent.number)))
 }
 
-/// Hands a pair to the store once.
-fn put_pair<K: Store, A: Allocator>(
-    store: &mut K,
-    key: Key,
-    pair: Pair<A>,
-) -> Result<Stored, Trouble> {
-    store.put(key, pair.cfg.as_slice(), pair.dat.as_slice())
-}
-
 /// Hands a record's pair to the store once.
 fn hand_over<K: Store, A: Allocator + Copy>(
     alloc: A,
@@ -87,7 +78,7 @@ fn hand_over<K: Store, A: Allocator + Copy>(
     requires { IsTrue (is_own layout.now taken.now) }
 {
     match pair_and_key(alloc, layout, kind, taken) {
-        Ok((pair, key)) => put_pair(store, key, pair),
+        Ok((pair, key)) => store.put(key, pair.cfg.as_slice(), pair.dat.as_slice()),
         Err(_) => Err(Trouble::Memory),
     }
 }
@@ -102,29 +93,6 @@ fn is_last(signals: &Signals, tries: &mut u32) -> bool {
 }
 
 impl<K: Store, A: Allocator + Copy> Exports<'_, K, A> {
-    /// What the store says of a pair, as it is told.
-    fn note(&mut self, signals: &Signals, extent: Extent, stored: Stored) {
-        if self.is_in_trouble {
-            self.is_in_trouble = false;
-            self.teller.tell(Event::Over);
-        }
-        signals.records.fetch_add(1, Ordering::SeqCst);
-        self.teller.tell(Event::Record {
-            extent,
-            key: stored.key,
-        });
-        if stored.removed > 0 {
-            self.teller.tell(Event::Removed(stored.removed));
-        }
-    }
-
-    fn note_trouble(&mut self, trouble: Trouble) {
-        if !self.is_in_trouble {
-            self.is_in_trouble = true;
-            self.teller.tell(Event::Trouble(trouble));
-        }
-    }
-
     /// Tells what the store answered. Whether it took the pair.
     fn answered(
         &mut self,
@@ -134,19 +102,28 @@ impl<K: Store, A: Allocator + Copy> Exports<'_, K, A> {
     ) -> bool {
         match answer {
             Ok(stored) => {
-                self.note(signals, extent, stored);
+                if self.is_in_trouble {
+                    self.is_in_trouble = false;
+                    self.teller.tell(Event::Over);
+                }
+                signals.records.fetch_add(1, Ordering::SeqCst);
+                self.teller.tell(Event::Record {
+                    extent,
+                    key: stored.key,
+                });
+                if stored.removed > 0 {
+                    self.teller.tell(Event::Removed(stored.removed));
+                }
                 true
             }
             Err(trouble) => {
-                self.note_trouble(trouble);
+                if !self.is_in_trouble {
+                    self.is_in_trouble = true;
+                    self.teller.tell(Event::Trouble(trouble));
+                }
                 false
             }
         }
-    }
-
-    fn give_up(&mut self, extent: Extent) {
-        self.unwritten = self.unwritten.saturating_add(1);
-        self.teller.tell(Event::Unwritten(extent));
     }
 
     /// Hands a record's pair to the store, each second until it takes it; a few times only once the input has ended.
@@ -167,7 +144,8 @@ impl<K: Store, A: Allocator + Copy> Exports<'_, K, A> {
                 return;
             }
             if is_last(signals, &mut tries) {
-                self.give_up(taken.extent());
+                self.unwritten = self.unwritten.saturating_add(1);
+                self.teller.tell(Event::Unwritten(taken.extent()));
                 return;
             }
             thread::sleep(rt, Duration::from_millis(RETRY));

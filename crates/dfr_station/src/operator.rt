@@ -34,13 +34,6 @@ impl<A: Allocator> Operator<A> {
         }
     }
 
-    /// Keeps a byte of a line.
-    fn keep(&mut self, b: u8) {
-        if self.line.len() >= LONGEST || self.line.push(b).is_err() {
-            self.is_long = true;
-        }
-    }
-
     /// The next whole line that came: whether it is too long.
     fn next_line(&mut self) -> Option<bool> {
         for _ in 0..TURN {
@@ -50,7 +43,11 @@ impl<A: Allocator> Operator<A> {
                     self.is_long = false;
                     return Some(is_long);
                 }
-                Ok(b) => self.keep(b),
+                Ok(b) => {
+                    if self.line.len() >= LONGEST || self.line.push(b).is_err() {
+                        self.is_long = true;
+                    }
+                }
                 Err(_) => return None,
             }
         }

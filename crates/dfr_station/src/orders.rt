@@ -4,7 +4,7 @@ use crate::event::{Asked, Event, Replied, Skipped};
 use crate::operator::Operator;
 use crate::signals::Signals;
 use crate::teller::Teller;
-use dfr_channels::{RuleFault, Rules};
+use dfr_channels::RuleFault;
 use dfr_live::{End, Order, RulesRefusal, Session, Shared, Token};
 use rtrb::Consumer;
 use std::alloc::{Allocator, Global};
@@ -85,25 +85,6 @@ fn due_order<A: Allocator>(
     }
 }
 
-/// Whether rules were set; None where memory is short.
-fn has_set<N: Session<A>, A: Allocator + Copy>(
-    rt: &impl Wait,
-    shared: &Shared<N, A>,
-    token: &mut Token<A>,
-    rules: Rules<A>,
-) -> Option<bool> {
-    match shared.set_rules(rt, token, rules) {
-        Ok(()) => Some(true),
-        Err((refusal, rules)) => {
-            drop(rules);
-            match refusal {
-                RulesRefusal::NoChannel => Some(false),
-                RulesRefusal::Memory => None,
-            }
-        }
-    }
-}
-
 /// Carries out an order. What it is answered; None where memory is short.
 fn carried<N: Session<A>, A: Allocator + Copy>(
     rt: &impl Wait,
@@ -113,10 +94,16 @@ fn carried<N: Session<A>, A: Allocator + Copy>(
 ) -> Option<Replied> {
     match order {
         Order::Trigger => Some(Replied::Trigger(shared.trigger(rt, token))),
-        Order::SetRules(rules) => {
-            let is_set = has_set(rt, shared, token, rules)?;
-            Some(Replied::Rules(is_set))
-        }
+        Order::SetRules(rules) => match shared.set_rules(rt, token, rules) {
+            Ok(()) => Some(Replied::Rules(true)),
+            Err((refusal, rules)) => {
+                drop(rules);
+                match refusal {
+                    RulesRefusal::NoChannel => Some(Replied::Rules(false)),
+                    RulesRefusal::Memory => None,
+                }
+            }
+        },
     }
 }
 

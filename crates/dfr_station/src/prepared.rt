@@ -1,7 +1,6 @@
 //! A recorder that is made of a set-up file.
 
 ghost use Rattle.std.specs.Prelude.{◌≡◌, IfOk, IsTrue, if◌then◌else◌, true, None};
-ghost use Rattle.dfr_channels.specs.Firing.{rules_fit};
 ghost use Rattle.dfr_recorder.specs.Limits.{has_stamps};
 ghost use Rattle.dfr_station.specs.declared.prepared.SetupRefusal.TheVariants as refusal;
 
@@ -71,35 +70,6 @@ fn limits_of<A: Allocator>(layout: &Layout<A>, numbers: LimitNumbers) -> Result<
     Ok(limits)
 }
 
-/// The rules of a list, which fit the layout.
-fn rules_of<A: Allocator>(layout: &Layout<A>, list: Vec<Rule, A>) -> Result<Rules<A>, SetupRefusal>
-    ensures { IfOk result (λ rules. IsTrue (rules_fit layout.now rules)) }
-{
-    match Rules::new(layout, list) {
-        Ok(rules) => Ok(rules),
-        Err((fault, _)) => Err(SetupRefusal::Rules(fault)),
-    }
-}
-
-/// The recorder of parts that fit one another.
-fn joined<A: Allocator + Copy>(
-    alloc: A,
-    layout: Layout<A>,
-    limits: Limits,
-    rules: Rules<A>,
-) -> Result<Recorder<A>, SetupRefusal>
-    requires limits { IsTrue (has_stamps layout.rate limits.longest) }
-    requires rules { IsTrue (rules_fit layout rules) }
-{
-    match Recorder::new(alloc, layout, limits, rules) {
-        Ok(recorder) => Ok(recorder),
-        Err(back) => {
-            drop(back);
-            Err(SetupRefusal::Memory)
-        }
-    }
-}
-
 /// The recorder of a layout, limits that fit it and its first rules.
 fn limited<A: Allocator + Copy>(
     alloc: A,
@@ -109,11 +79,18 @@ fn limited<A: Allocator + Copy>(
 ) -> Result<Recorder<A>, SetupRefusal>
     requires { IsTrue (has_stamps layout.rate limits.longest) }
 {
-    match rules_of(&layout, list) {
-        Ok(rules) => joined(alloc, layout, limits, rules),
-        Err(refusal) => {
+    match Rules::new(&layout, list) {
+        Ok(rules) => match Recorder::new(alloc, layout, limits, rules) {
+            Ok(recorder) => Ok(recorder),
+            Err(back) => {
+                drop(back);
+                Err(SetupRefusal::Memory)
+            }
+        },
+        Err((fault, list)) => {
             drop(layout);
-            Err(refusal)
+            drop(list);
+            Err(SetupRefusal::Rules(fault))
         }
     }
 }

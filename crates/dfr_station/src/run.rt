@@ -15,7 +15,7 @@ use crate::orders::Trigger;
 use crate::station::{Printer, Station, Store};
 use crate::tasks::{Tasks, in_threads};
 use crate::teller::put_line;
-use crate::telling::{Telling, now};
+use crate::telling::now;
 use dfr_live::{Opened, Session, Shared, Source, Token, open};
 use std::alloc::Allocator;
 use std::io::Read;
@@ -166,7 +166,9 @@ fn taken_apart<N: Session<A>, A: Allocator + Copy, I, K, P: Printer, R: Clock>(
         records,
         left: scans.saturating_sub(first.pumped()),
     };
-    print_ended(rt, text, telling.into_inner(), ended);
+    let telling = telling.into_inner();
+    print_one(rt, text, &mut *telling.printer, ended);
+    drop(telling);
     if failed {
         drop(shared);
         drop(source);
@@ -230,17 +232,6 @@ fn exports_token<K, A: Allocator>(exports: Exports<'_, K, A>) -> (Token<A>, u64)
     } = exports;
     drop(teller);
     (token, unwritten)
-}
-
-/// Prints the last event, and lets go of what the printing thread worked on.
-fn print_ended<P: Printer, A: Allocator>(
-    clock: &impl Clock,
-    text: &mut Vec<u8, A>,
-    telling: Telling<'_, P, A>,
-    ended: Event,
-) {
-    print_one(clock, text, &mut *telling.printer, ended);
-    drop(telling);
 }
 
 /// Prints an event, whose line has room in the text.

@@ -67,30 +67,26 @@ impl<A: Allocator> Scans<A> {
         signals.lost.store(self.lost, Ordering::SeqCst);
         signals.came.store(self.came, Ordering::SeqCst);
     }
-
-    fn note_lost(&mut self, why: Why) {
-        self.lost = self.lost.saturating_add(1);
-        let place = self.came;
-        self.losses = match self.losses {
-            None => Some(Losses {
-                first: place,
-                last: place,
-                count: 1,
-                why,
-            }),
-            Some(losses) => Some(Losses {
-                last: place,
-                count: losses.count.saturating_add(1),
-                ..losses
-            }),
-        };
-    }
 }
 
 impl<A: Allocator> Tally for Scans<A> {
     fn count(&mut self, came: Came) {
         if let Came::Lost(why) = came {
-            self.note_lost(why);
+            self.lost = self.lost.saturating_add(1);
+            let place = self.came;
+            self.losses = match self.losses {
+                None => Some(Losses {
+                    first: place,
+                    last: place,
+                    count: 1,
+                    why,
+                }),
+                Some(losses) => Some(Losses {
+                    last: place,
+                    count: losses.count.saturating_add(1),
+                    ..losses
+                }),
+            };
         }
         self.came = self.came.saturating_add(1);
     }

@@ -25,11 +25,6 @@ fn put_line<A: Allocator>(script: &mut Vec<u8, A>, line: &[u8]) -> Result<(), Al
     script.extend_from_slice(b"\n")
 }
 
-fn put_start<A: Allocator>(script: &mut Vec<u8, A>, start: i64) -> Result<(), AllocError> {
-    script.extend_from_slice(b"start ")?;
-    put_line(script, Buffer::new().format(start).as_bytes())
-}
-
 /// The lines up to the first `go`, with this start in place of their own; what stands after `go` is not read. An empty line
 /// stands for a line that is left out, so that the others keep their numbers.
 pub(crate) fn setup_text<A: Allocator>(
@@ -49,7 +44,8 @@ pub(crate) fn setup_text<A: Allocator>(
         put_line(&mut script, kept)?;
         lines = lines.saturating_add(1);
     }
-    put_start(&mut script, start)?;
+    script.extend_from_slice(b"start ")?;
+    put_line(&mut script, Buffer::new().format(start).as_bytes())?;
     put_line(&mut script, go)?;
     Ok(SetupText { script, lines })
 }

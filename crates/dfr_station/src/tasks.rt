@@ -40,34 +40,40 @@ fn run_acquisition<N: Session<A>, A: Allocator + Copy, I: Read, K, P>(
     );
 }
 
-fn run_trigger<N: Session<A>, A: Allocator + Copy, I, K, P, R: Wait + Clock>(
-    rt: &R,
-    tasks: &Tasks<'_, '_, '_, N, I, K, P, A>,
-) {
-    let mut held = tasks.trigger.lock(rt);
-    make_steps(rt, &tasks.signals, &tasks.shared, &mut *held);
-    tasks.signals.triggered.store(true, Ordering::SeqCst);
+/// A thread beside the acquisition.
+#[derive(Clone, Copy)]
+enum Beside {
+    Trigger,
+    Exports,
+    Telling,
 }
 
-fn run_exports<N: Session<A>, A: Allocator + Copy, I, K: Store, P, R: Wait + Clock>(
+/// Does what this thread does.
+fn run_beside<N: Session<A>, A: Allocator + Copy, I, K: Store, P: Printer, R: Wait + Clock>(
     rt: &R,
     tasks: &Tasks<'_, '_, '_, N, I, K, P, A>,
+    thread: Beside,
 ) {
-    let mut held = tasks.exports.lock(rt);
-    export(rt, tasks.alloc, &tasks.signals, &tasks.shared, &mut *held);
-    tasks.signals.exported.store(true, Ordering::SeqCst);
+    match thread {
+        Beside::Trigger => {
+            let mut held = tasks.trigger.lock(rt);
+            make_steps(rt, &tasks.signals, &tasks.shared, &mut *held);
+            tasks.signals.triggered.store(true, Ordering::SeqCst);
+        }
+        Beside::Exports => {
+            let mut held = tasks.exports.lock(rt);
+            export(rt, tasks.alloc, &tasks.signals, &tasks.shared, &mut *held);
+            tasks.signals.exported.store(true, Ordering::SeqCst);
+        }
+        Beside::Telling => {
+            let mut held = tasks.telling.lock(rt);
+            print_events(rt, &tasks.signals, &mut *held);
+        }
+    }
 }
 
-fn run_telling<N: Session<A>, A: Allocator + Copy, I, K, P: Printer, R: Wait + Clock>(
-    rt: &R,
-    tasks: &Tasks<'_, '_, '_, N, I, K, P, A>,
-) {
-    let mut held = tasks.telling.lock(rt);
-    print_events(rt, &tasks.signals, &mut *held);
-}
-
-/// Starts the trigger thread. False where it can't be started.
-fn start_trigger<
+/// Starts a thread. False where it can't be started.
+fn start<
     's,
     E,
     N: Session<A> + Send + Sync,
@@ -76,36 +82,13 @@ fn start_trigger<
     K: Store + Send,
     P: Printer + Send,
     R: Threads + Wait + Clock + Sync,
->(scope: &Scope<'s, E>, rt: &'s R, tasks: &'s Tasks<'_, '_, '_, N, I, K, P, A>) -> bool {
-    scope.spawn(move || run_trigger(rt, tasks)).is_ok()
-}
-
-/// Starts the export thread. False where it can't be started.
-fn start_exports<
-    's,
-    E,
-    N: Session<A> + Send + Sync,
-    A: Allocator + Copy + Send + Sync,
-    I: Read + Send,
-    K: Store + Send,
-    P: Printer + Send,
-    R: Threads + Wait + Clock + Sync,
->(scope: &Scope<'s, E>, rt: &'s R, tasks: &'s Tasks<'_, '_, '_, N, I, K, P, A>) -> bool {
-    scope.spawn(move || run_exports(rt, tasks)).is_ok()
-}
-
-/// Starts the printing thread. False where it can't be started.
-fn start_telling<
-    's,
-    E,
-    N: Session<A> + Send + Sync,
-    A: Allocator + Copy + Send + Sync,
-    I: Read + Send,
-    K: Store + Send,
-    P: Printer + Send,
-    R: Threads + Wait + Clock + Sync,
->(scope: &Scope<'s, E>, rt: &'s R, tasks: &'s Tasks<'_, '_, '_, N, I, K, P, A>) -> bool {
-    scope.spawn(move || run_telling(rt, tasks)).is_ok()
+>(
+    scope: &Scope<'s, E>,
+    rt: &'s R,
+    tasks: &'s Tasks<'_, '_, '_, N, I, K, P, A>,
+    thread: Beside,
+) -> bool {
+    scope.spawn(move || run_beside(rt, tasks, thread)).is_ok()
 }
 
 /// Starts the threads, takes in all that comes, and waits for them. False where one of them can't be started: nothing is
@@ -119,9 +102,9 @@ pub(crate) fn in_threads<
     R: Threads + Wait + Clock + Sync,
 >(rt: &R, tasks: &Tasks<'_, '_, '_, N, I, K, P, A>) -> bool {
     thread::scope(thread::scope_env(), rt, |scope| {
-        let started = start_trigger(scope, rt, tasks)
-            && start_exports(scope, rt, tasks)
-            && start_telling(scope, rt, tasks);
+        let started = start(scope, rt, tasks, Beside::Trigger)
+            && start(scope, rt, tasks, Beside::Exports)
+            && start(scope, rt, tasks, Beside::Telling);
         if started {
             run_acquisition(rt, tasks);
         } else {

@@ -45,36 +45,17 @@ pub(crate) fn put_line<A: Allocator>(text: &mut Vec<u8, A>, at: i64, event: Even
     }
 }
 
-/// Makes a line of the next event. False where none waits.
-fn put_next<A: Allocator>(events: &mut Consumer<Event, A>, text: &mut Vec<u8, A>, at: i64) -> bool {
-    match events.pop() {
-        Ok(event) => {
-            put_line(text, at, event);
-            true
-        }
-        Err(_) => false,
-    }
-}
-
-/// Makes lines of the events that wait. How many there were.
-fn put_waiting<A: Allocator>(
-    events: &mut Consumer<Event, A>,
-    text: &mut Vec<u8, A>,
-    at: i64,
-) -> usize {
-    for count in 0..BATCH {
-        if !put_next(events, text, at) {
-            return count;
-        }
-    }
-    BATCH
-}
-
 impl<A: Allocator> Waiting<A> {
     /// Makes lines of the events that wait. How many there were.
     pub(crate) fn fill(&mut self, at: i64) -> usize {
         self.text.clear();
-        put_waiting(&mut self.events, &mut self.text, at)
+        for count in 0..BATCH {
+            match self.events.pop() {
+                Ok(event) => put_line(&mut self.text, at, event),
+                Err(_) => return count,
+            }
+        }
+        BATCH
     }
 }
 

@@ -171,18 +171,6 @@ fn refuse_first<N: Session<A>, A: Allocator + Copy>(
     to: usize,
     word: Word,
 ) -> Result<usize, LossFault> {
-    let rest = buffer.get(at..to).unwrap_or(&[]);
-    let len = line_end(rest).max(1).min(rest.len());
-    refuse_line(lane, rest.get(..len).unwrap_or(rest), word)?;
-    Ok(at.saturating_add(len.max(1)))
-}
-
-/// Refuses the line that a text begins with.
-fn refuse_line<N: Session<A>, A: Allocator + Copy>(
-    lane: &mut Lane<'_, N, A>,
-    text: &[u8],
-    word: Word,
-) -> Result<(), LossFault> {
     let why = match word {
         Word::Word => Skipped::Word,
         Word::Fields => Skipped::Fields,
@@ -190,7 +178,10 @@ fn refuse_line<N: Session<A>, A: Allocator + Copy>(
         // no fault of a line after the shortest set-up: an allocation failed
         Word::Setup => Skipped::Memory,
     };
-    lane.refuse(text, why)
+    let rest = buffer.get(at..to).unwrap_or(&[]);
+    let len = line_end(rest).max(1).min(rest.len());
+    lane.refuse(rest.get(..len).unwrap_or(rest), why)?;
+    Ok(at.saturating_add(len.max(1)))
 }
 
 /// Carries out the lines from `from` to `end`, which is after a line's end.

@@ -145,21 +145,17 @@ pub(crate) fn name_config<R: Files>(rt: &R, paths: &Paths) -> io::Result<()> {
     fs::rename(rt, paths.cfg_part.as_str(), paths.cfg.as_str())
 }
 
-/// Gives both files their names, the data file first; where the configuration file can't have its own, neither has.
-fn name_pair<R: Files>(rt: &R, paths: &Paths) -> io::Result<()> {
+/// Writes both files aside, and then gives them their names, the data file first; where the configuration file can't have its own,
+/// neither has.
+fn write_pair<R: Files>(rt: &R, paths: &Paths, cfg: &[u8], dat: &[u8]) -> io::Result<()> {
+    write_synced(rt, paths.dat_part.as_str(), dat)?;
+    write_synced(rt, paths.cfg_part.as_str(), cfg)?;
     fs::rename(rt, paths.dat_part.as_str(), paths.dat.as_str())?;
     let named = name_config(rt, paths);
     if named.is_err() {
         let _ = fs::remove_file(rt, paths.dat.as_str());
     }
     named
-}
-
-/// Writes both files aside, and then gives them their names.
-fn write_pair<R: Files>(rt: &R, paths: &Paths, cfg: &[u8], dat: &[u8]) -> io::Result<()> {
-    write_synced(rt, paths.dat_part.as_str(), dat)?;
-    write_synced(rt, paths.cfg_part.as_str(), cfg)?;
-    name_pair(rt, paths)
 }
 
 /// Removes a pair: its configuration file has another name first, so that none is seen without its data.
@@ -202,14 +198,6 @@ impl<R: Files + AllocGlobal> Folder<'_, R> {
             }
         }
         Err(Trouble::Other)
-    }
-
-    /// Notes the pair that was just written, where it may have to go some day.
-    fn note(&mut self, key: Key, size: u64) {
-        if let Keep::All = self.keep {
-            return;
-        }
-        let _ = self.pairs.push((key, size));
     }
 
     /// How many of the oldest pairs have to go.
@@ -277,8 +265,10 @@ impl<R: Files + AllocGlobal> Store for Folder<'_, R> {
             return Err(trouble_of(&error));
         }
         sync_folder(self.rt, self.path.as_str());
-        let size = (cfg.len() as u64).saturating_add(dat.len() as u64);
-        self.note(key, size);
+        if !matches!(self.keep, Keep::All) {
+            let size = (cfg.len() as u64).saturating_add(dat.len() as u64);
+            let _ = self.pairs.push((key, size));
+        }
         let removed = self.remove_surplus();
         Ok(Stored { key, removed })
     }

@@ -115,14 +115,6 @@ impl<R: Files + AllocGlobal + Clone + Drop> Folder<'_, R> {
         }
     }
 
-    /// Whether no file may be made in the folder. A full disk is no such fault: it may have room when the first record comes.
-    fn is_denied(&self) -> bool {
-        match self.probe() {
-            Ok(()) => false,
-            Err(error) => fault_of(&error) == FolderFault::Denied,
-        }
-    }
-
     /// How many bytes a pair has.
     fn size_of_pair(&self, key: Key) -> io::Result<u64> {
         let paths = paths_of(self.rt.alloc(), self.path.as_str(), key)?;
@@ -163,7 +155,10 @@ impl<R: Files<File = File> + AllocGlobal + Clone + Drop> Records for Folder<'_, 
         };
         self.path = path;
         self.keep = keep;
-        if self.is_denied() {
+        // a full disk is no such fault: it may have room when the first record comes
+        if let Err(error) = self.probe()
+            && fault_of(&error) == FolderFault::Denied
+        {
             return Err(FolderFault::Denied);
         }
         match self.find_pairs() {

@@ -15,11 +15,11 @@ use crate::operator::{WAITING, follow, open_orders};
 use crate::outcome::{complain, out_of_memory};
 use crate::output::Lines;
 use crate::record::{keep_of, plan_of, record};
-use crate::words::{Answer, Asked, answer_of};
+use crate::words::{Answer, answer_of};
 use comtrade_io::{ToolFault, fault_of, put, put_safe};
 use dfr_station::Printer;
 use rtrb::{Consumer, RingBuffer};
-use std::alloc::{AllocError, Allocator};
+use std::alloc::AllocError;
 use std::io::{ErrorKind, Read};
 use std::process::ExitCode;
 use std::rt::{Env, Files};
@@ -28,27 +28,18 @@ use std::thread::Threads;
 use std::time::Clock;
 use std::{env, io, thread};
 
-/// The lines of a text, as printable characters.
-fn safe_lines<A: Allocator>(alloc: A, text: &str) -> Result<Vec<u8, A>, AllocError> {
-    let mut safe = Vec::new(alloc);
-    for line in text.lines() {
-        put_safe(&mut safe, line.as_bytes())?;
-        put(&mut safe, "\n")?;
-    }
-    Ok(safe)
-}
-
-/// Says why words ask for nothing.
+/// Says why words ask for nothing, in printable characters.
 fn refuse_words<R: Eprint + AllocGlobal>(rt: &R, text: &str) -> u8 {
-    match safe_lines(rt.alloc(), text) {
-        Ok(lines) => {
-            if let Ok(text) = str::from_utf8(&lines) {
-                let _ = eprint!(rt; "{text}");
-            }
-            2
+    let mut safe = Vec::new(rt.alloc());
+    for line in text.lines() {
+        if put_safe(&mut safe, line.as_bytes()).is_err() || put(&mut safe, "\n").is_err() {
+            return out_of_memory(rt);
         }
-        Err(_) => out_of_memory(rt),
     }
+    if let Ok(text) = str::from_utf8(&safe) {
+        let _ = eprint!(rt; "{text}");
+    }
+    2
 }
 
 /// The words after the program's name.
@@ -112,55 +103,6 @@ where
     }
 }
 
-/// An operator's queue, where the words name a file for orders; or the program's status, where that can't be followed.
-fn operator_of<
-    R: Files + Eprint + AllocGlobal + Clone + Drop + Threads + Wait + Clock + Send + 'static,
->(rt: &R, asked: &Asked<'_>) -> Result<Option<Consumer<u8>>, u8>
-where
-    R::File: Send + 'static,
-{
-    match asked.orders {
-        Some(path) => Ok(Some(followed(rt, path)?)),
-        None => Ok(None),
-    }
-}
-
-/// Does what the words ask for.
-fn act<
-    I: Read + Send,
-    K: Records + Send,
-    P: Printer + Send,
-    R: Files
-        + Print
-        + Eprint
-        + AllocGlobal
-        + Clone
-        + Drop
-        + Threads
-        + Wait
-        + Clock
-        + Send
-        + Sync
-        + 'static,
->(rt: &R, asked: &Asked<'_>, input: &mut I, records: &mut K, printer: &mut P) -> u8
-where
-    R::File: Send + 'static,
-{
-    let Some(plan) = plan_of(rt, asked) else {
-        return 1;
-    };
-    if let Err(fault) = records.open(asked.folder, keep_of(asked)) {
-        return complain(rt, asked.folder, fault);
-    }
-    if asked.is_check {
-        return 0;
-    }
-    match operator_of(rt, asked) {
-        Ok(operator) => record(rt, asked, &plan, operator, input, records, printer),
-        Err(status) => status,
-    }
-}
-
 /// Does what is to be done with the words.
 fn run<
     I: Read + Send,
@@ -185,12 +127,29 @@ where
     let Ok(texts) = texts_of(rt, words) else {
         return out_of_memory(rt);
     };
-    match answer_of(rt.alloc(), &texts) {
-        Ok(Answer::Do(asked)) => act(rt, &asked, input, records, printer),
-        Ok(Answer::Print(text)) => print_text(rt, text.as_str()),
-        Ok(Answer::Refuse(text)) => refuse_words(rt, text.as_str()),
-        Err(_) => out_of_memory(rt),
+    let asked = match answer_of(rt.alloc(), &texts) {
+        Ok(Answer::Do(asked)) => asked,
+        Ok(Answer::Print(text)) => return print_text(rt, text.as_str()),
+        Ok(Answer::Refuse(text)) => return refuse_words(rt, text.as_str()),
+        Err(_) => return out_of_memory(rt),
+    };
+    let Some(plan) = plan_of(rt, &asked) else {
+        return 1;
+    };
+    if let Err(fault) = records.open(asked.folder, keep_of(&asked)) {
+        return complain(rt, asked.folder, fault);
     }
+    if asked.is_check {
+        return 0;
+    }
+    let operator = match asked.orders {
+        Some(path) => match followed(rt, path) {
+            Ok(operator) => Some(operator),
+            Err(status) => return status,
+        },
+        None => None,
+    };
+    record(rt, &asked, &plan, operator, input, records, printer)
 }
 
 fn main(rt: HostRuntime) -> ExitCode {

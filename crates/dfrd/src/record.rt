@@ -6,7 +6,7 @@ use crate::words::Asked;
 use comtrade_io::{ToolFault, fault_of, read_up_to};
 use dfr_recorder::Recorder;
 use dfr_station::{
-    First, Printer, Recorded, RunFault, Station, Store, frame_len, now, read_first, recorder_of,
+    Printer, Recorded, RunFault, Station, Store, frame_len, now, read_first, recorder_of,
     run_station,
 };
 use rtrb::Consumer;
@@ -98,60 +98,11 @@ pub(crate) fn keep_of(asked: &Asked<'_>) -> Keep {
     }
 }
 
-/// How the recorder is run.
-fn station_of(
-    recorder: Recorder<Global>,
-    asked: &Asked<'_>,
-    operator: Option<Consumer<u8>>,
-) -> Station {
-    Station {
-        recorder,
-        input: asked.input,
-        kind: asked.kind,
-        minutes: !asked.is_quiet,
-        operator,
-    }
-}
-
 /// The program's status after a recording that ended.
 fn status_of<R: Eprint + AllocGlobal>(rt: &R, left: Result<Recorded, RunFault>) -> u8 {
     match left {
         Ok(recorded) => { if recorded.unwritten > 0 { 1 } else { 0 } }
         Err(fault) => complain(rt, "recording", fault),
-    }
-}
-
-/// The instant of scan 0, which has just come.
-fn start_of<R: Clock>(rt: &R, asked: &Asked<'_>) -> i64 {
-    match asked.start {
-        Some(start) => start,
-        None => now(rt),
-    }
-}
-
-/// Records what comes after the first scan.
-fn record_from<
-    I: Read + Send,
-    K: Store + Send,
-    P: Printer + Send,
-    R: Eprint + AllocGlobal + Threads + Wait + Clock + Sync,
->(
-    rt: &R,
-    asked: &Asked<'_>,
-    setup: &[u8],
-    operator: Option<Consumer<u8>>,
-    first: First,
-    input: &mut I,
-    store: &mut K,
-    printer: &mut P,
-) -> u8 {
-    match recorder_of(rt.alloc(), setup, start_of(rt, asked)) {
-        Ok(recorder) => {
-            let station = station_of(recorder, asked, operator);
-            let left = run_station(rt, rt.alloc(), station, first, input, store, printer);
-            status_of(rt, left)
-        }
-        Err(refusal) => complain(rt, asked.setup, refusal),
     }
 }
 
@@ -170,17 +121,26 @@ pub(crate) fn record<
     store: &mut K,
     printer: &mut P,
 ) -> u8 {
-    match read_first(rt.alloc(), input, asked.input, plan.frame) {
-        Ok(first) => record_from(
-            rt,
-            asked,
-            &plan.setup,
-            operator,
-            first,
-            input,
-            store,
-            printer,
-        ),
-        Err(_) => out_of_memory(rt),
+    let Ok(first) = read_first(rt.alloc(), input, asked.input, plan.frame) else {
+        return out_of_memory(rt);
+    };
+    // scan 0 has just come
+    let start = match asked.start {
+        Some(start) => start,
+        None => now(rt),
+    };
+    match recorder_of(rt.alloc(), &plan.setup, start) {
+        Ok(recorder) => {
+            let station = Station {
+                recorder,
+                input: asked.input,
+                kind: asked.kind,
+                minutes: !asked.is_quiet,
+                operator,
+            };
+            let left = run_station(rt, rt.alloc(), station, first, input, store, printer);
+            status_of(rt, left)
+        }
+        Err(refusal) => complain(rt, asked.setup, refusal),
     }
 }

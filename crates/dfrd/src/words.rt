@@ -35,17 +35,12 @@ pub enum Answer<'a> {
     Refuse(String),
 }
 
-/// A number in decimal digits.
-fn number_in(text: &str) -> Option<u64> {
-    text.parse::<u64>().ok()
-}
-
 /// The number of an option, where it is given; an error where it is none, or less than 1.
 fn count_of(found: &ArgMatches<'_>, name: &str) -> Result<Option<u64>, ()> {
     match found.get_str(name) {
         None => Ok(None),
-        Some(text) => match number_in(text) {
-            Some(n) if n > 0 => Ok(Some(n)),
+        Some(text) => match text.parse::<u64>() {
+            Ok(n) if n > 0 => Ok(Some(n)),
             _ => Err(()),
         },
     }

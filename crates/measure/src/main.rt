@@ -14,7 +14,6 @@ mod calls;
 mod live;
 mod maker;
 mod numbers;
-mod runner;
 mod soak;
 mod station;
 

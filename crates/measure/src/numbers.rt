@@ -64,16 +64,11 @@ impl Numbers {
         Ok(Scan::new(analog, self.bits(alloc)?))
     }
 
-    fn put(&mut self, alloc: Global, scans: &mut Vec<Scan>, n: u32) -> Result<(), AllocError> {
+    pub fn scans(&mut self, alloc: Global, n: u32) -> Result<Vec<Scan>, AllocError> {
+        let mut scans = Vec::with_capacity(alloc, n as usize)?;
         for _ in 0..n {
             scans.push(self.scan(alloc)?)?;
         }
-        Ok(())
-    }
-
-    pub fn scans(&mut self, alloc: Global, n: u32) -> Result<Vec<Scan>, AllocError> {
-        let mut scans = Vec::with_capacity(alloc, n as usize)?;
-        self.put(alloc, &mut scans, n)?;
         Ok(scans)
     }
 }

@@ -24,12 +24,6 @@ use std::io::Read;
 use std::sync::Wait;
 use std::thread::Threads;
 
-fn input<R: Input + AllocGlobal>(rt: &R) -> Result<Vec<u8>> {
-    let mut text = Vec::new(rt.alloc());
-    rt.reader().read_to_end(&mut text)?;
-    Ok(text)
-}
-
 fn run<R: Wait + Threads + Sync + AllocGlobal>(
     rt: &R,
     out: &mut Out,
@@ -55,7 +49,8 @@ pub fn soak<R: Wait + Threads + Sync + Input + Print + AllocGlobal>(
     words: &mut Args,
 ) -> Result<()> {
     let plan = Plan::of(words).context("WAY SEED LANE SEATS THREADS ROUNDS")?;
-    let text = input(rt)?;
+    let mut text = Vec::new(rt.alloc());
+    rt.reader().read_to_end(&mut text)?;
     let mut out = Out::new(rt.alloc());
     if !run(rt, &mut out, &text, plan) {
         return None.context("a script of a recorder");

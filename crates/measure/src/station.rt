@@ -19,6 +19,9 @@ pub const LIMITS: LimitNumbers = LimitNumbers {
     unshared: false,
 };
 
+/// For how many turns a thread of `run_live` may wait.
+pub const TURNS: u64 = 1_000_000_000;
+
 fn put_set_up(text: &mut String) -> Result<(), AllocError> {
     text.push_str(HEAD)?;
     for _ in 0..32u32 {

@@ -1,7 +1,5 @@
 //! Writing and reading the files of one record.
 
-ghost use Rattle.std.specs.Prelude.{◌+◌, ◌<◌, length};
-
 use crate::amount::Amount;
 use crate::calls::clock::{Least, now, since};
 use crate::calls::station::recorder;
@@ -30,18 +28,14 @@ fn record(alloc: Global, recorder: &mut Recorder, post: u32) -> Result<Record> {
     recorder.take().context("a closed record")
 }
 
-fn file_from(alloc: Global, recorder: &mut Recorder, post: u32, kind: Kind) -> Result<File> {
-    let record = record(alloc, recorder, post)?;
-    file_of(alloc, recorder.layout(), &record, kind)
-        .ok()
-        .context("a record of this layout")
-}
-
 /// The File of a record of so many scans.
 fn file(alloc: Global, rows: u32, kind: Kind) -> Result<File> {
     let post = rows.saturating_sub(1);
     let mut recorder = recorder(alloc, 0, post, 0)?;
-    file_from(alloc, &mut recorder, post, kind)
+    let record = record(alloc, &mut recorder, post)?;
+    file_of(alloc, recorder.layout(), &record, kind)
+        .ok()
+        .context("a record of this layout")
 }
 
 fn cfg_of(alloc: Global, file: &File) -> Option<Vec<u8>> {
@@ -74,23 +68,7 @@ fn is_file(read: Result<File, (ReadFault, Head)>) -> bool {
     }
 }
 
-/// Reads the data of a head, and drops the File after its time was taken.
-fn read_rows<R: Clock + AllocGlobal>(
-    rt: &R,
-    head: Head,
-    dat: &[u8],
-    least: &mut Least,
-) -> Result<()>
-    requires { length head.analog + length head.status < 1000000 }
-{
-    let start = now(rt);
-    let read = read_dat(rt.alloc(), head, dat);
-    let time = since(rt, start);
-    is_file(read).then_some(()).context("its own data")?;
-    least.add(time?);
-    Ok(())
-}
-
+/// Reads the data under their head, and drops the File after its time was taken.
 fn read_once<R: Clock + AllocGlobal>(
     rt: &R,
     cfg: &[u8],
@@ -98,7 +76,12 @@ fn read_once<R: Clock + AllocGlobal>(
     least: &mut Least,
 ) -> Result<()> {
     let head = read_cfg(rt.alloc(), cfg).ok().context("its own text")?;
-    read_rows(rt, head, dat, least)
+    let start = now(rt);
+    let read = read_dat(rt.alloc(), head, dat);
+    let time = since(rt, start);
+    is_file(read).then_some(()).context("its own data")?;
+    least.add(time?);
+    Ok(())
 }
 
 fn measure_writing<R: Clock + Print + AllocGlobal>(
@@ -140,27 +123,6 @@ fn texts(alloc: Global, file: &File) -> Result<(Vec<u8>, Vec<u8>)> {
     }
 }
 
-fn measure_both<R: Clock + Print + AllocGlobal>(
-    rt: &R,
-    amount: Amount,
-    file: &File,
-    texts: (&[u8], &[u8]),
-    names: (&str, &str),
-) -> Result<()> {
-    measure_writing(rt, amount, file, names.0, texts.1.len() as u64)?;
-    measure_reading(rt, amount, texts, names.1)
-}
-
-fn measure_file<R: Clock + Print + AllocGlobal>(
-    rt: &R,
-    amount: Amount,
-    file: &File,
-    names: (&str, &str),
-) -> Result<()> {
-    let (cfg, dat) = texts(rt.alloc(), file)?;
-    measure_both(rt, amount, file, (&cfg, &dat), names)
-}
-
 fn measure_kind<R: Clock + Print + AllocGlobal>(
     rt: &R,
     amount: Amount,
@@ -168,7 +130,9 @@ fn measure_kind<R: Clock + Print + AllocGlobal>(
     names: (&str, &str),
 ) -> Result<()> {
     let file = file(rt.alloc(), amount.over(100_000, 20), kind)?;
-    measure_file(rt, amount, &file, names)
+    let (cfg, dat) = texts(rt.alloc(), &file)?;
+    measure_writing(rt, amount, &file, names.0, dat.len() as u64)?;
+    measure_reading(rt, amount, (&cfg, &dat), names.1)
 }
 
 pub fn measure<R: Clock + Print + AllocGlobal>(rt: &R, amount: Amount) -> Result<()> {

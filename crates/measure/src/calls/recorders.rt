@@ -67,17 +67,6 @@ fn scan_all<R: Clock + AllocGlobal>(
     Ok(())
 }
 
-fn measure_recorder<R: Clock + AllocGlobal>(
-    rt: &R,
-    recorder: &mut Recorder,
-    scans: u32,
-    open: bool,
-    least: &mut Least,
-) -> Result<()> {
-    prepare(rt.alloc(), recorder, open)?;
-    scan_all(rt, recorder, scans, least)
-}
-
 fn measure_once<R: Clock + AllocGlobal>(
     rt: &R,
     scans: u32,
@@ -85,7 +74,8 @@ fn measure_once<R: Clock + AllocGlobal>(
     least: &mut Least,
 ) -> Result<()> {
     let mut recorder = recorder(rt.alloc(), RING - 1, 900_000, state.rules)?;
-    measure_recorder(rt, &mut recorder, scans, state.open, least)
+    prepare(rt.alloc(), &mut recorder, state.open)?;
+    scan_all(rt, &mut recorder, scans, least)
 }
 
 fn measure_state<R: Clock + Print + AllocGlobal>(

@@ -112,7 +112,12 @@ fn run<R: Wait + Clock + AllocGlobal>(rt: &R, runs: u32, times: &mut Times) -> R
     named::<Brand, R>(rt, opened, runs, times)
 }
 
-fn told<R: Print>(rt: &R, amount: Amount, times: &mut Times) -> Result<()> {
+pub fn measure<R: Wait + Clock + Print + AllocGlobal>(rt: &R, amount: Amount) -> Result<()> {
+    let mut times = Times {
+        offers: none(rt.alloc()),
+        pumps: none(rt.alloc()),
+    };
+    run(rt, amount.runs, &mut times)?;
     let places = PLACES as u64;
     tell(rt, amount, "offer, one thread", places, &mut times.offers)?;
     tell(
@@ -122,13 +127,4 @@ fn told<R: Print>(rt: &R, amount: Amount, times: &mut Times) -> Result<()> {
         places,
         &mut times.pumps,
     )
-}
-
-pub fn measure<R: Wait + Clock + Print + AllocGlobal>(rt: &R, amount: Amount) -> Result<()> {
-    let mut times = Times {
-        offers: none(rt.alloc()),
-        pumps: none(rt.alloc()),
-    };
-    run(rt, amount.runs, &mut times)?;
-    told(rt, amount, &mut times)
 }

@@ -3,12 +3,11 @@
 use crate::amount::Amount;
 use crate::live::times::{none, note, tell};
 use crate::numbers::Numbers;
-use crate::runner::ran;
-use crate::station::{LIMITS, recorder};
+use crate::station::{LIMITS, TURNS, recorder};
 use anyhow::{Context, Result};
 use comtrade_write::Kind;
 use dfr_channels::Scan;
-use dfr_live::{Fed, Feed, LiveFault, LiveReport, Order, Orders, Sink};
+use dfr_live::{Fed, Feed, LiveFault, LiveReport, Order, Orders, Sink, run_live};
 use dfr_recorder::{Extent, Recorder};
 use std::alloc::{AllocGlobal, Global};
 use std::rt::Clock;
@@ -133,12 +132,13 @@ fn ran_well<R: Wait + Threads + Sync + AllocGlobal>(
         step: run.step,
         end: scans,
     };
-    let how = (run.places, run.kind);
-    is_report(ran(
+    is_report(run_live(
         rt,
         rt.alloc(),
         recorder,
-        how,
+        run.places,
+        run.kind,
+        TURNS,
         &mut feed,
         &mut orders,
         &mut Nowhere,
@@ -184,21 +184,13 @@ fn all<R: Wait + Threads + Sync + Clock + Print + AllocGlobal>(
     tell(rt, amount, run.name, scans, &mut times)
 }
 
-fn runs<R: Wait + Threads + Sync + Clock + Print + AllocGlobal>(
-    rt: &R,
-    set: &[Scan],
-    amount: Amount,
-) -> Result<()> {
-    for run in RUNS {
-        all(rt, set, amount, run)?;
-    }
-    Ok(())
-}
-
 pub fn measure<R: Wait + Threads + Sync + Clock + Print + AllocGlobal>(
     rt: &R,
     amount: Amount,
 ) -> Result<()> {
     let set = Numbers::not_negative(1).scans(rt.alloc(), 64)?;
-    runs(rt, &set, amount)
+    for run in RUNS {
+        all(rt, &set, amount, run)?;
+    }
+    Ok(())
 }

@@ -131,23 +131,20 @@ fn trouble_tokens<A: Allocator + Copy>(
     }
 }
 
-fn seat_of<A: Allocator>(token: &Option<Token<A>>) -> Option<u32> {
-    match token {
-        Some(token) => Some(token.seat()),
-        None => None,
-    }
-}
-
-/// Ends; where that is refused, it ends again with all tokens and enough memory.
-fn end_with<N: Session<A>, A: Allocator + Copy>(
+/// What came of ending a desk's recorder: where that is refused, it ends again with all tokens and enough memory.
+pub fn end_desk<N: Session<A>, A: Allocator + Copy>(
     heap: Heap,
     alloc: A,
-    parts: Parts<N, A>,
+    desk: Desk<'_, N, A>,
+    chance: &mut Chance,
     trouble: Trouble,
 ) -> Ends<A> {
-    let (inner, source, mut tokens) = parts;
+    let (inner, source, mut tokens) = parts_of(alloc, desk, chance);
     let missing = trouble_tokens(alloc, &mut tokens, trouble);
-    let seat = seat_of(&missing);
+    let seat = match &missing {
+        Some(token) => Some(token.seat()),
+        None => None,
+    };
     if let Trouble::Refused = trouble {
         heap.refuse(1);
     }
@@ -167,17 +164,6 @@ fn end_with<N: Session<A>, A: Allocator + Copy>(
             }
         }
     }
-}
-
-/// What came of ending a desk's recorder.
-pub fn end_desk<N: Session<A>, A: Allocator + Copy>(
-    heap: Heap,
-    alloc: A,
-    desk: Desk<'_, N, A>,
-    chance: &mut Chance,
-    trouble: Trouble,
-) -> Ends<A> {
-    end_with(heap, alloc, parts_of(alloc, desk, chance), trouble)
 }
 
 fn put_fault(out: &mut Out, fault: EndFault) {

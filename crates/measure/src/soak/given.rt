@@ -122,14 +122,8 @@ fn with_lists<A: Allocator>(recorder: Recorder<A>, lists: Option<Lists<A>>) -> O
 }
 
 pub fn given_of<A: Allocator + Copy>(alloc: A, script: Script<A>) -> Option<Given<A>> {
-    let Script {
-        setup,
-        limits,
-        rules,
-        commands,
-    } = script;
-    let lists = lists_of(alloc, commands);
-    match recorder_of(alloc, setup, limits, rules) {
+    let lists = lists_of(alloc, script.commands);
+    match recorder_of(alloc, script.setup, script.limits, script.rules) {
         Some(recorder) => with_lists(recorder, lists),
         None => {
             drop(lists);

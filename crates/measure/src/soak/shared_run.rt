@@ -9,7 +9,7 @@ use crate::soak::ending::{Trouble, end_desk, put_ends};
 use crate::soak::given::{Given, Lists};
 use crate::soak::out::Out;
 use crate::soak::plan::{Plan, Way};
-use crate::soak::threads::{at_once, in_order};
+use crate::soak::threads;
 use crate::soak::told::put_callers;
 use dfr_live::{Opened, Session, Token};
 use std::alloc::{AllocGlobal, Allocator, Global};
@@ -67,9 +67,10 @@ fn named<
 {
     let (heap, alloc) = heaps;
     let desk = desk_of::<N, A>(rt.alloc(), heap, opened, lists, plan);
+    let end = plan.threads.saturating_add(1);
     let started = match plan.way {
-        Way::Orderly => in_order(rt, &desk, plan.threads),
-        _ => at_once(rt, &desk, plan.threads),
+        Way::Orderly => threads::run(rt, &desk, 0, 1) && threads::run(rt, &desk, 1, end),
+        _ => threads::run(rt, &desk, 0, end),
     };
     heap.refuse_none();
     put_callers(rt, out, &desk, started);

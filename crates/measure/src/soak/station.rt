@@ -1,6 +1,5 @@
 //! `run_live` over a feed and a sink that pause and fail.
 
-use crate::runner::ran;
 use crate::soak::chance::Chance;
 use crate::soak::desk::Heap;
 use crate::soak::given::{Given, Lists, Sample, Work};
@@ -8,8 +7,11 @@ use crate::soak::notes::text_sum;
 use crate::soak::out::Out;
 use crate::soak::plan::Plan;
 use crate::soak::told::put_ended;
+use crate::station::TURNS;
 use comtrade_write::Kind;
-use dfr_live::{EndFault, Fed, Feed, LiveFault, LiveReport, OpenFault, Order, Orders, Sink};
+use dfr_live::{
+    EndFault, Fed, Feed, LiveFault, LiveReport, OpenFault, Order, Orders, Sink, run_live,
+};
 use dfr_recorder::{Extent, Recorder};
 use std::alloc::{AllocGlobal, Allocator, Global};
 use std::collections::VecDeque;
@@ -135,15 +137,6 @@ fn put_report<A: Allocator + Copy>(out: &mut Out, report: Report<A>) {
     }
 }
 
-/// What the sink got; how many calls of the feed and of the sink were to come before one fails, and
-/// whether an allocation was refused.
-fn put_devices(out: &mut Out, got: &[Files], (feed, sink): (u64, u64), refused: bool) {
-    put_files(out, got);
-    out.item("to come ", feed);
-    out.item(" ", sink);
-    out.put(if refused { " true\n" } else { " false\n" });
-}
-
 fn kind_of(plan: Plan) -> Kind {
     if plan.seats % 2 == 0 {
         Kind::Ascii
@@ -191,11 +184,13 @@ fn live<A: Allocator + Copy + Send + Sync, R: Wait + Threads + Sync>(
     plan: Plan,
     devices: &mut Devices<A>,
 ) -> Report<A> {
-    ran(
+    run_live(
         rt,
         alloc,
         recorder,
-        (plan.lane, kind_of(plan)),
+        plan.lane,
+        kind_of(plan),
+        TURNS,
         &mut devices.feed,
         &mut devices.orders,
         &mut devices.sink,
@@ -216,12 +211,11 @@ pub fn run<A: Allocator + Copy + Send + Sync, R: Wait + Threads + Sync + AllocGl
     let report = live(rt, alloc, recorder, plan, &mut devices);
     let refused = heap.has_refused();
     heap.refuse_none();
-    put_devices(
-        out,
-        &devices.sink.got,
-        (devices.feed.failing.left, devices.sink.failing.left),
-        refused,
-    );
+    put_files(out, &devices.sink.got);
+    // how many calls of the feed and of the sink were to come before one fails, and whether an allocation was refused
+    out.item("to come ", devices.feed.failing.left);
+    out.item(" ", devices.sink.failing.left);
+    out.put(if refused { " true\n" } else { " false\n" });
     drop(devices);
     put_report(out, report);
 }

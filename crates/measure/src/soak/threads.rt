@@ -18,16 +18,6 @@ fn work<N: Session<A>, A: Allocator + Copy>(rt: &impl Wait, desk: &Desk<'_, N, A
     }
 }
 
-fn start<
-    's,
-    E,
-    N: Session<A> + Send + Sync,
-    A: Allocator + Copy + Send + Sync,
-    R: Threads + Wait + Sync,
->(scope: &Scope<'s, E>, rt: &'s R, desk: &'s Desk<'_, N, A>, thread: u64) -> bool {
-    scope.spawn(move || work(rt, desk, thread)).is_ok()
-}
-
 fn start_all<
     's,
     E,
@@ -36,7 +26,7 @@ fn start_all<
     R: Threads + Wait + Sync,
 >(scope: &Scope<'s, E>, rt: &'s R, desk: &'s Desk<'_, N, A>, first: u64, end: u64) -> bool {
     for thread in first..end {
-        if !start(scope, rt, desk, thread) {
+        if scope.spawn(move || work(rt, desk, thread)).is_err() {
             return false;
         }
     }
@@ -44,31 +34,12 @@ fn start_all<
 }
 
 /// Runs the threads of these numbers. False where one can't be started.
-fn run<N: Session<A> + Send + Sync, A: Allocator + Copy + Send + Sync, R: Threads + Wait + Sync>(
-    rt: &R,
-    desk: &Desk<'_, N, A>,
-    first: u64,
-    end: u64,
-) -> bool {
+pub fn run<
+    N: Session<A> + Send + Sync,
+    A: Allocator + Copy + Send + Sync,
+    R: Threads + Wait + Sync,
+>(rt: &R, desk: &Desk<'_, N, A>, first: u64, end: u64) -> bool {
     thread::scope(thread::scope_env(), rt, |scope| {
         start_all(scope, rt, desk, first, end)
     })
-}
-
-/// All at once.
-pub fn at_once<
-    N: Session<A> + Send + Sync,
-    A: Allocator + Copy + Send + Sync,
-    R: Threads + Wait + Sync,
->(rt: &R, desk: &Desk<'_, N, A>, callers: u64) -> bool {
-    run(rt, desk, 0, callers.saturating_add(1))
-}
-
-/// First the source, then the callers.
-pub fn in_order<
-    N: Session<A> + Send + Sync,
-    A: Allocator + Copy + Send + Sync,
-    R: Threads + Wait + Sync,
->(rt: &R, desk: &Desk<'_, N, A>, callers: u64) -> bool {
-    run(rt, desk, 0, 1) && run(rt, desk, 1, callers.saturating_add(1))
 }

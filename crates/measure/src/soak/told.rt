@@ -3,8 +3,8 @@
 use crate::soak::desk::{Acquiring, Desk, Held, Offered};
 use crate::soak::notes::{record_sum, scan_sum};
 use crate::soak::out::Out;
-use dfr_live::{Call, Ended, Entry, Left, Session};
-use dfr_recorder::{Record, Recorder};
+use dfr_live::{Call, Ended, Entry, Session};
+use dfr_recorder::Recorder;
 use std::alloc::Allocator;
 use std::sync::{Mutex, Wait};
 
@@ -72,12 +72,6 @@ fn put_entry<A: Allocator>(out: &mut Out, entry: &Entry<A>) {
     out.put("\n");
 }
 
-fn put_left<A: Allocator>(out: &mut Out, item: &Left<A>) {
-    out.item("left ", item.lost as u64);
-    out.item(" ", scan_sum(&item.scan));
-    out.put("\n");
-}
-
 fn put_counts<A: Allocator + Copy>(out: &mut Out, recorder: &Recorder<A>) {
     out.item("recorder ", recorder.scans());
     out.item(" ", recorder.waiting() as u64);
@@ -89,18 +83,14 @@ fn put_counts<A: Allocator + Copy>(out: &mut Out, recorder: &Recorder<A>) {
     out.put("\n");
 }
 
-fn put_waiting<A: Allocator + Copy>(out: &mut Out, record: &Record<A>) {
-    out.put("waits ");
-    out.debug(record.extent());
-    out.item(" ", record_sum(record));
-    out.put("\n");
-}
-
 fn put_recorder<A: Allocator + Copy>(out: &mut Out, recorder: &mut Recorder<A>) {
     put_counts(out, recorder);
     for _ in 0..recorder.waiting() {
         if let Some(record) = recorder.take() {
-            put_waiting(out, &record);
+            out.put("waits ");
+            out.debug(record.extent());
+            out.item(" ", record_sum(&record));
+            out.put("\n");
         }
     }
 }
@@ -111,7 +101,9 @@ pub fn put_ended<A: Allocator + Copy>(out: &mut Out, ended: Ended<A>) {
         put_entry(out, entry);
     }
     for item in &ended.left {
-        put_left(out, item);
+        out.item("left ", item.lost as u64);
+        out.item(" ", scan_sum(&item.scan));
+        out.put("\n");
     }
     let mut ended = ended;
     put_recorder(out, &mut ended.recorder);
