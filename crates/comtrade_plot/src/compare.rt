@@ -181,8 +181,8 @@ pub fn compare_over<A: Allocator + Copy, W: Write>(
     options: CompareOptions,
     w: &mut W,
 ) -> Result<Option<Refusal>, ToolFault> {
-    let files = (one.file, other.file);
-    let (from, to) = (files.0.head.trigger, files.1.head.trigger);
+    let (file, beside) = (one.file, other.file);
+    let (from, to) = (file.head.trigger, beside.head.trigger);
     // an instant that isn't known is the first of 1970
     match (from, to) {
         (0, _) => return Ok(Some(Refusal::UntriggeredOne)),
@@ -202,7 +202,7 @@ pub fn compare_over<A: Allocator + Copy, W: Write>(
     match (first.is_timed, second.is_timed) {
         (false, _) => Ok(Some(Refusal::TimelessOne)),
         (true, false) => Ok(Some(Refusal::TimelessOther)),
-        (true, true) => draw(alloc, files, (&first, &second), options, w),
+        (true, true) => draw(alloc, (file, beside), (&first, &second), options, w),
     }
 }
 

@@ -95,7 +95,7 @@ pub(crate) fn put_pairs<A: Allocator + Copy>(
     for number in 0..panel_count(beside.one.panels) {
         let height = pair_height(beside, number);
         y = y.saturating_add(TITLE);
-        put_panel(sheet, &[beside.one, beside.other], number, y, height);
+        put_panel(sheet, beside.one, Some(beside.other), number, y, height);
         put_pair_legend(sheet, beside, number, y);
         y = y.saturating_add(height);
     }

@@ -46,7 +46,7 @@ pub(crate) fn put_overview<A: Allocator>(
     top: u32,
 ) {
     let number = chosen_panel(whole);
-    if let Some(panel) = panel_of(&[whole], number, top, HEIGHT) {
+    if let Some(panel) = panel_of(whole, None, number, top, HEIGHT) {
         put_traces(sheet, whole, panel, number);
     }
     put_frame(sheet, top, HEIGHT);

@@ -13,21 +13,33 @@ use crate::units::{put_unit, shown_exponent, unit_of};
 use dfr_channels::{AnalogChannel, Side};
 use std::alloc::Allocator;
 
-/// A panel of one chart, or of more that are drawn over each other, from a height on; None where it has no readings.
-pub(crate) fn panel_of<A: Allocator>(
-    charts: &[&Chart<'_, A>],
+/// The bounds with those of a chart's channels in a panel.
+fn bounds_with<A: Allocator>(
+    bounds: Option<(f64, f64)>,
+    chart: &Chart<'_, A>,
+    number: usize,
+) -> Option<(f64, f64)> {
+    let mut bounds = bounds;
+    let known = chart.surveys.iter().zip(chart.scales.iter());
+    for (its, (survey, scale)) in chart.panels.iter().zip(known) {
+        if *its == number {
+            bounds = spread(bounds, survey.values(*scale));
+        }
+    }
+    bounds
+}
+
+/// A panel of one chart, or of two that are drawn over each other, from a height on; None where it has no readings.
+pub(crate) fn panel_of<'a, A: Allocator>(
+    one: &Chart<'a, A>,
+    other: Option<&Chart<'a, A>>,
     number: usize,
     top: u32,
     height: u32,
 ) -> Option<Panel> {
-    let mut bounds = None;
-    for chart in charts {
-        let known = chart.surveys.iter().zip(chart.scales.iter());
-        for (its, (survey, scale)) in chart.panels.iter().zip(known) {
-            if *its == number {
-                bounds = spread(bounds, survey.values(*scale));
-            }
-        }
+    let mut bounds = bounds_with(None, one, number);
+    if let Some(other) = other {
+        bounds = bounds_with(bounds, other, number);
     }
     let (low, high) = bounds?;
     let (low, high) = with_edges(low, high);
@@ -137,38 +149,39 @@ fn put_empty<A: Allocator>(sheet: &mut Sheet<A>, chart: &Chart<'_, A>, top: u32,
 }
 
 /// A panel of one chart, or of two over each other, below its title, at a height.
-pub(crate) fn put_panel<A: Allocator + Copy>(
+pub(crate) fn put_panel<'a, A: Allocator + Copy>(
     sheet: &mut Sheet<A>,
-    charts: &[&Chart<'_, A>],
+    one: &Chart<'a, A>,
+    other: Option<&Chart<'a, A>>,
     number: usize,
     top: u32,
     height: u32,
 ) {
-    let Some(one) = charts.first() else {
-        return;
-    };
     let Some(first) = first_of(one, number) else {
         return;
     };
     let bottom = top.saturating_add(height);
-    for chart in charts {
-        put_gaps(sheet, chart, top, bottom);
+    put_gaps(sheet, one, top, bottom);
+    if let Some(other) = other {
+        put_gaps(sheet, other, top, bottom);
     }
     put_grid(sheet, one.frame, top, bottom);
     let title = top.saturating_sub(50);
-    if let Some(panel) = panel_of(charts, number, top, height) {
+    if let Some(panel) = panel_of(one, other, number, top, height) {
         let exponent = exponent_of(first, panel);
         put_title(sheet, first, exponent, title);
         put_levels(sheet, one, panel, exponent);
-        for chart in charts {
-            put_traces(sheet, chart, panel, number);
+        put_traces(sheet, one, panel, number);
+        if let Some(other) = other {
+            put_traces(sheet, other, panel, number);
         }
     } else {
         put_title(sheet, first, 0, title);
         put_empty(sheet, one, top, height);
     }
-    for chart in charts {
-        put_trigger(sheet, chart, top, bottom);
+    put_trigger(sheet, one, top, bottom);
+    if let Some(other) = other {
+        put_trigger(sheet, other, top, bottom);
     }
     put_frame(sheet, top, height);
 }
@@ -184,7 +197,7 @@ pub(crate) fn put_panels<A: Allocator + Copy>(
     for number in 0..count {
         let height = height_of(chart, number, count);
         y = y.saturating_add(TITLE);
-        put_panel(sheet, &[chart], number, y, height);
+        put_panel(sheet, chart, None, number, y, height);
         put_names(sheet, chart, y, number);
         y = y.saturating_add(height);
     }
