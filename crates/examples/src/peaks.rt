@@ -56,13 +56,16 @@ fn print_peaks<R: Print + AllocGlobal>(
     Ok(())
 }
 
-/// The first instant, and a line for each analogue channel.
-pub fn print<R: Files + Print + AllocGlobal>(rt: &R, cfg: &str, dat: &str) -> Result<()> {
-    let file = file_in(rt, cfg, dat)?;
-    print_first(rt, &file)?;
+fn print_all<R: Print + AllocGlobal>(rt: &R, file: &File) -> Result<()> {
+    print_first(rt, file)?;
     let rows = file.rows.items();
     for (number, channel) in file.head.analog.items().iter().enumerate() {
         print_peaks(rt, rows, number, channel)?;
     }
     Ok(())
+}
+
+/// The first instant, and a line for each analogue channel.
+pub fn print<R: Files + Print + AllocGlobal>(rt: &R, cfg: &str, dat: &str) -> Result<()> {
+    print_all(rt, &file_in(rt, cfg, dat)?)
 }

@@ -8,6 +8,8 @@ use dfr_live::{Fed, Feed, Order, Orders, Sink, run_live};
 use dfr_recorder::{Extent, Limits, Recorder};
 use std::alloc::Global;
 use std::io::{self, Write};
+use std::sync::Wait;
+use std::thread::Threads;
 
 /// The channels, as a configuration file says them: a current in steps of 0.5 A.
 const CHANNELS: &[u8] = b"Northfield 110 kV,My recorder,1999\n1,1A,0D\n\

@@ -16,9 +16,12 @@ pub struct Pair {
 
 /// The record of that script.
 pub const ASCII: Pair = Pair {
-    cfg: b"Bay 1,DFR,1999\r\n2,1A,1D\r\n1,IA,A,line 1,A,1,0,0,-32767,32767,1,1,P\r\n1,TRIP,A,line 1,0\r\n50\r\n1\r\n1000,5\r\n01/01/1970,00:00:00.001000\r\n01/01/1970,00:00:00.003000\r\nASCII\r\n1\r\n",
+    cfg: ASCII_CFG,
     dat: b"1,0,11,0\r\n2,1000,12,0\r\n3,2000,13,0\r\n4,3000,14,0\r\n5,4000,15,0\r\n\x1A",
 };
+
+pub const ASCII_CFG: &[u8] =
+    b"Bay 1,DFR,1999\r\n2,1A,1D\r\n1,IA,A,line 1,A,1,0,0,-32767,32767,1,1,P\r\n1,TRIP,A,line 1,0\r\n50\r\n1\r\n1000,5\r\n01/01/1970,00:00:00.001000\r\n01/01/1970,00:00:00.003000\r\nASCII\r\n1\r\n";
 
 const BINARY: Pair = Pair {
     cfg: b"Bay 1,DFR,1999\r\n2,1A,1D\r\n1,IA,A,line 1,A,1,0,0,-32767,32767,1,1,P\r\n1,TRIP,A,line 1,0\r\n50\r\n1\r\n1000,5\r\n01/01/1970,00:00:00.001000\r\n01/01/1970,00:00:00.003000\r\nBINARY\r\n1\r\n",

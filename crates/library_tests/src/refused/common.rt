@@ -3,7 +3,7 @@
 use crate::bay::{BAY, Bay, OVER_100, layout};
 use crate::channels::rules::{RISE, rules_in};
 use crate::channels::setups;
-use crate::samples::ASCII;
+use crate::samples::ASCII_CFG;
 use dfr_channels::{Layout, Reading, Rule, Rules, Scan};
 use failing_allocator::Refusing;
 use std::alloc::{Allocator, Global};
@@ -15,7 +15,7 @@ pub const RULES: &[Rule] = &[OVER_100, RISE];
 
 /// What it sets up.
 pub const SCRIPTED: Bay = Bay {
-    channels: ASCII.cfg,
+    channels: ASCII_CFG,
     rules: RULES,
     ..BAY
 };
