@@ -1,6 +1,7 @@
 //! The value a * x + b of a sample, exactly.
 
-ghost use Rattle.std.specs.Prelude.{◌≡◌, ◌+◌, ◌<◌, ◌≤◌, ◌^◌, pos, IfNone, IfSome};
+ghost use Rattle.std.specs.Prelude.{◌≡◌, ◌≢◌, ◌+◌, ◌<◌, ◌≤◌, ◌^◌, ◌*ℤ◌, pos, IfNone, IfSome};
+ghost use Rattle.std.specs.Int.RustNames.{int_rem};
 ghost use Rattle.std.specs.Option.{SomeIff};
 ghost use Rattle.dfr_channels.specs.Spelling.{IsNumber};
 ghost use Rattle.comtrade_values.specs.Values as Values;
@@ -30,6 +31,9 @@ fn with_places(number: Decimal, places: u8) -> Option<Decimal>
         SomeIff result (IsNumber longer) longer }
 {
     let zeros = places - number.places();
+    if zeros == 0 {
+        return Some(number);
+    }
     if number.units() == 0 {
         return Decimal::new(0, places);
     }
@@ -50,17 +54,36 @@ pub fn exact_value(a: Decimal, b: Decimal, sample: i32) -> Option<Decimal>
     Decimal::new(product.units() + offset.units(), places)
 }
 
+/// A tenth of a whole number; None where its last digit isn't 0. Most have 64 bits, whose division is the quicker one.
+fn tenth_of(units: i128) -> Option<i128>
+    ensures none { IfNone result (int_rem units (pos 10) ≢ pos 0) }
+    ensures some { IfSome result (λ tenth. tenth *ℤ pos 10 ≡ units) }
+{
+    if let Ok(short) = i64::try_from(units) {
+        return if short % 10 == 0 {
+            Some((short / 10) as i128)
+        } else {
+            None
+        };
+    }
+    if units % 10 == 0 {
+        Some(units / 10)
+    } else {
+        None
+    }
+}
+
 /// The same number with one place fewer; None where it has none, or its last digit isn't 0.
 fn shortened(number: Decimal) -> Option<Decimal>
     ensures none { IfNone result (Values.HasNoZero number) }
     ensures same { IfSome result (λ n. Values.with_places number.places n ≡ number) }
     ensures fewer { IfSome result (λ n. n.places + 1 ≡ number.places) }
 {
-    let units = number.units();
-    if number.places() == 0 || units % 10 != 0 {
+    if number.places() == 0 {
         return None;
     }
-    Decimal::new(units / 10, number.places() - 1)
+    let tenth = tenth_of(number.units())?;
+    Decimal::new(tenth, number.places() - 1)
 }
 
 /// The same number without zeros at the end of its places.
