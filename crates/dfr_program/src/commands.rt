@@ -57,9 +57,70 @@ fn answer_scan<A: Allocator + Copy>(
     }
 }
 
+/// Makes the step of a lost scan, and puts what came of it.
+fn answer_lost<A: Allocator + Copy>(
+    recorder: &mut Recorder<A>,
+    line: &mut Vec<u8, A>,
+) -> Result<(), AllocError>
+    ensures { OnOk result
+        (PutsStep recorder.old (Ok step.Lost) recorder.new line.old.items line.new.items) }
+{
+    put_lost(line, recorder.lost())
+}
+
+/// Makes the step of a manual trigger, and puts what it did.
+fn answer_trigger<A: Allocator + Copy>(
+    recorder: &mut Recorder<A>,
+    line: &mut Vec<u8, A>,
+) -> Result<(), AllocError>
+    ensures { OnOk result
+        (PutsStep recorder.old (Ok step.Trigger) recorder.new line.old.items line.new.items) }
+{
+    put_trigger(line, recorder.trigger())
+}
+
 /// Makes the step of a command, and prints its answer: all of it or, where an allocation failed,
-/// nothing. What was buffered is written where it exceeds 64 KiB.
+/// nothing. `line` is empty.
 fn answer<A: Allocator + Copy, W: Write>(
+    alloc: A,
+    recorder: &mut Recorder<A>,
+    command: Command<A>,
+    kind: Kind,
+    w: &mut W,
+    out: &mut Vec<u8, A>,
+    line: &mut Vec<u8, A>,
+) -> Result<(), RunFault>
+    requires { line.old.items ≡ [] }
+    ensures { PrintsStep result kind recorder.old (step_of recorder.old.layout (parts_of command))
+        recorder.new (W.contents w.old) out.old.items (W.contents w.new) out.new.items }
+{
+    match command {
+        Command::Scan(scan) => {
+            answer_scan(recorder, scan, line)?;
+            out.extend_from_slice(line)?;
+            Ok(())
+        }
+        Command::Lost => {
+            answer_lost(recorder, line)?;
+            out.extend_from_slice(line)?;
+            Ok(())
+        }
+        Command::Trigger => {
+            answer_trigger(recorder, line)?;
+            out.extend_from_slice(line)?;
+            Ok(())
+        }
+        Command::Take => answer_take(alloc, recorder, kind, w, out, line),
+        Command::Rules { line: _, list } => {
+            answer_rules(recorder, list, line)?;
+            out.extend_from_slice(line)?;
+            Ok(())
+        }
+    }
+}
+
+/// Answers a command, and writes what was buffered where it exceeds 64 KiB.
+fn answer_one<A: Allocator + Copy, W: Write>(
     alloc: A,
     recorder: &mut Recorder<A>,
     command: Command<A>,
@@ -72,17 +133,7 @@ fn answer<A: Allocator + Copy, W: Write>(
         recorder.new (W.contents w.old) out.old.items (W.contents w.new) out.new.items }
 {
     line.clear();
-    match command {
-        Command::Scan(scan) => answer_scan(recorder, scan, line)?,
-        Command::Lost => put_lost(line, recorder.lost())?,
-        Command::Trigger => put_trigger(line, recorder.trigger())?,
-        Command::Rules { line: _, list } => answer_rules(recorder, list, line)?,
-        Command::Take => {
-            answer_take(alloc, recorder, kind, w, out, line)?;
-            return flush_if_full(w, out);
-        }
-    }
-    out.extend_from_slice(line)?;
+    answer(alloc, recorder, command, kind, w, out, line)?;
     flush_if_full(w, out)
 }
 
@@ -103,7 +154,7 @@ pub(crate) fn answer_all<A: Allocator + Copy, W: Write>(
     let mut recorder = recorder;
     let mut line = Vec::new(alloc);
     for command in commands {
-        answer(alloc, &mut recorder, command, kind, w, out, &mut line)?;
+        answer_one(alloc, &mut recorder, command, kind, w, out, &mut line)?;
     }
     Ok(())
 }

@@ -1,15 +1,29 @@
-use Rattle.std.proofs.Common.{◌++◌, [], ap, ◌∙◌, sym}
+use Rattle.std.proofs.Common.{◌++◌, ap, ◌∙◌}
 use Rattle.dfr_script.specs.Commands.{parts_of}
-use Rattle.dfr_program.specs.Answering.{PutsStep}
 use Rattle.dfr_program.specs.Transcript.{step_of}
-use Rattle.dfr_program.proofs.Answering.{prints_put, prints_sent, prints_as, scan_step, lost_step, trigger_step, take_step, set_step, puts_lost, puts_trigger}
+use Rattle.dfr_program.proofs.Answering.{prints_put, scan_step, lost_step, trigger_step, take_step, set_step, prints_as}
 use Rattle.dfr_program.proofs.commands.answer.Goals as goal
 
-pub returns-in_ok-answer_take-in-Take : goal.returns-in_ok-answer_take-in-Take
-returns-in_ok-answer_take-in-Take g c =
-    prints_sent (tt {0}) c.flush_if_full-in-Take.result _ _ _ _ _ _ _ _ _ _
-    (prints_as _ _ _ _ _ _ _ _ _ _ (ap (λ v. step_of c.args.recorder.now.layout (parts_of v)) c.in-Take.is ∙ take_step _) c.in_ok-answer_take-in-Take.ensures)
-    c.flush_if_full-in-Take.ensures.printed c.flush_if_full-in-Take.ensures.fault
+pub returns-in_ok-extend_from_slice-in-Scan : goal.returns-in_ok-extend_from_slice-in-Scan
+returns-in_ok-extend_from_slice-in-Scan g c =
+    prints_put (tt {0}) c.args.kind c.args.recorder.now c.answer_scan.new.recorder _ _ _ _ _ _ _
+    (ap (λ v. step_of c.args.recorder.now.layout (parts_of v)) c.in-Scan.is ∙ scan_step _ _) c.requires c.in_ok-answer_scan-in-Scan.ensures (c.in_ok-extend_from_slice-in-Scan.ensures.items ∙ ap (λ l. c.args.out.now.items ++ l) c.deref.ensures.value)
 
-pub returns : goal.returns
-returns g c = ?
+pub returns-in_ok-extend_from_slice-in-Lost : goal.returns-in_ok-extend_from_slice-in-Lost
+returns-in_ok-extend_from_slice-in-Lost g c =
+    prints_put (tt {0}) c.args.kind c.args.recorder.now c.answer_lost.new.recorder _ _ _ _ _ _ _
+    (ap (λ v. step_of c.args.recorder.now.layout (parts_of v)) c.in-Lost.is ∙ lost_step _) c.requires c.in_ok-answer_lost-in-Lost.ensures (c.in_ok-extend_from_slice-in-Lost.ensures.items ∙ ap (λ l. c.args.out.now.items ++ l) c.deref-in-Lost.ensures.value)
+
+pub returns-in_ok-extend_from_slice-in-Trigger : goal.returns-in_ok-extend_from_slice-in-Trigger
+returns-in_ok-extend_from_slice-in-Trigger g c =
+    prints_put (tt {0}) c.args.kind c.args.recorder.now c.answer_trigger.new.recorder _ _ _ _ _ _ _
+    (ap (λ v. step_of c.args.recorder.now.layout (parts_of v)) c.in-Trigger.is ∙ trigger_step _) c.requires c.in_ok-answer_trigger-in-Trigger.ensures (c.in_ok-extend_from_slice-in-Trigger.ensures.items ∙ ap (λ l. c.args.out.now.items ++ l) c.deref-in-Trigger.ensures.value)
+
+pub returns-in_ok-extend_from_slice-in-Rules : goal.returns-in_ok-extend_from_slice-in-Rules
+returns-in_ok-extend_from_slice-in-Rules g c =
+    prints_put (tt {0}) c.args.kind c.args.recorder.now c.answer_rules.new.recorder _ _ _ _ _ _ _
+    (ap (λ v. step_of c.args.recorder.now.layout (parts_of v)) c.in-Rules.is ∙ set_step _ _ _) c.requires c.in_ok-answer_rules-in-Rules.ensures (c.in_ok-extend_from_slice-in-Rules.ensures.items ∙ ap (λ l. c.args.out.now.items ++ l) c.deref-in-Rules.ensures.value)
+
+pub returns-in-Take : goal.returns-in-Take
+returns-in-Take g c =
+    prints_as _ _ _ _ _ _ _ _ _ _ (ap (λ v. step_of c.args.recorder.now.layout (parts_of v)) c.in-Take.is ∙ take_step _) c.answer_take.ensures

@@ -12,17 +12,17 @@ loop-command-init g c = ran_none c.args.kind c.args.recorder (g.W.Write.contents
 
 pub loop-command-preserved : goal.loop-command-preserved
 loop-command-preserved g c =
-    ran_next (tt {0}) c.args.kind c.args.recorder c.loop-command.recorder c.answer.new.recorder (map parts_of c.loop-command.yielded) _ (parts_of c.in-Some.command) _ _ _ _ _ _
-    c.loop-command.invariant c.in_ok-answer.ensures (map_push parts_of c.loop-command.yielded c.in-Some.command)
+    ran_next (tt {0}) c.args.kind c.args.recorder c.loop-command.recorder c.answer_one.new.recorder (map parts_of c.loop-command.yielded) _ (parts_of c.in-Some.command) _ _ _ _ _ _
+    c.loop-command.invariant c.in_ok-answer_one.ensures (map_push parts_of c.loop-command.yielded c.in-Some.command)
 
-pub returns-in_err-answer : goal.returns-in_err-answer
-returns-in_err-answer g c =
+pub returns-in_err-answer_one : goal.returns-in_err-answer_one
+returns-in_err-answer_one g c =
     let all = YieldsList-from_vec {s = c.into_iter-command-iterator.result} c.args.commands.items (search rules) (search rules) in
     let before = YieldsList-so_far all c.loop-command.yielded c.loop-command.command-iterator c.loop-command.yielded_by in
     let turn = YieldsList-turn all c.loop-command.yielded c.loop-command.command-iterator c.loop-command.yielded_by c.next.result c.next.new.self c.in-Some.command c.in-Some.is c.next.ensures.steps in
     let p = err_from_is_err_and c.from_residual.result c.from_residual.ensures.1 in
-    all_stopped c.from_residual.result c.in_err-answer.field-0.0 c.args.kind c.args.recorder c.loop-command.recorder c.answer.new.recorder (map parts_of c.loop-command.yielded) _ (map parts_of c.args.commands.items) (parts_of c.in-Some.command) _ _ _ _ _ _
-    c.loop-command.invariant (map_at parts_of c.loop-command.yielded c.args.commands.items c.in-Some.command before turn) c.in_err-answer.ensures (raised _ _ _ p.1 p.2)
+    all_stopped c.from_residual.result c.in_err-answer_one.field-0.0 c.args.kind c.args.recorder c.loop-command.recorder c.answer_one.new.recorder (map parts_of c.loop-command.yielded) _ (map parts_of c.args.commands.items) (parts_of c.in-Some.command) _ _ _ _ _ _
+    c.loop-command.invariant (map_at parts_of c.loop-command.yielded c.args.commands.items c.in-Some.command before turn) c.in_err-answer_one.ensures (raised _ _ _ p.1 p.2)
 
 pub returns : goal.returns
 returns g c =
