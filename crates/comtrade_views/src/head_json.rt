@@ -1,7 +1,7 @@
 //! What is in a pair of files, as JSON.
 
 use crate::instant::put_instant;
-use crate::json::{put_rows_json, put_text};
+use crate::json::{Objects, put_rows_json, put_text};
 use crate::number::put_decimal;
 use crate::peaks::peaks_of;
 use crate::show::Clock;
@@ -11,10 +11,15 @@ use comtrade_format::{File, Head};
 use comtrade_io::{ToolFault, kind_name, put, put_with};
 use std::alloc::{AllocError, Global};
 
-const ANALOG: &str =
-    ",\"analog\": n# id phase component unit a# b# range ratio side least# least_ms# greatest# greatest_ms# missing#";
+const ANALOG: Objects = Objects {
+    before: ",\"analog\":",
+    members: "n# id phase component unit a# b# range ratio side least# least_ms# greatest# greatest_ms# missing#",
+};
 
-const STATUS: &str = ",\"status\": n# id phase component normal# first# changes";
+const STATUS: Objects = Objects {
+    before: ",\"status\":",
+    members: "n# id phase component normal# first# changes",
+};
 
 /// A key and an instant.
 fn put_when(alloc: Global, out: &mut Vec<u8>, key: &str, instant: i64) -> Result<(), AllocError> {

@@ -4,6 +4,14 @@ use crate::table::CELL;
 use comtrade_io::{put, put_safe};
 use std::alloc::{AllocError, Global};
 
+/// An array of objects: what stands before it, and the members of each object with a blank between two. Those with a `#` behind their key are
+/// numbers or arrays of them, the others texts.
+#[derive(Clone, Copy)]
+pub(crate) struct Objects {
+    pub(crate) before: &'static str,
+    pub(crate) members: &'static str,
+}
+
 /// A text of a file, its bytes outside 20 to 7E in hexadecimal as in what people read, between quotation marks.
 pub fn put_text(alloc: Global, out: &mut Vec<u8>, text: &[u8]) -> Result<(), AllocError> {
     let mut safe = Vec::new(alloc);
@@ -63,27 +71,25 @@ fn cut_at(text: &[u8], end: u8) -> (&[u8], &[u8]) {
 /// A row of a table as an object.
 fn put_row(alloc: Global, out: &mut Vec<u8>, members: &str, row: &[u8]) -> Result<(), AllocError> {
     let mut rest = row;
-    let mut before = "{";
+    let mut is_first = true;
     for member in members.split(' ') {
         let (cell, back) = cut_at(rest, CELL);
-        put(out, before)?;
+        put(out, if is_first { "{" } else { "," })?;
         put_member(alloc, out, member, cell)?;
         rest = back;
-        before = ",";
+        is_first = false;
     }
     put(out, "}")
 }
 
-/// An array with an object for each row of a table but the first, which are the names of its columns. The words of `objects` are what stands
-/// before the array, and the members of each object: those with a `#` behind their key are numbers or arrays of them, the others texts.
+/// The rows of a table after its first, which are the names of its columns.
 pub(crate) fn put_rows_json(
     alloc: Global,
     out: &mut Vec<u8>,
-    objects: &str,
+    objects: Objects,
     table: &[u8],
 ) -> Result<(), AllocError> {
-    let (before, members) = objects.split_once(' ').unwrap_or((objects, ""));
-    put(out, before)?;
+    put(out, objects.before)?;
     put(out, "[")?;
     let mut rest = cut_at(table, b'\n').1;
     let mut between = "";
@@ -93,7 +99,7 @@ pub(crate) fn put_rows_json(
         }
         let (row, back) = cut_at(rest, b'\n');
         put(out, between)?;
-        put_row(alloc, out, members, row)?;
+        put_row(alloc, out, objects.members, row)?;
         rest = back;
         between = ",";
     }

@@ -1,17 +1,25 @@
 //! What is measured in a record, as JSON.
 
-use crate::json::put_rows_json;
+use crate::json::{Objects, put_rows_json};
 use crate::measure::Measures;
 use crate::shown::Shown;
 use comtrade_io::{put, put_number, put_with};
 use std::alloc::{AllocError, Global};
 
-const CHANNELS: &str = ",\"channels\": n# id phase unit rms# magnitude# angle# dc# peak# peak_ms#";
+const CHANNELS: Objects = Objects {
+    before: ",\"channels\":",
+    members: "n# id phase unit rms# magnitude# angle# dc# peak# peak_ms#",
+};
 
-const ORDERS: &str = ",\"harmonics\": n# id phase unit orders#";
+const ORDERS: Objects = Objects {
+    before: ",\"harmonics\":",
+    members: "n# id phase unit orders#",
+};
 
-const SEQUENCES: &str =
-    ",\"sequences\": a b c unit positive# positive_angle# negative# negative_angle# zero# zero_angle#";
+const SEQUENCES: Objects = Objects {
+    before: ",\"sequences\":",
+    members: "a b c unit positive# positive_angle# negative# negative_angle# zero# zero_angle#",
+};
 
 /// What was measured, as an object of JSON.
 pub(crate) fn put_measures_json(

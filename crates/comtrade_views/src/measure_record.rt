@@ -2,7 +2,7 @@
 
 use crate::cycles::{Course, MeasureFault, Window, course_of, is_current, whole_record};
 use crate::float::put_places;
-use crate::json::put_rows_json;
+use crate::json::{Objects, put_rows_json};
 use crate::measure_tables::put_float_cell;
 use crate::show::put_row_time;
 use crate::shown::{Shown, put_channel, put_cycle};
@@ -67,8 +67,10 @@ fn put_courses<A: Allocator + Copy>(
     Ok(count)
 }
 
-const COURSES: &str =
-    "{\"currents\": n# id phase unit left_ms# left_row# rms_before# rms_greatest# above_ms#";
+const COURSES: Objects = Objects {
+    before: "{\"currents\":",
+    members: "n# id phase unit left_ms# left_row# rms_before# rms_greatest# above_ms#",
+};
 
 /// The table of so many currents, for people or as an object of JSON.
 fn put_record_table(

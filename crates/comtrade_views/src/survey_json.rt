@@ -2,20 +2,28 @@
 
 use crate::event_table::event_table;
 use crate::events::Event;
-use crate::json::{put_rows_json, put_text};
+use crate::json::{Objects, put_rows_json, put_text};
 use crate::summary::{Summary, summary_table};
 use comtrade_io::{ToolFault, put};
 use std::alloc::{AllocError, Global};
 
 /// The events of one record.
-const ONE: &str = "{\"events\": instant ms# since_before_ms# what";
+const ONE: Objects = Objects {
+    before: "{\"events\":",
+    members: "instant ms# since_before_ms# what",
+};
 
 /// The events of several records.
-const MANY: &str = "{\"events\": instant ms# since_before_ms# record what";
+const MANY: Objects = Objects {
+    before: "{\"events\":",
+    members: "instant ms# since_before_ms# record what",
+};
 
 /// The records.
-const RECORD: &str =
-    "{\"records\": trigger ms# rate# channels changed# greatest_current station device record";
+const RECORD: Objects = Objects {
+    before: "{\"records\":",
+    members: "trigger ms# rate# channels changed# greatest_current station device record",
+};
 
 /// The events of the records with these names, as an object of JSON.
 pub fn put_events_json(
