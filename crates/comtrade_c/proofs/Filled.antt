@@ -29,17 +29,16 @@ pub one_off :
 one_off f xs i x left room count below is kept counted enough =
     omega (arith, ap length (row_more f xs i x below is), length-append (flat_map f (take i xs)) (f x), kept, counted, enough)
 
+-- the items of the first i rows lie over a table, so many of them
+abbrev pub Filled : {A B : Type 0} → (A → List B) → List A → ℕ → List B → List B → ℕ → Type 0
+Filled f xs i vs ws at = (at ≡ length (flat_map f (take i xs))) × (vs ≡ flat_map f (take i xs) ++ drop at ws)
+
 -- a row's items end within the table
 pub in_table :
-    {A B : Type 0} (f : A → List B) (xs : List A) (i : ℕ) (x : A) (at count : ℕ) → i < length xs → x ≡ get_or xs i x
-    → at ≡ length (flat_map f (take i xs)) → count ≡ length (f x) → at + count ≤ length (flat_map f xs)
-in_table f xs i x at count below is begun counted = omega (arith, length-flat_map-take f xs i x below, ap (λ y. length (f y)) is, begun, counted)
-
-pub end_more :
-    {A B : Type 0} (f : A → List B) (xs : List A) (i : ℕ) (x : A) (at count : ℕ) → i < length xs → x ≡ get_or xs i x
-    → at ≡ length (flat_map f (take i xs)) → count ≡ length (f x) → at + count ≡ length (flat_map f (take (i + 1) xs))
-end_more f xs i x at count below is begun counted =
-    omega (arith, ap length (row_more f xs i x below is), length-append (flat_map f (take i xs)) (f x), begun, counted)
+    {A B : Type 0} (f : A → List B) (xs : List A) (i : ℕ) (x : A) (vs ws : List B) (at count : ℕ) → i < length xs → x ≡ get_or xs i x
+    → Filled f xs i vs ws at → count ≡ length (f x) → length vs ≡ length (flat_map f xs) → at + count ≤ length vs
+in_table f xs i x vs ws at count below is filled counted long =
+    omega (arith, length-flat_map-take f xs i x below, ap (λ y. length (f y)) is, filled.0, counted, long)
 
 front_of : {B : Type 0} (front rest : List B) (n : ℕ) → n ≡ length front → take n (front ++ rest) ≡ front
 front_of front rest n is = grind (arith, common_steps)
@@ -62,29 +61,26 @@ mid_laid front ys vs ws at count k same begun long within laid =
     sym (take-append-drop (at + count) all) ∙ ap (λ l. l ++ drop (at + count) all) first ∙ ap (λ l. (front ++ ys) ++ l) last
 
 -- the last row's items end the table
-pub rows_laid :
-    {A B : Type 0} (f : A → List B) (xs : List A) (vs ws : List B) (n at : ℕ) → length xs ≤ n → at ≡ length (flat_map f (take n xs))
-    → length ws ≡ length (flat_map f xs) → vs ≡ flat_map f (take n xs) ++ drop at ws → vs ≡ flat_map f xs
-rows_laid f xs vs ws n at most begun long laid =
+pub all_filled :
+    {A B : Type 0} (f : A → List B) (xs : List A) (vs ws : List B) (n at : ℕ) → length xs ≤ n → Filled f xs n vs ws at
+    → length ws ≡ length (flat_map f xs) → vs ≡ flat_map f xs
+all_filled f xs vs ws n at most filled long =
     let all : take n xs ≡ xs = take_all n xs most in
-    let end : at ≡ length (flat_map f xs) = begun ∙ ap (λ l. length (flat_map f l)) all in
-    laid ∙ ap (λ l. flat_map f l ++ drop at ws) all ∙ ap (λ l. flat_map f xs ++ l) (drop_all at ws (omega (arith, long, end)))
+    let end : at ≡ length (flat_map f xs) = filled.0 ∙ ap (λ l. length (flat_map f l)) all in
+    filled.1 ∙ ap (λ l. flat_map f l ++ drop at ws) all ∙ ap (λ l. flat_map f xs ++ l) (drop_all at ws (omega (arith, long, end)))
     ∙ append-nil (flat_map f xs)
 
 -- a row's items laid over the table, after those of the rows before it
-pub row_laid :
+pub row_filled :
     {A B : Type 0} (f : A → List B) (xs : List A) (i : ℕ) (x : A) (vs ws ys : List B) (at count : ℕ) → i < length xs → x ≡ get_or xs i x
-    → at ≡ length (flat_map f (take i xs)) → count ≡ length (f x) → at ≤ length vs → vs ≡ flat_map f (take i xs) ++ drop at ws → ys ≡ f x
-    → put_mid at (at + count - at) vs ys ≡ flat_map f (take (i + 1) xs) ++ drop (at + count) ws
-row_laid f xs i x vs ws ys at count below is begun counted within laid written =
+    → Filled f xs i vs ws at → count ≡ length (f x) → length vs ≡ length (flat_map f xs) → ys ≡ f x
+    → Filled f xs (i + 1) (put_mid at (at + count - at) vs ys) ws (at + count)
+row_filled f xs i x vs ws ys at count below is filled counted long written =
     let front = flat_map f (take i xs) in
-    let long : length ys ≡ count = ap length written ∙ sym counted in
-    let all = put_mid at (at + count - at) vs ys in
-    let first : take (at + count) all ≡ flat_map f (take (i + 1) xs) =
-    take-put_mid at (at + count - at) vs ys (at + count) (omega (arith, long)) within
-    ∙ ap (λ l. l ++ ys) (ap (λ l. take at l) laid ∙ front_of front (drop at ws) at begun)
-    ∙ ap (λ l. front ++ l) written ∙ sym (row_more f xs i x below is) in
-    let last : drop (at + count) all ≡ drop (at + count) ws =
-    drop-put_mid at (at + count - at) vs ys (at + count) (omega arith) within (omega (arith, long))
-    ∙ ap (λ l. drop (at + count) l) laid ∙ back_of front ws at count begun in
-    sym (take-append-drop (at + count) all) ∙ ap (λ l. l ++ drop (at + count) all) first ∙ ap (λ l. flat_map f (take (i + 1) xs) ++ l) last
+    let within = in_table f xs i x vs ws at count below is filled counted long in
+    let more = row_more f xs i x below is in
+    let wide : length ys ≡ count = ap length written ∙ sym counted in (
+      omega (arith, ap length more, length-append front (f x), filled.0, counted),
+      mid_laid front ys vs ws at count (at + count - at) (omega arith) filled.0 wide (omega (arith, within)) filled.1
+          ∙ ap (λ l. l ++ drop (at + count) ws) (ap (λ l. front ++ l) written ∙ sym more),
+    )

@@ -20,7 +20,7 @@ use Rattle.comtrade_read.proofs.BinaryNumbers.{AllBytes}
 use Rattle.comtrade_read.proofs.BinaryGroups.{group_behind}
 use Rattle.comtrade_read.proofs.OneFile.{rows_spelled, data_faulty}
 use Rattle.comtrade_read.proofs.Outcomes.{part_is}
-use Rattle.comtrade_c.proofs.Filled.{mid_laid}
+use Rattle.comtrade_c.proofs.Filled.{Filled, in_table, row_filled, all_filled, mid_laid}
 use Rattle.comtrade_c.specs.Tables.{sample_of, bit_of, stamp_of, row_samples, row_bits, RowsLackRoom}
 use Rattle.comtrade_read.specs.Reads.{ReadsRows, Nothing, row_size}
 
@@ -55,11 +55,44 @@ bits_count k m bytes =
     length-map (bits_at m from) bit_of ∙ length-map-range_with_len (spec_bit from) 0 m
 
 -- how long the tables of so many rows are
+all_long :
+    {B : Type 0} (f : RowParts → List B) (k m : ℕ) (dat : List ℕ) (n c : ℕ) → ((bytes : List ℕ) → length (f (row_at k m bytes)) ≡ c)
+    → length (flat_map f (rows_at k m dat n)) ≡ n * c
+all_long f k m dat n c each = each_long f (λ i. row_at k m (drop (i * row_size k m) dat)) c 0 n (λ i. each (drop (i * row_size k m) dat))
+
 pub all_samples : (k m : ℕ) (dat : List ℕ) (n : ℕ) → length (flat_map row_samples (rows_at k m dat n)) ≡ n * k
-all_samples k m dat n = each_long row_samples (λ i. row_at k m (drop (i * row_size k m) dat)) k 0 n (λ i. samples_count k m (drop (i * row_size k m) dat))
+all_samples k m dat n = all_long row_samples k m dat n k (samples_count k m)
 
 pub all_bits : (k m : ℕ) (dat : List ℕ) (n : ℕ) → length (flat_map row_bits (rows_at k m dat n)) ≡ n * m
-all_bits k m dat n = each_long row_bits (λ i. row_at k m (drop (i * row_size k m) dat)) m 0 n (λ i. bits_count k m (drop (i * row_size k m) dat))
+all_bits k m dat n = all_long row_bits k m dat n m (bits_count k m)
+
+-- row i of n ends within a table with so many items of each
+pub row_within :
+    {B : Type 0} (f : RowParts → List B) (k m : ℕ) (dat : List ℕ) (n i c : ℕ) (vs ws : List B) (at : ℕ)
+    → ((bytes : List ℕ) → length (f (row_at k m bytes)) ≡ c) → i < n → Filled f (rows_at k m dat n) i vs ws at → length vs ≡ n * c
+    → at + c ≤ length vs
+row_within f k m dat n i c vs ws at each below filled long =
+    let row = row_at k m (drop (i * row_size k m) dat) in
+    in_table f (rows_at k m dat n) i row vs ws at c (omega (arith, rows_long k m dat n, below)) (sym (row_there k m dat n i row below))
+    filled (sym (each (drop (i * row_size k m) dat))) (long ∙ sym (all_long f k m dat n c each))
+
+-- its items laid over the table, after those of the rows before it
+pub row_over :
+    {B : Type 0} (f : RowParts → List B) (k m : ℕ) (dat : List ℕ) (n i c : ℕ) (vs ws ys : List B) (at : ℕ)
+    → ((bytes : List ℕ) → length (f (row_at k m bytes)) ≡ c) → i < n → Filled f (rows_at k m dat n) i vs ws at → length vs ≡ n * c
+    → ys ≡ f (row_at k m (drop (i * row_size k m) dat)) → Filled f (rows_at k m dat n) (i + 1) (put_mid at (at + c - at) vs ys) ws (at + c)
+row_over f k m dat n i c vs ws ys at each below filled long written =
+    let row = row_at k m (drop (i * row_size k m) dat) in
+    row_filled f (rows_at k m dat n) i row vs ws ys at c (omega (arith, rows_long k m dat n, below)) (sym (row_there k m dat n i row below))
+    filled (sym (each (drop (i * row_size k m) dat))) (long ∙ sym (all_long f k m dat n c each)) written
+
+-- no row is left
+pub all_over :
+    {B : Type 0} (f : RowParts → List B) (k m : ℕ) (dat : List ℕ) (n i c : ℕ) (vs ws : List B) (at : ℕ)
+    → ((bytes : List ℕ) → length (f (row_at k m bytes)) ≡ c) → n ≤ i → Filled f (rows_at k m dat n) i vs ws at → length ws ≡ n * c
+    → vs ≡ flat_map f (rows_at k m dat n)
+all_over f k m dat n i c vs ws at each past filled long =
+    all_filled f (rows_at k m dat n) vs ws i at (omega (arith, rows_long k m dat n, past)) filled (long ∙ sym (all_long f k m dat n c each))
 
 -- what is said of one row
 pub row_samples_are : (k m : ℕ) (bytes : List ℕ) → map sample_of (values_at k (drop 8 bytes)) ≡ row_samples (row_at k m bytes)

@@ -1,14 +1,13 @@
 //! What a call answers.
 
-ghost use Rattle.std.specs.Prelude.{◌≡◌, ◌≢◌, ◌<◌, ◌≤◌, ◌⊎◌, IsTrue, IsFalse, length};
-ghost use Rattle.comtrade_read.specs.declared.fault.ReadFault.TheVariants as reading;
-ghost use Rattle.comtrade_read.specs.declared.pair.Part.TheVariants as parts;
-ghost use Rattle.comtrade_format.specs.declared.fault.WriteFault.TheVariants as writing;
+ghost use Rattle.std.specs.Prelude.{◌≡◌, ◌≢◌, ◌<◌, ◌≤◌, ◌⊎◌, ◌+◌, IfOk, IfErr, length};
+ghost use Rattle.comtrade_read.specs.Reads.{ReadsHead};
 ghost use Rattle.comtrade_c.specs.Buffers as buffers;
 ghost use Rattle.comtrade_c.specs.Faults as faults;
 
-use comtrade_format::WriteFault;
-use comtrade_read::{Part, ReadFault};
+use comtrade_format::{Head, WriteFault};
+use comtrade_read::{ReadFault, read_cfg};
+use std::alloc::Allocator;
 
 pub(crate) const DONE: i32 = 0;
 /// The configuration file has a fault.
@@ -37,7 +36,7 @@ fn fault_at(kind: u32, place: u64, field: u32) -> Fault
     Fault { place, field, kind }
 }
 
-fn of_read(why: ReadFault) -> Fault
+pub(crate) fn of_read(why: ReadFault) -> Fault
     ensures { result ≡ faults.of_read why }
 {
     match why {
@@ -54,7 +53,7 @@ fn of_read(why: ReadFault) -> Fault
     }
 }
 
-fn of_write(why: WriteFault) -> Fault
+pub(crate) fn of_write(why: WriteFault) -> Fault
     ensures { result ≡ faults.of_write why }
 {
     match why {
@@ -66,50 +65,27 @@ fn of_write(why: WriteFault) -> Fault
     }
 }
 
-/// Why a pair isn't read; the numbers are left alone where an allocation failed.
-pub(crate) fn refuse_read(part: Part, why: ReadFault, said: &mut Fault) -> i32
-    ensures answer { (result ≡ CFG_FAULT) ⊎ (result ≡ DAT_FAULT) ⊎ (result ≡ NO_MEMORY) }
-    ensures fault { (result ≡ CFG_FAULT) ⊎ (result ≡ DAT_FAULT) → (why ≢ reading.Memory) }
-    ensures numbers { (result ≡ CFG_FAULT) ⊎ (result ≡ DAT_FAULT) → said.new ≡ faults.of_read why }
-    ensures cfg { result ≡ CFG_FAULT → part ≡ parts.Cfg }
-    ensures dat { result ≡ DAT_FAULT → part ≡ parts.Dat }
-    ensures kept { (result ≢ CFG_FAULT) → (result ≢ DAT_FAULT) → said.new ≡ said.old }
+/// The head that a configuration file says, else what the call answers; the numbers are left alone where an allocation failed.
+pub(crate) fn head_of<A: Allocator + Copy>(
+    alloc: A,
+    cfg: &[u8],
+    said: &mut Fault,
+) -> Result<Head<A>, i32>
+    ensures found { IfOk result (ReadsHead cfg.now) }
+    ensures few { IfOk result (λ h. length h.analog + length h.status < 1000000) }
+    ensures answer { IfErr result (λ a. (a ≡ CFG_FAULT) ⊎ (a ≡ NO_MEMORY)) }
+    ensures fault { IfErr result (λ a. a ≡ CFG_FAULT → faults.IsHeadFault cfg.now said.new) }
+    ensures kept { IfErr result (λ a. (a ≢ CFG_FAULT) → said.new ≡ said.old) }
+    ensures read { IfOk result (λ _. said.new ≡ said.old) }
 {
-    let answer = match (part, why) {
-        (_, ReadFault::Memory) => return NO_MEMORY,
-        (Part::Cfg, _) => CFG_FAULT,
-        (Part::Dat, _) => DAT_FAULT,
-    };
-    *said = of_read(why);
-    answer
-}
-
-/// Why a configuration file isn't read; the numbers are left alone where an allocation failed.
-pub(crate) fn refuse_head(why: ReadFault, said: &mut Fault) -> i32
-    ensures answer { (result ≡ CFG_FAULT) ⊎ (result ≡ NO_MEMORY) }
-    ensures fault { result ≡ CFG_FAULT → (why ≢ reading.Memory) }
-    ensures numbers { result ≡ CFG_FAULT → said.new ≡ faults.of_read why }
-    ensures kept { (result ≢ CFG_FAULT) → said.new ≡ said.old }
-{
-    if let ReadFault::Memory = why {
-        return NO_MEMORY;
+    match read_cfg(alloc, cfg) {
+        Ok(head) => Ok(head),
+        Err(ReadFault::Memory) => Err(NO_MEMORY),
+        Err(why) => {
+            *said = of_read(why);
+            Err(CFG_FAULT)
+        }
     }
-    *said = of_read(why);
-    CFG_FAULT
-}
-
-/// Why a pair isn't written; the numbers are left alone where an allocation failed.
-pub(crate) fn refuse_write(why: WriteFault, said: &mut Fault) -> i32
-    ensures answer { (result ≡ WRITE_FAULT) ⊎ (result ≡ NO_MEMORY) }
-    ensures fault { result ≡ WRITE_FAULT → (why ≢ writing.Memory) }
-    ensures numbers { result ≡ WRITE_FAULT → said.new ≡ faults.of_write why }
-    ensures kept { (result ≢ WRITE_FAULT) → said.new ≡ said.old }
-{
-    if let WriteFault::Memory = why {
-        return NO_MEMORY;
-    }
-    *said = of_write(why);
-    WRITE_FAULT
 }
 
 /// A text at the front of a buffer that has room for it.
@@ -118,26 +94,4 @@ pub(crate) fn put_front(out: &mut [u8], text: &[u8])
     ensures { out.new ≡ buffers.put text.now out.old }
 {
     out[..text.len()].copy_from_slice(text);
-}
-
-/// Two texts, each at the front of its buffer; false where one of them has no room, and then both buffers are left alone.
-pub(crate) fn put_both(
-    left: &mut [u8],
-    left_text: &[u8],
-    right: &mut [u8],
-    right_text: &[u8],
-) -> bool
-    ensures left { IsTrue result → left.new ≡ buffers.put left_text.now left.old }
-    ensures right { IsTrue result → right.new ≡ buffers.put right_text.now right.old }
-    ensures room { IsFalse result →
-        (length left.old < length left_text.now) ⊎ (length right.old < length right_text.now) }
-    ensures left_kept { IsFalse result → left.new ≡ left.old }
-    ensures right_kept { IsFalse result → right.new ≡ right.old }
-{
-    if left.len() < left_text.len() || right.len() < right_text.len() {
-        return false;
-    }
-    put_front(left, left_text);
-    put_front(right, right_text);
-    true
 }

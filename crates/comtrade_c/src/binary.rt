@@ -87,51 +87,35 @@ fn row_size(k: usize, m: usize) -> usize
     8 + 2 * k + 2 * ((m + 15) / 16)
 }
 
-/// The stamp of each row of k samples and m bits.
-fn put_stamps(to: &mut [u64], dat: &[u8], k: usize, m: usize)
+/// The stamp, the samples and the bits of each row of k samples and m bits.
+fn put_rows(
+    stamps: &mut [u64],
+    samples: &mut [i32],
+    bits: &mut [u8],
+    dat: &[u8],
+    k: usize,
+    m: usize,
+)
     requires k { k < 1000000 }
     requires m { m < 1000000 }
-    requires whole { length dat.now ≡ length to.old * row_size k m }
-    ensures { to.new ≡ tables.stamps_of (spec.rows_at k m dat.now (length to.old)) }
-{
-    let size = row_size(k, m);
-    for i in 0..to.len() {
-        to[i] = stamp_at(&dat[i * size + 4..]);
-    }
-}
-
-/// The samples of so many rows of k samples and m bits.
-fn put_samples(to: &mut [i32], dat: &[u8], k: usize, m: usize, count: usize)
-    requires k { k < 1000000 }
-    requires m { m < 1000000 }
-    requires whole { length dat.now ≡ count * row_size k m }
-    requires room { length to.old ≡ count * k }
-    ensures { to.new ≡ tables.samples_of (spec.rows_at k m dat.now count) }
-{
-    let size = row_size(k, m);
-    let mut at = 0;
-    for i in 0..count {
-        let end = at + k;
-        put_row(&mut to[at..end], &dat[i * size + 8..]);
-        at = end;
-    }
-}
-
-/// The bits of so many rows of k samples and m bits.
-fn put_bits(to: &mut [u8], dat: &[u8], k: usize, m: usize, count: usize)
-    requires k { k < 1000000 }
-    requires m { m < 1000000 }
-    requires whole { length dat.now ≡ count * row_size k m }
-    requires room { length to.old ≡ count * m }
-    ensures { to.new ≡ tables.bits_of (spec.rows_at k m dat.now count) }
+    requires whole { length dat.now ≡ length stamps.old * row_size k m }
+    requires samples { length samples.old ≡ length stamps.old * k }
+    requires bits { length bits.old ≡ length stamps.old * m }
+    ensures stamps { stamps.new ≡ tables.stamps_of (spec.rows_at k m dat.now (length stamps.old)) }
+    ensures samples { samples.new ≡ tables.samples_of (spec.rows_at k m dat.now (length stamps.old)) }
+    ensures bits { bits.new ≡ tables.bits_of (spec.rows_at k m dat.now (length stamps.old)) }
 {
     let size = row_size(k, m);
     let first = 8 + 2 * k;
-    let mut at = 0;
-    for i in 0..count {
-        let end = at + m;
-        put_row_bits(&mut to[at..end], &dat[i * size + first..]);
-        at = end;
+    let (mut sample, mut bit) = (0, 0);
+    for i in 0..stamps.len() {
+        stamps[i] = stamp_at(&dat[i * size + 4..]);
+        let end = sample + k;
+        put_row(&mut samples[sample..end], &dat[i * size + 8..]);
+        sample = end;
+        let end = bit + m;
+        put_row_bits(&mut bits[bit..end], &dat[i * size + first..]);
+        bit = end;
     }
 }
 
@@ -187,9 +171,6 @@ pub(crate) fn binary_rows(
     if !are_tables(stamps.len(), samples.len(), bits.len(), rows, k, m) {
         return Ok(false);
     }
-    let count = stamps.len();
-    put_stamps(stamps, dat, k, m);
-    put_samples(samples, dat, k, m, count);
-    put_bits(bits, dat, k, m, count);
+    put_rows(stamps, samples, bits, dat, k, m);
     Ok(true)
 }

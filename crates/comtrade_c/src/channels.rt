@@ -7,11 +7,10 @@ ghost use Rattle.comtrade_c.specs.Channels.{IsAnalog, IsRate, IsTold, LacksRoom}
 ghost use Rattle.comtrade_c.specs.Faults.{IsHeadFault, OfHead};
 ghost use Rattle.comtrade_c.specs.Tables.{bit_of};
 
-use crate::answer::{CFG_FAULT, DONE, Fault, NO_MEMORY, NO_ROOM, refuse_head};
+use crate::answer::{CFG_FAULT, DONE, Fault, NO_MEMORY, NO_ROOM, head_of};
 use crate::rows::bit_of;
 use crate::texts::texts_of;
 use comtrade_format::{Head, Rate};
-use comtrade_read::read_cfg;
 use comtrade_values::nearest_f64;
 use dfr_channels::{AnalogChannel, Memory, Side, StatusChannel};
 use std::alloc::{AllocError, Global};
@@ -191,9 +190,9 @@ pub extern "C" fn comtrade_core_channels(
     ensures text_kept { (result ≢ DONE) → text.new ≡ text.old }
     ensures fault_kept { (result ≢ CFG_FAULT) → fault.new ≡ fault.old }
 {
-    let head = match read_cfg(alloc, cfg) {
+    let head = match head_of(alloc, cfg, fault) {
         Ok(head) => head,
-        Err(why) => return refuse_head(why, fault),
+        Err(answer) => return answer,
     };
     let Ok(all) = tables_of(alloc, &head) else {
         return NO_MEMORY;

@@ -1,20 +1,18 @@
 //! The rows of a pair, as tables of numbers.
 
 ghost use Rattle.std.specs.Prelude.{◌≡◌, ◌≢◌, ◌⊎◌, ◌+◌, ◌<◌, length, map, Ok, IfErr, IsTrue, IsFalse, true, false};
-ghost use Rattle.std.specs.List.{flat_map};
 ghost use Rattle.comtrade_read.specs.declared.fault.ReadFault.TheVariants as faults;
 ghost use Rattle.comtrade_read.specs.declared.pair.Part.TheVariants.{Cfg, Dat};
 ghost use Rattle.comtrade_read.specs.Reads.{ReadsRows, FaultyData, Nothing};
 ghost use Rattle.comtrade_c.specs.Faults.{IsPairFault};
-ghost use Rattle.comtrade_c.specs.declared.answer.TheConstants.{NO_MEMORY};
 ghost use Rattle.comtrade_c.specs.Tables as tables;
-ghost use Rattle.comtrade_c.specs.Tables.{Tabulates, LacksRoom, TabulatesRows, RowsLackRoom, row_bits, row_samples};
+ghost use Rattle.comtrade_c.specs.Tables.{Tabulates, LacksRoom, TabulatesRows, RowsLackRoom};
 
-use crate::answer::{CFG_FAULT, DAT_FAULT, DONE, Fault, NO_ROOM, refuse_read};
+use crate::answer::{CFG_FAULT, DAT_FAULT, DONE, Fault, NO_MEMORY, NO_ROOM, head_of, of_read};
 use crate::binary::binary_rows;
 use bumpalo::Bump;
 use comtrade_format::{Head, Kind, Row};
-use comtrade_read::{Part, ReadFault, read_cfg, read_dat};
+use comtrade_read::{ReadFault, read_dat};
 use dfr_channels::Reading;
 use std::alloc::Global;
 
@@ -47,36 +45,23 @@ fn stamp_of(stamp: Option<u64>) -> u64
     }
 }
 
-/// Whether a table of this length has a place for each sample of the rows, and no other.
-fn holds_samples(room: usize, rows: &[Row<&Bump>]) -> bool
-    ensures whole { IsTrue result → room ≡ length (flat_map row_samples rows.now) }
-    ensures other { IsFalse result → room ≢ length (flat_map row_samples rows.now) }
+/// Whether tables of these lengths have a place for each sample and for each bit of the rows, and no other.
+fn hold(samples: usize, bits: usize, rows: &[Row<&Bump>]) -> bool
+    ensures samples { IsTrue result → samples ≡ length (tables.samples_of rows.now) }
+    ensures bits { IsTrue result → bits ≡ length (tables.bits_of rows.now) }
+    ensures other { IsFalse result → (samples ≢ length (tables.samples_of rows.now))
+        ⊎ (bits ≢ length (tables.bits_of rows.now)) }
 {
-    let mut left = room;
+    let (mut more_samples, mut more_bits) = (samples, bits);
     for row in rows {
-        let count = row.values.items().len();
-        if left < count {
+        let (k, m) = (row.values.items().len(), row.bits.items().len());
+        if more_samples < k || more_bits < m {
             return false;
         }
-        left -= count;
+        more_samples -= k;
+        more_bits -= m;
     }
-    left == 0
-}
-
-/// The same of bits.
-fn holds_bits(room: usize, rows: &[Row<&Bump>]) -> bool
-    ensures whole { IsTrue result → room ≡ length (flat_map row_bits rows.now) }
-    ensures other { IsFalse result → room ≢ length (flat_map row_bits rows.now) }
-{
-    let mut left = room;
-    for row in rows {
-        let count = row.bits.items().len();
-        if left < count {
-            return false;
-        }
-        left -= count;
-    }
-    left == 0
+    more_samples == 0 && more_bits == 0
 }
 
 /// The samples of one row.
@@ -99,36 +84,24 @@ fn put_row_bits(to: &mut [u8], bits: &[bool])
     }
 }
 
-fn put_samples(to: &mut [i32], rows: &[Row<&Bump>])
-    requires { length to.old ≡ length (flat_map row_samples rows.now) }
-    ensures { to.new ≡ flat_map row_samples rows.now }
+/// The stamp, the samples and the bits of each row.
+fn put_rows(stamps: &mut [u64], samples: &mut [i32], bits: &mut [u8], rows: &[Row<&Bump>])
+    requires stamps { length stamps.old ≡ length rows.now }
+    requires samples { length samples.old ≡ length (tables.samples_of rows.now) }
+    requires bits { length bits.old ≡ length (tables.bits_of rows.now) }
+    ensures stamps { stamps.new ≡ tables.stamps_of rows.now }
+    ensures samples { samples.new ≡ tables.samples_of rows.now }
+    ensures bits { bits.new ≡ tables.bits_of rows.now }
 {
-    let mut at = 0;
-    for row in rows {
-        let end = at + row.values.items().len();
-        put_row(&mut to[at..end], row.values.items());
-        at = end;
-    }
-}
-
-fn put_bits(to: &mut [u8], rows: &[Row<&Bump>])
-    requires { length to.old ≡ length (flat_map row_bits rows.now) }
-    ensures { to.new ≡ flat_map row_bits rows.now }
-{
-    let mut at = 0;
-    for row in rows {
-        let end = at + row.bits.items().len();
-        put_row_bits(&mut to[at..end], row.bits.items());
-        at = end;
-    }
-}
-
-fn put_stamps(to: &mut [u64], rows: &[Row<&Bump>])
-    requires { length to.old ≡ length rows.now }
-    ensures { to.new ≡ map (λ r. tables.stamp_of r.stamp) rows.now }
-{
-    for (k, row) in rows.iter().enumerate() {
-        to[k] = stamp_of(row.stamp);
+    let (mut sample, mut bit) = (0, 0);
+    for (i, row) in rows.iter().enumerate() {
+        stamps[i] = stamp_of(row.stamp);
+        let end = sample + row.values.items().len();
+        put_row(&mut samples[sample..end], row.values.items());
+        sample = end;
+        let end = bit + row.bits.items().len();
+        put_row_bits(&mut bits[bit..end], row.bits.items());
+        bit = end;
     }
 }
 
@@ -144,44 +117,15 @@ fn fill(rows: &[Row<&Bump>], stamps: &mut [u64], samples: &mut [i32], bits: &mut
     ensures samples_kept { IsFalse result → samples.new ≡ samples.old }
     ensures bits_kept { IsFalse result → bits.new ≡ bits.old }
 {
-    if stamps.len() != rows.len()
-        || !holds_samples(samples.len(), rows)
-        || !holds_bits(bits.len(), rows)
-    {
+    if stamps.len() != rows.len() || !hold(samples.len(), bits.len(), rows) {
         return false;
     }
-    put_stamps(stamps, rows);
-    put_samples(samples, rows);
-    put_bits(bits, rows);
+    put_rows(stamps, samples, bits, rows);
     true
 }
 
-/// Fills the tables with the rows that data say under their head, which are read first; false as `fill` says it. After a fault, too, all
-/// are left alone.
-fn listed_rows<'a>(
-    lists: &'a Bump,
-    head: Head<&'a Bump>,
-    dat: &[u8],
-    stamps: &mut [u64],
-    samples: &mut [i32],
-    bits: &mut [u8],
-) -> Result<bool, ReadFault>
-    requires few { length head.analog + length head.status < 1000000 }
-    ensures done { result ≡ Ok true → TabulatesRows head.entry dat.now stamps.new samples.new bits.new }
-    ensures room { result ≡ Ok false → RowsLackRoom head.entry dat.now stamps.old samples.old bits.old }
-    ensures fault { IfErr result (λ e. e ≢ faults.Memory → FaultyData head.entry dat.now e) }
-    ensures unread { IfErr result (λ e. e ≢ faults.Memory → Nothing (ReadsRows head.entry dat.now)) }
-    ensures stamps_kept { (result ≢ Ok true) → stamps.new ≡ stamps.old }
-    ensures samples_kept { (result ≢ Ok true) → samples.new ≡ samples.old }
-    ensures bits_kept { (result ≢ Ok true) → bits.new ≡ bits.old }
-{
-    match read_dat(lists, head, dat) {
-        Ok(file) => Ok(fill(file.rows.items(), stamps, samples, bits)),
-        Err((why, _)) => Err(why),
-    }
-}
-
-/// The same, straight from the data where they are BINARY.
+/// Fills the tables with the rows that data say under their head: straight from the data where they are BINARY, else from the rows that are
+/// read first; false as `fill` says it. After a fault, too, all are left alone.
 fn rows_under<'a>(
     lists: &'a Bump,
     head: Head<&'a Bump>,
@@ -200,7 +144,10 @@ fn rows_under<'a>(
     ensures bits_kept { (result ≢ Ok true) → bits.new ≡ bits.old }
 {
     match head.kind {
-        Kind::Ascii => listed_rows(lists, head, dat, stamps, samples, bits),
+        Kind::Ascii => match read_dat(lists, head, dat) {
+            Ok(file) => Ok(fill(file.rows.items(), stamps, samples, bits)),
+            Err((why, _)) => Err(why),
+        },
         Kind::Binary => binary_rows(&head, dat, stamps, samples, bits),
     }
 }
@@ -229,13 +176,17 @@ pub extern "C" fn comtrade_core_rows(
 {
     // a file's lists are given up together: one by one that took a tenth of the instructions
     let lists = Bump::new(alloc);
-    let head = match read_cfg(&lists, cfg) {
+    let head = match head_of(&lists, cfg, fault) {
         Ok(head) => head,
-        Err(why) => return refuse_read(Part::Cfg, why, fault),
+        Err(answer) => return answer,
     };
     match rows_under(&lists, head, dat, stamps, samples, bits) {
         Ok(true) => DONE,
         Ok(false) => NO_ROOM,
-        Err(why) => refuse_read(Part::Dat, why, fault),
+        Err(ReadFault::Memory) => NO_MEMORY,
+        Err(why) => {
+            *fault = of_read(why);
+            DAT_FAULT
+        }
     }
 }

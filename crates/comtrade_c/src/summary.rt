@@ -5,10 +5,9 @@ ghost use Rattle.comtrade_read.specs.Head.{last_sample};
 ghost use Rattle.comtrade_c.specs.Faults.{IsHeadFault, OfHead};
 ghost use Rattle.comtrade_c.specs.Summaries as spec;
 
-use crate::answer::{CFG_FAULT, DONE, Fault, NO_MEMORY, refuse_head};
+use crate::answer::{CFG_FAULT, DONE, Fault, NO_MEMORY, head_of};
 use crate::texts::texts_of;
 use comtrade_format::{Head, Kind, Rate};
-use comtrade_read::read_cfg;
 use comtrade_values::nearest_f64;
 use dfr_channels::Memory;
 use std::alloc::Global;
@@ -83,9 +82,9 @@ pub extern "C" fn comtrade_core_head(
     ensures summary_kept { (result ≢ DONE) → summary.new ≡ summary.old }
     ensures fault_kept { (result ≢ CFG_FAULT) → fault.new ≡ fault.old }
 {
-    let head = match read_cfg(alloc, cfg) {
+    let head = match head_of(alloc, cfg, fault) {
         Ok(head) => head,
-        Err(why) => return refuse_head(why, fault),
+        Err(answer) => return answer,
     };
     let Ok(said) = summary_of(alloc, &head) else {
         return NO_MEMORY;

@@ -5,10 +5,9 @@ ghost use Rattle.comtrade_c.specs.declared.answer.TheConstants.{NO_MEMORY};
 ghost use Rattle.comtrade_c.specs.Faults.{IsHeadFault, OfHead};
 ghost use Rattle.comtrade_c.specs.Times as spec;
 
-use crate::answer::{CFG_FAULT, DONE, Fault, NO_ROOM, refuse_head};
+use crate::answer::{CFG_FAULT, DONE, Fault, NO_ROOM, head_of};
 use crate::write::stamp_of;
 use comtrade_format::Head;
-use comtrade_read::read_cfg;
 use comtrade_values::clock_of;
 use std::alloc::{Allocator, Global};
 
@@ -60,9 +59,9 @@ pub extern "C" fn comtrade_core_times(
     if times.len() != stamps.len() {
         return NO_ROOM;
     }
-    let head = match read_cfg(alloc, cfg) {
+    let head = match head_of(alloc, cfg, fault) {
         Ok(head) => head,
-        Err(why) => return refuse_head(why, fault),
+        Err(answer) => return answer,
     };
     put_times(&head, stamps, times);
     DONE

@@ -10,11 +10,11 @@ ghost use Rattle.comtrade_c.specs.Writing as spec;
 ghost use Rattle.comtrade_c.specs.Writing.{IsRefused, IsWritten, LacksRoom, file_of_tables};
 
 use crate::answer::{
-    CFG_FAULT, DONE, Fault, NO_MEMORY, NO_ROOM, WRITE_FAULT, put_both, refuse_head, refuse_write,
+    CFG_FAULT, DONE, Fault, NO_MEMORY, NO_ROOM, WRITE_FAULT, head_of, of_write, put_front,
 };
 use crate::rows::{NO_SAMPLE, NO_STAMP};
 use comtrade_format::{File, Head, Kind, Rate, Row, WriteFault, cfg_bytes, dat_bytes};
-use comtrade_read::{file_reads_back, read_cfg};
+use comtrade_read::file_reads_back;
 use dfr_channels::{Items, Reading};
 use std::alloc::{AllocError, Global};
 
@@ -165,17 +165,22 @@ fn put_texts(
 {
     let (cfg, dat) = match texts_of(alloc, file) {
         Ok(texts) => texts,
-        Err(why) => return refuse_write(why, fault),
+        Err(WriteFault::Memory) => return NO_MEMORY,
+        Err(why) => {
+            *fault = of_write(why);
+            return WRITE_FAULT;
+        }
     };
     *sizes = Sizes {
         cfg: cfg.len(),
         dat: dat.len(),
     };
-    if put_both(new_cfg, &cfg, new_dat, &dat) {
-        DONE
-    } else {
-        NO_ROOM
+    if new_cfg.len() < cfg.len() || new_dat.len() < dat.len() {
+        return NO_ROOM;
     }
+    put_front(new_cfg, &cfg);
+    put_front(new_dat, &dat);
+    DONE
 }
 
 fn kind_of(binary: bool) -> Kind
@@ -233,9 +238,9 @@ pub extern "C" fn comtrade_core_write(
     ensures sizes_kept { (result ≢ DONE) → (result ≢ NO_ROOM) → sizes.new ≡ sizes.old }
     ensures fault_kept { (result ≢ CFG_FAULT) → (result ≢ WRITE_FAULT) → fault.new ≡ fault.old }
 {
-    let head = match read_cfg(alloc, cfg) {
+    let head = match head_of(alloc, cfg, fault) {
         Ok(head) => head,
-        Err(why) => return refuse_head(why, fault),
+        Err(answer) => return answer,
     };
     match file_of(alloc, head, binary, stamps, samples, bits) {
         Ok(file) => put_texts(alloc, &file, new_cfg, new_dat, sizes, fault),

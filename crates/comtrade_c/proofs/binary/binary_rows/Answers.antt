@@ -29,9 +29,9 @@ returns-clause-done c = λ done.
     let m = length h.status in
     let n = last_sample h.rates in
     let whole : length dat ≡ n * row_size k m = grind (arith, common_steps) in
-    let stamps : c.put_stamps.new.to ≡ stamps_of (rows_at k m dat n) = grind (arith, common_steps) in
-    let samples : c.put_samples.new.to ≡ samples_of (rows_at k m dat n) = grind (arith, common_steps) in
-    let bits : c.put_bits.new.to ≡ bits_of (rows_at k m dat n) = grind (arith, common_steps) in
+    let stamps : c.put_rows.new.stamps ≡ stamps_of (rows_at k m dat n) = grind (arith, common_steps) in
+    let samples : c.put_rows.new.samples ≡ samples_of (rows_at k m dat n) = grind (arith, common_steps) in
+    let bits : c.put_rows.new.bits ≡ bits_of (rows_at k m dat n) = grind (arith, common_steps) in
     record {
       rows = rows_at k m dat n;
       reads = rows_read h dat (λ i. Fits-lt-pow (c.type_inv.dat i)) c.requires.kind whole;

@@ -1,7 +1,0 @@
-use Rattle.std.proofs.Common.{◌≡◌, ◌+◌, length, take}
-use Rattle.std.specs.List.{flat_map}
-use Rattle.comtrade_c.specs.Tables.{row_samples}
-use Rattle.comtrade_c.proofs.rows.holds_samples.Given as goal
-
-abbrev pub invariant-loop-row : goal.invariant-loop-row
-invariant-loop-row l = l.left + length (flat_map row_samples (take l.row-index l.rows)) ≡ l.room

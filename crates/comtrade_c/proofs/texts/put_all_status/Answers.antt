@@ -1,6 +1,0 @@
-use Rattle.std.proofs.Common.{arith}
-use Rattle.std.proofs.lemmas.Grind.{common_steps}
-use Rattle.comtrade_c.proofs.texts.put_all_status.Goals as goal
-
-pub loop-channel-preserved : goal.loop-channel-preserved
-loop-channel-preserved c = grind (arith, common_steps)
