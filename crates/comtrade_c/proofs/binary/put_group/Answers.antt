@@ -1,4 +1,4 @@
-use Rattle.std.proofs.Common.{length, false, sym, ap, ◌∙◌, arith, rules}
+use Rattle.std.proofs.Common.{length, false, sym, ap, ◌∙◌, arith}
 use Rattle.std.proofs.lemmas.Nat.Bits.{shr_and_one, bit_at-lt}
 use Rattle.std.specs.Int.{bit_at}
 use Rattle.comtrade_read.specs.Inner.BinaryRows.{group_bits}

@@ -1,4 +1,4 @@
-use Rattle.std.proofs.Common.{◌≡◌, ◌≤◌, ◌+◌, ◌-◌, ◌*◌, length, map, take, drop, sym, ap, ◌∙◌, arith, rules, length-drop}
+use Rattle.std.proofs.Common.{◌≡◌, ◌≤◌, ◌<◌, ℕ, List, ◌+◌, ◌-◌, ◌*◌, ◌/◌, length, map, take, drop, sym, ap, ◌∙◌, arith, rules, length-drop}
 use Rattle.std.proofs.Math.Nat.{mul-le-mul_right}
 use Rattle.comtrade_read.proofs.Outcomes.{part_is}
 use Rattle.comtrade_read.specs.Inner.BinaryRows.{stamp_at, values_at, bits_at, row_at, rows_at}
@@ -18,19 +18,59 @@ slice_bounds-put_row_bits-end c =
     row_within row_bits c.args.k c.args.m c.args.dat.now (length c.args.stamps.now) c.loop-i.i c.args.m c.loop-i.bits c.args.bits.now c.loop-i.bit
     (bits_count c.args.k c.args.m) c.loop-i-test.true c.loop-i.invariant.bits (search rules)
 
+-- a part of row i begins within the data
+row_in : (k m i n size from : ℕ) (dat : List ℕ) → i < n → length dat ≡ n * row_size k m → size ≡ row_size k m → from ≤ size → i * size + from ≤ length dat
+row_in k m i n size from dat below whole is within =
+    let next : (i + 1) * size ≤ n * size = mul-le-mul_right size (omega (arith, below)) in
+    omega (arith, next, whole ∙ ap (λ z. n * z) (sym is), within)
+
+-- and as many bytes follow as belong to it
+row_left :
+    (k m i n size from count : ℕ) (dat : List ℕ) → i < n → length dat ≡ n * row_size k m → size ≡ row_size k m → from + count ≤ size
+    → count ≤ length (take (length dat - (i * size + from)) (drop (i * size + from) dat))
+row_left k m i n size from count dat below whole is within =
+    let end = row_in k m i n size (from + count) dat below whole is within in
+    rw (part_is (i * size + from) dat) (omega (arith, length-drop (i * size + from) dat, end))
+
+pub slice_bounds-put_row-count-in-loop-i : goal.slice_bounds-put_row-count-in-loop-i
+slice_bounds-put_row-count-in-loop-i c =
+    row_in c.args.k c.args.m c.loop-i.i _ _ 8 c.args.dat.now c.loop-i-test.true c.requires.whole c.row_size-size.ensures (omega (arith, c.row_size-size.ensures))
+
+pub slice_bounds-put_row-start-in-loop-i : goal.slice_bounds-put_row-start-in-loop-i
+slice_bounds-put_row-start-in-loop-i c =
+    row_in c.args.k c.args.m c.loop-i.i _ _ 8 c.args.dat.now c.loop-i-test.true c.requires.whole c.row_size-size.ensures (omega (arith, c.row_size-size.ensures))
+
+pub put_row-requires : goal.put_row-requires
+put_row-requires c =
+    let k = c.args.k in
+    let m = c.args.m in
+    let room : c.loop-i.sample + k ≤ length c.loop-i.samples =
+    row_within row_samples k m c.args.dat.now (length c.args.stamps.now) c.loop-i.i k c.loop-i.samples c.args.samples.now c.loop-i.sample (samples_count k m)
+    c.loop-i-test.true c.loop-i.invariant.samples (search rules) in
+    rw (part_long c.loop-i.sample k c.loop-i.samples room)
+    (row_left k m c.loop-i.i _ c.row_size-size.result 8 (2 * k) c.args.dat.now c.loop-i-test.true c.requires.whole c.row_size-size.ensures
+    (omega (arith, c.row_size-size.ensures)))
+
+pub slice_bounds-put_row_bits-count-in-loop-i : goal.slice_bounds-put_row_bits-count-in-loop-i
+slice_bounds-put_row_bits-count-in-loop-i c =
+    row_in c.args.k c.args.m c.loop-i.i _ _ (8 + 2 * c.args.k) c.args.dat.now c.loop-i-test.true c.requires.whole c.row_size-size.ensures
+    (omega (arith, c.row_size-size.ensures))
+
+pub slice_bounds-put_row_bits-start-in-loop-i : goal.slice_bounds-put_row_bits-start-in-loop-i
+slice_bounds-put_row_bits-start-in-loop-i c =
+    row_in c.args.k c.args.m c.loop-i.i _ _ (8 + 2 * c.args.k) c.args.dat.now c.loop-i-test.true c.requires.whole c.row_size-size.ensures
+    (omega (arith, c.row_size-size.ensures))
+
 pub put_row_bits-requires : goal.put_row_bits-requires
 put_row_bits-requires c =
     let k = c.args.k in
-    let dat = c.args.dat.now in
-    let i = c.loop-i.i in
-    let n = length c.args.stamps.now in
-    let size = c.row_size-size.result in
-    let room : c.loop-i.bit + c.args.m ≤ length c.loop-i.bits =
-    row_within row_bits k c.args.m dat n i c.args.m c.loop-i.bits c.args.bits.now c.loop-i.bit (bits_count k c.args.m) c.loop-i-test.true c.loop-i.invariant.bits (search rules) in
-    let next : (i + 1) * size ≤ n * size = mul-le-mul_right size (omega (arith, c.loop-i-test.true)) in
-    let whole : length dat ≡ n * size = c.requires.whole ∙ ap (λ z. n * z) (sym c.row_size-size.ensures) in
-    let from = i * size + (8 + 2 * k) in
-    rw (part_long c.loop-i.bit c.args.m c.loop-i.bits room, part_is from dat) (omega (arith, length-drop from dat, next, whole, c.row_size-size.ensures))
+    let m = c.args.m in
+    let room : c.loop-i.bit + m ≤ length c.loop-i.bits =
+    row_within row_bits k m c.args.dat.now (length c.args.stamps.now) c.loop-i.i m c.loop-i.bits c.args.bits.now c.loop-i.bit (bits_count k m)
+    c.loop-i-test.true c.loop-i.invariant.bits (search rules) in
+    rw (part_long c.loop-i.bit m c.loop-i.bits room)
+    (row_left k m c.loop-i.i _ c.row_size-size.result (8 + 2 * k) (2 * ((m + 15) / 16)) c.args.dat.now c.loop-i-test.true c.requires.whole
+    c.row_size-size.ensures (omega (arith, c.row_size-size.ensures)))
 
 pub loop-i-preserved : goal.loop-i-preserved
 loop-i-preserved c =

@@ -1,19 +1,20 @@
-use Rattle.std.proofs.Common.{sym, ◌∙◌, inl, inr, w32, rules}
+use Rattle.std.proofs.Common.{sym, ◌∙◌, w32, rules}
 use Rattle.std.proofs.lemmas.Int.{to_z-of_z}
 use Rattle.comtrade_read.proofs.OneFile.{no_file}
+use Rattle.comtrade_read.specs.Reads.{FaultyPair}
 use Rattle.comtrade_read.specs.declared.pair.Part.TheVariants.{Dat}
 use Rattle.comtrade_c.proofs.rows.comtrade_core_rows.Goals as goal
 
 pub returns-in-Err-clause-cfg_fault : goal.returns-in-Err-clause-cfg_fault
 returns-in-Err-clause-cfg_fault c =
-    let same = to_z-of_z w32 c.refuse_read.result (search rules) in
+    let same = to_z-of_z w32 c.in-Err.answer (search rules) in
     λ is.
-    let known = c.refuse_read.ensures.fault (inl (sym same ∙ is)) in
+    let told = c.in-Err.ensures.fault (sym same ∙ is) in
     record {
-      why = c.in-Err.why;
-      faulty = c.in-Err.ensures.fault known;
-      numbers = c.refuse_read.ensures.numbers (inl (sym same ∙ is));
-      unread = λ f r. c.in-Err.ensures.unread known f.head r.head;
+      why = told.why;
+      faulty = told.faulty;
+      numbers = told.numbers;
+      unread = λ f r. told.unread f.head r.head;
     }
 
 pub returns-in-Ok-true-clause-done : goal.returns-in-Ok-true-clause-done
@@ -37,14 +38,12 @@ returns-in-Ok-false-clause-room c = λ short.
     }
 
 pub returns-clause-dat_fault : goal.returns-clause-dat_fault
-returns-clause-dat_fault c =
-    let same = to_z-of_z w32 c.refuse_read-in-Err-rows_under.result (search rules) in
-    λ is.
-    let known = c.refuse_read-in-Err-rows_under.ensures.fault (inr (sym same ∙ is)) in
+returns-clause-dat_fault c = λ _.
+    let why = c.in-Err-rows_under.why in
+    let faulty : FaultyPair c.args.cfg.now c.args.dat.now Dat why = (c.in-Ok.head, (c.in-Ok.ensures.found, c.in-Err-rows_under.ensures.fault (search rules))) in
     record {
-      why = c.in-Err-rows_under.why;
-      faulty = (c.in-Ok.head, (c.in-Ok.ensures.found, c.in-Err-rows_under.ensures.fault known));
-      numbers = c.refuse_read-in-Err-rows_under.ensures.numbers (inr (sym same ∙ is));
-      unread = no_file c.args.cfg.now c.args.dat.now Dat c.in-Err-rows_under.why
-          (c.in-Ok.head, (c.in-Ok.ensures.found, c.in-Err-rows_under.ensures.fault known));
+      why = why;
+      faulty = faulty;
+      numbers = c.of_read.ensures;
+      unread = no_file c.args.cfg.now c.args.dat.now Dat why faulty;
     }

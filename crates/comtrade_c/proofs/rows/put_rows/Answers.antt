@@ -1,7 +1,7 @@
-use Rattle.std.proofs.Common.{◌≡◌, length, ap, ◌∙◌, arith, rules}
+use Rattle.std.proofs.Common.{ap, ◌∙◌, arith, rules}
 use Rattle.std.proofs.lemmas.Grind.{common_steps}
 use Rattle.comtrade_c.specs.Tables.{stamp_of, row_samples, row_bits}
-use Rattle.comtrade_c.proofs.Filled.{in_table, row_filled, all_filled}
+use Rattle.comtrade_c.proofs.Filled.{in_table, row_filled}
 use Rattle.comtrade_c.proofs.Laid.{laid_more}
 use Rattle.comtrade_c.proofs.rows.put_rows.Goals as goal
 
