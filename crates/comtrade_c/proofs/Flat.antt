@@ -9,15 +9,16 @@ use Rattle.std.proofs.lemmas.Bool.Decides.{nat_tests}
 use Rattle.std.proofs.lemmas.List.FromFn.{length-map-range_with_len, get_or-map-range_with_len}
 use Rattle.dfr_channels.specs.declared.scan.Reading.TheVariants.{Value}
 use Rattle.comtrade_format.specs.Parts.{HeadParts, RowParts}
-use Rattle.comtrade_read.specs.Inner.BinaryRows.{value_at, stamp_at, values_at, bits_at, group_bits, row_at, rows_at}
-use Rattle.comtrade_read.specs.Inner.BinaryRows.{bit_of as spec_bit}
+use Rattle.comtrade_format.specs.Packed.{value_at, values_at, bits_at, group_bits}
+use Rattle.comtrade_read.specs.Inner.BinaryRows.{stamp_at, row_at, rows_at}
+use Rattle.comtrade_format.specs.Packed.{bit_of as spec_bit}
 use Rattle.std.proofs.lemmas.List.{length-map, map-append, length-take, drop-drop}
 use Rattle.byteorder.specs.Endian.{little_number}
 use Rattle.comtrade_format.specs.declared.file.Kind.TheVariants.{Binary}
 use Rattle.comtrade_read.specs.declared.fault.ReadFault.TheVariants.{Length}
 use Rattle.comtrade_read.specs.Head.{last_sample}
 use Rattle.comtrade_read.proofs.BinaryNumbers.{AllBytes}
-use Rattle.comtrade_read.proofs.BinaryGroups.{group_behind}
+use Rattle.comtrade_format.proofs.PackedGroups.{group_behind}
 use Rattle.comtrade_read.proofs.OneFile.{rows_spelled, data_faulty}
 use Rattle.comtrade_read.proofs.Outcomes.{part_is}
 use Rattle.comtrade_c.proofs.Filled.{Filled, in_table, row_filled, all_filled, mid_laid}

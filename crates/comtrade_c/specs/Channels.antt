@@ -6,7 +6,7 @@ use Rattle.dfr_channels.specs.declared.channel.Side.{Side}
 use Rattle.dfr_channels.specs.declared.channel.Side.TheVariants.{Primary, Secondary}
 use Rattle.comtrade_format.specs.Parts.{HeadParts}
 use Rattle.comtrade_format.specs.declared.file.Rate.{Rate}
-use Rattle.comtrade_values.specs.Floats.{IsNearest}
+use Rattle.comtrade_format.specs.Floats.{IsNearest}
 use Rattle.comtrade_c.specs.Tables.{bit_of}
 use Rattle.comtrade_c.specs.declared.channels.Analog.{Analog}
 use Rattle.comtrade_c.specs.declared.channels.RateEnd.{RateEnd}

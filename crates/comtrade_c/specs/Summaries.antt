@@ -4,7 +4,7 @@ use Rattle.comtrade_format.specs.declared.file.Kind.{Kind}
 use Rattle.comtrade_format.specs.declared.file.Kind.TheVariants.{Ascii, Binary}
 use Rattle.comtrade_format.specs.Parts.{HeadParts}
 use Rattle.comtrade_read.specs.Head.{last_sample}
-use Rattle.comtrade_values.specs.Floats.{IsNearest}
+use Rattle.comtrade_format.specs.Floats.{IsNearest}
 use Rattle.comtrade_c.specs.Channels.{text_in}
 use Rattle.comtrade_c.specs.declared.summary.Summary.{Summary}
 

@@ -1,7 +1,7 @@
 -- When the rows of a table were taken, as numbers of 64 bits.
 use Rattle.std.specs.Prelude.{ℕ, ◌+◌, ℤ, pos, negsuc, nat_lt, if◌then◌else◌, Option, Some, None, List, [], ◌∷◌}
 use Rattle.comtrade_format.specs.Parts.{HeadParts}
-use Rattle.comtrade_values.specs.Times.{time_of}
+use Rattle.comtrade_format.specs.Times.{time_of}
 use Rattle.comtrade_c.specs.Writing.{stamp_in}
 
 -- nanoseconds; -2^63 stands for a time that isn't there, or has more than 63 bits

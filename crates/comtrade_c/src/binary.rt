@@ -3,6 +3,7 @@
 ghost use Rattle.std.specs.Prelude.{◌≡◌, ◌≢◌, ◌⊎◌, ◌≤◌, ◌<◌, ◌*◌, ◌+◌, ◌/◌, length, map, Ok, IfErr, IsTrue, IsFalse, true, false};
 ghost use Rattle.comtrade_format.specs.declared.file.Kind.TheVariants.{Binary};
 ghost use Rattle.comtrade_read.specs.Reads.{row_size, ReadsRows, FaultyData, Nothing};
+ghost use Rattle.comtrade_format.specs.Packed as packed;
 ghost use Rattle.comtrade_read.specs.Inner.BinaryRows as spec;
 ghost use Rattle.comtrade_c.specs.Tables as tables;
 ghost use Rattle.comtrade_c.specs.Tables.{TabulatesRows, RowsLackRoom};
@@ -17,7 +18,7 @@ use comtrade_read::ReadFault;
 /// The value in the first two bytes, in two's complement; the lowest stands for a missing one.
 fn sample_at(bytes: &[u8]) -> i32
     requires { 2 ≤ length bytes.now }
-    ensures { result ≡ tables.sample_of (spec.value_at bytes.now) }
+    ensures { result ≡ tables.sample_of (packed.value_at bytes.now) }
 {
     let value = LittleEndian::read_i16(bytes);
     if value == -32_768 {
@@ -43,7 +44,7 @@ fn stamp_at(bytes: &[u8]) -> u64
 /// The samples of one row, whose values begin the bytes.
 fn put_row(to: &mut [i32], bytes: &[u8])
     requires { 2 * length to.old ≤ length bytes.now }
-    ensures { to.new ≡ map tables.sample_of (spec.values_at (length to.old) bytes.now) }
+    ensures { to.new ≡ map tables.sample_of (packed.values_at (length to.old) bytes.now) }
 {
     for k in 0..to.len() {
         to[k] = sample_at(&bytes[2 * k..]);
@@ -54,7 +55,7 @@ fn put_row(to: &mut [i32], bytes: &[u8])
 #[inline(always)]
 fn put_group(to: &mut [u8], group: u16)
     requires { length to.old ≤ 16 }
-    ensures { to.new ≡ map tables.bit_of (spec.group_bits (length to.old) group) }
+    ensures { to.new ≡ map tables.bit_of (packed.group_bits (length to.old) group) }
 {
     for k in 0..to.len() {
         to[k] = ((group >> k) & 1) as u8;
@@ -64,7 +65,7 @@ fn put_group(to: &mut [u8], group: u16)
 /// The bits of one row, whose groups begin the bytes.
 fn put_row_bits(to: &mut [u8], bytes: &[u8])
     requires { 2 * ((length to.old + 15) / 16) ≤ length bytes.now }
-    ensures { to.new ≡ map tables.bit_of (spec.bits_at (length to.old) bytes.now) }
+    ensures { to.new ≡ map tables.bit_of (packed.bits_at (length to.old) bytes.now) }
 {
     let whole = to.len() / 16;
     for g in 0..whole {

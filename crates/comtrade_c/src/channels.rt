@@ -10,8 +10,7 @@ ghost use Rattle.comtrade_c.specs.Tables.{bit_of};
 use crate::answer::{CFG_FAULT, DONE, Fault, NO_MEMORY, NO_ROOM, head_of};
 use crate::rows::bit_of;
 use crate::texts::texts_of;
-use comtrade_format::{Head, Rate};
-use comtrade_values::nearest_f64;
+use comtrade_format::{Head, Rate, nearest_f64};
 use dfr_channels::{AnalogChannel, Memory, Side, StatusChannel};
 use std::alloc::{AllocError, Global};
 

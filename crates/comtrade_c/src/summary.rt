@@ -7,8 +7,7 @@ ghost use Rattle.comtrade_c.specs.Summaries as spec;
 
 use crate::answer::{CFG_FAULT, DONE, Fault, NO_MEMORY, head_of};
 use crate::texts::texts_of;
-use comtrade_format::{Head, Kind, Rate};
-use comtrade_values::nearest_f64;
+use comtrade_format::{Head, Kind, Rate, nearest_f64};
 use dfr_channels::Memory;
 use std::alloc::Global;
 

@@ -7,8 +7,7 @@ ghost use Rattle.comtrade_c.specs.Times as spec;
 
 use crate::answer::{CFG_FAULT, DONE, Fault, NO_ROOM, head_of};
 use crate::write::stamp_of;
-use comtrade_format::Head;
-use comtrade_values::clock_of;
+use comtrade_format::{Head, clock_of};
 use std::alloc::{Allocator, Global};
 
 /// What stands for a time that isn't there, or has more than 63 bits.

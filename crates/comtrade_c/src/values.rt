@@ -5,7 +5,7 @@ ghost use Rattle.comtrade_c.specs.Values as spec;
 
 use crate::answer::{DONE, NO_ROOM};
 use crate::rows::NO_SAMPLE;
-use comtrade_values::Scale;
+use comtrade_format::Scale;
 
 /// What stands for the value of a reading that is missing.
 pub(crate) const NO_VALUE: f64 = f64::NAN;

@@ -10,3 +10,6 @@ pub mod Appending
 pub mod Groups
 pub mod Places
 pub mod Writable
+pub mod FloatText
+pub mod Scaled
+pub mod PackedGroups

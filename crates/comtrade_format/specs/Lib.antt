@@ -8,3 +8,7 @@ pub mod Binary
 pub mod Shape
 pub mod Refusals
 pub mod Data
+pub mod Floats
+pub mod Times
+pub mod Values
+pub mod Packed

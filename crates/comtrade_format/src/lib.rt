@@ -12,15 +12,22 @@ mod fields;
 mod file;
 mod number;
 mod output;
+mod packed;
 mod parts;
 mod rows_ascii;
 mod rows_binary;
 mod shape;
 mod texts;
 mod value_text;
+mod values;
 
 pub use bytes::{ascii_bytes, binary_bytes, cfg_bytes, dat_bytes};
 pub use decimal::put_decimal;
 pub use fault::WriteFault;
 pub use file::{File, Head, Kind, Rate, Row};
 pub use output::write_all_of;
+pub use packed::{packed_bits, packed_values};
+pub use values::{
+    Clock, Cycle, CycleFault, Scale, civil_of, clock_of, cycle_of, exact_value, nearest_f64,
+    scale_of, without_zeros,
+};

@@ -6,7 +6,7 @@ use crate::names::{Likeness, likeness_of};
 use crate::phases::{Hue, other_hue, phase_hue};
 use crate::survey::Survey;
 use comtrade_io::ToolFault;
-use comtrade_values::Scale;
+use comtrade_format::Scale;
 use dfr_channels::AnalogChannel;
 use std::alloc::{AllocError, Allocator};
 

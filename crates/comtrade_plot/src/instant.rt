@@ -1,7 +1,7 @@
 //! Instants as dates, and spans of time.
 
 use crate::sheet::Sheet;
-use comtrade_values::civil_of;
+use comtrade_format::civil_of;
 use std::alloc::Allocator;
 
 /// Microseconds since 1970-01-01 00:00:00 as `yyyy-mm-dd hh:mm:ss.ssssss`.

@@ -4,8 +4,7 @@ use crate::gaps::Gap;
 use crate::layers::Layer;
 use crate::plan::Frame;
 use crate::survey::Survey;
-use comtrade_format::File;
-use comtrade_values::Scale;
+use comtrade_format::{File, Scale};
 use dfr_channels::{AnalogChannel, StatusChannel};
 use std::alloc::Allocator;
 

@@ -8,7 +8,7 @@ use crate::quantity::put_quantity;
 use crate::sheet::Sheet;
 use crate::survey::Survey;
 use crate::units::unit_of;
-use comtrade_values::Scale;
+use comtrade_format::Scale;
 use std::alloc::Allocator;
 
 /// Where names begin.

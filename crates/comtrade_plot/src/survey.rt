@@ -1,9 +1,8 @@
 //! What the drawn rows say of each channel: its least and greatest sample, its effective values.
 
 use crate::plan::Frame;
-use comtrade_format::{File, Row};
+use comtrade_format::{File, Row, Scale};
 use comtrade_io::ToolFault;
-use comtrade_values::Scale;
 use dfr_channels::Reading;
 use std::alloc::Allocator;
 use std::num::nearest_u64_to_f64;

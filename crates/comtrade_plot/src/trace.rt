@@ -5,7 +5,7 @@ use crate::phases::Hue;
 use crate::plan::Panel;
 use crate::rows::reading_at;
 use crate::sheet::Sheet;
-use comtrade_values::Scale;
+use comtrade_format::Scale;
 use dfr_channels::Reading;
 use std::alloc::Allocator;
 

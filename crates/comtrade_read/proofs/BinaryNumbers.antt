@@ -19,7 +19,8 @@ use Rattle.byteorder.specs.Numbers.{little_from-lt}
 use Rattle.dfr_channels.specs.declared.scan.Reading.{Reading}
 use Rattle.dfr_channels.specs.declared.scan.Reading.TheVariants.{Value, Missing}
 use Rattle.comtrade_format.specs.Binary.{reading_number, stamp_number, bits_number}
-use Rattle.comtrade_read.specs.Inner.BinaryRows.{reading, stamp_at}
+use Rattle.comtrade_format.specs.Packed.{reading}
+use Rattle.comtrade_read.specs.Inner.BinaryRows.{stamp_at}
 use Rattle.comtrade_read.specs.Reads.{IsPresent, IsStamp}
 
 abbrev pub AllBytes : List ℕ → Type 0

@@ -14,7 +14,6 @@ pub mod NoReturn
 pub mod HeadSays
 pub mod TextSpelled
 pub mod BinaryNumbers
-pub mod BinaryGroups
 pub mod RowBytes
 pub mod OneFile
 pub mod Numerals

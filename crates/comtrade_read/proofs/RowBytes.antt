@@ -12,7 +12,8 @@ use Rattle.byteorder.specs.Numbers.{little_number-reads_back, length-bytes_low_f
 use Rattle.dfr_channels.specs.declared.scan.Reading.{Reading}
 use Rattle.comtrade_format.specs.Parts.{RowParts}
 use Rattle.comtrade_format.specs.Binary.{reading_number, stamp_number, bits_number, group_bytes, status_bytes, row_bytes}
-use Rattle.comtrade_read.specs.Inner.BinaryRows.{value_at, stamp_at, values_at, bit_of, bits_at, row_at, rows_at}
+use Rattle.comtrade_format.specs.Packed.{value_at, values_at, bit_of, bits_at}
+use Rattle.comtrade_read.specs.Inner.BinaryRows.{stamp_at, row_at, rows_at}
 use Rattle.comtrade_read.specs.Reads.{row_size}
 use Rattle.comtrade_read.specs.Reads.{IsPresent, IsRowOf, ReadsBinary}
 use Rattle.comtrade_read.proofs.BinaryNumbers.{AllBytes, two_bytes, four_bytes, two_fit, four_fit, number_again, present_number, reading_again, small_number, stamp_again, small_stamp, stamp_back, stamp_is, bits_fit, bit_is, bits_again}

@@ -1,9 +1,8 @@
 //! The greatest current of a record, beside its channel's nominal one.
 
 use crate::peaks::{Peaks, peaks_at, peaks_of};
-use comtrade_format::File;
+use comtrade_format::{File, nearest_f64, scale_of};
 use comtrade_io::ToolFault;
-use comtrade_values::{nearest_f64, scale_of};
 use dfr_channels::{AnalogChannel, Decimal, Side};
 use std::alloc::Allocator;
 

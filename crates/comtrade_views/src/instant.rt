@@ -1,7 +1,7 @@
 //! Instants as dates, and spans of time.
 
 use comtrade_io::put;
-use comtrade_values::civil_of;
+use comtrade_format::civil_of;
 use itoa::Buffer;
 use std::alloc::{AllocError, Allocator};
 

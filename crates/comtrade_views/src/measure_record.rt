@@ -7,9 +7,8 @@ use crate::measure_tables::put_float_cell;
 use crate::show::put_row_time;
 use crate::shown::{Shown, put_channel, put_cycle};
 use crate::table::{end_cell, end_row, put_number_cell, put_table};
-use comtrade_format::File;
+use comtrade_format::{File, nearest_f64};
 use comtrade_io::put;
-use comtrade_values::nearest_f64;
 use std::alloc::{AllocError, Allocator, Global};
 use std::num::nearest_u64_to_f64;
 

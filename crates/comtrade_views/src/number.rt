@@ -1,10 +1,9 @@
 //! Numbers of a pair as decimals: what stands in the file, and a scaled sample, exact where floats would round.
 
 ghost use Rattle.std.specs.Prelude.{OnOk};
-ghost use Rattle.comtrade_values.specs.Values as Values;
+ghost use Rattle.comtrade_format.specs.Values as Values;
 
-use comtrade_format::put_decimal as put_exact;
-use comtrade_values::{exact_value, without_zeros};
+use comtrade_format::{exact_value, put_decimal as put_exact, without_zeros};
 use dfr_channels::{AnalogChannel, Decimal};
 use itoa::Buffer;
 use std::alloc::{AllocError, Allocator};

@@ -1,8 +1,7 @@
 //! When each row was taken.
 
-use comtrade_format::File;
+use comtrade_format::{File, clock_of};
 use comtrade_io::ToolFault;
-use comtrade_values::clock_of;
 use std::alloc::Allocator;
 
 /// When each row was taken, in nanoseconds since the instant of the first: by the rates where the file says them, else by its stamp. None

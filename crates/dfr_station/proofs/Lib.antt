@@ -1,4 +1,3 @@
 pub mod Stamps
-pub mod Groups
 pub mod Parts
 pub mod Steps

@@ -1,39 +1,12 @@
 -- A frame: the samples and the status words of one row of BINARY data (C37.111-1999, clause 6), without its number and
 -- its time stamp. Every number has its least significant byte first.
-use Rattle.std.specs.Prelude.{ℕ, ◌+◌, ◌*◌, ◌/◌, ◌%◌, ◌==◌, ℤ, negsuc, if◌then◌else◌, List, map, drop, Bool}
-use Rattle.std.specs.Int.{cast_signed, w16, bit_at}
-use Rattle.std.specs.Ordering.{int_eq}
-use Rattle.std.specs.List.{range_with_len}
-use Rattle.byteorder.specs.Endian.{little_number}
+use Rattle.std.specs.Prelude.{ℕ, ◌+◌, ◌*◌, ◌/◌, List, drop}
 use Rattle.dfr_channels.specs.Parts.{ScanParts}
-use Rattle.dfr_channels.specs.declared.scan.Reading.{Reading}
-use Rattle.dfr_channels.specs.declared.scan.Reading.TheVariants.{Value, Missing}
+use Rattle.comtrade_format.specs.Packed.{values_at, bits_at}
 
 -- two bytes for each of k analogue channels, and two for each sixteen of m status channels begun
 abbrev pub frame_len : ℕ → ℕ → ℕ
 frame_len k m = 2 * k + 2 * ((m + 15) / 16)
-
-abbrev pub reading : ℤ → Reading
-reading z = if int_eq z (negsuc 32767) then Missing else Value z
-
--- the value in the first two bytes, in two's complement; 8000 is a missing one
-abbrev pub value_at : List ℕ → Reading
-value_at bytes = reading (cast_signed w16 (little_number 2 bytes))
-
--- value i stands in the two bytes after i values
-abbrev pub values_at : ℕ → List ℕ → List Reading
-values_at count bytes = map (λ i. value_at (drop (2 * i) bytes)) (range_with_len 0 count)
-
--- bit j is bit j % 16 of the group j / 16
-abbrev pub bit_of : List ℕ → ℕ → Bool
-bit_of bytes j = bit_at (little_number 2 (drop (2 * (j / 16)) bytes)) (j % 16) == 1
-
-abbrev pub bits_at : ℕ → List ℕ → List Bool
-bits_at count bytes = map (bit_of bytes) (range_with_len 0 count)
-
--- the lowest bits of a group
-abbrev pub group_bits : ℕ → ℕ → List Bool
-group_bits count group = map (λ i. bit_at group i == 1) (range_with_len 0 count)
 
 -- the scan of a frame of k values and m bits; bits without a channel mean nothing
 unfoldable pub frame_scan : ℕ → ℕ → List ℕ → ScanParts

@@ -5,9 +5,8 @@ mod span;
 
 use crate::peaks::span::span_of;
 use anyhow::{Context, Result, anyhow};
-use comtrade_format::{File, Row};
+use comtrade_format::{File, Row, civil_of, scale_of};
 use comtrade_read::read;
-use comtrade_values::{civil_of, scale_of};
 use dfr_channels::AnalogChannel;
 use std::fs;
 use std::rt::Files;

@@ -1,6 +1,6 @@
 //! Why rows can't be measured.
 
-use comtrade_values::CycleFault;
+use comtrade_format::CycleFault;
 use dfr_channels::Memory;
 use std::alloc::{AllocError, AllocFailed};
 use thiserror::Error;

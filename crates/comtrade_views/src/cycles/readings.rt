@@ -1,7 +1,6 @@
 //! The values of a channel.
 
-use comtrade_format::Row;
-use comtrade_values::Scale;
+use comtrade_format::{Row, Scale};
 use dfr_channels::Reading;
 use std::alloc::Allocator;
 

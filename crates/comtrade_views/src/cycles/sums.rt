@@ -3,7 +3,7 @@
 use crate::cycles::matrix::{Matrix, at, zeros};
 use crate::cycles::phasor::Phasor;
 use crate::cycles::window::Window;
-use comtrade_values::Cycle;
+use comtrade_format::Cycle;
 use std::alloc::{AllocError, Allocator};
 use std::f64::consts::TAU;
 use std::num::nearest_u64_to_f64;

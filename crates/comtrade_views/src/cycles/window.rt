@@ -1,8 +1,7 @@
 //! The rows that are measured.
 
 use crate::cycles::fault::MeasureFault;
-use comtrade_format::{File, Head};
-use comtrade_values::{Cycle, cycle_of};
+use comtrade_format::{Cycle, File, Head, cycle_of};
 use dfr_channels::Decimal;
 use std::alloc::Allocator;
 

@@ -2,8 +2,7 @@
 
 use crate::part::names::Channels;
 use crate::part::rows::Rows;
-use comtrade_format::{File, Head, Rate, Row};
-use comtrade_values::clock_of;
+use comtrade_format::{File, Head, Rate, Row, clock_of};
 use dfr_channels::{AnalogChannel, Items, Memory, StatusChannel, TryClone};
 use std::alloc::Allocator;
 

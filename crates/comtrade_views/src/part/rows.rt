@@ -2,8 +2,7 @@
 
 use crate::part::fault::PartFault;
 use crate::part::moment::{Moment, moment_of};
-use comtrade_format::{File, Row};
-use comtrade_values::clock_of;
+use comtrade_format::{File, Row, clock_of};
 use std::alloc::Allocator;
 
 /// Rows by their indices from 0: from the first one on, and not from the second one on.

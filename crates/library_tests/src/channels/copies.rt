@@ -59,14 +59,7 @@ fn is_copied(alloc: Global, made: &Layout) -> bool {
 }
 
 fn is_copied_layout(alloc: Global, made: Option<Layout>) -> bool {
-    match made {
-        Some(made) => {
-            let copied = is_copied(alloc, &made);
-            drop(made);
-            copied
-        }
-        None => false,
-    }
+    made.is_some_and(|made| is_copied(alloc, &made))
 }
 
 #[test]

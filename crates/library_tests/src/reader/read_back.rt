@@ -71,14 +71,7 @@ fn has_records(alloc: Global, ran: &Ran, records: usize) -> bool {
 }
 
 fn are_read_back(alloc: Global, bay: Bay, script: &[u8], records: usize) -> bool {
-    match ran(alloc, bay, script) {
-        Some(ran) => {
-            let has = has_records(alloc, &ran, records);
-            drop(ran);
-            has
-        }
-        None => false,
-    }
+    ran(alloc, bay, script).is_some_and(|ran| has_records(alloc, &ran, records))
 }
 
 const TWO_AT_100: Bay = Bay {

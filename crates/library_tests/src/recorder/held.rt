@@ -63,14 +63,7 @@ const EARLY: [(Call, u64); 5] = [
 ];
 
 fn new_holds(alloc: Global, calls: &[(Call, u64)]) -> bool {
-    match recorder(alloc, BAY) {
-        Some(mut recorder) => {
-            let right = holds(alloc, &mut recorder, calls);
-            drop(recorder);
-            right
-        }
-        None => false,
-    }
+    recorder(alloc, BAY).is_some_and(|mut recorder| holds(alloc, &mut recorder, calls))
 }
 
 #[test]
@@ -88,14 +81,7 @@ fn holds_two(alloc: Global, recorder: &mut Recorder) -> bool {
 }
 
 fn new_holds_two(alloc: Global) -> bool {
-    match recorder_at_100(alloc, TWO) {
-        Some(mut recorder) => {
-            let right = holds_two(alloc, &mut recorder);
-            drop(recorder);
-            right
-        }
-        None => false,
-    }
+    recorder_at_100(alloc, TWO).is_some_and(|mut recorder| holds_two(alloc, &mut recorder))
 }
 
 #[test]

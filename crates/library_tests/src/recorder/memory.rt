@@ -57,14 +57,9 @@ fn stays<'a>(heap: &'a LocalHeap, recorder: &mut Local<'a>) -> bool {
 
 /// The ring is full after three scans.
 fn stays_when_full(heap: &LocalHeap) -> bool {
-    match recorder(heap, BAY) {
-        Some(mut recorder) => {
-            let right = takes_scans(heap, &mut recorder, 3) && stays(heap, &mut recorder);
-            drop(recorder);
-            right
-        }
-        None => false,
-    }
+    recorder(heap, BAY).is_some_and(|mut recorder| {
+        takes_scans(heap, &mut recorder, 3) && stays(heap, &mut recorder)
+    })
 }
 
 #[test]

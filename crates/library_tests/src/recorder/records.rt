@@ -88,27 +88,13 @@ fn closes(alloc: Global, recorder: &mut Recorder) -> bool {
 }
 
 fn takes_first(recorder: &mut Recorder) -> bool {
-    match recorder.take() {
-        Some(record) => {
-            let first = is_first(&record);
-            drop(record);
-            first
-        }
-        None => false,
-    }
+    recorder.take().is_some_and(|record| is_first(&record))
 }
 
 fn records(alloc: Global) -> bool {
-    match recorder(alloc, BAY) {
-        Some(mut recorder) => {
-            let right = opens(alloc, &mut recorder)
-                && closes(alloc, &mut recorder)
-                && takes_first(&mut recorder);
-            drop(recorder);
-            right
-        }
-        None => false,
-    }
+    recorder(alloc, BAY).is_some_and(|mut recorder| {
+        opens(alloc, &mut recorder) && closes(alloc, &mut recorder) && takes_first(&mut recorder)
+    })
 }
 
 #[test]
@@ -129,14 +115,9 @@ pub const HIGH: [Told; 8] = [
 ];
 
 fn grows(alloc: Global) -> bool {
-    match recorder_at_100(alloc, TWO) {
-        Some(mut recorder) => {
-            let right = are_scanned(alloc, &mut recorder, &HIGH);
-            drop(recorder);
-            right
-        }
-        None => false,
-    }
+    recorder_at_100(alloc, TWO).is_some_and(|mut recorder| {
+        are_scanned(alloc, &mut recorder, &HIGH)
+    })
 }
 
 #[test]

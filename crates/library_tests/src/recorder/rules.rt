@@ -24,14 +24,7 @@ fn refuses_edges(alloc: Global, recorder: &mut Recorder) -> bool {
 }
 
 fn refuses(alloc: Global) -> bool {
-    match recorder_at_100(alloc, BAY) {
-        Some(mut recorder) => {
-            let refused = refuses_edges(alloc, &mut recorder);
-            drop(recorder);
-            refused
-        }
-        None => false,
-    }
+    recorder_at_100(alloc, BAY).is_some_and(|mut recorder| refuses_edges(alloc, &mut recorder))
 }
 
 #[test]

@@ -19,14 +19,7 @@ fn takes_first(answers: &[Answer]) -> bool {
 
 /// Whether so many steps are answered, and the last takes the record.
 fn is_taken(alloc: Global, script: &[u8], answers: usize) -> bool {
-    match ran(alloc, BAY, script) {
-        Some(ran) => {
-            let taken = is_whole(&ran, answers) && takes_first(&ran.answers);
-            drop(ran);
-            taken
-        }
-        None => false,
-    }
+    ran(alloc, BAY, script).is_some_and(|ran| is_whole(&ran, answers) && takes_first(&ran.answers))
 }
 
 #[test]
@@ -53,14 +46,9 @@ fn runs_a_late_take(rt: HostRuntime) {
 }
 
 fn answers_none(alloc: Global) -> bool {
-    match ran(alloc, BAY, b"^") {
-        Some(ran) => {
-            let none = is_whole(&ran, 1) && matches!(ran.answers.as_slice(), [Answer::Take(None)]);
-            drop(ran);
-            none
-        }
-        None => false,
-    }
+    ran(alloc, BAY, b"^").is_some_and(|ran| {
+        is_whole(&ran, 1) && matches!(ran.answers.as_slice(), [Answer::Take(None)])
+    })
 }
 
 /// Room for an answer is made before the first step too.

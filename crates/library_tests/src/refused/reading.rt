@@ -31,14 +31,9 @@ fn file_in<A: Allocator>(read: Option<ReadData<A>>) -> Option<File<A>> {
 
 /// The head reads the data of these texts and writes its own text again.
 fn is_head_of<A: Allocator + Copy>(alloc: A, head: Head<A>, texts: Pair) -> bool {
-    match file_in(data_under(alloc, head, texts.dat)) {
-        Some(file) => {
-            let right = has_cfg(alloc, &file, texts.cfg);
-            drop(file);
-            right
-        }
-        None => false,
-    }
+    file_in(data_under(alloc, head, texts.dat)).is_some_and(|file| {
+        has_cfg(alloc, &file, texts.cfg)
+    })
 }
 
 /// The head of these texts.

@@ -18,27 +18,14 @@ pub fn is_text<A: Allocator>(written: Result<Vec<u8, A>, WriteFault>, wanted: &[
 
 /// Whether the configuration file has these bytes.
 fn is_cfg(alloc: Global, file: Option<File>, wanted: &[u8]) -> bool {
-    match file {
-        Some(file) => {
-            let has = is_text(cfg_bytes(alloc, &file), wanted);
-            drop(file);
-            has
-        }
-        None => false,
-    }
+    file.is_some_and(|file| is_text(cfg_bytes(alloc, &file), wanted))
 }
 
 /// Whether the data file has these bytes in ASCII and in BINARY form.
 pub fn are_data(alloc: Global, file: Option<File>, ascii: &[u8], binary: &[u8]) -> bool {
-    match file {
-        Some(file) => {
-            let are = is_text(ascii_bytes(alloc, &file), ascii)
-                && is_text(binary_bytes(alloc, &file), binary);
-            drop(file);
-            are
-        }
-        None => false,
-    }
+    file.is_some_and(|file| {
+        is_text(ascii_bytes(alloc, &file), ascii) && is_text(binary_bytes(alloc, &file), binary)
+    })
 }
 
 fn cfg_length(alloc: Global, file: &File) -> Option<usize> {

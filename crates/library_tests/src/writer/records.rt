@@ -129,14 +129,9 @@ fn gives_a_file(alloc: Global, recorder: &mut Recorder) -> bool {
 }
 
 fn closed_gives_a_file(alloc: Global) -> bool {
-    match recorder_after(alloc, LEAP, CLOSES) {
-        Some(mut recorder) => {
-            let gives = gives_a_file(alloc, &mut recorder);
-            drop(recorder);
-            gives
-        }
-        None => false,
-    }
+    recorder_after(alloc, LEAP, CLOSES).is_some_and(|mut recorder| {
+        gives_a_file(alloc, &mut recorder)
+    })
 }
 
 #[test]

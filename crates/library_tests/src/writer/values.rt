@@ -15,14 +15,7 @@ fn faults(alloc: Global, file: &File) -> [Option<WriteFault>; 3] {
 
 /// Whether the three writers answer so.
 pub fn are_faults(alloc: Global, file: Option<File>, wanted: [Option<WriteFault>; 3]) -> bool {
-    match file {
-        Some(file) => {
-            let right = faults(alloc, &file) == wanted;
-            drop(file);
-            right
-        }
-        None => false,
-    }
+    file.is_some_and(|file| faults(alloc, &file) == wanted)
 }
 
 #[test]

@@ -1,7 +1,7 @@
 use Rattle.std.proofs.Common.{length, false, sym, ap, ◌∙◌, arith}
 use Rattle.std.proofs.lemmas.Nat.Bits.{shr_and_one, bit_at-lt}
 use Rattle.std.specs.Int.{bit_at}
-use Rattle.comtrade_read.specs.Inner.BinaryRows.{group_bits}
+use Rattle.comtrade_format.specs.Packed.{group_bits}
 use Rattle.comtrade_c.specs.Tables.{bit_of}
 use Rattle.comtrade_c.proofs.Laid.{laid_more, laid_all}
 use Rattle.comtrade_c.proofs.Flat.{one_bit, group_long, group_there}

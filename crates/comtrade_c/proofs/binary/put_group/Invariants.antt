@@ -1,5 +1,5 @@
 use Rattle.std.proofs.Common.{◌≡◌, ◌++◌, length, map, take, drop}
-use Rattle.comtrade_read.specs.Inner.BinaryRows.{group_bits}
+use Rattle.comtrade_format.specs.Packed.{group_bits}
 use Rattle.comtrade_c.specs.Tables.{bit_of}
 use Rattle.comtrade_c.proofs.binary.put_group.Given as goal
 

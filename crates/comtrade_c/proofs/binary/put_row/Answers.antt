@@ -1,7 +1,7 @@
 use Rattle.std.proofs.Common.{◌*◌, length, sym, ap, ◌∙◌, pos, w32, arith, rules}
 use Rattle.std.proofs.lemmas.Int.{to_z-of_z}
 use Rattle.dfr_channels.specs.declared.scan.Reading.TheVariants.{Value}
-use Rattle.comtrade_read.specs.Inner.BinaryRows.{value_at, values_at}
+use Rattle.comtrade_format.specs.Packed.{value_at, values_at}
 use Rattle.comtrade_read.proofs.Outcomes.{part_is}
 use Rattle.comtrade_c.specs.Tables.{sample_of}
 use Rattle.comtrade_c.proofs.Laid.{laid_more, laid_all}

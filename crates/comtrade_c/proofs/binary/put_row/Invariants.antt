@@ -1,5 +1,5 @@
 use Rattle.std.proofs.Common.{◌≡◌, ◌++◌, length, map, take, drop}
-use Rattle.comtrade_read.specs.Inner.BinaryRows.{values_at}
+use Rattle.comtrade_format.specs.Packed.{values_at}
 use Rattle.comtrade_c.specs.Tables.{sample_of}
 use Rattle.comtrade_c.proofs.binary.put_row.Given as goal
 

@@ -1,7 +1,7 @@
 use Rattle.std.proofs.Common.{◌≡◌, ◌≤◌, ◌+◌, ◌-◌, ◌*◌, ◌/◌, ◌++◌, length, map, take, drop, ap, ◌∙◌, arith, length-drop}
 use Rattle.std.proofs.lemmas.List.{length-take, drop_all, append-nil}
 use Rattle.byteorder.specs.Endian.{little_number}
-use Rattle.comtrade_read.specs.Inner.BinaryRows.{bits_at, group_bits}
+use Rattle.comtrade_format.specs.Packed.{bits_at, group_bits}
 use Rattle.comtrade_read.proofs.Outcomes.{part_is}
 use Rattle.comtrade_c.specs.Tables.{bit_of}
 use Rattle.comtrade_c.proofs.Flat.{group_laid, part_long}

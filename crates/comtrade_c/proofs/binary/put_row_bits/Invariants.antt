@@ -1,5 +1,5 @@
 use Rattle.std.proofs.Common.{◌≡◌, ◌*◌, ◌++◌, map, drop}
-use Rattle.comtrade_read.specs.Inner.BinaryRows.{bits_at}
+use Rattle.comtrade_format.specs.Packed.{bits_at}
 use Rattle.comtrade_c.specs.Tables.{bit_of}
 use Rattle.comtrade_c.proofs.binary.put_row_bits.Given as goal
 

@@ -1,7 +1,8 @@
 use Rattle.std.proofs.Common.{◌≡◌, ◌≤◌, ◌<◌, ℕ, List, ◌+◌, ◌-◌, ◌*◌, ◌/◌, length, map, take, drop, sym, ap, ◌∙◌, arith, rules, length-drop}
 use Rattle.std.proofs.Math.Nat.{mul-le-mul_right}
 use Rattle.comtrade_read.proofs.Outcomes.{part_is}
-use Rattle.comtrade_read.specs.Inner.BinaryRows.{stamp_at, values_at, bits_at, row_at, rows_at}
+use Rattle.comtrade_format.specs.Packed.{values_at, bits_at}
+use Rattle.comtrade_read.specs.Inner.BinaryRows.{stamp_at, row_at, rows_at}
 use Rattle.comtrade_read.specs.Reads.{row_size}
 use Rattle.comtrade_c.specs.Tables.{stamp_of, sample_of, bit_of, row_samples, row_bits}
 use Rattle.comtrade_c.proofs.Laid.{laid_more, laid_all}

@@ -1,6 +1,6 @@
 use Rattle.std.proofs.Common.{◌≡◌, ◌≤◌, ◌∙◌, ℕ, Option, ap, arith, w64, rules}
 use Rattle.std.proofs.lemmas.Int.{to_z-of_z}
-use Rattle.comtrade_values.specs.Times.{time_by, time_of}
+use Rattle.comtrade_format.specs.Times.{time_by, time_of}
 use Rattle.comtrade_c.specs.Times.{time_in}
 use Rattle.comtrade_c.proofs.Timed.{timed_more, all_timed}
 use Rattle.comtrade_c.proofs.times.put_times.Goals.{then-k-eq0, else-k-eq0}

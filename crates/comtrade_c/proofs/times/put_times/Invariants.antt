@@ -1,5 +1,5 @@
 use Rattle.std.proofs.Common.{◌≡◌, ◌≤◌, ◌++◌, ℕ, Option, take, drop}
-use Rattle.comtrade_values.specs.Times.{time_by, time_of}
+use Rattle.comtrade_format.specs.Times.{time_by, time_of}
 use Rattle.comtrade_c.specs.Times.{times_in}
 use Rattle.comtrade_c.proofs.times.put_times.Given as goal
 

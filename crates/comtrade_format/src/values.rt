@@ -1,0 +1,16 @@
+//! The numbers of a file as a program computes with them: scaled samples as decimals, exactly, and as floats, decimals as floats, instants as
+//! civil dates, when rows were taken, how many rows a cycle has.
+
+mod civil;
+mod clock;
+mod cycle;
+mod exact;
+mod nearest;
+mod scale;
+
+pub use civil::civil_of;
+pub use clock::{Clock, clock_of};
+pub use cycle::{Cycle, CycleFault, cycle_of};
+pub use exact::{exact_value, without_zeros};
+pub use nearest::nearest_f64;
+pub use scale::{Scale, scale_of};

@@ -1,0 +1,118 @@
+//! The value a * x + b of a sample, exactly.
+
+ghost use Rattle.std.specs.Prelude.{◌≡◌, ◌≢◌, ◌+◌, ◌<◌, ◌≤◌, ◌^◌, ◌*ℤ◌, pos, FitsSigned, IfNone, IfSome};
+ghost use Rattle.std.specs.Int.{w128};
+ghost use Rattle.std.specs.Int.RustNames.{int_rem};
+ghost use Rattle.std.specs.Option.{SomeIff};
+ghost use Rattle.dfr_channels.specs.Spelling.{IsNumber};
+ghost use Rattle.comtrade_format.specs.Values as Values;
+
+use dfr_channels::Decimal;
+
+fn short_product(x: i64, y: i64) -> i128
+    ensures fits { FitsSigned w128 (x *ℤ y) }
+    ensures value { result ≡ x *ℤ y }
+{
+    x as i128 * y as i128
+}
+
+/// The product; None where it has more than 128 bits. Most numbers have 64, and their product never more than 128.
+fn times(one: i128, other: i128) -> Option<i128>
+    ensures { SomeIff result (FitsSigned w128 (one *ℤ other)) (one *ℤ other) }
+{
+    if let Ok(x) = i64::try_from(one) {
+        if let Ok(y) = i64::try_from(other) {
+            return Some(short_product(x, y));
+        }
+    }
+    one.checked_mul(other)
+}
+
+/// The number times a sample; None where that has more than 36 digits.
+fn product(number: Decimal, sample: i32) -> Option<Decimal>
+    ensures { SomeIff result (IsNumber (Values.times number sample)) (Values.times number sample) }
+{
+    let units = times(number.units(), sample as i128)?;
+    Decimal::new(units, number.places())
+}
+
+/// 10^zeros, where zeros are at most 35.
+fn power(zeros: u8) -> i128
+    requires { zeros < 36 }
+    ensures { result ≡ pos (10 ^ zeros) }
+{
+    10i128.pow(zeros as u32)
+}
+
+/// The number with zeros after its places; None where it then has more than 36 digits.
+fn with_places(number: Decimal, places: u8) -> Option<Decimal>
+    requires { number.places ≤ places }
+    ensures { let longer = Values.with_places places number in
+        SomeIff result (IsNumber longer) longer }
+{
+    let zeros = places - number.places();
+    if zeros == 0 {
+        return Some(number);
+    }
+    if number.units() == 0 {
+        return Decimal::new(0, places);
+    }
+    if 36 <= zeros {
+        return None;
+    }
+    let units = times(number.units(), power(zeros))?;
+    Decimal::new(units, places)
+}
+
+/// a * x + b, with the places of the finer of a and b; None where a * x, b or the sum then has more than 36 digits.
+pub fn exact_value(a: Decimal, b: Decimal, sample: i32) -> Option<Decimal>
+    ensures { SomeIff result (Values.IsShort a b sample) (Values.value a b sample) }
+{
+    let places = a.places().max(b.places());
+    let product = with_places(product(a, sample)?, places)?;
+    let offset = with_places(b, places)?;
+    Decimal::new(product.units() + offset.units(), places)
+}
+
+/// A tenth of a whole number; None where its last digit isn't 0. Most have 64 bits, whose division is the quicker one.
+fn tenth_of(units: i128) -> Option<i128>
+    ensures none { IfNone result (int_rem units (pos 10) ≢ pos 0) }
+    ensures some { IfSome result (λ tenth. tenth *ℤ pos 10 ≡ units) }
+{
+    if let Ok(short) = i64::try_from(units) {
+        return if short % 10 == 0 {
+            Some((short / 10) as i128)
+        } else {
+            None
+        };
+    }
+    if units % 10 == 0 {
+        Some(units / 10)
+    } else {
+        None
+    }
+}
+
+/// The same number with one place fewer; None where it has none, or its last digit isn't 0.
+fn shortened(number: Decimal) -> Option<Decimal>
+    ensures none { IfNone result (Values.HasNoZero number) }
+    ensures same { IfSome result (λ n. Values.with_places number.places n ≡ number) }
+    ensures fewer { IfSome result (λ n. n.places + 1 ≡ number.places) }
+{
+    if number.places() == 0 {
+        return None;
+    }
+    let tenth = tenth_of(number.units())?;
+    Decimal::new(tenth, number.places() - 1)
+}
+
+/// The same number without zeros at the end of its places.
+pub fn without_zeros(number: Decimal) -> Decimal
+    ensures { Values.IsTrimmed number result }
+{
+    let mut trimmed = number;
+    while let Some(shorter) = shortened(trimmed) {
+        trimmed = shorter;
+    }
+    trimmed
+}

@@ -1,2 +1,0 @@
-pub mod FloatText
-pub mod Scaled
