@@ -84,6 +84,28 @@ fn text_plan<'a, A: Allocator + Copy>(
     Ok(Plan::Text(meant, mark))
 }
 
+/// The plan of data that are text, or that prove to be BINARY; None of others.
+fn shown<'a, A: Allocator + Copy>(
+    alloc: A,
+    notes: &mut Notes<A>,
+    dat: &'a [u8],
+    counts: Counts,
+    is_said: bool,
+) -> Result<Option<Plan<'a>>, ImportFault> {
+    let text = before_mark(dat);
+    if is_text(alloc, text, mark_of(text), counts) {
+        return Ok(Some(text_plan(notes, dat)?));
+    }
+    let short = look_as(dat, Form::Binary, counts);
+    if !short.is_proved() {
+        return Ok(None);
+    }
+    if is_said {
+        tell_whole(notes, Key::KindOther, "ASCII is said, BINARY is there")?;
+    }
+    Ok(Some(packed(notes, short)?))
+}
+
 /// The data where the configuration file says that they are text.
 fn said_text<'a, A: Allocator + Copy>(
     alloc: A,
@@ -91,17 +113,10 @@ fn said_text<'a, A: Allocator + Copy>(
     dat: &'a [u8],
     counts: Counts,
 ) -> Result<Plan<'a>, ImportFault> {
-    let text = before_mark(dat);
-    if is_text(alloc, text, mark_of(text), counts) {
-        return text_plan(notes, dat);
+    if let Some(plan) = shown(alloc, notes, dat, counts, true)? {
+        return Ok(plan);
     }
-    let short = look_as(dat, Form::Binary, counts);
-    if short.is_proved() {
-        tell_whole(notes, Key::KindOther, "ASCII is said, BINARY is there")?;
-        return packed(notes, short);
-    }
-    let long = look_as(dat, Form::Binary32, counts);
-    if long.is_proved() {
+    if look_as(dat, Form::Binary32, counts).is_proved() {
         return Err(ImportFault::Whole(Why::NoKind));
     }
     text_plan(notes, dat)
@@ -176,24 +191,6 @@ fn said_packed<'a, A: Allocator + Copy>(
     Ok(Plan::Packed(own.packed))
 }
 
-/// The data where the configuration file doesn't say what they are.
-fn unsaid<'a, A: Allocator + Copy>(
-    alloc: A,
-    notes: &mut Notes<A>,
-    dat: &'a [u8],
-    counts: Counts,
-) -> Result<Plan<'a>, ImportFault> {
-    let text = before_mark(dat);
-    if is_text(alloc, text, mark_of(text), counts) {
-        return text_plan(notes, dat);
-    }
-    let short = look_as(dat, Form::Binary, counts);
-    if short.is_proved() {
-        return packed(notes, short);
-    }
-    Err(ImportFault::Whole(Why::NoKind))
-}
-
 /// Tells forms that 1999 doesn't have.
 fn tell_form<A: Allocator + Copy>(notes: &mut Notes<A>, plan: Plan<'_>) -> Result<(), ImportFault> {
     match plan {
@@ -232,6 +229,9 @@ pub(crate) fn plan_of<'a, A: Allocator + Copy>(
             tell_form(notes, plan)?;
             Ok(plan)
         }
-        None => unsaid(alloc, notes, dat, counts),
+        None => {
+            let found = shown(alloc, notes, dat, counts, false)?;
+            found.ok_or(ImportFault::Whole(Why::NoKind))
+        }
     }
 }

@@ -55,49 +55,17 @@ fn small(text: &[u8]) -> Option<u32> {
     Some(n)
 }
 
+/// The months' names begin so.
+const MONTHS: [&[u8]; 12] = [
+    b"jan", b"feb", b"mar", b"apr", b"may", b"jun", b"jul", b"aug", b"sep", b"oct", b"nov", b"dec",
+];
+
 fn month_of(text: &[u8]) -> Option<u32> {
     let front = text.get(..3)?;
-    if front.eq_ignore_ascii_case(b"jan") {
-        return Some(1);
-    }
-    if front.eq_ignore_ascii_case(b"feb") {
-        return Some(2);
-    }
-    if front.eq_ignore_ascii_case(b"mar") {
-        return Some(3);
-    }
-    if front.eq_ignore_ascii_case(b"apr") {
-        return Some(4);
-    }
-    if front.eq_ignore_ascii_case(b"may") {
-        return Some(5);
-    }
-    if front.eq_ignore_ascii_case(b"jun") {
-        return Some(6);
-    }
-    month_late(front)
-}
-
-fn month_late(front: &[u8]) -> Option<u32> {
-    if front.eq_ignore_ascii_case(b"jul") {
-        return Some(7);
-    }
-    if front.eq_ignore_ascii_case(b"aug") {
-        return Some(8);
-    }
-    if front.eq_ignore_ascii_case(b"sep") {
-        return Some(9);
-    }
-    if front.eq_ignore_ascii_case(b"oct") {
-        return Some(10);
-    }
-    if front.eq_ignore_ascii_case(b"nov") {
-        return Some(11);
-    }
-    if front.eq_ignore_ascii_case(b"dec") {
-        return Some(12);
-    }
-    None
+    let at = MONTHS
+        .iter()
+        .position(|month| front.eq_ignore_ascii_case(month))?;
+    u32::try_from(at.wrapping_add(1)).ok()
 }
 
 /// What stands before a mark, and after it.

@@ -1,4 +1,5 @@
-//! COMTRADE files of C37.111-1999: the value of a pair of files, and the bytes that are written of it.
+//! COMTRADE files of C37.111-1999: the value of a pair of files, the bytes that are written of it, and its numbers as a program computes
+//! with them.
 #![tactic(auto)]
 
 mod bounds;

@@ -1,5 +1,5 @@
 //! Prints the least and the greatest value of each analogue channel of a pair of COMTRADE files: an example of a program over
-//! `comtrade_read` and `comtrade_values`.
+//! `comtrade_read` and `comtrade_format`.
 
 mod span;
 
