@@ -80,9 +80,20 @@ impl<A: Allocator> Lines<A> {
         self.end_number()
     }
 
-    fn put_bit(&mut self, bit: bool) -> Result<(), AllocError> {
-        self.separate()?;
-        Ok(self.text.push(if bit { b'1' } else { b'0' })?)
+    /// A cell for each bit, eight at once.
+    fn put_bits(&mut self, bits: &[bool]) -> Result<(), AllocError> {
+        for eight in bits.chunks(8) {
+            let mut cells = [self.spelling.separator; 16];
+            for (k, bit) in eight.iter().enumerate() {
+                if let Some(cell) = cells.get_mut(k.wrapping_mul(2).wrapping_add(1)) {
+                    *cell = if *bit { b'1' } else { b'0' };
+                }
+            }
+            let full = eight.len().wrapping_mul(2);
+            self.text
+                .extend_from_slice(cells.get(..full).unwrap_or(&[]))?;
+        }
+        Ok(())
     }
 
     /// The line of a row: number, times, values, bits.
@@ -98,9 +109,7 @@ impl<A: Allocator> Lines<A> {
         for (channel, reading) in channels.iter().zip(row.values.items()) {
             self.put_reading(scale_of(channel), *reading)?;
         }
-        for bit in row.bits.items() {
-            self.put_bit(*bit)?;
-        }
+        self.put_bits(row.bits.items())?;
         put(&mut self.text, "\r\n")
     }
 }

@@ -12,7 +12,7 @@ mod reference;
 mod sums;
 mod window;
 
-pub use course::{Course, course_of, is_current};
+pub use course::{Course, Outcome, courses_of};
 pub use fault::MeasureFault;
 pub use fit::{Measured, measured_at, measures_of};
 pub use phases::{Sequence, Three, phasor_in, sequence_of, threes_of};

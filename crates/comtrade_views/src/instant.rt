@@ -1,7 +1,7 @@
 //! Instants as dates, and spans of time.
 
-use comtrade_io::put;
 use comtrade_format::civil_of;
+use comtrade_io::put;
 use itoa::Buffer;
 use std::alloc::{AllocError, Allocator};
 

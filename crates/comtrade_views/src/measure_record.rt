@@ -1,6 +1,6 @@
 //! Where the currents of a record left their earlier course, for people.
 
-use crate::cycles::{Course, MeasureFault, Window, course_of, is_current, whole_record};
+use crate::cycles::{Course, MeasureFault, Outcome, Window, courses_of, whole_record};
 use crate::float::put_places;
 use crate::json::{Objects, put_rows_json};
 use crate::measure_tables::put_float_cell;
@@ -48,22 +48,22 @@ fn put_courses<A: Allocator + Copy>(
         "n\x1Fid\x1Fphase\x1Funit\x1Fleft at ms\x1Frow\x1Frms before\x1Fgreatest rms\x1Fms above twice that before\x1F\n",
     )?;
     let frequency = nearest_f64(alloc, file.head.line_freq)?;
-    let mut count = 0u64;
-    for (place, channel) in file.head.analog.items().iter().enumerate() {
-        if is_current(channel) {
-            count = count.saturating_add(1);
-            put_channel(table, place, channel)?;
-            match course_of(alloc, file, window, place, channel)? {
-                Some(Some(course)) => {
-                    let above = millis_of(window, frequency, course.rows_above);
-                    put_course(table, course, above, shown)?
-                }
-                Some(None) => put(table, "-\x1F-\x1F-\x1F-\x1Fstays on its course\x1F\n")?,
-                None => put(table, "-\x1F-\x1F-\x1F-\x1Freadings are missing\x1F\n")?,
+    let followed = courses_of(alloc, file, window)?;
+    for current in followed.iter() {
+        let Some(channel) = file.head.analog.items().get(current.place) else {
+            break;
+        };
+        put_channel(table, current.place, channel)?;
+        match current.outcome {
+            Outcome::Leaves(course) => {
+                let above = millis_of(window, frequency, course.rows_above);
+                put_course(table, course, above, shown)?
             }
+            Outcome::Stays => put(table, "-\x1F-\x1F-\x1F-\x1Fstays on its course\x1F\n")?,
+            Outcome::Unknown => put(table, "-\x1F-\x1F-\x1F-\x1Freadings are missing\x1F\n")?,
         }
     }
-    Ok(count)
+    Ok(followed.len() as u64)
 }
 
 const COURSES: Objects = Objects {

@@ -1,7 +1,7 @@
-//! Where a current left its earlier course.
+//! Where currents left their earlier course. The rows of a long record lie far apart in memory, so all currents are followed in one look over
+//! them, after one that finds how great they are.
 
 use crate::cycles::fault::MeasureFault;
-use crate::cycles::matrix::at;
 use crate::cycles::readings::value_in;
 use crate::cycles::window::Window;
 use comtrade_format::{File, Row, Scale, scale_of};
@@ -22,6 +22,22 @@ pub struct Course {
     pub greatest: f64,
 }
 
+/// What a current did.
+#[derive(Clone, Copy, Debug)]
+pub enum Outcome {
+    /// A reading is missing.
+    Unknown,
+    Stays,
+    Leaves(Course),
+}
+
+/// What the current of a channel, counted from 0, did.
+#[derive(Clone, Copy, Debug)]
+pub struct Followed {
+    pub place: usize,
+    pub outcome: Outcome,
+}
+
 /// Whether a channel's unit is that of currents: A with or without a prefix.
 pub fn is_current<A: Allocator>(channel: &AnalogChannel<A>) -> bool {
     matches!(
@@ -35,9 +51,21 @@ pub fn is_current<A: Allocator>(channel: &AnalogChannel<A>) -> bool {
 struct Length {
     rows: usize,
     part: f64,
+    /// Both together.
+    all: f64,
 }
 
 impl Length {
+    fn of(window: Window) -> Length {
+        let rows = usize::try_from(window.cycle.rows_in(1)).unwrap_or(usize::MAX);
+        let part = window.cycle.part();
+        Length {
+            rows,
+            part,
+            all: nearest_usize_to_f64(rows) + part,
+        }
+    }
+
     /// The first row that has a whole cycle before it.
     fn first(self) -> usize {
         if 0.0 < self.part {
@@ -48,125 +76,194 @@ impl Length {
     }
 
     /// The value a cycle before a row, on the straight line between the two rows next to that instant.
-    fn earlier(self, values: &[f64], row: usize) -> f64 {
-        let near = row.saturating_sub(self.rows);
+    fn earlier(self, near: f64, far: f64) -> f64 {
         if 0.0 < self.part {
-            let far = at(values, near.saturating_sub(1));
-            at(values, near) * (1.0 - self.part) + far * self.part
+            near * (1.0 - self.part) + far * self.part
         } else {
-            at(values, near)
+            near
         }
     }
-}
 
-/// The greatest size of some values.
-fn greatest_of(values: &[f64]) -> f64 {
-    let mut greatest = 0.0f64;
-    for value in values {
-        greatest = greatest.max(value.abs());
-    }
-    greatest
-}
-
-/// By more than what a value differs from that a cycle before where its course is left: a quarter of the greatest in the first
-/// cycle, a fiftieth of the greatest of all, and four steps of the samples.
-fn bound_of(values: &[f64], first: usize, step: f64) -> f64 {
-    let begun = match values.get(..first.min(values.len())) {
-        Some(begun) => begun,
-        None => values,
-    };
-    (greatest_of(begun) / 4.0)
-        .max(greatest_of(values) / 50.0)
-        .max(step.abs() * 4.0)
-}
-
-/// The first row of which the value differs by more than the bound from that a cycle before.
-fn left_at(values: &[f64], length: Length, bound: f64) -> Option<usize> {
-    for row in length.first()..values.len() {
-        if bound < (at(values, row) - length.earlier(values, row)).abs() {
-            return Some(row);
-        }
-    }
-    None
-}
-
-/// The mean square of the cycle that ends at a row, of the sum of squares of its whole rows.
-fn mean_square(values: &[f64], length: Length, row: usize, sum: f64) -> f64 {
-    let rest = if 0.0 < length.part && length.rows <= row {
-        let value = at(values, row.saturating_sub(length.rows));
-        value * value * length.part
-    } else {
-        0.0
-    };
-    (sum.max(0.0) + rest) / (nearest_usize_to_f64(length.rows) + length.part)
-}
-
-/// The course of values that is left at a row. A cycle is above only where it is over the bound, too.
-fn course_from(values: &[f64], length: Length, left: usize, bound: f64) -> Course {
-    let mut sum = 0.0;
-    let mut before = 0.0;
-    let mut greatest = 0.0f64;
-    let mut rows_above = 0u64;
-    for (row, value) in values.iter().enumerate() {
-        sum += value * value;
-        if length.rows <= row {
-            let gone = at(values, row.saturating_sub(length.rows));
-            sum -= gone * gone;
-        }
-        let square = mean_square(values, length, row, sum);
-        if row < left {
-            before = square;
+    /// The mean square of a cycle, of the sum of squares of its whole rows and the value of the row of which it has a part.
+    fn mean_square(self, sum: f64, value: f64) -> f64 {
+        let rest = if 0.0 < self.part {
+            value * value * self.part
         } else {
-            greatest = greatest.max(square);
-            if (before * 4.0).max(bound * bound) < square {
-                rows_above = rows_above.saturating_add(1);
-            }
-        }
-    }
-    Course {
-        row: left,
-        before: before.sqrt(),
-        rows_above,
-        greatest: greatest.sqrt(),
+            0.0
+        };
+        (sum.max(0.0) + rest) / self.all
     }
 }
 
-/// The values of a channel in all rows; none where a reading is missing.
-fn values_of<A: Allocator + Copy>(
-    alloc: A,
-    rows: &[Row<A>],
+/// A row, and the two next to the instant a cycle before it, where they are in the record.
+#[derive(Clone, Copy)]
+struct Place<'a, A: Allocator> {
+    row: usize,
+    now: &'a Row<A>,
+    near: Option<&'a Row<A>>,
+    far: Option<&'a Row<A>>,
+}
+
+/// A current on its way over the rows.
+#[derive(Clone, Copy)]
+struct Current {
     place: usize,
     scale: Scale,
-) -> Result<Option<Vec<f64, A>>, MeasureFault> {
-    let mut values = Vec::with_capacity(alloc, rows.len())?;
-    for row in rows {
-        match value_in(row, place, scale) {
-            Some(value) => values.push(value)?,
-            None => return Ok(None),
-        }
-    }
-    Ok(Some(values))
+    is_missing: bool,
+    /// The greatest size in the first cycle, and of all.
+    begun: f64,
+    greatest: f64,
+    /// By more than this its value differs from that a cycle before where it leaves its course.
+    bound: f64,
+    /// The sum of squares of the last cycle's whole rows, and the mean square of the cycle before.
+    sum: f64,
+    before: f64,
+    /// Where it left its course, with mean squares in place of rms values.
+    left: Option<Course>,
 }
 
-/// Where the current of a channel first left its earlier course in a whole record: none where a reading is missing, or nowhere.
-pub fn course_of<A: Allocator + Copy>(
+impl Current {
+    fn new(place: usize, scale: Scale) -> Current {
+        Current {
+            place,
+            scale,
+            is_missing: false,
+            begun: 0.0,
+            greatest: 0.0,
+            bound: 0.0,
+            sum: 0.0,
+            before: 0.0,
+            left: None,
+        }
+    }
+
+    /// Notes how great it is in a row.
+    fn look<A: Allocator>(&mut self, row: &Row<A>, is_begun: bool) {
+        let Some(value) = value_in(row, self.place, self.scale) else {
+            self.is_missing = true;
+            return;
+        };
+        let size = value.abs();
+        self.greatest = self.greatest.max(size);
+        if is_begun {
+            self.begun = self.begun.max(size);
+        }
+    }
+
+    /// Sets the bound: a quarter of the greatest size in the first cycle, a fiftieth of the greatest of all, and four steps of the samples.
+    fn settle(&mut self) {
+        self.bound = (self.begun / 4.0)
+            .max(self.greatest / 50.0)
+            .max(self.scale.a.abs() * 4.0);
+    }
+
+    /// Its value in a row; 0 in none.
+    fn value<A: Allocator>(self, row: Option<&Row<A>>) -> f64 {
+        match row {
+            Some(row) => value_in(row, self.place, self.scale).unwrap_or(0.0),
+            None => 0.0,
+        }
+    }
+
+    /// Follows it to a row. A cycle is above only where it is over the bound, too.
+    fn follow<A: Allocator>(&mut self, place: Place<'_, A>, length: Length) {
+        let value = self.value(Some(place.now));
+        let near = self.value(place.near);
+        self.sum = self.sum + value * value - near * near;
+        let square = length.mean_square(self.sum, near);
+        if self.left.is_none() && length.first() <= place.row {
+            let earlier = length.earlier(near, self.value(place.far));
+            if self.bound < (value - earlier).abs() {
+                self.left = Some(Course {
+                    row: place.row,
+                    before: self.before,
+                    rows_above: 0,
+                    greatest: 0.0,
+                });
+            }
+        }
+        let Some(course) = &mut self.left else {
+            self.before = square;
+            return;
+        };
+        course.greatest = course.greatest.max(square);
+        if (course.before * 4.0).max(self.bound * self.bound) < square {
+            course.rows_above = course.rows_above.saturating_add(1);
+        }
+    }
+
+    fn followed(self) -> Followed {
+        let outcome = match self.left {
+            _ if self.is_missing => Outcome::Unknown,
+            None => Outcome::Stays,
+            Some(course) => Outcome::Leaves(Course {
+                before: course.before.sqrt(),
+                greatest: course.greatest.sqrt(),
+                ..course
+            }),
+        };
+        Followed {
+            place: self.place,
+            outcome,
+        }
+    }
+}
+
+/// The currents of a file.
+fn currents_of<A: Allocator + Copy>(
+    alloc: A,
+    file: &File<A>,
+) -> Result<Vec<Current, A>, MeasureFault> {
+    let mut currents = Vec::new(alloc);
+    for (place, channel) in file.head.analog.items().iter().enumerate() {
+        if is_current(channel) {
+            currents.push(Current::new(place, scale_of(alloc, channel)?))?;
+        }
+    }
+    Ok(currents)
+}
+
+/// Finds how great the currents are.
+fn look_over<A: Allocator>(currents: &mut [Current], rows: &[Row<A>], length: Length) {
+    for (row, now) in rows.iter().enumerate() {
+        for current in currents.iter_mut() {
+            current.look(now, row < length.first());
+        }
+    }
+    for current in currents.iter_mut() {
+        current.settle();
+    }
+}
+
+/// Follows the currents over the rows.
+fn follow_over<A: Allocator>(currents: &mut [Current], rows: &[Row<A>], length: Length) {
+    for (row, now) in rows.iter().enumerate() {
+        let before = row.checked_sub(length.rows);
+        let place = Place {
+            row,
+            now,
+            near: before.and_then(|near| rows.get(near)),
+            far: before.and_then(|near| rows.get(near.checked_sub(1)?)),
+        };
+        for current in currents.iter_mut() {
+            current.follow(place, length);
+        }
+    }
+}
+
+/// Where the currents first left their earlier course in a whole record.
+pub fn courses_of<A: Allocator + Copy>(
     alloc: A,
     file: &File<A>,
     window: Window,
-    place: usize,
-    channel: &AnalogChannel<A>,
-) -> Result<Option<Option<Course>>, MeasureFault> {
-    let scale = scale_of(alloc, channel)?;
-    let Some(values) = values_of(alloc, file.rows.items(), place, scale)? else {
-        return Ok(None);
-    };
-    let length = Length {
-        rows: usize::try_from(window.cycle.rows_in(1)).unwrap_or(usize::MAX),
-        part: window.cycle.part(),
-    };
-    let bound = bound_of(&values, length.first(), scale.a);
-    match left_at(&values, length, bound) {
-        Some(row) => Ok(Some(Some(course_from(&values, length, row, bound)))),
-        None => Ok(Some(None)),
+) -> Result<Vec<Followed, A>, MeasureFault> {
+    let length = Length::of(window);
+    let mut currents = currents_of(alloc, file)?;
+    look_over(&mut currents, file.rows.items(), length);
+    follow_over(&mut currents, file.rows.items(), length);
+    let mut list = Vec::new(alloc);
+    for current in currents.iter() {
+        list.push(current.followed())?;
     }
+    Ok(list)
 }
