@@ -5,8 +5,8 @@ ghost use Rattle.std.specs.Prelude.{◌≡◌, length, IfOk};
 use crate::names::{Likeness, likeness_of};
 use crate::phases::{Hue, other_hue, phase_hue};
 use crate::survey::Survey;
-use comtrade_io::ToolFault;
 use comtrade_format::Scale;
+use comtrade_io::ToolFault;
 use dfr_channels::AnalogChannel;
 use std::alloc::{AllocError, Allocator};
 

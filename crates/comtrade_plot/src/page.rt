@@ -164,9 +164,11 @@ fn write_samples<A: Allocator + Copy, W: Write>(
     for some in surveys.chunks(8) {
         let mut channels = Vec::new(alloc);
         for survey in some {
+            let is_wide = is_wide(*survey);
+            let size = rows.len().saturating_mul(if is_wide { 4 } else { 2 });
             channels.push(Samples {
-                bytes: Vec::new(alloc),
-                is_wide: is_wide(*survey),
+                bytes: Vec::with_capacity(alloc, size)?,
+                is_wide,
             })?;
         }
         gather_samples(&mut channels, rows, n)?;
@@ -189,7 +191,7 @@ fn write_bits<A: Allocator + Copy, W: Write>(
         let mut contacts = Vec::new(alloc);
         for _ in some {
             contacts.push(Bits {
-                bytes: Vec::new(alloc),
+                bytes: Vec::with_capacity(alloc, file.rows.items().len() / 8 + 1)?,
                 byte: 0,
             })?;
         }
