@@ -5,10 +5,11 @@ use crate::part::{Taken, taken_of};
 use crate::survey::say_repairs;
 use crate::view::{NO_SIZE, options_of};
 use crate::{complain, note_size, say};
+use bumpalo::Bump;
 use comtrade_format::File;
 use comtrade_io::{Compared, Names, Part, ToolFault, put};
 use comtrade_plot::{By, CompareOptions, PlotOptions, Timed, compare_over};
-use std::alloc::Global;
+use std::alloc::Allocator;
 use std::io;
 use std::io::Write;
 use std::rt::Files;
@@ -38,15 +39,16 @@ fn part_beside<'a>(part: Part<'a>) -> Part<'a> {
 }
 
 /// The file of a record that was read; none where it has none, which is said.
-fn file_from<R: Eprint + AllocGlobal>(
+fn file_from<R: Eprint + AllocGlobal, A: Allocator + Copy>(
     rt: &R,
+    lists: A,
     name: &str,
     part: Part<'_>,
     inputs: &Inputs,
-) -> Result<Option<File>, ToolFault> {
-    let mut said = Vec::new(rt.alloc());
+) -> Result<Option<File<A>>, ToolFault> {
+    let mut said = Vec::new(lists);
     let pair = pair_of(inputs);
-    match file_spelled(rt.alloc(), pair, part.strict, part.encoding, &mut said)? {
+    match file_spelled(lists, pair, part.strict, part.encoding, &mut said)? {
         Some(file) => {
             say_repairs(rt, name, &said)?;
             Ok(Some(file))
@@ -59,12 +61,13 @@ fn file_from<R: Eprint + AllocGlobal>(
 }
 
 /// The file of a record; none where it can't be read, which is said.
-fn file_of<R: Files + Input + Eprint + AllocGlobal + Clone + Drop>(
+fn file_of<R: Files + Input + Eprint + AllocGlobal + Clone + Drop, A: Allocator + Copy>(
     rt: &R,
+    lists: A,
     is_watched: bool,
     name: &str,
     part: Part<'_>,
-) -> Result<Option<File>, ToolFault> {
+) -> Result<Option<File<A>>, ToolFault> {
     let names = Names {
         file: name,
         dat: None,
@@ -74,33 +77,34 @@ fn file_of<R: Files + Input + Eprint + AllocGlobal + Clone + Drop>(
     };
     say_repairs(rt, name, &inputs.said)?;
     note_size(rt, is_watched, &inputs);
-    file_from(rt, name, part, &inputs)
+    file_from(rt, lists, name, part, &inputs)
 }
 
 /// The record of a name; none where it can't be read or has no such part, which is said.
-fn record_of<R: Files + Input + Eprint + AllocGlobal + Clone + Drop>(
+fn record_of<R: Files + Input + Eprint + AllocGlobal + Clone + Drop, A: Allocator + Copy>(
     rt: &R,
+    lists: A,
     is_watched: bool,
     name: &str,
     part: Part<'_>,
-) -> Result<Option<Taken>, ToolFault> {
-    let Some(file) = file_of(rt, is_watched, name, part)? else {
+) -> Result<Option<Taken<A>>, ToolFault> {
+    let Some(file) = file_of(rt, lists, is_watched, name, part)? else {
         return Ok(None);
     };
-    let mut said = Vec::new(rt.alloc());
-    let taken = taken_of(rt.alloc(), file, part, &mut said)?;
+    let mut said = Vec::new(lists);
+    let taken = taken_of(lists, file, part, &mut said)?;
     say(rt, &said);
     Ok(taken)
 }
 
 /// Prints the picture of two records; false where they can't be compared, which is put to `said`.
-fn put_compared<W: Write>(
-    alloc: Global,
-    one: &Taken,
-    other: &Taken,
+fn put_compared<A: Allocator + Copy, W: Write>(
+    alloc: A,
+    one: &Taken<A>,
+    other: &Taken<A>,
     options: CompareOptions,
     w: &mut W,
-    said: &mut Vec<u8>,
+    said: &mut Vec<u8, A>,
 ) -> Result<bool, ToolFault> {
     let first = Timed {
         file: &one.file,
@@ -122,15 +126,15 @@ fn put_compared<W: Write>(
 }
 
 /// Draws two records; false where that is refused, which is said.
-fn draw<R: Print + Eprint + AllocGlobal>(
+fn draw<R: Print + Eprint, A: Allocator + Copy>(
     rt: &R,
-    one: &Taken,
-    other: &Taken,
+    lists: A,
+    one: &Taken<A>,
+    other: &Taken<A>,
     options: CompareOptions,
 ) -> Result<bool, ToolFault> {
-    let mut said = Vec::new(rt.alloc());
-    let (alloc, mut out) = (rt.alloc(), io::writer(rt));
-    let is_drawn = put_compared(alloc, one, other, options, &mut out, &mut said)?;
+    let (mut said, mut out) = (Vec::new(lists), io::writer(rt));
+    let is_drawn = put_compared(lists, one, other, options, &mut out, &mut said)?;
     say(rt, &said);
     Ok(is_drawn)
 }
@@ -148,11 +152,12 @@ fn compare<R: Files + Input + Print + Eprint + AllocGlobal + Clone + Drop>(
         picture,
         is_chosen: asked.part.channels.is_some(),
     };
-    let Some(one) = record_of(rt, is_watched, asked.one, asked.part)? else {
+    let lists = Bump::new(rt.alloc());
+    let Some(one) = record_of(rt, &lists, is_watched, asked.one, asked.part)? else {
         return Ok(false);
     };
-    match record_of(rt, is_watched, asked.other, part_beside(asked.part))? {
-        Some(other) => draw(rt, &one, &other, options),
+    match record_of(rt, &lists, is_watched, asked.other, part_beside(asked.part))? {
+        Some(other) => draw(rt, &lists, &one, &other, options),
         None => Ok(false),
     }
 }

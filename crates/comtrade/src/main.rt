@@ -19,9 +19,10 @@ use crate::extract::run_extract;
 use crate::import::run_import;
 use crate::load::{Inputs, pair_of, read_inputs, read_pair};
 use crate::survey::run_survey;
-use crate::view::view_over;
+use crate::view::{Room, view_over};
 use crate::words::{refuse_start, refuse_words, words_of};
 use crate::write::run_convert;
+use bumpalo::Bump;
 use comtrade_diagnostics::{Pair, put_single};
 use comtrade_io::{
     Answer, Asked, ToolFault, View, Viewed, answer_of, fault_of, put_safe, read_up_to, write_out,
@@ -110,15 +111,13 @@ fn print_view<R: Print + Eprint + AllocGlobal>(
     viewed: Viewed<'_>,
     pair: Pair<'_>,
 ) -> u8 {
-    let mut said = Vec::new(rt.alloc());
-    match view_over(
-        rt.alloc(),
-        view,
-        viewed,
-        pair,
-        &mut io::writer(rt),
-        &mut said,
-    ) {
+    let lists = Bump::new(rt.alloc());
+    let mut said = Vec::new(&lists);
+    let room = Room {
+        texts: rt.alloc(),
+        lists: &lists,
+    };
+    match view_over(room, view, viewed, pair, &mut io::writer(rt), &mut said) {
         Ok(true) => {
             say(rt, &said);
             0

@@ -1,9 +1,10 @@
 //! `comtrade measure`: what is measured in a record, or in a part of it.
 
 use crate::part::Taken;
+use crate::view::Room;
 use comtrade_io::{Cursor, Part, ToolFault, Viewed, put, write_out};
 use comtrade_views::{MeasureFault, Measuring, Shown, measure_text};
-use std::alloc::Global;
+use std::alloc::Allocator;
 use std::io::Write;
 
 const TWICE: &str = "comtrade: --at says one moment, and stands in the place of --from and --to\n";
@@ -21,9 +22,9 @@ fn measuring_of<'a>(part: Part<'a>, cursor: Cursor<'a>) -> Measuring<'a> {
 }
 
 /// The part that is measured, which ends with the moment where one is said; none where a window is said beside it, which is put to `said`.
-pub(crate) fn measured_part<'a>(
+pub(crate) fn measured_part<'a, A: Allocator>(
     viewed: Viewed<'a>,
-    said: &mut Vec<u8>,
+    said: &mut Vec<u8, A>,
 ) -> Result<Option<Part<'a>>, ToolFault> {
     let part = viewed.part;
     let Some(at) = viewed.cursor.at else {
@@ -40,12 +41,12 @@ pub(crate) fn measured_part<'a>(
 }
 
 /// Prints what is measured in a record or the part of it that is asked for; false where that is refused, which is put to `said`.
-pub(crate) fn measure_over<W: Write>(
-    alloc: Global,
+pub(crate) fn measure_over<A: Allocator + Copy, W: Write>(
+    room: Room<A>,
     viewed: Viewed<'_>,
-    taken: &Taken,
+    taken: &Taken<A>,
     w: &mut W,
-    said: &mut Vec<u8>,
+    said: &mut Vec<u8, A>,
 ) -> Result<bool, ToolFault> {
     let shown = Shown {
         times: &taken.times,
@@ -53,7 +54,8 @@ pub(crate) fn measure_over<W: Write>(
         json: viewed.json,
     };
     match measure_text(
-        alloc,
+        room.texts,
+        room.lists,
         &taken.file,
         measuring_of(viewed.part, viewed.cursor),
         shown,
@@ -64,7 +66,7 @@ pub(crate) fn measure_over<W: Write>(
         }
         Err(MeasureFault::Memory) => Err(ToolFault::Memory),
         Err(fault) => {
-            let text = format!(in alloc; "comtrade: {fault}\n")?;
+            let text = format!(in room.texts; "comtrade: {fault}\n")?;
             put(said, text.as_str())?;
             Ok(false)
         }

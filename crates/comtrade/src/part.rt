@@ -3,13 +3,13 @@
 use comtrade_format::File;
 use comtrade_io::{Part, ToolFault, put, put_safe};
 use comtrade_views::{Cut, PartFault, is_whole, part_of, times_since_trigger};
-use std::alloc::{Allocator, Global};
+use std::alloc::Allocator;
 
 /// A record or a part of it, when its rows were taken, in nanoseconds since its trigger, and how many rows of the record stand before them.
 #[derive(Drop)]
-pub(crate) struct Taken {
-    pub(crate) file: File,
-    pub(crate) times: Vec<Option<i64>>,
+pub(crate) struct Taken<A: Allocator> {
+    pub(crate) file: File<A>,
+    pub(crate) times: Vec<Option<i64>, A>,
     pub(crate) before: usize,
 }
 
@@ -29,12 +29,12 @@ pub(crate) fn put_part_fault<A: Allocator + Copy>(
 }
 
 /// The part of a file that is asked for; none where it has none, which is put to `said`.
-pub(crate) fn taken_of(
-    alloc: Global,
-    file: File,
+pub(crate) fn taken_of<A: Allocator + Copy>(
+    alloc: A,
+    file: File<A>,
     part: Part<'_>,
-    said: &mut Vec<u8>,
-) -> Result<Option<Taken>, ToolFault> {
+    said: &mut Vec<u8, A>,
+) -> Result<Option<Taken<A>>, ToolFault> {
     let times = times_since_trigger(alloc, &file)?;
     if is_whole(part) {
         return Ok(Some(Taken {

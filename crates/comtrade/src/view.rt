@@ -8,7 +8,7 @@ use comtrade_format::File;
 use comtrade_io::{Picture, ToolFault, View, Viewed, put, write_out};
 use comtrade_plot::{PlotOptions, page_over, plot_over};
 use comtrade_views::{Spelling, csv_over, put_text, show_json, show_over};
-use std::alloc::{AllocError, Global};
+use std::alloc::{AllocError, Allocator, Global};
 use std::io::Write;
 
 const NO_SPELLING: &str = "\
@@ -17,6 +17,13 @@ separator\n";
 
 pub(crate) const NO_SIZE: &str =
     "comtrade: --width and --height are whole numbers of pixels from 1 to 100000\n";
+
+/// Where texts lie, and where the lists of a file do, which are given up together.
+#[derive(Clone, Copy)]
+pub(crate) struct Room<A: Allocator> {
+    pub(crate) texts: Global,
+    pub(crate) lists: A,
+}
 
 /// How values are spelled, and how a picture is drawn.
 #[derive(Clone, Copy)]
@@ -56,36 +63,36 @@ pub(crate) fn options_of(picture: Picture<'_>) -> Option<PlotOptions> {
 }
 
 /// Prints what is asked of a file, whose rows were taken at these times, in nanoseconds since the trigger.
-fn put_view<W: Write>(
-    alloc: Global,
+fn put_view<A: Allocator + Copy, W: Write>(
+    room: Room<A>,
     view: View,
     look: Look,
-    file: &File,
+    file: &File<A>,
     times: &[Option<i64>],
     w: &mut W,
 ) -> Result<(), ToolFault> {
     match view {
-        View::Csv => csv_over(alloc, file, times, look.spelling, w),
-        View::Plot => plot_over(alloc, file, times, look.options, w),
-        View::Page => page_over(alloc, file, times, w),
-        _ if look.json => write_out(w, &show_json(alloc, file, times)?),
-        _ => show_over(alloc, file, times, w),
+        View::Csv => csv_over(room.lists, file, times, look.spelling, w),
+        View::Plot => plot_over(room.lists, file, times, look.options, w),
+        View::Page => page_over(room.lists, file, times, w),
+        _ if look.json => write_out(w, &show_json(room.texts, room.lists, file, times)?),
+        _ => show_over(room.lists, file, times, w),
     }
 }
 
 /// Prints the verdict on a pair, as text or as JSON.
-fn check<W: Write>(
-    alloc: Global,
+fn check<A: Allocator + Copy, W: Write>(
+    room: Room<A>,
     viewed: Viewed<'_>,
     pair: Pair<'_>,
     w: &mut W,
 ) -> Result<bool, ToolFault> {
     if !viewed.json {
-        return check_over(alloc, pair, w);
+        return check_over(room.lists, pair, w);
     }
-    let mut text = Vec::new(alloc);
-    let is_sound = check_over(alloc, pair, &mut text)?;
-    let out = verdict_json(alloc, is_sound, &text)?;
+    let mut text = Vec::new(room.lists);
+    let is_sound = check_over(room.lists, pair, &mut text)?;
+    let out = verdict_json(room.texts, is_sound, &text)?;
     write_out(w, &out)?;
     Ok(is_sound)
 }
@@ -115,7 +122,10 @@ fn verdict_json(alloc: Global, is_sound: bool, text: &[u8]) -> Result<Vec<u8>, A
 }
 
 /// How it is spelled and drawn; None where a separator or a size isn't one, which is put to `said`.
-fn look_of(viewed: Viewed<'_>, said: &mut Vec<u8>) -> Result<Option<Look>, ToolFault> {
+fn look_of<A: Allocator>(
+    viewed: Viewed<'_>,
+    said: &mut Vec<u8, A>,
+) -> Result<Option<Look>, ToolFault> {
     let Some(spelling) = Spelling::of(viewed.form.separator, viewed.form.decimal) else {
         put(said, NO_SPELLING)?;
         return Ok(None);
@@ -132,14 +142,14 @@ fn look_of(viewed: Viewed<'_>, said: &mut Vec<u8>) -> Result<Option<Look>, ToolF
 }
 
 /// Prints what is asked of a part of a file; false where it has none, which is put to `said`.
-fn view_file<W: Write>(
-    alloc: Global,
+fn view_file<A: Allocator + Copy, W: Write>(
+    room: Room<A>,
     view: View,
     viewed: Viewed<'_>,
     look: Look,
-    file: File,
+    file: File<A>,
     w: &mut W,
-    said: &mut Vec<u8>,
+    said: &mut Vec<u8, A>,
 ) -> Result<bool, ToolFault> {
     let part = if view == View::Measure {
         measured_part(viewed, said)?
@@ -149,10 +159,10 @@ fn view_file<W: Write>(
     let Some(part) = part else {
         return Ok(false);
     };
-    match taken_of(alloc, file, part, said)? {
-        Some(taken) if view == View::Measure => measure_over(alloc, viewed, &taken, w, said),
+    match taken_of(room.lists, file, part, said)? {
+        Some(taken) if view == View::Measure => measure_over(room, viewed, &taken, w, said),
         Some(taken) => {
-            put_view(alloc, view, look, &taken.file, &taken.times, w)?;
+            put_view(room, view, look, &taken.file, &taken.times, w)?;
             Ok(true)
         }
         None => Ok(false),
@@ -162,29 +172,30 @@ fn view_file<W: Write>(
 /// Prints what is asked of a part of a pair: false where the pair has a fault, or no such part. The fault's line is what `Check` prints;
 /// the others put it to `said` and print nothing. The repairs of a pair that isn't read exactly are put to `said`, too, and of a pair that
 /// is shown and has no fault what is odd about it.
-pub(crate) fn view_over<W: Write>(
-    alloc: Global,
+pub(crate) fn view_over<A: Allocator + Copy, W: Write>(
+    room: Room<A>,
     view: View,
     viewed: Viewed<'_>,
     pair: Pair<'_>,
     w: &mut W,
-    said: &mut Vec<u8>,
+    said: &mut Vec<u8, A>,
 ) -> Result<bool, ToolFault> {
     if view == View::Check {
-        return check(alloc, viewed, pair, w);
+        return check(room, viewed, pair, w);
     }
     let Some(look) = look_of(viewed, said)? else {
         return Ok(false);
     };
-    let found = file_spelled(alloc, pair, viewed.part.strict, viewed.part.encoding, said)?;
+    let part = viewed.part;
+    let found = file_spelled(room.lists, pair, part.strict, part.encoding, said)?;
     if let Some(file) = &found
         && view == View::Show
         && said.is_empty()
     {
-        put_remarks(alloc, said, pair, file)?;
+        put_remarks(room.lists, said, pair, file)?;
     }
     match found {
-        Some(file) => view_file(alloc, view, viewed, look, file, w, said),
+        Some(file) => view_file(room, view, viewed, look, file, w, said),
         None => Ok(false),
     }
 }

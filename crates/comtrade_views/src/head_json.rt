@@ -9,7 +9,7 @@ use crate::show_analog::analog_table;
 use crate::show_status::contact_table;
 use comtrade_format::{File, Head};
 use comtrade_io::{ToolFault, kind_name, put, put_with};
-use std::alloc::{AllocError, Global};
+use std::alloc::{AllocError, Allocator, Global};
 
 const ANALOG: Objects = Objects {
     before: ",\"analog\":",
@@ -30,7 +30,7 @@ fn put_when(alloc: Global, out: &mut Vec<u8>, key: &str, instant: i64) -> Result
 }
 
 /// The rates, as the file says them: none where the stamps say when rows were taken.
-fn put_rates(out: &mut Vec<u8>, head: &Head) -> Result<(), AllocError> {
+fn put_rates<A: Allocator>(out: &mut Vec<u8>, head: &Head<A>) -> Result<(), AllocError> {
     put(out, ",\"rates\":[")?;
     let mut before = "{\"rate\":";
     for rate in head.rates.items() {
@@ -46,7 +46,11 @@ fn put_rates(out: &mut Vec<u8>, head: &Head) -> Result<(), AllocError> {
 }
 
 /// What the configuration file says beside its channels.
-fn put_head(alloc: Global, out: &mut Vec<u8>, file: &File) -> Result<(), AllocError> {
+fn put_head<A: Allocator>(
+    alloc: Global,
+    out: &mut Vec<u8>,
+    file: &File<A>,
+) -> Result<(), AllocError> {
     let head = &file.head;
     put(out, "{\"station\":")?;
     put_text(alloc, out, head.station.items())?;
@@ -65,24 +69,30 @@ fn put_head(alloc: Global, out: &mut Vec<u8>, file: &File) -> Result<(), AllocEr
 }
 
 /// What is in a file.
-fn put_file(
+fn put_file<A: Allocator + Copy>(
     alloc: Global,
+    lists: A,
     out: &mut Vec<u8>,
-    file: &File,
+    file: &File<A>,
     clock: Clock<'_>,
 ) -> Result<(), AllocError> {
     put_head(alloc, out, file)?;
-    let analog = analog_table(alloc, file, clock, &peaks_of(alloc, file)?)?;
+    let analog = analog_table(lists, file, clock, &peaks_of(lists, file)?)?;
     put_rows_json(alloc, out, ANALOG, &analog)?;
     drop(analog);
-    put_rows_json(alloc, out, STATUS, &contact_table(alloc, file, clock)?)?;
+    put_rows_json(alloc, out, STATUS, &contact_table(lists, file, clock)?)?;
     put(out, "}\n")
 }
 
 /// What is in a file as an object of JSON, whose rows were taken at these times, in nanoseconds since the trigger.
-pub fn show_json(alloc: Global, file: &File, times: &[Option<i64>]) -> Result<Vec<u8>, ToolFault> {
+pub fn show_json<A: Allocator + Copy>(
+    alloc: Global,
+    lists: A,
+    file: &File<A>,
+    times: &[Option<i64>],
+) -> Result<Vec<u8>, ToolFault> {
     let clock = Clock { times, trigger: 0 };
     let mut out = Vec::new(alloc);
-    put_file(alloc, &mut out, file, clock)?;
+    put_file(alloc, lists, &mut out, file, clock)?;
     Ok(out)
 }

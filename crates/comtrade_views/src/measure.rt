@@ -44,7 +44,7 @@ fn put_window<A: Allocator>(
 
 /// From which channel angles are counted.
 fn put_reference<A: Allocator>(
-    out: &mut Vec<u8, A>,
+    out: &mut Vec<u8>,
     file: &File<A>,
     reference: Option<usize>,
 ) -> Result<(), AllocError> {
@@ -118,9 +118,9 @@ fn measures_with<A: Allocator + Copy>(
 }
 
 /// What was measured, for people.
-fn put_measures<A: Allocator + Copy>(
-    alloc: A,
-    out: &mut Vec<u8, A>,
+fn put_measures<A: Allocator>(
+    alloc: Global,
+    out: &mut Vec<u8>,
     file: &File<A>,
     measures: &Measures<A>,
     shown: Shown<'_>,
@@ -148,22 +148,17 @@ fn put_measures<A: Allocator + Copy>(
 }
 
 /// What is measured over a window's whole cycles, as text or as JSON.
-fn put_window_of(
+fn put_window_of<A: Allocator + Copy>(
     alloc: Global,
+    lists: A,
     out: &mut Vec<u8>,
-    file: &File,
+    file: &File<A>,
     window: Window,
     name: Option<&str>,
     shown: Shown<'_>,
 ) -> Result<(), MeasureFault> {
-    let made = measures_with(
-        alloc,
-        file,
-        window,
-        name,
-        shown,
-        &measures_of(alloc, file, window)?,
-    )?;
+    let measures = measures_of(lists, file, window)?;
+    let made = measures_with(lists, file, window, name, shown, &measures)?;
     let outcome = if shown.json {
         put_measures_json(alloc, out, &made, shown)
     } else {
@@ -173,32 +168,31 @@ fn put_window_of(
 }
 
 /// What is measured in a record.
-fn put_measuring(
+fn put_measuring<A: Allocator + Copy>(
     alloc: Global,
+    lists: A,
     out: &mut Vec<u8>,
-    file: &File,
+    file: &File<A>,
     measuring: Measuring<'_>,
     shown: Shown<'_>,
 ) -> Result<(), MeasureFault> {
-    match measuring {
-        Measuring::Course => put_record(alloc, out, file, shown),
-        Measuring::LastCycle(name) => {
-            put_window_of(alloc, out, file, last_cycle(file)?, name, shown)
-        }
-        Measuring::WholeCycles(name) => {
-            put_window_of(alloc, out, file, whole_cycles(file)?, name, shown)
-        }
-    }
+    let (window, name) = match measuring {
+        Measuring::Course => return put_record(alloc, lists, out, file, shown),
+        Measuring::LastCycle(name) => (last_cycle(file)?, name),
+        Measuring::WholeCycles(name) => (whole_cycles(file)?, name),
+    };
+    put_window_of(alloc, lists, out, file, window, name, shown)
 }
 
 /// The text of what is measured in a record. Refused where rows can't be measured, and where the channel that is named has no angle.
-pub fn measure_text(
+pub fn measure_text<A: Allocator + Copy>(
     alloc: Global,
-    file: &File,
+    lists: A,
+    file: &File<A>,
     measuring: Measuring<'_>,
     shown: Shown<'_>,
 ) -> Result<Vec<u8>, MeasureFault> {
     let mut out = Vec::new(alloc);
-    put_measuring(alloc, &mut out, file, measuring, shown)?;
+    put_measuring(alloc, lists, &mut out, file, measuring, shown)?;
     Ok(out)
 }

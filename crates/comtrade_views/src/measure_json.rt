@@ -4,7 +4,7 @@ use crate::json::{Objects, put_rows_json};
 use crate::measure::Measures;
 use crate::shown::Shown;
 use comtrade_io::{put, put_number, put_with};
-use std::alloc::{AllocError, Global};
+use std::alloc::{AllocError, Allocator, Global};
 
 const CHANNELS: Objects = Objects {
     before: ",\"channels\":",
@@ -22,10 +22,10 @@ const SEQUENCES: Objects = Objects {
 };
 
 /// What was measured, as an object of JSON.
-pub(crate) fn put_measures_json(
+pub(crate) fn put_measures_json<A: Allocator>(
     alloc: Global,
     out: &mut Vec<u8>,
-    measures: &Measures<Global>,
+    measures: &Measures<A>,
     shown: Shown<'_>,
 ) -> Result<(), AllocError> {
     let window = measures.window;

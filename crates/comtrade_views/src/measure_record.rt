@@ -96,15 +96,16 @@ fn put_record_table(
 }
 
 /// Where the currents of a record first left their earlier course.
-pub(crate) fn put_record(
+pub(crate) fn put_record<A: Allocator + Copy>(
     alloc: Global,
+    lists: A,
     out: &mut Vec<u8>,
-    file: &File,
+    file: &File<A>,
     shown: Shown<'_>,
 ) -> Result<(), MeasureFault> {
     let window = whole_record(file)?;
-    let mut table = Vec::new(alloc);
-    let count = put_courses(alloc, &mut table, file, window, shown)?;
+    let mut table = Vec::new(lists);
+    let count = put_courses(lists, &mut table, file, window, shown)?;
     put_record_table(alloc, out, &table, count, window, shown.json)?;
     Ok(())
 }

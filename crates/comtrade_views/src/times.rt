@@ -10,7 +10,7 @@ pub(crate) fn times_of<A: Allocator + Copy>(
     alloc: A,
     file: &File<A>,
 ) -> Result<Vec<Option<i64>, A>, ToolFault> {
-    let mut times = Vec::new(alloc);
+    let mut times = Vec::with_capacity(alloc, file.rows.items().len())?;
     let mut clock = clock_of(&file.head);
     for (i, row) in file.rows.items().iter().enumerate() {
         clock = clock.at(i as u64);
