@@ -2,7 +2,7 @@
 
 use crate::column_names::write_names;
 use crate::instant::put_instant;
-use crate::number::{Number, Scale, put_sample, put_value, scale_of};
+use crate::number::{Scale, put_sample, put_shortened, scale_of};
 use crate::spelling::Spelling;
 use comtrade_format::{File, Row};
 use comtrade_io::{ToolFault, flush_if_full, put, put_number, write_out};
@@ -59,11 +59,7 @@ impl<A: Allocator> Lines<A> {
         put_instant(&mut self.cell, (trigger as i128).saturating_add(micros))?;
         self.end_quoted()?;
         self.separate()?;
-        let millis = Number {
-            units: since as i128,
-            exponent: -6,
-        };
-        put_value(&mut self.cell, millis)?;
+        put_shortened(&mut self.cell, since, 6)?;
         self.end_number()
     }
 

@@ -1,22 +1,44 @@
 //! Instants as dates, and spans of time.
 
-use comtrade_format::civil_of;
 use comtrade_io::put;
 use itoa::Buffer;
+use jiff_core::civil::Date;
 use std::alloc::{AllocError, Allocator};
 
-/// A number with zeros in front, `width` digits at least.
-pub(crate) fn put_padded<A: Allocator>(
-    out: &mut Vec<u8, A>,
-    n: u64,
-    width: usize,
-) -> Result<(), AllocError> {
-    let mut buffer = Buffer::new();
-    let digits = buffer.format(n).as_bytes();
-    for _ in digits.len()..width {
-        out.extend_from_slice(b"0")?;
+/// Microseconds.
+const DAY: i64 = 86_400_000_000;
+
+/// Sets digits of a text to those of a number, from its last one on.
+fn set_digits(digits: &mut [u8], n: u64) {
+    let mut left = n;
+    for digit in digits.iter_mut().rev() {
+        *digit = b'0' + (left % 10) as u8;
+        left /= 10;
     }
-    out.extend_from_slice(digits)
+}
+
+/// Sets the digits of a text between two places.
+fn set_between(text: &mut [u8], from: usize, to: usize, n: u64) {
+    if let Some(digits) = text.get_mut(from..to) {
+        set_digits(digits, n);
+    }
+}
+
+/// A date, and a time of that day in microseconds.
+fn put_civil<A: Allocator>(
+    out: &mut Vec<u8, A>,
+    date: Date,
+    micros: u64,
+) -> Result<(), AllocError> {
+    let mut text = *b"0000-00-00 00:00:00.000000";
+    set_between(&mut text, 0, 4, date.year.unsigned_abs() as u64);
+    set_between(&mut text, 5, 7, date.month.unsigned_abs() as u64);
+    set_between(&mut text, 8, 10, date.day.unsigned_abs() as u64);
+    set_between(&mut text, 11, 13, micros / 3_600_000_000);
+    set_between(&mut text, 14, 16, micros / 60_000_000 % 60);
+    set_between(&mut text, 17, 19, micros / 1_000_000 % 60);
+    set_between(&mut text, 20, 26, micros % 1_000_000);
+    out.extend_from_slice(&text)
 }
 
 /// Microseconds since 1970-01-01 00:00:00 as `yyyy-mm-dd hh:mm:ss.ssssss`; an instant outside the years 1 to 9999 has a text.
@@ -24,24 +46,21 @@ pub(crate) fn put_instant<A: Allocator>(
     out: &mut Vec<u8, A>,
     instant: i128,
 ) -> Result<(), AllocError> {
-    let civil = match i64::try_from(instant) {
-        Ok(near) => civil_of(near),
-        Err(_) => None,
-    };
-    let civil = match civil {
-        Some(civil) if 1 <= civil.date.year => civil,
-        _ if instant < 0 => return put(out, "before the year 1"),
-        _ => return put(out, "after the year 9999"),
-    };
-    put_padded(out, civil.date.year.unsigned_abs() as u64, 4)?;
-    let (date, time) = (civil.date, civil.time);
-    let parts = [date.month, date.day, time.hour, time.minute, time.second];
-    for (before, n) in ["-", "-", " ", ":", ":"].iter().zip(parts.iter()) {
-        put(out, before)?;
-        put_padded(out, *n as u64, 2)?;
+    if let Ok(near) = i64::try_from(instant) {
+        if let Ok(date) = Date::from_unix_epoch_day(near.div_euclid(DAY)) {
+            if 1 <= date.year {
+                return put_civil(out, date, near.rem_euclid(DAY).unsigned_abs());
+            }
+        }
     }
-    put(out, ".")?;
-    put_padded(out, (civil.time.subsec_nanosecond / 1000) as u64, 6)
+    put(
+        out,
+        if instant < 0 {
+            "before the year 1"
+        } else {
+            "after the year 9999"
+        },
+    )
 }
 
 /// Nanoseconds as milliseconds with three places.
@@ -55,6 +74,7 @@ pub(crate) fn put_millis<A: Allocator>(
     }
     let mut buffer = Buffer::new();
     out.extend_from_slice(buffer.format(us / 1000).as_bytes())?;
-    out.extend_from_slice(b".")?;
-    put_padded(out, (us % 1000) as u64, 3)
+    let mut places = *b".000";
+    set_between(&mut places, 1, 4, (us % 1000) as u64);
+    out.extend_from_slice(&places)
 }

@@ -126,6 +126,24 @@ pub(crate) fn put_sample<A: Allocator>(
     }
 }
 
+/// The number units / 10^places without zeros at its end.
+pub(crate) fn put_shortened<A: Allocator>(
+    out: &mut Vec<u8, A>,
+    units: i64,
+    places: u8,
+) -> Result<(), AllocError> {
+    match Decimal::new(units as i128, places) {
+        Some(number) => put_exact(out, without_zeros(number)),
+        None => put_value(
+            out,
+            Number {
+                units: units as i128,
+                exponent: -(places as i32),
+            },
+        ),
+    }
+}
+
 /// The number rounded to six digits.
 pub(crate) fn rounded(number: Number) -> Number {
     let seven = cut(number, 10_000_000);
