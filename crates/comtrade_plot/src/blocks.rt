@@ -10,6 +10,9 @@ use std::alloc::{AllocError, Allocator};
 use std::io::Write;
 use std::num::{f64_to_bits_with_nan, nearest_i64_to_f64};
 
+/// So many bytes are encoded at once: a multiple of three.
+const PIECE: usize = 49_152;
+
 /// Writes a block of the page, whose name is a word, or a letter and a number.
 pub(crate) fn write_block<A: Allocator + Copy, W: Write>(
     alloc: A,
@@ -18,7 +21,6 @@ pub(crate) fn write_block<A: Allocator + Copy, W: Write>(
     bytes: &[u8],
     w: &mut W,
 ) -> Result<(), ToolFault> {
-    let text = STANDARD.encode(alloc, bytes)?;
     let mut head = Sheet::new(alloc);
     head.texts(&["<script type=\"text/plain\" id=\"", name]);
     if let Some(n) = number {
@@ -26,7 +28,12 @@ pub(crate) fn write_block<A: Allocator + Copy, W: Write>(
     }
     head.text("\">");
     head.write(w)?;
-    write_out(w, text.as_bytes())?;
+    let mut text = String::new(alloc);
+    for piece in bytes.chunks(PIECE) {
+        text.clear();
+        STANDARD.encode_string(piece, &mut text)?;
+        write_out(w, text.as_bytes())?;
+    }
     write_out(w, b"</script>\n")
 }
 
@@ -110,7 +117,7 @@ pub(crate) fn times_of_rows<A: Allocator + Copy>(
     alloc: A,
     times: &[Option<i64>],
 ) -> Result<Vec<u8, A>, AllocError> {
-    let mut bytes = Vec::new(alloc);
+    let mut bytes = Vec::with_capacity(alloc, times.len().saturating_mul(8))?;
     let mut last: Option<i64> = None;
     for time in times {
         let time = match (*time, last) {

@@ -153,6 +153,27 @@ fn put_begin<A: Allocator>(sheet: &mut Sheet<A>, file: &File<A>) {
     sheet.text(BODY);
 }
 
+/// Begins with the samples of a channel, in the room of one that is written, where there is one at this place.
+fn begin_samples<A: Allocator + Copy>(
+    alloc: A,
+    channels: &mut Vec<Samples<A>, A>,
+    place: usize,
+    is_wide: bool,
+    rows: usize,
+) -> Result<(), AllocError> {
+    if let Some(channel) = channels.get_mut(place) {
+        channel.bytes.clear();
+        channel.is_wide = is_wide;
+        return Ok(());
+    }
+    let size = rows.saturating_mul(if is_wide { 4 } else { 2 });
+    channels.push(Samples {
+        bytes: Vec::with_capacity(alloc, size)?,
+        is_wide,
+    })?;
+    Ok(())
+}
+
 /// Writes the samples of all channels, some of them by one look over the rows, whose readings lie apart.
 fn write_samples<A: Allocator + Copy, W: Write>(
     alloc: A,
@@ -161,18 +182,14 @@ fn write_samples<A: Allocator + Copy, W: Write>(
     w: &mut W,
 ) -> Result<(), ToolFault> {
     let mut n = 0usize;
+    let mut channels: Vec<Samples<A>, A> = Vec::with_capacity(alloc, 8)?;
     for some in surveys.chunks(8) {
-        let mut channels = Vec::new(alloc);
-        for survey in some {
-            let is_wide = is_wide(*survey);
-            let size = rows.len().saturating_mul(if is_wide { 4 } else { 2 });
-            channels.push(Samples {
-                bytes: Vec::with_capacity(alloc, size)?,
-                is_wide,
-            })?;
+        for (i, survey) in some.iter().enumerate() {
+            begin_samples(alloc, &mut channels, i, is_wide(*survey), rows.len())?;
         }
-        gather_samples(&mut channels, rows, n)?;
-        for channel in &channels {
+        let channels = channels.get_mut(..some.len()).unwrap_or(&mut []);
+        gather_samples(channels, rows, n)?;
+        for channel in channels.iter() {
             write_block(alloc, "s", Some(n), &channel.bytes, w)?;
             n = n.saturating_add(1);
         }

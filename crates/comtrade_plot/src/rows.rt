@@ -34,7 +34,7 @@ pub(crate) fn kept_times<A: Allocator + Copy>(
     file: &File<A>,
     times: &[Option<i64>],
 ) -> Result<Vec<Option<i64>, A>, ToolFault> {
-    let mut kept = Vec::new(alloc);
+    let mut kept = Vec::with_capacity(alloc, times.len())?;
     for (row, time) in file.rows.items().iter().zip(times.iter()) {
         kept.push(if is_lost(row) { None } else { *time })?;
     }
@@ -47,7 +47,7 @@ pub(crate) fn places_of<A: Allocator + Copy>(
     frame: Frame,
     kept: &[Option<i64>],
 ) -> Result<Vec<Option<u32>, A>, ToolFault> {
-    let mut places = Vec::new(alloc);
+    let mut places = Vec::with_capacity(alloc, kept.len())?;
     for time in kept {
         let place = match *time {
             Some(time) if frame.has(time) => Some(frame.across(time)),
@@ -83,7 +83,7 @@ pub(crate) fn numbers_of<A: Allocator + Copy>(
     alloc: A,
     count: usize,
 ) -> Result<Vec<Option<i64>, A>, ToolFault> {
-    let mut numbers = Vec::new(alloc);
+    let mut numbers = Vec::with_capacity(alloc, count)?;
     let mut number = 0i64;
     for _ in 0..count {
         number = number.saturating_add(1);
