@@ -12,7 +12,7 @@ use crate::survey::Survey;
 use comtrade_format::{File, Row};
 use comtrade_io::ToolFault;
 use dfr_channels::{AnalogChannel, Side, StatusChannel};
-use std::alloc::Allocator;
+use std::alloc::{AllocError, Allocator};
 use std::io::Write;
 
 /// What stands in a page between its names and its data.
@@ -187,7 +187,9 @@ fn write_samples<A: Allocator + Copy, W: Write>(
         for (i, survey) in some.iter().enumerate() {
             begin_samples(alloc, &mut channels, i, is_wide(*survey), rows.len())?;
         }
-        let channels = channels.get_mut(..some.len()).unwrap_or(&mut []);
+        let Some(channels) = channels.get_mut(..some.len()) else {
+            break;
+        };
         gather_samples(channels, rows, n)?;
         for channel in channels.iter() {
             write_block(alloc, "s", Some(n), &channel.bytes, w)?;
