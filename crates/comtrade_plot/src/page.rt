@@ -187,7 +187,7 @@ fn write_samples<A: Allocator + Copy, W: Write>(
         for (i, survey) in some.iter().enumerate() {
             begin_samples(alloc, &mut channels, i, is_wide(*survey), rows.len())?;
         }
-        let Some(channels) = channels.get_mut(..some.len()) else {
+        let Some(channels) = channels.as_mut_slice().get_mut(..some.len()) else {
             break;
         };
         gather_samples(channels, rows, n)?;

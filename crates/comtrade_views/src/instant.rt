@@ -32,8 +32,8 @@ fn put_civil<A: Allocator>(
 ) -> Result<(), AllocError> {
     let mut text = *b"0000-00-00 00:00:00.000000";
     set_between(&mut text, 0, 4, date.year.unsigned_abs() as u64);
-    set_between(&mut text, 5, 7, date.month.unsigned_abs() as u64);
-    set_between(&mut text, 8, 10, date.day.unsigned_abs() as u64);
+    set_between(&mut text, 5, 7, date.month as u64);
+    set_between(&mut text, 8, 10, date.day as u64);
     set_between(&mut text, 11, 13, micros / 3_600_000_000);
     set_between(&mut text, 14, 16, micros / 60_000_000 % 60);
     set_between(&mut text, 17, 19, micros / 1_000_000 % 60);
