@@ -96,7 +96,6 @@ impl Length {
 }
 
 /// A row, and the two next to the instant a cycle before it, where they are in the record.
-#[derive(Clone, Copy)]
 struct Place<'a, A: Allocator> {
     row: usize,
     now: &'a Row<A>,
@@ -166,7 +165,7 @@ impl Current {
     }
 
     /// Follows it to a row. A cycle is above only where it is over the bound, too.
-    fn follow<A: Allocator>(&mut self, place: Place<'_, A>, length: Length) {
+    fn follow<A: Allocator>(&mut self, place: &Place<'_, A>, length: Length) {
         let value = self.value(Some(place.now));
         let near = self.value(place.near);
         self.sum = self.sum + value * value - near * near;
@@ -246,7 +245,7 @@ fn follow_over<A: Allocator>(currents: &mut [Current], rows: &[Row<A>], length: 
             far: before.and_then(|near| rows.get(near.checked_sub(1)?)),
         };
         for current in currents.iter_mut() {
-            current.follow(place, length);
+            current.follow(&place, length);
         }
     }
 }
