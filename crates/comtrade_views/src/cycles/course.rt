@@ -96,6 +96,7 @@ impl Length {
 }
 
 /// A row, and the two next to the instant a cycle before it, where they are in the record.
+#[derive(Drop)]
 struct Place<'a, A: Allocator> {
     row: usize,
     now: &'a Row<A>,
