@@ -3,13 +3,12 @@
 use crate::load::{Inputs, file_spelled, pair_of, read_pair};
 use crate::part::put_part_fault;
 use crate::{complain, note_size, out_of_memory, say};
-use bumpalo::Bump;
 use comtrade_diagnostics::{Pair, put_refusal};
 use comtrade_format::{File as Record, Kind, WriteFault};
 use comtrade_io::{Converted, ToolFault, fault_of, put_safe, write_out};
 use comtrade_read::{ConvertFault, converted, written_of};
 use comtrade_views::{PartFault, is_whole, part_of};
-use std::alloc::{AllocError, Allocator};
+use std::alloc::AllocError;
 use std::fs;
 use std::fs::File;
 use std::io::Write;
@@ -101,18 +100,13 @@ fn refuse_part<R: Eprint + AllocGlobal>(rt: &R, fault: PartFault<'_>) -> u8 {
 }
 
 /// Writes a part of a record, with data of this kind: what is written reads back to it.
-fn write_part<R: Files + Eprint + AllocGlobal, A: Allocator + Copy>(
-    rt: &R,
-    lists: A,
-    asked: Converted<'_>,
-    file: &Record<A>,
-) -> u8 {
-    let mut cut = match part_of(lists, file, asked.part) {
+fn write_part<R: Files + Eprint + AllocGlobal>(rt: &R, asked: Converted<'_>, file: &Record) -> u8 {
+    let mut cut = match part_of(rt.alloc(), file, asked.part) {
         Ok(cut) => cut,
         Err(fault) => return refuse_part(rt, fault),
     };
     cut.file.head.kind = asked.kind;
-    match written_of(lists, &cut.file) {
+    match written_of(rt.alloc(), &cut.file) {
         Ok(made) => write_named(rt, asked.name, &made.cfg, &made.dat),
         Err(WriteFault::Memory) => out_of_memory(rt),
         Err(fault) => {
@@ -128,13 +122,12 @@ fn convert_part<R: Files + Eprint + AllocGlobal>(
     asked: Converted<'_>,
     inputs: &Inputs,
 ) -> u8 {
-    let lists = Bump::new(rt.alloc());
-    let mut said = Vec::new(&lists);
+    let mut said = Vec::new(rt.alloc());
     let (pair, part) = (pair_of(inputs), asked.part);
-    match file_spelled(&lists, pair, part.strict, part.encoding, &mut said) {
+    match file_spelled(rt.alloc(), pair, part.strict, part.encoding, &mut said) {
         Ok(Some(file)) => {
             say(rt, &said);
-            write_part(rt, &lists, asked, &file)
+            write_part(rt, asked, &file)
         }
         Ok(None) => {
             say(rt, &said);
@@ -150,8 +143,7 @@ fn convert_whole<R: Files + Eprint + AllocGlobal>(
     asked: Converted<'_>,
     inputs: &Inputs,
 ) -> u8 {
-    let lists = Bump::new(rt.alloc());
-    match converted(&lists, &inputs.cfg, &inputs.dat, asked.kind) {
+    match converted(rt.alloc(), &inputs.cfg, &inputs.dat, asked.kind) {
         Ok(made) => write_named(rt, asked.name, &made.cfg, &made.dat),
         Err(ConvertFault::Read(_)) => convert_part(rt, asked, inputs),
         Err(fault) => refuse_pair(rt, asked.kind, pair_of(inputs), fault),
