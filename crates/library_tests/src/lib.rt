@@ -3,6 +3,28 @@
 //! stand apart from the crates, since a crate that holds tests is proved twice.
 #![tactic(auto)]
 
+/// `maybe.is_some_and(|it| { right })`, as a `match` that drops the value by name: the proof of a closure that lets a recorder or a file
+/// go takes 8 s more.
+#[cfg(test)]
+macro_rules! is_some_and {
+    ($maybe:expr, |mut $it:ident| { $right:expr }) => {
+        is_some_and!($maybe, mut $it, $it, $right)
+    };
+    ($maybe:expr, |$it:ident| { $right:expr }) => {
+        is_some_and!($maybe, $it, $it, $right)
+    };
+    ($maybe:expr, $some:pat, $it:ident, $right:expr) => {
+        match $maybe {
+            Some($some) => {
+                let right = $right;
+                drop($it);
+                right
+            }
+            None => false,
+        }
+    };
+}
+
 #[cfg(test)]
 mod allocator_counts;
 #[cfg(test)]

@@ -59,7 +59,7 @@ fn is_copied(alloc: Global, made: &Layout) -> bool {
 }
 
 fn is_copied_layout(alloc: Global, made: Option<Layout>) -> bool {
-    made.is_some_and(|made| is_copied(alloc, &made))
+    is_some_and!(made, |made| { is_copied(alloc, &made) })
 }
 
 #[test]

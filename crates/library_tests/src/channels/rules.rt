@@ -60,7 +60,9 @@ fn refuses_list(layout: &Layout, list: &[Rule], alloc: Global, wanted: RuleFault
 
 /// Why rules of a list over a layout are refused; as many as it has come back.
 fn is_refused(layout: Option<Layout>, list: &[Rule], alloc: Global, wanted: RuleFault) -> bool {
-    layout.is_some_and(|layout| refuses_list(&layout, list, alloc, wanted))
+    is_some_and!(layout, |layout| {
+        refuses_list(&layout, list, alloc, wanted)
+    })
 }
 
 #[test]
@@ -83,7 +85,7 @@ fn fit_over(rules: &Rules, layout: &Layout, list: &[Rule], fit: bool) -> bool {
 }
 
 fn fit_in(rules: &Rules, layout: Option<Layout>, list: &[Rule], fit: bool) -> bool {
-    layout.is_some_and(|layout| fit_over(rules, &layout, list, fit))
+    is_some_and!(layout, |layout| { fit_over(rules, &layout, list, fit) })
 }
 
 /// Whether rules of a layout with one contact fit a layout of so many.

@@ -71,7 +71,9 @@ fn has_records(alloc: Global, ran: &Ran, records: usize) -> bool {
 }
 
 fn are_read_back(alloc: Global, bay: Bay, script: &[u8], records: usize) -> bool {
-    ran(alloc, bay, script).is_some_and(|ran| has_records(alloc, &ran, records))
+    is_some_and!(ran(alloc, bay, script), |ran| {
+        has_records(alloc, &ran, records)
+    })
 }
 
 const TWO_AT_100: Bay = Bay {

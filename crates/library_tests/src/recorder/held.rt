@@ -63,7 +63,9 @@ const EARLY: [(Call, u64); 5] = [
 ];
 
 fn new_holds(alloc: Global, calls: &[(Call, u64)]) -> bool {
-    recorder(alloc, BAY).is_some_and(|mut recorder| holds(alloc, &mut recorder, calls))
+    is_some_and!(recorder(alloc, BAY), |mut recorder| {
+        holds(alloc, &mut recorder, calls)
+    })
 }
 
 #[test]
@@ -81,7 +83,9 @@ fn holds_two(alloc: Global, recorder: &mut Recorder) -> bool {
 }
 
 fn new_holds_two(alloc: Global) -> bool {
-    recorder_at_100(alloc, TWO).is_some_and(|mut recorder| holds_two(alloc, &mut recorder))
+    is_some_and!(recorder_at_100(alloc, TWO), |mut recorder| {
+        holds_two(alloc, &mut recorder)
+    })
 }
 
 #[test]

@@ -25,14 +25,9 @@ fn are_limits(layout: &Layout) -> bool {
 }
 
 fn in_order(alloc: Global) -> bool {
-    match layout(alloc, Bay { rate: 1, ..BAY }) {
-        Some(layout) => {
-            let are = are_limits(&layout);
-            drop(layout);
-            are
-        }
-        None => false,
-    }
+    is_some_and!(layout(alloc, Bay { rate: 1, ..BAY }), |layout| {
+        are_limits(&layout)
+    })
 }
 
 #[test]

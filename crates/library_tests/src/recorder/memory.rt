@@ -57,7 +57,7 @@ fn stays<'a>(heap: &'a LocalHeap, recorder: &mut Local<'a>) -> bool {
 
 /// The ring is full after three scans.
 fn stays_when_full(heap: &LocalHeap) -> bool {
-    recorder(heap, BAY).is_some_and(|mut recorder| {
+    is_some_and!(recorder(heap, BAY), |mut recorder| {
         takes_scans(heap, &mut recorder, 3) && stays(heap, &mut recorder)
     })
 }

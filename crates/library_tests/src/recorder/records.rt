@@ -88,11 +88,11 @@ fn closes(alloc: Global, recorder: &mut Recorder) -> bool {
 }
 
 fn takes_first(recorder: &mut Recorder) -> bool {
-    recorder.take().is_some_and(|record| is_first(&record))
+    is_some_and!(recorder.take(), |record| { is_first(&record) })
 }
 
 fn records(alloc: Global) -> bool {
-    recorder(alloc, BAY).is_some_and(|mut recorder| {
+    is_some_and!(recorder(alloc, BAY), |mut recorder| {
         opens(alloc, &mut recorder) && closes(alloc, &mut recorder) && takes_first(&mut recorder)
     })
 }
@@ -115,7 +115,7 @@ pub const HIGH: [Told; 8] = [
 ];
 
 fn grows(alloc: Global) -> bool {
-    recorder_at_100(alloc, TWO).is_some_and(|mut recorder| {
+    is_some_and!(recorder_at_100(alloc, TWO), |mut recorder| {
         are_scanned(alloc, &mut recorder, &HIGH)
     })
 }

@@ -24,7 +24,9 @@ fn refuses_edges(alloc: Global, recorder: &mut Recorder) -> bool {
 }
 
 fn refuses(alloc: Global) -> bool {
-    recorder_at_100(alloc, BAY).is_some_and(|mut recorder| refuses_edges(alloc, &mut recorder))
+    is_some_and!(recorder_at_100(alloc, BAY), |mut recorder| {
+        refuses_edges(alloc, &mut recorder)
+    })
 }
 
 #[test]

@@ -19,7 +19,9 @@ fn takes_first(answers: &[Answer]) -> bool {
 
 /// Whether so many steps are answered, and the last takes the record.
 fn is_taken(alloc: Global, script: &[u8], answers: usize) -> bool {
-    ran(alloc, BAY, script).is_some_and(|ran| is_whole(&ran, answers) && takes_first(&ran.answers))
+    is_some_and!(ran(alloc, BAY, script), |ran| {
+        is_whole(&ran, answers) && takes_first(&ran.answers)
+    })
 }
 
 #[test]
@@ -46,7 +48,7 @@ fn runs_a_late_take(rt: HostRuntime) {
 }
 
 fn answers_none(alloc: Global) -> bool {
-    ran(alloc, BAY, b"^").is_some_and(|ran| {
+    is_some_and!(ran(alloc, BAY, b"^"), |ran| {
         is_whole(&ran, 1) && matches!(ran.answers.as_slice(), [Answer::Take(None)])
     })
 }

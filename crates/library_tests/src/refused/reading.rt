@@ -31,7 +31,7 @@ fn file_in<A: Allocator>(read: Option<ReadData<A>>) -> Option<File<A>> {
 
 /// The head reads the data of these texts and writes its own text again.
 fn is_head_of<A: Allocator + Copy>(alloc: A, head: Head<A>, texts: Pair) -> bool {
-    file_in(data_under(alloc, head, texts.dat)).is_some_and(|file| {
+    is_some_and!(file_in(data_under(alloc, head, texts.dat)), |file| {
         has_cfg(alloc, &file, texts.cfg)
     })
 }

@@ -23,7 +23,7 @@ fn is_the_script<A: Allocator>(script: Script<A>) -> bool {
 }
 
 fn has_the_layout<A: Allocator>(layout: Option<Layout<A>>) -> bool {
-    layout.is_some_and(|layout| is_the_layout(&layout))
+    is_some_and!(layout, |layout| { is_the_layout(&layout) })
 }
 
 /// The script that is read.

@@ -18,12 +18,12 @@ pub fn is_text<A: Allocator>(written: Result<Vec<u8, A>, WriteFault>, wanted: &[
 
 /// Whether the configuration file has these bytes.
 fn is_cfg(alloc: Global, file: Option<File>, wanted: &[u8]) -> bool {
-    file.is_some_and(|file| is_text(cfg_bytes(alloc, &file), wanted))
+    is_some_and!(file, |file| { is_text(cfg_bytes(alloc, &file), wanted) })
 }
 
 /// Whether the data file has these bytes in ASCII and in BINARY form.
 pub fn are_data(alloc: Global, file: Option<File>, ascii: &[u8], binary: &[u8]) -> bool {
-    file.is_some_and(|file| {
+    is_some_and!(file, |file| {
         is_text(ascii_bytes(alloc, &file), ascii) && is_text(binary_bytes(alloc, &file), binary)
     })
 }

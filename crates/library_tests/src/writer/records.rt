@@ -129,7 +129,7 @@ fn gives_a_file(alloc: Global, recorder: &mut Recorder) -> bool {
 }
 
 fn closed_gives_a_file(alloc: Global) -> bool {
-    recorder_after(alloc, LEAP, CLOSES).is_some_and(|mut recorder| {
+    is_some_and!(recorder_after(alloc, LEAP, CLOSES), |mut recorder| {
         gives_a_file(alloc, &mut recorder)
     })
 }

@@ -15,7 +15,7 @@ fn faults(alloc: Global, file: &File) -> [Option<WriteFault>; 3] {
 
 /// Whether the three writers answer so.
 pub fn are_faults(alloc: Global, file: Option<File>, wanted: [Option<WriteFault>; 3]) -> bool {
-    file.is_some_and(|file| faults(alloc, &file) == wanted)
+    is_some_and!(file, |file| { faults(alloc, &file) == wanted })
 }
 
 #[test]
