@@ -149,8 +149,8 @@ fn bare_head(alloc: Global) -> Head {
     }
 }
 
-fn give_names(head: &mut Head, alloc: Global) -> bool {
-    give_text(&mut head.station, alloc, b"Bay 1") && give_text(&mut head.device, alloc, b"DFR")
+pub fn give_names(head: &mut Head, alloc: Global, station: &[u8], device: &[u8]) -> bool {
+    give_text(&mut head.station, alloc, station) && give_text(&mut head.device, alloc, device)
 }
 
 fn give_channels(head: &mut Head, alloc: Global, k: usize, m: usize) -> bool {
@@ -168,7 +168,7 @@ pub fn give_rates(head: &mut Head, alloc: Global, rates: &[Rate]) -> bool {
 /// So many channels of each kind and so many rows at 1,000 a second.
 pub fn head(alloc: Global, analogs: usize, statuses: usize, rows: u64) -> Option<Head> {
     let mut head = bare_head(alloc);
-    if give_names(&mut head, alloc)
+    if give_names(&mut head, alloc, b"Bay 1", b"DFR")
         && give_channels(&mut head, alloc, analogs, statuses)
         && give_rates(&mut head, alloc, &[rate_to(rows)])
     {

@@ -1,23 +1,17 @@
 //! Texts that the writer of the configuration file refuses.
 
-use crate::writer::fixture::{analog, file, give_text, head, no_items, one, put, status};
+use crate::writer::fixture::{
+    analog, file, give_names, give_text, head, no_items, one, put, status,
+};
 use crate::writer::values::are_faults;
 use comtrade_write::{File, WriteFault};
 use dfr_channels::{AnalogChannel, Items, StatusChannel};
 use std::alloc::Global;
 
-fn with_station(alloc: Global, station: &[u8]) -> Option<File> {
+/// Five rows of a station and a device of these names.
+fn with_names(alloc: Global, station: &[u8], device: &[u8]) -> Option<File> {
     let mut file = file(alloc, 1000, 12)?;
-    if give_text(&mut file.head.station, alloc, station) {
-        return Some(file);
-    }
-    drop(file);
-    None
-}
-
-fn with_device(alloc: Global, device: &[u8]) -> Option<File> {
-    let mut file = file(alloc, 1000, 12)?;
-    if give_text(&mut file.head.device, alloc, device) {
+    if give_names(&mut file.head, alloc, station, device) {
         return Some(file);
     }
     drop(file);
@@ -91,8 +85,8 @@ fn is_refused(alloc: Global, file: Option<File>, line: u64, field: u32) -> bool 
 #[test]
 fn texts(rt: HostRuntime) {
     let alloc = rt.alloc();
-    assert!(rt; is_refused(alloc, with_station(alloc, b"a,b"), 1, 1));
-    assert!(rt; is_refused(alloc, with_device(alloc, b"a,b"), 1, 2));
+    assert!(rt; is_refused(alloc, with_names(alloc, b"a,b", b"DFR"), 1, 1));
+    assert!(rt; is_refused(alloc, with_names(alloc, b"Bay 1", b"a,b"), 1, 2));
     assert!(rt; is_refused(alloc, with_analog(alloc, b"ABC", b"A"), 3, 3));
     assert!(rt; is_refused(alloc, with_analog(alloc, b"A", b""), 3, 5));
     assert!(rt; is_refused(alloc, with_status(alloc, b"ABC"), 4, 3));
