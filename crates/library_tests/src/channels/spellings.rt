@@ -8,10 +8,7 @@ use std::alloc::{AllocError, Global};
 use std::test::Fail;
 
 fn reads(text: &[u8], units: i128, places: u8) -> bool {
-    match Decimal::read(text) {
-        Some(d) => d.units() == units && d.places() == places,
-        None => false,
-    }
+    matches!(Decimal::read(text), Some(d) if d.units() == units && d.places() == places)
 }
 
 /// What no decimal is, nor a whole number.
@@ -90,18 +87,12 @@ fn many_zeros(rt: HostRuntime) -> Result<(), Fail> {
 
 /// Whether a text begins with this number in its plain spelling, with so many bytes after its comma.
 fn begins(text: &[u8], number: i64, behind: usize) -> bool {
-    match plain_number(text) {
-        Some((found, Some(rest))) => found == number && rest.len() == behind,
-        _ => false,
-    }
+    matches!(plain_number(text), Some((n, Some(rest))) if n == number && rest.len() == behind)
 }
 
 /// Whether a text is this number in its plain spelling.
 fn is_number(text: &[u8], number: i64) -> bool {
-    match plain_number(text) {
-        Some((found, None)) => found == number,
-        _ => false,
-    }
+    matches!(plain_number(text), Some((n, None)) if n == number)
 }
 
 #[test]
