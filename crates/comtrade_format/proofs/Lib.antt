@@ -13,3 +13,4 @@ pub mod Writable
 pub mod FloatText
 pub mod Scaled
 pub mod PackedGroups
+pub mod PointedValues

@@ -67,7 +67,7 @@ bits_of_bytes (suc z) =
     let ih = bits_of_bytes z in
     rw (a, pow-add 2 8 (8 * z), ih, pow-suc 256 z) (omega arith)
 
-length_zeros : (k : ℕ) → length (repeat {A = ℕ} k (48 ∷ [])) ≡ k
+pub length_zeros : (k : ℕ) → length (repeat {A = ℕ} k (48 ∷ [])) ≡ k
 length_zeros zero = refl
 length_zeros (suc k) = ap suc (length_zeros k)
 

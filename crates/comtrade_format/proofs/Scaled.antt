@@ -1,14 +1,14 @@
 -- Units with zeros after them, and numbers of at most 36 digits.
-use Rattle.std.proofs.Common.{◌≡◌, ℕ, zero, suc, ◌+◌, ◌-◌, ◌*◌, ◌^◌, ◌<◌, ◌≤◌, ℤ, pos, negsuc, neg_ℤ, ◌*ℤ◌, ◌+ℤ◌, ◌<ℤ◌, ◌≤ℤ◌, FitsSigned, unsigned_abs, max, refl, sym, ap, ◌∙◌, subst, arith}
+use Rattle.std.proofs.Common.{◌≡◌, ℕ, zero, suc, ◌+◌, ◌-◌, ◌*◌, ◌^◌, ◌<◌, ◌≤◌, ℤ, pos, negsuc, neg_ℤ, ◌*ℤ◌, ◌+ℤ◌, ◌<ℤ◌, FitsSigned, unsigned_abs, max, refl, sym, ap, ◌∙◌, subst, arith}
 use Rattle.std.specs.Int.{w128}
-use Rattle.std.proofs.Math.Nat.{pow-le-pow_right, one-le-pow, mul-le-mul_left, mul-le-mul_right, mul_assoc}
+use Rattle.std.proofs.Math.Nat.{pow-le-pow_right, one-le-pow, mul-le-mul_left, mul-le-mul_right, mul_assoc, mul_right_comm}
 use Rattle.std.proofs.lemmas.Int.{ints, unsigned_abs-mul, fits_signed_from_abs}
 use Rattle.dfr_channels.specs.Spelling.{Number, IsNumber}
 use Rattle.std.proofs.lemmas.Nat.{pow-add}
 use Rattle.std.proofs.Math.IntN.{zero-*ℤ}
 use Rattle.std.specs.Prelude.{Option, Some, None, Result, Ok, Err, OnOk}
 use Rattle.std.specs.Option.{SomeIff}
-use Rattle.comtrade_format.specs.Values.{with_places, times, value, IsShort}
+use Rattle.comtrade_format.specs.Values.{with_places, times, value, number_of, IsShort}
 
 -- the size of an integer that isn't 0 is above 0
 some_size : (z : ℤ) → (z ≡ pos 0 → ⊥) → 0 < unsigned_abs z
@@ -62,6 +62,34 @@ neg_times (suc m) b = refl
 pub times_twice : (z : ℤ) (a b : ℕ) → (z *ℤ pos a) *ℤ pos b ≡ z *ℤ pos (a * b)
 times_twice (pos n) a b = ap pos (mul_assoc n a b)
 times_twice (negsuc n) a b = neg_times (suc n * a) b ∙ ap (λ (m : ℕ). neg_ℤ (pos m)) (mul_assoc (suc n) a b)
+
+neg_twice : (m n : ℕ) → neg_ℤ (pos m) *ℤ negsuc n ≡ pos (m * suc n)
+neg_twice zero n = ap (λ (k : ℕ). neg_ℤ (pos k)) none ∙ ap pos (sym none)
+  where
+    none : zero * suc n ≡ 0
+    none = omega arith
+neg_twice (suc m) n = refl
+
+-- zeros after the factor are zeros after the product
+zeros_after : (z x : ℤ) (k : ℕ) → (z *ℤ x) *ℤ pos k ≡ (z *ℤ pos k) *ℤ x
+zeros_after (pos m) (pos n) k = ap pos (mul_right_comm m n k)
+zeros_after (pos m) (negsuc n) k = neg_times (m * suc n) k ∙ ap (λ (j : ℕ). neg_ℤ (pos j)) (mul_right_comm m (suc n) k)
+zeros_after (negsuc m) (pos n) k =
+    neg_times (suc m * n) k ∙ ap (λ (j : ℕ). neg_ℤ (pos j)) (mul_right_comm (suc m) n k) ∙ sym (neg_times (suc m * k) n)
+zeros_after (negsuc m) (negsuc n) k = ap pos (mul_right_comm (suc m) (suc n) k) ∙ sym (neg_twice (suc m * k) n)
+
+-- a and b with the places of the finer one give each sample its value
+pub aligned_value_of : (a b : Number) (places : ℕ) (p q x : ℤ) → places ≡ max a.places b.places → number_of p places ≡ with_places places a → number_of q places ≡ with_places places b
+    → value a b x ≡ number_of (p *ℤ x +ℤ q) places
+aligned_value_of a b places p q x e ep eq =
+    let m : ℕ = max a.places b.places in
+    let factor : (a.units *ℤ x) *ℤ pos (10 ^ (m - a.places)) ≡ p *ℤ x =
+    zeros_after a.units x (10 ^ (m - a.places)) ∙ ap (λ (k : ℕ). (a.units *ℤ pos (10 ^ (k - a.places))) *ℤ x) (sym e) ∙ ap (λ (n : Number). n.units *ℤ x) (sym ep) in
+    let offset : b.units *ℤ pos (10 ^ (m - b.places)) ≡ q =
+    ap (λ (k : ℕ). b.units *ℤ pos (10 ^ (k - b.places))) (sym e) ∙ ap (λ (n : Number). n.units) (sym eq) in
+    ap (λ (u : ℤ). number_of (u +ℤ b.units *ℤ pos (10 ^ (m - b.places))) m) factor
+    ∙ ap (λ (u : ℤ). number_of (p *ℤ x +ℤ u) m) offset
+    ∙ ap (λ (k : ℕ). number_of (p *ℤ x +ℤ q) k) (sym e)
 
 -- ---- what is too long
 

@@ -1,7 +1,6 @@
 -- When the rows of a data file were taken, in nanoseconds since the first row.
-use Rattle.std.specs.Prelude.{◌≡◌, ⊤, ℕ, ◌+◌, ◌-◌, ◌*◌, ◌/◌, ◌^◌, ◌<◌, ◌==◌, ◌&&◌, Bool, true, false, not, nat_lt, nat_le, List, [], ◌∷◌, Option, Some, None, option_and_then, ℤ, pos, negsuc, if◌then◌else◌}
+use Rattle.std.specs.Prelude.{⊤, ℕ, ◌+◌, ◌-◌, ◌*◌, ◌/◌, ◌^◌, ◌<◌, ◌==◌, ◌&&◌, Bool, true, not, nat_lt, List, [], ◌∷◌, Option, Some, None, option_and_then, ℤ, pos, negsuc, if◌then◌else◌}
 use Rattle.std.specs.Borrow.{Bor}
-use Rattle.std.specs.List.{list_all}
 use Rattle.std.specs.Int.RustNames.{int_lt}
 use Rattle.dfr_channels.specs.Spelling.{Number}
 use Rattle.comtrade_format.specs.Parts.{HeadParts}

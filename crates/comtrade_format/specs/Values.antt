@@ -1,8 +1,9 @@
 -- The value a * x + b of a sample.
-use Rattle.std.specs.Prelude.{◌≡◌, ◌≢◌, List, ◌++◌, ℕ, ◌-◌, ◌^◌, ◌≤◌, max, ℤ, pos, ◌+ℤ◌, ◌*ℤ◌}
+use Rattle.std.specs.Prelude.{◌≡◌, ◌≢◌, List, ◌++◌, ℕ, ◌-◌, ◌^◌, ◌≤◌, max, take, drop, ℤ, pos, ◌+ℤ◌, ◌*ℤ◌}
 use Rattle.std.specs.Int.RustNames.{int_rem}
 use Rattle.dfr_channels.specs.Spelling.{Number, IsNumber}
 use Rattle.dfr_channels.specs.Written.{decimal_text}
+use Rattle.comtrade_format.specs.declared.values.aligned.AlignedScale.{AlignedScale}
 
 -- the same number with so many places, no fewer than its own
 abbrev pub with_places : ℕ → Number → Number
@@ -45,3 +46,22 @@ pub record AppendsValue (old new : List ℕ) (n : Number) : Type 0 where
   pub shown : Number
   pub trimmed : IsTrimmed n shown
   pub text : new ≡ old ++ decimal_text shown
+
+-- the number units / 10^places
+abbrev pub number_of : ℤ → ℕ → Number
+number_of units places = record { units = units; places = places }
+
+-- the value of a sample by a scale whose a and b have the same places
+abbrev pub aligned_value : AlignedScale → ℤ → Number
+aligned_value scale x = number_of (scale.a *ℤ x +ℤ scale.b) scale.places
+
+-- by this scale each sample has the value that it has by a and b
+abbrev pub IsAligned : Number → Number → AlignedScale → Type 0
+IsAligned a b scale = (x : ℤ) → value a b x ≡ aligned_value scale x
+
+-- the text of the number without zeros at its end stands from `start` on, and then what was there from `end` on; before it nothing changed
+pub record WritesValue (old new : List ℕ) (start end : ℕ) (n : Number) : Type 0 where
+  pub shown : Number
+  pub trimmed : IsTrimmed n shown
+  pub text : drop start new ≡ decimal_text shown ++ drop end old
+  pub before : take start new ≡ take start old

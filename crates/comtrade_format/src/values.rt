@@ -1,6 +1,7 @@
 //! The numbers of a file as a program computes with them: scaled samples as decimals, exactly, and as floats, decimals as floats, instants as
 //! civil dates, when rows were taken, how many rows a cycle has.
 
+mod aligned;
 mod civil;
 mod clock;
 mod cycle;
@@ -8,6 +9,7 @@ mod exact;
 mod nearest;
 mod scale;
 
+pub use aligned::{AlignedScale, LONGEST_VALUE, aligned_scale_of};
 pub use civil::civil_of;
 pub use clock::{Clock, clock_of};
 pub use cycle::{Cycle, CycleFault, cycle_of};

@@ -4,18 +4,30 @@ use crate::column_names::write_names;
 use crate::instant::put_instant;
 use crate::number::{Scale, put_sample, put_shortened, scale_of};
 use crate::spelling::Spelling;
+use crate::value_cells::{ValueCells, set_decimal_sign, value_cells_of};
 use comtrade_format::{File, Row};
 use comtrade_io::{ToolFault, flush_if_full, put, put_number, write_out};
 use dfr_channels::{AnalogChannel, Reading};
 use std::alloc::{AllocError, Allocator};
 use std::io::Write;
 
-/// The lines that aren't written yet, and a cell whose number is spelled otherwise.
+/// The lines that aren't written yet, a cell whose number is spelled otherwise, and the cells of a row's values and bits.
 #[derive(Drop)]
 struct Lines<A: Allocator> {
     text: Vec<u8, A>,
     cell: Vec<u8, A>,
+    values: ValueCells<A>,
+    bits: Vec<u8, A>,
     spelling: Spelling,
+}
+
+/// The cells of so many bits, each after a separator.
+fn bit_cells<A: Allocator>(alloc: A, bits: usize, separator: u8) -> Result<Vec<u8, A>, AllocError> {
+    let mut cells = Vec::new(alloc);
+    for _ in 0..bits {
+        cells.extend_from_slice(&[separator, b'0'])?;
+    }
+    Ok(cells)
 }
 
 impl<A: Allocator> Lines<A> {
@@ -25,11 +37,7 @@ impl<A: Allocator> Lines<A> {
 
     /// Ends a cell, with the sign that is asked for before the places of its number.
     fn end_number(&mut self) -> Result<(), AllocError> {
-        for b in self.cell.iter_mut() {
-            if *b == b'.' {
-                *b = self.spelling.decimal;
-            }
-        }
+        set_decimal_sign(&mut self.cell, self.spelling.decimal);
         self.end_cell()
     }
 
@@ -76,20 +84,29 @@ impl<A: Allocator> Lines<A> {
         self.end_number()
     }
 
-    /// A cell for each bit, eight at once.
-    fn put_bits(&mut self, bits: &[bool]) -> Result<(), AllocError> {
-        for eight in bits.chunks(8) {
-            let mut cells = [self.spelling.separator; 16];
-            for (k, bit) in eight.iter().enumerate() {
-                if let Some(cell) = cells.get_mut(k.wrapping_mul(2).wrapping_add(1)) {
-                    *cell = if *bit { b'1' } else { b'0' };
-                }
-            }
-            let full = eight.len().wrapping_mul(2);
-            self.text
-                .extend_from_slice(cells.get(..full).unwrap_or(&[]))?;
+    /// The cells of a row's values.
+    fn put_values(
+        &mut self,
+        channels: &[AnalogChannel<A>],
+        readings: &[Reading],
+    ) -> Result<(), AllocError> {
+        if let Some(cells) = self.values.of(readings) {
+            return self.text.extend_from_slice(cells);
+        }
+        for (channel, reading) in channels.iter().zip(readings) {
+            self.put_reading(scale_of(channel), *reading)?;
         }
         Ok(())
+    }
+
+    /// The cells of a row's bits.
+    fn put_bits(&mut self, bits: &[bool]) -> Result<(), AllocError> {
+        for (i, bit) in bits.iter().enumerate() {
+            if let Some(cell) = self.bits.get_mut(i.wrapping_mul(2).wrapping_add(1)) {
+                *cell = if *bit { b'1' } else { b'0' };
+            }
+        }
+        self.text.extend_from_slice(&self.bits)
     }
 
     /// The line of a row: number, times, values, bits.
@@ -102,9 +119,7 @@ impl<A: Allocator> Lines<A> {
     ) -> Result<(), AllocError> {
         put_number(&mut self.text, row.number)?;
         self.put_times(trigger, since)?;
-        for (channel, reading) in channels.iter().zip(row.values.items()) {
-            self.put_reading(scale_of(channel), *reading)?;
-        }
+        self.put_values(channels, row.values.items())?;
         self.put_bits(row.bits.items())?;
         put(&mut self.text, "\r\n")
     }
@@ -138,6 +153,8 @@ pub fn csv_over<A: Allocator + Copy, W: Write>(
     let mut lines = Lines {
         text: Vec::new(alloc),
         cell: Vec::new(alloc),
+        values: value_cells_of(alloc, file.head.analog.items(), spelling)?,
+        bits: bit_cells(alloc, file.head.status.items().len(), spelling.separator)?,
         spelling,
     };
     write_rows(&mut lines, file, times, w)

@@ -29,6 +29,7 @@ mod summary;
 mod survey_json;
 mod table;
 mod times;
+mod value_cells;
 
 pub use comma_separated::csv_over;
 pub use cycles::MeasureFault;

@@ -45,7 +45,7 @@ fn power(zeros: u8) -> i128
 }
 
 /// The number with zeros after its places; None where it then has more than 36 digits.
-fn with_places(number: Decimal, places: u8) -> Option<Decimal>
+pub(super) fn with_places(number: Decimal, places: u8) -> Option<Decimal>
     requires { number.places ≤ places }
     ensures { let longer = Values.with_places places number in
         SomeIff result (IsNumber longer) longer }

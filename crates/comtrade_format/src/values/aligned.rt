@@ -1,0 +1,176 @@
+//! Values a·x + b of few digits, written from their last digit back.
+
+ghost use Rattle.std.specs.Prelude.{◌≡◌, ◌+◌, ◌^◌, ◌<◌, ◌≤◌, ◌++◌, ◌∷◌, ◌+ℤ◌, ◌*ℤ◌, IfNone, IfSome, length, take, drop, decimal};
+ghost use Rattle.dfr_channels.specs.Written.{decimal_text, padded, pointed};
+ghost use Rattle.comtrade_format.specs.Values.{number_of};
+ghost use Rattle.comtrade_format.specs.Values as Values;
+
+use crate::values::exact::with_places;
+use dfr_channels::Decimal;
+use itoa::write_digits;
+
+/// The factors a and b of a channel (C37.111-1999, 5.3.3) with the same places, of 64 bits each.
+#[derive(Clone, Copy, Debug)]
+pub struct AlignedScale {
+    pub a: i64,
+    pub b: i64,
+    pub places: u8,
+}
+
+/// The most places of a value whose digits are written here.
+const MOST_PLACES: u8 = 18;
+
+/// The most bytes of a value that is written here: a minus, 20 digits, a point and 18 digits.
+pub const LONGEST_VALUE: usize = 40;
+
+/// The number's units with so many places; None where they have more than 64 bits.
+fn units_of(number: Decimal, places: u8) -> Option<i64>
+    requires { number.places ≤ places }
+    ensures { IfSome result (λ units. number_of units places ≡ Values.with_places places number) }
+{
+    let longer = with_places(number, places)?;
+    i64::try_from(longer.units()).ok()
+}
+
+/// A channel's a and b with the places of the finer one; None where they have more than 64 bits then, or more than 18 places.
+pub fn aligned_scale_of(a: Decimal, b: Decimal) -> Option<AlignedScale>
+    ensures { IfSome result (Values.IsAligned a b) }
+{
+    let places = a.places().max(b.places());
+    if MOST_PLACES < places {
+        return None;
+    }
+    Some(AlignedScale {
+        a: units_of(a, places)?,
+        b: units_of(b, places)?,
+        places,
+    })
+}
+
+/// The number units / 10^places.
+#[derive(Clone, Copy)]
+struct Narrow {
+    units: i64,
+    places: u8,
+}
+
+/// The same number with one place fewer; None where it has none, or its last digit isn't 0.
+fn shortened(number: Narrow) -> Option<Narrow>
+    ensures none { IfNone result (Values.HasNoZero (number_of number.units number.places)) }
+    ensures same { IfSome result (λ n. Values.with_places number.places
+        (number_of n.units n.places) ≡ number_of number.units number.places) }
+    ensures fewer { IfSome result (λ n. n.places + 1 ≡ number.places) }
+{
+    if number.places == 0 || number.units % 10 != 0 {
+        return None;
+    }
+    Some(Narrow {
+        units: number.units / 10,
+        places: number.places - 1,
+    })
+}
+
+/// The same number without zeros at the end of its places.
+fn trimmed(number: Narrow) -> Narrow
+    ensures { Values.IsTrimmed (number_of number.units number.places)
+        (number_of result.units result.places) }
+{
+    let mut trimmed = number;
+    while let Some(shorter) = shortened(trimmed) {
+        trimmed = shorter;
+    }
+    trimmed
+}
+
+/// 10^zeros; most values have few places, and a power is dear to a call for each.
+fn ten_to(zeros: u8) -> u64
+    requires { zeros < 19 }
+    ensures { result ≡ 10 ^ zeros }
+{
+    match zeros {
+        1 => 10,
+        2 => 100,
+        3 => 1000,
+        4 => 10_000,
+        5 => 100_000,
+        6 => 1_000_000,
+        _ => 10u64.pow(zeros as u32),
+    }
+}
+
+/// Writes a point and after it the digits of a number below 10^places, so that they end at `end`, and answers where the point stands.
+fn write_fraction(slot: &mut [u8], end: usize, n: u64, places: u8) -> usize
+    requires some { 0 < places }
+    requires few { places < 19 }
+    requires below { n < 10 ^ places }
+    requires room { places < end }
+    requires within { end ≤ length slot.old }
+    ensures start { result + (places + 1) ≡ end }
+    ensures text { drop result slot.new ≡ 46 ∷ padded places n ++ drop end slot.old }
+    ensures before { take result slot.new ≡ take result slot.old }
+{
+    let start = write_digits(ten_to(places) + n, slot, end);
+    slot[start] = b'.';
+    start
+}
+
+/// Writes the digits of a number, with a point before the last `places` of them, so that they end at `end`, and answers where they begin.
+fn write_pointed(slot: &mut [u8], end: usize, n: u64, places: u8) -> usize
+    requires few { places < 19 }
+    requires room { 40 ≤ end }
+    requires within { end ≤ length slot.old }
+    ensures text { drop result slot.new ≡ pointed places (decimal n) ++ drop end slot.old }
+    ensures before { take result slot.new ≡ take result slot.old }
+    ensures longest { end ≤ result + 39 }
+    ensures before_end { result ≤ end }
+{
+    if places == 0 {
+        return write_digits(n, slot, end);
+    }
+    let one = ten_to(places);
+    let point = write_fraction(slot, end, n % one, places);
+    write_digits(n / one, slot, point)
+}
+
+/// Writes a number of at most 18 places, so that its text ends at `end`, and answers where it begins.
+fn write_narrow(slot: &mut [u8], end: usize, number: Narrow) -> usize
+    requires few { number.places < 19 }
+    requires room { 40 ≤ end }
+    requires within { end ≤ length slot.old }
+    ensures text { drop result slot.new
+        ≡ decimal_text (number_of number.units number.places) ++ drop end slot.old }
+    ensures before { take result slot.new ≡ take result slot.old }
+    ensures longest { end ≤ result + 40 }
+{
+    let start = write_pointed(slot, end, number.units.unsigned_abs(), number.places);
+    if 0 <= number.units {
+        return start;
+    }
+    slot[start - 1] = b'-';
+    start - 1
+}
+
+impl AlignedScale {
+    /// The value of a sample in units of the last place; None where they have more than 64 bits.
+    fn units_at(self, sample: i32) -> Option<i64>
+        ensures { IfSome result (λ units. units ≡ self.a *ℤ sample +ℤ self.b) }
+    {
+        self.a.checked_mul(sample as i64)?.checked_add(self.b)
+    }
+
+    /// Writes the value a·x + b of a sample without zeros at the end of its places, so that its text ends at `end`, and answers where it
+    /// begins; None where its units have more than 64 bits, or fewer than 40 bytes stand before `end`.
+    pub fn write_value(self, slot: &mut [u8], end: usize, sample: i32) -> Option<usize>
+        ensures { IfSome result (λ start.
+            Values.WritesValue slot.old slot.new start end (Values.aligned_value self sample)) }
+    {
+        if MOST_PLACES < self.places || end < LONGEST_VALUE || slot.len() < end {
+            return None;
+        }
+        let exact = Narrow {
+            units: self.units_at(sample)?,
+            places: self.places,
+        };
+        Some(write_narrow(slot, end, trimmed(exact)))
+    }
+}
