@@ -85,7 +85,7 @@ fn text_plan<'a, A: Allocator + Copy>(
 }
 
 /// The plan of data that are text, or that prove to be BINARY; None of others.
-fn shown<'a, A: Allocator + Copy>(
+fn text_or_binary<'a, A: Allocator + Copy>(
     alloc: A,
     notes: &mut Notes<A>,
     dat: &'a [u8],
@@ -113,7 +113,7 @@ fn said_text<'a, A: Allocator + Copy>(
     dat: &'a [u8],
     counts: Counts,
 ) -> Result<Plan<'a>, ImportFault> {
-    if let Some(plan) = shown(alloc, notes, dat, counts, true)? {
+    if let Some(plan) = text_or_binary(alloc, notes, dat, counts, true)? {
         return Ok(plan);
     }
     if look_as(dat, Form::Binary32, counts).is_proved() {
@@ -230,7 +230,7 @@ pub(crate) fn plan_of<'a, A: Allocator + Copy>(
             Ok(plan)
         }
         None => {
-            let found = shown(alloc, notes, dat, counts, false)?;
+            let found = text_or_binary(alloc, notes, dat, counts, false)?;
             found.ok_or(ImportFault::Whole(Why::NoKind))
         }
     }

@@ -112,13 +112,14 @@ pointed_at (suc p) u unit some is fits =
     pointed_parts p (u / unit) (u % unit) u (last_places (suc p) u unit is) parts fits
 
 -- the digits before the point, put before those after it
-pub pointed_text : (p u unit at end : ℕ) (old mid new : List ℕ) → 0 < p → unit ≡ 10 ^ p → u < 2 ^ 64
-    → drop at mid ≡ 46 ∷ padded p (u % unit) ++ drop end old → new ≡ decimal (u / unit) ++ drop at mid
+pub pointed_text : (p u unit q r at end : ℕ) (old mid new : List ℕ) → 0 < p → unit ≡ 10 ^ p → q ≡ u / unit → r ≡ u % unit → u < 2 ^ 64
+    → drop at mid ≡ 46 ∷ padded p r ++ drop end old → new ≡ decimal q ++ drop at mid
     → new ≡ pointed p (decimal u) ++ drop end old
-pointed_text p u unit at end old mid new some is fits back front =
-    let both : decimal (u / unit) ++ (46 ∷ padded p (u % unit) ++ drop end old) ≡ (decimal (u / unit) ++ 46 ∷ padded p (u % unit)) ++ drop end old =
-    sym (append_assoc (decimal (u / unit)) (46 ∷ padded p (u % unit)) (drop end old)) in
-    front ∙ ap (λ (r : List ℕ). decimal (u / unit) ++ r) back ∙ both ∙ ap (λ (r : List ℕ). r ++ drop end old) (sym (pointed_at p u unit some is fits))
+pointed_text p u unit q r at end old mid new some is iq ir fits back front =
+    let both : decimal q ++ (46 ∷ padded p r ++ drop end old) ≡ (decimal q ++ 46 ∷ padded p r) ++ drop end old =
+    sym (append_assoc (decimal q) (46 ∷ padded p r) (drop end old)) in
+    let parts : decimal q ++ 46 ∷ padded p r ≡ pointed p (decimal u) = rw (iq, ir) (sym (pointed_at p u unit some is fits)) in
+    front ∙ ap (λ (rest : List ℕ). decimal q ++ rest) back ∙ both ∙ ap (λ (text : List ℕ). text ++ drop end old) parts
 
 -- what stood before the first of two writes
 pub unchanged_before : (at first : ℕ) (old mid new : List ℕ) → at ≤ first → take first mid ≡ take first old → take at new ≡ take at mid → take at new ≡ take at old

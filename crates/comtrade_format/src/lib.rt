@@ -30,5 +30,5 @@ pub use output::write_all_of;
 pub use packed::{packed_bits, packed_values};
 pub use values::{
     AlignedScale, Clock, Cycle, CycleFault, LONGEST_VALUE, Scale, aligned_scale_of, civil_of,
-    clock_of, cycle_of, exact_value, nearest_f64, scale_of, without_zeros,
+    clock_of, cycle_of, exact_value, nearest_f64, scale_of, without_zeros, write_shortened,
 };

@@ -9,7 +9,7 @@ mod exact;
 mod nearest;
 mod scale;
 
-pub use aligned::{AlignedScale, LONGEST_VALUE, aligned_scale_of};
+pub use aligned::{AlignedScale, LONGEST_VALUE, aligned_scale_of, write_shortened};
 pub use civil::civil_of;
 pub use clock::{Clock, clock_of};
 pub use cycle::{Cycle, CycleFault, cycle_of};

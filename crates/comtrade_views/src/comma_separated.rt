@@ -63,8 +63,8 @@ impl<A: Allocator> Lines<A> {
         let Some(since) = since else {
             return self.separate();
         };
-        let micros = (since as i128).saturating_add(500).div_euclid(1000);
-        put_instant(&mut self.cell, (trigger as i128).saturating_add(micros))?;
+        let micros = since.div_euclid(1000) + (500 <= since.rem_euclid(1000)) as i64;
+        put_instant(&mut self.cell, trigger as i128 + micros as i128)?;
         self.end_quoted()?;
         self.separate()?;
         put_shortened(&mut self.cell, since, 6)?;

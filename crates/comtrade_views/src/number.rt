@@ -3,7 +3,9 @@
 ghost use Rattle.std.specs.Prelude.{OnOk};
 ghost use Rattle.comtrade_format.specs.Values as Values;
 
-use comtrade_format::{exact_value, put_decimal as put_exact, without_zeros};
+use comtrade_format::{
+    LONGEST_VALUE, exact_value, put_decimal as put_exact, without_zeros, write_shortened,
+};
 use dfr_channels::{AnalogChannel, Decimal};
 use itoa::Buffer;
 use std::alloc::{AllocError, Allocator};
@@ -132,8 +134,9 @@ pub(crate) fn put_shortened<A: Allocator>(
     units: i64,
     places: u8,
 ) -> Result<(), AllocError> {
-    match Decimal::new(units as i128, places) {
-        Some(number) => put_exact(out, without_zeros(number)),
+    let mut slot = [0u8; LONGEST_VALUE];
+    match write_shortened(&mut slot, LONGEST_VALUE, units, places) {
+        Some(start) => out.extend_from_slice(slot.get(start..).unwrap_or(&[])),
         None => put_value(
             out,
             Number {

@@ -1,6 +1,6 @@
 //! Values a·x + b of few digits, written from their last digit back.
 
-ghost use Rattle.std.specs.Prelude.{◌≡◌, ◌+◌, ◌^◌, ◌<◌, ◌≤◌, ◌++◌, ◌∷◌, ◌+ℤ◌, ◌*ℤ◌, IfNone, IfSome, length, take, drop, decimal};
+ghost use Rattle.std.specs.Prelude.{◌≡◌, ◌+◌, ◌*◌, ◌/◌, ◌%◌, ◌^◌, ◌<◌, ◌≤◌, ◌++◌, ◌∷◌, ◌+ℤ◌, ◌*ℤ◌, IfNone, IfSome, length, take, drop, decimal};
 ghost use Rattle.dfr_channels.specs.Written.{decimal_text, padded, pointed};
 ghost use Rattle.comtrade_format.specs.Values.{number_of};
 ghost use Rattle.comtrade_format.specs.Values as Values;
@@ -82,7 +82,40 @@ fn trimmed(number: Narrow) -> Narrow
     trimmed
 }
 
-/// 10^zeros; most values have few places, and a power is dear to a call for each.
+/// A number's digits before its last places, those of these places, and the one before them.
+#[derive(Clone, Copy)]
+struct Parts {
+    front: u64,
+    last: u64,
+    one: u64,
+}
+
+/// n * factor / 2^(64 + shift), rounded down: a quotient without a division, which takes five times as long.
+fn scaled(n: u64, factor: u64, shift: u32) -> u64
+    requires { shift < 64 }
+    ensures { result ≡ n * factor / 2 ^ 64 / 2 ^ shift }
+{
+    ((n as u128 * factor as u128) >> 64) as u64 >> shift
+}
+
+/// A number's quotient by 10^places, where places are at most 18. Most values have few.
+fn quotient(n: u64, places: u8) -> u64
+    requires places { places < 19 }
+    requires size { n ≤ 2 ^ 63 }
+    ensures { result ≡ n / 10 ^ places }
+{
+    match places {
+        1 => scaled(n, 0xCCCC_CCCC_CCCC_CCCD, 3),
+        2 => scaled(n, 0xA3D7_0A3D_70A3_D70B, 6),
+        3 => scaled(n, 0x8312_6E97_8D4F_DF3C, 9),
+        4 => scaled(n, 0xD1B7_1758_E219_652C, 13),
+        5 => scaled(n, 0xA7C5_AC47_1B47_8424, 16),
+        6 => scaled(n, 0x8637_BD05_AF6C_69B6, 19),
+        _ => n / 10u64.pow(places as u32),
+    }
+}
+
+/// 10^zeros, where zeros are at most 18.
 fn ten_to(zeros: u8) -> u64
     requires { zeros < 19 }
     ensures { result ≡ 10 ^ zeros }
@@ -98,10 +131,28 @@ fn ten_to(zeros: u8) -> u64
     }
 }
 
-/// Writes a point and after it the digits of a number below 10^places, so that they end at `end`, and answers where the point stands.
-fn write_fraction(slot: &mut [u8], end: usize, n: u64, places: u8) -> usize
+/// The parts of a number at so many places.
+fn parts_of(n: u64, places: u8) -> Parts
+    requires places { places < 19 }
+    requires size { n ≤ 2 ^ 63 }
+    ensures front { result.front ≡ n / result.one }
+    ensures last { result.last ≡ n % result.one }
+    ensures one { result.one ≡ 10 ^ places }
+{
+    let one = ten_to(places);
+    let front = quotient(n, places);
+    Parts {
+        front,
+        last: n - front * one,
+        one,
+    }
+}
+
+/// Writes a point and after it the digits of a number below one = 10^places, so that they end at `end`, and answers where the point stands.
+fn write_fraction(slot: &mut [u8], end: usize, n: u64, one: u64, places: u8) -> usize
     requires some { 0 < places }
     requires few { places < 19 }
+    requires one { one ≡ 10 ^ places }
     requires below { n < 10 ^ places }
     requires room { places < end }
     requires within { end ≤ length slot.old }
@@ -109,7 +160,7 @@ fn write_fraction(slot: &mut [u8], end: usize, n: u64, places: u8) -> usize
     ensures text { drop result slot.new ≡ 46 ∷ padded places n ++ drop end slot.old }
     ensures before { take result slot.new ≡ take result slot.old }
 {
-    let start = write_digits(ten_to(places) + n, slot, end);
+    let start = write_digits(one + n, slot, end);
     slot[start] = b'.';
     start
 }
@@ -117,6 +168,7 @@ fn write_fraction(slot: &mut [u8], end: usize, n: u64, places: u8) -> usize
 /// Writes the digits of a number, with a point before the last `places` of them, so that they end at `end`, and answers where they begin.
 fn write_pointed(slot: &mut [u8], end: usize, n: u64, places: u8) -> usize
     requires few { places < 19 }
+    requires size { n ≤ 2 ^ 63 }
     requires room { 40 ≤ end }
     requires within { end ≤ length slot.old }
     ensures text { drop result slot.new ≡ pointed places (decimal n) ++ drop end slot.old }
@@ -127,9 +179,9 @@ fn write_pointed(slot: &mut [u8], end: usize, n: u64, places: u8) -> usize
     if places == 0 {
         return write_digits(n, slot, end);
     }
-    let one = ten_to(places);
-    let point = write_fraction(slot, end, n % one, places);
-    write_digits(n / one, slot, point)
+    let parts = parts_of(n, places);
+    let point = write_fraction(slot, end, parts.last, parts.one, places);
+    write_digits(parts.front, slot, point)
 }
 
 /// Writes a number of at most 18 places, so that its text ends at `end`, and answers where it begins.
@@ -150,6 +202,18 @@ fn write_narrow(slot: &mut [u8], end: usize, number: Narrow) -> usize
     start - 1
 }
 
+/// Writes the number units / 10^places without zeros at the end of its places, so that its text ends at `end`, and answers where it begins;
+/// None where it has more than 18 places, or fewer than 40 bytes stand before `end`.
+pub fn write_shortened(slot: &mut [u8], end: usize, units: i64, places: u8) -> Option<usize>
+    ensures { IfSome result (λ start.
+        Values.WritesValue slot.old slot.new start end (number_of units places)) }
+{
+    if MOST_PLACES < places || end < LONGEST_VALUE || slot.len() < end {
+        return None;
+    }
+    Some(write_narrow(slot, end, trimmed(Narrow { units, places })))
+}
+
 impl AlignedScale {
     /// The value of a sample in units of the last place; None where they have more than 64 bits.
     fn units_at(self, sample: i32) -> Option<i64>
@@ -158,19 +222,11 @@ impl AlignedScale {
         self.a.checked_mul(sample as i64)?.checked_add(self.b)
     }
 
-    /// Writes the value a·x + b of a sample without zeros at the end of its places, so that its text ends at `end`, and answers where it
-    /// begins; None where its units have more than 64 bits, or fewer than 40 bytes stand before `end`.
+    /// Writes the value a·x + b of a sample as `write_shortened` does; None where that does, or where its units have more than 64 bits.
     pub fn write_value(self, slot: &mut [u8], end: usize, sample: i32) -> Option<usize>
         ensures { IfSome result (λ start.
             Values.WritesValue slot.old slot.new start end (Values.aligned_value self sample)) }
     {
-        if MOST_PLACES < self.places || end < LONGEST_VALUE || slot.len() < end {
-            return None;
-        }
-        let exact = Narrow {
-            units: self.units_at(sample)?,
-            places: self.places,
-        };
-        Some(write_narrow(slot, end, trimmed(exact)))
+        write_shortened(slot, end, self.units_at(sample)?, self.places)
     }
 }

@@ -16,28 +16,24 @@ returns-then-places-eq0-clause-text c = rw (c.if-places-eq0.true, pointed_none) 
 pub returns-then-places-eq0-clause-longest : goal.returns-then-places-eq0-clause-longest
 returns-then-places-eq0-clause-longest c = omega (arith, length_digits c.args.n c.ranges.n.fits, c.write_digits.ensures.start)
 
-pub nonzero_rem-n : goal.nonzero_rem-n
-nonzero_rem-n c = omega (arith, one-le-pow c.args.places 10 (omega arith), c.ten_to-one.ensures)
-
-pub nonzero_div-n : goal.nonzero_div-n
-nonzero_div-n c = omega (arith, one-le-pow c.args.places 10 (omega arith), c.ten_to-one.ensures)
-
 pub write_fraction-point-requires-clause-below : goal.write_fraction-point-requires-clause-below
-write_fraction-point-requires-clause-below c = last_places c.args.places c.args.n _ c.ten_to-one.ensures
+write_fraction-point-requires-clause-below c =
+    let parts = c.parts_of-parts.ensures in rw parts.last (last_places c.args.places c.args.n _ parts.one)
 
-front : (n unit : ℕ) → n < 2 ^ 64 → length (decimal (n / unit)) ≤ 20
-front n unit h = length_digits (n / unit) (omega (arith, div-le_self n unit))
+front : (n unit q : ℕ) → q ≡ n / unit → n < 2 ^ 64 → length (decimal q) ≤ 20
+front n unit q is h = length_digits q (omega (arith, div-le_self n unit))
 
 pub write_digits-requires-2 : goal.write_digits-requires-2
 write_digits-requires-2 c =
     let start = c.write_fraction-point.ensures.start in (
-      omega (arith, front c.args.n c.ten_to-one.result c.ranges.n.fits, start, c.requires.room, c.requires.few),
+      omega (arith, front c.args.n c.parts_of-parts.result.one _ c.parts_of-parts.ensures.front c.ranges.n.fits, start, c.requires.room, c.requires.few),
       omega (arith, start, c.requires.within, c.write_fraction-point.auto.slot),
     )
 
 pub returns-clause-text : goal.returns-clause-text
 returns-clause-text c =
-    pointed_text c.args.places c.args.n _ c.write_fraction-point.result c.args.end c.args.slot.now c.write_fraction-point.new.slot _ (some c.args.places c.if-places-eq0.false) c.ten_to-one.ensures c.ranges.n.fits c.write_fraction-point.ensures.text c.write_digits-2.ensures.written
+    let parts = c.parts_of-parts.ensures in
+    pointed_text c.args.places c.args.n _ _ _ c.write_fraction-point.result c.args.end c.args.slot.now c.write_fraction-point.new.slot _ (some c.args.places c.if-places-eq0.false) parts.one parts.front parts.last c.ranges.n.fits c.write_fraction-point.ensures.text c.write_digits-2.ensures.written
 
 pub returns-clause-before : goal.returns-clause-before
 returns-clause-before c =
@@ -45,7 +41,7 @@ returns-clause-before c =
 
 pub returns-clause-longest : goal.returns-clause-longest
 returns-clause-longest c =
-    omega (arith, front c.args.n c.ten_to-one.result c.ranges.n.fits, c.write_fraction-point.ensures.start, c.write_digits-2.ensures.start, c.requires.few)
+    omega (arith, front c.args.n c.parts_of-parts.result.one _ c.parts_of-parts.ensures.front c.ranges.n.fits, c.write_fraction-point.ensures.start, c.write_digits-2.ensures.start, c.requires.few)
 
 pub returns-clause-before_end : goal.returns-clause-before_end
 returns-clause-before_end c = omega (arith, c.write_fraction-point.ensures.start, c.write_digits-2.ensures.start)
