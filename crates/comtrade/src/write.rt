@@ -3,6 +3,7 @@
 use crate::load::{Inputs, file_spelled, pair_of, read_pair};
 use crate::part::put_part_fault;
 use crate::{complain, note_size, out_of_memory, say};
+use bumpalo::Bump;
 use comtrade_diagnostics::{Pair, put_refusal};
 use comtrade_format::{File as Record, Kind, WriteFault};
 use comtrade_io::{Converted, ToolFault, fault_of, put_safe, write_out};
@@ -143,7 +144,8 @@ fn convert_whole<R: Files + Eprint + AllocGlobal>(
     asked: Converted<'_>,
     inputs: &Inputs,
 ) -> u8 {
-    match converted(rt.alloc(), &inputs.cfg, &inputs.dat, asked.kind) {
+    let lists = Bump::new(rt.alloc()); // the rows and both texts are given up together
+    match converted(&lists, &inputs.cfg, &inputs.dat, asked.kind) {
         Ok(made) => write_named(rt, asked.name, &made.cfg, &made.dat),
         Err(ConvertFault::Read(_)) => convert_part(rt, asked, inputs),
         Err(fault) => refuse_pair(rt, asked.kind, pair_of(inputs), fault),

@@ -64,6 +64,15 @@ fn data_fault<A: Allocator>(m: Bounds, file: &File<A>) -> Option<WriteFault>
     )
 }
 
+/// The most bytes that so many rows of k values and n bits take, with the byte that ends them: 24 for number, stamp and the line's end, 7 for
+/// each value, 2 for each bit.
+fn ascii_size(k: usize, n: usize, rows: usize) -> usize
+    requires many { k < 1000000 }
+    requires few { n < 1000000 }
+{
+    (24 + 7 * k + 2 * n).saturating_mul(rows).saturating_add(1)
+}
+
 /// The rows in ASCII form, or `None` where one of them isn't taken.
 fn ascii_text<A: Allocator + Copy>(
     alloc: A,
@@ -72,14 +81,10 @@ fn ascii_text<A: Allocator + Copy>(
     requires { shapes.is_shaped file.now ≡ true }
     ensures { IfOk result (λ text. GivesText (λ v. v.items) text (rows_refusal refusals.ascii_bounds file.now.rows) (ascii file.now.rows)) }
 {
-    let mut out = Vec::new(alloc);
     let head = head_of(file);
-    let all = rows_ascii::put_rows(
-        &mut out,
-        analog_of(head).len(),
-        status_of(head).len(),
-        rows_of(file),
-    )?;
+    let (k, n) = (analog_of(head).len(), status_of(head).len());
+    let mut out = Vec::with_capacity(alloc, ascii_size(k, n, rows_of(file).len()))?;
+    let all = rows_ascii::put_rows(&mut out, k, n, rows_of(file))?;
     out.extend_from_slice(b"\x1A")?;
     if all { Ok(Some(out)) } else { Ok(None) }
 }
