@@ -64,7 +64,7 @@ pub(crate) fn measure_over<A: Allocator + Copy, W: Write>(
             write_out(w, &text)?;
             Ok(true)
         }
-        Err(MeasureFault::Memory) => Err(ToolFault::Memory),
+        Err(MeasureFault::Memory(_)) => Err(ToolFault::Memory),
         Err(fault) => {
             let text = format!(in room.texts; "comtrade: {fault}\n")?;
             put(said, text.as_str())?;

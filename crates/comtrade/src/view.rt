@@ -6,7 +6,7 @@ use crate::part::taken_of;
 use comtrade_diagnostics::{Pair, check_over, put_remarks};
 use comtrade_format::File;
 use comtrade_io::{Picture, ToolFault, View, Viewed, put, write_out};
-use comtrade_plot::{PlotOptions, page_over, plot_over};
+use comtrade_plot::{PlotOptions, Timed, page_over, plot_over};
 use comtrade_views::{Spelling, csv_over, put_text, show_json, show_over};
 use std::alloc::{AllocError, Allocator, Global};
 use std::io::Write;
@@ -73,8 +73,8 @@ fn put_view<A: Allocator + Copy, W: Write>(
 ) -> Result<(), ToolFault> {
     match view {
         View::Csv => csv_over(room.lists, file, times, look.spelling, w),
-        View::Plot => plot_over(room.lists, file, times, look.options, w),
-        View::Page => page_over(room.lists, file, times, w),
+        View::Plot => plot_over(room.lists, Timed { file, times }, look.options, w),
+        View::Page => page_over(room.lists, Timed { file, times }, w),
         _ if look.json => write_out(w, &show_json(room.texts, room.lists, file, times)?),
         _ => show_over(room.lists, file, times, w),
     }

@@ -2,7 +2,7 @@
 
 use crate::gaps::Gap;
 use crate::instant::{TimeUnit, put_places, put_span, time_unit};
-use crate::layout::Chart;
+use crate::layout::{Band, Chart};
 use crate::legend::NAMES;
 use crate::plan::{Frame, LEFT, RIGHT};
 use crate::sheet::Sheet;
@@ -73,7 +73,7 @@ fn unit_of<A: Allocator>(chart: &Chart<'_, A>) -> TimeUnit {
 }
 
 /// The lines of the times through a panel.
-pub(crate) fn put_grid<A: Allocator>(sheet: &mut Sheet<A>, frame: Frame, top: u32, bottom: u32) {
+pub(crate) fn put_grid<A: Allocator>(sheet: &mut Sheet<A>, frame: Frame, band: Band) {
     let step = step_of(frame);
     let mut tick = first_tick(frame.from, step);
     sheet.text("<path class=\"g\" stroke=\"#e2e2e2\" d=\"");
@@ -81,8 +81,8 @@ pub(crate) fn put_grid<A: Allocator>(sheet: &mut Sheet<A>, frame: Frame, top: u3
         if frame.to < tick {
             break;
         }
-        sheet.point("M", frame.across(tick), top);
-        sheet.along("V", bottom);
+        sheet.point("M", frame.across(tick), band.top);
+        sheet.along("V", band.bottom());
         tick = tick.saturating_add(step);
     }
     sheet.text("\"/>\n");
@@ -162,12 +162,7 @@ pub(crate) fn put_cycles<A: Allocator>(sheet: &mut Sheet<A>, chart: &Chart<'_, A
 }
 
 /// The trigger's line through a panel.
-pub(crate) fn put_trigger<A: Allocator>(
-    sheet: &mut Sheet<A>,
-    chart: &Chart<'_, A>,
-    top: u32,
-    bottom: u32,
-) {
+pub(crate) fn put_trigger<A: Allocator>(sheet: &mut Sheet<A>, chart: &Chart<'_, A>, band: Band) {
     if !chart.is_timed || !chart.frame.has(chart.trigger) {
         return;
     }
@@ -177,8 +172,8 @@ pub(crate) fn put_trigger<A: Allocator>(
         dashes,
         "\" d=\"",
     ]);
-    sheet.point("M", chart.frame.across(chart.trigger), top);
-    sheet.along("V", bottom);
+    sheet.point("M", chart.frame.across(chart.trigger), band.top);
+    sheet.along("V", band.bottom());
     sheet.text("\"/>\n");
 }
 
@@ -191,12 +186,7 @@ fn drawn_gap(frame: Frame, gap: Gap) -> (u32, u32) {
 }
 
 /// The gaps as shades through a panel; those that are no pixel apart are one.
-pub(crate) fn put_gaps<A: Allocator>(
-    sheet: &mut Sheet<A>,
-    chart: &Chart<'_, A>,
-    top: u32,
-    bottom: u32,
-) {
+pub(crate) fn put_gaps<A: Allocator>(sheet: &mut Sheet<A>, chart: &Chart<'_, A>, band: Band) {
     if chart.gaps.is_empty() {
         return;
     }
@@ -205,9 +195,9 @@ pub(crate) fn put_gaps<A: Allocator>(
     for gap in chart.gaps {
         let (x, width) = drawn_gap(chart.frame, *gap);
         if end <= x {
-            sheet.point("M", x, top);
+            sheet.point("M", x, band.top);
             sheet.along("h", width);
-            sheet.along("V", bottom);
+            sheet.along("V", band.bottom());
             sheet.along("H", x);
             sheet.text("z");
             end = x.saturating_add(width);

@@ -1,16 +1,17 @@
 //! A picture of two records that are laid over each other.
 
 use crate::axis::{put_cycles, put_gap_names, put_times, put_times_name};
-use crate::compare_head::{Laid, put_compare_head, put_singles, singles_in};
+use crate::compare_head::{put_compare_head, put_singles, singles_in};
 use crate::compare_panels::{pairs_end, put_pairs};
 use crate::contacts::{bars_of, contacts_height, put_contacts};
-use crate::differing::Beside;
+use crate::differing::{Beside, Laid};
+use crate::head::put_tag;
 use crate::joint::{drawn_of, own_panels, panels_beside, shifted};
 use crate::layers::Layer;
 use crate::layout::panel_count;
 use crate::plan::{LEFT, course_of, partners_of, places_of};
 use crate::plot::PlotOptions;
-use crate::record::{Part, Record, USUAL_CYCLE, chart_of, part_in, record_of};
+use crate::record::{Part, Record, Timed, USUAL_CYCLE, chart_of, part_in, record_of};
 use crate::sheet::Sheet;
 use comtrade_format::File;
 use comtrade_io::ToolFault;
@@ -22,13 +23,6 @@ use std::io::Write;
 pub enum By {
     Instant,
     Trigger,
-}
-
-/// A record, and when its rows were taken, in nanoseconds since its trigger.
-#[derive(Clone, Copy)]
-pub struct Timed<'a, A: Allocator> {
-    pub file: &'a File<A>,
-    pub times: &'a [Option<i64>],
 }
 
 /// How two records are drawn; `is_chosen`: the first one's channels are those that were asked for, and the other's aren't told.
@@ -113,7 +107,6 @@ fn put_scales<A: Allocator>(sheet: &mut Sheet<A>, beside: &Beside<'_, A>, places
 fn put_picture<A: Allocator + Copy>(
     sheet: &mut Sheet<A>,
     beside: &Beside<'_, A>,
-    laid: Laid,
     options: CompareOptions,
 ) -> Result<(), ToolFault> {
     let mut other_bars = bars_of(beside.other, options.picture.shows_all)?;
@@ -128,7 +121,8 @@ fn put_picture<A: Allocator + Copy>(
     let first = places.times.saturating_add(590);
     let second = first.saturating_add(160 * u32::from(has_one));
     let end = second.saturating_add(160 * u32::from(has_other));
-    put_compare_head(sheet, beside, laid, options.picture, end);
+    put_tag(sheet, options.picture, end);
+    put_compare_head(sheet, beside);
     put_pairs(sheet, beside, places.panels);
     put_contacts(sheet, beside.one, &bars, places.contacts);
     put_contacts(sheet, beside.other, &other_bars, places.others);
@@ -164,13 +158,13 @@ fn put_over<'a, A: Allocator + Copy>(
         moments: &moments,
         places: &places,
         most: records.0.cycle.unwrap_or(USUAL_CYCLE) / 8,
+        laid: Laid {
+            by: options.by,
+            is_part,
+            is_whole: options.picture.is_whole,
+        },
     };
-    let laid = Laid {
-        by: options.by,
-        is_part,
-        is_whole: options.picture.is_whole,
-    };
-    put_picture(sheet, &beside, laid, options)
+    put_picture(sheet, &beside, options)
 }
 
 /// Prints a picture of two records; or why they can't be compared, and nothing is printed.
@@ -193,10 +187,10 @@ pub fn compare_over<A: Allocator + Copy, W: Write>(
         By::Trigger => 0,
         By::Instant => to.saturating_sub(from).saturating_mul(1000),
     };
-    let mut first = record_of(alloc, one.file, one.times)?;
+    let mut first = record_of(alloc, one)?;
     first.layer = Layer::One;
-    let times = shifted(alloc, other.times, shift)?;
-    let mut second = record_of(alloc, other.file, &times)?;
+    let times = &shifted(alloc, other.times, shift)?;
+    let mut second = record_of(alloc, Timed { times, ..other })?;
     second.layer = Layer::Other;
     second.trigger = shift;
     match (first.is_timed, second.is_timed) {

@@ -2,14 +2,13 @@
 
 use crate::compare::By;
 use crate::differing::{Beside, is_exact};
-use crate::head::{STYLE, put_count, put_facts, put_station, put_tag};
+use crate::head::{STYLE, put_count, put_facts, put_station};
 use crate::instant::{put_range, put_span};
 use crate::layers::Layer;
 use crate::layout::{Chart, NOWHERE, panel_count};
 use crate::legend::put_mark;
 use crate::phases::Hue;
 use crate::plan::LEFT;
-use crate::plot::PlotOptions;
 use crate::sheet::Sheet;
 use dfr_channels::AnalogChannel;
 use std::alloc::Allocator;
@@ -18,14 +17,6 @@ const SMALL: &str = " class=\"f\" fill=\"#55595f\"";
 
 /// The most bytes of the names of channels in a line.
 const NAMED: usize = 60;
-
-/// How two records are laid over each other, and what is drawn: a part of what both have, that, or all of both.
-#[derive(Clone, Copy)]
-pub(crate) struct Laid {
-    pub(crate) by: By,
-    pub(crate) is_part: bool,
-    pub(crate) is_whole: bool,
-}
 
 /// What the picture shows, for those who hear it.
 fn put_description<A: Allocator>(sheet: &mut Sheet<A>, beside: &Beside<'_, A>) {
@@ -46,7 +37,8 @@ fn put_description<A: Allocator>(sheet: &mut Sheet<A>, beside: &Beside<'_, A>) {
 fn put_record<A: Allocator>(sheet: &mut Sheet<A>, chart: &Chart<'_, A>, letter: &str, y: u32) {
     let file = chart.file;
     sheet.label(LEFT, y, " font-size=\"15\"", letter);
-    put_mark(sheet, chart.layer, Hue::First, LEFT + 160, y);
+    let layer = chart.layer;
+    put_mark(sheet, layer, layer.hue(Hue::First), LEFT + 160, y);
     sheet.begin_text(LEFT + 420, y, " font-size=\"15\"");
     put_station(sheet, &file.head);
     sheet.end_text();
@@ -54,10 +46,10 @@ fn put_record<A: Allocator>(sheet: &mut Sheet<A>, chart: &Chart<'_, A>, letter: 
 }
 
 /// What falls together in both records.
-fn put_alignment<A: Allocator>(sheet: &mut Sheet<A>, beside: &Beside<'_, A>, by: By, y: u32) {
+fn put_alignment<A: Allocator>(sheet: &mut Sheet<A>, beside: &Beside<'_, A>, y: u32) {
     sheet.begin_text(LEFT, y, SMALL);
     let shift = beside.other.trigger;
-    match by {
+    match beside.laid.by {
         By::Trigger => sheet.text("laid over each other by their triggers"),
         By::Instant => {
             sheet.text("laid over each other by their instants: the trigger of B is ");
@@ -77,30 +69,23 @@ fn put_alignment<A: Allocator>(sheet: &mut Sheet<A>, beside: &Beside<'_, A>, by:
 }
 
 /// How differences are taken, and what is drawn.
-fn put_method<A: Allocator>(sheet: &mut Sheet<A>, beside: &Beside<'_, A>, laid: Laid, y: u32) {
+fn put_method<A: Allocator>(sheet: &mut Sheet<A>, beside: &Beside<'_, A>, y: u32) {
     sheet.begin_text(LEFT, y, SMALL);
     sheet.text(if is_exact(beside) {
         "A \u{2212} B at A's rows, each at the instant of a row of B"
     } else {
         "A \u{2212} B at A's rows, B on straight lines between its rows"
     });
-    if laid.is_part {
+    if beside.laid.is_part {
         sheet.text("; drawn around A's trigger, --whole draws all of both");
-    } else if !laid.is_whole {
+    } else if !beside.laid.is_whole {
         sheet.text("; drawn: what both have");
     }
     sheet.end_text();
 }
 
-/// The head of a picture of two records, of so many pixels.
-pub(crate) fn put_compare_head<A: Allocator>(
-    sheet: &mut Sheet<A>,
-    beside: &Beside<'_, A>,
-    laid: Laid,
-    options: PlotOptions,
-    height: u32,
-) {
-    put_tag(sheet, options, height);
+/// The head of a picture of two records, after its tag.
+pub(crate) fn put_compare_head<A: Allocator>(sheet: &mut Sheet<A>, beside: &Beside<'_, A>) {
     sheet.text("<title id=\"title\">");
     let (one, other) = (beside.one.file, beside.other.file);
     sheet.text("A: ");
@@ -113,8 +98,8 @@ pub(crate) fn put_compare_head<A: Allocator>(
     sheet.text("<rect class=\"p\" width=\"100%\" height=\"100%\" fill=\"#ffffff\"/>\n");
     put_record(sheet, beside.one, "A", 230);
     put_record(sheet, beside.other, "B", 620);
-    put_alignment(sheet, beside, laid.by, 960);
-    put_method(sheet, beside, laid, 1100);
+    put_alignment(sheet, beside, 960);
+    put_method(sheet, beside, 1100);
 }
 
 /// Whether a channel of these is called so.
@@ -146,7 +131,7 @@ pub(crate) fn put_singles<A: Allocator + Copy>(
     y: u32,
 ) {
     let (file, others) = (one.file, other.file);
-    let mut names = Sheet::new(one.alloc);
+    let mut names = sheet.another();
     let mut left = singles_in(one);
     for (channel, panel) in file.head.analog.items().iter().zip(one.panels.iter()) {
         if *panel == NOWHERE && names.len() < NAMED {

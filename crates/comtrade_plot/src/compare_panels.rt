@@ -2,10 +2,11 @@
 
 use crate::differing::{Beside, differences_of};
 use crate::instant::put_span;
-use crate::layout::{LINE_HEIGHT, TITLE, channel_in, least_height, legends_height, panel_count};
+use crate::layout::{
+    Band, LINE_HEIGHT, TITLE, channel_in, least_height, legends_height, panel_count,
+};
 use crate::legend::{put_legend, put_small};
 use crate::panels::put_panel;
-use crate::phases::Hue;
 use crate::plan::Differences;
 use crate::quantity::put_quantity;
 use crate::sheet::Sheet;
@@ -34,13 +35,12 @@ pub(crate) fn pairs_end<A: Allocator>(beside: &Beside<'_, A>, top: u32) -> u32 {
 /// Both lines on the differences of a channel and its partner, from a height on: the greatest one and when it is, and how they are in all.
 fn put_differences<A: Allocator + Copy>(
     sheet: &mut Sheet<A>,
-    alloc: A,
     differences: Differences,
     unit: &[u8],
     y: u32,
 ) {
-    let mut first = Sheet::new(alloc);
-    let mut second = Sheet::new(alloc);
+    let mut first = sheet.another();
+    let mut second = sheet.another();
     match differences.rms() {
         Some(rms) => {
             first.text("A \u{2212} B: greatest ");
@@ -69,19 +69,13 @@ fn put_pair_legend<A: Allocator + Copy>(
     let (Some(channel), Some(partner)) = (channel, channel_in(beside.other, number)) else {
         return;
     };
-    let y = put_legend(
-        sheet,
-        beside.one,
-        channel,
-        Hue::First,
-        top.saturating_add(90),
-    );
-    let y = put_legend(sheet, beside.other, partner, Hue::Second, y);
+    let y = put_legend(sheet, beside.one, channel, top.saturating_add(90));
+    let y = put_legend(sheet, beside.other, partner, y);
     let file = beside.one.file;
     if let Some(named) = file.head.analog.items().get(channel) {
         let differences = differences_of(beside, channel, partner);
         let unit = named.unit.items();
-        put_differences(sheet, beside.one.alloc, differences, unit, y);
+        put_differences(sheet, differences, unit, y);
     }
 }
 
@@ -93,10 +87,12 @@ pub(crate) fn put_pairs<A: Allocator + Copy>(
 ) {
     let mut y = top;
     for number in 0..panel_count(beside.one.panels) {
-        let height = pair_height(beside, number);
-        y = y.saturating_add(TITLE);
-        put_panel(sheet, beside.one, Some(beside.other), number, y, height);
-        put_pair_legend(sheet, beside, number, y);
-        y = y.saturating_add(height);
+        let band = Band {
+            top: y.saturating_add(TITLE),
+            height: pair_height(beside, number),
+        };
+        put_panel(sheet, beside.one, Some(beside.other), number, band);
+        put_pair_legend(sheet, beside, number, band.top);
+        y = band.bottom();
     }
 }

@@ -2,7 +2,7 @@
 
 use crate::axis::{put_gaps, put_grid, put_trigger};
 use crate::layers::Layer;
-use crate::layout::{CONTACT, Chart, contact_height};
+use crate::layout::{Band, CONTACT, Chart, contact_height};
 use crate::legend::{NAMES, put_name};
 use crate::plan::{LEFT, RIGHT};
 use crate::rows::bit_at;
@@ -207,9 +207,10 @@ pub(crate) fn put_contacts<A: Allocator>(
     top: u32,
 ) {
     let file = chart.file;
-    let bottom = top.saturating_add(bars_height(chart, bars));
-    put_gaps(sheet, chart, top, bottom);
-    put_grid(sheet, chart.frame, top, bottom);
+    let height = bars_height(chart, bars);
+    let band = Band { top, height };
+    put_gaps(sheet, chart, band);
+    put_grid(sheet, chart.frame, band);
     let mut y = top;
     let contacts = file.head.status.items().iter().zip(bars.iter());
     for (i, (channel, has_bar)) in contacts.enumerate() {
@@ -218,7 +219,7 @@ pub(crate) fn put_contacts<A: Allocator>(
             y = y.saturating_add(contact_height(channel));
         }
     }
-    put_trigger(sheet, chart, top, bottom);
+    put_trigger(sheet, chart, band);
     if unmarked(bars) != 0 {
         put_unchanged(sheet, chart, bars, y);
     }

@@ -1,13 +1,23 @@
 //! How far equal channels of two records differ.
 
+use crate::compare::By;
 use crate::layout::Chart;
 use crate::plan::{Differences, Moment, Point, between};
 use crate::rows::reading_at;
 use dfr_channels::Reading;
 use std::alloc::Allocator;
 
+/// How two records are laid over each other, and what is drawn: a part of what both have, that, or all of both.
+#[derive(Clone, Copy)]
+pub(crate) struct Laid {
+    pub(crate) by: By,
+    pub(crate) is_part: bool,
+    pub(crate) is_whole: bool,
+}
+
 /// Two records in one frame: when the rows of the one were taken, the other's moments, of each row of the one the place of the last of
-/// them that isn't after it, and how far two moments are apart at most between which values are taken from a straight line.
+/// them that isn't after it, and how far two moments are apart at most between which values are taken from a straight line; how they are
+/// laid over each other.
 #[derive(Drop)]
 pub(crate) struct Beside<'a, A: Allocator> {
     pub(crate) one: &'a Chart<'a, A>,
@@ -16,6 +26,7 @@ pub(crate) struct Beside<'a, A: Allocator> {
     pub(crate) moments: &'a [Moment],
     pub(crate) places: &'a [Option<usize>],
     pub(crate) most: i64,
+    pub(crate) laid: Laid,
 }
 
 /// The value of a channel in a row, where it has one.

@@ -12,26 +12,24 @@ pub(crate) struct Gap {
     pub(crate) rows: u64,
 }
 
-/// What was seen of a gap so far: the time of the row before it, and how many rows it has.
-#[derive(Clone, Copy)]
-struct Seen {
-    before: Option<i64>,
-    rows: u64,
-}
+impl Gap {
+    /// A gap without rows so far, after a row of this time.
+    fn after(time: i64) -> Gap {
+        Gap {
+            from: time,
+            to: time,
+            rows: 0,
+        }
+    }
 
-impl Seen {
-    /// The gap that ends at a time, cut to the frame; None where there is none.
-    fn gap_to(self, frame: Frame, to: i64) -> Option<Gap> {
-        let from = self.before.unwrap_or(frame.from).max(frame.from);
+    /// The gap where it ends at a time, cut to the frame; None where there is none.
+    fn up_to(self, frame: Frame, to: i64) -> Option<Gap> {
+        let from = self.from.max(frame.from);
         let to = to.min(frame.to);
         if self.rows == 0 || to <= from {
             return None;
         }
-        Some(Gap {
-            from,
-            to,
-            rows: self.rows,
-        })
+        Some(Gap { from, to, ..self })
     }
 }
 
@@ -42,25 +40,19 @@ pub(crate) fn gaps_of<A: Allocator + Copy>(
     kept: &[Option<i64>],
 ) -> Result<Vec<Gap, A>, ToolFault> {
     let mut gaps = Vec::new(alloc);
-    let mut seen = Seen {
-        before: None,
-        rows: 0,
-    };
+    let mut begun = Gap::after(frame.from);
     for time in kept {
         match *time {
-            None => seen.rows = seen.rows.saturating_add(1),
+            None => begun.rows = begun.rows.saturating_add(1),
             Some(time) => {
-                if let Some(gap) = seen.gap_to(frame, time) {
+                if let Some(gap) = begun.up_to(frame, time) {
                     gaps.push(gap)?;
                 }
-                seen = Seen {
-                    before: Some(time),
-                    rows: 0,
-                };
+                begun = Gap::after(time);
             }
         }
     }
-    if let Some(gap) = seen.gap_to(frame, frame.to) {
+    if let Some(gap) = begun.up_to(frame, frame.to) {
         gaps.push(gap)?;
     }
     Ok(gaps)

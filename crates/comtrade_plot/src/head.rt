@@ -19,7 +19,7 @@ svg{fill:#e8eaed}.p{fill:#14171c}.f{fill:#a9b0b8}.g{stroke:#2c323a}.e{stroke:#7b
 @media print{.b{stroke-dasharray:8 2}.c{stroke-dasharray:3 2}.n{stroke-dasharray:8 2 2 2}\
 .v{stroke-dasharray:8 2}.w{stroke-dasharray:3 2}.z{stroke-dasharray:8 2 2 2}}</style>\n";
 
-/// The picture's tag: it keeps its form where only its width is asked for.
+/// The tag of a picture of so many pixels: it keeps its form where only its width is asked for.
 pub(crate) fn put_tag<A: Allocator>(sheet: &mut Sheet<A>, options: PlotOptions, height: u32) {
     let width = options.width.unwrap_or(WIDTH / 10);
     let pixels = u64::from(width).saturating_mul(u64::from(height)) / 12_000;
@@ -118,15 +118,9 @@ pub(crate) fn put_facts<A: Allocator>(sheet: &mut Sheet<A>, file: &File<A>, y: u
     sheet.end_text();
 }
 
-/// The head of a picture of so many pixels.
-pub(crate) fn put_head<A: Allocator>(
-    sheet: &mut Sheet<A>,
-    chart: &Chart<'_, A>,
-    options: PlotOptions,
-    height: u32,
-) {
+/// The head of a picture, after its tag.
+pub(crate) fn put_head<A: Allocator>(sheet: &mut Sheet<A>, chart: &Chart<'_, A>) {
     let file = chart.file;
-    put_tag(sheet, options, height);
     sheet.text("<title id=\"title\">");
     put_station(sheet, &file.head);
     sheet.text("</title>\n");

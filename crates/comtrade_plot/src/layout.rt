@@ -1,7 +1,9 @@
 //! How much room panels and names have.
 
 use crate::gaps::Gap;
+use crate::groups::hue_in;
 use crate::layers::Layer;
+use crate::phases::Hue;
 use crate::plan::Frame;
 use crate::survey::Survey;
 use comtrade_format::{File, Scale};
@@ -24,6 +26,28 @@ pub(crate) struct Chart<'a, A: Allocator> {
     pub(crate) is_timed: bool,
     pub(crate) trigger: i64,
     pub(crate) layer: Layer,
+}
+
+impl<'a, A: Allocator> Chart<'a, A> {
+    /// The hue of a channel's trace.
+    pub(crate) fn hue(&self, at: usize) -> Hue {
+        let file = self.file;
+        let own = hue_in(file.head.analog.items(), self.panels, at);
+        self.layer.hue(own)
+    }
+}
+
+/// What a panel or the bars of contacts take of a picture's height.
+#[derive(Clone, Copy)]
+pub(crate) struct Band {
+    pub(crate) top: u32,
+    pub(crate) height: u32,
+}
+
+impl Band {
+    pub(crate) fn bottom(self) -> u32 {
+        self.top.saturating_add(self.height)
+    }
 }
 
 /// The panel of a channel that isn't drawn.

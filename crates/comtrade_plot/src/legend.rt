@@ -15,8 +15,7 @@ use std::alloc::Allocator;
 pub(crate) const NAMES: u32 = RIGHT + 320;
 
 /// A piece of a trace of a layer, from a place on.
-pub(crate) fn put_mark<A: Allocator>(sheet: &mut Sheet<A>, layer: Layer, own: Hue, x: u32, y: u32) {
-    let hue = layer.hue(own);
+pub(crate) fn put_mark<A: Allocator>(sheet: &mut Sheet<A>, layer: Layer, hue: Hue, x: u32, y: u32) {
     sheet.texts(&["<path class=\"", hue.class(), "\" stroke=\"", hue.colour()]);
     sheet.texts(&[
         "\"",
@@ -104,7 +103,6 @@ pub(crate) fn put_legend<A: Allocator + Copy>(
     sheet: &mut Sheet<A>,
     chart: &Chart<'_, A>,
     at: usize,
-    hue: Hue,
     y: u32,
 ) -> u32 {
     let file = chart.file;
@@ -117,10 +115,10 @@ pub(crate) fn put_legend<A: Allocator + Copy>(
         return y;
     };
     let layer = chart.layer;
-    put_mark(sheet, layer, hue, RIGHT + 90, y);
+    put_mark(sheet, layer, chart.hue(at), RIGHT + 90, y);
     let (id, phase) = (channel.id.items(), channel.phase.items());
     let end = put_name(sheet, layer.tag(), id, phase, y);
-    let mut numbers = Sheet::new(chart.alloc);
+    let mut numbers = sheet.another();
     match peak_of(*survey, *scale) {
         Some(peak) => {
             let unit = channel.unit.items();

@@ -1,7 +1,6 @@
 //! The values at a panel's left, at round numbers.
 
 use crate::instant::put_places;
-use crate::layout::Chart;
 use crate::plan::{LEFT, Panel, RIGHT};
 use crate::sheet::Sheet;
 use crate::units::power_of_ten;
@@ -50,18 +49,12 @@ fn first_tick(step: Step, low: f64) -> i64 {
 }
 
 /// A level's line, and its value, which is made narrower where it has more than ten characters.
-fn put_level<A: Allocator + Copy>(
-    sheet: &mut Sheet<A>,
-    chart: &Chart<'_, A>,
-    step: Step,
-    tick: i64,
-    y: u32,
-) {
+fn put_level<A: Allocator + Copy>(sheet: &mut Sheet<A>, step: Step, tick: i64, y: u32) {
     sheet.text("<path class=\"g\" stroke=\"#e2e2e2\" d=\"");
     sheet.point("M", LEFT, y);
     sheet.along("H", RIGHT);
     sheet.text("\"/>");
-    let mut label = Sheet::new(chart.alloc);
+    let mut label = sheet.another();
     let mut units = tick.saturating_mul(step.digit);
     for _ in 0..step.exponent {
         units = units.saturating_mul(10);
@@ -79,12 +72,7 @@ fn put_level<A: Allocator + Copy>(
 }
 
 /// The level lines of a panel, whose values are shown divided by a power of ten: one for each 20 pixels, five at most.
-pub(crate) fn put_levels<A: Allocator + Copy>(
-    sheet: &mut Sheet<A>,
-    chart: &Chart<'_, A>,
-    panel: Panel,
-    exponent: i32,
-) {
+pub(crate) fn put_levels<A: Allocator + Copy>(sheet: &mut Sheet<A>, panel: Panel, exponent: i32) {
     let power = power_of_ten(exponent);
     let (low, high) = (panel.low / power, panel.high / power);
     let steps = u64::from((panel.height / 200).clamp(1, 5));
@@ -96,6 +84,6 @@ pub(crate) fn put_levels<A: Allocator + Copy>(
         if high < value {
             break;
         }
-        put_level(sheet, chart, step, tick, panel.level(value * power));
+        put_level(sheet, step, tick, panel.level(value * power));
     }
 }

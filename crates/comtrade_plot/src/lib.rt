@@ -35,6 +35,7 @@ mod survey;
 mod trace;
 mod units;
 
-pub use compare::{By, CompareOptions, Refusal, Timed, compare_over};
+pub use compare::{By, CompareOptions, Refusal, compare_over};
 pub use page::page_over;
 pub use plot::{PlotOptions, plot_over};
+pub use record::Timed;

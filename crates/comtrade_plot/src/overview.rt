@@ -1,7 +1,7 @@
 //! The strip that shows where in a long record the drawn times are.
 
 use crate::instant::{put_range, put_span};
-use crate::layout::Chart;
+use crate::layout::{Band, Chart};
 use crate::legend::NAMES;
 use crate::panels::{panel_of, put_frame, put_traces};
 use crate::plan::{Frame, LEFT, RIGHT};
@@ -46,10 +46,14 @@ pub(crate) fn put_overview<A: Allocator>(
     top: u32,
 ) {
     let number = chosen_panel(whole);
-    if let Some(panel) = panel_of(whole, None, number, top, HEIGHT) {
+    let band = Band {
+        top,
+        height: HEIGHT,
+    };
+    if let Some(panel) = panel_of(whole, None, number, band) {
         put_traces(sheet, whole, panel, number);
     }
-    put_frame(sheet, top, HEIGHT);
+    put_frame(sheet, band);
     let frame = whole.frame;
     let from = frame.across(part.from).saturating_sub(10).max(LEFT);
     let to = frame.across(part.to).saturating_add(10).min(RIGHT);

@@ -4,7 +4,7 @@ use crate::blocks::{Bits, Samples, gather_bits, gather_samples, times_of_rows, w
 use crate::groups::hue_in;
 use crate::head::put_station;
 use crate::instant::put_instant;
-use crate::record::{Choice, Part, Record, choice_of, part_of, record_of};
+use crate::record::{Choice, Part, Record, Timed, choice_of, part_of, record_of};
 use crate::script_text::script;
 use crate::sheet::Sheet;
 use crate::style_text::style;
@@ -223,15 +223,14 @@ fn write_bits<A: Allocator + Copy, W: Write>(
     Ok(())
 }
 
-/// Prints a page that shows a file in a browser, without a network; its rows were taken at these times, in nanoseconds since the
-/// trigger.
+/// Prints a page that shows a record in a browser, without a network.
 pub fn page_over<A: Allocator + Copy, W: Write>(
     alloc: A,
-    file: &File<A>,
-    times: &[Option<i64>],
+    timed: Timed<'_, A>,
     w: &mut W,
 ) -> Result<(), ToolFault> {
-    let record = record_of(alloc, file, times)?;
+    let file = timed.file;
+    let record = record_of(alloc, timed)?;
     let choice = choice_of(file, &record, false);
     let part = part_of(alloc, file, &record, choice.whole)?;
     let mut sheet = Sheet::new(alloc);

@@ -2,8 +2,7 @@
 
 use crate::axis::{put_gaps, put_grid, put_trigger};
 use crate::edges::{spread, with_edges};
-use crate::groups::hue_in;
-use crate::layout::{Chart, TITLE, channel_in, height_of, panel_count};
+use crate::layout::{Band, Chart, TITLE, channel_in, height_of, panel_count};
 use crate::legend::put_legend;
 use crate::levels::put_levels;
 use crate::plan::{ACROSS, LEFT, Panel, RIGHT};
@@ -29,13 +28,12 @@ fn bounds_with<A: Allocator>(
     bounds
 }
 
-/// A panel of one chart, or of two that are drawn over each other, from a height on; None where it has no readings.
+/// A panel of one chart, or of two that are drawn over each other, in a band; None where it has no readings.
 pub(crate) fn panel_of<'a, A: Allocator>(
     one: &Chart<'a, A>,
     other: Option<&Chart<'a, A>>,
     number: usize,
-    top: u32,
-    height: u32,
+    band: Band,
 ) -> Option<Panel> {
     let mut bounds = bounds_with(None, one, number);
     if let Some(other) = other {
@@ -44,8 +42,8 @@ pub(crate) fn panel_of<'a, A: Allocator>(
     let (low, high) = bounds?;
     let (low, high) = with_edges(low, high);
     Some(Panel {
-        top,
-        height,
+        top: band.top,
+        height: band.height,
         low,
         high,
     })
@@ -94,15 +92,12 @@ pub(crate) fn put_traces<A: Allocator>(
     panel: Panel,
     number: usize,
 ) {
-    let file = chart.file;
-    let channels = file.head.analog.items();
     sheet.text(
         "<g fill=\"none\" stroke-width=\"1.2\" stroke-linecap=\"round\" stroke-linejoin=\"round\">\n",
     );
     for (i, its) in chart.panels.iter().enumerate() {
         if *its == number {
-            let hue = hue_in(channels, chart.panels, i);
-            put_channel(sheet, chart, panel, i, chart.layer.hue(hue));
+            put_channel(sheet, chart, panel, i);
         }
     }
     sheet.text("</g>\n");
@@ -112,28 +107,25 @@ pub(crate) fn put_traces<A: Allocator>(
 fn put_names<A: Allocator + Copy>(
     sheet: &mut Sheet<A>,
     chart: &Chart<'_, A>,
-    top: u32,
     number: usize,
+    top: u32,
 ) {
-    let file = chart.file;
-    let channels = file.head.analog.items();
     let mut y = top.saturating_add(90);
     for (i, its) in chart.panels.iter().enumerate() {
         if *its == number {
-            let hue = hue_in(channels, chart.panels, i);
-            y = put_legend(sheet, chart, i, hue, y);
+            y = put_legend(sheet, chart, i, y);
         }
     }
 }
 
 /// A panel's frame.
-pub(crate) fn put_frame<A: Allocator>(sheet: &mut Sheet<A>, top: u32, height: u32) {
-    sheet.begin_box((LEFT, top), (ACROSS, height));
+pub(crate) fn put_frame<A: Allocator>(sheet: &mut Sheet<A>, band: Band) {
+    sheet.begin_box((LEFT, band.top), (ACROSS, band.height));
     sheet.text(" class=\"e\" fill=\"none\" stroke=\"#8a8f96\"/>\n");
 }
 
 /// A panel without a reading says so, away from the trigger's line.
-fn put_empty<A: Allocator>(sheet: &mut Sheet<A>, chart: &Chart<'_, A>, top: u32, height: u32) {
+fn put_empty<A: Allocator>(sheet: &mut Sheet<A>, chart: &Chart<'_, A>, band: Band) {
     let middle = (LEFT + RIGHT) / 2;
     let is_left = chart.frame.across(chart.trigger) < middle;
     sheet.label(
@@ -142,48 +134,46 @@ fn put_empty<A: Allocator>(sheet: &mut Sheet<A>, chart: &Chart<'_, A>, top: u32,
         } else {
             (LEFT + middle) / 2
         },
-        top.saturating_add(height / 2),
+        band.top.saturating_add(band.height / 2),
         " text-anchor=\"middle\" class=\"f\" fill=\"#55595f\"",
         "no readings",
     );
 }
 
-/// A panel of one chart, or of two over each other, below its title, at a height.
+/// A panel of one chart, or of two over each other, in a band below its title.
 pub(crate) fn put_panel<'a, A: Allocator + Copy>(
     sheet: &mut Sheet<A>,
     one: &Chart<'a, A>,
     other: Option<&Chart<'a, A>>,
     number: usize,
-    top: u32,
-    height: u32,
+    band: Band,
 ) {
     let Some(first) = first_of(one, number) else {
         return;
     };
-    let bottom = top.saturating_add(height);
-    put_gaps(sheet, one, top, bottom);
+    put_gaps(sheet, one, band);
     if let Some(other) = other {
-        put_gaps(sheet, other, top, bottom);
+        put_gaps(sheet, other, band);
     }
-    put_grid(sheet, one.frame, top, bottom);
-    let title = top.saturating_sub(50);
-    if let Some(panel) = panel_of(one, other, number, top, height) {
+    put_grid(sheet, one.frame, band);
+    let title = band.top.saturating_sub(50);
+    if let Some(panel) = panel_of(one, other, number, band) {
         let exponent = exponent_of(first, panel);
         put_title(sheet, first, exponent, title);
-        put_levels(sheet, one, panel, exponent);
+        put_levels(sheet, panel, exponent);
         put_traces(sheet, one, panel, number);
         if let Some(other) = other {
             put_traces(sheet, other, panel, number);
         }
     } else {
         put_title(sheet, first, 0, title);
-        put_empty(sheet, one, top, height);
+        put_empty(sheet, one, band);
     }
-    put_trigger(sheet, one, top, bottom);
+    put_trigger(sheet, one, band);
     if let Some(other) = other {
-        put_trigger(sheet, other, top, bottom);
+        put_trigger(sheet, other, band);
     }
-    put_frame(sheet, top, height);
+    put_frame(sheet, band);
 }
 
 /// All panels from a height on.
@@ -195,10 +185,12 @@ pub(crate) fn put_panels<A: Allocator + Copy>(
     let count = panel_count(chart.panels);
     let mut y = top;
     for number in 0..count {
-        let height = height_of(chart, number, count);
-        y = y.saturating_add(TITLE);
-        put_panel(sheet, chart, None, number, y, height);
-        put_names(sheet, chart, y, number);
-        y = y.saturating_add(height);
+        let band = Band {
+            top: y.saturating_add(TITLE),
+            height: height_of(chart, number, count),
+        };
+        put_panel(sheet, chart, None, number, band);
+        put_names(sheet, chart, number, band.top);
+        y = band.bottom();
     }
 }

@@ -2,14 +2,13 @@
 
 use crate::axis::{put_cycles, put_gap_names, put_times, put_times_name};
 use crate::contacts::{bars_of, contacts_height, put_contacts};
-use crate::head::put_head;
+use crate::head::{put_head, put_tag};
 use crate::layout::{Chart, panels_end};
 use crate::overview::{STRIP, put_overview};
 use crate::panels::put_panels;
 use crate::plan::LEFT;
-use crate::record::{Part, Record, chart_of, choice_of, part_of, record_of, whole_of};
+use crate::record::{Timed, chart_of, choice_of, part_of, record_of, whole_of};
 use crate::sheet::Sheet;
-use comtrade_format::File;
 use comtrade_io::ToolFault;
 use std::alloc::Allocator;
 use std::io::Write;
@@ -32,6 +31,7 @@ struct Places {
     end: u32,
 }
 
+/// The places of a picture, with room for the strip where a part of a record is drawn.
 fn places_in<A: Allocator>(chart: &Chart<'_, A>, bars: &[bool], is_part: bool) -> Places {
     let strip = if is_part { STRIP } else { 0 };
     let gaps = if chart.gaps.is_empty() { 0 } else { 150 };
@@ -64,47 +64,26 @@ fn put_scales<A: Allocator>(sheet: &mut Sheet<A>, chart: &Chart<'_, A>, places: 
     }
 }
 
-/// The picture of what is drawn of a record up to its end, with room for the strip where that is a part of it.
-fn put_picture<'a, A: Allocator + Copy>(
-    alloc: A,
-    sheet: &mut Sheet<A>,
-    file: &'a File<A>,
-    record: &'a Record<A>,
-    part: &'a Part<A>,
-    is_part: bool,
-    options: PlotOptions,
-) -> Result<(), ToolFault> {
-    let chart = chart_of(alloc, file, record, part);
-    let bars = bars_of(&chart, options.shows_all)?;
-    let places = places_in(&chart, &bars, is_part);
-    put_head(sheet, &chart, options, places.end.saturating_add(640));
-    put_panels(sheet, &chart, places.panels);
-    put_contacts(sheet, &chart, &bars, places.contacts);
-    put_scales(sheet, &chart, places);
-    Ok(())
-}
-
-/// Prints a picture of a file, whose rows were taken at these times, in nanoseconds since the trigger.
+/// Prints a picture of a record.
 pub fn plot_over<A: Allocator + Copy, W: Write>(
     alloc: A,
-    file: &File<A>,
-    times: &[Option<i64>],
+    timed: Timed<'_, A>,
     options: PlotOptions,
     w: &mut W,
 ) -> Result<(), ToolFault> {
-    let record = record_of(alloc, file, times)?;
+    let file = timed.file;
+    let record = record_of(alloc, timed)?;
     let choice = choice_of(file, &record, options.is_whole);
     let part = part_of(alloc, file, &record, choice.drawn)?;
+    let chart = chart_of(alloc, file, &record, &part);
+    let bars = bars_of(&chart, options.shows_all)?;
+    let places = places_in(&chart, &bars, choice.is_part);
     let mut sheet = Sheet::new(alloc);
-    put_picture(
-        alloc,
-        &mut sheet,
-        file,
-        &record,
-        &part,
-        choice.is_part,
-        options,
-    )?;
+    put_tag(&mut sheet, options, places.end.saturating_add(640));
+    put_head(&mut sheet, &chart);
+    put_panels(&mut sheet, &chart, places.panels);
+    put_contacts(&mut sheet, &chart, &bars, places.contacts);
+    put_scales(&mut sheet, &chart, places);
     if choice.is_part {
         let all = whole_of(alloc, file, &record, &part, choice.whole)?;
         let strip = chart_of(alloc, file, &record, &all);

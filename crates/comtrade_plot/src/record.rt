@@ -29,6 +29,13 @@ fn scales_of<A: Allocator + Copy>(
     Ok(scales)
 }
 
+/// A record, and when its rows were taken, in nanoseconds since its trigger.
+#[derive(Clone, Copy)]
+pub struct Timed<'a, A: Allocator> {
+    pub file: &'a File<A>,
+    pub times: &'a [Option<i64>],
+}
+
 /// What is known of a file whichever part of it is drawn: when its rows were taken, and those that weren't lost, in nanoseconds since the
 /// trigger, or their numbers where the file has no times; what turns samples into values; how long a cycle of the line's frequency is, where
 /// that is one; when the trigger was, and which record of the picture it is.
@@ -45,9 +52,9 @@ pub(crate) struct Record<A: Allocator> {
 
 pub(crate) fn record_of<A: Allocator + Copy>(
     alloc: A,
-    file: &File<A>,
-    times: &[Option<i64>],
+    timed: Timed<'_, A>,
 ) -> Result<Record<A>, ToolFault> {
+    let (file, times) = (timed.file, timed.times);
     let is_timed = whole_frame(times).is_some();
     let hertz = nearest_f64(alloc, file.head.line_freq)?;
     let cycle = if is_timed && 0.1 <= hertz && hertz <= 10_000.0 {

@@ -36,6 +36,14 @@ impl<A: Allocator> Sheet<A> {
         }
     }
 
+    /// An empty sheet whose text lies in the same memory.
+    pub(crate) fn another(&self) -> Sheet<A>
+    where
+        A: Copy,
+    {
+        Sheet::new(*self.bytes.allocator())
+    }
+
     /// A text as it is.
     pub(crate) fn text(&mut self, text: &str) {
         let outcome = put(&mut self.bytes, text);

@@ -1,7 +1,6 @@
 //! The traces of channels, at most two points for each half pixel: no peak is lost.
 
 use crate::layout::Chart;
-use crate::phases::Hue;
 use crate::plan::Panel;
 use crate::rows::reading_at;
 use crate::sheet::Sheet;
@@ -115,13 +114,12 @@ pub(crate) fn put_channel<A: Allocator>(
     chart: &Chart<'_, A>,
     panel: Panel,
     at: usize,
-    hue: Hue,
 ) {
-    let file = chart.file;
-    let rows = file.rows.items();
     let Some(scale) = chart.scales.get(at) else {
         return;
     };
+    let (file, hue) = (chart.file, chart.hue(at));
+    let rows = file.rows.items();
     sheet.texts(&["<path class=\"", hue.class(), "\" stroke=\"", hue.colour()]);
     sheet.texts(&["\"", chart.layer.dashes(), " d=\""]);
     let mut stroke = None;

@@ -2,8 +2,8 @@
 
 use crate::events::Event;
 use crate::instant::{put_instant, put_millis};
-use crate::table::{end_cell, end_row, put_table};
-use comtrade_io::{ToolFault, put, put_safe, put_with};
+use crate::table::{end_cell, end_row, put_table, table_of};
+use comtrade_io::{ToolFault, put_safe, put_with};
 use std::alloc::{AllocError, Allocator};
 
 /// The columns of the table of one record.
@@ -52,8 +52,7 @@ pub(crate) fn event_table<A: Allocator + Copy>(
     events: &[Event<A>],
     names: &[String],
 ) -> Result<Vec<u8, A>, AllocError> {
-    let mut table = Vec::new(alloc);
-    put(&mut table, if names.len() <= 1 { ONE } else { MANY })?;
+    let mut table = table_of(alloc, if names.len() <= 1 { ONE } else { MANY })?;
     let mut before = None;
     for event in events {
         put_event(&mut table, event, before, names)?;
@@ -69,6 +68,6 @@ pub fn put_events<A: Allocator + Copy>(
     events: &[Event<A>],
     names: &[String],
 ) -> Result<(), ToolFault> {
-    put_table(alloc, out, &event_table(alloc, events, names)?)?;
+    put_table(out, &event_table(alloc, events, names)?)?;
     Ok(())
 }

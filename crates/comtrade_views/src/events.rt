@@ -21,9 +21,10 @@ pub struct Event<A: Allocator = Global> {
     pub(crate) text: Vec<u8, A>,
 }
 
-/// A record, and when its rows were taken.
+/// A record, when its rows were taken, and where the texts on it lie.
 #[derive(Drop)]
 struct Source<'a, A: Allocator> {
+    alloc: A,
     file: &'a File<A>,
     /// Its place in the list, from 0.
     record: usize,
@@ -34,7 +35,7 @@ struct Source<'a, A: Allocator> {
 }
 
 /// What happened at a row, with a text that is put after.
-fn event_at<A: Allocator + Copy>(alloc: A, source: &Source<'_, A>, row: usize) -> Event<A> {
+fn event_at<A: Allocator + Copy>(source: &Source<'_, A>, row: usize) -> Event<A> {
     let since = match source.times.get(row) {
         Some(Some(nanos)) => Some(*nanos as i128),
         _ => None,
@@ -44,7 +45,7 @@ fn event_at<A: Allocator + Copy>(alloc: A, source: &Source<'_, A>, row: usize) -
         since,
         record: source.record,
         row: (row as u64).saturating_add(1),
-        text: Vec::new(alloc),
+        text: Vec::new(source.alloc),
     }
 }
 
@@ -63,7 +64,6 @@ fn put_change<A: Allocator>(
 
 /// The changes of contacts from one row to the next.
 fn add_changes<A: Allocator + Copy>(
-    alloc: A,
     events: &mut Vec<Event<A>, A>,
     source: &Source<'_, A>,
 ) -> Result<(), ToolFault> {
@@ -73,7 +73,7 @@ fn add_changes<A: Allocator + Copy>(
         for (place, channel) in file.head.status.items().iter().enumerate() {
             let bit = bit_at(row, place);
             if bit_at(before, place) != bit {
-                let mut event = event_at(alloc, source, i.saturating_add(1));
+                let mut event = event_at(source, i.saturating_add(1));
                 put_change(&mut event.text, place, channel.id.items(), bit)?;
                 events.push(event)?;
             }
@@ -101,13 +101,12 @@ fn put_gap<A: Allocator>(text: &mut Vec<u8, A>, gap: Gap) -> Result<(), AllocErr
 
 /// Adds a run of rows that miss readings, where there is one.
 fn add_gap<A: Allocator + Copy>(
-    alloc: A,
     events: &mut Vec<Event<A>, A>,
     source: &Source<'_, A>,
     gap: Option<Gap>,
 ) -> Result<(), ToolFault> {
     if let Some(gap) = gap {
-        let mut event = event_at(alloc, source, gap.from);
+        let mut event = event_at(source, gap.from);
         put_gap(&mut event.text, gap)?;
         events.push(event)?;
     }
@@ -116,7 +115,6 @@ fn add_gap<A: Allocator + Copy>(
 
 /// The runs of rows that miss readings.
 fn add_gaps<A: Allocator + Copy>(
-    alloc: A,
     events: &mut Vec<Event<A>, A>,
     source: &Source<'_, A>,
 ) -> Result<(), ToolFault> {
@@ -138,11 +136,11 @@ fn add_gaps<A: Allocator + Copy>(
                 channels,
             });
         } else {
-            add_gap(alloc, events, source, begun)?;
+            add_gap(events, source, begun)?;
             begun = None;
         }
     }
-    add_gap(alloc, events, source, begun)
+    add_gap(events, source, begun)
 }
 
 /// The names of a record at its trigger.
@@ -155,11 +153,10 @@ fn put_trigger<A: Allocator>(text: &mut Vec<u8, A>, file: &File<A>) -> Result<()
 
 /// The trigger, with the names of its record.
 fn add_trigger<A: Allocator + Copy>(
-    alloc: A,
     events: &mut Vec<Event<A>, A>,
     source: &Source<'_, A>,
 ) -> Result<(), ToolFault> {
-    let mut text = Vec::new(alloc);
+    let mut text = Vec::new(source.alloc);
     put_trigger(&mut text, source.file)?;
     events.push(Event {
         at: Some(source.trigger),
@@ -180,14 +177,15 @@ pub fn add_events<A: Allocator + Copy>(
 ) -> Result<(), ToolFault> {
     let times = times_since_trigger(alloc, file)?;
     let source = Source {
+        alloc,
         file,
         record,
         trigger: file.head.trigger as i128 * 1000,
         times: &times,
     };
-    add_trigger(alloc, events, &source)?;
-    add_changes(alloc, events, &source)?;
-    add_gaps(alloc, events, &source)
+    add_trigger(events, &source)?;
+    add_changes(events, &source)?;
+    add_gaps(events, &source)
 }
 
 /// Brings the events into their order in time, those without an instant after all others.

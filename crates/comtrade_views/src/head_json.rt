@@ -1,7 +1,7 @@
 //! What is in a pair of files, as JSON.
 
 use crate::instant::put_instant;
-use crate::json::{Objects, put_rows_json, put_text};
+use crate::json::{put_rows_json, put_text};
 use crate::number::put_decimal;
 use crate::peaks::peaks_of;
 use crate::show::Clock;
@@ -11,15 +11,10 @@ use comtrade_format::{File, Head};
 use comtrade_io::{ToolFault, kind_name, put, put_with};
 use std::alloc::{AllocError, Allocator, Global};
 
-const ANALOG: Objects = Objects {
-    before: ",\"analog\":",
-    members: "n# id phase component unit a# b# range ratio side least# least_ms# greatest# greatest_ms# missing#",
-};
+const ANALOG: &str =
+    "n# id phase component unit a# b# range ratio side least# least_ms# greatest# greatest_ms# missing#";
 
-const STATUS: Objects = Objects {
-    before: ",\"status\":",
-    members: "n# id phase component normal# first# changes",
-};
+const STATUS: &str = "n# id phase component normal# first# changes";
 
 /// A key and an instant.
 fn put_when(alloc: Global, out: &mut Vec<u8>, key: &str, instant: i64) -> Result<(), AllocError> {
@@ -68,22 +63,6 @@ fn put_head<A: Allocator>(
     put_decimal(out, head.timemult)
 }
 
-/// What is in a file.
-fn put_file<A: Allocator + Copy>(
-    alloc: Global,
-    lists: A,
-    out: &mut Vec<u8>,
-    file: &File<A>,
-    clock: Clock<'_>,
-) -> Result<(), AllocError> {
-    put_head(alloc, out, file)?;
-    let analog = analog_table(lists, file, clock, &peaks_of(lists, file)?)?;
-    put_rows_json(alloc, out, ANALOG, &analog)?;
-    drop(analog);
-    put_rows_json(alloc, out, STATUS, &contact_table(lists, file, clock)?)?;
-    put(out, "}\n")
-}
-
 /// What is in a file as an object of JSON, whose rows were taken at these times, in nanoseconds since the trigger.
 pub fn show_json<A: Allocator + Copy>(
     alloc: Global,
@@ -93,6 +72,12 @@ pub fn show_json<A: Allocator + Copy>(
 ) -> Result<Vec<u8>, ToolFault> {
     let clock = Clock { times, trigger: 0 };
     let mut out = Vec::new(alloc);
-    put_file(alloc, lists, &mut out, file, clock)?;
+    put_head(alloc, &mut out, file)?;
+    let analog = analog_table(lists, file, clock, &peaks_of(lists, file)?)?;
+    put_rows_json(alloc, &mut out, ",\"analog\":", ANALOG, &analog)?;
+    drop(analog);
+    let status = contact_table(lists, file, clock)?;
+    put_rows_json(alloc, &mut out, ",\"status\":", STATUS, &status)?;
+    put(&mut out, "}\n")?;
     Ok(out)
 }

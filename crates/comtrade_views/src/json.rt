@@ -4,14 +4,6 @@ use crate::table::CELL;
 use comtrade_io::{put, put_safe};
 use std::alloc::{AllocError, Global};
 
-/// An array of objects: what stands before it, and the members of each object with a blank between two. Those with a `#` behind their key are
-/// numbers or arrays of them, the others texts.
-#[derive(Clone, Copy)]
-pub(crate) struct Objects {
-    pub(crate) before: &'static str,
-    pub(crate) members: &'static str,
-}
-
 /// A text of a file, its bytes outside 20 to 7E in hexadecimal as in what people read, between quotation marks.
 pub fn put_text(alloc: Global, out: &mut Vec<u8>, text: &[u8]) -> Result<(), AllocError> {
     let mut safe = Vec::new(alloc);
@@ -82,14 +74,16 @@ fn put_row(alloc: Global, out: &mut Vec<u8>, members: &str, row: &[u8]) -> Resul
     put(out, "}")
 }
 
-/// The rows of a table after its first, which are the names of its columns.
+/// The rows of a table after its first, which are the names of its columns: what stands before them, and an array of objects. Each object has
+/// these members, with a blank between two; those with a `#` behind their key are numbers or arrays of them, the others texts.
 pub(crate) fn put_rows_json(
     alloc: Global,
     out: &mut Vec<u8>,
-    objects: Objects,
+    before: &str,
+    members: &str,
     table: &[u8],
 ) -> Result<(), AllocError> {
-    put(out, objects.before)?;
+    put(out, before)?;
     put(out, "[")?;
     let mut rest = cut_at(table, b'\n').1;
     let mut between = "";
@@ -99,7 +93,7 @@ pub(crate) fn put_rows_json(
         }
         let (row, back) = cut_at(rest, b'\n');
         put(out, between)?;
-        put_row(alloc, out, objects.members, row)?;
+        put_row(alloc, out, members, row)?;
         rest = back;
         between = ",";
     }

@@ -119,7 +119,6 @@ fn measures_with<A: Allocator + Copy>(
 
 /// What was measured, for people.
 fn put_measures<A: Allocator>(
-    alloc: Global,
     out: &mut Vec<u8>,
     file: &File<A>,
     measures: &Measures<A>,
@@ -131,11 +130,11 @@ fn put_measures<A: Allocator>(
         out,
         "\nrms of all, and rms and degrees of the part at the line frequency\n",
     )?;
-    put_table(alloc, out, &measures.channels)?;
+    put_table(out, &measures.channels)?;
     let orders = measures.window.orders() as u64;
     put_with(out, "\nharmonics from 2 to ", orders)?;
     put(out, " of at least 0.1 % of the magnitude, in %\n")?;
-    put_table(alloc, out, &measures.orders)?;
+    put_table(out, &measures.orders)?;
     let lines = measures.sequences.iter().filter(|b| **b == b'\n').count();
     if lines <= 1 {
         return put(
@@ -144,7 +143,7 @@ fn put_measures<A: Allocator>(
         );
     }
     put(out, "\nsequence components\n")?;
-    put_table(alloc, out, &measures.sequences)
+    put_table(out, &measures.sequences)
 }
 
 /// What is measured over a window's whole cycles, as text or as JSON.
@@ -162,7 +161,7 @@ fn put_window_of<A: Allocator + Copy>(
     let outcome = if shown.json {
         put_measures_json(alloc, out, &made, shown)
     } else {
-        put_measures(alloc, out, file, &made, shown)
+        put_measures(out, file, &made, shown)
     };
     Ok(outcome?)
 }

@@ -1,25 +1,17 @@
 //! What is measured in a record, as JSON.
 
-use crate::json::{Objects, put_rows_json};
+use crate::json::put_rows_json;
 use crate::measure::Measures;
 use crate::shown::Shown;
 use comtrade_io::{put, put_number, put_with};
 use std::alloc::{AllocError, Allocator, Global};
 
-const CHANNELS: Objects = Objects {
-    before: ",\"channels\":",
-    members: "n# id phase unit rms# magnitude# angle# dc# peak# peak_ms#",
-};
+const CHANNELS: &str = "n# id phase unit rms# magnitude# angle# dc# peak# peak_ms#";
 
-const ORDERS: Objects = Objects {
-    before: ",\"harmonics\":",
-    members: "n# id phase unit orders#",
-};
+const ORDERS: &str = "n# id phase unit orders#";
 
-const SEQUENCES: Objects = Objects {
-    before: ",\"sequences\":",
-    members: "a b c unit positive# positive_angle# negative# negative_angle# zero# zero_angle#",
-};
+const SEQUENCES: &str =
+    "a b c unit positive# positive_angle# negative# negative_angle# zero# zero_angle#";
 
 /// What was measured, as an object of JSON.
 pub(crate) fn put_measures_json<A: Allocator>(
@@ -38,8 +30,14 @@ pub(crate) fn put_measures_json<A: Allocator>(
         Some(place) => put_number(out, (place as u64).saturating_add(1))?,
         None => put(out, "null")?,
     }
-    put_rows_json(alloc, out, CHANNELS, &measures.channels)?;
-    put_rows_json(alloc, out, ORDERS, &measures.orders)?;
-    put_rows_json(alloc, out, SEQUENCES, &measures.sequences)?;
+    put_rows_json(alloc, out, ",\"channels\":", CHANNELS, &measures.channels)?;
+    put_rows_json(alloc, out, ",\"harmonics\":", ORDERS, &measures.orders)?;
+    put_rows_json(
+        alloc,
+        out,
+        ",\"sequences\":",
+        SEQUENCES,
+        &measures.sequences,
+    )?;
     put(out, "}\n")
 }

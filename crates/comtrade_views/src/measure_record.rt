@@ -2,7 +2,7 @@
 
 use crate::cycles::{Course, MeasureFault, Outcome, Window, courses_of, whole_record};
 use crate::float::put_places;
-use crate::json::{Objects, put_rows_json};
+use crate::json::put_rows_json;
 use crate::measure_tables::put_float_cell;
 use crate::show::put_row_time;
 use crate::shown::{Shown, put_channel, put_cycle};
@@ -66,36 +66,9 @@ fn put_courses<A: Allocator + Copy>(
     Ok(followed.len() as u64)
 }
 
-const COURSES: Objects = Objects {
-    before: "{\"currents\":",
-    members: "n# id phase unit left_ms# left_row# rms_before# rms_greatest# above_ms#",
-};
+const COURSES: &str = "n# id phase unit left_ms# left_row# rms_before# rms_greatest# above_ms#";
 
-/// The table of so many currents, for people or as an object of JSON.
-fn put_record_table(
-    alloc: Global,
-    out: &mut Vec<u8>,
-    table: &[u8],
-    count: u64,
-    window: Window,
-    is_json: bool,
-) -> Result<(), AllocError> {
-    if is_json {
-        put_rows_json(alloc, out, COURSES, table)?;
-        return put(out, "}\n");
-    }
-    if count == 0 {
-        return put(
-            out,
-            "no channel is a current: none has the unit A, with or without a prefix\n",
-        );
-    }
-    put(out, "where currents first left their earlier course; ")?;
-    put_cycle(out, window)?;
-    put_table(alloc, out, table)
-}
-
-/// Where the currents of a record first left their earlier course.
+/// Where the currents of a record first left their earlier course, for people or as an object of JSON.
 pub(crate) fn put_record<A: Allocator + Copy>(
     alloc: Global,
     lists: A,
@@ -106,6 +79,16 @@ pub(crate) fn put_record<A: Allocator + Copy>(
     let window = whole_record(file)?;
     let mut table = Vec::new(lists);
     let count = put_courses(lists, &mut table, file, window, shown)?;
-    put_record_table(alloc, out, &table, count, window, shown.json)?;
+    if shown.json {
+        put_rows_json(alloc, out, "{\"currents\":", COURSES, &table)?;
+        put(out, "}\n")?;
+    } else if count == 0 {
+        let none = "no channel is a current: none has the unit A, with or without a prefix\n";
+        put(out, none)?;
+    } else {
+        put(out, "where currents first left their earlier course; ")?;
+        put_cycle(out, window)?;
+        put_table(out, &table)?;
+    }
     Ok(())
 }

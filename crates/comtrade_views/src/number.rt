@@ -160,11 +160,8 @@ pub(crate) fn rounded(number: Number) -> Number {
     }
 }
 
-pub(crate) fn put_zeros<A: Allocator>(out: &mut Vec<u8, A>, n: usize) -> Result<(), AllocError> {
-    for _ in 0..n {
-        out.extend_from_slice(b"0")?;
-    }
-    Ok(())
+fn put_zeros<A: Allocator>(out: &mut Vec<u8, A>, n: usize) -> Result<(), AllocError> {
+    out.resize(out.len().saturating_add(n), b'0')
 }
 
 /// The digits with a point before the last `places` of them, and a digit before the point.
@@ -173,15 +170,11 @@ fn put_pointed<A: Allocator>(
     digits: &[u8],
     places: usize,
 ) -> Result<(), AllocError> {
-    if places < digits.len() {
-        let (front, back) = digits.split_at(digits.len() - places);
-        out.extend_from_slice(front)?;
-        out.extend_from_slice(b".")?;
-        return out.extend_from_slice(back);
-    }
-    out.extend_from_slice(b"0.")?;
+    let (front, back) = digits.split_at(digits.len().saturating_sub(places));
+    out.extend_from_slice(if front.is_empty() { b"0" } else { front })?;
+    out.extend_from_slice(b".")?;
     put_zeros(out, places.saturating_sub(digits.len()))?;
-    out.extend_from_slice(digits)
+    out.extend_from_slice(back)
 }
 
 /// A number as a decimal without an exponent and without zeros at its end.
@@ -215,14 +208,10 @@ pub(crate) fn put_value<A: Allocator>(
     put_zeros(out, places)
 }
 
-/// A decimal as text.
+/// A decimal as text, without zeros at its end.
 pub(crate) fn put_decimal<A: Allocator>(
     out: &mut Vec<u8, A>,
     decimal: Decimal,
 ) -> Result<(), AllocError> {
-    let exact = Number {
-        units: decimal.units(),
-        exponent: -(decimal.places() as i32),
-    };
-    put_value(out, exact)
+    put_exact(out, without_zeros(decimal))
 }

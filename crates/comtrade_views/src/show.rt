@@ -181,8 +181,8 @@ fn put_all<A: Allocator + Copy>(
     put_rates(out, &file.head)?;
     put_data(out, file, clock)?;
     let peaks = peaks_of(alloc, file)?;
-    put_analog(alloc, out, file, clock, &peaks)?;
-    put_status(alloc, out, file, clock)?;
+    put_analog(out, file, clock, &peaks)?;
+    put_status(out, file, clock)?;
     put_gaps(out, file, clock, &peaks)
 }
 

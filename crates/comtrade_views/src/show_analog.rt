@@ -3,7 +3,7 @@
 use crate::number::{put_decimal, put_value, rounded, scale_of, value_of};
 use crate::peaks::{Peak, Peaks, peaks_at};
 use crate::show::{Clock, put_row_time};
-use crate::table::{end_cell, end_row, put_cell, put_number_cell, put_table};
+use crate::table::{end_cell, end_row, put_cell, put_number_cell, put_table, table_of};
 use comtrade_format::File;
 use comtrade_io::{put, put_count, put_number, put_safe, put_signed};
 use dfr_channels::{AnalogChannel, Side};
@@ -112,9 +112,8 @@ pub(crate) fn analog_table<A: Allocator + Copy>(
     clock: Clock<'_>,
     peaks: &[Peaks],
 ) -> Result<Vec<u8, A>, AllocError> {
-    let mut table = Vec::new(alloc);
-    put(
-        &mut table,
+    let mut table = table_of(
+        alloc,
         "n\x1Fid\x1Fphase\x1Fcomponent\x1Funit\x1Fa\x1Fb\x1Frange\x1Fratio\x1Fside\x1Fleast\x1Fat\x1Fgreatest\x1Fat\x1Fmissing\n",
     )?;
     for (i, channel) in file.head.analog.items().iter().enumerate() {
@@ -125,7 +124,6 @@ pub(crate) fn analog_table<A: Allocator + Copy>(
 
 /// The analogue channels.
 pub(crate) fn put_analog<A: Allocator + Copy>(
-    alloc: A,
     out: &mut Vec<u8, A>,
     file: &File<A>,
     clock: Clock<'_>,
@@ -138,5 +136,6 @@ pub(crate) fn put_analog<A: Allocator + Copy>(
         out,
         "; values are a*x + b, times are ms since the trigger\n",
     )?;
-    put_table(alloc, out, &analog_table(alloc, file, clock, peaks)?)
+    let table = analog_table(*out.allocator(), file, clock, peaks)?;
+    put_table(out, &table)
 }

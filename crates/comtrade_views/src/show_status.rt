@@ -3,7 +3,7 @@
 use crate::peaks::{Changes, LISTED, bit_at, changes_of};
 use crate::show::{Clock, put_row_time};
 use crate::show_analog::put_names;
-use crate::table::{end_row, put_cell, put_table};
+use crate::table::{end_row, put_cell, put_table, table_of};
 use comtrade_format::{File, Row};
 use comtrade_io::{put, put_count, put_with};
 use dfr_channels::StatusChannel;
@@ -55,39 +55,26 @@ fn put_contact<A: Allocator>(
     put_changes(table, rows, clock, at, changes)
 }
 
-/// The rows of contacts that change so, a line of names above them.
-fn put_contacts<A: Allocator>(
-    table: &mut Vec<u8, A>,
-    file: &File<A>,
-    clock: Clock<'_>,
-    changes: &[Changes<A>],
-) -> Result<(), AllocError> {
-    put(
-        table,
-        "n\x1Fid\x1Fphase\x1Fcomponent\x1Fnormal\x1Fat first\x1Fchanges\n",
-    )?;
-    let channels = file.head.status.items().iter();
-    for (i, (channel, changes)) in channels.zip(changes).enumerate() {
-        put_contact(table, file, clock, (i, channel), changes)?;
-    }
-    Ok(())
-}
+/// The columns of the table.
+const NAMES: &str = "n\x1Fid\x1Fphase\x1Fcomponent\x1Fnormal\x1Fat first\x1Fchanges\n";
 
-/// The table of contacts.
+/// The table of contacts, a line of names above them.
 pub(crate) fn contact_table<A: Allocator + Copy>(
     alloc: A,
     file: &File<A>,
     clock: Clock<'_>,
 ) -> Result<Vec<u8, A>, AllocError> {
     let changes = changes_of(alloc, file)?;
-    let mut table = Vec::new(alloc);
-    put_contacts(&mut table, file, clock, &changes)?;
+    let mut table = table_of(alloc, NAMES)?;
+    let channels = file.head.status.items().iter();
+    for (i, (channel, changes)) in channels.zip(changes.iter()).enumerate() {
+        put_contact(&mut table, file, clock, (i, channel), changes)?;
+    }
     Ok(table)
 }
 
 /// The status channels.
 pub(crate) fn put_status<A: Allocator + Copy>(
-    alloc: A,
     out: &mut Vec<u8, A>,
     file: &File<A>,
     clock: Clock<'_>,
@@ -98,5 +85,6 @@ pub(crate) fn put_status<A: Allocator + Copy>(
     if count == 0 {
         return Ok(());
     }
-    put_table(alloc, out, &contact_table(alloc, file, clock)?)
+    let table = contact_table(*out.allocator(), file, clock)?;
+    put_table(out, &table)
 }

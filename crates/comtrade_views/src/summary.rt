@@ -4,7 +4,7 @@ use crate::currents::{greatest_current, nominal_of};
 use crate::instant::{put_instant, put_millis};
 use crate::number::{put_decimal, put_value, rounded, scale_of, value_of};
 use crate::peaks::changes_of;
-use crate::table::{end_cell, end_row, put_number_cell, put_safe_cell, put_table};
+use crate::table::{end_cell, end_row, put_number_cell, put_safe_cell, put_table, table_of};
 use crate::times::times_of;
 use comtrade_format::File;
 use comtrade_io::{ToolFault, put, put_count, put_number, put_safe, put_with};
@@ -26,12 +26,8 @@ pub struct Summary<A: Allocator = Global> {
 }
 
 /// How long the rows last.
-fn put_length<A: Allocator + Copy>(
-    alloc: A,
-    text: &mut Vec<u8, A>,
-    file: &File<A>,
-) -> Result<(), ToolFault> {
-    let times = times_of(alloc, file)?;
+fn put_length<A: Allocator + Copy>(text: &mut Vec<u8, A>, file: &File<A>) -> Result<(), ToolFault> {
+    let times = times_of(*text.allocator(), file)?;
     if let (Some(Some(first)), Some(Some(last))) = (times.first(), times.last()) {
         put_millis(text, (*last as i128).saturating_sub(*first as i128))?;
     }
@@ -41,25 +37,23 @@ fn put_length<A: Allocator + Copy>(
 
 /// How many channels there are, and how many contacts change.
 fn put_channels<A: Allocator + Copy>(
-    alloc: A,
     text: &mut Vec<u8, A>,
     file: &File<A>,
 ) -> Result<(), AllocError> {
     put_number(text, file.head.analog.items().len() as u64)?;
     put_with(text, "A ", file.head.status.items().len() as u64)?;
     put(text, "D\x1F")?;
-    let changes = changes_of(alloc, file)?;
+    let changes = changes_of(*text.allocator(), file)?;
     let changed = changes.iter().filter(|contact| contact.count != 0).count();
     put_number_cell(text, changed as u64)
 }
 
 /// `IB -10648.5 A, of nominal 600`
 fn put_current<A: Allocator + Copy>(
-    alloc: A,
     text: &mut Vec<u8, A>,
     file: &File<A>,
 ) -> Result<(), ToolFault> {
-    if let Some(current) = greatest_current(alloc, file)? {
+    if let Some(current) = greatest_current(*text.allocator(), file)? {
         if let Some(channel) = file.head.analog.items().get(current.place) {
             put_safe(text, channel.id.items())?;
             put(text, " ")?;
@@ -74,19 +68,15 @@ fn put_current<A: Allocator + Copy>(
 }
 
 /// The cells of a record after its instant. It has no rate where stamps alone say when rows were taken.
-fn put_cells<A: Allocator + Copy>(
-    alloc: A,
-    text: &mut Vec<u8, A>,
-    file: &File<A>,
-) -> Result<(), ToolFault> {
-    put_length(alloc, text, file)?;
+fn put_cells<A: Allocator + Copy>(text: &mut Vec<u8, A>, file: &File<A>) -> Result<(), ToolFault> {
+    put_length(text, file)?;
     match file.head.rates.items().first() {
         Some(rate) if file.head.nrates != 0 => put_decimal(text, rate.samp)?,
         _ => put(text, "-")?,
     }
     end_cell(text)?;
-    put_channels(alloc, text, file)?;
-    put_current(alloc, text, file)?;
+    put_channels(text, file)?;
+    put_current(text, file)?;
     put_safe_cell(text, file.head.station.items())?;
     put_safe_cell(text, file.head.device.items())?;
     Ok(())
@@ -99,7 +89,7 @@ pub fn summary_of<A: Allocator + Copy>(
     name: &[u8],
 ) -> Result<Summary<A>, ToolFault> {
     let mut text = Vec::new(alloc);
-    put_cells(alloc, &mut text, file)?;
+    put_cells(&mut text, file)?;
     let name = Vec::from_slice(alloc, name)?;
     Ok(Summary {
         trigger: Some(file.head.trigger),
@@ -149,8 +139,7 @@ pub(crate) fn summary_table<A: Allocator + Copy>(
     alloc: A,
     records: &[Summary<A>],
 ) -> Result<Vec<u8, A>, AllocError> {
-    let mut table = Vec::new(alloc);
-    put(&mut table, NAMES)?;
+    let mut table = table_of(alloc, NAMES)?;
     for record in records {
         put_summary(&mut table, record)?;
     }
@@ -180,7 +169,7 @@ pub fn put_summaries<A: Allocator + Copy>(
     out: &mut Vec<u8, A>,
     records: &[Summary<A>],
 ) -> Result<(), ToolFault> {
-    put_table(alloc, out, &summary_table(alloc, records)?)?;
+    put_table(out, &summary_table(alloc, records)?)?;
     put_faults(out, records)?;
     Ok(())
 }

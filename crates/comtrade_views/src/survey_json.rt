@@ -2,28 +2,19 @@
 
 use crate::event_table::event_table;
 use crate::events::Event;
-use crate::json::{Objects, put_rows_json, put_text};
+use crate::json::{put_rows_json, put_text};
 use crate::summary::{Summary, summary_table};
 use comtrade_io::{ToolFault, put};
 use std::alloc::{AllocError, Global};
 
-/// The events of one record.
-const ONE: Objects = Objects {
-    before: "{\"events\":",
-    members: "instant ms# since_before_ms# what",
-};
+/// An event of one record.
+const ONE: &str = "instant ms# since_before_ms# what";
 
-/// The events of several records.
-const MANY: Objects = Objects {
-    before: "{\"events\":",
-    members: "instant ms# since_before_ms# record what",
-};
+/// An event of several records.
+const MANY: &str = "instant ms# since_before_ms# record what";
 
-/// The records.
-const RECORD: Objects = Objects {
-    before: "{\"records\":",
-    members: "trigger ms# rate# channels changed# greatest_current station device record",
-};
+/// A record.
+const RECORD: &str = "trigger ms# rate# channels changed# greatest_current station device record";
 
 /// The events of the records with these names, as an object of JSON.
 pub fn put_events_json(
@@ -32,8 +23,9 @@ pub fn put_events_json(
     events: &[Event],
     names: &[String],
 ) -> Result<(), ToolFault> {
-    let objects = if names.len() <= 1 { ONE } else { MANY };
-    put_rows_json(alloc, out, objects, &event_table(alloc, events, names)?)?;
+    let members = if names.len() <= 1 { ONE } else { MANY };
+    let table = event_table(alloc, events, names)?;
+    put_rows_json(alloc, out, "{\"events\":", members, &table)?;
     put(out, "}\n")?;
     Ok(())
 }
@@ -61,7 +53,8 @@ pub fn put_summaries_json(
     out: &mut Vec<u8>,
     records: &[Summary],
 ) -> Result<(), ToolFault> {
-    put_rows_json(alloc, out, RECORD, &summary_table(alloc, records)?)?;
+    let table = summary_table(alloc, records)?;
+    put_rows_json(alloc, out, "{\"records\":", RECORD, &table)?;
     put_faults(alloc, out, records)?;
     Ok(())
 }

@@ -6,6 +6,13 @@ use std::alloc::{AllocError, Allocator};
 /// Ends a cell; texts of a file hold no such byte once they are printable.
 pub(crate) const CELL: u8 = 0x1F;
 
+/// A table that has the names of its columns so far.
+pub(crate) fn table_of<A: Allocator>(alloc: A, names: &str) -> Result<Vec<u8, A>, AllocError> {
+    let mut table = Vec::new(alloc);
+    put(&mut table, names)?;
+    Ok(table)
+}
+
 pub(crate) fn end_cell<A: Allocator>(table: &mut Vec<u8, A>) -> Result<(), AllocError> {
     table.extend_from_slice(&[CELL])
 }
@@ -134,10 +141,9 @@ fn put_columns<A: Allocator>(
 
 /// A table with its columns below one another, two blanks between them and none at a line's end.
 pub(crate) fn put_table<A: Allocator + Copy>(
-    alloc: A,
     out: &mut Vec<u8, A>,
     table: &[u8],
 ) -> Result<(), AllocError> {
-    let widths = widths_of(alloc, table)?;
+    let widths = widths_of(*out.allocator(), table)?;
     put_columns(out, table, &widths)
 }

@@ -2,7 +2,7 @@
 
 use comtrade_format::CycleFault;
 use dfr_channels::Memory;
-use std::alloc::{AllocError, AllocFailed};
+use std::alloc::AllocError;
 use thiserror::Error;
 
 /// Why rows can't be measured.
@@ -10,7 +10,7 @@ use thiserror::Error;
 pub enum MeasureFault {
     /// An allocation failed.
     #[error("out of memory")]
-    Memory,
+    Memory(#[from(alloc)] AllocError),
     /// The line frequency isn't over 0 (C37.111-1999, 5.3.5).
     #[error("the configuration file says no line frequency: nothing is measured over its cycles")]
     NoFrequency,
@@ -51,20 +51,8 @@ impl From<CycleFault> for MeasureFault {
     }
 }
 
-impl From<AllocError> for MeasureFault {
-    fn from(_error: AllocError) -> MeasureFault {
-        MeasureFault::Memory
-    }
-}
-
 impl From<Memory> for MeasureFault {
     fn from(_error: Memory) -> MeasureFault {
-        MeasureFault::Memory
-    }
-}
-
-impl<T: Drop> From<AllocFailed<T>> for MeasureFault {
-    fn from(_error: AllocFailed<T>) -> MeasureFault {
-        MeasureFault::Memory
+        MeasureFault::Memory(AllocError)
     }
 }

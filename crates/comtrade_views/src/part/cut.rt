@@ -28,33 +28,11 @@ fn picked_copies<T: Copy, A: Allocator>(
     places: &[usize],
 ) -> Result<Items<T, A>, Memory> {
     let mut picked = Vec::with_capacity(alloc, places.len())?;
-    for place in places {
-        if let Some(item) = list.get(*place) {
-            picked.push(*item)?;
-        }
-    }
+    picked.extend(places.iter().filter_map(|place| list.get(*place).copied()))?;
     Ok(Items::of(picked))
 }
 
-/// A row with these channels, its number, and a stamp that counts from this one.
-fn row_at<A: Allocator + Copy>(
-    alloc: A,
-    row: &Row<A>,
-    channels: &Channels<A>,
-    number: u64,
-    base: u64,
-) -> Result<Row<A>, Memory> {
-    let values = picked_copies(alloc, row.values.items(), &channels.analog)?;
-    let bits = picked_copies(alloc, row.bits.items(), &channels.status)?;
-    Ok(Row {
-        number,
-        stamp: row.stamp.map(|stamp| stamp.saturating_sub(base)),
-        values,
-        bits,
-    })
-}
-
-/// The rows, numbered from 1, with stamps that count from the first one's.
+/// The rows with these channels, numbered from 1, with stamps that count from the first one's.
 fn cut_rows<A: Allocator + Copy>(
     alloc: A,
     rows: &[Row<A>],
@@ -68,7 +46,14 @@ fn cut_rows<A: Allocator + Copy>(
     let mut number = 0u64;
     for row in rows {
         number = number.saturating_add(1);
-        cut.push(row_at(alloc, row, channels, number, base)?)?;
+        let values = picked_copies(alloc, row.values.items(), &channels.analog)?;
+        let bits = picked_copies(alloc, row.bits.items(), &channels.status)?;
+        cut.push(Row {
+            number,
+            stamp: row.stamp.map(|stamp| stamp.saturating_sub(base)),
+            values,
+            bits,
+        })?;
     }
     Ok(Items::of(cut))
 }
