@@ -90,7 +90,6 @@ fn ratio_of<A: Allocator + Copy>(
 }
 
 fn unit_of<A: Allocator + Copy>(
-    alloc: A,
     notes: &mut Notes<A>,
     shape: Shape<'_>,
 ) -> Result<Items<u8, A>, ImportFault> {
@@ -99,7 +98,7 @@ fn unit_of<A: Allocator + Copy>(
         return Ok(unit);
     }
     notes.tell(Key::UnitEmpty, Place::Cfg(shape.line), &[])?;
-    Ok(Items::of(Vec::from_slice(alloc, b"NONE")?))
+    Ok(Items::of(Vec::from_slice(notes.allocator(), b"NONE")?))
 }
 
 /// The numbers of a channel's line, and its side.
@@ -147,7 +146,6 @@ fn numbers_of<A: Allocator + Copy>(
 
 /// The channel that a line of so many fields says.
 fn channel_of<A: Allocator + Copy>(
-    alloc: A,
     notes: &mut Notes<A>,
     shape: Shape<'_>,
     number: u64,
@@ -157,7 +155,7 @@ fn channel_of<A: Allocator + Copy>(
     let id = text_of(notes, line, parts.at(1), 64, Some(number))?;
     let phase = phase_of(notes, line, parts.at(2))?;
     let component = text_of(notes, line, parts.at(3), 64, None)?;
-    let unit = unit_of(alloc, notes, shape)?;
+    let unit = unit_of(notes, shape)?;
     Ok(AnalogChannel {
         id,
         phase,
@@ -222,7 +220,6 @@ fn fields_of(row: Row<'_>) -> Result<Parts<'_>, ImportFault> {
 
 /// The channel that a line says; `place` is its number, and whether the file is of 1991.
 pub(crate) fn analog_of<A: Allocator + Copy>(
-    alloc: A,
     notes: &mut Notes<A>,
     mark: u8,
     row: Row<'_>,
@@ -245,5 +242,5 @@ pub(crate) fn analog_of<A: Allocator + Copy>(
         range: numbers.range,
         line: row.number,
     };
-    Ok((channel_of(alloc, notes, shape, number, numbers)?, said))
+    Ok((channel_of(notes, shape, number, numbers)?, said))
 }

@@ -6,7 +6,7 @@ use crate::fault::ImportFault;
 use crate::kinds::Form;
 use crate::note::{Notes, Place};
 use crate::readings::rows_of;
-use crate::row::{Counts, Plan};
+use crate::row::Plan;
 use crate::scaled::{settle_channels, tell_errors};
 use crate::span::Bounds;
 use crate::stamps::{Times, Track, times_of};
@@ -162,32 +162,19 @@ fn ranges_of<A: Allocator + Copy>(
     Ok(ranges)
 }
 
-fn is_short(plan: Plan<'_>) -> bool {
-    match plan {
-        Plan::Packed(packed) => packed.form == Form::Binary,
-        Plan::Text(_, _) => false,
-    }
-}
-
-/// The rows of data in this form, with the channels settled.
-fn body_in<A: Allocator + Copy>(
-    alloc: A,
-    notes: &mut Notes<A>,
-    draft: &mut Draft<A>,
-    plan: Plan<'_>,
-) -> Result<Body<A>, ImportFault> {
-    let ranges = ranges_of(alloc, draft, is_short(plan))?;
-    let ground = Ground {
+/// What the rows of data in this form are read with.
+fn ground_of<'a, A: Allocator>(
+    draft: &Draft<A>,
+    plan: Plan<'a>,
+    ranges: &'a Ranges<A>,
+) -> Ground<'a> {
+    Ground {
         plan,
-        counts: Counts {
-            k: draft.channels.analog.len(),
-            m: draft.channels.status.len(),
-        },
-        bounds: bounds_of(matches!(plan, Plan::Text(_, _))),
+        counts: draft.channels.counts(),
+        bounds: bounds_of(plan.form().is_text()),
         unsigned: &ranges.unsigned,
         lows: &ranges.lows,
-    };
-    body_of(alloc, notes, draft, ground)
+    }
 }
 
 /// The file of 1999 that says the same as a configuration file and its data.
@@ -197,17 +184,19 @@ pub(crate) fn file_of<A: Allocator + Copy>(
     mut draft: Draft<A>,
     dat: &[u8],
 ) -> Result<File<A>, ImportFault> {
-    let plan = plan_of(alloc, notes, &draft, dat)?;
-    let kind = if matches!(plan, Plan::Text(_, _)) {
-        Kind::Ascii
-    } else {
-        Kind::Binary
-    };
-    let mut body = body_in(alloc, notes, &mut draft, plan)?;
+    let plan = plan_of(notes, &draft, dat)?;
+    let ranges = ranges_of(alloc, &draft, plan.form() == Form::Binary)?;
+    let ground = ground_of(&draft, plan, &ranges);
+    let mut body = body_of(alloc, notes, &mut draft, ground)?;
     let nrates = u32::try_from(body.rates.len()).unwrap_or(u32::MAX);
     if nrates == 0 {
         let rows = body.rows.len() as u64;
         put_no_rate(&mut body.rates, rows)?;
     }
+    let kind = if ground.is_text() {
+        Kind::Ascii
+    } else {
+        Kind::Binary
+    };
     Ok(joined(draft, body, nrates, kind))
 }

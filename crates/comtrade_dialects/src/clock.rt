@@ -102,10 +102,6 @@ pub(crate) fn time_of_stamp(stamp: Num, timemult: Decimal) -> Option<i128> {
 /// The nearest whole number to n / part, halves away from 0.
 pub(crate) fn rounded(n: i128, part: i128) -> i128 {
     let half = part.wrapping_div(2);
-    let up = if n < 0 {
-        n.saturating_sub(half)
-    } else {
-        n.saturating_add(half)
-    };
+    let up = n.saturating_add(if n < 0 { half.wrapping_neg() } else { half });
     up.checked_div(part).unwrap_or(0)
 }

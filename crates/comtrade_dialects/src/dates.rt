@@ -1,7 +1,7 @@
 //! Dates and times of day in the spellings that are met.
 
 use crate::text::{DIGITS, has_only, place_of};
-use dfr_channels::trim;
+use dfr_channels::{numeral_of, trim};
 use jiff_core::civil::Date;
 
 /// Which of day and month stands first in the dates of a file.
@@ -39,20 +39,11 @@ pub(crate) struct Clock {
 
 /// A whole number of at most nine digits, with blanks around it.
 fn small(text: &[u8]) -> Option<u32> {
-    let text = trim(text);
-    if text.is_empty() || 9 < text.len() {
+    let digits = trim(text);
+    if 9 < digits.len() {
         return None;
     }
-    let mut n = 0u32;
-    for b in text {
-        if !b.is_ascii_digit() {
-            return None;
-        }
-        n = n
-            .wrapping_mul(10)
-            .wrapping_add(u32::from(b.wrapping_sub(b'0')));
-    }
-    Some(n)
+    u32::try_from(numeral_of(digits)?).ok()
 }
 
 /// The months' names begin so.

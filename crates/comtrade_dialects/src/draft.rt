@@ -1,6 +1,7 @@
 //! What a configuration file says, before the data are known.
 
 use crate::kinds::Form;
+use crate::row::Counts;
 use comtrade_format::Rate;
 use dfr_channels::{AnalogChannel, Decimal, Items, StatusChannel};
 use std::alloc::Allocator;
@@ -47,6 +48,15 @@ pub(crate) struct Channels<A: Allocator> {
     /// Of each analogue channel.
     pub said: Vec<Said, A>,
     pub status: Vec<StatusChannel<A>, A>,
+}
+
+impl<A: Allocator> Channels<A> {
+    pub(crate) fn counts(&self) -> Counts {
+        Counts {
+            k: self.analog.len(),
+            m: self.status.len(),
+        }
+    }
 }
 
 /// The first line's names.

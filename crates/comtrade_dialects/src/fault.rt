@@ -5,7 +5,6 @@ ghost use Rattle.comtrade_dialects.specs.declared.fault.ImportFault.TheVariants.
 
 use comtrade_format::WriteFault;
 use dfr_channels::Memory as NoMemory;
-use std::alloc::{AllocError, AllocFailed};
 use thiserror::Error;
 
 /// What is wrong with a line, a row or a whole file.
@@ -86,26 +85,14 @@ pub enum ImportFault {
     Memory,
 }
 
-impl From<AllocError> for ImportFault {
+/// Whatever says that memory ran out.
+impl<E: Drop> From<E> for ImportFault
+where
+    NoMemory: From<E>,
+{
     ghost from_gives = { λ _ e. e ≡ Memory };
 
-    fn from(_e: AllocError) -> ImportFault {
-        ImportFault::Memory
-    }
-}
-
-impl From<NoMemory> for ImportFault {
-    ghost from_gives = { λ _ e. e ≡ Memory };
-
-    fn from(_e: NoMemory) -> ImportFault {
-        ImportFault::Memory
-    }
-}
-
-impl<T: Drop> From<AllocFailed<T>> for ImportFault {
-    ghost from_gives = { λ _ e. e ≡ Memory };
-
-    fn from(_e: AllocFailed<T>) -> ImportFault {
+    fn from(_e: E) -> ImportFault {
         ImportFault::Memory
     }
 }

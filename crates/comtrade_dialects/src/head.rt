@@ -83,38 +83,6 @@ fn revision_of<A: Allocator + Copy>(
     Ok(revision)
 }
 
-fn put_analogs<A: Allocator + Copy>(
-    reader: &mut Reader<'_, '_, A>,
-    channels: &mut Channels<A>,
-    count: u64,
-    is_old: bool,
-) -> Result<(), ImportFault> {
-    let wanted = if is_old { 10 } else { 13 };
-    for i in 0..count {
-        let row = next_row(&mut reader.cursor, reader.mark, reader.notes, wanted)?;
-        let place = (i.saturating_add(1), is_old);
-        let (channel, said) = analog_of(reader.alloc, reader.notes, reader.mark, row, place)?;
-        channels.analog.push(channel)?;
-        channels.said.push(said)?;
-    }
-    Ok(())
-}
-
-fn put_statuses<A: Allocator + Copy>(
-    reader: &mut Reader<'_, '_, A>,
-    channels: &mut Channels<A>,
-    count: u64,
-    is_old: bool,
-) -> Result<(), ImportFault> {
-    for i in 0..count {
-        let row = next_row(&mut reader.cursor, reader.mark, reader.notes, 5)?;
-        let number = i.saturating_add(1);
-        let channel = status_of(reader.alloc, reader.notes, row, number, is_old)?;
-        channels.status.push(channel)?;
-    }
-    Ok(())
-}
-
 /// The lines of channels.
 fn channels_of<A: Allocator + Copy>(
     reader: &mut Reader<'_, '_, A>,
@@ -126,8 +94,19 @@ fn channels_of<A: Allocator + Copy>(
         said: Vec::new(reader.alloc),
         status: Vec::new(reader.alloc),
     };
-    put_analogs(reader, &mut channels, counts.0, is_old)?;
-    put_statuses(reader, &mut channels, counts.1, is_old)?;
+    let wanted = if is_old { 10 } else { 13 };
+    for i in 0..counts.0 {
+        let row = next_row(&mut reader.cursor, reader.mark, reader.notes, wanted)?;
+        let place = (i.saturating_add(1), is_old);
+        let (channel, said) = analog_of(reader.notes, reader.mark, row, place)?;
+        channels.analog.push(channel)?;
+        channels.said.push(said)?;
+    }
+    for i in 0..counts.1 {
+        let row = next_row(&mut reader.cursor, reader.mark, reader.notes, 5)?;
+        let channel = status_of(reader.notes, row, i.saturating_add(1), is_old)?;
+        channels.status.push(channel)?;
+    }
     Ok(channels)
 }
 

@@ -9,19 +9,20 @@ pub(crate) enum Form {
     Float32,
 }
 
+/// The words that name them, in any case of letters.
+const NAMES: [(&[u8], Form); 4] = [
+    (b"ascii", Form::Ascii),
+    (b"binary", Form::Binary),
+    (b"binary32", Form::Binary32),
+    (b"float32", Form::Float32),
+];
+
 /// The form that a word names.
 pub(crate) fn form_of(text: &[u8]) -> Option<Form> {
-    if text.eq_ignore_ascii_case(b"ascii") {
-        return Some(Form::Ascii);
-    }
-    if text.eq_ignore_ascii_case(b"binary") {
-        return Some(Form::Binary);
-    }
-    if text.eq_ignore_ascii_case(b"binary32") {
-        return Some(Form::Binary32);
-    }
-    if text.eq_ignore_ascii_case(b"float32") {
-        return Some(Form::Float32);
+    for (name, form) in NAMES {
+        if text.eq_ignore_ascii_case(name) {
+            return Some(form);
+        }
     }
     None
 }

@@ -1,5 +1,7 @@
 //! Numbers as samples spell them: decimals in text, and binary floats.
 
+use dfr_channels::numeral_of;
+
 /// The number mant * 10^ten * 2^two.
 #[derive(Clone, Copy)]
 pub(crate) struct Num {
@@ -222,36 +224,25 @@ impl Digits {
     }
 }
 
-/// The exponent that a text spells, at most 9,999 in size.
-fn exponent_of(text: &[u8]) -> Option<i32> {
-    let (is_minus, digits) = match text {
+/// Whether a text begins with a minus, and what stands after its sign.
+fn without_sign(text: &[u8]) -> (bool, &[u8]) {
+    match text {
         [b'-', rest @ ..] => (true, rest),
         [b'+', rest @ ..] => (false, rest),
         _ => (false, text),
-    };
-    if digits.is_empty() {
-        return None;
     }
-    let mut size = 0i32;
-    for b in digits {
-        if !b.is_ascii_digit() {
-            return None;
-        }
-        size = size
-            .saturating_mul(10)
-            .saturating_add(i32::from(b.wrapping_sub(b'0')))
-            .min(9_999);
-    }
+}
+
+/// The exponent that a text spells, at most 9,999 in size.
+fn exponent_of(text: &[u8]) -> Option<i32> {
+    let (is_minus, digits) = without_sign(text);
+    let size = i32::try_from(numeral_of(digits)?.min(9_999)).ok()?;
     Some(if is_minus { size.wrapping_neg() } else { size })
 }
 
 /// The number that a text spells; a comma may stand for the point where that is let.
 pub(crate) fn spelled_of(text: &[u8], lets_comma: bool) -> Option<Spelled> {
-    let (is_minus, body) = match text {
-        [b'-', rest @ ..] => (true, rest),
-        [b'+', rest @ ..] => (false, rest),
-        _ => (false, text),
-    };
+    let (is_minus, body) = without_sign(text);
     let mut digits = Digits {
         mant: 0,
         ten: 0,

@@ -70,42 +70,38 @@ fn signed_word(bits: u16) -> i64 {
     }
 }
 
-/// The bits of a row's words, and whether one is set that no channel has.
-fn read_bits<A: Allocator>(
-    cells: &mut Cells<A>,
-    row: &[u8],
-    from: usize,
-    is_big: bool,
-    m: usize,
-) -> Result<(), Stop> {
-    let words = m.saturating_add(15).wrapping_div(16);
-    for w in 0..words {
-        let word = word_at(row, from.saturating_add(w.saturating_mul(2)), is_big);
-        let left = m.saturating_sub(w.saturating_mul(16)).min(16);
-        for i in 0..16u32 {
-            let is_set = word.wrapping_shr(i) & 1 == 1;
-            if (i as usize) < left {
-                cells.bits.push(is_set)?;
-            } else if is_set {
-                cells.odd.has_spare_bits = true;
+impl<A: Allocator> Cells<A> {
+    /// The bits of a row's words, and whether one is set that no channel has.
+    fn read_bits(&mut self, row: &[u8], from: usize, is_big: bool, m: usize) -> Result<(), Stop> {
+        let words = m.saturating_add(15).wrapping_div(16);
+        for w in 0..words {
+            let word = word_at(row, from.saturating_add(w.saturating_mul(2)), is_big);
+            let left = m.saturating_sub(w.saturating_mul(16)).min(16);
+            for i in 0..16u32 {
+                let is_set = word.wrapping_shr(i) & 1 == 1;
+                if (i as usize) < left {
+                    self.bits.push(is_set)?;
+                } else if is_set {
+                    self.odd.has_spare_bits = true;
+                }
             }
         }
+        Ok(())
     }
-    Ok(())
-}
 
-/// A row's number and stamp, with no value and no bit.
-fn read_front<A: Allocator>(cells: &mut Cells<A>, row: &[u8], is_big: bool) {
-    cells.values.clear();
-    cells.bits.clear();
-    cells.odd = Odd::default();
-    cells.number = i64::from(long_at(row, 0, is_big));
-    let stamp = long_at(row, 4, is_big);
-    cells.stamp = if stamp == u32::MAX {
-        None
-    } else {
-        Some(Num::of(i64::from(stamp)))
-    };
+    /// A row's number and stamp, with no value and no bit.
+    fn read_front(&mut self, row: &[u8], is_big: bool) {
+        self.values.clear();
+        self.bits.clear();
+        self.odd = Odd::default();
+        self.number = i64::from(long_at(row, 0, is_big));
+        let stamp = long_at(row, 4, is_big);
+        self.stamp = if stamp == u32::MAX {
+            None
+        } else {
+            Some(Num::of(i64::from(stamp)))
+        };
+    }
 }
 
 /// Where the values of a row begin.
@@ -124,9 +120,9 @@ pub(crate) fn read_float_row<A: Allocator>(
     packed: Packed<'_>,
     counts: Counts,
 ) -> Result<(), Stop> {
-    read_front(cells, row, packed.is_big);
+    cells.read_front(row, packed.is_big);
     let from = VALUES.saturating_add(counts.k.saturating_mul(4));
-    read_bits(cells, row, from, packed.is_big, counts.m)
+    cells.read_bits(row, from, packed.is_big, counts.m)
 }
 
 /// A row of binary data. Values of the channels that `unsigned` names have no sign.
@@ -137,7 +133,7 @@ pub(crate) fn read_packed<A: Allocator>(
     counts: Counts,
     unsigned: &[bool],
 ) -> Result<(), Stop> {
-    read_front(cells, row, packed.is_big);
+    cells.read_front(row, packed.is_big);
     let width = if packed.form == Form::Binary {
         2usize
     } else {
@@ -149,5 +145,5 @@ pub(crate) fn read_packed<A: Allocator>(
         cells.values.push(value_at(row, at, packed, is_unsigned))?;
         at = at.saturating_add(width);
     }
-    read_bits(cells, row, at, packed.is_big, counts.m)
+    cells.read_bits(row, at, packed.is_big, counts.m)
 }

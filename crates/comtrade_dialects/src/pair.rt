@@ -56,15 +56,20 @@ pub fn unmarked<'a, A: Allocator + Copy>(
     }
 }
 
-/// What a configuration file says, whose text is ASCII or UTF-8.
-fn draft_in<A: Allocator + Copy>(
-    alloc: A,
+/// A file's text in ASCII or UTF-8, of which `narrowed` has that of UTF-16.
+fn text_in<'a, A: Allocator + Copy>(
     notes: &mut Notes<A>,
-    text: &[u8],
-    choices: Choices,
-) -> Result<Draft<A>, ImportFault> {
-    let text = before_end(notes, text)?;
-    draft_of(alloc, notes, text, choices.dates)
+    name: &'static str,
+    text: &'a [u8],
+    narrowed: &'a Option<Vec<u8, A>>,
+) -> Result<&'a [u8], ImportFault> {
+    match narrowed {
+        Some(text) => {
+            notes.tell(Key::Utf16, Place::Whole(name), &[])?;
+            Ok(text.as_slice())
+        }
+        None => unmarked(notes, name, text),
+    }
 }
 
 /// What a configuration file says.
@@ -74,16 +79,10 @@ fn cfg_of<A: Allocator + Copy>(
     cfg: &[u8],
     choices: Choices,
 ) -> Result<Draft<A>, ImportFault> {
-    match narrow(alloc, cfg)? {
-        Some(text) => {
-            notes.tell(Key::Utf16, Place::Whole("configuration file"), &[])?;
-            draft_in(alloc, notes, text.as_slice(), choices)
-        }
-        None => {
-            let text = unmarked(notes, "configuration file", cfg)?;
-            draft_in(alloc, notes, text, choices)
-        }
-    }
+    let narrowed = narrow(alloc, cfg)?;
+    let text = text_in(notes, "configuration file", cfg, &narrowed)?;
+    let text = before_end(notes, text)?;
+    draft_of(alloc, notes, text, choices.dates)
 }
 
 /// The file of data that are said to be text.
@@ -93,16 +92,9 @@ fn file_of_text<A: Allocator + Copy>(
     draft: Draft<A>,
     dat: &[u8],
 ) -> Result<File<A>, ImportFault> {
-    match narrow(alloc, dat)? {
-        Some(text) => {
-            notes.tell(Key::Utf16, Place::Whole("data file"), &[])?;
-            file_of(alloc, notes, draft, text.as_slice())
-        }
-        None => {
-            let text = unmarked(notes, "data file", dat)?;
-            file_of(alloc, notes, draft, text)
-        }
-    }
+    let narrowed = narrow(alloc, dat)?;
+    let text = text_in(notes, "data file", dat, &narrowed)?;
+    file_of(alloc, notes, draft, text)
 }
 
 /// The file that a pair says, with all repairs that it needs, each told.

@@ -6,7 +6,8 @@ use crate::kinds::Form;
 use crate::num::Num;
 use crate::packed_row::read_packed;
 use crate::text_row::read_line;
-use std::alloc::{AllocError, AllocFailed, Allocator};
+use dfr_channels::Memory;
+use std::alloc::Allocator;
 
 /// Rows of binary data: whole rows alone.
 #[derive(Clone, Copy)]
@@ -23,6 +24,15 @@ pub(crate) struct Packed<'a> {
 pub(crate) enum Plan<'a> {
     Text(&'a [u8], u8),
     Packed(Packed<'a>),
+}
+
+impl Plan<'_> {
+    pub(crate) fn form(&self) -> Form {
+        match self {
+            Plan::Text(_, _) => Form::Ascii,
+            Plan::Packed(packed) => packed.form,
+        }
+    }
 }
 
 /// Numbers of channels.
@@ -75,20 +85,12 @@ pub(crate) enum Stop {
     Why(Why),
 }
 
-impl From<AllocError> for Stop {
-    fn from(_e: AllocError) -> Stop {
-        Stop::Memory
-    }
-}
-
-impl From<AllocFailed<Option<Num>>> for Stop {
-    fn from(_e: AllocFailed<Option<Num>>) -> Stop {
-        Stop::Memory
-    }
-}
-
-impl From<AllocFailed<bool>> for Stop {
-    fn from(_e: AllocFailed<bool>) -> Stop {
+/// Whatever says that memory ran out.
+impl<E: Drop> From<E> for Stop
+where
+    Memory: From<E>,
+{
+    fn from(_e: E) -> Stop {
         Stop::Memory
     }
 }

@@ -145,10 +145,6 @@ fn decimal_at(num: Num, shift: i32) -> i64 {
 /// The nearest whole number to n / part, halves away from 0.
 pub(crate) fn over(n: i64, part: i64) -> i64 {
     let half = part.wrapping_div(2);
-    let up = if n < 0 {
-        n.saturating_sub(half)
-    } else {
-        n.saturating_add(half)
-    };
+    let up = n.saturating_add(if n < 0 { half.wrapping_neg() } else { half });
     up.checked_div(part).unwrap_or(0)
 }

@@ -2,6 +2,7 @@
 
 use crate::cursor::{after, before};
 use crate::fault::{ImportFault, Why};
+use crate::kinds::form_of;
 use crate::text::{has_only, place_of};
 use dfr_channels::{integer_of, trim};
 use memchr::memchr;
@@ -78,14 +79,8 @@ fn without_dashes(line: &[u8]) -> &[u8] {
 /// The section of data that a kind and a count name.
 fn data_section(text: &[u8]) -> Option<Section> {
     let (kind, left) = word_of(after_colon(text));
-    if kind.is_empty() || kind.eq_ignore_ascii_case(b"ascii") {
+    if kind.is_empty() || form_of(kind)?.is_text() {
         return Some(Section::Text);
-    }
-    let is_binary = kind.eq_ignore_ascii_case(b"binary")
-        || kind.eq_ignore_ascii_case(b"binary32")
-        || kind.eq_ignore_ascii_case(b"float32");
-    if !is_binary {
-        return None;
     }
     let count = after_colon(left);
     if count.is_empty() {

@@ -6,7 +6,7 @@ use crate::field::{Parts, joint_of};
 use crate::key::Key;
 use crate::lines::{Row, at, phase_of, text_of};
 use crate::note::{Notes, Place};
-use dfr_channels::{Items, StatusChannel, bit_of, free_bit_of};
+use dfr_channels::{StatusChannel, bit_of, free_bit_of};
 use std::alloc::Allocator;
 
 /// Where the fields of a line stand.
@@ -52,7 +52,6 @@ fn told_apart<'a>(parts: &Parts<'a>) -> Option<Parts<'a>> {
 
 /// The channel that a line says.
 pub(crate) fn status_of<A: Allocator + Copy>(
-    alloc: A,
     notes: &mut Notes<A>,
     row: Row<'_>,
     number: u64,
@@ -69,17 +68,15 @@ pub(crate) fn status_of<A: Allocator + Copy>(
     if !is_full && !is_old {
         notes.tell(Key::Status3Fields, Place::Cfg(line), &[])?;
     }
-    let phase = if is_full {
-        phase_of(notes, line, parts.at(2))?
+    let empty: &[u8] = &[];
+    let (phase, component, normal) = if is_full {
+        (parts.at(2), parts.at(3), parts.at(4))
     } else {
-        Items::of(Vec::new(alloc))
+        (empty, empty, parts.at(2))
     };
-    let component = if is_full {
-        text_of(notes, line, parts.at(3), 64, None)?
-    } else {
-        Items::of(Vec::new(alloc))
-    };
-    match free_bit_of(parts.at(if is_full { 4 } else { 2 })) {
+    let phase = phase_of(notes, line, phase)?;
+    let component = text_of(notes, line, component, 64, None)?;
+    match free_bit_of(normal) {
         Some(normal) => Ok(StatusChannel {
             id,
             phase,

@@ -15,7 +15,7 @@ use Rattle.std.proofs.lemmas.Bool.{lt-ltb, and_from}
 use Rattle.std.proofs.lemmas.Bool.Decides.{nat_tests}
 use Rattle.dfr_channels.specs.Spelling.{capped_size, is_numeral}
 use Rattle.comtrade_io.specs.Pieces.{is_feed, is_space}
-use Rattle.comtrade_io.specs.Replayed.{IsOneLine, sized, Answer, answer_line, answers_text, Taken, IsRecord, record_text, extent_words, files_text}
+use Rattle.comtrade_io.specs.Replayed.{IsOneLine, sized, Answer, answer_line, answers_text, Taken, IsRecord, record_text, extent_words, files_text, Ending, Record, Fault, Nothing, IsEnding, ending_text}
 
 -- this byte doesn't stand in it
 abbrev Lacks : ℕ → List ℕ → Type 0
@@ -121,6 +121,17 @@ no_record words line e h =
 
 pub begins : (words line : List ℕ) → line ≡ codes "fault " ++ words → starts_with nat_eq line (codes "fault ") ≡ true
 begins words line e = ap (λ (l : List ℕ). starts_with nat_eq l (codes "fault ")) e
+
+-- a line that is a text's first, and begins as neither a record nor a fault does, ends no replay
+pub no_ending : (text line : List ℕ) (e : Ending) → line ≡ before_first is_feed text → (text ≡ [] → ⊥)
+    → pointwise nat_eq (take 7 line) (codes "record ") ≡ false → false ≡ starts_with nat_eq line (codes "fault ")
+    → IsEnding e → text ≡ ending_text e → ⊥
+no_ending text line (Record r after) first some no_record no_fault ok e =
+    not_stripped (codes "record ") (extent_words r) line (first ∙ ap (before_first is_feed) e ∙ (record_found r after text ok e).before) no_record
+no_ending text line (Fault words after) first some no_record no_fault ok e =
+    let b = begins words line (first ∙ ap (before_first is_feed) e ∙ (fault_found words after text ok e).before) in
+    cc (b, no_fault)
+no_ending text line Nothing first some no_record no_fault ok e = some e
 
 -- each answer has its line end
 pub answers_long : (answers : List Answer) (after : List ℕ) → length answers + length after ≤ length (answers_text answers after)

@@ -1,9 +1,9 @@
 -- A command that a parse met, by its name and its rows.
-use Rattle.std.proofs.Common.{◌≡◌, ℕ, Bool, true, false, Bor, get_or, arith, ltb, ltb-true, ◌<◌, List, [], Option, Some, None, option_map, codes, inl, inr, refl, ap, ap₂, ◌∙◌, sym, rules}
+use Rattle.std.proofs.Common.{◌≡◌, ℕ, Bool, true, false, Bor, get_or, arith, ltb, ltb-true, ◌<◌, List, [], Option, Some, None, option_map, codes, inl, inr, refl, ap, ap₂, ◌∙◌, sym, subst, rules}
 use Rattle.clap.specs.Words.{Row, Rule, Text, all_of, first_of, first_value, matched_of, raw_values, rows_of, rule_of, with_rule}
-use Rattle.std.specs.Prelude.{◌||◌, ◌⊎◌, MatchOption}
+use Rattle.std.specs.Prelude.{◌||◌, ◌==◌, ◌⊎◌, MatchOption}
 use Rattle.clap.specs.Matches.{subcommand_name_of}
-use Rattle.clap.specs.Words.{AddsArg, AddsSubcommand, App, is_simple, with_subcommand}
+use Rattle.clap.specs.Words.{AddsArg, AddsSubcommand, App, app_of, fault_of, is_simple, subcommand_of, with_subcommand}
 use Rattle.clap.proofs.OnLiterals.{clap_on_literals}
 use Rattle.clap.specs.declared.builder.arg.Arg.{Arg}
 use Rattle.clap.specs.declared.builder.command.Command.{Command}
@@ -25,9 +25,9 @@ use Rattle.comtrade_io.specs.declared.command_line.asked.Answer.TheVariants.{Do,
 use Rattle.clap.specs.declared.error.kind.ErrorKind.{ErrorKind}
 use Rattle.clap.specs.declared.error.kind.ErrorKind.TheVariants.{OutOfMemory}
 use Rattle.clap.specs.Words.{IsAmong, Kinds, is_simple_and_free}
-use Rattle.comtrade_io.specs.Asking.{AreNames, Asks, AsksAs, Does, DoneAbout, FitsNothing, IsCompared, IsConverted, Tells, is_text}
+use Rattle.comtrade_io.specs.Asking.{AnswersTo, AreNames, Asks, AsksAs, Does, DoneAbout, FitsNothing, IsCompared, IsConverted, Tells, is_text}
 use Rattle.comtrade_io.specs.Verbs.{survey_name, view_name}
-use Rattle.comtrade_io.specs.Commands.{IsCommand, program}
+use Rattle.comtrade_io.specs.Commands.{IsCommand, IsKinded, program}
 
 -- what rows say is what the getters read
 pub rows : (f : Found) (id : Text) → first_value f id ≡ first_of id (rows_of f)
@@ -43,56 +43,37 @@ letter k s t e = ap (λ (x : List ℕ). get_or x k 0) e
 below : (m n : ℕ) → m ≡ n → ltb m n ≡ true → ⊥
 below m n e h = let lt : m < n = ltb-true m n h in absurd (omega arith)
 
+differ : (tells : Text → Bool) (s t : Text) → tells s ≡ true → tells t ≡ false → s ≡ t → ⊥
+differ tells s t is isnt e = absurd (let both : tells t ≡ true = ap tells (sym e) ∙ is in cc)
+
+-- the second letter tells the commands over one pair and those over many pairs from all others
+abbrev is_view : Text → Bool
+is_view name = let c = get_or name 1 0 in c == 97 || c == 101 || c == 104 || c == 108 || c == 115
+
+abbrev is_survey : Text → Bool
+is_survey name = let c = get_or name 1 0 in c == 105 || c == 118
+
+view_is : (v : View) → is_view (view_name v) ≡ true
+view_is view.Show = refl
+view_is view.Check = refl
+view_is view.Csv = refl
+view_is view.Plot = refl
+view_is view.Page = refl
+view_is view.Measure = refl
+
+survey_is : (s : Survey) → (is_survey (survey_name s) ≡ true) × (is_view (survey_name s) ≡ false)
+survey_is survey.List = (refl, refl)
+survey_is survey.Events = (refl, refl)
+
 -- no two commands have one name
-view_isnt_convert : (v : View) → view_name v ≡ codes "convert" → ⊥
-view_isnt_convert view.Show e = below 99 115 (letter 0 _ _ (sym e)) refl
-view_isnt_convert view.Check e = below 104 111 (letter 1 _ _ e) refl
-view_isnt_convert view.Csv e = below 111 115 (letter 1 _ _ (sym e)) refl
-view_isnt_convert view.Plot e = below 99 112 (letter 0 _ _ (sym e)) refl
-view_isnt_convert view.Page e = below 99 112 (letter 0 _ _ (sym e)) refl
-view_isnt_convert view.Measure e = below 99 109 (letter 0 _ _ (sym e)) refl
+view_isnt : (v : View) (name : Text) → is_view name ≡ false → view_name v ≡ name → ⊥
+view_isnt v name other e = differ is_view (view_name v) name (view_is v) other e
 
-view_isnt_extract : (v : View) → view_name v ≡ codes "extract" → ⊥
-view_isnt_extract view.Show e = below 101 115 (letter 0 _ _ (sym e)) refl
-view_isnt_extract view.Check e = below 99 101 (letter 0 _ _ e) refl
-view_isnt_extract view.Csv e = below 99 101 (letter 0 _ _ e) refl
-view_isnt_extract view.Plot e = below 101 112 (letter 0 _ _ (sym e)) refl
-view_isnt_extract view.Page e = below 101 112 (letter 0 _ _ (sym e)) refl
-view_isnt_extract view.Measure e = below 101 109 (letter 0 _ _ (sym e)) refl
-
-view_isnt_compare : (v : View) → view_name v ≡ codes "compare" → ⊥
-view_isnt_compare view.Show e = below 99 115 (letter 0 _ _ (sym e)) refl
-view_isnt_compare view.Check e = below 104 111 (letter 1 _ _ e) refl
-view_isnt_compare view.Csv e = below 111 115 (letter 1 _ _ (sym e)) refl
-view_isnt_compare view.Plot e = below 99 112 (letter 0 _ _ (sym e)) refl
-view_isnt_compare view.Page e = below 99 112 (letter 0 _ _ (sym e)) refl
-view_isnt_compare view.Measure e = below 99 109 (letter 0 _ _ (sym e)) refl
-
-survey_isnt_convert : (s : Survey) → survey_name s ≡ codes "convert" → ⊥
-survey_isnt_convert survey.List e = below 99 108 (letter 0 _ _ (sym e)) refl
-survey_isnt_convert survey.Events e = below 99 101 (letter 0 _ _ (sym e)) refl
-
-survey_isnt_extract : (s : Survey) → survey_name s ≡ codes "extract" → ⊥
-survey_isnt_extract survey.List e = below 101 108 (letter 0 _ _ (sym e)) refl
-survey_isnt_extract survey.Events e = below 118 120 (letter 1 _ _ e) refl
-
-survey_isnt_compare : (s : Survey) → survey_name s ≡ codes "compare" → ⊥
-survey_isnt_compare survey.List e = below 99 108 (letter 0 _ _ (sym e)) refl
-survey_isnt_compare survey.Events e = below 99 101 (letter 0 _ _ (sym e)) refl
+survey_isnt : (s : Survey) (name : Text) → is_survey name ≡ false → survey_name s ≡ name → ⊥
+survey_isnt s name other e = differ is_survey (survey_name s) name (survey_is s).0 other e
 
 survey_isnt_view : (s : Survey) (v : View) → survey_name s ≡ view_name v → ⊥
-survey_isnt_view survey.List view.Show e = below 108 115 (letter 0 _ _ e) refl
-survey_isnt_view survey.List view.Check e = below 99 108 (letter 0 _ _ (sym e)) refl
-survey_isnt_view survey.List view.Csv e = below 99 108 (letter 0 _ _ (sym e)) refl
-survey_isnt_view survey.List view.Plot e = below 108 112 (letter 0 _ _ e) refl
-survey_isnt_view survey.List view.Page e = below 108 112 (letter 0 _ _ e) refl
-survey_isnt_view survey.List view.Measure e = below 108 109 (letter 0 _ _ e) refl
-survey_isnt_view survey.Events view.Show e = below 101 115 (letter 0 _ _ e) refl
-survey_isnt_view survey.Events view.Check e = below 99 101 (letter 0 _ _ (sym e)) refl
-survey_isnt_view survey.Events view.Csv e = below 99 101 (letter 0 _ _ (sym e)) refl
-survey_isnt_view survey.Events view.Plot e = below 101 112 (letter 0 _ _ e) refl
-survey_isnt_view survey.Events view.Page e = below 101 112 (letter 0 _ _ e) refl
-survey_isnt_view survey.Events view.Measure e = below 101 109 (letter 0 _ _ e) refl
+survey_isnt_view s v e = view_isnt v (survey_name s) (survey_is s).1 (sym e)
 
 extract_isnt_convert : codes "extract" ≡ codes "convert" → ⊥
 extract_isnt_convert e = below 99 101 (letter 0 _ _ (sym e)) refl
@@ -106,31 +87,31 @@ compare_isnt_convert e = below 109 110 (letter 2 _ _ e) refl
 -- where the names of a pair don't fit, nothing that its command asks for does
 pub no_view : (r : List Row) (v : View) → ((names : Names) → AreNames r names → ⊥) → FitsNothing (Asks r (view_name v))
 no_view r v none (asks.View w viewed) h = none viewed.names h.1.names
-no_view r v none (asks.Convert made) h = view_isnt_convert v (sym h.0)
-no_view r v none (asks.Compare made) h = view_isnt_compare v (sym h.0)
-no_view r v none (asks.Extract folder) h = view_isnt_extract v (sym h.0)
+no_view r v none (asks.Convert made) h = view_isnt v (codes "convert") refl (sym h.0)
+no_view r v none (asks.Compare made) h = view_isnt v (codes "compare") refl (sym h.0)
+no_view r v none (asks.Extract folder) h = view_isnt v (codes "extract") refl (sym h.0)
 no_view r v none (asks.Survey s json encoding surveyed) h = survey_isnt_view s v h.0
 
 pub no_convert : (r : List Row) → ((made : Converted) → IsConverted r made → ⊥) → FitsNothing (Asks r (codes "convert"))
-no_convert r none (asks.View w viewed) h = view_isnt_convert w h.0
+no_convert r none (asks.View w viewed) h = view_isnt w (codes "convert") refl h.0
 no_convert r none (asks.Convert made) h = none made h.1
 no_convert r none (asks.Compare made) h = compare_isnt_convert h.0
 no_convert r none (asks.Extract folder) h = extract_isnt_convert h.0
-no_convert r none (asks.Survey s json encoding surveyed) h = survey_isnt_convert s h.0
+no_convert r none (asks.Survey s json encoding surveyed) h = survey_isnt s (codes "convert") refl h.0
 
 pub no_compare : (r : List Row) → ((made : Compared) → IsCompared r made → ⊥) → FitsNothing (Asks r (codes "compare"))
-no_compare r none (asks.View w viewed) h = view_isnt_compare w h.0
+no_compare r none (asks.View w viewed) h = view_isnt w (codes "compare") refl h.0
 no_compare r none (asks.Convert made) h = compare_isnt_convert (sym h.0)
 no_compare r none (asks.Compare made) h = none made h.1
 no_compare r none (asks.Extract folder) h = extract_isnt_compare h.0
-no_compare r none (asks.Survey s json encoding surveyed) h = survey_isnt_compare s h.0
+no_compare r none (asks.Survey s json encoding surveyed) h = survey_isnt s (codes "compare") refl h.0
 
 pub no_extract : (r : List Row) → None ≡ first_of (codes "DIR") r → FitsNothing (Asks r (codes "extract"))
-no_extract r none (asks.View w viewed) h = view_isnt_extract w h.0
+no_extract r none (asks.View w viewed) h = view_isnt w (codes "extract") refl h.0
 no_extract r none (asks.Convert made) h = extract_isnt_convert (sym h.0)
 no_extract r none (asks.Compare made) h = extract_isnt_compare (sym h.0)
 no_extract r none (asks.Extract folder) h = absurd (let e = none ∙ h.1 in cc)
-no_extract r none (asks.Survey s json encoding surveyed) h = survey_isnt_extract s h.0
+no_extract r none (asks.Survey s json encoding surveyed) h = survey_isnt s (codes "extract") refl h.0
 
 -- nor where no command has the name
 pub no_command : (r : List Row) (verb : Text) → ((v : View) → view_name v ≡ verb → ⊥) → ((s : Survey) → survey_name s ≡ verb → ⊥)
@@ -171,6 +152,15 @@ told o found kind (Print x) (inr among) h = record { kind = kind; among = among;
 told o found kind (Refuse x) (inl dry) h = absurd (h.1 dry)
 told o found kind (Refuse x) (inr among) h = inr (record { kind = kind; among = among; text = h.0 })
 
+-- what is done is done about the words of the command that was parsed
+pub answers : (words : List Text) (command : Command) (answer : Answer) → IsKinded program command
+    → DoneAbout (fault_of (app_of command) words) (subcommand_of (app_of command) words) answer → AnswersTo words answer
+answers words command answer is h = record {
+  kinds = is.kinds;
+  are_kinds = is.words;
+  done = subst (λ (a : App). DoneAbout (fault_of a words) (subcommand_of a words) answer) is.command.app h;
+}
+
 no_globals : (a b : Bool) → a ≡ false → b ≡ false → (a || b) ≡ false
 no_globals a b e h = rw (e, h) refl
 
@@ -190,11 +180,17 @@ with_arg a r old new arg is_old rule local h = record {
 }
 
 -- a parse reads the program's words as clap's definitions say
-pub is_program : (kinds : Bor (List (Bor (List ℕ)))) → is_simple (program kinds) ≡ true
+is_program : (kinds : Bor (List (Bor (List ℕ)))) → is_simple (program kinds) ≡ true
 unfolding clap_on_literals
 is_program kinds = refl
 
+pub reads : (command : Command) → IsKinded program command → is_simple (app_of command) ≡ true
+reads command is = ap is_simple is.command.app ∙ is_program is.kinds
+
 -- nor has an argument a rule on another
-pub is_free : (kinds : Bor (List (Bor (List ℕ)))) → is_simple_and_free (program kinds) ≡ true
+is_free : (kinds : Bor (List (Bor (List ℕ)))) → is_simple_and_free (program kinds) ≡ true
 unfolding clap_on_literals
 is_free kinds = refl
+
+pub reads_freely : (command : Command) → IsKinded program command → is_simple_and_free (app_of command) ≡ true
+reads_freely command is = ap is_simple_and_free is.command.app ∙ is_free is.kinds

@@ -66,24 +66,28 @@ with_table a = with_rule (with_rule a (option (codes "separator"))) (option (cod
 abbrev pub over_pair : Text → App
 over_pair name = with_rule (with_rule (new_app name) (word (codes "FILE"))) (free_word (codes "DAT"))
 
+-- the same over a part of a pair
+abbrev pub over_part : Text → App
+over_part name = with_part (over_pair name)
+
 -- the commands that print what is in a pair
 abbrev pub show : App
-show = with_json (with_part (over_pair (codes "show")))
+show = with_json (over_part (codes "show"))
 
 abbrev pub check : App
 check = with_json (over_pair (codes "check"))
 
 abbrev pub csv : App
-csv = with_table (with_part (over_pair (codes "csv")))
+csv = with_table (over_part (codes "csv"))
 
 abbrev pub plot : App
-plot = with_picture (with_part (over_pair (codes "plot")))
+plot = with_picture (over_part (codes "plot"))
 
 abbrev pub page : App
-page = with_part (over_pair (codes "page"))
+page = over_part (codes "page")
 
 abbrev pub measure : App
-measure = with_json (with_cursor (with_part (over_pair (codes "measure"))))
+measure = with_json (with_cursor (over_part (codes "measure")))
 
 -- with three names the second is the data file's
 abbrev pub convert_names : App

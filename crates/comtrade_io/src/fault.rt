@@ -5,7 +5,6 @@ ghost use Rattle.comtrade_io.specs.declared.fault.ToolFault.TheVariants as fault
 ghost use Rattle.comtrade_io.specs.Faults as Faults;
 
 use dfr_channels::Memory;
-use std::alloc::{AllocError, AllocFailed};
 use std::io::ErrorKind;
 use thiserror::Error;
 
@@ -69,22 +68,14 @@ pub fn fault_of(kind: ErrorKind, other: ToolFault) -> ToolFault
     }
 }
 
-impl From<AllocError> for ToolFault {
+/// Whatever says that memory ran out.
+impl<E: Drop> From<E> for ToolFault
+where
+    Memory: From<E>,
+{
     ghost from_gives = { λ _ e. e ≡ fault.Memory };
 
-    fn from(_error: AllocError) -> ToolFault {
-        ToolFault::Memory
-    }
-}
-
-impl From<Memory> for ToolFault {
-    fn from(_error: Memory) -> ToolFault {
-        ToolFault::Memory
-    }
-}
-
-impl<T: Drop> From<AllocFailed<T>> for ToolFault {
-    fn from(_error: AllocFailed<T>) -> ToolFault {
+    fn from(_error: E) -> ToolFault {
         ToolFault::Memory
     }
 }

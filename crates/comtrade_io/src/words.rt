@@ -142,25 +142,15 @@ pub enum Asked<'a> {
 pub fn view_of(verb: &str) -> Option<View>
     ensures { MatchOption result ((view : View) → verbs.view_name view ≡ verb.now → ⊥) (λ view. verbs.view_name view ≡ verb.now) }
 {
-    if verb == "show" {
-        return Some(View::Show);
+    match verb {
+        "show" => Some(View::Show),
+        "check" => Some(View::Check),
+        "csv" => Some(View::Csv),
+        "plot" => Some(View::Plot),
+        "page" => Some(View::Page),
+        "measure" => Some(View::Measure),
+        _ => None,
     }
-    if verb == "check" {
-        return Some(View::Check);
-    }
-    if verb == "csv" {
-        return Some(View::Csv);
-    }
-    if verb == "plot" {
-        return Some(View::Plot);
-    }
-    if verb == "page" {
-        return Some(View::Page);
-    }
-    if verb == "measure" {
-        return Some(View::Measure);
-    }
-    None
 }
 
 /// The command over many pairs that is called so.
@@ -168,13 +158,11 @@ pub fn survey_of(verb: &str) -> Option<Survey>
     ensures { MatchOption result ((survey : Survey) → verbs.survey_name survey ≡ verb.now → ⊥)
         (λ survey. verbs.survey_name survey ≡ verb.now) }
 {
-    if verb == "list" {
-        return Some(Survey::List);
+    match verb {
+        "list" => Some(Survey::List),
+        "events" => Some(Survey::Events),
+        _ => None,
     }
-    if verb == "events" {
-        return Some(Survey::Events);
-    }
-    None
 }
 
 /// What the names after a pair's first one mean: one is the new pair's; of two the second is, and the first is the data file's.

@@ -70,10 +70,7 @@ fn convert_of<'a>(found: &ArgMatches<'a>) -> Option<Asked<'a>>
     ensures { MatchOption result (FitsNothing (Asks (rows_of (found_of found.now)) (codes "convert")))
         (Asks (rows_of (found_of found.now)) (codes "convert")) }
 {
-    match converted_of(found) {
-        Some(made) => Some(Asked::Convert(made)),
-        None => None,
-    }
+    Some(Asked::Convert(converted_of(found)?))
 }
 
 /// The names of two records, and how they are compared.
@@ -96,10 +93,7 @@ fn compare_of<'a>(found: &ArgMatches<'a>) -> Option<Asked<'a>>
     ensures { MatchOption result (FitsNothing (Asks (rows_of (found_of found.now)) (codes "compare")))
         (Asks (rows_of (found_of found.now)) (codes "compare")) }
 {
-    match compared_of(found) {
-        Some(made) => Some(Asked::Compare(made)),
-        None => None,
-    }
+    Some(Asked::Compare(compared_of(found)?))
 }
 
 /// The folder of an extract.
@@ -108,10 +102,7 @@ fn extract_of<'a>(found: &ArgMatches<'a>) -> Option<Asked<'a>>
     ensures { MatchOption result (FitsNothing (Asks (rows_of (found_of found.now)) (codes "extract")))
         (Asks (rows_of (found_of found.now)) (codes "extract")) }
 {
-    match text_of(found, "DIR") {
-        Some(folder) => Some(Asked::Extract(folder)),
-        None => None,
-    }
+    Some(Asked::Extract(text_of(found, "DIR")?))
 }
 
 /// Folders and files.

@@ -1,5 +1,5 @@
 //! The commands of the program, with their words and their help. A command is one function here, its definition of the same name in
-//! `specs/Commands.antt`, and a line in the function of its group.
+//! `specs/Commands.antt`, and a line in the function of its group; of `list` and `events`, which take the same words, that line is all.
 
 ghost use Rattle.std.specs.Prelude.{IfOk};
 ghost use Rattle.clap.specs.Words.{App, new_app};
@@ -77,29 +77,33 @@ fn over_pair<'a>(alloc: Global, name: &'a str, about: &'a str) -> Result<Command
     with(one, free_word(alloc, "DAT", dat))
 }
 
+/// A command over a part of a pair.
+fn over_part<'a>(alloc: Global, name: &'a str, about: &'a str) -> Result<Command<'a>, AllocError>
+    ensures { IfOk result (IsCommand (Spec.over_part name.entry.now)) }
+{
+    let pair = over_pair(alloc, name, about)?;
+    with_part(alloc, pair)
+}
+
 fn show<'a>(alloc: Global) -> Result<Command<'a>, AllocError>
     ensures { IfOk result (IsCommand Spec.show) }
 {
     let about = "Prints what is in a pair: names, instants, channels, extremes, changes, gaps";
-    let pair = over_pair(alloc, "show", about)?;
-    let part = with_part(alloc, pair)?;
-    with_json(alloc, part)
+    with_json(alloc, over_part(alloc, "show", about)?)
 }
 
 fn check<'a>(alloc: Global) -> Result<Command<'a>, AllocError>
     ensures { IfOk result (IsCommand Spec.check) }
 {
     let about = "Prints the first fault of a pair, or that it has none";
-    let pair = over_pair(alloc, "check", about)?;
-    with_json(alloc, pair)
+    with_json(alloc, over_pair(alloc, "check", about)?)
 }
 
 fn csv<'a>(alloc: Global) -> Result<Command<'a>, AllocError>
     ensures { IfOk result (IsCommand Spec.csv) }
 {
     let about = "Prints the rows: instants, values a*x + b, contacts";
-    let pair = over_pair(alloc, "csv", about)?;
-    let part = with_part(alloc, pair)?;
+    let part = over_part(alloc, "csv", about)?;
     let separator = "What separates cells, as ';' or tab";
     let decimal = "What stands before the places of a number: . or ,";
     let one = with(part, option(alloc, "separator", "TEXT", separator))?;
@@ -109,8 +113,7 @@ fn csv<'a>(alloc: Global) -> Result<Command<'a>, AllocError>
 fn plot<'a>(alloc: Global) -> Result<Command<'a>, AllocError>
     ensures { IfOk result (IsCommand Spec.plot) }
 {
-    let pair = over_pair(alloc, "plot", "Prints a picture, as SVG")?;
-    let part = with_part(alloc, pair)?;
+    let part = over_part(alloc, "plot", "Prints a picture, as SVG")?;
     with_picture(alloc, part)
 }
 
@@ -118,8 +121,7 @@ fn page<'a>(alloc: Global) -> Result<Command<'a>, AllocError>
     ensures { IfOk result (IsCommand Spec.page) }
 {
     let about = "Prints a page that shows the record in a browser, in one file";
-    let pair = over_pair(alloc, "page", about)?;
-    with_part(alloc, pair)
+    over_part(alloc, "page", about)
 }
 
 fn measure<'a>(alloc: Global) -> Result<Command<'a>, AllocError>
@@ -127,8 +129,7 @@ fn measure<'a>(alloc: Global) -> Result<Command<'a>, AllocError>
 {
     let about =
         "Prints where currents left their course; of a moment or window phasors, harmonics, sequence components";
-    let pair = over_pair(alloc, "measure", about)?;
-    let part = with_part(alloc, pair)?;
+    let part = over_part(alloc, "measure", about)?;
     let at = "The moment whose last whole cycle is measured, said as --from is";
     let reference = "The channel from which angles are counted, by its id or number";
     let one = with(part, option(alloc, "at", "MOMENT", at))?;
@@ -190,26 +191,6 @@ fn over_names<'a>(alloc: Global, name: &'a str, about: &'a str) -> Result<Comman
     with_encoding(alloc, json)
 }
 
-fn list<'a>(alloc: Global) -> Result<Command<'a>, AllocError>
-    ensures { IfOk result (IsCommand Spec.list) }
-{
-    over_names(
-        alloc,
-        "list",
-        "Prints a line for each record of folders, by the instants of the triggers",
-    )
-}
-
-fn events<'a>(alloc: Global) -> Result<Command<'a>, AllocError>
-    ensures { IfOk result (IsCommand Spec.events) }
-{
-    over_names(
-        alloc,
-        "events",
-        "Prints the triggers, gaps and changes of contacts of one record or more, by time",
-    )
-}
-
 fn compare<'a>(alloc: Global) -> Result<Command<'a>, AllocError>
     ensures { IfOk result (IsCommand Spec.compare) }
 {
@@ -239,9 +220,11 @@ fn views<'a>(alloc: Global, program: Command<'a>) -> Result<Command<'a>, AllocEr
 fn surveys<'a>(alloc: Global, program: Command<'a>) -> Result<Command<'a>, AllocError>
     ensures { (a : App) → IsCommand a program.entry → IfOk result (IsCommand (Spec.surveys a)) }
 {
+    let list = "Prints a line for each record of folders, by the instants of the triggers";
+    let events = "Prints the triggers, gaps and changes of contacts of one record or more, by time";
     program
-        .subcommand(list(alloc)?)?
-        .subcommand(events(alloc)?)?
+        .subcommand(over_names(alloc, "list", list)?)?
+        .subcommand(over_names(alloc, "events", events)?)?
         .subcommand(compare(alloc)?)
 }
 

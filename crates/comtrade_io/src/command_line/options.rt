@@ -13,7 +13,7 @@ pub(crate) fn word<'a>(alloc: Global, name: &'a str, help: &'a str) -> Arg<'a>
     ensures rule { rule_of result ≡ Spec.word name.entry.now }
     ensures local { result.global ≡ false }
 {
-    Arg::new(alloc, name).required(true).help(help)
+    free_word(alloc, name, help).required(true)
 }
 
 /// A word that may be there.
@@ -29,10 +29,7 @@ pub(crate) fn words<'a>(alloc: Global, name: &'a str, help: &'a str) -> Arg<'a>
     ensures rule { rule_of result ≡ Spec.words name.entry.now }
     ensures local { result.global ≡ false }
 {
-    Arg::new(alloc, name)
-        .required(true)
-        .action(ArgAction::Append)
-        .help(help)
+    word(alloc, name, help).action(ArgAction::Append)
 }
 
 /// An option with a value.
@@ -40,10 +37,7 @@ pub(crate) fn option<'a>(alloc: Global, name: &'a str, value: &'a str, help: &'a
     ensures rule { rule_of result ≡ Spec.option name.entry.now }
     ensures local { result.global ≡ false }
 {
-    Arg::new(alloc, name)
-        .long(name)
-        .value_name(value)
-        .help(help)
+    free_word(alloc, name, help).long(name).value_name(value)
 }
 
 /// An option without a value.
@@ -51,10 +45,9 @@ fn flag<'a>(alloc: Global, name: &'a str, help: &'a str) -> Arg<'a>
     ensures rule { rule_of result ≡ Spec.flag name.entry.now }
     ensures local { result.global ≡ false }
 {
-    Arg::new(alloc, name)
+    free_word(alloc, name, help)
         .long(name)
         .action(ArgAction::SetTrue)
-        .help(help)
 }
 
 /// The command with an argument more.
@@ -66,10 +59,7 @@ pub(crate) fn with<'a>(command: Command<'a>, arg: Arg<'a>) -> Result<Command<'a>
 }
 
 /// How texts are spelled.
-pub(crate) fn with_encoding<'a>(
-    alloc: Global,
-    command: Command<'a>,
-) -> Result<Command<'a>, AllocError>
+pub(crate) fn with_encoding(alloc: Global, command: Command<'_>) -> Result<Command<'_>, AllocError>
     ensures { (a : App) → IsCommand a command.entry → IfOk result (IsCommand (Spec.with_encoding a)) }
 {
     let help = "How names are spelled that aren't ASCII: utf-8, or latin1";
@@ -77,7 +67,7 @@ pub(crate) fn with_encoding<'a>(
 }
 
 /// Which part of a record is meant.
-pub(crate) fn with_part<'a>(alloc: Global, command: Command<'a>) -> Result<Command<'a>, AllocError>
+pub(crate) fn with_part(alloc: Global, command: Command<'_>) -> Result<Command<'_>, AllocError>
     ensures { (a : App) → IsCommand a command.entry → IfOk result (IsCommand (Spec.with_part a)) }
 {
     let from =
@@ -106,10 +96,7 @@ pub(crate) fn with_part<'a>(alloc: Global, command: Command<'a>) -> Result<Comma
 }
 
 /// How a picture is drawn.
-pub(crate) fn with_picture<'a>(
-    alloc: Global,
-    command: Command<'a>,
-) -> Result<Command<'a>, AllocError>
+pub(crate) fn with_picture(alloc: Global, command: Command<'_>) -> Result<Command<'_>, AllocError>
     ensures { (a : App) → IsCommand a command.entry → IfOk result (IsCommand (Spec.with_picture a)) }
 {
     let whole = "All of a long record, of which else the part around the trigger is drawn";
@@ -127,7 +114,7 @@ pub(crate) fn with_picture<'a>(
 }
 
 /// Whether it is printed as JSON.
-pub(crate) fn with_json<'a>(alloc: Global, command: Command<'a>) -> Result<Command<'a>, AllocError>
+pub(crate) fn with_json(alloc: Global, command: Command<'_>) -> Result<Command<'_>, AllocError>
     ensures { (a : App) → IsCommand a command.entry → IfOk result (IsCommand (Spec.with_json a)) }
 {
     with(command, flag(alloc, "json", "As JSON, in one line"))

@@ -5,7 +5,7 @@ use Rattle.comtrade_io.specs.declared.records.Next.{Next}
 use Rattle.comtrade_io.specs.declared.records.Next.TheVariants as next
 use Rattle.comtrade_io.specs.Pieces.{is_feed}
 use Rattle.comtrade_io.specs.Replayed.{answer_line, extent_words, Ending, Record, Fault, Nothing, IsEnding, ending_text, Finds}
-use Rattle.comtrade_io.proofs.Cutting.{found, record_found, fault_found, stripped, not_stripped, no_record, begins}
+use Rattle.comtrade_io.proofs.Cutting.{found, record_found, fault_found, stripped, not_stripped, no_record, no_ending}
 use Rattle.comtrade_io.proofs.records.piece_of.Goals as goal
 use Rattle.comtrade_io.proofs.records.piece_of.Goals.{in-Some-record_of, in-None}
 
@@ -40,29 +40,15 @@ returns-then-starts_with-clause-ending c = fault_ends c
 pub returns-then-is_answer-clause-answer : goal.returns-then-is_answer-clause-answer
 returns-then-is_answer-clause-answer c = λ a after one e. c.in-Some.ensures.rest ∙ ap (after_first is_feed) e ∙ (found 10 (answer_line a) after one).after
 
-no_answer_ends : (c : goal.Then-is_answer) (e : Ending) → IsEnding e → c.args.text.now ≡ ending_text e → ⊥
-no_answer_ends c (Record r after) ok e =
-    not_stripped (codes "record ") (extent_words r) c.in-Some.line.now (c.in-Some.ensures.line ∙ ap (before_first is_feed) e ∙ (record_found r after c.args.text.now ok e).before) c.in_default-strip_prefix.ensures.cases
-no_answer_ends c (Fault words after) ok e =
-    let b = begins words c.in-Some.line.now (c.in-Some.ensures.line ∙ ap (before_first is_feed) e ∙ (fault_found words after c.args.text.now ok e).before) in
-    cc (b, c.if-starts_with.ensures.value)
-no_answer_ends c Nothing ok e = c.in-Some.ensures.none e
-
 pub returns-then-is_answer-clause-ending : goal.returns-then-is_answer-clause-ending
-returns-then-is_answer-clause-ending c = no_answer_ends c
+returns-then-is_answer-clause-ending c = λ e ok is.
+    no_ending c.args.text.now c.in-Some.line.now e c.in-Some.ensures.line c.in-Some.ensures.none c.in_default-strip_prefix.ensures.cases c.if-starts_with.ensures.value ok is
 
 pub returns-clause-answer : goal.returns-clause-answer
 returns-clause-answer c = λ a after one e.
     let line = c.in-Some.ensures.line ∙ ap (before_first is_feed) e ∙ (found 10 (answer_line a) after one).before in
     cc (c.if-is_answer.ensures a line)
 
-foreign_ends : (c : goal.Else-is_answer) (e : Ending) → IsEnding e → c.args.text.now ≡ ending_text e → ⊥
-foreign_ends c (Record r after) ok e =
-    not_stripped (codes "record ") (extent_words r) c.in-Some.line.now (c.in-Some.ensures.line ∙ ap (before_first is_feed) e ∙ (record_found r after c.args.text.now ok e).before) c.in_default-strip_prefix.ensures.cases
-foreign_ends c (Fault words after) ok e =
-    let b = begins words c.in-Some.line.now (c.in-Some.ensures.line ∙ ap (before_first is_feed) e ∙ (fault_found words after c.args.text.now ok e).before) in
-    cc (b, c.if-starts_with.ensures.value)
-foreign_ends c Nothing ok e = c.in-Some.ensures.none e
-
 pub returns-clause-ending : goal.returns-clause-ending
-returns-clause-ending c = foreign_ends c
+returns-clause-ending c = λ e ok is.
+    no_ending c.args.text.now c.in-Some.line.now e c.in-Some.ensures.line c.in-Some.ensures.none c.in_default-strip_prefix.ensures.cases c.if-starts_with.ensures.value ok is

@@ -2,7 +2,6 @@ use Rattle.comtrade_io.proofs.command_line.commands.measure.Goals as goal
 
 pub returns : goal.returns
 returns c =
-    let part = c.in_ok-part.ensures _ c.in_ok-pair.ensures in
-    let one = c.in_ok-one.ensures _ _ part c.option.ensures.rule c.option.ensures.local in
+    let one = c.in_ok-one.ensures _ _ c.in_ok-part.ensures c.option.ensures.rule c.option.ensures.local in
     let two = c.in_ok-two.ensures _ _ one c.option-2.ensures.rule c.option-2.ensures.local in
     c.with_json.ensures _ two

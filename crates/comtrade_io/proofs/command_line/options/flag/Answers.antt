@@ -5,10 +5,9 @@ use Rattle.clap.specs.declared.builder.action.ArgAction.TheVariants.{SetTrue}
 use Rattle.comtrade_io.proofs.command_line.options.flag.Goals as goal
 
 pub returns-clause-rule : goal.returns-clause-rule
-returns-clause-rule c = ap rule_of c.help.ensures ∙ ap rule_of c.action.ensures
+returns-clause-rule c = ap rule_of c.action.ensures
     ∙ ap (λ (r : Rule). record r { action = Some SetTrue }) (ap rule_of c.long.ensures
-    ∙ ap (λ (r : Rule). record r { long = Some c.args.name.now }) c.new.ensures.rule)
+    ∙ ap (λ (r : Rule). record r { long = Some c.args.name.now }) c.free_word.ensures.rule)
 
 pub returns-clause-local : goal.returns-clause-local
-returns-clause-local c = ap (λ (x : Arg). x.global) c.help.ensures ∙ ap (λ (x : Arg). x.global) c.action.ensures ∙ ap (λ (x : Arg). x.global) c.long.ensures
-    ∙ c.new.ensures.optional.1
+returns-clause-local c = ap (λ (x : Arg). x.global) c.action.ensures ∙ ap (λ (x : Arg). x.global) c.long.ensures ∙ c.free_word.ensures.local

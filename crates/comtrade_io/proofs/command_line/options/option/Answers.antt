@@ -4,10 +4,9 @@ use Rattle.clap.specs.declared.builder.arg.Arg.{Arg}
 use Rattle.comtrade_io.proofs.command_line.options.option.Goals as goal
 
 pub returns-clause-rule : goal.returns-clause-rule
-returns-clause-rule c = ap rule_of c.help.ensures ∙ ap rule_of c.value_name.ensures
+returns-clause-rule c = ap rule_of c.value_name.ensures
     ∙ ap (λ (r : Rule). record r { value_names = 1 }) (ap rule_of c.long.ensures
-    ∙ ap (λ (r : Rule). record r { long = Some c.args.name.now }) c.new.ensures.rule)
+    ∙ ap (λ (r : Rule). record r { long = Some c.args.name.now }) c.free_word.ensures.rule)
 
 pub returns-clause-local : goal.returns-clause-local
-returns-clause-local c = ap (λ (x : Arg). x.global) c.help.ensures ∙ ap (λ (x : Arg). x.global) c.value_name.ensures ∙ ap (λ (x : Arg). x.global) c.long.ensures
-    ∙ c.new.ensures.optional.1
+returns-clause-local c = ap (λ (x : Arg). x.global) c.value_name.ensures ∙ ap (λ (x : Arg). x.global) c.long.ensures ∙ c.free_word.ensures.local

@@ -4,8 +4,7 @@ use Rattle.clap.specs.declared.builder.arg.Arg.{Arg}
 use Rattle.comtrade_io.proofs.command_line.options.word.Goals as goal
 
 pub returns-clause-rule : goal.returns-clause-rule
-returns-clause-rule c = ap rule_of c.help.ensures ∙ ap rule_of c.required.ensures
-    ∙ ap (λ (r : Rule). record r { required = true }) c.new.ensures.rule
+returns-clause-rule c = ap rule_of c.required.ensures ∙ ap (λ (r : Rule). record r { required = true }) c.free_word.ensures.rule
 
 pub returns-clause-local : goal.returns-clause-local
-returns-clause-local c = ap (λ (x : Arg). x.global) c.help.ensures ∙ ap (λ (x : Arg). x.global) c.required.ensures ∙ c.new.ensures.optional.1
+returns-clause-local c = ap (λ (x : Arg). x.global) c.required.ensures ∙ c.free_word.ensures.local

@@ -1,14 +1,11 @@
-use Rattle.std.proofs.Common.{ap, ◌∙◌, true, Some}
+use Rattle.std.proofs.Common.{ap, ◌∙◌, Some}
 use Rattle.clap.specs.Words.{Rule, rule_of}
 use Rattle.clap.specs.declared.builder.arg.Arg.{Arg}
 use Rattle.clap.specs.declared.builder.action.ArgAction.TheVariants.{Append}
 use Rattle.comtrade_io.proofs.command_line.options.words.Goals as goal
 
 pub returns-clause-rule : goal.returns-clause-rule
-returns-clause-rule c = ap rule_of c.help.ensures ∙ ap rule_of c.action.ensures
-    ∙ ap (λ (r : Rule). record r { action = Some Append }) (ap rule_of c.required.ensures
-    ∙ ap (λ (r : Rule). record r { required = true }) c.new.ensures.rule)
+returns-clause-rule c = ap rule_of c.action.ensures ∙ ap (λ (r : Rule). record r { action = Some Append }) c.word.ensures.rule
 
 pub returns-clause-local : goal.returns-clause-local
-returns-clause-local c = ap (λ (x : Arg). x.global) c.help.ensures ∙ ap (λ (x : Arg). x.global) c.action.ensures ∙ ap (λ (x : Arg). x.global) c.required.ensures
-    ∙ c.new.ensures.optional.1
+returns-clause-local c = ap (λ (x : Arg). x.global) c.action.ensures ∙ c.word.ensures.local

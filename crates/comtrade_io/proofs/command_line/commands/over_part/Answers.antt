@@ -1,4 +1,4 @@
-use Rattle.comtrade_io.proofs.command_line.commands.page.Goals as goal
+use Rattle.comtrade_io.proofs.command_line.commands.over_part.Goals as goal
 
 pub returns : goal.returns
 returns c = c.with_part.ensures _ c.in_ok-pair.ensures
