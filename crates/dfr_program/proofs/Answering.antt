@@ -1,6 +1,11 @@
 -- Steps and commands, each printed after the other.
 use Rattle.std.proofs.Common.{◌≡◌, ◌<◌, true, refl, ℕ, zero, suc, List, [], ◌∷◌, ◌++◌, length, map, take, drop, get_or, map-id, Option, Some, None, Result, Ok, Err, sym, ap, ◌∙◌, subst, append_assoc, arith}
 use Rattle.std.specs.Prelude.{OnOk, IfErr, codes}
+use Rattle.std.specs.Iterator.{Yields}
+use Rattle.std.proofs.lemmas.Iterator.{YieldsList}
+use Rattle.std.proofs.lemmas.Iterator.Consumers.{YieldsList-so_far, YieldsList-turn, YieldsList-end}
+use Rattle.std.specs.Result.{IsErrAnd}
+use Rattle.std.proofs.lemmas.Result.{err_from_is_err_and}
 use Rattle.std.proofs.lemmas.List.{append-nil}
 use Rattle.dfr_channels.specs.Firing.{rules_fault}
 use Rattle.dfr_channels.specs.Parts.{SetupParts, ScanParts}
@@ -31,7 +36,7 @@ use Rattle.dfr_program.specs.Texts.{scanned_text, scan_refusal_text, lost_text, 
 use Rattle.dfr_program.specs.Transcript.{answer_text, taken_text, rules_step, step_of, followed, step_text, transcript, history_after}
 use Rattle.dfr_program.specs.Writing.{Wrote, Cut, Printed}
 use Rattle.dfr_program.specs.Answering.{PutsStep, PrintsStep, AllPrinted}
-use Rattle.dfr_program.proofs.Printing.{wrote_then, cut_then, cut_more, printed_buffered, printed_then}
+use Rattle.dfr_program.proofs.Printing.{wrote_then, cut_then, cut_more, printed_buffered, printed_then, raised}
 
 pub on_ok_map : {U E P Q : Type 0} (r : Result U E) → OnOk r P → (P → Q) → OnOk r Q
 on_ok_map (Ok u) p f = f p
@@ -214,14 +219,15 @@ stopped U Output kind o h cs left all c a b d x y z q w p =
     (subst (λ (v : List ℕ). Cut a d (x ++ v)) (sym (transcript-push kind o h cs c left) ∙ ap (λ (v : List CommandParts). transcript kind o h v) q) cut, p.1)
 stopped U Input kind o h cs left all c a b d x y z q w p = absurd p
 
-pub all_stopped : {U V : Type 0} (r : Result U RunFault) (e : RunFault) (kind : Kind) (old mid new : Kept) (cs left all : List CommandParts) (c : CommandParts) (a b d : Option (List ℕ)) (x y z : List ℕ) → Ran kind old cs mid a x b y → all ≡ cs ++ (c ∷ left) → PrintsStep {U = V} (Err e) kind mid (step_of mid.layout c) new b y d z → r ≡ Err e → (o : Opening) (h : List StepParts) → kept o h ≡ old → AllPrinted r kind o h all a x d z
-all_stopped {U = U} {V = V} r e kind old mid new cs left all c a b d x y z ran q p f o h k =
+pub all_stopped : {U V : Type 0} (r : Result U RunFault) (e : RunFault) (kind : Kind) (old mid new : Kept) (cs left all : List CommandParts) (c : CommandParts) (a b d : Option (List ℕ)) (x y z : List ℕ) → Ran kind old cs mid a x b y → all ≡ cs ++ (c ∷ left) → PrintsStep {U = V} (Err e) kind mid (step_of mid.layout c) new b y d z → IsErrAnd r (λ v. v ≡ e) → (o : Opening) (h : List StepParts) → kept o h ≡ old → AllPrinted r kind o h all a x d z
+all_stopped {U = U} {V = V} r e kind old mid new cs left all c a b d x y z ran q p err o h k =
+    let f = err_from_is_err_and r err in
     let g : List StepParts = history_after o h cs in
     let here : kept o g ≡ mid = ran.after o h k in
     let t : List ℕ = step_text kind o g (step_of o.layout c) in
     let cut : Printed {U = U} (Err e) b y d z t =
     refault U V e b d y z t (subst (λ (v : Result StepParts RuleFault). Printed {U = V} (Err e) b y d z (step_text kind o g v)) (step_here o g mid c here) (p.text o g here)) in
-    subst (λ (v : Result U RunFault). AllPrinted v kind o h all a x d z) (sym f) (stopped U e kind o h cs left all c a b d x y z (sym q) (ran.text o h k) cut)
+    subst (λ (v : Result U RunFault). AllPrinted v kind o h all a x d z) (sym (raised r f.0 e f.1 f.2)) (stopped U e kind o h cs left all c a b d x y z (sym q) (ran.text o h k) cut)
 
 pub map_push : {X Y : Type 0} (f : X → Y) (xs : List X) (x : X) → map f (xs ++ (x ∷ [])) ≡ map f xs ++ (f x ∷ [])
 map_push f [] x = refl
@@ -238,11 +244,19 @@ parted (suc n) [] x h e = absurd (omega arith)
 parted (suc n) (y ∷ ys) x h e = ap (λ l. y ∷ l) (parted n ys x (omega arith) e)
 
 -- the items before one of a list, that one, and those after it
-pub map_at : {X Y : Type 0} (f : X → Y) (xs all : List X) (x : X) → map (λ v. v) xs ≡ take (length xs) all → (length xs < length all) × (x ≡ get_or all (length xs) x) → map f all ≡ map f xs ++ (f x ∷ map f (drop (suc (length xs)) all))
+map_at : {X Y : Type 0} (f : X → Y) (xs all : List X) (x : X) → map (λ v. v) xs ≡ take (length xs) all → (length xs < length all) × (x ≡ get_or all (length xs) x) → map f all ≡ map f xs ++ (f x ∷ map f (drop (suc (length xs)) all))
 map_at {X = X} f xs all x e t =
     let front : take (length xs) all ≡ xs = sym e ∙ map-id xs in
     let cut : all ≡ xs ++ (x ∷ drop (suc (length xs)) all) = parted (length xs) all x t.0 t.1 ∙ ap (λ (l : List X). l ++ (x ∷ drop (suc (length xs)) all)) front in
     ap (λ l. map f l) cut ∙ map_both f xs (x ∷ drop (suc (length xs)) all)
+
+-- so of the items that an iterator has given, and the one that it gives next
+pub next_at : {S X Y : Type 0} {steps : S → Option X → S → Type 0} {s : S} {all : List X} (f : X → Y) → YieldsList steps (λ v. v) s all → (xs : List X) (t : S) → Yields steps s xs t → (r : Option X) (u : S) (x : X) → r ≡ Some x → steps t r u → map f all ≡ map f xs ++ (f x ∷ map f (drop (suc (length xs)) all))
+next_at {all = all} f e xs t y r u x is step = map_at f xs all x (YieldsList-so_far e xs t y) (YieldsList-turn e xs t y r u x is step)
+
+-- where it gives none, it has given them all
+pub all_given : {S X Y : Type 0} {steps : S → Option X → S → Type 0} {s : S} {all : List X} (f : X → Y) → YieldsList steps (λ v. v) s all → (xs : List X) (t : S) → Yields steps s xs t → (r : Option X) (u : S) → r ≡ None → steps t r u → map f xs ≡ map f all
+all_given f e xs t y r u none step = ap (map f) (sym (map-id xs) ∙ (YieldsList-end e xs t y r u none step).0)
 
 same_kind : (layout : SetupParts) (r : RecordParts) (kind : Kind) → (file layout r kind).head.kind ≡ kind
 unfolding file

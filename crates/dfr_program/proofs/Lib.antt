@@ -8,4 +8,3 @@ mod Printing
 mod ReadAgain
 mod ReadBack
 mod Replaying
-mod Stamps

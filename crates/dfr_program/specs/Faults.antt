@@ -34,9 +34,13 @@ set_up_fault s =
     or (option_map faults.Limits (number_fault s.setup.rate s.limits)
     or option_map faults.Rules (rules_fault s.setup s.rules))
 
+-- the script that a text says
+abbrev pub script_in : List ℕ → ScriptParts
+script_in text = scripts.script_value (lines text)
+
 -- of a script's lines, and then of its set-up
 unfoldable pub script_fault : List ℕ → Option Fault
-script_fault text = option_map faults.Script (scripts.script_fault (lines text)) or set_up_fault (scripts.script_value (lines text))
+script_fault text = option_map faults.Script (scripts.script_fault (lines text)) or set_up_fault (script_in text)
 
 -- out of memory, or this fault
 abbrev pub Refuses : Option Fault → Refusal → Type 0

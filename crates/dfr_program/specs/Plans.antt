@@ -5,13 +5,11 @@ use Rattle.std.specs.List.{flat_map}
 use Rattle.std.specs.Vec.Iter.{into_iter_items}
 use Rattle.dfr_channels.specs.Faults.{◌or◌}
 use Rattle.dfr_channels.specs.Firing.{rules_fault}
-use Rattle.dfr_channels.specs.Lines.{lines}
 use Rattle.dfr_channels.specs.Parts.{SetupParts}
 use Rattle.dfr_recorder.specs.Steps.{StepParts}
 use Rattle.dfr_recorder.specs.Steps as step
 use Rattle.dfr_script.specs.Parts.{CommandParts, ScriptParts}
 use Rattle.dfr_script.specs.Parts as command
-use Rattle.dfr_script.specs.Scripts.{script_value}
 use Rattle.dfr_live.specs.Parts.{CallParts}
 use Rattle.dfr_live.specs.Parts as call
 use Rattle.dfr_live.specs.declared.station.Fed.{Fed}
@@ -24,7 +22,7 @@ use Rattle.dfr_program.specs.declared.plan.Placed.{Placed}
 use Rattle.dfr_program.specs.declared.plan.Scans.{Scans}
 use Rattle.dfr_program.specs.declared.prepared.Fault.{Fault}
 use Rattle.dfr_program.specs.declared.prepared.Fault.TheVariants as faults
-use Rattle.dfr_program.specs.Faults.{script_fault}
+use Rattle.dfr_program.specs.Faults.{script_fault, script_in}
 
 -- the line of a command's rules, where they don't fit the layout
 abbrev pub refused_line : SetupParts → CommandParts → Option ℕ
@@ -44,7 +42,7 @@ command_fault s = option_map faults.RulesAt (refused_in s.setup s.commands)
 
 -- the first fault of a script for a live run: what a replay refuses, then rules after `go` that don't fit
 unfoldable pub live_fault : List ℕ → Option Fault
-live_fault text = script_fault text or command_fault (script_value (lines text))
+live_fault text = script_fault text or command_fault (script_in text)
 
 -- the scan step that a command feeds: a scan's or a lost one's
 abbrev pub scan_in : CommandParts → List StepParts

@@ -2,6 +2,7 @@
 use Rattle.std.specs.Prelude.{◌≡◌, ⊤, ℕ, List, [], ◌∷◌, ◌++◌, Option, Some, None, Result, Ok, Err}
 use Rattle.std.specs.Io.KnownBytes.{Appends}
 use Rattle.dfr_recorder.specs.History.{Opening}
+use Rattle.dfr_recorder.specs.Kept.{Kept, kept}
 use Rattle.dfr_script.specs.Parts.{CommandParts, ScriptParts}
 use Rattle.comtrade_format.specs.declared.file.Kind.{Kind}
 use Rattle.dfr_program.specs.declared.fault.RunFault.{RunFault}
@@ -26,6 +27,10 @@ Written (Ok u) kind o commands old new = Appends old new (transcript kind o [] c
 Written (Err run.Memory) kind o commands old new = WritesFirst kind o commands old new
 Written (Err run.Output) kind o commands old new = Cut old new (transcript kind o [] commands)
 Written (Err run.Input) kind o commands old new = ⊥
+
+-- so of a recorder that made no step, whatever opened it
+abbrev pub WrittenBy : {U : Type 0} → Result U RunFault → Kind → Kept → List CommandParts → Option (List ℕ) → Option (List ℕ) → Type 0
+WrittenBy r kind recorder commands old new = (o : Opening) → kept o [] ≡ recorder → Written r kind o commands old new
 
 -- an opening has the set-up, the limits and the rules that a script says
 pub record IsOpenedBy (s : ScriptParts) (o : Opening) : Type 0 where

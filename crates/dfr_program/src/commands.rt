@@ -4,7 +4,6 @@ ghost use Rattle.std.specs.Prelude.{◌≡◌, ◌++◌, [], Ok, OnOk, IfErr, Li
 ghost use Rattle.dfr_channels.specs.Firing.{rules_fault};
 ghost use Rattle.dfr_recorder.specs.History.{Opening};
 ghost use Rattle.dfr_recorder.specs.Kept.{kept};
-ghost use Rattle.dfr_recorder.specs.Steps.{StepParts};
 ghost use Rattle.dfr_recorder.specs.Steps as step;
 ghost use Rattle.dfr_script.specs.Commands.{parts_of};
 ghost use Rattle.dfr_program.specs.Answering.{PutsStep, PrintsStep, AllPrinted};
@@ -57,70 +56,9 @@ fn answer_scan<A: Allocator + Copy>(
     }
 }
 
-/// Makes the step of a lost scan, and puts what came of it.
-fn answer_lost<A: Allocator + Copy>(
-    recorder: &mut Recorder<A>,
-    line: &mut Vec<u8, A>,
-) -> Result<(), AllocError>
-    ensures { OnOk result
-        (PutsStep recorder.old (Ok step.Lost) recorder.new line.old.items line.new.items) }
-{
-    put_lost(line, recorder.lost())
-}
-
-/// Makes the step of a manual trigger, and puts what it did.
-fn answer_trigger<A: Allocator + Copy>(
-    recorder: &mut Recorder<A>,
-    line: &mut Vec<u8, A>,
-) -> Result<(), AllocError>
-    ensures { OnOk result
-        (PutsStep recorder.old (Ok step.Trigger) recorder.new line.old.items line.new.items) }
-{
-    put_trigger(line, recorder.trigger())
-}
-
 /// Makes the step of a command, and prints its answer: all of it or, where an allocation failed,
-/// nothing. `line` is empty.
+/// nothing.
 fn answer<A: Allocator + Copy, W: Write>(
-    alloc: A,
-    recorder: &mut Recorder<A>,
-    command: Command<A>,
-    kind: Kind,
-    w: &mut W,
-    out: &mut Vec<u8, A>,
-    line: &mut Vec<u8, A>,
-) -> Result<(), RunFault>
-    requires { line.old.items ≡ [] }
-    ensures { PrintsStep result kind recorder.old (step_of recorder.old.layout (parts_of command))
-        recorder.new (W.contents w.old) out.old.items (W.contents w.new) out.new.items }
-{
-    match command {
-        Command::Scan(scan) => {
-            answer_scan(recorder, scan, line)?;
-            out.extend_from_slice(line)?;
-            Ok(())
-        }
-        Command::Lost => {
-            answer_lost(recorder, line)?;
-            out.extend_from_slice(line)?;
-            Ok(())
-        }
-        Command::Trigger => {
-            answer_trigger(recorder, line)?;
-            out.extend_from_slice(line)?;
-            Ok(())
-        }
-        Command::Take => answer_take(alloc, recorder, kind, w, out, line),
-        Command::Rules { line: _, list } => {
-            answer_rules(recorder, list, line)?;
-            out.extend_from_slice(line)?;
-            Ok(())
-        }
-    }
-}
-
-/// Answers a command, and writes what was buffered where it exceeds 64 KiB.
-fn answer_one<A: Allocator + Copy, W: Write>(
     alloc: A,
     recorder: &mut Recorder<A>,
     command: Command<A>,
@@ -133,12 +71,34 @@ fn answer_one<A: Allocator + Copy, W: Write>(
         recorder.new (W.contents w.old) out.old.items (W.contents w.new) out.new.items }
 {
     line.clear();
-    answer(alloc, recorder, command, kind, w, out, line)?;
-    flush_if_full(w, out)
+    match command {
+        Command::Scan(scan) => {
+            answer_scan(recorder, scan, line)?;
+            out.extend_from_slice(line)?;
+            Ok(())
+        }
+        Command::Lost => {
+            put_lost(line, recorder.lost())?;
+            out.extend_from_slice(line)?;
+            Ok(())
+        }
+        Command::Trigger => {
+            put_trigger(line, recorder.trigger())?;
+            out.extend_from_slice(line)?;
+            Ok(())
+        }
+        Command::Take => answer_take(alloc, recorder, kind, w, out, line),
+        Command::Rules { line: _, list } => {
+            answer_rules(recorder, list, line)?;
+            out.extend_from_slice(line)?;
+            Ok(())
+        }
+    }
 }
 
-/// Answers the commands in order. Where an allocation failed the answers before are printed; where
-/// the writer failed nothing is left to be written.
+/// Answers the commands in order, and writes what was buffered where it exceeds 64 KiB. Where an
+/// allocation failed the answers before are printed; where the writer failed nothing is left to be
+/// written.
 pub(crate) fn answer_all<A: Allocator + Copy, W: Write>(
     alloc: A,
     recorder: Recorder<A>,
@@ -147,14 +107,15 @@ pub(crate) fn answer_all<A: Allocator + Copy, W: Write>(
     w: &mut W,
     out: &mut Vec<u8, A>,
 ) -> Result<(), RunFault>
-    ensures { (o : Opening) (h : List StepParts) → kept o h ≡ recorder →
+    ensures { (o : Opening) (h : List step.StepParts) → kept o h ≡ recorder →
         AllPrinted result kind o h (map parts_of commands.items)
         (W.contents w.old) out.old.items (W.contents w.new) out.new.items }
 {
     let mut recorder = recorder;
     let mut line = Vec::new(alloc);
     for command in commands {
-        answer_one(alloc, &mut recorder, command, kind, w, out, &mut line)?;
+        answer(alloc, &mut recorder, command, kind, w, out, &mut line)?;
+        flush_if_full(w, out)?;
     }
     Ok(())
 }

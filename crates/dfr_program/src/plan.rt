@@ -2,10 +2,8 @@
 
 ghost use Rattle.std.specs.Prelude.{◌≡◌, ◌++◌, [], None, Some, option_map, map, length, MatchResult};
 ghost use Rattle.dfr_channels.specs.Firing.{rules_fault};
-ghost use Rattle.dfr_channels.specs.Lines.{lines};
 ghost use Rattle.dfr_script.specs.Commands.{parts_of};
-ghost use Rattle.dfr_script.specs.Scripts.{script_value};
-ghost use Rattle.dfr_program.specs.Faults.{IsMadeOf, Refuses};
+ghost use Rattle.dfr_program.specs.Faults.{IsMadeOf, Refuses, script_in};
 ghost use Rattle.dfr_program.specs.Plans as spec;
 ghost use Rattle.dfr_program.specs.declared.prepared.Fault.TheVariants as faults;
 
@@ -165,11 +163,9 @@ fn plan_all<A: Allocator + Copy>(
 pub(crate) fn plan_of<A: Allocator + Copy>(alloc: A, text: &[u8]) -> Result<Plan<A>, Refusal>
     ensures { MatchResult result
         (λ plan. (spec.live_fault text.now ≡ None)
-        × IsMadeOf (script_value (lines text.now)) plan.recorder
-        × (map spec.given plan.scans.items
-        ≡ spec.scans_in (script_value (lines text.now)).commands)
-        × (map spec.placed plan.orders.items
-        ≡ spec.orders_in 0 (script_value (lines text.now)).commands))
+        × IsMadeOf (script_in text.now) plan.recorder
+        × (map spec.given plan.scans.items ≡ spec.scans_in (script_in text.now).commands)
+        × (map spec.placed plan.orders.items ≡ spec.orders_in 0 (script_in text.now).commands))
         (Refuses (spec.live_fault text.now)) }
 {
     let Prepared { recorder, commands } = prepared_of(alloc, text)?;

@@ -2,11 +2,9 @@
 
 ghost use Rattle.std.specs.Prelude.{◌≡◌, IfOk, IfErr, IsTrue, MatchResult, Some, None, map, option_map, if◌then◌else◌, true};
 ghost use Rattle.dfr_channels.specs.Firing.{rules_fault, rules_fit};
-ghost use Rattle.dfr_channels.specs.Lines.{lines};
 ghost use Rattle.dfr_channels.specs.Setups.{setup_fault};
 ghost use Rattle.dfr_recorder.specs.Limits.{has_stamps, limit_fault};
 ghost use Rattle.dfr_script.specs.Commands.{parts_of};
-ghost use Rattle.dfr_script.specs.Scripts.{script_value};
 ghost use Rattle.dfr_program.specs.declared.prepared.Fault.TheVariants as fault;
 ghost use Rattle.dfr_program.specs.Faults as spec;
 
@@ -47,7 +45,6 @@ fn with_choice(limits: Limits, unshared: bool) -> Limits
 }
 
 /// The limits of these numbers and this choice.
-#[tactic(auto, using(crate::proofs::Stamps::stamps))]
 fn limits_of<A: Allocator>(layout: &Layout<A>, numbers: LimitNumbers) -> Result<Limits, LimitFault>
     ensures lawful { IfOk result (λ _. spec.number_fault layout.now.rate numbers ≡ None) }
     ensures stamps { IfOk result (λ limits. IsTrue (has_stamps layout.now.rate limits.longest)) }
@@ -139,8 +136,8 @@ pub(crate) fn prepared_of<A: Allocator + Copy>(
 ) -> Result<Prepared<A>, Refusal>
     ensures { MatchResult result
         (λ prepared. (spec.script_fault text.now ≡ None)
-        × spec.IsMadeOf (script_value (lines text.now)) prepared.recorder
-        × (map parts_of prepared.commands.items ≡ (script_value (lines text.now)).commands))
+        × spec.IsMadeOf (spec.script_in text.now) prepared.recorder
+        × (map parts_of prepared.commands.items ≡ (spec.script_in text.now).commands))
         (spec.Refuses (spec.script_fault text.now)) }
 {
     match script_of(alloc, text) {

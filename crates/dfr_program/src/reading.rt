@@ -10,7 +10,7 @@ ghost use Rattle.dfr_program.specs.Writing.{Cut};
 
 use crate::fault::RunFault;
 use crate::output::write_out;
-use crate::text::{put, put_signed, put_with};
+use crate::text::{put, put_number, put_with};
 use comtrade_read::{Part, ReadFault, read};
 use comtrade_write::{File, Head, Row};
 use std::alloc::{AllocError, Allocator};
@@ -58,9 +58,9 @@ fn put_instants<A: Allocator>(out: &mut Vec<u8, A>, head: &Head<A>) -> Result<()
     ensures { OnOk result (out.new.items ≡ out.old.items ++ spec.instants_text head.now) }
 {
     put(out, "first ")?;
-    put_signed(out, head.first)?;
+    put_number(out, head.first)?;
     put(out, " trigger ")?;
-    put_signed(out, head.trigger)?;
+    put_number(out, head.trigger)?;
     put(out, "\n")
 }
 

@@ -2,16 +2,14 @@
 
 #![tactic(auto, using(crate::proofs::Growing::growing))]
 
-ghost use Rattle.std.specs.Prelude.{◌≡◌, ◌≢◌, ◌<◌, ◌⊎◌, true, false, not, is_some, [], length, map, Err, Some, IfOk, IfErr, IfSome, OnOk};
+ghost use Rattle.std.specs.Prelude.{◌≡◌, ◌≢◌, ◌<◌, ◌⊎◌, true, false, not, is_some, length, map, Err, Some, IfOk, IfErr, IfSome, OnOk};
 ghost use Rattle.std.specs.Io.KnownBytes.{Appends};
 ghost use Rattle.dfr_channels.specs.Lines.{lines};
-ghost use Rattle.dfr_recorder.specs.History.{Opening};
-ghost use Rattle.dfr_recorder.specs.Kept.{kept};
 ghost use Rattle.dfr_script.specs.Commands.{parts_of};
 ghost use Rattle.dfr_script.specs.Scripts.{script_value};
 ghost use Rattle.dfr_program.specs.Faults.{script_fault};
 ghost use Rattle.dfr_program.specs.FaultTexts.{PrintsFault, fault_text};
-ghost use Rattle.dfr_program.specs.Replays.{Written, PrintsAnswers, PrintsFirst, CutAt, IsUnread};
+ghost use Rattle.dfr_program.specs.Replays.{WrittenBy, PrintsAnswers, PrintsFirst, CutAt, IsUnread};
 ghost use Rattle.dfr_program.specs.Writing.{Cut, Grows};
 
 use crate::commands::answer_all;
@@ -32,9 +30,8 @@ fn run_commands<A: Allocator + Copy, W: Write>(
     kind: Kind,
     w: &mut W,
 ) -> Result<bool, RunFault>
-    ensures printed { (o : Opening) → kept o [] ≡ prepared.recorder →
-        Written result kind o (map parts_of prepared.commands.items)
-        (W.contents w.old) (W.contents w.new) }
+    ensures printed { WrittenBy result kind prepared.recorder
+        (map parts_of prepared.commands.items) (W.contents w.old) (W.contents w.new) }
     ensures whole { IfOk result (λ done. done ≡ true) }
 {
     let Prepared { recorder, commands } = prepared;

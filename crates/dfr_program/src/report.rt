@@ -5,7 +5,7 @@ ghost use Rattle.std.specs.List.{flat_map};
 ghost use Rattle.dfr_program.specs.Reports as spec;
 
 use crate::answers::put_trigger;
-use crate::text::{put, put_long, put_with};
+use crate::text::{put, put_number, put_with};
 use dfr_live::{EndFault, Entry, Left, LiveFault, LiveReport, OpenFault, Reply};
 use std::alloc::{AllocError, Allocator};
 
@@ -60,25 +60,6 @@ fn put_entries<A: Allocator>(out: &mut Vec<u8, A>, log: &[Entry<A>]) -> Result<(
     Ok(())
 }
 
-#[tactic(auto, unfolding(crate::specs::Reports::sums_text))]
-fn put_sums<A: Allocator>(
-    out: &mut Vec<u8, A>,
-    scans: u64,
-    refused: u64,
-    records: u64,
-    left: u128,
-) -> Result<(), AllocError>
-    ensures { OnOk result (out.new.items
-        ≡ out.old.items ++ spec.sums_text scans refused records left) }
-{
-    put_with(out, "scans ", scans)?;
-    put_with(out, " refused ", refused)?;
-    put_with(out, " records ", records)?;
-    put(out, " left ")?;
-    put_long(out, left)?;
-    put(out, "\n")
-}
-
 /// The step of a scan that is left, and those of its losses.
 fn steps_with<A: Allocator>(item: &Left<A>) -> u64
     ensures steps { result ≡ item.now.lost + 1 }
@@ -98,6 +79,18 @@ fn steps_left<A: Allocator>(left: &[Left<A>]) -> u128
     steps
 }
 
+#[tactic(auto, unfolding(crate::specs::Reports::sums_text))]
+fn put_sums<A: Allocator>(out: &mut Vec<u8, A>, report: &LiveReport<A>) -> Result<(), AllocError>
+    ensures { OnOk result (out.new.items ≡ out.old.items ++ spec.sums_text report.now) }
+{
+    put_with(out, "scans ", report.stepped)?;
+    put_with(out, " refused ", report.refused)?;
+    put_with(out, " records ", report.records)?;
+    put(out, " left ")?;
+    put_number(out, steps_left(report.ended.left.as_slice()))?;
+    put(out, "\n")
+}
+
 /// Each call of the run's log but takes, and what became of the scans.
 #[tactic(auto, unfolding(crate::specs::Reports::report_text))]
 pub(crate) fn put_report<A: Allocator>(
@@ -107,13 +100,7 @@ pub(crate) fn put_report<A: Allocator>(
     ensures { OnOk result (out.new.items ≡ out.old.items ++ spec.report_text report.now) }
 {
     put_entries(out, report.ended.log.as_slice())?;
-    put_sums(
-        out,
-        report.stepped,
-        report.refused,
-        report.records,
-        steps_left(report.ended.left.as_slice()),
-    )
+    put_sums(out, report)
 }
 
 /// The word of a run's fault; None where an allocation failed.

@@ -46,6 +46,7 @@ fn take_in<N: Session<A>, A: Allocator + Copy, I: Read>(
         ),
         Input::Lines => {
             let mut lane = Lane {
+                alloc,
                 layout,
                 source: &mut task.source,
                 scans: &mut task.scans,
@@ -53,7 +54,6 @@ fn take_in<N: Session<A>, A: Allocator + Copy, I: Read>(
                 lines: 0,
             };
             take_lines(
-                alloc,
                 signals,
                 &mut lane,
                 &mut *task.input,

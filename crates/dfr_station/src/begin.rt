@@ -122,14 +122,7 @@ pub(crate) fn tasks_of<
             missed: 0,
             told: 0,
         }),
-        exports: Mutex::new(Exports {
-            store,
-            token: second,
-            teller: exports,
-            kind: how.kind,
-            is_in_trouble: false,
-            unwritten: 0,
-        }),
+        exports: Mutex::new(Exports::new(store, second, exports, how.kind)),
         telling: Mutex::new(Telling {
             printer,
             scans: events.0,

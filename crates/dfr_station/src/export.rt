@@ -31,14 +31,44 @@ const LAST_TRIES: u32 = 10;
 /// What the export thread works on.
 #[derive(Drop)]
 pub(crate) struct Exports<'x, K, A: Allocator = Global> {
-    pub(crate) store: &'x mut K,
-    pub(crate) token: Token<A>,
-    pub(crate) teller: Teller<A>,
-    pub(crate) kind: Kind,
+    store: &'x mut K,
+    token: Token<A>,
+    teller: Teller<A>,
+    kind: Kind,
     /// The store took nothing the last time.
-    pub(crate) is_in_trouble: bool,
+    is_in_trouble: bool,
     /// How many records were given up.
-    pub(crate) unwritten: u64,
+    unwritten: u64,
+}
+
+impl<'x, K, A: Allocator> Exports<'x, K, A> {
+    pub(crate) fn new(
+        store: &'x mut K,
+        token: Token<A>,
+        teller: Teller<A>,
+        kind: Kind,
+    ) -> Exports<'x, K, A> {
+        Exports {
+            store,
+            token,
+            teller,
+            kind,
+            is_in_trouble: false,
+            unwritten: 0,
+        }
+    }
+
+    /// The thread's token, and how many records weren't written.
+    pub(crate) fn into_token(self) -> (Token<A>, u64) {
+        let Exports {
+            token,
+            teller,
+            unwritten,
+            ..
+        } = self;
+        drop(teller);
+        (token, unwritten)
+    }
 }
 
 /// Takes a record, which matches the layout.

@@ -5,7 +5,7 @@ ghost use Rattle.dfr_recorder.specs.Limits.{has_stamps};
 ghost use Rattle.dfr_station.specs.declared.prepared.SetupRefusal.TheVariants as refusal;
 
 use crate::setup_text::{SetupText, setup_text};
-use dfr_channels::{Layout, Rule, RuleFault, Rules, SetupFault};
+use dfr_channels::{Layout, RuleFault, Rules, SetupFault};
 use dfr_recorder::{LimitFault, Limits, Recorder};
 use dfr_script::{LimitNumbers, Script, ScriptFault, ScriptRefusal, Word, script_of};
 use std::alloc::{AllocError, Allocator};
@@ -52,64 +52,15 @@ fn refusal_of(fault: ScriptFault, lines: u64) -> SetupRefusal {
     }
 }
 
-/// The limits of these numbers and this choice.
-#[tactic(auto, using(crate::proofs::Stamps::stamps))]
-fn limits_of<A: Allocator>(layout: &Layout<A>, numbers: LimitNumbers) -> Result<Limits, LimitFault>
+/// The limits that a line says.
+fn limits_of<A: Allocator>(layout: &Layout<A>, line: LimitNumbers) -> Result<Limits, LimitFault>
     ensures { IfOk result (λ limits. IsTrue (has_stamps layout.now.rate limits.longest)) }
 {
-    let limits = Limits::new(
-        layout,
-        numbers.pre,
-        numbers.post,
-        numbers.longest,
-        numbers.shelf,
-    )?;
-    if numbers.unshared {
+    let limits = Limits::new(layout, line.pre, line.post, line.longest, line.shelf)?;
+    if line.unshared {
         return Ok(limits.unshared());
     }
     Ok(limits)
-}
-
-/// The recorder of a layout, limits that fit it and its first rules.
-fn limited<A: Allocator + Copy>(
-    alloc: A,
-    layout: Layout<A>,
-    limits: Limits,
-    list: Vec<Rule, A>,
-) -> Result<Recorder<A>, SetupRefusal>
-    requires { IsTrue (has_stamps layout.rate limits.longest) }
-{
-    match Rules::new(&layout, list) {
-        Ok(rules) => match Recorder::new(alloc, layout, limits, rules) {
-            Ok(recorder) => Ok(recorder),
-            Err(back) => {
-                drop(back);
-                Err(SetupRefusal::Memory)
-            }
-        },
-        Err((fault, list)) => {
-            drop(layout);
-            drop(list);
-            Err(SetupRefusal::Rules(fault))
-        }
-    }
-}
-
-/// The recorder of a layout, the numbers of its limits and its first rules.
-fn made<A: Allocator + Copy>(
-    alloc: A,
-    layout: Layout<A>,
-    numbers: LimitNumbers,
-    list: Vec<Rule, A>,
-) -> Result<Recorder<A>, SetupRefusal> {
-    match limits_of(&layout, numbers) {
-        Ok(limits) => limited(alloc, layout, limits, list),
-        Err(fault) => {
-            drop(layout);
-            drop(list);
-            Err(SetupRefusal::Limits(fault))
-        }
-    }
 }
 
 /// The recorder of a script's set-up.
@@ -117,21 +68,16 @@ fn recorder_in<A: Allocator + Copy>(
     alloc: A,
     script: Script<A>,
 ) -> Result<Recorder<A>, SetupRefusal> {
-    let Script {
-        setup,
-        limits,
-        rules,
-        commands,
-    } = script;
-    drop(commands);
-    match Layout::new(setup) {
-        Ok(layout) => made(alloc, layout, limits, rules),
-        Err((fault, setup)) => {
-            drop(setup);
-            drop(rules);
-            Err(SetupRefusal::Setup(fault))
-        }
-    }
+    let layout = match Layout::new(script.setup) {
+        Ok(layout) => layout,
+        Err((fault, _)) => return Err(SetupRefusal::Setup(fault)),
+    };
+    let limits = limits_of(&layout, script.limits).map_err(SetupRefusal::Limits)?;
+    let rules = match Rules::new(&layout, script.rules) {
+        Ok(rules) => rules,
+        Err((fault, _)) => return Err(SetupRefusal::Rules(fault)),
+    };
+    Recorder::new(alloc, layout, limits, rules).or(Err(SetupRefusal::Memory))
 }
 
 /// The recorder of a set-up file, whose scan 0 is taken at `start`, in microseconds since 1970-01-01 00:00:00. The file has the

@@ -148,9 +148,8 @@ fn put_counts<A: Allocator>(
 
 fn put_losses<A: Allocator>(
     out: &mut Vec<u8, A>,
-    first: u64,
-    last: u64,
     count: u64,
+    (first, last): (u64, u64),
     why: Why,
 ) -> Result<(), AllocError> {
     put_with(out, "lost ", count)?;
@@ -185,7 +184,7 @@ fn put_what<A: Allocator>(out: &mut Vec<u8, A>, event: Event) -> Result<(), Allo
             last,
             count,
             why,
-        } => put_losses(out, first, last, count, why),
+        } => put_losses(out, count, (first, last), why),
         Event::Line { line, why } => {
             put_with(out, "skipped line ", line)?;
             put(out, " ")?;

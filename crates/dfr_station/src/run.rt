@@ -8,7 +8,6 @@ ghost use Rattle.dfr_station.specs.Runs.{Leaves};
 use crate::acquire::Acquisition;
 use crate::begin::{How, queues_in, tasks_of};
 use crate::event::Event;
-use crate::export::Exports;
 use crate::first::First;
 use crate::intake::{Recorded, RunFault, ended_of};
 use crate::orders::Trigger;
@@ -73,7 +72,7 @@ pub fn run_station<
     };
     match open(alloc, recorder, LANE, 2) {
         Ok(opened) => {
-            let left = run_named::<Brand, A, I, K, P, R>(
+            let left = run_named::<Brand, A>(
                 rt, alloc, opened, how, input, store, printer, &mut text,
             )?;
             if left.ended.recorder.is_recording() {
@@ -90,21 +89,14 @@ pub fn run_station<
 }
 
 /// The same under a name.
-fn run_named<
-    N: Session<A> + Send + Sync,
-    A: Allocator + Copy + Send + Sync,
-    I: Read + Send,
-    K: Store + Send,
-    P: Printer + Send,
-    R: Threads + Wait + Clock + Sync,
->(
-    rt: &R,
+fn run_named<N: Session<A> + Send + Sync, A: Allocator + Copy + Send + Sync>(
+    rt: &(impl Threads + Wait + Clock + Sync),
     alloc: A,
     opened: Opened<A>,
     how: How<A>,
-    input: &mut I,
-    store: &mut K,
-    printer: &mut P,
+    input: &mut (impl Read + Send),
+    store: &mut (impl Store + Send),
+    printer: &mut (impl Printer + Send),
     text: &mut Vec<u8, A>,
 ) -> Result<Recorded<A>, RunFault>
     requires named { (opened.opening ≡ N.opening) × (opened.lane ≡ N.lane)
@@ -159,7 +151,7 @@ fn taken_apart<N: Session<A>, A: Allocator + Copy, I, K, P: Printer, R: Clock>(
     } = tasks;
     let (source, scans, lost) = source_of(acquisition.into_inner());
     let first = trigger_token(trigger.into_inner());
-    let (second, unwritten) = exports_token(exports.into_inner());
+    let (second, unwritten) = exports.into_inner().into_token();
     let ended = Event::Ended {
         scans,
         lost,
@@ -218,20 +210,6 @@ fn trigger_token<A: Allocator>(trigger: Trigger<A>) -> Token<A> {
     drop(operator);
     drop(teller);
     token
-}
-
-/// The export thread's token, and how many records weren't written.
-fn exports_token<K, A: Allocator>(exports: Exports<'_, K, A>) -> (Token<A>, u64) {
-    let Exports {
-        store: _,
-        token,
-        teller,
-        kind: _,
-        is_in_trouble: _,
-        unwritten,
-    } = exports;
-    drop(teller);
-    (token, unwritten)
 }
 
 /// Prints an event, whose line has room in the text.

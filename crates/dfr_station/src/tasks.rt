@@ -73,19 +73,10 @@ fn run_beside<N: Session<A>, A: Allocator + Copy, I, K: Store, P: Printer, R: Wa
 }
 
 /// Starts a thread. False where it can't be started.
-fn start<
-    's,
-    E,
-    N: Session<A> + Send + Sync,
-    A: Allocator + Copy + Send + Sync,
-    I: Read + Send,
-    K: Store + Send,
-    P: Printer + Send,
-    R: Threads + Wait + Clock + Sync,
->(
+fn start<'s, E, N: Session<A> + Send + Sync, A: Allocator + Copy + Send + Sync>(
     scope: &Scope<'s, E>,
-    rt: &'s R,
-    tasks: &'s Tasks<'_, '_, '_, N, I, K, P, A>,
+    rt: &'s (impl Threads + Wait + Clock + Sync),
+    tasks: &'s Tasks<'_, '_, '_, N, impl Read + Send, impl Store + Send, impl Printer + Send, A>,
     thread: Beside,
 ) -> bool {
     scope.spawn(move || run_beside(rt, tasks, thread)).is_ok()
@@ -93,14 +84,10 @@ fn start<
 
 /// Starts the threads, takes in all that comes, and waits for them. False where one of them can't be started: nothing is
 /// recorded then.
-pub(crate) fn in_threads<
-    N: Session<A> + Send + Sync,
-    A: Allocator + Copy + Send + Sync,
-    I: Read + Send,
-    K: Store + Send,
-    P: Printer + Send,
-    R: Threads + Wait + Clock + Sync,
->(rt: &R, tasks: &Tasks<'_, '_, '_, N, I, K, P, A>) -> bool {
+pub(crate) fn in_threads<N: Session<A> + Send + Sync, A: Allocator + Copy + Send + Sync>(
+    rt: &(impl Threads + Wait + Clock + Sync),
+    tasks: &Tasks<'_, '_, '_, N, impl Read + Send, impl Store + Send, impl Printer + Send, A>,
+) -> bool {
     thread::scope(thread::scope_env(), rt, |scope| {
         let started = start(scope, rt, tasks, Beside::Trigger)
             && start(scope, rt, tasks, Beside::Exports)

@@ -21,6 +21,7 @@ use std::io::Read;
 /// What the lines of the input act on.
 #[derive(Drop)]
 pub(crate) struct Lane<'a, N: Session<A>, A: Allocator = Global> {
+    pub(crate) alloc: A,
     pub(crate) layout: &'a Layout<A>,
     pub(crate) source: &'a mut Source<N, A>,
     pub(crate) scans: &'a mut Scans<A>,
@@ -106,100 +107,87 @@ impl<N: Session<A>, A: Allocator + Copy> Lane<'_, N, A> {
         self.skip(self.lines, why);
         Ok(())
     }
-}
 
-/// Carries out lines, if all of them can be read; else their first fault.
-fn carry_read<N: Session<A>, A: Allocator + Copy>(
-    alloc: A,
-    lane: &mut Lane<'_, N, A>,
-    buffer: &mut [u8],
-    at: usize,
-    end: usize,
-) -> Result<Option<ScriptFault>, LossFault> {
-    let Some(script) = with_head(buffer, at, end) else {
-        return Ok(None);
-    };
-    match commands_of(alloc, script) {
-        Ok(commands) => {
-            lane.carry_all(commands)?;
-            lane.lines = lane
-                .lines
-                .saturating_add(feeds_in(buffer.get(at..end).unwrap_or(&[])));
-            Ok(None)
+    /// Carries out lines, if all of them can be read; else their first fault.
+    fn carry_read(
+        &mut self,
+        buffer: &mut [u8],
+        at: usize,
+        end: usize,
+    ) -> Result<Option<ScriptFault>, LossFault> {
+        let Some(script) = with_head(buffer, at, end) else {
+            return Ok(None);
+        };
+        match commands_of(self.alloc, script) {
+            Ok(commands) => {
+                self.carry_all(commands)?;
+                self.lines = self
+                    .lines
+                    .saturating_add(feeds_in(buffer.get(at..end).unwrap_or(&[])));
+                Ok(None)
+            }
+            Err(ScriptRefusal::Fault(fault)) => Ok(Some(fault)),
+            Err(ScriptRefusal::Memory) => Ok(Some(ScriptFault {
+                line: HEAD_LINES.saturating_add(1),
+                word: Word::Setup,
+            })),
         }
-        Err(ScriptRefusal::Fault(fault)) => Ok(Some(fault)),
-        Err(ScriptRefusal::Memory) => Ok(Some(ScriptFault {
-            line: HEAD_LINES.saturating_add(1),
-            word: Word::Setup,
-        })),
     }
-}
 
-/// Carries out the first lines from `at` to `end`: those of scans up to the first that can't be read, or one line. Where the
-/// next line begins.
-fn carry_some<N: Session<A>, A: Allocator + Copy>(
-    alloc: A,
-    lane: &mut Lane<'_, N, A>,
-    buffer: &mut [u8],
-    at: usize,
-    end: usize,
-) -> Result<usize, LossFault> {
-    let piece = piece_end(buffer.get(at..end).unwrap_or(&[]));
-    let to = at.saturating_add(piece.max(1)).min(end);
-    let Some(fault) = carry_read(alloc, lane, buffer, at, to)? else {
-        return Ok(to);
-    };
-    let place = fault.line.saturating_sub(HEAD_LINES).saturating_sub(1);
-    let bad = at
-        .saturating_add(line_at(buffer.get(at..to).unwrap_or(&[]), place))
-        .min(to);
-    if bad <= at {
-        return refuse_first(lane, buffer, at, to, fault.word);
-    }
-    match carry_read(alloc, lane, buffer, at, bad)? {
-        None => Ok(bad),
-        // they could be read before: an allocation failed
-        Some(fault) => refuse_first(lane, buffer, at, bad, fault.word),
-    }
-}
-
-/// Refuses the line that begins at `at`. Where the next one begins.
-fn refuse_first<N: Session<A>, A: Allocator + Copy>(
-    lane: &mut Lane<'_, N, A>,
-    buffer: &[u8],
-    at: usize,
-    to: usize,
-    word: Word,
-) -> Result<usize, LossFault> {
-    let why = match word {
-        Word::Word => Skipped::Word,
-        Word::Fields => Skipped::Fields,
-        Word::Number => Skipped::Number,
-        // no fault of a line after the shortest set-up: an allocation failed
-        Word::Setup => Skipped::Memory,
-    };
-    let rest = buffer.get(at..to).unwrap_or(&[]);
-    let len = line_end(rest).max(1).min(rest.len());
-    lane.refuse(rest.get(..len).unwrap_or(rest), why)?;
-    Ok(at.saturating_add(len.max(1)))
-}
-
-/// Carries out the lines from `from` to `end`, which is after a line's end.
-fn carry_lines<N: Session<A>, A: Allocator + Copy>(
-    alloc: A,
-    lane: &mut Lane<'_, N, A>,
-    buffer: &mut [u8],
-    from: usize,
-    end: usize,
-) -> Result<(), LossFault> {
-    let mut at = from;
-    for _ in from..end {
-        if at >= end {
-            return Ok(());
+    /// Carries out the first lines from `at` to `end`: those of scans up to the first that can't be read, or one line. Where the
+    /// next line begins.
+    fn carry_some(&mut self, buffer: &mut [u8], at: usize, end: usize) -> Result<usize, LossFault> {
+        let piece = piece_end(buffer.get(at..end).unwrap_or(&[]));
+        let to = at.saturating_add(piece.max(1)).min(end);
+        let Some(fault) = self.carry_read(buffer, at, to)? else {
+            return Ok(to);
+        };
+        let place = fault.line.saturating_sub(HEAD_LINES).saturating_sub(1);
+        let bad = at
+            .saturating_add(line_at(buffer.get(at..to).unwrap_or(&[]), place))
+            .min(to);
+        if bad <= at {
+            return self.refuse_first(buffer, at, to, fault.word);
         }
-        at = carry_some(alloc, lane, buffer, at, end)?;
+        match self.carry_read(buffer, at, bad)? {
+            None => Ok(bad),
+            // they could be read before: an allocation failed
+            Some(fault) => self.refuse_first(buffer, at, bad, fault.word),
+        }
     }
-    Ok(())
+
+    /// Refuses the line that begins at `at`. Where the next one begins.
+    fn refuse_first(
+        &mut self,
+        buffer: &[u8],
+        at: usize,
+        to: usize,
+        word: Word,
+    ) -> Result<usize, LossFault> {
+        let why = match word {
+            Word::Word => Skipped::Word,
+            Word::Fields => Skipped::Fields,
+            Word::Number => Skipped::Number,
+            // no fault of a line after the shortest set-up: an allocation failed
+            Word::Setup => Skipped::Memory,
+        };
+        let rest = buffer.get(at..to).unwrap_or(&[]);
+        let len = line_end(rest).max(1).min(rest.len());
+        self.refuse(rest.get(..len).unwrap_or(rest), why)?;
+        Ok(at.saturating_add(len.max(1)))
+    }
+
+    /// Carries out the lines from `from` to `end`, which is after a line's end.
+    fn carry_lines(&mut self, buffer: &mut [u8], from: usize, end: usize) -> Result<(), LossFault> {
+        let mut at = from;
+        for _ in from..end {
+            if at >= end {
+                return Ok(());
+            }
+            at = self.carry_some(buffer, at, end)?;
+        }
+        Ok(())
+    }
 }
 
 /// What of a line that is too long was read.
@@ -231,7 +219,6 @@ fn skip_on(buffer: &mut [u8], held: usize, reading: &mut Reading) -> usize {
 
 /// Carries out all whole lines that are held. Where what is left ends.
 fn take_whole<N: Session<A>, A: Allocator + Copy>(
-    alloc: A,
     lane: &mut Lane<'_, N, A>,
     buffer: &mut [u8],
     held: usize,
@@ -239,7 +226,7 @@ fn take_whole<N: Session<A>, A: Allocator + Copy>(
 ) -> Result<usize, LossFault> {
     let held = skip_on(buffer, held, reading);
     let end = whole_end(buffer, held);
-    carry_lines(alloc, lane, buffer, HEAD_LEN, end)?;
+    lane.carry_lines(buffer, HEAD_LEN, end)?;
     let left = kept_after(buffer, end, held);
     if left < buffer.len() {
         return Ok(left);
@@ -252,7 +239,6 @@ fn take_whole<N: Session<A>, A: Allocator + Copy>(
 /// Carries out each line that comes until the input ends. The buffer has room for the head at its front; up to `held` stands
 /// what came already.
 pub(crate) fn take_lines<N: Session<A>, A: Allocator + Copy, I: Read>(
-    alloc: A,
     signals: &Signals,
     lane: &mut Lane<'_, N, A>,
     input: &mut I,
@@ -262,7 +248,7 @@ pub(crate) fn take_lines<N: Session<A>, A: Allocator + Copy, I: Read>(
     let mut held = held;
     let mut reading = Reading::Lines;
     for _ in 0..u64::MAX {
-        held = take_whole(alloc, lane, buffer, held, &mut reading)?;
+        held = take_whole(lane, buffer, held, &mut reading)?;
         lane.scans.publish(signals, false);
         let Some(room) = buffer.get_mut(held..) else {
             return Ok(());
@@ -270,7 +256,7 @@ pub(crate) fn take_lines<N: Session<A>, A: Allocator + Copy, I: Read>(
         match input.read(room) {
             Ok(0) => {
                 if reading == Reading::Lines {
-                    carry_lines(alloc, lane, buffer, HEAD_LEN, held)?;
+                    lane.carry_lines(buffer, HEAD_LEN, held)?;
                 }
                 return Ok(());
             }

@@ -96,10 +96,10 @@ fn path_of(alloc: Global, folder: &str, key: Key, ending: &str) -> Result<String
 pub(crate) struct Paths {
     pub(crate) cfg: String,
     pub(crate) dat: String,
-    pub(crate) cfg_part: String,
+    cfg_part: String,
     pub(crate) dat_part: String,
     /// The configuration file's name while the pair is removed.
-    pub(crate) gone: String,
+    gone: String,
 }
 
 pub(crate) fn paths_of(alloc: Global, folder: &str, key: Key) -> Result<Paths, AllocError> {

@@ -74,20 +74,16 @@ fn with_paths<'a>(alloc: Global, command: Command<'a>) -> Result<Command<'a>, Al
 
 /// How it runs.
 fn with_flags<'a>(alloc: Global, command: Command<'a>) -> Result<Command<'a>, AllocError> {
-    let one = with(
-        command,
-        flag(alloc, "check", "Judges SETUP and DIR, and ends"),
-    )?;
-    with(one, flag(alloc, "quiet", "No line each minute"))
+    let check = flag(alloc, "check", "Judges SETUP and DIR, and ends");
+    let quiet = flag(alloc, "quiet", "No line each minute");
+    with(with(command, check)?, quiet)
 }
 
 /// The names that have to be there.
 fn with_names<'a>(alloc: Global, command: Command<'a>) -> Result<Command<'a>, AllocError> {
-    let one = with(
-        command,
-        word(alloc, "SETUP", "The lines of a script's set-up, up to a go"),
-    )?;
-    with(one, word(alloc, "DIR", "The folder of the records"))
+    let setup = word(alloc, "SETUP", "The lines of a script's set-up, up to a go");
+    let folder = word(alloc, "DIR", "The folder of the records");
+    with(with(command, setup)?, folder)
 }
 
 /// The program's words.

@@ -8,6 +8,7 @@ use dfr_live::{Fed, Feed, Order, Orders, Sink, run_live};
 use dfr_recorder::{Extent, Limits, Recorder};
 use std::alloc::Global;
 use std::io::{self, Write};
+use std::ops::Range;
 use std::sync::Wait;
 use std::thread::Threads;
 
@@ -20,18 +21,16 @@ const CHANNELS: &[u8] = b"Northfield 110 kV,My recorder,1999\n1,1A,0D\n\
 #[derive(Drop)]
 struct Line {
     alloc: Global,
-    next: u32,
+    scans: Range<u32>,
 }
 
 impl Feed<Global> for Line {
     fn next(&mut self) -> Result<Fed, u32> {
-        let k = self.next;
-        self.next = k.saturating_add(1);
-        match k {
-            35 => Ok(Fed::Lost),
-            30..=39 => scan(self.alloc, 1000),
-            0..=99 => scan(self.alloc, 100),
-            _ => Ok(Fed::Done),
+        match self.scans.next() {
+            Some(35) => Ok(Fed::Lost),
+            Some(30..=39) => scan(self.alloc, 1000),
+            Some(_) => scan(self.alloc, 100),
+            None => Ok(Fed::Done),
         }
     }
 }
@@ -101,7 +100,10 @@ fn recorder(alloc: Global, layout: Layout) -> Result<Recorder> {
 pub fn record<R: Threads + Wait + Print + AllocGlobal + Sync>(rt: &R) -> Result<()> {
     let alloc = rt.alloc();
     let recorder = recorder(alloc, layout(read_cfg(alloc, CHANNELS)?)?)?;
-    let mut feed = Line { alloc, next: 0 };
+    let mut feed = Line {
+        alloc,
+        scans: 0..100,
+    };
     let mut orders = Operator { after: Some(80) };
     let mut sink = Kept {
         files: Vec::new(alloc),

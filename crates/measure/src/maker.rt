@@ -46,35 +46,19 @@ fn made<A: Allocator>(
     }
 }
 
-fn with_limits<A: Allocator + Copy>(
-    alloc: A,
-    layout: Layout<A>,
-    limits: Limits,
-    list: Vec<Rule, A>,
-) -> Option<Recorder<A>>
-    requires { IsTrue (has_stamps layout.rate limits.longest) }
-{
-    match Rules::new(&layout, list) {
-        Ok(rules) => made(Recorder::new(alloc, layout, limits, rules)),
-        Err((_, list)) => {
-            drop(layout);
-            drop(list);
-            None
-        }
-    }
-}
-
 fn with_layout<A: Allocator + Copy>(
     alloc: A,
     layout: Layout<A>,
     numbers: LimitNumbers,
     list: Vec<Rule, A>,
 ) -> Option<Recorder<A>> {
-    match limits_of(&layout, numbers) {
-        Some(limits) => with_limits(alloc, layout, limits, list),
-        None => {
+    let limits = limits_of(&layout, numbers);
+    let rules = Rules::new(&layout, list);
+    match (limits, rules) {
+        (Some(limits), Ok(rules)) => made(Recorder::new(alloc, layout, limits, rules)),
+        (_, rules) => {
             drop(layout);
-            drop(list);
+            drop(rules);
             None
         }
     }

@@ -94,19 +94,13 @@ fn end_again<N: Session<A>, A: Allocator + Copy>(
     }
     match end(alloc, inner, source, tokens) {
         Ok(ended) => Ok(ended),
-        Err(back) => Err(fault_of(back)),
+        Err((fault, inner, source, tokens)) => {
+            drop(inner);
+            drop(source);
+            drop(tokens);
+            Err(fault)
+        }
     }
-}
-
-/// Why it wasn't ended. What came back is let go.
-fn fault_of<N: Session<A>, A: Allocator>(
-    back: (EndFault, Inner<N, A>, Source<N, A>, Vec<Token<A>, A>),
-) -> EndFault {
-    let (fault, inner, source, tokens) = back;
-    drop(inner);
-    drop(source);
-    drop(tokens);
-    fault
 }
 
 /// Takes a token out, and puts a stranger in.
