@@ -16,14 +16,10 @@ use std::rt::Files;
 
 /// What falls together in both records; none where the text says neither.
 fn by_of(text: Option<&str>) -> Option<By> {
-    let text = text.unwrap_or("instant");
-    if text == "instant" {
-        return Some(By::Instant);
-    }
-    if text == "trigger" {
-        Some(By::Trigger)
-    } else {
-        None
+    match text.unwrap_or("instant") {
+        "instant" => Some(By::Instant),
+        "trigger" => Some(By::Trigger),
+        _ => None,
     }
 }
 
