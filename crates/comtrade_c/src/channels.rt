@@ -2,7 +2,6 @@
 
 ghost use Rattle.std.specs.Prelude.{◌≡◌, ◌≢◌, ◌⊎◌, length, map, IfOk, IsTrue, IsFalse};
 ghost use Rattle.std.specs.List.{AllZip};
-ghost use Rattle.comtrade_c.specs.Channels as spec;
 ghost use Rattle.comtrade_c.specs.Channels.{IsAnalog, IsRate, IsTold, LacksRoom};
 ghost use Rattle.comtrade_c.specs.Faults.{IsHeadFault, OfHead};
 ghost use Rattle.comtrade_c.specs.Tables.{bit_of};
@@ -37,15 +36,6 @@ pub(crate) struct RateEnd {
     pub endsamp: u64,
 }
 
-fn is_secondary(side: Side) -> bool
-    ensures { result ≡ spec.is_secondary side }
-{
-    match side {
-        Side::Primary => false,
-        Side::Secondary => true,
-    }
-}
-
 fn analog_of(alloc: Global, channel: &AnalogChannel) -> Result<Analog, Memory>
     ensures { IfOk result (λ s. IsAnalog channel.now s) }
 {
@@ -57,7 +47,7 @@ fn analog_of(alloc: Global, channel: &AnalogChannel) -> Result<Analog, Memory>
         secondary: nearest_f64(alloc, channel.secondary)?,
         min: channel.min,
         max: channel.max,
-        on_secondary: is_secondary(channel.side),
+        on_secondary: matches!(channel.side, Side::Secondary),
     })
 }
 
