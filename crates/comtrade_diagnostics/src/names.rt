@@ -3,13 +3,7 @@
 ghost use Rattle.comtrade_diagnostics.specs.declared.names.Place.TheVariants.{RateCount, DataType};
 ghost use Rattle.comtrade_diagnostics.specs.Places.{AreFew, IsPlace};
 
-/// How many lines of a kind a configuration file has.
-#[derive(Clone, Copy)]
-pub(crate) struct Counts {
-    pub(crate) analog: u64,
-    pub(crate) status: u64,
-    pub(crate) rates: u64,
-}
+use crate::counts::Counts;
 
 /// What a line of a configuration file is; channels and rates count from 1 of their kind.
 #[derive(Clone, Copy)]
