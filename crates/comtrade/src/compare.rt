@@ -16,14 +16,10 @@ use std::rt::Files;
 
 /// What falls together in both records; none where the text says neither.
 fn by_of(text: Option<&str>) -> Option<By> {
-    let text = text.unwrap_or("instant");
-    if text == "instant" {
-        return Some(By::Instant);
-    }
-    if text == "trigger" {
-        Some(By::Trigger)
-    } else {
-        None
+    match text.unwrap_or("instant") {
+        "instant" => Some(By::Instant),
+        "trigger" => Some(By::Trigger),
+        _ => None,
     }
 }
 
@@ -44,10 +40,10 @@ fn file_from<R: Eprint + AllocGlobal, A: Allocator + Copy>(
     lists: A,
     name: &str,
     part: Part<'_>,
-    inputs: &Inputs,
+    inputs: Inputs,
 ) -> Result<Option<File<A>>, ToolFault> {
     let mut said = Vec::new(lists);
-    let pair = pair_of(inputs);
+    let pair = pair_of(&inputs);
     match file_spelled(lists, pair, part.strict, part.encoding, &mut said)? {
         Some(file) => {
             say_repairs(rt, name, &said)?;
@@ -60,14 +56,14 @@ fn file_from<R: Eprint + AllocGlobal, A: Allocator + Copy>(
     }
 }
 
-/// The file of a record; none where it can't be read, which is said.
-fn file_of<R: Files + Input + Eprint + AllocGlobal + Clone + Drop, A: Allocator + Copy>(
+/// The record of a name; none where it can't be read or has no such part, which is said.
+fn record_of<R: Files + Input + Eprint + AllocGlobal + Clone + Drop, A: Allocator + Copy>(
     rt: &R,
     lists: A,
     is_watched: bool,
     name: &str,
     part: Part<'_>,
-) -> Result<Option<File<A>>, ToolFault> {
+) -> Result<Option<Taken<A>>, ToolFault> {
     let names = Names {
         file: name,
         dat: None,
@@ -77,18 +73,7 @@ fn file_of<R: Files + Input + Eprint + AllocGlobal + Clone + Drop, A: Allocator 
     };
     say_repairs(rt, name, &inputs.said)?;
     note_size(rt, is_watched, &inputs);
-    file_from(rt, lists, name, part, &inputs)
-}
-
-/// The record of a name; none where it can't be read or has no such part, which is said.
-fn record_of<R: Files + Input + Eprint + AllocGlobal + Clone + Drop, A: Allocator + Copy>(
-    rt: &R,
-    lists: A,
-    is_watched: bool,
-    name: &str,
-    part: Part<'_>,
-) -> Result<Option<Taken<A>>, ToolFault> {
-    let Some(file) = file_of(rt, lists, is_watched, name, part)? else {
+    let Some(file) = file_from(rt, lists, name, part, inputs)? else {
         return Ok(None);
     };
     let mut said = Vec::new(lists);

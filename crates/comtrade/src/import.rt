@@ -51,13 +51,10 @@ fn value_of<'a>(word: &'a str, option: &str) -> Option<&'a str> {
 }
 
 fn order_of(word: &str) -> Option<Order> {
-    if word == "mdy" {
-        return Some(Order::MonthFirst);
-    }
-    if word == "dmy" {
-        Some(Order::DayFirst)
-    } else {
-        None
+    match word {
+        "mdy" => Some(Order::MonthFirst),
+        "dmy" => Some(Order::DayFirst),
+        _ => None,
     }
 }
 
@@ -81,13 +78,10 @@ fn set<'a>(wanted: &mut Wanted<'a>, option: &str, value: &str) -> Result<(), Wro
 }
 
 fn option_in(word: &str) -> Option<&'static str> {
-    if word == "--dates" {
-        return Some("--dates");
-    }
-    if word == "--refuse" {
-        Some("--refuse")
-    } else {
-        None
+    match word {
+        "--dates" => Some("--dates"),
+        "--refuse" => Some("--refuse"),
+        _ => None,
     }
 }
 

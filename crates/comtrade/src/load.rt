@@ -165,32 +165,6 @@ fn is_first(part: Part, fault: ReadFault) -> bool {
     part == Part::Cfg && matches!(fault, ReadFault::Revision | ReadFault::Fields(1))
 }
 
-/// The file that `import` makes of a pair that the exact reader refuses, with its repairs put to `said`; None where it refuses the
-/// pair, too.
-fn loose_file<A: Allocator + Copy>(
-    alloc: A,
-    pair: Pair<'_>,
-    found: Fault,
-    said: &mut Vec<u8, A>,
-) -> Result<Option<File<A>>, ToolFault> {
-    match import(alloc, pair.cfg, pair.dat, Choices::default()) {
-        Ok(imported) => {
-            let Imported { file, notes, .. } = imported;
-            put_notes(said, &notes)?;
-            Ok(Some(file))
-        }
-        Err(ImportFault::Memory) => Err(ToolFault::Memory),
-        Err(fault) => {
-            if is_first(found.part, found.fault) && !matches!(fault, ImportFault::Cfg(1, _)) {
-                put_import_fault(said, pair.cfg_name, fault)?;
-            } else {
-                put_fault(alloc, said, pair, found)?;
-            }
-            Ok(None)
-        }
-    }
-}
-
 /// The file that a pair reads to: exactly, or where the exact reader refuses it and `is_strict` isn't asked for, as `import` reads it. What
 /// is said of it is put to `said`: each repair, a line each, or of None why it can't be read.
 fn file_in<A: Allocator + Copy>(
@@ -199,17 +173,28 @@ fn file_in<A: Allocator + Copy>(
     is_strict: bool,
     said: &mut Vec<u8, A>,
 ) -> Result<Option<File<A>>, ToolFault> {
-    match read(alloc, pair.cfg, pair.dat) {
-        Ok(file) => Ok(Some(file)),
-        Err((_, ReadFault::Memory)) => Err(ToolFault::Memory),
-        Err((part, fault)) => {
-            if !is_strict {
-                return loose_file(alloc, pair, Fault { part, fault }, said);
-            }
-            put_fault(alloc, said, pair, Fault { part, fault })?;
-            Ok(None)
-        }
+    let found = match read(alloc, pair.cfg, pair.dat) {
+        Ok(file) => return Ok(Some(file)),
+        Err((_, ReadFault::Memory)) => return Err(ToolFault::Memory),
+        Err((part, fault)) => Fault { part, fault },
+    };
+    if is_strict {
+        put_fault(alloc, said, pair, found)?;
+        return Ok(None);
     }
+    match import(alloc, pair.cfg, pair.dat, Choices::default()) {
+        Ok(Imported { file, notes, .. }) => {
+            put_notes(said, &notes)?;
+            return Ok(Some(file));
+        }
+        Err(ImportFault::Memory) => return Err(ToolFault::Memory),
+        Err(fault)
+            if is_first(found.part, found.fault) && !matches!(fault, ImportFault::Cfg(1, _)) => {
+            put_import_fault(said, pair.cfg_name, fault)?;
+        }
+        Err(_) => put_fault(alloc, said, pair, found)?,
+    }
+    Ok(None)
 }
 
 /// Why texts aren't spelled so.

@@ -154,7 +154,7 @@ fn add_pair<R: AllocGlobal + Eprint>(
     match file_spelled(alloc, pair_of(inputs), false, asked.encoding, &mut said)? {
         Some(file) => {
             if survey == Survey::List && said.is_empty() {
-                put_remarks(alloc, &mut said, pair_of(inputs), &file)?;
+                put_remarks(&mut said, pair_of(inputs), &file)?;
             }
             say_repairs(rt, name, &said)?;
             add_file(alloc, survey, found, &file, name)?;

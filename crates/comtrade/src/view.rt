@@ -192,7 +192,7 @@ pub(crate) fn view_over<A: Allocator + Copy, W: Write>(
         && view == View::Show
         && said.is_empty()
     {
-        put_remarks(room.lists, said, pair, file)?;
+        put_remarks(said, pair, file)?;
     }
     match found {
         Some(file) => view_file(room, view, viewed, look, file, w, said),

@@ -1,4 +1,5 @@
 pub mod Tables
+pub mod Pairs
 pub mod Refused
 pub mod Lacking
 pub mod Laid

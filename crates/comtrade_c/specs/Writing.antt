@@ -69,6 +69,13 @@ sizes_of f = record { cfg = length (cfg f.head); dat = length (dat f.head.kind f
 abbrev pub refusal : FileParts → Option WriteFault
 refusal f = cfg_refusal f or dat_refusal f.head.kind f
 
+-- the writers take the file, and these are its two texts, which read to it
+pub record AreTexts (f : FileParts) (cfg_text dat_text : List ℕ) : Type 0 where
+  pub taken : refusal f ≡ None
+  pub cfg_is : cfg_text ≡ cfg f.head
+  pub dat_is : dat_text ≡ dat f.head.kind f
+  pub reads : Reads (cfg f.head) (dat f.head.kind f) f
+
 -- the file's two texts stand in front of what was after them in the buffers, and read to the file
 pub record IsWritten (f : FileParts) (cfg_before dat_before : List ℕ) (sizes : Sizes) (cfg_after dat_after : List ℕ) : Type 0 where
   pub lengths : sizes ≡ sizes_of f

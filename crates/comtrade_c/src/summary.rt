@@ -30,15 +30,6 @@ pub(crate) struct Summary {
     pub binary: bool,
 }
 
-fn is_binary(kind: Kind) -> bool
-    ensures { result ≡ spec.is_binary kind }
-{
-    match kind {
-        Kind::Ascii => false,
-        Kind::Binary => true,
-    }
-}
-
 pub(crate) fn last_row(rates: &[Rate]) -> u64
     ensures { result ≡ last_sample rates.now }
 {
@@ -63,7 +54,7 @@ fn summary_of(alloc: Global, head: &Head) -> Result<Summary, Memory>
         line_freq: nearest_f64(alloc, head.line_freq)?,
         timemult: nearest_f64(alloc, head.timemult)?,
         nrates: head.nrates,
-        binary: is_binary(head.kind),
+        binary: matches!(head.kind, Kind::Binary),
     })
 }
 

@@ -1,13 +1,10 @@
 //! Writing a pair.
 
 ghost use Rattle.std.specs.Prelude.{◌≡◌, ◌≢◌, ◌⊎◌, ◌+◌, length, map, take, drop, IfOk, IfErr};
-ghost use Rattle.comtrade_format.specs.Cfg.{cfg};
-ghost use Rattle.comtrade_format.specs.Data.{dat};
 ghost use Rattle.comtrade_format.specs.Refusals.{Fails};
-ghost use Rattle.comtrade_read.specs.Reads.{Reads};
 ghost use Rattle.comtrade_c.specs.Faults.{IsHeadFault, OfHead};
 ghost use Rattle.comtrade_c.specs.Writing as spec;
-ghost use Rattle.comtrade_c.specs.Writing.{IsRefused, IsWritten, LacksRoom, file_of_tables};
+ghost use Rattle.comtrade_c.specs.Writing.{AreTexts, IsRefused, IsWritten, LacksRoom, file_of_tables};
 
 use crate::answer::{
     CFG_FAULT, DONE, Fault, NO_MEMORY, NO_ROOM, WRITE_FAULT, head_of, of_write, put_front,
@@ -131,56 +128,13 @@ fn rates_of(alloc: Global, rates: &[Rate], rows: usize) -> Result<Items<Rate>, A
 
 /// The two texts of a file, which read to it.
 fn texts_of(alloc: Global, file: &File) -> Result<(Vec<u8>, Vec<u8>), WriteFault>
-    ensures cfg { IfOk result (λ texts. texts.0.items ≡ cfg file.now.head) }
-    ensures dat { IfOk result (λ texts. texts.1.items ≡ dat file.now.head.kind file.now) }
-    ensures reads { IfOk result (λ texts. Reads texts.0.items texts.1.items file.now) }
-    ensures taken { IfOk result (λ texts. spec.refusal file.now ≡ None) }
+    ensures texts { IfOk result (λ texts. AreTexts file.now texts.0.items texts.1.items) }
     ensures fault { IfErr result (λ why. Fails why (spec.refusal file.now)) }
 {
     file_reads_back(file);
     let cfg = cfg_bytes(alloc, file)?;
     let dat = dat_bytes(alloc, file)?;
     Ok((cfg, dat))
-}
-
-/// Puts the two texts of a file into buffers of the caller.
-fn put_texts(
-    alloc: Global,
-    file: &File,
-    new_cfg: &mut [u8],
-    new_dat: &mut [u8],
-    sizes: &mut Sizes,
-    fault: &mut Fault,
-) -> i32
-    ensures answer { (result ≡ DONE) ⊎ (result ≡ WRITE_FAULT) ⊎ (result ≡ NO_ROOM)
-        ⊎ (result ≡ NO_MEMORY) }
-    ensures done { result ≡ DONE →
-        IsWritten file.now new_cfg.old new_dat.old sizes.new new_cfg.new new_dat.new }
-    ensures room { result ≡ NO_ROOM → LacksRoom file.now new_cfg.old new_dat.old sizes.new }
-    ensures fault { result ≡ WRITE_FAULT → IsRefused file.now fault.new }
-    ensures cfg_kept { (result ≢ DONE) → new_cfg.new ≡ new_cfg.old }
-    ensures dat_kept { (result ≢ DONE) → new_dat.new ≡ new_dat.old }
-    ensures sizes_kept { (result ≢ DONE) → (result ≢ NO_ROOM) → sizes.new ≡ sizes.old }
-    ensures fault_kept { (result ≢ WRITE_FAULT) → fault.new ≡ fault.old }
-{
-    let (cfg, dat) = match texts_of(alloc, file) {
-        Ok(texts) => texts,
-        Err(WriteFault::Memory) => return NO_MEMORY,
-        Err(why) => {
-            *fault = of_write(why);
-            return WRITE_FAULT;
-        }
-    };
-    *sizes = Sizes {
-        cfg: cfg.len(),
-        dat: dat.len(),
-    };
-    if new_cfg.len() < cfg.len() || new_dat.len() < dat.len() {
-        return NO_ROOM;
-    }
-    put_front(new_cfg, &cfg);
-    put_front(new_dat, &dat);
-    DONE
 }
 
 fn kind_of(binary: bool) -> Kind
@@ -242,8 +196,25 @@ pub extern "C" fn comtrade_core_write(
         Ok(head) => head,
         Err(answer) => return answer,
     };
-    match file_of(alloc, head, binary, stamps, samples, bits) {
-        Ok(file) => put_texts(alloc, &file, new_cfg, new_dat, sizes, fault),
-        Err(_) => NO_MEMORY,
+    let Ok(file) = file_of(alloc, head, binary, stamps, samples, bits) else {
+        return NO_MEMORY;
+    };
+    let (cfg_text, dat_text) = match texts_of(alloc, &file) {
+        Ok(texts) => texts,
+        Err(WriteFault::Memory) => return NO_MEMORY,
+        Err(why) => {
+            *fault = of_write(why);
+            return WRITE_FAULT;
+        }
+    };
+    *sizes = Sizes {
+        cfg: cfg_text.len(),
+        dat: dat_text.len(),
+    };
+    if new_cfg.len() < cfg_text.len() || new_dat.len() < dat_text.len() {
+        return NO_ROOM;
     }
+    put_front(new_cfg, &cfg_text);
+    put_front(new_dat, &dat_text);
+    DONE
 }

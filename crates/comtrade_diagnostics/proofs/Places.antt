@@ -9,7 +9,7 @@ use Rattle.comtrade_read.specs.declared.fault.ReadFault.{ReadFault}
 use Rattle.comtrade_read.specs.Line.{Fault, Left, follow, next, each, end}
 use Rattle.comtrade_read.specs.Head.{names_line, counts_line, analog_line, status_line, instant_line, frequency_line, nrates_line, kind_line, timemult_line, next_analog, next_status, next_rate, EndParts, ending, TailParts, tail, head, last_sample}
 use Rattle.comtrade_read.proofs.LineByLine.{follow_said, next_said, none_said}
-use Rattle.comtrade_diagnostics.specs.declared.names.Counts.{Counts}
+use Rattle.comtrade_diagnostics.specs.declared.counts.Counts.{Counts}
 use Rattle.comtrade_diagnostics.specs.declared.names.Place.TheVariants.{Station, Channels, Analog, Status, Frequency, RateCount, Rate, First, Trigger, DataType, TimeMultiplier, After}
 use Rattle.comtrade_diagnostics.specs.Places.{line_at, IsPlace}
 

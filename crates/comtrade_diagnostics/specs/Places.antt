@@ -6,7 +6,7 @@ use Rattle.comtrade_read.specs.Head.{names_line, counts_line, analog_line, statu
 use Rattle.comtrade_read.specs.Line.{Fault, told}
 use Rattle.comtrade_read.specs.declared.fault.ReadFault.{ReadFault}
 use Rattle.comtrade_read.specs.declared.fault.ReadFault.TheVariants as faults
-use Rattle.comtrade_diagnostics.specs.declared.names.Counts.{Counts}
+use Rattle.comtrade_diagnostics.specs.declared.counts.Counts.{Counts}
 use Rattle.comtrade_diagnostics.specs.declared.names.Place.{Place}
 use Rattle.comtrade_diagnostics.specs.declared.names.Place.TheVariants.{Station, Channels, Analog, Status, Frequency, RateCount, Rate, First, Trigger, DataType, TimeMultiplier, After}
 

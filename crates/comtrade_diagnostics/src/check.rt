@@ -3,12 +3,12 @@
 ghost use Rattle.std.specs.Prelude.{◌≡◌, OnErr, OnOk};
 ghost use Rattle.comtrade_diagnostics.specs.Puts.{PutsLine};
 
+use crate::counts::{Counts, rows_of};
 use crate::describe::put_cfg_fault;
 use crate::describe_data::put_dat_fault;
 use crate::line::put_line;
-use crate::names::Counts;
 use crate::remarks::put_remarks;
-use comtrade_format::{File, Head};
+use comtrade_format::File;
 use comtrade_io::{kind_name, put, put_count, put_safe};
 use comtrade_read::{Fault, Part, read_cfg};
 use std::alloc::{AllocError, Allocator};
@@ -20,22 +20,6 @@ pub struct Pair<'a> {
     pub cfg: &'a [u8],
     pub dat_name: &'a [u8],
     pub dat: &'a [u8],
-}
-
-fn counts_of<A: Allocator>(head: &Head<A>) -> Counts {
-    Counts {
-        analog: head.analog.items().len() as u64,
-        status: head.status.items().len() as u64,
-        rates: head.rates.items().len() as u64,
-    }
-}
-
-/// How many rows a head says there are.
-fn rows_of<A: Allocator>(head: &Head<A>) -> u64 {
-    match head.rates.items().last() {
-        Some(rate) => rate.endsamp,
-        None => 0,
-    }
 }
 
 /// A fault's words: the file, the line, the field, what stands there and what is wanted.
@@ -55,14 +39,7 @@ fn put_fault_words<A: Allocator + Copy>(
             put_safe(out, pair.dat_name)?;
             put(out, ": ")?;
             match read_cfg(alloc, pair.cfg) {
-                Ok(head) => put_dat_fault(
-                    alloc,
-                    out,
-                    counts_of(&head),
-                    rows_of(&head),
-                    pair.dat,
-                    found.fault,
-                ),
+                Ok(head) => put_dat_fault(alloc, out, &head, pair.dat, found.fault),
                 Err(_) => Err(AllocError),
             }
         }
@@ -86,12 +63,11 @@ pub fn put_fault<A: Allocator + Copy>(
 
 /// That a pair has no fault, and what is odd about the file that it reads to.
 pub fn put_no_fault<A: Allocator + Copy>(
-    alloc: A,
     out: &mut Vec<u8, A>,
     pair: Pair<'_>,
     file: &File<A>,
 ) -> Result<(), AllocError> {
-    let counts = counts_of(&file.head);
+    let counts = Counts::of(&file.head);
     put_safe(out, pair.cfg_name)?;
     put(out, ", ")?;
     put_safe(out, pair.dat_name)?;
@@ -111,5 +87,5 @@ pub fn put_no_fault<A: Allocator + Copy>(
         " status channels, ",
     )?;
     put_count(out, rows_of(&file.head), " row\n", " rows\n")?;
-    put_remarks(alloc, out, pair, file)
+    put_remarks(out, pair, file)
 }

@@ -3,9 +3,10 @@
 ghost use Rattle.std.specs.Prelude.{◌<◌, IfOk};
 ghost use Rattle.comtrade_diagnostics.specs.Places.{AreFew};
 
+use crate::counts::Counts;
 use crate::forms::put_other_form;
 use crate::names::{
-    Counts, Place, field_at, fields_wanted, place_at, place_name, rate_count_line, type_line,
+    Place, field_at, fields_wanted, place_at, place_name, rate_count_line, type_line,
 };
 use comtrade_io::{put, put_count, put_number, put_quoted, put_with};
 use comtrade_read::ReadFault;

@@ -1,7 +1,9 @@
 //! A fault of a data file in words.
 
+use crate::counts::{Counts, rows_of};
 use crate::describe::{line_at, put_field, put_field_count, put_place};
-use crate::names::{Counts, Place, row_field};
+use crate::names::{Place, row_field};
+use comtrade_format::Head;
 use comtrade_io::{put, put_count, put_with};
 use comtrade_read::ReadFault;
 use dfr_channels::lines_of;
@@ -20,16 +22,15 @@ fn row_size(counts: Counts) -> u64 {
 /// A binary data file of another size.
 fn put_length<A: Allocator>(
     out: &mut Vec<u8, A>,
-    counts: Counts,
-    rows: u64,
+    head: &Head<A>,
     size: usize,
 ) -> Result<(), AllocError> {
     put_count(out, size as u64, " byte stands", " bytes stand")?;
-    let wanted = rows.saturating_mul(row_size(counts));
-    put_with(out, " there; wanted are ", wanted)?;
+    let (rows, row_size) = (rows_of(head), row_size(Counts::of(head)));
+    put_with(out, " there; wanted are ", rows.saturating_mul(row_size))?;
     put(out, ": ")?;
     put_count(out, rows, " row of ", " rows of ")?;
-    put_count(out, row_size(counts), " byte", " bytes")
+    put_count(out, row_size, " byte", " bytes")
 }
 
 /// A row that can't be read.
@@ -81,15 +82,15 @@ fn put_rows<A: Allocator>(
     put(out, ", as the configuration file says")
 }
 
-/// A fault of a data file, whose configuration file says so many channels and rows.
+/// A fault of a data file under the head of its configuration file.
 pub(crate) fn put_dat_fault<A: Allocator + Copy>(
     alloc: A,
     out: &mut Vec<u8, A>,
-    counts: Counts,
-    rows: u64,
+    head: &Head<A>,
     dat: &[u8],
     fault: ReadFault,
 ) -> Result<(), AllocError> {
+    let rows = rows_of(head);
     let line = match fault {
         ReadFault::Missing(line) => {
             return put_rows(out, line, rows, ": the file ends before this line");
@@ -98,8 +99,9 @@ pub(crate) fn put_dat_fault<A: Allocator + Copy>(
             return put_rows(out, line, rows, ": stands after the last row");
         }
         ReadFault::Fields(line) | ReadFault::Number(line, _) => line,
-        _ => return put_length(out, counts, rows, dat.len()),
+        _ => return put_length(out, head, dat.len()),
     };
     let lines = lines_of(alloc, dat)?;
-    put_row(alloc, out, counts, line, line_at(&lines, line), fault)
+    let text = line_at(&lines, line);
+    put_row(alloc, out, Counts::of(head), line, text, fault)
 }

@@ -3,8 +3,9 @@
 
 ghost use Rattle.comtrade_diagnostics.specs.Places.{AreFew, IsPlace};
 
+use crate::counts::Counts;
 use crate::describe::{line_at, put_line};
-use crate::names::{Counts, Place, place_at, rate_count_line};
+use crate::names::{Place, place_at, rate_count_line};
 use comtrade_io::{put, put_quoted};
 use dfr_channels::{Decimal, fields_of};
 use std::alloc::{AllocError, Allocator};

@@ -4,6 +4,7 @@
 #![tactic(auto)]
 
 mod check;
+mod counts;
 mod describe;
 mod describe_data;
 mod forms;

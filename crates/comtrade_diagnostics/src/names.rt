@@ -3,13 +3,7 @@
 ghost use Rattle.comtrade_diagnostics.specs.declared.names.Place.TheVariants.{RateCount, DataType};
 ghost use Rattle.comtrade_diagnostics.specs.Places.{AreFew, IsPlace};
 
-/// How many lines of a kind a configuration file has.
-#[derive(Clone, Copy)]
-pub(crate) struct Counts {
-    pub(crate) analog: u64,
-    pub(crate) status: u64,
-    pub(crate) rates: u64,
-}
+use crate::counts::Counts;
 
 /// What a line of a configuration file is; channels and rates count from 1 of their kind.
 #[derive(Clone, Copy)]
@@ -32,13 +26,11 @@ pub(crate) enum Place {
 pub(crate) fn place_at(counts: Counts, line: u64) -> Place
     ensures { IsPlace counts line result }
 {
-    if line <= 1 {
-        return Place::Station;
-    }
-    if line == 2 {
-        return Place::Channels;
-    }
-    let channel = line - 2;
+    let channel = match line {
+        0 | 1 => return Place::Station,
+        2 => return Place::Channels,
+        _ => line - 2,
+    };
     if channel <= counts.analog {
         return Place::Analog(channel);
     }
@@ -47,13 +39,11 @@ pub(crate) fn place_at(counts: Counts, line: u64) -> Place
         return Place::Status(status);
     }
     let after = status - counts.status;
-    if after == 1 {
-        return Place::Frequency;
-    }
-    if after == 2 {
-        return Place::RateCount;
-    }
-    let rate = after - 2;
+    let rate = match after {
+        1 => return Place::Frequency,
+        2 => return Place::RateCount,
+        _ => after - 2,
+    };
     if rate <= counts.rates {
         return Place::Rate(rate);
     }

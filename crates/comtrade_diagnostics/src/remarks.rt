@@ -110,12 +110,11 @@ fn put_turned<A: Allocator>(
 
 /// What is odd about a pair that reads to this file, which is no fault: a line for each kind, as `note: x.dat: row 2 ..`.
 pub fn put_remarks<A: Allocator + Copy>(
-    alloc: A,
     out: &mut Vec<u8, A>,
     pair: Pair<'_>,
     file: &File<A>,
 ) -> Result<(), AllocError> {
-    let doubts = doubts_of(alloc, file)?;
+    let doubts = doubts_of(*out.allocator(), file)?;
     put_places(
         out,
         (pair.cfg_name, ": line "),

@@ -23,7 +23,7 @@ fn put_verdict<A: Allocator + Copy>(
 {
     match read(alloc, pair.cfg, pair.dat) {
         Ok(file) => {
-            let put = put_no_fault(alloc, out, pair, &file);
+            let put = put_no_fault(out, pair, &file);
             // here, so that neither exit proves the drop of its parts
             drop(file);
             put?;

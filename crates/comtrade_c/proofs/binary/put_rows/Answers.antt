@@ -1,10 +1,12 @@
 use Rattle.std.proofs.Common.{◌≡◌, ◌≤◌, ◌<◌, ℕ, List, ◌+◌, ◌-◌, ◌*◌, ◌/◌, length, map, take, drop, sym, ap, ◌∙◌, arith, rules, length-drop}
 use Rattle.std.proofs.Math.Nat.{mul-le-mul_right}
 use Rattle.comtrade_read.proofs.Outcomes.{part_is}
+use Rattle.comtrade_format.specs.Parts.{RowParts}
 use Rattle.comtrade_format.specs.Packed.{values_at, bits_at}
 use Rattle.comtrade_read.specs.Inner.BinaryRows.{stamp_at, row_at, rows_at}
 use Rattle.comtrade_read.specs.Reads.{row_size}
 use Rattle.comtrade_c.specs.Tables.{stamp_of, sample_of, bit_of, row_samples, row_bits}
+use Rattle.comtrade_c.proofs.Filled.{Filled}
 use Rattle.comtrade_c.proofs.Laid.{laid_more, laid_all}
 use Rattle.comtrade_c.proofs.Flat.{rows_long, row_there, row_stamp_is, row_samples_are, row_bits_are, samples_count, bits_count, row_within, row_over, all_over, part_behind, part_long}
 use Rattle.comtrade_c.proofs.binary.put_rows.Goals as goal
@@ -33,6 +35,15 @@ row_left k m i n size from count dat below whole is within =
     let end = row_in k m i n size (from + count) dat below whole is within in
     rw (part_is (i * size + from) dat) (omega (arith, length-drop (i * size + from) dat, end))
 
+-- and as many as are wanted by the part of a table where its items go
+row_wants :
+    {B : Type 0} (f : RowParts → List B) (need : ℕ → ℕ) (k m i n c size from : ℕ) (dat : List ℕ) (vs ws : List B) (at : ℕ)
+    → ((bytes : List ℕ) → length (f (row_at k m bytes)) ≡ c) → i < n → Filled f (rows_at k m dat n) i vs ws at → length vs ≡ n * c
+    → length dat ≡ n * row_size k m → size ≡ row_size k m → from + need c ≤ size
+    → need (length (take (at + c - at) (drop at vs))) ≤ length (take (length dat - (i * size + from)) (drop (i * size + from) dat))
+row_wants f need k m i n c size from dat vs ws at each below filled long whole is within =
+    rw (part_long at c vs (row_within f k m dat n i c vs ws at each below filled long)) (row_left k m i n size from (need c) dat below whole is within)
+
 pub slice_bounds-put_row-count-in-loop-i : goal.slice_bounds-put_row-count-in-loop-i
 slice_bounds-put_row-count-in-loop-i c =
     row_in c.args.k c.args.m c.loop-i.i _ _ 8 c.args.dat.now c.loop-i-test.true c.requires.whole c.row_size-size.ensures (omega (arith, c.row_size-size.ensures))
@@ -43,14 +54,9 @@ slice_bounds-put_row-start-in-loop-i c =
 
 pub put_row-requires : goal.put_row-requires
 put_row-requires c =
-    let k = c.args.k in
-    let m = c.args.m in
-    let room : c.loop-i.sample + k ≤ length c.loop-i.samples =
-    row_within row_samples k m c.args.dat.now (length c.args.stamps.now) c.loop-i.i k c.loop-i.samples c.args.samples.now c.loop-i.sample (samples_count k m)
-    c.loop-i-test.true c.loop-i.invariant.samples (search rules) in
-    rw (part_long c.loop-i.sample k c.loop-i.samples room)
-    (row_left k m c.loop-i.i _ c.row_size-size.result 8 (2 * k) c.args.dat.now c.loop-i-test.true c.requires.whole c.row_size-size.ensures
-    (omega (arith, c.row_size-size.ensures)))
+    row_wants row_samples (λ z. 2 * z) c.args.k c.args.m c.loop-i.i (length c.args.stamps.now) c.args.k c.row_size-size.result 8 c.args.dat.now c.loop-i.samples
+    c.args.samples.now c.loop-i.sample (samples_count c.args.k c.args.m) c.loop-i-test.true c.loop-i.invariant.samples (search rules) c.requires.whole
+    c.row_size-size.ensures (omega (arith, c.row_size-size.ensures))
 
 pub slice_bounds-put_row_bits-count-in-loop-i : goal.slice_bounds-put_row_bits-count-in-loop-i
 slice_bounds-put_row_bits-count-in-loop-i c =
@@ -64,14 +70,9 @@ slice_bounds-put_row_bits-start-in-loop-i c =
 
 pub put_row_bits-requires : goal.put_row_bits-requires
 put_row_bits-requires c =
-    let k = c.args.k in
-    let m = c.args.m in
-    let room : c.loop-i.bit + m ≤ length c.loop-i.bits =
-    row_within row_bits k m c.args.dat.now (length c.args.stamps.now) c.loop-i.i m c.loop-i.bits c.args.bits.now c.loop-i.bit (bits_count k m)
-    c.loop-i-test.true c.loop-i.invariant.bits (search rules) in
-    rw (part_long c.loop-i.bit m c.loop-i.bits room)
-    (row_left k m c.loop-i.i _ c.row_size-size.result (8 + 2 * k) (2 * ((m + 15) / 16)) c.args.dat.now c.loop-i-test.true c.requires.whole
-    c.row_size-size.ensures (omega (arith, c.row_size-size.ensures)))
+    row_wants row_bits (λ z. 2 * ((z + 15) / 16)) c.args.k c.args.m c.loop-i.i (length c.args.stamps.now) c.args.m c.row_size-size.result (8 + 2 * c.args.k)
+    c.args.dat.now c.loop-i.bits c.args.bits.now c.loop-i.bit (bits_count c.args.k c.args.m) c.loop-i-test.true c.loop-i.invariant.bits (search rules)
+    c.requires.whole c.row_size-size.ensures (omega (arith, c.row_size-size.ensures))
 
 pub loop-i-preserved : goal.loop-i-preserved
 loop-i-preserved c =

@@ -3,6 +3,7 @@ use Rattle.std.proofs.lemmas.Int.{to_z-of_z}
 use Rattle.comtrade_read.proofs.OneFile.{no_file}
 use Rattle.comtrade_read.specs.Reads.{FaultyPair}
 use Rattle.comtrade_read.specs.declared.pair.Part.TheVariants.{Dat}
+use Rattle.comtrade_c.proofs.Pairs.{tabulates, lacks_room}
 use Rattle.comtrade_c.proofs.rows.comtrade_core_rows.Goals as goal
 
 pub returns-in-Err-clause-cfg_fault : goal.returns-in-Err-clause-cfg_fault
@@ -18,24 +19,10 @@ returns-in-Err-clause-cfg_fault c =
     }
 
 pub returns-in-Ok-true-clause-done : goal.returns-in-Ok-true-clause-done
-returns-in-Ok-true-clause-done c = λ done.
-    let told = c.in-Ok-true.ensures.done (search rules) in
-    record {
-      file = record { head = c.in-Ok.head; rows = told.rows };
-      reads = record { head = c.in-Ok.ensures.found; rows = told.reads };
-      stamps_are = told.stamps_are;
-      samples_are = told.samples_are;
-      bits_are = told.bits_are;
-    }
+returns-in-Ok-true-clause-done c = λ done. tabulates c.in-Ok.head c.in-Ok.ensures.found (c.in-Ok-true.ensures.done (search rules))
 
 pub returns-in-Ok-false-clause-room : goal.returns-in-Ok-false-clause-room
-returns-in-Ok-false-clause-room c = λ short.
-    let told = c.in-Ok-false.ensures.room (search rules) in
-    record {
-      file = record { head = c.in-Ok.head; rows = told.rows };
-      reads = record { head = c.in-Ok.ensures.found; rows = told.reads };
-      lengths = told.lengths;
-    }
+returns-in-Ok-false-clause-room c = λ short. lacks_room c.in-Ok.head c.in-Ok.ensures.found (c.in-Ok-false.ensures.room (search rules))
 
 pub returns-clause-dat_fault : goal.returns-clause-dat_fault
 returns-clause-dat_fault c = λ _.
