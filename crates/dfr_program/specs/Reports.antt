@@ -28,18 +28,18 @@ reply_text at (reply.SetRules done) = at_text at ++ rules_text done
 abbrev pub entry_text : EntryParts → List ℕ
 entry_text e = reply_text e.at e.reply
 
+unfoldable pub sums_text : ℕ → ℕ → ℕ → ℕ → List ℕ
+sums_text scans refused records left =
+    codes "scans " ++ decimal scans ++ codes " refused " ++ decimal refused ++ codes " records " ++ decimal records
+    ++ codes " left " ++ decimal left ++ codes "\n"
+
 -- how many scan steps are left: each scan's own, and those of its losses
 abbrev pub steps_left : List LeftParts → ℕ
 steps_left left = sum_by (λ (x : LeftParts). x.lost + 1) left
 
-unfoldable pub sums_text : {A : Type 0} → LiveReport A → List ℕ
-sums_text r =
-    codes "scans " ++ decimal r.stepped ++ codes " refused " ++ decimal r.refused ++ codes " records " ++ decimal r.records
-    ++ codes " left " ++ decimal (steps_left r.ended.left.items) ++ codes "\n"
-
 -- each call but takes, in the order of the log, and the four numbers
 unfoldable pub report_text : {A : Type 0} → LiveReport A → List ℕ
-report_text r = flat_map entry_text r.ended.log.items ++ sums_text r
+report_text r = flat_map entry_text r.ended.log.items ++ sums_text r.stepped r.refused r.records (steps_left r.ended.left.items)
 
 -- the word of a run's fault; out of memory has none
 abbrev pub run_word : LiveFault → Option (List ℕ)

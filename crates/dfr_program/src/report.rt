@@ -80,14 +80,21 @@ fn steps_left<A: Allocator>(left: &[Left<A>]) -> u128
 }
 
 #[tactic(auto, unfolding(crate::specs::Reports::sums_text))]
-fn put_sums<A: Allocator>(out: &mut Vec<u8, A>, report: &LiveReport<A>) -> Result<(), AllocError>
-    ensures { OnOk result (out.new.items ≡ out.old.items ++ spec.sums_text report.now) }
+fn put_sums<A: Allocator>(
+    out: &mut Vec<u8, A>,
+    scans: u64,
+    refused: u64,
+    records: u64,
+    left: u128,
+) -> Result<(), AllocError>
+    ensures { OnOk result (out.new.items
+        ≡ out.old.items ++ spec.sums_text scans refused records left) }
 {
-    put_with(out, "scans ", report.stepped)?;
-    put_with(out, " refused ", report.refused)?;
-    put_with(out, " records ", report.records)?;
+    put_with(out, "scans ", scans)?;
+    put_with(out, " refused ", refused)?;
+    put_with(out, " records ", records)?;
     put(out, " left ")?;
-    put_number(out, steps_left(report.ended.left.as_slice()))?;
+    put_number(out, left)?;
     put(out, "\n")
 }
 
@@ -100,7 +107,13 @@ pub(crate) fn put_report<A: Allocator>(
     ensures { OnOk result (out.new.items ≡ out.old.items ++ spec.report_text report.now) }
 {
     put_entries(out, report.ended.log.as_slice())?;
-    put_sums(out, report)
+    put_sums(
+        out,
+        report.stepped,
+        report.refused,
+        report.records,
+        steps_left(report.ended.left.as_slice()),
+    )
 }
 
 /// The word of a run's fault; None where an allocation failed.
