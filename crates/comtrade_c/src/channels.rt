@@ -1,6 +1,6 @@
 //! The channels, rates and texts of a configuration file, as tables.
 
-ghost use Rattle.std.specs.Prelude.{◌≡◌, ◌≢◌, ◌⊎◌, length, map, IfOk};
+ghost use Rattle.std.specs.Prelude.{◌≡◌, ◌≢◌, ◌⊎◌, length, map, IfOk, IsTrue, IsFalse};
 ghost use Rattle.std.specs.List.{AllZip};
 ghost use Rattle.comtrade_c.specs.Channels as spec;
 ghost use Rattle.comtrade_c.specs.Channels.{IsAnalog, IsRate, IsTold, LacksRoom};
@@ -113,7 +113,7 @@ fn tables_of(alloc: Global, head: &Head) -> Result<Tables, Memory>
     })
 }
 
-/// Copies a head's tables into those of the caller, where each of these is as long.
+/// Copies a head's tables into those of the caller; false where one of these isn't as long, and then all are left alone.
 fn fill(
     all: &Tables,
     analog: &mut [Analog],
@@ -121,23 +121,22 @@ fn fill(
     rates: &mut [RateEnd],
     lengths: &mut [usize],
     text: &mut [u8],
-) -> i32
-    ensures answer { (result ≡ DONE) ⊎ (result ≡ NO_ROOM) }
-    ensures analog { result ≡ DONE → analog.new ≡ all.now.analog.items }
-    ensures normal { result ≡ DONE → normal.new ≡ all.now.normal.items }
-    ensures rates { result ≡ DONE → rates.new ≡ all.now.rates.items }
-    ensures lengths { result ≡ DONE → lengths.new ≡ all.now.lengths.items }
-    ensures text { result ≡ DONE → text.new ≡ all.now.text.items }
-    ensures room { result ≡ NO_ROOM → (length analog.old ≢ length all.now.analog.items)
+) -> bool
+    ensures analog { IsTrue result → analog.new ≡ all.now.analog.items }
+    ensures normal { IsTrue result → normal.new ≡ all.now.normal.items }
+    ensures rates { IsTrue result → rates.new ≡ all.now.rates.items }
+    ensures lengths { IsTrue result → lengths.new ≡ all.now.lengths.items }
+    ensures text { IsTrue result → text.new ≡ all.now.text.items }
+    ensures room { IsFalse result → (length analog.old ≢ length all.now.analog.items)
         ⊎ (length normal.old ≢ length all.now.normal.items)
         ⊎ (length rates.old ≢ length all.now.rates.items)
         ⊎ (length lengths.old ≢ length all.now.lengths.items)
         ⊎ (length text.old ≢ length all.now.text.items) }
-    ensures analog_kept { (result ≢ DONE) → analog.new ≡ analog.old }
-    ensures normal_kept { (result ≢ DONE) → normal.new ≡ normal.old }
-    ensures rates_kept { (result ≢ DONE) → rates.new ≡ rates.old }
-    ensures lengths_kept { (result ≢ DONE) → lengths.new ≡ lengths.old }
-    ensures text_kept { (result ≢ DONE) → text.new ≡ text.old }
+    ensures analog_kept { IsFalse result → analog.new ≡ analog.old }
+    ensures normal_kept { IsFalse result → normal.new ≡ normal.old }
+    ensures rates_kept { IsFalse result → rates.new ≡ rates.old }
+    ensures lengths_kept { IsFalse result → lengths.new ≡ lengths.old }
+    ensures text_kept { IsFalse result → text.new ≡ text.old }
 {
     if analog.len() != all.analog.len()
         || normal.len() != all.normal.len()
@@ -145,14 +144,14 @@ fn fill(
         || lengths.len() != all.lengths.len()
         || text.len() != all.text.len()
     {
-        return NO_ROOM;
+        return false;
     }
     analog.copy_from_slice(&all.analog);
     normal.copy_from_slice(&all.normal);
     rates.copy_from_slice(&all.rates);
     lengths.copy_from_slice(&all.lengths);
     text.copy_from_slice(&all.text);
-    DONE
+    true
 }
 
 /// All channels, rates and texts of a configuration file, in tables of the caller.
@@ -185,8 +184,12 @@ pub extern "C" fn comtrade_core_channels(
         Ok(head) => head,
         Err(answer) => return answer,
     };
-    match tables_of(alloc, &head) {
-        Ok(all) => fill(&all, analog, normal, rates, lengths, text),
-        Err(_) => NO_MEMORY,
+    let Ok(all) = tables_of(alloc, &head) else {
+        return NO_MEMORY;
+    };
+    if fill(&all, analog, normal, rates, lengths, text) {
+        DONE
+    } else {
+        NO_ROOM
     }
 }
