@@ -48,7 +48,8 @@ pub extern "C" fn comtrade_core_times(
 ) -> i32
     ensures answer { (result ≡ DONE) ⊎ (result ≡ CFG_FAULT) ⊎ (result ≡ NO_ROOM)
         ⊎ (result ≡ NO_MEMORY) }
-    ensures done { result ≡ DONE → OfHead cfg.now (λ h. times.new ≡ spec.times_in h stamps.now) }
+    ensures done { result ≡ DONE → OfHead cfg.now (λ h.
+        times.new ≡ spec.times_in h stamps.now) }
     ensures room { result ≡ NO_ROOM → length times.old ≢ length stamps.now }
     ensures cfg_fault { result ≡ CFG_FAULT → IsHeadFault cfg.now fault.new }
     ensures times_kept { (result ≢ DONE) → times.new ≡ times.old }

@@ -26,7 +26,8 @@ pub const LONGEST_VALUE: usize = 40;
 /// The number's units with so many places; None where they have more than 64 bits.
 fn units_of(number: Decimal, places: u8) -> Option<i64>
     requires { number.places ≤ places }
-    ensures { IfSome result (λ units. number_of units places ≡ Values.with_places places number) }
+    ensures { IfSome result (λ units. number_of units places
+        ≡ Values.with_places places number) }
 {
     let longer = with_places(number, places)?;
     i64::try_from(longer.units()).ok()
@@ -90,7 +91,7 @@ struct Parts {
     one: u64,
 }
 
-/// n * factor / 2^(64 + shift), rounded down: a quotient without a division, which takes five times as long.
+/// n * factor / 2^(64 + shift), rounded down: a quotient without a division, for speed.
 fn scaled(n: u64, factor: u64, shift: u32) -> u64
     requires { shift < 64 }
     ensures { result ≡ n * factor / 2 ^ 64 / 2 ^ shift }
