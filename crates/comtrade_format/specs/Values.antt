@@ -1,5 +1,6 @@
 -- The value a * x + b of a sample.
-use Rattle.std.specs.Prelude.{◌≡◌, ◌≢◌, List, ◌++◌, ℕ, ◌-◌, ◌^◌, ◌≤◌, max, take, drop, ℤ, pos, ◌+ℤ◌, ◌*ℤ◌}
+use Rattle.std.specs.Prelude.{◌≡◌, ◌≢◌, List, ◌++◌, ℕ, ◌-◌, ◌^◌, ◌≤◌, max, length, take, drop, ◌<◌, ◌⊎◌, FitsSigned, ℤ, pos, ◌+ℤ◌, ◌*ℤ◌}
+use Rattle.std.specs.Int.{w64}
 use Rattle.std.specs.Int.RustNames.{int_rem}
 use Rattle.dfr_channels.specs.Spelling.{Number, IsNumber}
 use Rattle.dfr_channels.specs.Written.{decimal_text}
@@ -58,6 +59,19 @@ aligned_value scale x = number_of (scale.a *ℤ x +ℤ scale.b) scale.places
 -- by this scale each sample has the value that it has by a and b
 abbrev pub IsAligned : Number → Number → AlignedScale → Type 0
 IsAligned a b scale = (x : ℤ) → value a b x ≡ aligned_value scale x
+
+-- with the places of the finer one, which are more than 18, or a or b has more than 64 bits
+abbrev pub IsUnaligned : Number → Number → Type 0
+IsUnaligned a b = (18 < places_of a b)
+    ⊎ ((FitsSigned w64 (with_places (places_of a b) a).units → ⊥) ⊎ (FitsSigned w64 (with_places (places_of a b) b).units → ⊥))
+
+-- no number of so many places is written before `end`
+abbrev pub HasNoRoom : List ℕ → ℕ → ℕ → Type 0
+HasNoRoom slot end places = (18 < places) ⊎ ((end < 40) ⊎ (length slot < end))
+
+-- product and sum have 64 bits each
+abbrev pub HasUnits : AlignedScale → ℤ → Type 0
+HasUnits scale x = FitsSigned w64 (scale.a *ℤ x) × FitsSigned w64 (scale.a *ℤ x +ℤ scale.b)
 
 -- the text of the number without zeros at its end stands from `start` on, and then what was there from `end` on; before it nothing changed
 pub record WritesValue (old new : List ℕ) (start end : ℕ) (n : Number) : Type 0 where

@@ -1,6 +1,7 @@
 //! Values a·x + b of few digits, written from their last digit back.
 
-ghost use Rattle.std.specs.Prelude.{◌≡◌, ◌+◌, ◌*◌, ◌/◌, ◌%◌, ◌^◌, ◌<◌, ◌≤◌, ◌++◌, ◌∷◌, ◌+ℤ◌, ◌*ℤ◌, IfNone, IfSome, length, take, drop, decimal};
+ghost use Rattle.std.specs.Prelude.{◌≡◌, ◌+◌, ◌*◌, ◌/◌, ◌%◌, ◌^◌, ◌<◌, ◌≤◌, ◌++◌, ◌∷◌, ◌+ℤ◌, ◌*ℤ◌, FitsSigned, IfNone, IfSome, length, take, drop, decimal};
+ghost use Rattle.std.specs.Int.{w64};
 ghost use Rattle.dfr_channels.specs.Written.{decimal_text, padded, pointed};
 ghost use Rattle.comtrade_format.specs.Values.{number_of};
 ghost use Rattle.comtrade_format.specs.Values as Values;
@@ -25,9 +26,12 @@ pub const LONGEST_VALUE: usize = 40;
 
 /// The number's units with so many places; None where they have more than 64 bits.
 fn units_of(number: Decimal, places: u8) -> Option<i64>
-    requires { number.places ≤ places }
-    ensures { IfSome result (λ units. number_of units places
+    requires more { number.places ≤ places }
+    requires few { places ≤ 18 }
+    ensures value { IfSome result (λ units. number_of units places
         ≡ Values.with_places places number) }
+    ensures none { IfNone result
+        (FitsSigned w64 (Values.with_places places number).units → ⊥) }
 {
     let longer = with_places(number, places)?;
     i64::try_from(longer.units()).ok()
@@ -35,7 +39,8 @@ fn units_of(number: Decimal, places: u8) -> Option<i64>
 
 /// A channel's a and b with the places of the finer one; None where they have more than 64 bits then, or more than 18 places.
 pub fn aligned_scale_of(a: Decimal, b: Decimal) -> Option<AlignedScale>
-    ensures { IfSome result (Values.IsAligned a b) }
+    ensures value { IfSome result (Values.IsAligned a b) }
+    ensures none { IfNone result (Values.IsUnaligned a b) }
 {
     let places = a.places().max(b.places());
     if MOST_PLACES < places {
@@ -206,28 +211,36 @@ fn write_narrow(slot: &mut [u8], end: usize, number: Narrow) -> usize
 /// Writes the number units / 10^places without zeros at the end of its places, so that its text ends at `end`, and answers where it begins;
 /// None where it has more than 18 places, or fewer than 40 bytes stand before `end`.
 pub fn write_shortened(slot: &mut [u8], end: usize, units: i64, places: u8) -> Option<usize>
-    ensures { IfSome result (λ start.
+    ensures value { IfSome result (λ start.
         Values.WritesValue slot.old slot.new start end (number_of units places)) }
+    ensures none { IfNone result (Values.HasNoRoom slot.old end places) }
+    ensures kept { IfNone result (slot.new ≡ slot.old) }
 {
     if MOST_PLACES < places || end < LONGEST_VALUE || slot.len() < end {
         return None;
     }
-    Some(write_narrow(slot, end, trimmed(Narrow { units, places })))
+    let shown = trimmed(Narrow { units, places });
+    Some(write_narrow(slot, end, shown))
 }
 
 impl AlignedScale {
     /// The value of a sample in units of the last place; None where they have more than 64 bits.
     fn units_at(self, sample: i32) -> Option<i64>
-        ensures { IfSome result (λ units. units ≡ self.a *ℤ sample +ℤ self.b) }
+        ensures value { IfSome result (λ units. units ≡ self.a *ℤ sample +ℤ self.b) }
+        ensures none { IfNone result (Values.HasUnits self sample → ⊥) }
     {
         self.a.checked_mul(sample as i64)?.checked_add(self.b)
     }
 
     /// Writes the value a·x + b of a sample as `write_shortened` does; None where that does, or where its units have more than 64 bits.
     pub fn write_value(self, slot: &mut [u8], end: usize, sample: i32) -> Option<usize>
-        ensures { IfSome result (λ start.
+        ensures value { IfSome result (λ start.
             Values.WritesValue slot.old slot.new start end (Values.aligned_value self sample)) }
+        ensures none { IfNone result (Values.HasUnits self sample
+            → Values.HasNoRoom slot.old end self.places) }
+        ensures kept { IfNone result (slot.new ≡ slot.old) }
     {
-        write_shortened(slot, end, self.units_at(sample)?, self.places)
+        let units = self.units_at(sample)?;
+        write_shortened(slot, end, units, self.places)
     }
 }

@@ -3,12 +3,12 @@ use Rattle.std.proofs.lemmas.Int.{to_z-of_z}
 use Rattle.comtrade_format.specs.Values.{number_of, WritesValue}
 use Rattle.comtrade_format.proofs.values.aligned.AlignedScale.write_value.Goals as goal
 
-pub returns : goal.returns
-returns c =
+pub returns-clause-value : goal.returns-clause-value
+returns-clause-value c =
     let self = c.args.self in
-    let fits : FitsSigned w64 c.in_ok-units_at.field-0 = search rules in
-    let units : to_z w64 (of_z w64 c.in_ok-units_at.field-0) ≡ self.a *ℤ c.args.sample +ℤ self.b =
-    to_z-of_z w64 _ fits ∙ c.in_ok-units_at.ensures ∙ ap (λ (x : ℤ). self.a *ℤ x +ℤ self.b) (to_z-of_z w32 c.args.sample c.ranges.sample) in
+    let fits : FitsSigned w64 c.in_ok-units.units = search rules in
+    let units : to_z w64 (of_z w64 c.in_ok-units.units) ≡ self.a *ℤ c.args.sample +ℤ self.b =
+    to_z-of_z w64 _ fits ∙ c.in_ok-units.ensures.value ∙ ap (λ (x : ℤ). self.a *ℤ x +ℤ self.b) (to_z-of_z w32 c.args.sample c.ranges.sample) in
     subst
     (λ (z : ℤ). IfSome c.write_shortened.result (λ (start : ℕ). WritesValue c.args.slot.now c.write_shortened.new.slot start c.args.end (number_of z self.places)))
-    units c.write_shortened.ensures
+    units c.write_shortened.ensures.value
