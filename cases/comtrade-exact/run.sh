@@ -1,5 +1,5 @@
-# values of random channels against exact decimals of another language: 300 of many digits, 100 of few, and the borders of 64 bits and of
-# 18 places; skipped where that isn't there
+# values of random channels against exact decimals of another language: 300 of many digits, 100 of few, and the borders of 64 bits, of 16
+# places and of 8 digits before the point; skipped where that isn't there
 command -v python3 > /dev/null || { printf '%s\n' 'many same' 'few same' 'borders same'; exit 0; }
 folder=$(mktemp -d)
 trap 'rm -r "$folder"' EXIT
@@ -40,7 +40,10 @@ few = [(number(8, 7), random.choice([Decimal(0), number(8, 7)])) for _ in range(
 pair("few", few, rows(40, few, 99999))
 top = 2 ** 63 - 1
 borders = [(top, 0), (top, 1), (1, top), (1, top - 99998), (1, -top - 1), (1, -top), (-1, -top - 1), (top, -top - 1), (0, -top - 1), (10, top),
-           (Decimal(top).scaleb(-18), 0), (Decimal(1).scaleb(-18), 0), (Decimal(1).scaleb(-18), 1), (Decimal(1).scaleb(-19), 0), (1000, Decimal(5).scaleb(-18))]
+           (Decimal(top).scaleb(-18), 0), (Decimal(1).scaleb(-18), 0), (Decimal(1).scaleb(-18), 1), (Decimal(1).scaleb(-19), 0), (1000, Decimal(5).scaleb(-18)),
+           (Decimal(1).scaleb(-16), 0), (Decimal(1).scaleb(-17), 0), (Decimal(7).scaleb(-16), 99999999), (Decimal(1).scaleb(-8), 99999999),
+           (0, 99999999), (1, 99999999), (0, 100000000), (-1, -99999999), (Decimal(1).scaleb(-4), Decimal(99999999)), (Decimal("0.00390625"), 0),
+           (Decimal("0.0000152587890625"), Decimal("12.5")), (Decimal(10) ** -12, 0), (Decimal(10) ** -4, 0), (Decimal(10) ** -5, 1)]
 for k, (a, b) in enumerate(borders):
     pair(f"border{k}", [(Decimal(a), Decimal(b))], [[x] for x in (0, 1, -1, 2, -2, 10, 1000, -10, 99998, -99999, 99999)])
 PYTHON
@@ -49,7 +52,7 @@ is_same() { # is_same NAME: whether the values of this pair are those that are w
 }
 is_same many && echo many same
 is_same few && echo few same
-for k in 0 1 2 3 4 5 6 7 8 9 10 11 12 13 14; do
+for k in $(seq 0 28); do
     is_same border$k || exit 1
 done
 echo borders same

@@ -13,4 +13,6 @@ pub mod Writable
 pub mod FloatText
 pub mod Scaled
 pub mod PackedGroups
+pub mod ValuePlaces
 pub mod PointedValues
+pub mod ValueParts

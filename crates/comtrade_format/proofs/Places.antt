@@ -71,25 +71,25 @@ pub length_zeros : (k : ℕ) → length (repeat {A = ℕ} k (48 ∷ [])) ≡ k
 length_zeros zero = refl
 length_zeros (suc k) = ap suc (length_zeros k)
 
--- the digits of n, where x has the five digits of n with zeros in front, of which z are moved out
-pub digits_left : (x n z : ℕ) → z + length (decimal n) ≡ 5 → bytes_low_first 0 5 x ≡ padded 5 n
-    → take (5 - z) (bytes_low_first 0 8 (x / 2 ^ (8 * z))) ≡ decimal n
+-- the digits of n, where x has so many digits of n with zeros in front, of which z are moved out
+pub digits_left : (digits x n z : ℕ) → digits ≤ 8 → z + length (decimal n) ≡ digits → bytes_low_first 0 digits x ≡ padded digits n
+    → take (digits - z) (bytes_low_first 0 8 (x / 2 ^ (8 * z))) ≡ decimal n
 unfolding padded filled
-digits_left x n z e five =
+digits_left digits x n z most e is =
     let k : ℕ = length (decimal n) in
-    let count : 5 - z ≡ k = omega arith in
-    let front : 5 - k ≡ z = omega arith in
-    let whole : z + k ≡ 5 = e in
+    let count : digits - z ≡ k = omega arith in
+    let front : digits - k ≡ z = omega arith in
+    let whole : z + k ≡ digits = e in
     let start : z + 0 ≡ z = omega arith in
-    let zs : List ℕ = repeat (5 - k) (48 ∷ []) in
-    let lz : length zs ≡ z = length_zeros (5 - k) ∙ front in
+    let zs : List ℕ = repeat (digits - k) (48 ∷ []) in
+    let lz : length zs ≡ z = length_zeros (digits - k) ∙ front in
     ap (λ (m : ℕ). take m (bytes_low_first 0 8 (x / 2 ^ (8 * z)))) count
     ∙ take-bytes_low_first 0 8 k (x / 2 ^ (8 * z)) (omega arith)
     ∙ ap (λ (p : ℕ). bytes_low_first 0 k (x / p)) (bits_of_bytes z)
     ∙ bytes_above k 0 z x
     ∙ sym (drop_bytes z 0 k x)
     ∙ ap (λ (m : ℕ). drop z (bytes_low_first 0 m x)) whole
-    ∙ ap (drop z) five
+    ∙ ap (drop z) is
     ∙ ap (λ (m : ℕ). drop m (zs ++ decimal n)) (sym lz)
     ∙ drop-append_seam zs (decimal n)
 

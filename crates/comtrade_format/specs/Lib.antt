@@ -12,3 +12,4 @@ pub mod Floats
 pub mod Times
 pub mod Values
 pub mod Packed
+pub mod Places

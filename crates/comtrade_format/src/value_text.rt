@@ -24,7 +24,7 @@ const PAIRS: [u16; 100] = [
 ];
 
 /// Two digits, the first in the lower byte.
-fn pair_of(n: u64) -> u64
+pub(crate) fn pair_of(n: u64) -> u64
     requires { n < 100 }
     ensures { result ≡ (48 + n / 10) + 256 * (48 + n % 10) }
 {

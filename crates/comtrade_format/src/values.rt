@@ -7,6 +7,7 @@ mod clock;
 mod cycle;
 mod exact;
 mod nearest;
+mod places;
 mod scale;
 
 pub use aligned::{AlignedScale, LONGEST_VALUE, aligned_scale_of, write_shortened};

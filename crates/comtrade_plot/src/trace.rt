@@ -4,7 +4,7 @@ use crate::layout::Chart;
 use crate::plan::Panel;
 use crate::rows::reading_at;
 use crate::sheet::Sheet;
-use comtrade_format::Scale;
+use comtrade_format::{Row, Scale};
 use dfr_channels::Reading;
 use std::alloc::Allocator;
 
@@ -67,16 +67,19 @@ impl Stroke {
     }
 }
 
-/// Where a reading stands, if its row is drawn and it isn't missing.
-fn point_of(
+/// Where a row's reading of a channel stands, if the row is drawn and the reading isn't missing. Of other rows nothing is looked at: they are far
+/// apart in memory.
+fn point_of<A: Allocator>(
     panel: Panel,
     scale: Scale,
     place: Option<u32>,
-    reading: Reading,
+    row: &Row<A>,
+    at: usize,
 ) -> Option<(u32, u32)> {
-    match (place, reading) {
-        (Some(x), Reading::Value(sample)) => Some((x, panel.level(scale.value(sample)))),
-        _ => None,
+    let x = place?;
+    match reading_at(row, at) {
+        Reading::Value(sample) => Some((x, panel.level(scale.value(sample)))),
+        Reading::Missing => None,
     }
 }
 
@@ -124,7 +127,7 @@ pub(crate) fn put_channel<A: Allocator>(
     sheet.texts(&["\"", chart.layer.dashes(), " d=\""]);
     let mut stroke = None;
     for (row, place) in rows.iter().zip(chart.places.iter()) {
-        let point = point_of(panel, *scale, *place, reading_at(row, at));
+        let point = point_of(panel, *scale, *place, row, at);
         stroke = moved(sheet, stroke, point);
     }
     moved(sheet, stroke, None);
@@ -133,7 +136,7 @@ pub(crate) fn put_channel<A: Allocator>(
         sheet.texts(&["<path class=\"", hue.class(), "\" stroke=\"", hue.colour()]);
         sheet.text("\" stroke-width=\"5\" d=\"");
         for (row, place) in rows.iter().zip(chart.places.iter()) {
-            if let Some((x, y)) = point_of(panel, *scale, *place, reading_at(row, at)) {
+            if let Some((x, y)) = point_of(panel, *scale, *place, row, at) {
                 sheet.point("M", x, y);
                 sheet.text("h0");
             }

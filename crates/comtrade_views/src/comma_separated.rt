@@ -1,7 +1,7 @@
 //! A pair of files as comma-separated values, with the line ends and quotation marks of RFC 4180.
 
 use crate::column_names::write_names;
-use crate::instant::put_instant;
+use crate::instant::InstantText;
 use crate::number::{Scale, put_sample, put_shortened, scale_of};
 use crate::spelling::Spelling;
 use crate::value_cells::{ValueCells, set_decimal_sign, value_cells_of};
@@ -11,10 +11,12 @@ use dfr_channels::{AnalogChannel, Reading};
 use std::alloc::{AllocError, Allocator};
 use std::io::Write;
 
-/// The lines that aren't written yet, a cell whose number is spelled otherwise, and the cells of a row's values and bits.
+/// The lines that aren't written yet, the instant of the last row, a cell whose number is spelled otherwise, and the cells of a row's values and
+/// bits.
 #[derive(Drop)]
 struct Lines<A: Allocator> {
     text: Vec<u8, A>,
+    instant: InstantText,
     cell: Vec<u8, A>,
     values: ValueCells<A>,
     bits: Vec<u8, A>,
@@ -35,25 +37,22 @@ impl<A: Allocator> Lines<A> {
         Ok(self.text.push(self.spelling.separator)?)
     }
 
-    /// Ends a cell, with the sign that is asked for before the places of its number.
+    /// Ends the cell of a number, with the sign that is asked for before its places.
     fn end_number(&mut self) -> Result<(), AllocError> {
         set_decimal_sign(&mut self.cell, self.spelling.decimal);
-        self.end_cell()
-    }
-
-    fn end_cell(&mut self) -> Result<(), AllocError> {
         self.text.extend_from_slice(&self.cell)?;
         self.cell.clear();
         Ok(())
     }
 
-    /// Ends a cell, in quotation marks where the separator stands in it.
-    fn end_quoted(&mut self) -> Result<(), AllocError> {
-        if !self.cell.contains(&self.spelling.separator) {
-            return self.end_cell();
+    /// The cell of an instant in microseconds, in quotation marks where the separator stands in it.
+    fn put_instant(&mut self, micros: i128) -> Result<(), AllocError> {
+        let text = self.instant.of(micros);
+        if !text.contains(&self.spelling.separator) {
+            return self.text.extend_from_slice(text);
         }
         put(&mut self.text, "\"")?;
-        self.end_cell()?;
+        self.text.extend_from_slice(text)?;
         put(&mut self.text, "\"")
     }
 
@@ -64,8 +63,7 @@ impl<A: Allocator> Lines<A> {
             return self.separate();
         };
         let micros = since.div_euclid(1000) + (500 <= since.rem_euclid(1000)) as i64;
-        put_instant(&mut self.cell, trigger as i128 + micros as i128)?;
-        self.end_quoted()?;
+        self.put_instant(trigger as i128 + micros as i128)?;
         self.separate()?;
         put_shortened(&mut self.cell, since, 6)?;
         self.end_number()
@@ -152,6 +150,7 @@ pub fn csv_over<A: Allocator + Copy, W: Write>(
     write_names(alloc, &file.head, spelling.separator, w)?;
     let mut lines = Lines {
         text: Vec::new(alloc),
+        instant: InstantText::new(),
         cell: Vec::new(alloc),
         values: value_cells_of(alloc, file.head.analog.items(), spelling)?,
         bits: bit_cells(alloc, file.head.status.items().len(), spelling.separator)?,

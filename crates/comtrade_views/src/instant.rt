@@ -1,6 +1,5 @@
 //! Instants as dates, and spans of time.
 
-use comtrade_io::put;
 use itoa::Buffer;
 use jiff_core::civil::Date;
 use std::alloc::{AllocError, Allocator};
@@ -24,12 +23,11 @@ fn set_between(text: &mut [u8], from: usize, to: usize, n: u64) {
     }
 }
 
+/// How long the text of a date with a time of day is.
+const LENGTH: usize = 26;
+
 /// A date, and a time of that day in microseconds.
-fn put_civil<A: Allocator>(
-    out: &mut Vec<u8, A>,
-    date: Date,
-    micros: u64,
-) -> Result<(), AllocError> {
+fn civil_text(date: Date, micros: u64) -> [u8; LENGTH] {
     let mut text = *b"0000-00-00 00:00:00.000000";
     set_between(&mut text, 0, 4, date.year.unsigned_abs() as u64);
     set_between(&mut text, 5, 7, date.month as u64);
@@ -38,29 +36,67 @@ fn put_civil<A: Allocator>(
     set_between(&mut text, 14, 16, micros / 60_000_000 % 60);
     set_between(&mut text, 17, 19, micros / 1_000_000 % 60);
     set_between(&mut text, 20, 26, micros % 1_000_000);
-    out.extend_from_slice(&text)
+    text
 }
 
-/// Microseconds since 1970-01-01 00:00:00 as `yyyy-mm-dd hh:mm:ss.ssssss`; an instant outside the years 1 to 9999 has a text.
+/// The date and time of microseconds since 1970-01-01 00:00:00; None outside the years 1 to 9999.
+fn text_of(micros: i64) -> Option<[u8; LENGTH]> {
+    let date = Date::from_unix_epoch_day(micros.div_euclid(DAY)).ok()?;
+    if date.year < 1 {
+        return None;
+    }
+    Some(civil_text(date, micros.rem_euclid(DAY).unsigned_abs()))
+}
+
+/// The text of the instant before, by the second in which it is: another one of this second differs in its last digits alone.
+#[derive(Clone, Copy)]
+pub(crate) struct InstantText {
+    second: Option<i64>,
+    text: [u8; LENGTH],
+}
+
+impl InstantText {
+    pub(crate) fn new() -> InstantText {
+        InstantText {
+            second: None,
+            text: [b'0'; LENGTH],
+        }
+    }
+
+    /// The text of microseconds since 1970-01-01 00:00:00; None outside the years 1 to 9999.
+    fn near(&mut self, micros: i64) -> Option<&[u8]> {
+        let second = micros.div_euclid(1_000_000);
+        if self.second == Some(second) {
+            let rest = micros.rem_euclid(1_000_000).unsigned_abs();
+            set_between(&mut self.text, 20, 26, rest);
+        } else {
+            self.text = text_of(micros)?;
+            self.second = Some(second);
+        }
+        Some(&self.text)
+    }
+
+    /// Microseconds since 1970-01-01 00:00:00 as `yyyy-mm-dd hh:mm:ss.ssssss`; an instant outside the years 1 to 9999 has a text.
+    pub(crate) fn of(&mut self, instant: i128) -> &[u8] {
+        if let Ok(micros) = i64::try_from(instant) {
+            if let Some(text) = self.near(micros) {
+                return text;
+            }
+        }
+        if instant < 0 {
+            b"before the year 1".as_slice()
+        } else {
+            b"after the year 9999".as_slice()
+        }
+    }
+}
+
+/// The text of an instant by itself.
 pub(crate) fn put_instant<A: Allocator>(
     out: &mut Vec<u8, A>,
     instant: i128,
 ) -> Result<(), AllocError> {
-    if let Ok(near) = i64::try_from(instant) {
-        if let Ok(date) = Date::from_unix_epoch_day(near.div_euclid(DAY)) {
-            if 1 <= date.year {
-                return put_civil(out, date, near.rem_euclid(DAY).unsigned_abs());
-            }
-        }
-    }
-    put(
-        out,
-        if instant < 0 {
-            "before the year 1"
-        } else {
-            "after the year 9999"
-        },
-    )
+    out.extend_from_slice(InstantText::new().of(instant))
 }
 
 /// Nanoseconds as milliseconds with three places.

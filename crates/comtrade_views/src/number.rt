@@ -135,8 +135,8 @@ pub(crate) fn put_shortened<A: Allocator>(
     places: u8,
 ) -> Result<(), AllocError> {
     let mut slot = [0u8; LONGEST_VALUE];
-    match write_shortened(&mut slot, LONGEST_VALUE, units, places) {
-        Some(start) => out.extend_from_slice(slot.get(start..).unwrap_or(&[])),
+    match write_shortened(&mut slot, 0, units, places) {
+        Some(end) => out.extend_from_slice(slot.get(..end).unwrap_or(&[])),
         None => put_value(
             out,
             Number {

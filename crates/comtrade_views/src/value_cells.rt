@@ -1,4 +1,4 @@
-//! The values of a row as cells, written from the last one back.
+//! The values of a row as cells.
 
 use crate::spelling::Spelling;
 use comtrade_format::{AlignedScale, LONGEST_VALUE, aligned_scale_of};
@@ -41,25 +41,25 @@ pub(crate) fn set_decimal_sign(cell: &mut [u8], sign: u8) {
     }
 }
 
-/// Writes a separator and a value, nothing for a missing one, so that they end at `end`, and answers where they begin; None where the
-/// value has many digits.
+/// Writes a separator and a value, nothing for a missing one, from the place on, and answers the place after them; None where the value has
+/// many digits.
 fn write_cell(
     cells: &mut [u8],
-    end: usize,
+    at: usize,
     scale: Option<AlignedScale>,
     reading: Reading,
     spelling: Spelling,
 ) -> Option<usize> {
-    let start = match reading {
-        Reading::Value(sample) => scale?.write_value(cells, end, sample)?,
-        Reading::Missing => end,
+    *cells.get_mut(at)? = spelling.separator;
+    let start = at + 1;
+    let Reading::Value(sample) = reading else {
+        return Some(start);
     };
+    let end = scale?.write_value(cells, start, sample)?;
     if spelling.decimal != b'.' {
         set_decimal_sign(cells.get_mut(start..end)?, spelling.decimal);
     }
-    let before = start.checked_sub(1)?;
-    *cells.get_mut(before)? = spelling.separator;
-    Some(before)
+    Some(end)
 }
 
 impl<A: Allocator> ValueCells<A> {
@@ -68,10 +68,10 @@ impl<A: Allocator> ValueCells<A> {
         if self.scales.len() != readings.len() {
             return None;
         }
-        let mut start = self.cells.len();
-        for (scale, reading) in self.scales.iter().rev().zip(readings.iter().rev()) {
-            start = write_cell(&mut self.cells, start, *scale, *reading, self.spelling)?;
+        let mut end = 0;
+        for (scale, reading) in self.scales.iter().zip(readings.iter()) {
+            end = write_cell(&mut self.cells, end, *scale, *reading, self.spelling)?;
         }
-        self.cells.get(start..)
+        self.cells.get(..end)
     }
 }

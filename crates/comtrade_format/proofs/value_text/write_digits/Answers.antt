@@ -13,4 +13,4 @@ returns-clause-text c =
     let bs = bytes_low_first 0 8 (c.five_digits.result / 2 ^ (8 * z)) in
     rw (c.write_u64.ensures)
     (stored slot bs (drop 8 (mid_of at room slot)) (post_of at room slot) at (5 - z) (omega arith) (omega arith)
-    ∙ ap (λ (r : List ℕ). take at slot ++ r) (digits_left c.five_digits.result c.args.n z c.zeros_before-zeros.ensures c.five_digits.ensures))
+    ∙ ap (λ (r : List ℕ). take at slot ++ r) (digits_left 5 c.five_digits.result c.args.n z (omega arith) c.zeros_before-zeros.ensures c.five_digits.ensures))

@@ -10,5 +10,5 @@ returns-clause-value c =
     let units : to_z w64 (of_z w64 c.in_ok-units.units) ≡ self.a *ℤ c.args.sample +ℤ self.b =
     to_z-of_z w64 _ fits ∙ c.in_ok-units.ensures.value ∙ ap (λ (x : ℤ). self.a *ℤ x +ℤ self.b) (to_z-of_z w32 c.args.sample c.ranges.sample) in
     subst
-    (λ (z : ℤ). IfSome c.write_shortened.result (λ (start : ℕ). WritesValue c.args.slot.now c.write_shortened.new.slot start c.args.end (number_of z self.places)))
+    (λ (z : ℤ). IfSome c.write_shortened.result (λ (end : ℕ). WritesValue c.args.slot.now c.write_shortened.new.slot c.args.at end (number_of z self.places)))
     units c.write_shortened.ensures.value
