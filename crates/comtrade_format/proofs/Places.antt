@@ -9,6 +9,7 @@ use Rattle.std.specs.Int.{byte_at, bytes_low_first}
 use Rattle.std.specs.List.{flat_map, repeat}
 use Rattle.std.specs.Fmt.{decimal}
 use Rattle.byteorder.proofs.Bytes.{take-bytes_low_first}
+use borrow.Rule.Slice.PartMut.{mid_of, post_of, put_mid}
 use Rattle.byteorder.proofs.Slices.{write_step}
 use Rattle.dfr_channels.specs.Written.{filled, padded}
 use Rattle.comtrade_format.specs.Lines.{bit_text}
@@ -92,6 +93,17 @@ digits_left digits x n z most e is =
     ∙ ap (drop z) is
     ∙ ap (λ (m : ℕ). drop m (zs ++ decimal n)) (sym lz)
     ∙ drop-append_seam zs (decimal n)
+
+-- these digits, where x was written at a place in a slot
+pub digits_stored : (digits : ℕ) (slot buf : List ℕ) (at x n z : ℕ) → digits ≤ 8 → at + 8 ≤ length slot → z + length (decimal n) ≡ digits → bytes_low_first 0 digits x ≡ padded digits n
+    → buf ≡ bytes_low_first 0 8 (x / 2 ^ (8 * z)) ++ drop 8 (mid_of at (length slot - at) slot)
+    → take (at + (digits - z)) (put_mid at (length slot - at) slot buf) ≡ take at slot ++ decimal n
+digits_stored digits slot buf at x n z most room e is eb =
+    let bs = bytes_low_first 0 8 (x / 2 ^ (8 * z)) in
+    let left = length slot - at in
+    rw eb
+    (stored slot bs (drop 8 (mid_of at left slot)) (post_of at left slot) at (digits - z) (omega arith) (omega arith)
+    ∙ ap (λ (r : List ℕ). take at slot ++ r) (digits_left digits x n z most e is))
 
 -- five bytes of which each is below 256
 five_bytes : (a b c d e x : ℕ) → a < 256 → b < 256 → c < 256 → d < 256 → e < 256 → x ≡ a + 256 * (b + 256 * c) + 16_777_216 * (d + 256 * e)

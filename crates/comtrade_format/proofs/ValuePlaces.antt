@@ -1,12 +1,15 @@
 -- Digits before and after a point, and which of them are shown.
-use Rattle.std.proofs.Common.{◌≡◌, ◌≢◌, ℕ, zero, suc, ◌+◌, ◌-◌, ◌*◌, ◌/◌, ◌%◌, ◌^◌, ◌<◌, ◌≤◌, List, [], ◌∷◌, ◌++◌, length, take, set, refl, sym, ap, ◌∙◌, subst, arith, append_assoc}
+use Rattle.std.proofs.Common.{◌≡◌, ◌≢◌, ℕ, zero, suc, ◌+◌, ◌-◌, ◌*◌, ◌/◌, ◌%◌, ◌^◌, ◌<◌, ◌≤◌, List, [], ◌∷◌, ◌++◌, length, take, drop, set, refl, sym, ap, ◌∙◌, subst, arith, append_assoc}
 use Rattle.std.proofs.Math.Nat.{pow-suc, one-le-pow, div-div-eq-div-mul, mul-div-mul_right, mul-mod_left, mul_assoc, mul-add-mod_self_right, mul-add-div_right, mod-eq_of_lt}
 use Rattle.std.proofs.Math.Seq.{take-append-add}
-use Rattle.std.proofs.lemmas.List.{length-take-le, take-append-le, take-take, take_all, take_more_set}
+use Rattle.std.proofs.lemmas.List.{length-set, length-take-le, take-append-le, take-take, take_all, take_more_set}
 use Rattle.std.proofs.lemmas.Nat.{div-add-mod', pow-add}
 use Rattle.std.specs.Int.{bytes_low_first}
+use Rattle.byteorder.proofs.Bytes.{take-bytes_low_first}
+use borrow.Rule.Slice.PartMut.{mid_of, post_of, put_mid}
 use Rattle.dfr_channels.specs.Written.{padded}
 use Rattle.comtrade_format.specs.Places.{IsShown, WritesPlaces, places_text}
+use Rattle.comtrade_format.proofs.Places.{stored}
 use Rattle.comtrade_format.proofs.Digits.{padded_two, padded_pair, padded_four, padded_more}
 use Rattle.comtrade_format.proofs.PointedValues.{length_padded}
 
@@ -173,7 +176,7 @@ shown_low above digits n high (suc k) s some =
 -- ---- what is written
 
 -- a point in its place
-pub point_at : (at : ℕ) (slot : List ℕ) → at < length slot → take (at + 1) (set slot at 46) ≡ take at slot ++ 46 ∷ []
+point_at : (at : ℕ) (slot : List ℕ) → at < length slot → take (at + 1) (set slot at 46) ≡ take at slot ++ 46 ∷ []
 point_at at slot h = take_more_set slot at 46 h
 
 cut_at : (at n m : ℕ) (old new tail : List ℕ) → at ≤ length old → n ≤ m → take (at + m) new ≡ take at old ++ tail → take (at + n) new ≡ take at old ++ take n tail
@@ -203,10 +206,25 @@ written digits n (suc k) at end old new room few fits s e none some =
     }
 
 -- after the point: the digits that follow it
-pub after_point : (at n : ℕ) (old mid new digits : List ℕ) → take (at + 1) mid ≡ take at old ++ 46 ∷ [] → take (at + 1 + n) new ≡ take (at + 1) mid ++ digits → take (at + suc n) new ≡ take at old ++ 46 ∷ digits
+after_point : (at n : ℕ) (old mid new digits : List ℕ) → take (at + 1) mid ≡ take at old ++ 46 ∷ [] → take (at + 1 + n) new ≡ take (at + 1) mid ++ digits → take (at + suc n) new ≡ take at old ++ 46 ∷ digits
 after_point at n old mid new digits point e =
     let place : at + suc n ≡ at + 1 + n = omega arith in
     ap (λ (m : ℕ). take m new) place ∙ e ∙ ap (λ (front : List ℕ). front ++ digits) point ∙ append_assoc (take at old) (46 ∷ []) digits
+
+-- a point, and then x, which has the digits of n first
+pub point_stored : (digits : ℕ) (slot buf : List ℕ) (at x n : ℕ) → digits ≤ 8 → at + 9 ≤ length slot → bytes_low_first 0 digits x ≡ padded digits n
+    → buf ≡ bytes_low_first 0 8 x ++ drop 8 (mid_of (at + 1) (length (set slot at 46) - (at + 1)) (set slot at 46))
+    → take (at + suc digits) (put_mid (at + 1) (length (set slot at 46) - (at + 1)) (set slot at 46) buf) ≡ take at slot ++ 46 ∷ padded digits n
+point_stored digits slot buf at x n most room is eb =
+    let dotted : List ℕ = set slot at 46 in
+    let left = length dotted - (at + 1) in
+    let bs = bytes_low_first 0 8 x in
+    let len : length dotted ≡ length slot = length-set slot at 46 in
+    let after : take (at + 1 + digits) (put_mid (at + 1) left dotted buf) ≡ take (at + 1) dotted ++ padded digits n =
+    rw eb
+    (stored dotted bs (drop 8 (mid_of (at + 1) left dotted)) (post_of (at + 1) left dotted) (at + 1) digits (omega (arith, len)) (omega (arith, most))
+    ∙ ap (λ (r : List ℕ). take (at + 1) dotted ++ r) (take-bytes_low_first 0 8 digits x most ∙ is)) in
+    after_point at digits slot dotted _ _ (point_at at slot (omega arith)) after
 
 -- eight digits more
 pub after_eight : (at h l : ℕ) (old mid new : List ℕ) → h < 100_000_000 → l < 100_000_000 → take (at + 9) mid ≡ take at old ++ 46 ∷ padded 8 h → take (at + 9 + 8) new ≡ take (at + 9) mid ++ padded 8 l
