@@ -191,7 +191,7 @@ pub written : (digits n count at end : ℕ) (old new : List ℕ) → at ≤ leng
     → take (at + suc digits) new ≡ take at old ++ 46 ∷ padded digits n → (count ≡ 0 → end ≡ at) → (count ≢ 0 → end ≡ at + suc count) → WritesPlaces old new at end digits n
 written digits n zero at end old new room few fits s e none some =
     let here : end ≡ at + 0 = none refl ∙ omega arith in
-    record { count = 0; shown = s; text = ap (λ (m : ℕ). take m new) here ∙ cut_at at 0 (suc digits) old new (46 ∷ padded digits n) room (omega arith) e }
+    record { count = 0; shown = s; longest = omega (arith, here); text = ap (λ (m : ℕ). take m new) here ∙ cut_at at 0 (suc digits) old new (46 ∷ padded digits n) room (omega arith) e }
 written digits n (suc k) at end old new room few fits s e none some =
     let j : ℕ = digits - suc k in
     let whole : j + suc k ≡ digits = omega (arith, s.within) in
@@ -202,6 +202,7 @@ written digits n (suc k) at end old new room few fits s e none some =
     record {
       count = suc k;
       shown = s;
+      longest = omega (arith, s.within, some (λ h. omega (arith, h)));
       text = ap (λ (m : ℕ). take m new) (some (λ h. omega (arith, h))) ∙ cut ∙ ap (λ (r : List ℕ). take at old ++ 46 ∷ r) first;
     }
 
@@ -240,14 +241,12 @@ after_eight at h l old mid new fh fl first e =
 pub shown_last : (high low count : ℕ) → low < 100_000_000 → 0 < low → IsShown 8 low count → IsShown 16 (high * 100_000_000 + low) (8 + count)
 shown_last high low count few some s = shown_low 8 8 low high count s (shown_some 8 low count s few some)
 
-pub some_last : (low count : ℕ) → low < 100_000_000 → 0 < low → IsShown 8 low count → count ≢ 0
-some_last low count few some s = shown_some 8 low count s few some
-
 -- zeros after the digits
 pub widened : (digits more n m at end : ℕ) (old new : List ℕ) → n * 10 ^ more ≡ m → WritesPlaces old new at end digits n → WritesPlaces old new at end (digits + more) m
 widened digits more n m at end old new e w = record {
   count = w.count;
   shown = subst (λ (x : ℕ). IsShown (digits + more) x w.count) e (shown_high digits more n w.count w.shown);
+  longest = omega (arith, w.longest);
   text = w.text ∙ ap (λ (x : ℕ). take at old ++ places_text w.count x) (sym (same_quotient digits more n w.count w.shown.within) ∙ ap (λ (x : ℕ). x / 10 ^ (digits + more - w.count)) e);
 }
 

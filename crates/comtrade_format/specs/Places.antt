@@ -1,5 +1,5 @@
 -- The places of a value that are shown: those up to the last that isn't 0.
-use Rattle.std.specs.Prelude.{◌≡◌, ◌≢◌, List, [], ◌∷◌, ◌++◌, ℕ, zero, suc, ◌-◌, ◌/◌, ◌%◌, ◌^◌, ◌≤◌, take}
+use Rattle.std.specs.Prelude.{◌≡◌, ◌≢◌, List, [], ◌∷◌, ◌++◌, ℕ, zero, suc, ◌+◌, ◌-◌, ◌/◌, ◌%◌, ◌^◌, ◌≤◌, take}
 use Rattle.dfr_channels.specs.Written.{padded}
 
 -- of so many digits of n, zeros in front among them, the first k are those up to the last that isn't 0
@@ -17,4 +17,5 @@ places_text (suc k) n = 46 ∷ padded (suc k) n
 pub record WritesPlaces (old new : List ℕ) (at end digits n : ℕ) : Type 0 where
   pub count : ℕ
   pub shown : IsShown digits n count
+  pub longest : end ≤ at + (digits + 1)
   pub text : take end new ≡ take at old ++ places_text count (n / 10 ^ (digits - count))

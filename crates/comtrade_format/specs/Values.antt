@@ -90,4 +90,5 @@ CanWriteSample slot at scale x = HasUnits scale x × CanWrite slot at (aligned_v
 pub record WritesValue (old new : List ℕ) (at end : ℕ) (n : Number) : Type 0 where
   pub shown : Number
   pub trimmed : IsTrimmed n shown
+  pub within : end ≤ length new
   pub text : take end new ≡ take at old ++ decimal_text shown

@@ -31,6 +31,7 @@ returns-clause-value c =
     record {
       shown = number_of (signed z (before * 10 ^ k + m)) k;
       trimmed = trimmed_value z p k (before * 10 ^ k + m) le whole (shown_last_digit before after k w.shown);
+      within = omega (arith, w.longest, c.write_front-point.ensures.longest, c.write_minus-start.ensures.longest);
       text =
           three_parts (take c.args.at slot) (minus z) (decimal before) (places_text k m) _ _ _ sign c.write_front-point.ensures.text w.text
           ∙ ap (λ (text : List ℕ). take c.args.at slot ++ text) (value_text z k before m (10 ^ (p - k)) few small whole);
