@@ -1,10 +1,11 @@
 # values of random channels against exact decimals of another language: 300 of many digits, 100 of few, and the borders of 64 bits, of 16
-# places and of 8 digits before the point; skipped where that isn't there
-command -v python3 > /dev/null || { printf '%s\n' 'many same' 'few same' 'borders same'; exit 0; }
+# places and of 8 digits before the point; instants that pass seconds, a day and a year, forward and back; skipped where that isn't there
+command -v python3 > /dev/null || { printf '%s\n' 'many same' 'few same' 'borders same' 'instants same'; exit 0; }
 folder=$(mktemp -d)
 trap 'rm -r "$folder"' EXIT
 python3 - "$folder" <<'PYTHON'
 import random, sys
+from datetime import datetime, timedelta
 from decimal import Decimal, getcontext
 getcontext().prec = 400
 random.seed(30)
@@ -46,6 +47,14 @@ borders = [(top, 0), (top, 1), (1, top), (1, top - 99998), (1, -top - 1), (1, -t
            (Decimal("0.0000152587890625"), Decimal("12.5")), (Decimal(10) ** -12, 0), (Decimal(10) ** -4, 0), (Decimal(10) ** -5, 1)]
 for k, (a, b) in enumerate(borders):
     pair(f"border{k}", [(Decimal(a), Decimal(b))], [[x] for x in (0, 1, -1, 2, -2, 10, 1000, -10, 99998, -99999, 99999)])
+steps = [0, 400000, 1500000, 1500001, 2499999, 999999, 400000, 86400000, 1000000, 1000000]
+with open(f"{folder}/instants.cfg", "w", newline="") as cfg:
+    cfg.write("s,d,1999\r\n1,1A,0D\r\n1,C,,,V,1,0,0,-99999,99998,1,1,P\r\n50\r\n0\r\n0,10\r\n31/12/1999,23:59:58.500000\r\n"
+              "31/12/1999,23:59:58.500000\r\nASCII\r\n1\r\n")
+with open(f"{folder}/instants.dat", "w", newline="") as dat, open(f"{folder}/instants.wanted", "w") as wanted:
+    for n, step in enumerate(steps, 1):
+        dat.write(f"{n},{step},0\r\n")
+        wanted.write(f"{datetime(1999, 12, 31, 23, 59, 58, 500000) + timedelta(microseconds=step):%Y-%m-%d %H:%M:%S.%f}\n")
 PYTHON
 is_same() { # is_same NAME: whether the values of this pair are those that are wanted
     "$comtrade" csv "$folder/$1" | tail -n +2 | tr -d '\r' | cut -d, -f4- | cmp - "$folder/$1.wanted"
@@ -56,3 +65,4 @@ for k in $(seq 0 28); do
     is_same border$k || exit 1
 done
 echo borders same
+"$comtrade" csv "$folder/instants" | tail -n +2 | cut -d, -f2 | cmp - "$folder/instants.wanted" && echo instants same
