@@ -162,6 +162,46 @@ fn file_of(
     Ok(File { head, rows })
 }
 
+/// Writes the two texts of a file in front of the buffers, where they have room.
+fn write_file(
+    alloc: Global,
+    file: &File,
+    new_cfg: &mut [u8],
+    new_dat: &mut [u8],
+    sizes: &mut Sizes,
+    fault: &mut Fault,
+) -> i32
+    ensures answer { (result ≡ DONE) ⊎ (result ≡ WRITE_FAULT) ⊎ (result ≡ NO_ROOM)
+        ⊎ (result ≡ NO_MEMORY) }
+    ensures done { result ≡ DONE →
+        IsWritten file.now new_cfg.old new_dat.old sizes.new new_cfg.new new_dat.new }
+    ensures room { result ≡ NO_ROOM → LacksRoom file.now new_cfg.old new_dat.old sizes.new }
+    ensures write_fault { result ≡ WRITE_FAULT → IsRefused file.now fault.new }
+    ensures cfg_kept { (result ≢ DONE) → new_cfg.new ≡ new_cfg.old }
+    ensures dat_kept { (result ≢ DONE) → new_dat.new ≡ new_dat.old }
+    ensures sizes_kept { (result ≢ DONE) → (result ≢ NO_ROOM) → sizes.new ≡ sizes.old }
+    ensures fault_kept { (result ≢ WRITE_FAULT) → fault.new ≡ fault.old }
+{
+    let (cfg_text, dat_text) = match texts_of(alloc, file) {
+        Ok(texts) => texts,
+        Err(WriteFault::Memory) => return NO_MEMORY,
+        Err(why) => {
+            *fault = of_write(why);
+            return WRITE_FAULT;
+        }
+    };
+    *sizes = Sizes {
+        cfg: cfg_text.len(),
+        dat: dat_text.len(),
+    };
+    if new_cfg.len() < cfg_text.len() || new_dat.len() < dat_text.len() {
+        return NO_ROOM;
+    }
+    put_front(new_cfg, &cfg_text);
+    put_front(new_dat, &dat_text);
+    DONE
+}
+
 /// Writes a pair with the head that a configuration file says and these rows: what is written reads to that very file.
 #[unsafe(no_mangle)]
 pub extern "C" fn comtrade_core_write(
@@ -199,22 +239,5 @@ pub extern "C" fn comtrade_core_write(
     let Ok(file) = file_of(alloc, head, binary, stamps, samples, bits) else {
         return NO_MEMORY;
     };
-    let (cfg_text, dat_text) = match texts_of(alloc, &file) {
-        Ok(texts) => texts,
-        Err(WriteFault::Memory) => return NO_MEMORY,
-        Err(why) => {
-            *fault = of_write(why);
-            return WRITE_FAULT;
-        }
-    };
-    *sizes = Sizes {
-        cfg: cfg_text.len(),
-        dat: dat_text.len(),
-    };
-    if new_cfg.len() < cfg_text.len() || new_dat.len() < dat_text.len() {
-        return NO_ROOM;
-    }
-    put_front(new_cfg, &cfg_text);
-    put_front(new_dat, &dat_text);
-    DONE
+    write_file(alloc, &file, new_cfg, new_dat, sizes, fault)
 }
