@@ -30,9 +30,12 @@ fn record(alloc: Global, recorder: &mut Recorder, post: u32) -> Result<Record> {
 
 /// The File of a record of so many scans.
 fn file(alloc: Global, rows: u32, kind: Kind) -> Result<File> {
-    let post = rows.saturating_sub(1);
-    let mut recorder = recorder(alloc, 0, post, 0)?;
-    let record = record(alloc, &mut recorder, post)?;
+    let mut recorder = recorder(alloc, 0, rows.saturating_sub(1), 0)?;
+    file_from(alloc, &mut recorder, rows.saturating_sub(1), kind)
+}
+
+fn file_from(alloc: Global, recorder: &mut Recorder, post: u32, kind: Kind) -> Result<File> {
+    let record = record(alloc, recorder, post)?;
     file_of(alloc, recorder.layout(), &record, kind)
         .ok()
         .context("a record of this layout")
@@ -123,6 +126,27 @@ fn texts(alloc: Global, file: &File) -> Result<(Vec<u8>, Vec<u8>)> {
     }
 }
 
+fn measure_texts<R: Clock + Print + AllocGlobal>(
+    rt: &R,
+    amount: Amount,
+    file: &File,
+    texts: (&[u8], &[u8]),
+    names: (&str, &str),
+) -> Result<()> {
+    measure_writing(rt, amount, file, names.0, texts.1.len() as u64)?;
+    measure_reading(rt, amount, texts, names.1)
+}
+
+fn measure_file<R: Clock + Print + AllocGlobal>(
+    rt: &R,
+    amount: Amount,
+    file: &File,
+    names: (&str, &str),
+) -> Result<()> {
+    let (cfg, dat) = texts(rt.alloc(), file)?;
+    measure_texts(rt, amount, file, (&cfg, &dat), names)
+}
+
 fn measure_kind<R: Clock + Print + AllocGlobal>(
     rt: &R,
     amount: Amount,
@@ -130,9 +154,7 @@ fn measure_kind<R: Clock + Print + AllocGlobal>(
     names: (&str, &str),
 ) -> Result<()> {
     let file = file(rt.alloc(), amount.over(100_000, 20), kind)?;
-    let (cfg, dat) = texts(rt.alloc(), &file)?;
-    measure_writing(rt, amount, &file, names.0, dat.len() as u64)?;
-    measure_reading(rt, amount, (&cfg, &dat), names.1)
+    measure_file(rt, amount, &file, names)
 }
 
 pub fn measure<R: Clock + Print + AllocGlobal>(rt: &R, amount: Amount) -> Result<()> {

@@ -67,6 +67,17 @@ fn scan_all<R: Clock + AllocGlobal>(
     Ok(())
 }
 
+fn measure_in<R: Clock + AllocGlobal>(
+    rt: &R,
+    recorder: &mut Recorder,
+    scans: u32,
+    open: bool,
+    least: &mut Least,
+) -> Result<()> {
+    prepare(rt.alloc(), recorder, open)?;
+    scan_all(rt, recorder, scans, least)
+}
+
 fn measure_once<R: Clock + AllocGlobal>(
     rt: &R,
     scans: u32,
@@ -74,8 +85,7 @@ fn measure_once<R: Clock + AllocGlobal>(
     least: &mut Least,
 ) -> Result<()> {
     let mut recorder = recorder(rt.alloc(), RING - 1, 900_000, state.rules)?;
-    prepare(rt.alloc(), &mut recorder, state.open)?;
-    scan_all(rt, &mut recorder, scans, least)
+    measure_in(rt, &mut recorder, scans, state.open, least)
 }
 
 fn measure_state<R: Clock + Print + AllocGlobal>(
