@@ -6,6 +6,7 @@ use crate::survey::say_repairs;
 use crate::view::{NO_SIZE, options_of};
 use crate::{complain, note_size, say};
 use bumpalo::Bump;
+use comtrade_diagnostics::Pair;
 use comtrade_format::File;
 use comtrade_io::{Compared, Names, Part, ToolFault, put};
 use comtrade_plot::{By, CompareOptions, PlotOptions, Timed, compare_over};
@@ -35,15 +36,14 @@ fn part_beside<'a>(part: Part<'a>) -> Part<'a> {
 }
 
 /// The file of a record that was read; none where it has none, which is said.
-fn file_from<R: Eprint + AllocGlobal, A: Allocator + Copy>(
+fn file_in<R: Eprint + AllocGlobal, A: Allocator + Copy>(
     rt: &R,
     lists: A,
     name: &str,
     part: Part<'_>,
-    inputs: Inputs,
+    pair: Pair<'_>,
 ) -> Result<Option<File<A>>, ToolFault> {
     let mut said = Vec::new(lists);
-    let pair = pair_of(&inputs);
     match file_spelled(lists, pair, part.strict, part.encoding, &mut said)? {
         Some(file) => {
             say_repairs(rt, name, &said)?;
@@ -54,6 +54,17 @@ fn file_from<R: Eprint + AllocGlobal, A: Allocator + Copy>(
             Ok(None)
         }
     }
+}
+
+/// The file of a record that was read, whose bytes are given up.
+fn file_from<R: Eprint + AllocGlobal, A: Allocator + Copy>(
+    rt: &R,
+    lists: A,
+    name: &str,
+    part: Part<'_>,
+    inputs: Inputs,
+) -> Result<Option<File<A>>, ToolFault> {
+    file_in(rt, lists, name, part, pair_of(&inputs))
 }
 
 /// The record of a name; none where it can't be read or has no such part, which is said.
@@ -124,7 +135,36 @@ fn draw<R: Print + Eprint, A: Allocator + Copy>(
     Ok(is_drawn)
 }
 
+/// Reads the second record and draws both; false where that is refused, which is said.
+fn draw_beside<R: Files + Input + Print + Eprint + AllocGlobal + Clone + Drop, A: Allocator + Copy>(
+    rt: &R,
+    lists: A,
+    is_watched: bool,
+    asked: Compared<'_>,
+    one: &Taken<A>,
+    options: CompareOptions,
+) -> Result<bool, ToolFault> {
+    match record_of(rt, lists, is_watched, asked.other, part_beside(asked.part))? {
+        Some(other) => draw(rt, lists, one, &other, options),
+        None => Ok(false),
+    }
+}
+
 /// Reads two records and draws them; false where that is refused, which is said.
+fn draw_both<R: Files + Input + Print + Eprint + AllocGlobal + Clone + Drop, A: Allocator + Copy>(
+    rt: &R,
+    lists: A,
+    is_watched: bool,
+    asked: Compared<'_>,
+    options: CompareOptions,
+) -> Result<bool, ToolFault> {
+    match record_of(rt, lists, is_watched, asked.one, asked.part)? {
+        Some(one) => draw_beside(rt, lists, is_watched, asked, &one, options),
+        None => Ok(false),
+    }
+}
+
+/// Draws two records, whose lists are given up together.
 fn compare<R: Files + Input + Print + Eprint + AllocGlobal + Clone + Drop>(
     rt: &R,
     is_watched: bool,
@@ -138,13 +178,7 @@ fn compare<R: Files + Input + Print + Eprint + AllocGlobal + Clone + Drop>(
         is_chosen: asked.part.channels.is_some(),
     };
     let lists = Bump::new(rt.alloc());
-    let Some(one) = record_of(rt, &lists, is_watched, asked.one, asked.part)? else {
-        return Ok(false);
-    };
-    match record_of(rt, &lists, is_watched, asked.other, part_beside(asked.part))? {
-        Some(other) => draw(rt, &lists, &one, &other, options),
-        None => Ok(false),
-    }
+    draw_both(rt, &lists, is_watched, asked, options)
 }
 
 /// Reads two records, and prints the picture of both.

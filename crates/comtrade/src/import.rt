@@ -85,6 +85,19 @@ fn option_in(word: &str) -> Option<&'static str> {
     }
 }
 
+/// Takes a word that is no name of an option: `--NAME=VALUE`, or a file.
+fn take_word<'a>(wanted: &mut Wanted<'a>, word: &'a str) -> Result<(), Wrong> {
+    if let Some(value) = value_of(word, "--dates") {
+        set(wanted, "--dates", value)
+    } else if let Some(value) = value_of(word, "--refuse") {
+        set(wanted, "--refuse", value)
+    } else if word.starts_with("--") {
+        Err(Wrong::Words)
+    } else {
+        wanted.files.push(word).map_err(|_| Wrong::Memory)
+    }
+}
+
 /// What the words after `import` ask for.
 fn wanted_of<'a, R: AllocGlobal>(rt: &R, words: &[&'a str]) -> Result<Wanted<'a>, Wrong> {
     let mut wanted = Wanted {
@@ -97,20 +110,11 @@ fn wanted_of<'a, R: AllocGlobal>(rt: &R, words: &[&'a str]) -> Result<Wanted<'a>
         if let Some(name) = option {
             set(&mut wanted, name, word)?;
             option = None;
-            continue;
-        }
-        option = option_in(word);
-        if option.is_some() {
-            continue;
-        }
-        if let Some(value) = value_of(word, "--dates") {
-            set(&mut wanted, "--dates", value)?;
-        } else if let Some(value) = value_of(word, "--refuse") {
-            set(&mut wanted, "--refuse", value)?;
-        } else if word.starts_with("--") {
-            return Err(Wrong::Words);
-        } else if wanted.files.push(word).is_err() {
-            return Err(Wrong::Memory);
+        } else {
+            option = option_in(word);
+            if option.is_none() {
+                take_word(&mut wanted, word)?;
+            }
         }
     }
     if option.is_some() {

@@ -122,13 +122,19 @@ pub(crate) fn refuse_import<R: Eprint + AllocGlobal>(rt: &R, name: &str, fault: 
     1
 }
 
-/// A single file as a pair.
-fn as_pair<R: Eprint + AllocGlobal>(rt: &R, inputs: Inputs, imported: Imported) -> Option<Inputs> {
+/// The repairs, a line each; none where an allocation failed, which is said.
+fn notes_of<R: Eprint + AllocGlobal>(rt: &R, notes: &[Note]) -> Option<Vec<u8>> {
     let mut said = Vec::new(rt.alloc());
-    if put_notes(&mut said, &imported.notes).is_err() {
+    if put_notes(&mut said, notes).is_err() {
         out_of_memory(rt);
         return None;
     }
+    Some(said)
+}
+
+/// A single file as a pair.
+fn as_pair<R: Eprint + AllocGlobal>(rt: &R, inputs: Inputs, imported: Imported) -> Option<Inputs> {
+    let said = notes_of(rt, &imported.notes)?;
     Some(Inputs {
         names: inputs.names,
         cfg: imported.cfg,
@@ -165,8 +171,30 @@ fn is_first(part: Part, fault: ReadFault) -> bool {
     part == Part::Cfg && matches!(fault, ReadFault::Revision | ReadFault::Fields(1))
 }
 
-/// The file that a pair reads to: exactly, or where the exact reader refuses it and `is_strict` isn't asked for, as `import` reads it. What
-/// is said of it is put to `said`: each repair, a line each, or of None why it can't be read.
+/// The file that a pair reads to as `import` reads it, where the exact reader found a fault. What is said of it is put to `said`: each
+/// repair, a line each, or of None why it can't be read.
+fn imported_in<A: Allocator + Copy>(
+    alloc: A,
+    pair: Pair<'_>,
+    found: Fault,
+    said: &mut Vec<u8, A>,
+) -> Result<Option<File<A>>, ToolFault> {
+    match import(alloc, pair.cfg, pair.dat, Choices::default()) {
+        Ok(Imported { file, notes, .. }) => {
+            put_notes(said, &notes)?;
+            return Ok(Some(file));
+        }
+        Err(ImportFault::Memory) => return Err(ToolFault::Memory),
+        Err(fault)
+            if is_first(found.part, found.fault) && !matches!(fault, ImportFault::Cfg(1, _)) => {
+            put_import_fault(said, pair.cfg_name, fault)?;
+        }
+        Err(_) => put_fault(alloc, said, pair, found)?,
+    }
+    Ok(None)
+}
+
+/// The file that a pair reads to: exactly, or where the exact reader refuses it and `is_strict` isn't asked for, as `imported_in`.
 fn file_in<A: Allocator + Copy>(
     alloc: A,
     pair: Pair<'_>,
@@ -182,19 +210,7 @@ fn file_in<A: Allocator + Copy>(
         put_fault(alloc, said, pair, found)?;
         return Ok(None);
     }
-    match import(alloc, pair.cfg, pair.dat, Choices::default()) {
-        Ok(Imported { file, notes, .. }) => {
-            put_notes(said, &notes)?;
-            return Ok(Some(file));
-        }
-        Err(ImportFault::Memory) => return Err(ToolFault::Memory),
-        Err(fault)
-            if is_first(found.part, found.fault) && !matches!(fault, ImportFault::Cfg(1, _)) => {
-            put_import_fault(said, pair.cfg_name, fault)?;
-        }
-        Err(_) => put_fault(alloc, said, pair, found)?,
-    }
-    Ok(None)
+    imported_in(alloc, pair, found, said)
 }
 
 /// Why texts aren't spelled so.

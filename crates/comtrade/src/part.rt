@@ -3,7 +3,7 @@
 use comtrade_format::File;
 use comtrade_io::{Part, ToolFault, put, put_safe};
 use comtrade_views::{Cut, PartFault, is_whole, part_of, times_since_trigger};
-use std::alloc::Allocator;
+use std::alloc::{AllocError, Allocator};
 
 /// A record or a part of it, when its rows were taken, in nanoseconds since its trigger, and how many rows of the record stand before them.
 #[derive(Drop)]
@@ -28,6 +28,37 @@ pub(crate) fn put_part_fault<A: Allocator + Copy>(
     Ok(())
 }
 
+/// What was cut, with its times among those of all rows.
+fn timed<A: Allocator>(
+    alloc: A,
+    cut: Cut<A>,
+    times: &[Option<i64>],
+) -> Result<Taken<A>, AllocError> {
+    let times = Vec::from_slice(alloc, times.get(cut.from..cut.to).unwrap_or(&[]))?;
+    Ok(Taken {
+        file: cut.file,
+        times,
+        before: cut.from,
+    })
+}
+
+/// The part of a file whose rows were taken at these times; none where it has none, which is put to `said`.
+fn cut_of<A: Allocator + Copy>(
+    alloc: A,
+    file: &File<A>,
+    times: &[Option<i64>],
+    part: Part<'_>,
+    said: &mut Vec<u8, A>,
+) -> Result<Option<Taken<A>>, ToolFault> {
+    match part_of(alloc, file, part) {
+        Ok(cut) => Ok(Some(timed(alloc, cut, times)?)),
+        Err(fault) => {
+            put_part_fault(said, fault)?;
+            Ok(None)
+        }
+    }
+}
+
 /// The part of a file that is asked for; none where it has none, which is put to `said`.
 pub(crate) fn taken_of<A: Allocator + Copy>(
     alloc: A,
@@ -36,26 +67,12 @@ pub(crate) fn taken_of<A: Allocator + Copy>(
     said: &mut Vec<u8, A>,
 ) -> Result<Option<Taken<A>>, ToolFault> {
     let times = times_since_trigger(alloc, &file)?;
-    if is_whole(part) {
-        return Ok(Some(Taken {
-            file,
-            times,
-            before: 0,
-        }));
+    if !is_whole(part) {
+        return cut_of(alloc, &file, &times, part, said);
     }
-    match part_of(alloc, &file, part) {
-        Ok(cut) => {
-            let Cut { file, from, to } = cut;
-            let times = Vec::from_slice(alloc, times.get(from..to).unwrap_or(&[]))?;
-            Ok(Some(Taken {
-                file,
-                times,
-                before: from,
-            }))
-        }
-        Err(fault) => {
-            put_part_fault(said, fault)?;
-            Ok(None)
-        }
-    }
+    Ok(Some(Taken {
+        file,
+        times,
+        before: 0,
+    }))
 }

@@ -2,10 +2,10 @@
 
 use crate::load::file_spelled;
 use crate::measure::{measure_over, measured_part};
-use crate::part::taken_of;
+use crate::part::{Taken, taken_of};
 use comtrade_diagnostics::{Pair, check_over, put_remarks};
 use comtrade_format::File;
-use comtrade_io::{Picture, ToolFault, View, Viewed, put, write_out};
+use comtrade_io::{Part, Picture, ToolFault, View, Viewed, put, write_out};
 use comtrade_plot::{PlotOptions, Timed, page_over, plot_over};
 use comtrade_views::{Spelling, csv_over, put_text, show_json, show_over};
 use std::alloc::{AllocError, Allocator, Global};
@@ -141,7 +141,54 @@ fn look_of<A: Allocator>(
     }))
 }
 
-/// Prints what is asked of a part of a file; false where it has none, which is put to `said`.
+/// The part that is asked for; none where it can't be measured, which is put to `said`.
+fn part_in<'a, A: Allocator>(
+    view: View,
+    viewed: Viewed<'a>,
+    said: &mut Vec<u8, A>,
+) -> Result<Option<Part<'a>>, ToolFault> {
+    if view == View::Measure {
+        measured_part(viewed, said)
+    } else {
+        Ok(Some(viewed.part))
+    }
+}
+
+/// Prints what is asked of what was taken of a file; false where it can't be measured, which is put to `said`.
+fn view_taken<A: Allocator + Copy, W: Write>(
+    room: Room<A>,
+    view: View,
+    viewed: Viewed<'_>,
+    look: Look,
+    taken: &Taken<A>,
+    w: &mut W,
+    said: &mut Vec<u8, A>,
+) -> Result<bool, ToolFault> {
+    if view == View::Measure {
+        return measure_over(room, viewed, taken, w, said);
+    }
+    put_view(room, view, look, &taken.file, &taken.times, w)?;
+    Ok(true)
+}
+
+/// Prints what is asked of this part of a file; false where it has none, which is put to `said`.
+fn view_part<A: Allocator + Copy, W: Write>(
+    room: Room<A>,
+    view: View,
+    viewed: Viewed<'_>,
+    look: Look,
+    file: File<A>,
+    part: Part<'_>,
+    w: &mut W,
+    said: &mut Vec<u8, A>,
+) -> Result<bool, ToolFault> {
+    match taken_of(room.lists, file, part, said)? {
+        Some(taken) => view_taken(room, view, viewed, look, &taken, w, said),
+        None => Ok(false),
+    }
+}
+
+/// Prints what is asked of the part of a file that is asked for; false where it has none, which is put to `said`.
 fn view_file<A: Allocator + Copy, W: Write>(
     room: Room<A>,
     view: View,
@@ -151,20 +198,8 @@ fn view_file<A: Allocator + Copy, W: Write>(
     w: &mut W,
     said: &mut Vec<u8, A>,
 ) -> Result<bool, ToolFault> {
-    let part = if view == View::Measure {
-        measured_part(viewed, said)?
-    } else {
-        Some(viewed.part)
-    };
-    let Some(part) = part else {
-        return Ok(false);
-    };
-    match taken_of(room.lists, file, part, said)? {
-        Some(taken) if view == View::Measure => measure_over(room, viewed, &taken, w, said),
-        Some(taken) => {
-            put_view(room, view, look, &taken.file, &taken.times, w)?;
-            Ok(true)
-        }
+    match part_in(view, viewed, said)? {
+        Some(part) => view_part(room, view, viewed, look, file, part, w, said),
         None => Ok(false),
     }
 }

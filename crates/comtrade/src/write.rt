@@ -100,20 +100,26 @@ fn refuse_part<R: Eprint + AllocGlobal>(rt: &R, fault: PartFault<'_>) -> u8 {
     }
 }
 
-/// Writes a part of a record, with data of this kind: what is written reads back to it.
-fn write_part<R: Files + Eprint + AllocGlobal>(rt: &R, asked: Converted<'_>, file: &Record) -> u8 {
-    let mut cut = match part_of(rt.alloc(), file, asked.part) {
-        Ok(cut) => cut,
-        Err(fault) => return refuse_part(rt, fault),
-    };
-    cut.file.head.kind = asked.kind;
-    match written_of(rt.alloc(), &cut.file) {
-        Ok(made) => write_named(rt, asked.name, &made.cfg, &made.dat),
+/// Writes a record under a name: what is written reads back to it.
+fn write_record<R: Files + Eprint + AllocGlobal>(rt: &R, name: &str, file: &Record) -> u8 {
+    match written_of(rt.alloc(), file) {
+        Ok(made) => write_named(rt, name, &made.cfg, &made.dat),
         Err(WriteFault::Memory) => out_of_memory(rt),
         Err(fault) => {
             let _ = eprintln!(rt; "comtrade: the part isn't written: {fault}");
             1
         }
+    }
+}
+
+/// Writes a part of a record, with data of this kind.
+fn write_part<R: Files + Eprint + AllocGlobal>(rt: &R, asked: Converted<'_>, file: &Record) -> u8 {
+    match part_of(rt.alloc(), file, asked.part) {
+        Ok(mut cut) => {
+            cut.file.head.kind = asked.kind;
+            write_record(rt, asked.name, &cut.file)
+        }
+        Err(fault) => refuse_part(rt, fault),
     }
 }
 

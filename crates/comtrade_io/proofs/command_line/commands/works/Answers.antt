@@ -1,0 +1,14 @@
+use Rattle.std.proofs.lemmas.Result.{IfOk-weaker}
+use Rattle.comtrade_io.proofs.MetCommands.{added}
+use Rattle.comtrade_io.proofs.command_line.commands.works.Goals as goal
+
+pub returns : goal.returns
+returns c = λ a is_program.
+    let kinded = c.in_ok-convert.ensures in
+    let measuring = added _ _ _ _ _ is_program c.in_ok-measure.ensures c.in_ok-subcommand.ensures in
+    let converting = added _ _ _ _ _ measuring kinded.command c.in_ok-subcommand-2.ensures in
+    IfOk-weaker c.subcommand-3.result _ _ (λ r h. record {
+      kinds = kinded.kinds;
+      words = kinded.words;
+      command = added _ _ _ _ _ converting c.in_ok-extract.ensures h;
+    }) c.subcommand-3.ensures
