@@ -10,9 +10,11 @@ use Rattle.comtrade_io.specs.declared.words.Part.{Part}
 use Rattle.comtrade_io.specs.declared.words.Form.{Form}
 use Rattle.comtrade_io.specs.declared.words.Picture.{Picture}
 use Rattle.comtrade_io.specs.declared.words.Cursor.{Cursor}
+use Rattle.comtrade_io.specs.declared.words.View.{View}
 use Rattle.comtrade_io.specs.declared.words.Viewed.{Viewed}
 use Rattle.comtrade_io.specs.declared.words.Converted.{Converted}
 use Rattle.comtrade_io.specs.declared.words.Compared.{Compared}
+use Rattle.comtrade_io.specs.declared.words.Survey.{Survey}
 use Rattle.comtrade_io.specs.declared.words.Asked.{Asked}
 use Rattle.comtrade_io.specs.declared.words.Asked.TheVariants as asks
 use Rattle.comtrade_io.specs.declared.command_line.asked.Answer.{Answer}

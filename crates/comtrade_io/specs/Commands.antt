@@ -39,18 +39,11 @@ kind_word kinds = record (word (codes "KIND")) {
 abbrev pub with_encoding : App → App
 with_encoding a = with_rule a (option (codes "encoding"))
 
--- which rows and channels are meant
-abbrev pub with_cut : App → App
-with_cut a = with_rule (with_rule (with_rule (with_rule a
-    (option (codes "from"))) (option (codes "to"))) (option (codes "channels"))) (flag (codes "changed"))
-
--- of which side values are
-abbrev pub with_side : App → App
-with_side a = with_rule (with_rule a (flag (codes "primary"))) (flag (codes "secondary"))
-
 -- which part of a record is meant, on which side, and how its files are read
 abbrev pub with_part : App → App
-with_part a = with_encoding (with_rule (with_side (with_cut a)) (flag (codes "strict")))
+with_part a = with_encoding (with_rule (with_rule (with_rule (with_rule (with_rule (with_rule (with_rule a
+    (option (codes "from"))) (option (codes "to"))) (option (codes "channels")))
+    (flag (codes "changed"))) (flag (codes "primary"))) (flag (codes "secondary"))) (flag (codes "strict")))
 
 -- how a picture is drawn
 abbrev pub with_picture : App → App
@@ -147,20 +140,15 @@ abbrev pub top : App
 top = with_choice named_top
 
 -- the program's commands
-abbrev pub texts : App → App
-texts a = with_subcommand (with_subcommand (with_subcommand a show.top) check.top) csv.top
-
 abbrev pub views : App → App
-views a = with_subcommand (with_subcommand (texts a) plot.top) page.top
+views a = with_subcommand (with_subcommand (with_subcommand (with_subcommand (with_subcommand a
+    show.top) check.top) csv.top) plot.top) page.top
 
 abbrev pub surveys : App → App
 surveys a = with_subcommand (with_subcommand (with_subcommand a list.top) events.top) compare.top
 
-abbrev pub works : App → Bor (List (Bor (List ℕ))) → App
-works a kinds = with_subcommand (with_subcommand (with_subcommand a measure.top) (convert kinds).top) extract.top
-
 abbrev pub program : Bor (List (Bor (List ℕ))) → App
-program kinds = works (surveys (views top)) kinds
+program kinds = with_subcommand (with_subcommand (with_subcommand (surveys (views top)) measure.top) (convert kinds).top) extract.top
 
 -- the words for kinds of data
 abbrev pub AreKinds : Bor (List (Bor (List ℕ))) → Type 0

@@ -1,5 +1,5 @@
 -- How a text of a file is printed.
-use Rattle.std.specs.Prelude.{ℕ, zero, suc, ◌-◌, ◌/◌, ◌%◌, ◌&&◌, ◌||◌, ◌==◌, Bool, false, not, if◌then◌else◌, nat_le, Option, None, Some, List, [], ◌∷◌, ◌++◌, codes, length, take, slice_get}
+use Rattle.std.specs.Prelude.{ℕ, zero, suc, ◌+◌, ◌-◌, ◌/◌, ◌%◌, ◌&&◌, ◌||◌, ◌==◌, Bool, true, false, not, if◌then◌else◌, nat_le, Option, None, Some, List, [], ◌∷◌, ◌++◌, codes, length, take, slice_get}
 use Rattle.std.specs.Str.{chars, is_utf8}
 use Rattle.std.specs.Char.{digit_char}
 

@@ -204,22 +204,16 @@ fn compare<'a>(alloc: Global) -> Result<Command<'a>, AllocError>
     with_picture(alloc, part)
 }
 
-/// The commands that print what is in a pair, as text.
-fn texts<'a>(alloc: Global, program: Command<'a>) -> Result<Command<'a>, AllocError>
-    ensures { (a : App) → IsCommand a program.entry → IfOk result (IsCommand (Spec.texts a)) }
+/// The commands that print what is in a pair.
+fn views<'a>(alloc: Global, program: Command<'a>) -> Result<Command<'a>, AllocError>
+    ensures { IsCommand Spec.top program.entry → IfOk result (IsCommand (Spec.views Spec.top)) }
 {
     program
         .subcommand(show(alloc)?)?
         .subcommand(check(alloc)?)?
-        .subcommand(csv(alloc)?)
-}
-
-/// The commands that print what is in a pair.
-fn views<'a>(alloc: Global, program: Command<'a>) -> Result<Command<'a>, AllocError>
-    ensures { (a : App) → IsCommand a program.entry → IfOk result (IsCommand (Spec.views a)) }
-{
-    let printing = texts(alloc, program)?;
-    printing.subcommand(plot(alloc)?)?.subcommand(page(alloc)?)
+        .subcommand(csv(alloc)?)?
+        .subcommand(plot(alloc)?)?
+        .subcommand(page(alloc)?)
 }
 
 /// The commands over many pairs.
@@ -232,16 +226,6 @@ fn surveys<'a>(alloc: Global, program: Command<'a>) -> Result<Command<'a>, Alloc
         .subcommand(over_names(alloc, "list", list)?)?
         .subcommand(over_names(alloc, "events", events)?)?
         .subcommand(compare(alloc)?)
-}
-
-/// The commands that measure, and those that write files.
-fn works<'a>(alloc: Global, program: Command<'a>) -> Result<Command<'a>, AllocError>
-    ensures { (a : App) → IsCommand a program.entry → IfOk result (IsKinded (Spec.works a)) }
-{
-    program
-        .subcommand(measure(alloc)?)?
-        .subcommand(convert(alloc)?)?
-        .subcommand(extract(alloc)?)
 }
 
 /// The program's name, version and help.
@@ -270,5 +254,8 @@ pub(crate) fn comtrade<'a>(alloc: Global) -> Result<Command<'a>, AllocError>
     let top = with_choice(named);
     let viewing = views(alloc, top)?;
     let surveying = surveys(alloc, viewing)?;
-    works(alloc, surveying)
+    surveying
+        .subcommand(measure(alloc)?)?
+        .subcommand(convert(alloc)?)?
+        .subcommand(extract(alloc)?)
 }

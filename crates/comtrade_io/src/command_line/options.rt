@@ -66,9 +66,9 @@ pub(crate) fn with_encoding(alloc: Global, command: Command<'_>) -> Result<Comma
     with(command, option(alloc, "encoding", "NAME", help))
 }
 
-/// Which rows and channels are meant.
-fn with_cut(alloc: Global, command: Command<'_>) -> Result<Command<'_>, AllocError>
-    ensures { (a : App) → IsCommand a command.entry → IfOk result (IsCommand (Spec.with_cut a)) }
+/// Which part of a record is meant.
+pub(crate) fn with_part(alloc: Global, command: Command<'_>) -> Result<Command<'_>, AllocError>
+    ensures { (a : App) → IsCommand a command.entry → IfOk result (IsCommand (Spec.with_part a)) }
 {
     let from =
         "The first moment: ms since the trigger as -20, an instant as 2024-07-01T10:30:00.35, or row N";
@@ -78,29 +78,21 @@ fn with_cut(alloc: Global, command: Command<'_>) -> Result<Command<'_>, AllocErr
     let one = with(command, option(alloc, "from", "MOMENT", from))?;
     let two = with(one, option(alloc, "to", "MOMENT", to))?;
     let three = with(two, option(alloc, "channels", "NAMES", channels))?;
-    let changed = "Only the contacts that change";
-    with(three, flag(alloc, "changed", changed))
-}
-
-/// Of which side values are.
-fn with_side(alloc: Global, command: Command<'_>) -> Result<Command<'_>, AllocError>
-    ensures { (a : App) → IsCommand a command.entry → IfOk result (IsCommand (Spec.with_side a)) }
-{
-    let primary = "Values of the primary side, by the ratio";
-    let secondary = "Values of the secondary side";
-    let one = with(command, flag(alloc, "primary", primary))?;
-    with(one, flag(alloc, "secondary", secondary))
-}
-
-/// Which part of a record is meant.
-pub(crate) fn with_part(alloc: Global, command: Command<'_>) -> Result<Command<'_>, AllocError>
-    ensures { (a : App) → IsCommand a command.entry → IfOk result (IsCommand (Spec.with_part a)) }
-{
-    let cut = with_cut(alloc, command)?;
-    let sided = with_side(alloc, cut)?;
-    let help = "Only files of 1999 as the standard spells them, nothing repaired";
-    let strict = with(sided, flag(alloc, "strict", help))?;
-    with_encoding(alloc, strict)
+    let four = with(
+        three,
+        flag(alloc, "changed", "Only the contacts that change"),
+    )?;
+    let five = with(
+        four,
+        flag(alloc, "primary", "Values of the primary side, by the ratio"),
+    )?;
+    let six = with(
+        five,
+        flag(alloc, "secondary", "Values of the secondary side"),
+    )?;
+    let strict = "Only files of 1999 as the standard spells them, nothing repaired";
+    let seven = with(six, flag(alloc, "strict", strict))?;
+    with_encoding(alloc, seven)
 }
 
 /// How a picture is drawn.

@@ -3,7 +3,9 @@ use Rattle.comtrade_io.proofs.MetCommands.{added}
 use Rattle.comtrade_io.proofs.command_line.commands.views.Goals as goal
 
 pub returns : goal.returns
-returns c = λ a is_program.
-    let printing = c.in_ok-printing.ensures a is_program in
-    let plotting = added _ _ _ _ _ printing c.in_ok-plot.ensures c.in_ok-subcommand.ensures in
-    IfOk-weaker c.subcommand-2.result _ _ (λ r h. added _ _ _ _ _ plotting c.in_ok-page.ensures h) c.subcommand-2.ensures
+returns c = λ is_top.
+    let one = added _ _ _ _ _ is_top c.in_ok-show.ensures c.in_ok-subcommand.ensures in
+    let two = added _ _ _ _ _ one c.in_ok-check.ensures c.in_ok-subcommand-2.ensures in
+    let three = added _ _ _ _ _ two c.in_ok-csv.ensures c.in_ok-subcommand-3.ensures in
+    let four = added _ _ _ _ _ three c.in_ok-plot.ensures c.in_ok-subcommand-4.ensures in
+    IfOk-weaker c.subcommand-5.result _ _ (λ r h. added _ _ _ _ _ four c.in_ok-page.ensures h) c.subcommand-5.ensures
