@@ -194,7 +194,8 @@ fn imported_in<A: Allocator + Copy>(
     Ok(None)
 }
 
-/// The file that a pair reads to: exactly, or where the exact reader refuses it and `is_strict` isn't asked for, as `imported_in`.
+/// The file that a pair reads to: exactly, or where the exact reader refuses it, as `imported_in`; with `is_strict` None then, and the fault is
+/// put to `said`.
 fn file_in<A: Allocator + Copy>(
     alloc: A,
     pair: Pair<'_>,
