@@ -1,8 +1,8 @@
 //! Recorders of a bay: what they are made of, and how.
 
-use crate::channels::rules::rules_in;
-use crate::channels::setups::{layout_in, setup_of};
+use crate::samples::ASCII_CFG;
 use comtrade_read::read_cfg;
+use comtrade_write::Head;
 use dfr_channels::{Layout, Memory, Rule, Rules, Setup};
 use dfr_recorder::{Limits, Recorder};
 use std::alloc::Allocator;
@@ -46,6 +46,12 @@ pub const BAY: Bay = Bay {
     rules: &[],
 };
 
+/// One channel of each kind.
+pub const BOTH: Bay = Bay {
+    channels: ASCII_CFG,
+    ..BAY
+};
+
 pub const TWO: Bay = Bay {
     limits: (2, 2, 6, 2),
     ..BAY
@@ -64,6 +70,19 @@ pub const FAST: Bay = Bay {
     ..BAY
 };
 
+/// So many scans a second of these channels, from this instant on.
+fn setup_of<A: Allocator>(head: Head<A>, rate: u32, start: i64) -> Setup<A> {
+    Setup {
+        station: head.station,
+        device: head.device,
+        analog: head.analog,
+        status: head.status,
+        line_freq: head.line_freq,
+        rate,
+        start,
+    }
+}
+
 pub fn setup<A: Allocator + Copy>(alloc: A, bay: Bay) -> Option<Setup<A>> {
     match read_cfg(alloc, bay.channels) {
         Ok(head) => Some(setup_of(head, bay.rate, bay.start)),
@@ -72,7 +91,21 @@ pub fn setup<A: Allocator + Copy>(alloc: A, bay: Bay) -> Option<Setup<A>> {
 }
 
 pub fn layout<A: Allocator + Copy>(alloc: A, bay: Bay) -> Option<Layout<A>> {
-    layout_in(setup(alloc, bay))
+    match setup(alloc, bay) {
+        Some(setup) => Layout::new(setup).ok(),
+        None => None,
+    }
+}
+
+pub fn rules_in<A: Allocator + Copy>(
+    layout: &Layout<A>,
+    list: &[Rule],
+    alloc: A,
+) -> Option<Rules<A>> {
+    match Vec::from_slice(alloc, list) {
+        Ok(list) => Rules::new(layout, list).ok(),
+        Err(_) => None,
+    }
 }
 
 pub fn limits<A: Allocator>(layout: &Layout<A>, bay: Bay) -> Option<Limits> {

@@ -1,5 +1,5 @@
-//! All tests of the libraries, by their public calls: worked values from outside, each public call at its borders, and what no contract
-//! can say. `live` has those of recorders that threads share and of stations, `refused` refuses each allocation of a call in turn. They
+//! All tests of the libraries, by their public calls: that each succeeds with enough memory, at its borders too, which no clause says, and
+//! what else no contract can say. `live` has those of recorders that threads share and of stations, `refused` refuses each allocation of a call in turn. They
 //! stand apart from the crates, since a crate that holds tests is proved twice.
 #![tactic(auto)]
 

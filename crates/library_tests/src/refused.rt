@@ -3,7 +3,7 @@
 
 mod channels;
 pub mod common;
-mod files;
+pub mod files;
 mod live_calls;
 mod live_ends;
 mod live_play;

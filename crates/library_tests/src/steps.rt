@@ -6,11 +6,18 @@ ghost use Rattle.dfr_recorder.specs.Answers.{answer_of};
 ghost use Rattle.dfr_recorder.specs.Run.{IsOwnAnswer};
 
 use crate::bay::{Bay, recorder};
-use crate::channels::setups::scan;
 use dfr_channels::{Reading, Scan};
 use dfr_recorder::{Ran, Record, Recorder, Step, run};
 use std::alloc::{Allocator, Global};
 use std::collections::VecDeque;
+
+pub fn scan<A: Allocator + Copy>(alloc: A, readings: &[Reading], bits: &[bool]) -> Option<Scan<A>> {
+    let readings = Vec::from_slice(alloc, readings).ok()?;
+    match Vec::from_slice(alloc, bits) {
+        Ok(bits) => Some(Scan::new(readings, bits)),
+        Err(_) => None,
+    }
+}
 
 /// A scan of one channel.
 pub fn value<A: Allocator + Copy>(alloc: A, x: i32) -> Option<Scan<A>> {
@@ -31,7 +38,7 @@ pub fn is_scanned<A: Allocator + Copy>(recorder: &mut Recorder<A>, scan: Option<
 }
 
 /// Of six channels of each kind.
-pub const SIX_READINGS: [Reading; 6] = [
+const SIX_READINGS: [Reading; 6] = [
     Reading::Value(-760),
     Reading::Value(1274),
     Reading::Value(72),
@@ -40,7 +47,7 @@ pub const SIX_READINGS: [Reading; 6] = [
     Reading::Value(-502),
 ];
 
-pub const SIX_BITS: [bool; 6] = [false, false, false, false, true, true];
+const SIX_BITS: [bool; 6] = [false, false, false, false, true, true];
 
 fn lone<A: Allocator + Copy>(alloc: A) -> Option<Scan<A>> {
     let mut bits = [false; 17];

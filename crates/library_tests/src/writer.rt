@@ -1,10 +1,5 @@
-//! Files of records and their bytes.
+//! What writers answer at their borders and where the output fails, and the File of a recorder's own record.
 
-pub mod bytes;
-pub mod fixture;
+pub mod borders;
 mod outputs;
 mod records;
-mod rows;
-mod shapes;
-pub mod texts;
-mod values;

@@ -1,10 +1,9 @@
 //! Calls of one thread as a list, with what each is answered.
 
 use crate::bay::OVER_100;
-use crate::channels::rules::{RISE, rules};
-use crate::channels::setups::scan;
+use crate::channels::{RISE, rules};
 use crate::live::station::is_in_order;
-use crate::steps::{is_value, value};
+use crate::steps::{is_value, scan, value};
 use dfr_channels::{Reading, Rules, Scan};
 use dfr_live::{
     Call, End, Entry, Full, Pumped, Reply, RulesRefusal, Session, Shared, Source, Token,

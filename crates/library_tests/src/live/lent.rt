@@ -3,7 +3,7 @@
 ghost use Rattle.std.specs.Prelude.{◌≡◌};
 
 use crate::bay::{self, Bay};
-use crate::channels::rules::{RISE, rules};
+use crate::channels::{RISE, rules};
 use crate::live::acts::{Act, are_entries, offers};
 use crate::live::ends::opened;
 use crate::live::station::{STATION, recorder};

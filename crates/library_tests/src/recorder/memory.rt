@@ -1,11 +1,11 @@
 //! That a recorder holds nothing besides what contracts see: its memory grows neither with its scans nor with the records that were
 //! taken.
 
-use super::held::takes;
 use crate::bay::{BAY, recorder};
 use crate::steps::{is_scanned, value};
 use dfr_recorder::Recorder;
 use linked_list_allocator::LocalHeap;
+use std::alloc::Allocator;
 use std::test::Fail;
 
 type Local<'a> = Recorder<&'a LocalHeap>;
@@ -26,6 +26,14 @@ fn takes_lost_scans(recorder: &mut Local, n: u32) -> bool {
         }
     }
     true
+}
+
+/// Whether a record is taken, and let go.
+pub fn takes<A: Allocator>(recorder: &mut Recorder<A>) -> bool {
+    let taken = recorder.take();
+    let some = taken.is_some();
+    drop(taken);
+    some
 }
 
 /// A record that is opened, closed, taken and dropped.

@@ -1,15 +1,15 @@
-//! Records around manual triggers and those of a rule.
+//! Records of a rule, up to the greatest length.
 
-use crate::bay::{BAY, TWO, recorder, recorder_at_100};
-use crate::steps::{is_value, value};
+use crate::bay::{TWO, recorder_at_100};
+use crate::steps::value;
 use dfr_channels::Scan;
-use dfr_recorder::{Cause, Extent, Hit, Record, Recorder, ScanRefusal, Scanned};
-use std::alloc::{Allocator, Global};
+use dfr_recorder::{Hit, Recorder, ScanRefusal, Scanned};
+use std::alloc::Global;
 
 /// A scan of this value, what its trigger does, and the record that it closes.
-pub type Told = (i32, Option<Hit>, Option<u64>);
+type Told = (i32, Option<Hit>, Option<u64>);
 
-fn is_told<A: Allocator>(answer: Result<Scanned, (ScanRefusal, Scan<A>)>, told: Told) -> bool {
+fn is_told(answer: Result<Scanned, (ScanRefusal, Scan)>, told: Told) -> bool {
     match answer {
         Ok(scanned) => scanned.trigger == told.1 && scanned.closed == told.2,
         Err(_) => false,
@@ -17,18 +17,14 @@ fn is_told<A: Allocator>(answer: Result<Scanned, (ScanRefusal, Scan<A>)>, told: 
 }
 
 /// Whether the scan is accepted and answered so.
-fn is_scanned<A: Allocator + Copy>(alloc: A, recorder: &mut Recorder<A>, told: Told) -> bool {
+fn is_scanned(alloc: Global, recorder: &mut Recorder, told: Told) -> bool {
     match value(alloc, told.0) {
         Some(scan) => is_told(recorder.scan(scan), told),
         None => false,
     }
 }
 
-pub fn are_scanned<A: Allocator + Copy>(
-    alloc: A,
-    recorder: &mut Recorder<A>,
-    scans: &[Told],
-) -> bool {
+fn are_scanned(alloc: Global, recorder: &mut Recorder, scans: &[Told]) -> bool {
     for told in scans {
         if !is_scanned(alloc, recorder, *told) {
             return false;
@@ -37,73 +33,8 @@ pub fn are_scanned<A: Allocator + Copy>(
     true
 }
 
-fn are_values<A: Allocator>(scans: &[Scan<A>], values: &[i32]) -> bool {
-    scans.len() == values.len() && scans.iter().zip(values).all(|(scan, x)| is_value(scan, *x))
-}
-
-const FIRST: Extent = Extent {
-    number: 1,
-    first: 1,
-    trigger: 3,
-    last: 5,
-    cause: Cause::Manual,
-};
-
-/// The record of a trigger after `BEFORE`.
-pub fn is_first<A: Allocator>(record: &Record<A>) -> bool {
-    record.extent() == FIRST && are_values(record.scans(), &[11, 12, 13, 14, 15])
-}
-
-const BEFORE: [Told; 4] = [
-    (10, None, None),
-    (11, None, None),
-    (12, None, None),
-    (13, None, None),
-];
-
-const AFTER: [Told; 2] = [(14, None, None), (15, None, Some(1))];
-
-/// What the readers say of a recorder.
-fn reads(recorder: &Recorder, scans: u64, held: u64, waiting: u32, is_recording: bool) -> bool {
-    recorder.scans() == scans
-        && recorder.held() == held
-        && recorder.waiting() == waiting
-        && recorder.is_recording() == is_recording
-}
-
-fn is_made_so(recorder: &Recorder) -> bool {
-    recorder.layout().rate() == 1000
-        && recorder.limits().longest() == 6
-        && recorder.rules().list().is_empty()
-}
-
-fn opens(alloc: Global, recorder: &mut Recorder) -> bool {
-    are_scanned(alloc, recorder, &BEFORE)
-        && recorder.trigger() == Ok(Hit::Opened(1))
-        && reads(recorder, 4, 6, 0, true)
-}
-
-fn closes(alloc: Global, recorder: &mut Recorder) -> bool {
-    are_scanned(alloc, recorder, &AFTER) && reads(recorder, 6, 8, 1, false) && is_made_so(recorder)
-}
-
-fn takes_first(recorder: &mut Recorder) -> bool {
-    is_some_and!(recorder.take(), |record| { is_first(&record) })
-}
-
-fn records(alloc: Global) -> bool {
-    is_some_and!(recorder(alloc, BAY), |mut recorder| {
-        opens(alloc, &mut recorder) && closes(alloc, &mut recorder) && takes_first(&mut recorder)
-    })
-}
-
-#[test]
-fn records_round_a_trigger(rt: HostRuntime) {
-    assert!(rt; records(rt.alloc()));
-}
-
 /// The greatest length of six, and a record opened right after.
-pub const HIGH: [Told; 8] = [
+const HIGH: [Told; 8] = [
     (0, None, None),
     (0, None, None),
     (0, None, None),
@@ -114,9 +45,10 @@ pub const HIGH: [Told; 8] = [
     (100, Some(Hit::Opened(2)), None),
 ];
 
+/// The first record, of six scans, waits while the second is open.
 fn grows(alloc: Global) -> bool {
     is_some_and!(recorder_at_100(alloc, TWO), |mut recorder| {
-        are_scanned(alloc, &mut recorder, &HIGH)
+        are_scanned(alloc, &mut recorder, &HIGH) && recorder.held() == 12
     })
 }
 

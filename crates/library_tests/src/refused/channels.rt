@@ -1,7 +1,6 @@
 //! Copies of set-ups, channels, scans, rules and lists, and texts that are cut.
 
-use crate::bay::{layout, setup};
-use crate::channels::rules::rules_in;
+use crate::bay::{layout, rules_in, setup};
 use crate::refused::common::{Heap, RULES, SCRIPTED, are_the_rules, is_the_layout, lawful, scan};
 use crate::refused::refusing::{Must, Outcome, Trial, memory_if, refuses, right_if};
 use dfr_channels::{

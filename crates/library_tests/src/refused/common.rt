@@ -1,9 +1,8 @@
 //! What the tests are made of.
 
-use crate::bay::{BAY, Bay, OVER_100, layout};
-use crate::channels::rules::{RISE, rules_in};
-use crate::channels::setups;
-use crate::samples::ASCII_CFG;
+use crate::bay::{BOTH, Bay, OVER_100, layout, rules_in};
+use crate::channels::RISE;
+use crate::steps;
 use dfr_channels::{Layout, Reading, Rule, Rules, Scan};
 use failing_allocator::Refusing;
 use std::alloc::{Allocator, Global};
@@ -15,9 +14,8 @@ pub const RULES: &[Rule] = &[OVER_100, RISE];
 
 /// What it sets up.
 pub const SCRIPTED: Bay = Bay {
-    channels: ASCII_CFG,
     rules: RULES,
-    ..BAY
+    ..BOTH
 };
 
 /// Its steps: four scans, a trigger, two scans that fill the record, and a take.
@@ -48,7 +46,7 @@ pub fn are_the_rules<A: Allocator>(rules: &Rules<A>) -> bool {
 
 /// A scan of that layout.
 pub fn scan<A: Allocator + Copy>(alloc: A, x: i32, bit: bool) -> Option<Scan<A>> {
-    setups::scan(alloc, &[Reading::Value(x)], &[bit])
+    steps::scan(alloc, &[Reading::Value(x)], &[bit])
 }
 
 /// Adds the line where it stands here.

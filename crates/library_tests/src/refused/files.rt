@@ -5,7 +5,6 @@ use crate::refused::common::{CLOSES, Heap, SCRIPTED};
 use crate::refused::refusing::{Must, Outcome, Trial, memory_if, refuses, right_if};
 use crate::samples::{Pair as Texts, pair_in};
 use crate::steps::taken;
-use crate::writer::bytes::is_text;
 use comtrade_read::{read, read_of_file};
 use comtrade_write::{File, FileFault, Kind, WriteFault, cfg_bytes, dat_bytes, file_of};
 use dfr_channels::{Items, Layout, Setup};
@@ -17,6 +16,14 @@ use std::alloc::Allocator;
 pub fn file<A: Allocator + Copy>(alloc: A, kind: Kind) -> Option<File<A>> {
     let texts = pair_in(kind);
     read(alloc, texts.cfg, texts.dat).ok()
+}
+
+/// Whether these bytes are written.
+fn is_text<A: Allocator>(written: Result<Vec<u8, A>, WriteFault>, wanted: &[u8]) -> bool {
+    match written {
+        Ok(bytes) => bytes.as_slice() == wanted,
+        Err(_) => false,
+    }
 }
 
 /// The file writes this configuration file.

@@ -1,7 +1,6 @@
 //! The recorder that the tests work on, and how it is made.
 
-use crate::bay::{Bay, Made, layout, limits, made, recorder};
-use crate::channels::rules::rules_in;
+use crate::bay::{Bay, Made, layout, limits, made, recorder, rules_in};
 use crate::refused::common::{Heap, RULES, SCRIPTED, are_the_rules, is_the_layout, scan};
 use crate::refused::refusing::{
     Consuming, Must, Outcome, Trial, goes_on, memory_if, refuses_anew, right_if,

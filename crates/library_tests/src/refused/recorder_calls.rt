@@ -1,6 +1,6 @@
 //! The calls of a recorder: each that is refused an allocation goes on, made again, as if nothing had happened.
 
-use crate::recorder::held::takes;
+use crate::recorder::memory::takes;
 use crate::refused::common::{Heap, scan};
 use crate::refused::lost::{loses, loses_after_a_scan};
 use crate::refused::recorder::{are_scanned, gives_the_record, opens, recorder_of};
