@@ -1,4 +1,4 @@
-use Rattle.std.proofs.Common.{◌≡◌, Some, subst}
+use Rattle.std.proofs.Common.{◌≡◌, Some, subst, rules}
 use Rattle.dfr_channels.specs.Faults.{◌or◌}
 use Rattle.comtrade_format.specs.Data.{dat_refusal}
 use Rattle.comtrade_format.specs.Parts.{FileParts}
@@ -16,3 +16,6 @@ returns g c = record {
         (is_first _ _ c.in_default.not-Memory c.in-Err-written_of.ensures.fault);
   };
 }
+
+pub returns-in-Memory-clause-fault : goal.returns-in-Memory-clause-fault
+returns-in-Memory-clause-fault g c = search rules depth 1

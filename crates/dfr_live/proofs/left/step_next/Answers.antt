@@ -1,4 +1,4 @@
-use Rattle.std.proofs.Common.{refl, arith, ap, Ok, Err}
+use Rattle.std.proofs.Common.{refl, arith, ap, Ok, Err, rules}
 use Rattle.dfr_recorder.specs.Steps as step
 use Rattle.dfr_recorder.specs.Answers as answers
 use Rattle.dfr_recorder.specs.declared.step.ScanRefusal.{ScanRefusal}
@@ -23,3 +23,6 @@ returns-in-Err-Range-default g c = (step.Scan c.args.scan, answers.Scan (Err c.i
 
 pub returns-in-Err-ClockEnd-default : goal.returns-in-Err-ClockEnd-default
 returns-in-Err-ClockEnd-default g c = (step.Scan c.args.scan, answers.Scan (Err c.in-Err-ClockEnd-default.field-0-0), loses-none c.args.lost c.args.scan (omega (arith, c.if-lost-gt0.false)), ap (λ (v : ScanRefusal). Err v) c.in-Err-ClockEnd-default.field-0-0-is, c.in-Err-ClockEnd-default.ensures.refused (λ e. absurd (cc (e, c.in-Err-ClockEnd-default.field-0-0-is))))
+
+pub returns-in-Err-Memory-default : goal.returns-in-Err-Memory-default
+returns-in-Err-Memory-default g c = search rules depth 1

@@ -14,4 +14,4 @@ pub returns-clause-reads : goal.returns-clause-reads
 returns-clause-reads g c = c.read_of_run-files.ensures.reads
 
 pub returns-clause-whole : goal.returns-clause-whole
-returns-clause-whole g c = search rules
+returns-clause-whole g c = search rules depth 1

@@ -1,5 +1,5 @@
-use Rattle.std.proofs.Common.{rules, tests}
+use Rattle.std.proofs.Common.{rules}
 use Rattle.dfr_program.proofs.records.print_record.Goals as goal
 
 pub returns : goal.returns
-returns g c = search (tests, rules)
+returns g c = search rules depth 1

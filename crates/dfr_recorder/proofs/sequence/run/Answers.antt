@@ -124,3 +124,6 @@ pub returns-clause-list : goal.returns-clause-list
 returns-clause-list g c =
     let rest : c.pop_front.new.self.items ≡ c.loop-step.rest.items = search rules in
     take_rest (length c.loop-step.answers.items) c.args.steps.items c.pop_front.new.self.items (rest ∙ c.loop-step.invariant.left)
+
+pub returns-in-Err-clause-whole : goal.returns-in-Err-clause-whole
+returns-in-Err-clause-whole g c = search rules depth 1

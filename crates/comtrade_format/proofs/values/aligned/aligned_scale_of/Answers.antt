@@ -10,3 +10,6 @@ returns-clause-value c = λ x.
     let places : c.max-places.result ≡ max c.args.a.places c.args.b.places = search rules in
     rw (to_z-of_z w64 _ factor, to_z-of_z w64 _ offset)
     (aligned_value_of c.args.a c.args.b c.max-places.result _ _ x places c.in_ok-units_of.ensures.value c.in_ok-units_of-2.ensures.value)
+
+pub returns-clause-some : goal.returns-clause-some
+returns-clause-some c = search rules depth 1

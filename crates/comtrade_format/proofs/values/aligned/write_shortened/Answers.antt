@@ -36,3 +36,9 @@ returns-clause-value c =
           three_parts (take c.args.at slot) (minus z) (decimal before) (places_text k m) _ _ _ sign c.write_front-point.ensures.text w.text
           ∙ ap (λ (text : List ℕ). take c.args.at slot ++ text) (value_text z k before m (10 ^ (p - k)) few small whole);
     }
+
+pub returns-clause-some : goal.returns-clause-some
+returns-clause-some c = search rules depth 1
+
+pub returns-then-places-gt-MOST_PLACES-clause-none : goal.returns-then-places-gt-MOST_PLACES-clause-none
+returns-then-places-gt-MOST_PLACES-clause-none c = search rules depth 1

@@ -7,3 +7,6 @@ pub returns-clause-history : goal.returns-clause-history
 returns-clause-history g c =
     let is : c.is_some.result ≡ is_some c.args.self.now.recording = search rules in
     recording_law c.args.self.now c.is_some.result is
+
+pub returns-clause-value : goal.returns-clause-value
+returns-clause-value g c = search rules depth 1

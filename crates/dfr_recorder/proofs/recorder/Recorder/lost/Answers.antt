@@ -1,4 +1,4 @@
-use Rattle.std.proofs.Common.{◌≡◌, sym, None}
+use Rattle.std.proofs.Common.{◌≡◌, sym, None, rules}
 use Rattle.dfr_recorder.specs.History.{lost_refusal}
 use Rattle.dfr_recorder.proofs.Memory.{adds_law}
 use Rattle.dfr_recorder.proofs.Sound.{lost_taken_in}
@@ -20,3 +20,6 @@ pub returns-in_default-accept-clause-memory : goal.returns-in_default-accept-cla
 returns-in_default-accept-clause-memory g c _ =
     let no : lost_refusal c.self.inside.layout c.self.inside.count ≡ None = sym c.in-None.ensures.value in
     adds_law _ _ c.self.view_is no
+
+pub returns-in-Some-clause-memory : goal.returns-in-Some-clause-memory
+returns-in-Some-clause-memory g c = search rules depth 1

@@ -12,3 +12,9 @@ returns-clause-value c =
     subst
     (λ (z : ℤ). IfSome c.write_shortened.result (λ (end : ℕ). WritesValue c.args.slot.now c.write_shortened.new.slot c.args.at end (number_of z self.places)))
     units c.write_shortened.ensures.value
+
+pub returns-clause-none : goal.returns-clause-none
+returns-clause-none c = search rules depth 1
+
+pub returns-clause-some : goal.returns-clause-some
+returns-clause-some c = search rules depth 1
