@@ -52,6 +52,7 @@ pub const BOTH: Bay = Bay {
     ..BAY
 };
 
+/// A shelf of two.
 pub const TWO: Bay = Bay {
     limits: (2, 2, 6, 2),
     ..BAY
@@ -154,21 +155,4 @@ pub fn recorder<A: Allocator + Copy>(alloc: A, bay: Bay) -> Option<Recorder<A>> 
             None
         }
     }
-}
-
-fn fires_at_100<A: Allocator + Copy>(alloc: A, recorder: &mut Recorder<A>) -> bool {
-    match rules_in(recorder.layout(), &[OVER_100], alloc) {
-        Some(rules) => recorder.set_rules(rules).is_ok(),
-        None => false,
-    }
-}
-
-/// A recorder whose rules are set to one that fires from 100 on.
-pub fn recorder_at_100<A: Allocator + Copy>(alloc: A, bay: Bay) -> Option<Recorder<A>> {
-    let mut recorder = recorder(alloc, bay)?;
-    if fires_at_100(alloc, &mut recorder) {
-        return Some(recorder);
-    }
-    drop(recorder);
-    None
 }

@@ -1,4 +1,4 @@
-//! Which rule fires at a scan.
+//! Which rule fires at a scan, and rules over one channel of each kind, which the calls of threads set too.
 
 use crate::bay::{BOTH, layout, rules_in};
 use crate::steps::scan;

@@ -1,6 +1,6 @@
-//! All tests of the libraries, by their public calls: that each succeeds with enough memory, at its borders too, which no clause says, and
-//! what else no contract can say. `live` has those of recorders that threads share and of stations, `refused` refuses each allocation of a call in turn. They
-//! stand apart from the crates, since a crate that holds tests is proved twice.
+//! All tests of the libraries, by their public calls: that each succeeds with enough memory, at its borders too, which no clause says,
+//! what else no contract can say, and the examples of the crates' READMEs. `live` has those of recorders that threads share and of stations,
+//! `refused` refuses each allocation of a call in turn. They stand apart from the crates, since a crate that holds tests is proved twice.
 #![tactic(auto)]
 
 /// `maybe.is_some_and(|it| { right })`, as a `match` that drops the value by name: the proof of a closure that lets a recorder or a file

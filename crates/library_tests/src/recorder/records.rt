@@ -1,6 +1,6 @@
 //! Records of a rule, up to the greatest length.
 
-use crate::bay::{TWO, recorder_at_100};
+use crate::bay::{Bay, OVER_100, TWO, recorder};
 use crate::steps::value;
 use dfr_channels::Scan;
 use dfr_recorder::{Hit, Recorder, ScanRefusal, Scanned};
@@ -45,9 +45,14 @@ const HIGH: [Told; 8] = [
     (100, Some(Hit::Opened(2)), None),
 ];
 
-/// The first record, of six scans, waits while the second is open.
+const TWO_AT_100: Bay = Bay {
+    rules: &[OVER_100],
+    ..TWO
+};
+
+/// In the end three scans are held in the ring, three in the open record, and six in the record that waits.
 fn grows(alloc: Global) -> bool {
-    is_some_and!(recorder_at_100(alloc, TWO), |mut recorder| {
+    is_some_and!(recorder(alloc, TWO_AT_100), |mut recorder| {
         are_scanned(alloc, &mut recorder, &HIGH) && recorder.held() == 12
     })
 }

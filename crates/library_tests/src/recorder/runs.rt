@@ -1,4 +1,4 @@
-//! Lists of steps, with enough memory.
+//! Lists of steps, with enough memory: a long one and the shortest.
 
 use crate::bay::BAY;
 use crate::steps::ran;
@@ -47,4 +47,16 @@ fn runs_a_late_take(rt: HostRuntime) {
         Err(_) => false,
     };
     assert!(rt; taken);
+}
+
+fn answers_none(alloc: Global) -> bool {
+    is_some_and!(ran(alloc, BAY, b"^"), |ran| {
+        is_whole(&ran, 1) && matches!(ran.answers.as_slice(), [Answer::Take(None)])
+    })
+}
+
+/// Room for an answer is made before the first step too.
+#[test]
+fn runs_one_step(rt: HostRuntime) {
+    assert!(rt; answers_none(rt.alloc()));
 }

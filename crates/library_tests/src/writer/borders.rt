@@ -7,7 +7,7 @@ use std::alloc::Global;
 use std::mem;
 
 /// A change of the file of five rows, one analogue channel and one contact.
-#[derive(Clone, Copy, Debug)]
+#[derive(Clone, Copy)]
 enum Change {
     Station(&'static [u8]),
     Device(&'static [u8]),
@@ -25,15 +25,17 @@ enum Change {
     Rates(u32, u64, u64),
     /// The number, stamp and value of the row at this place.
     Row(usize, u64, u64, i32),
+    /// The second row has no stamp.
+    NoStamp,
     /// How many values and bits the second row has.
     Width(usize, usize),
     /// The last row goes.
     Short,
-    /// No row, and of each kind one channel or none.
+    /// No row, one rate up to row 0, and of each kind one channel or none.
     Bare(usize, usize),
 }
 
-fn none<T>(alloc: Global) -> Items<T> {
+fn no_items<T>(alloc: Global) -> Items<T> {
     Items::of(Vec::new(alloc))
 }
 
@@ -96,6 +98,10 @@ impl Edit<Row> for Change {
                 row.stamp = Some(stamp);
                 put(&mut row.values, repeated(alloc, Reading::Value(value), 1))
             }
+            Change::NoStamp => {
+                row.stamp = None;
+                true
+            }
             Change::Width(values, bits) => {
                 put(&mut row.values, repeated(alloc, Reading::Value(12), values))
                     && put(&mut row.bits, repeated(alloc, false, bits))
@@ -112,7 +118,7 @@ fn edit_at<T: Drop>(
     at: usize,
     edit: impl Edit<T> + Drop,
 ) -> bool {
-    let mut items = mem::replace(list, none(alloc)).into_vec();
+    let mut items = mem::replace(list, no_items(alloc)).into_vec();
     let is_edited = match items.get_mut(at) {
         Some(item) => edit.edit(alloc, item),
         None => false,
@@ -135,8 +141,9 @@ fn rates(alloc: Global, count: u32, first: u64, last: u64) -> Option<Vec<Rate>> 
     Some(rates)
 }
 
+/// Leaves so many items of a list at most.
 fn keep<T: Drop>(list: &mut Items<T>, count: usize, alloc: Global) {
-    let mut items = mem::replace(list, none(alloc)).into_vec();
+    let mut items = mem::replace(list, no_items(alloc)).into_vec();
     items.truncate(count);
     *list = Items::of(items);
 }
@@ -163,7 +170,7 @@ fn is_changed(alloc: Global, file: &mut File, change: Change) -> bool {
             put(&mut head.rates, rates(alloc, count, first, last))
         }
         Change::Row(at, ..) => edit_at(alloc, &mut file.rows, at, change),
-        Change::Width(..) => edit_at(alloc, &mut file.rows, 1, change),
+        Change::NoStamp | Change::Width(..) => edit_at(alloc, &mut file.rows, 1, change),
         Change::Short => {
             keep(&mut file.rows, 4, alloc);
             true
@@ -241,18 +248,20 @@ fn texts(rt: HostRuntime) {
     assert_eq!(rt; first_other(rt.alloc(), &rows), None);
 }
 
-/// From the first instant of the year 1 to the last of the year 9999.
+/// The first instant of the year 1.
 const FIRST: i64 = -62135596800000000;
 
+/// The last instant of the year 9999.
 const LAST: i64 = 253402300799999999;
 
 #[test]
 fn shapes(rt: HostRuntime) {
-    let rows: [(&[Change], Faults); 18] = [
+    let rows: [(&[Change], Faults); 20] = [
         (&[Change::Short], SHAPE),
         (&[Change::Nrates(2)], SHAPE),
         (&[Change::Bare(0, 0)], SHAPE),
         (&[Change::Bare(0, 1)], WRITTEN),
+        (&[Change::Bare(1, 1)], WRITTEN),
         (&[Change::Rates(1000, 5, 5)], SHAPE),
         (&[Change::Rates(999, 5, 5)], WRITTEN),
         (&[Change::Short, Change::Rates(2, 5, 4)], SHAPE),
@@ -261,6 +270,7 @@ fn shapes(rt: HostRuntime) {
         (&[Change::Width(2, 1)], SHAPE),
         (&[Change::Width(1, 2)], SHAPE),
         (&[Change::Instants(FIRST, LAST)], WRITTEN),
+        (&[Change::Instants(-1, 0)], WRITTEN),
         (&[Change::Instants(FIRST - 1, 0)], SHAPE),
         (&[Change::Instants(0, LAST + 1)], SHAPE),
         (&[Change::Span(-99999, 99999)], WRITTEN),
@@ -271,10 +281,11 @@ fn shapes(rt: HostRuntime) {
     assert_eq!(rt; first_other(rt.alloc(), &rows), None);
 }
 
-/// Values, numbers and stamps; of two faults of BINARY data the value's comes first.
+/// Values, numbers and stamps; of a value's fault and a stamp's the value's comes first.
 #[test]
 fn data(rt: HostRuntime) {
-    let rows: [(&[Change], Faults); 9] = [
+    let rows: [(&[Change], Faults); 10] = [
+        (&[Change::NoStamp], WRITTEN),
         (&[Change::Row(1, 2, 1000, 32768)], [None, None, VALUE]),
         (&[Change::Row(1, 2, 1000, -32768)], [None, None, VALUE]),
         (&[Change::Row(1, 2, 4294967295, 12)], [None, None, STAMP]),
