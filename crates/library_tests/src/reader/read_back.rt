@@ -4,7 +4,7 @@ use super::same::is_same;
 use crate::bay::{BAY, Bay, CONTACTS, FAST, OVER_100, SHORT, SIX, TWO};
 use crate::samples::{FIRST_CFG, FIRST_DAT};
 use crate::steps::{Start, begun, ran};
-use crate::writer::borders::give_text;
+use crate::writer::changes::give_text;
 use comtrade_read::{read, read_of_file};
 use comtrade_write::{File, Kind, WriteFault, cfg_bytes, dat_bytes, file_of};
 use dfr_channels::{Layout, Memory};
