@@ -14,6 +14,7 @@ use Rattle.clap.specs.declared.parser.matches.ArgMatches.{ArgMatches}
 use Rattle.comtrade_io.specs.declared.words.Names.{Names}
 use Rattle.comtrade_io.specs.declared.words.Converted.{Converted}
 use Rattle.comtrade_io.specs.declared.words.Compared.{Compared}
+use Rattle.comtrade_io.specs.Asking.{IsNewPair}
 use Rattle.comtrade_io.specs.declared.words.View.{View}
 use Rattle.comtrade_io.specs.declared.words.View.TheVariants as view
 use Rattle.comtrade_io.specs.declared.words.Survey.{Survey}
@@ -84,24 +85,44 @@ extract_isnt_compare e = below 99 101 (letter 0 _ _ (sym e)) refl
 compare_isnt_convert : codes "compare" ≡ codes "convert" → ⊥
 compare_isnt_convert e = below 109 110 (letter 2 _ _ e) refl
 
+import_isnt_convert : codes "import" ≡ codes "convert" → ⊥
+import_isnt_convert e = below 99 105 (letter 0 _ _ (sym e)) refl
+
+import_isnt_compare : codes "import" ≡ codes "compare" → ⊥
+import_isnt_compare e = below 99 105 (letter 0 _ _ (sym e)) refl
+
+import_isnt_extract : codes "import" ≡ codes "extract" → ⊥
+import_isnt_extract e = below 101 105 (letter 0 _ _ (sym e)) refl
+
 -- where the names of a pair don't fit, nothing that its command asks for does
 pub no_view : (r : List Row) (v : View) → ((names : Names) → AreNames r names → ⊥) → FitsNothing (Asks r (view_name v))
 no_view r v none (asks.View w viewed) h = none viewed.names h.1.names
 no_view r v none (asks.Convert made) h = view_isnt v (codes "convert") refl (sym h.0)
+no_view r v none (asks.Import made) h = view_isnt v (codes "import") refl (sym h.0)
 no_view r v none (asks.Compare made) h = view_isnt v (codes "compare") refl (sym h.0)
 no_view r v none (asks.Extract folder) h = view_isnt v (codes "extract") refl (sym h.0)
 no_view r v none (asks.Survey s json encoding surveyed) h = survey_isnt_view s v h.0
 
-pub no_convert : (r : List Row) → ((made : Converted) → IsConverted r made → ⊥) → FitsNothing (Asks r (codes "convert"))
+pub no_convert : (r : List Row) → ((names : Names) (name : Bor Text) → IsNewPair r names name.now → ⊥) → FitsNothing (Asks r (codes "convert"))
 no_convert r none (asks.View w viewed) h = view_isnt w (codes "convert") refl h.0
-no_convert r none (asks.Convert made) h = none made h.1
+no_convert r none (asks.Convert made) h = none made.names made.name h.1.pair
+no_convert r none (asks.Import made) h = import_isnt_convert h.0
 no_convert r none (asks.Compare made) h = compare_isnt_convert h.0
 no_convert r none (asks.Extract folder) h = extract_isnt_convert h.0
 no_convert r none (asks.Survey s json encoding surveyed) h = survey_isnt s (codes "convert") refl h.0
 
+pub no_import : (r : List Row) → ((names : Names) (name : Bor Text) → IsNewPair r names name.now → ⊥) → FitsNothing (Asks r (codes "import"))
+no_import r none (asks.View w viewed) h = view_isnt w (codes "import") refl h.0
+no_import r none (asks.Convert made) h = import_isnt_convert (sym h.0)
+no_import r none (asks.Import made) h = none made.names made.name h.1.pair
+no_import r none (asks.Compare made) h = import_isnt_compare (sym h.0)
+no_import r none (asks.Extract folder) h = import_isnt_extract (sym h.0)
+no_import r none (asks.Survey s json encoding surveyed) h = survey_isnt s (codes "import") refl h.0
+
 pub no_compare : (r : List Row) → ((made : Compared) → IsCompared r made → ⊥) → FitsNothing (Asks r (codes "compare"))
 no_compare r none (asks.View w viewed) h = view_isnt w (codes "compare") refl h.0
 no_compare r none (asks.Convert made) h = compare_isnt_convert (sym h.0)
+no_compare r none (asks.Import made) h = import_isnt_compare h.0
 no_compare r none (asks.Compare made) h = none made h.1
 no_compare r none (asks.Extract folder) h = extract_isnt_compare h.0
 no_compare r none (asks.Survey s json encoding surveyed) h = survey_isnt s (codes "compare") refl h.0
@@ -109,18 +130,21 @@ no_compare r none (asks.Survey s json encoding surveyed) h = survey_isnt s (code
 pub no_extract : (r : List Row) → None ≡ first_of (codes "DIR") r → FitsNothing (Asks r (codes "extract"))
 no_extract r none (asks.View w viewed) h = view_isnt w (codes "extract") refl h.0
 no_extract r none (asks.Convert made) h = extract_isnt_convert (sym h.0)
+no_extract r none (asks.Import made) h = import_isnt_extract h.0
 no_extract r none (asks.Compare made) h = extract_isnt_compare (sym h.0)
 no_extract r none (asks.Extract folder) h = absurd (let e = none ∙ h.1 in cc)
 no_extract r none (asks.Survey s json encoding surveyed) h = survey_isnt s (codes "extract") refl h.0
 
 -- nor where no command has the name
 pub no_command : (r : List Row) (verb : Text) → ((v : View) → view_name v ≡ verb → ⊥) → ((s : Survey) → survey_name s ≡ verb → ⊥)
-    → (codes "convert" ≡ verb → ⊥) → (codes "compare" ≡ verb → ⊥) → (codes "extract" ≡ verb → ⊥) → FitsNothing (Asks r verb)
-no_command r verb view survey convert compare extract (asks.View w viewed) h = view w h.0
-no_command r verb view survey convert compare extract (asks.Convert made) h = convert h.0
-no_command r verb view survey convert compare extract (asks.Compare made) h = compare h.0
-no_command r verb view survey convert compare extract (asks.Extract folder) h = extract h.0
-no_command r verb view survey convert compare extract (asks.Survey s json encoding surveyed) h = survey s h.0
+    → (codes "convert" ≡ verb → ⊥) → (codes "import" ≡ verb → ⊥) → (codes "compare" ≡ verb → ⊥) → (codes "extract" ≡ verb → ⊥)
+    → FitsNothing (Asks r verb)
+no_command r verb view survey convert importing compare extract (asks.View w viewed) h = view w h.0
+no_command r verb view survey convert importing compare extract (asks.Convert made) h = convert h.0
+no_command r verb view survey convert importing compare extract (asks.Import made) h = importing h.0
+no_command r verb view survey convert importing compare extract (asks.Compare made) h = compare h.0
+no_command r verb view survey convert importing compare extract (asks.Extract folder) h = extract h.0
+no_command r verb view survey convert importing compare extract (asks.Survey s json encoding surveyed) h = survey s h.0
 
 -- a name and rows that are those of what a parse met
 pair : (o : Option (Text × List Row)) (verb : Text) (r : List Row) → Some verb ≡ option_map (λ p. p.0) o → Some r ≡ option_map (λ p. p.1) o → o ≡ Some (verb, r)

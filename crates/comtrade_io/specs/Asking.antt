@@ -13,6 +13,7 @@ use Rattle.comtrade_io.specs.declared.words.Cursor.{Cursor}
 use Rattle.comtrade_io.specs.declared.words.View.{View}
 use Rattle.comtrade_io.specs.declared.words.Viewed.{Viewed}
 use Rattle.comtrade_io.specs.declared.words.Converted.{Converted}
+use Rattle.comtrade_io.specs.declared.words.Importing.{Importing}
 use Rattle.comtrade_io.specs.declared.words.Compared.{Compared}
 use Rattle.comtrade_io.specs.declared.words.Survey.{Survey}
 use Rattle.comtrade_io.specs.declared.words.Asked.{Asked}
@@ -77,15 +78,24 @@ pub record IsViewed (rows : List Row) (v : Viewed) : Type 0 where
   pub json : IsFlag rows (codes "json") v.json
 
 -- two or three names: the pair's, its data file's where there are three, and the new pair's
-pub record IsConverted (rows : List Row) (made : Converted) : Type 0 where
-  pub file : first_of (codes "FILE") rows ≡ Some made.names.file.now
+pub record IsNewPair (rows : List Row) (names : Names) (new : Text) : Type 0 where
+  pub file : first_of (codes "FILE") rows ≡ Some names.file.now
   pub second : Text
   pub second_given : first_of (codes "NAME") rows ≡ Some second
-  pub dat : option_map (λ s. s.now) made.names.dat ≡ data_name second (first_of (codes "LAST") rows)
-  pub name : made.name.now ≡ pair_name second (first_of (codes "LAST") rows)
-  pub named : IsNamed made.names.file.now (option_map (λ s. s.now) made.names.dat)
+  pub dat : option_map (λ s. s.now) names.dat ≡ data_name second (first_of (codes "LAST") rows)
+  pub named : IsNamed names.file.now (option_map (λ s. s.now) names.dat)
+  pub last : new ≡ pair_name second (first_of (codes "LAST") rows)
+
+pub record IsConverted (rows : List Row) (made : Converted) : Type 0 where
+  pub pair : IsNewPair rows made.names made.name.now
   pub data_kind : (made.kind ≡ kind.Binary) ↔ (first_of (codes "KIND") rows ≡ Some (codes "binary"))
   pub part : ArePart rows made.part
+
+-- the same, which of month and day comes first in dates, and the repairs that are refused, in their order
+pub record IsImporting (rows : List Row) (made : Importing) : Type 0 where
+  pub pair : IsNewPair rows made.names made.name.now
+  pub dates : IsOption rows (codes "dates") made.dates
+  pub refused : map (λ s. s.now) made.refused.items ≡ unwrap_or (all_of (codes "refuse") rows) []
 
 -- two records, and how they are laid beside each other
 pub record IsCompared (rows : List Row) (made : Compared) : Type 0 where
@@ -103,6 +113,7 @@ AreAll rows names = names ≡ unwrap_or (all_of (codes "NAMES") rows) []
 abbrev pub Asks : List Row → Text → Asked → Type 0
 Asks rows verb (asks.View v viewed) = (view_name v ≡ verb) × IsViewed rows viewed
 Asks rows verb (asks.Convert made) = (codes "convert" ≡ verb) × IsConverted rows made
+Asks rows verb (asks.Import made) = (codes "import" ≡ verb) × IsImporting rows made
 Asks rows verb (asks.Compare made) = (codes "compare" ≡ verb) × IsCompared rows made
 Asks rows verb (asks.Extract folder) = (codes "extract" ≡ verb) × (first_of (codes "DIR") rows ≡ Some folder.now)
 Asks rows verb (asks.Survey s json encoding names) = (survey_name s ≡ verb) × IsFlag rows (codes "json") json

@@ -24,6 +24,10 @@ words name = record (word name) { action = Some Append }
 abbrev pub option : Text → Rule
 option name = record (new_rule name) { long = Some name; value_names = 1 }
 
+-- the same, any number of times
+abbrev pub repeated : Text → Rule
+repeated name = record (option name) { action = Some Append }
+
 -- --name without one
 abbrev pub flag : Text → Rule
 flag name = record (new_rule name) { long = Some name; action = Some SetTrue }
@@ -89,16 +93,26 @@ page = over_part (codes "page")
 abbrev pub measure : App
 measure = with_json (with_cursor (over_part (codes "measure")))
 
--- with three names the second is the data file's
-abbrev pub convert_names : App
-convert_names = with_rule (with_rule (with_rule (new_app (codes "convert"))
+-- a command that writes a pair: with three names the second is the data file's
+abbrev pub over_new : App → App
+over_new a = with_rule (with_rule (with_rule a
     (word (codes "FILE"))) (word (codes "NAME"))) (free_word (codes "LAST"))
+
+abbrev pub convert_names : App
+convert_names = over_new (new_app (codes "convert"))
 
 abbrev pub convert_kind : Bor (List (Bor (List ℕ))) → App
 convert_kind kinds = with_rule convert_names (kind_word kinds)
 
 abbrev pub convert : Bor (List (Bor (List ℕ))) → App
 convert kinds = with_part (convert_kind kinds)
+
+abbrev pub import_names : App
+import_names = over_new (new_app (codes "import"))
+
+-- which of month and day comes first, and the repairs that are refused
+abbrev pub importing : App
+importing = with_rule (with_rule import_names (option (codes "dates"))) (repeated (codes "refuse"))
 
 abbrev pub extract : App
 extract = with_rule (new_app (codes "extract")) (word (codes "DIR"))
@@ -148,7 +162,8 @@ abbrev pub surveys : App → App
 surveys a = with_subcommand (with_subcommand (with_subcommand a list.top) events.top) compare.top
 
 abbrev pub program : Bor (List (Bor (List ℕ))) → App
-program kinds = with_subcommand (with_subcommand (with_subcommand (surveys (views top)) measure.top) (convert kinds).top) extract.top
+program kinds = with_subcommand (with_subcommand (with_subcommand (with_subcommand (surveys (views top))
+    measure.top) (convert kinds).top) importing.top) extract.top
 
 -- the words for kinds of data
 abbrev pub AreKinds : Bor (List (Bor (List ℕ))) → Type 0

@@ -1,5 +1,6 @@
-//! What the tools over COMTRADE files share: the command line, and what they read and print: bytes up to a limit, texts of a file as
-//! printable characters alone, the records that a replay printed, and why a tool stopped.
+//! What the programs share: the version, the command line of `comtrade`, and their input and output:
+//! bytes up to a limit, texts of a file as printable characters, the records that a replay printed,
+//! and the errors that stop a program.
 #![tactic(auto)]
 
 mod command_line;
@@ -9,6 +10,7 @@ mod output;
 mod records;
 mod seen;
 mod text;
+mod version;
 mod words;
 
 pub use command_line::{Answer, answer_of};
@@ -18,7 +20,8 @@ pub use output::{flush_if_full, write_out};
 pub use records::{Next, Printed, next_record};
 pub use seen::seen_len;
 pub use text::{kind_name, put, put_count, put_number, put_quoted, put_safe, put_signed, put_with};
+pub use version::VERSION;
 pub use words::{
-    Asked, Compared, Converted, Cursor, Form, Names, Part, Picture, Survey, View, Viewed,
-    new_names, survey_of, view_of,
+    Asked, Compared, Converted, Cursor, Form, Importing, Names, Part, Picture, Survey, View,
+    Viewed, new_names, survey_of, view_of,
 };

@@ -103,6 +103,18 @@ pub struct Converted<'a> {
     pub name: &'a str,
 }
 
+/// Files as relays write them, and the pair of 1999 that is written, with choices that are not parsed yet.
+#[derive(Debug, Drop)]
+pub struct Importing<'a> {
+    pub names: Names<'a>,
+    /// Which of month and day comes first in dates.
+    pub dates: Option<&'a str>,
+    /// The keys of the repairs with which nothing is written, in the order in which they were given.
+    pub refused: Vec<&'a str>,
+    /// The name of the new pair, without `.cfg` and `.dat`.
+    pub name: &'a str,
+}
+
 /// Two records, and how they are laid beside each other: by the instants of their rows or by their triggers, as a text that isn't parsed
 /// yet. The part is the first one's; the side of the transformers and how files are read are those of both.
 #[derive(Clone, Copy, Debug)]
@@ -130,6 +142,8 @@ pub enum Asked<'a> {
     View(View, Viewed<'a>),
     /// A pair as a pair of another kind, with this name.
     Convert(Converted<'a>),
+    /// Files of other makers and years as a pair of 1999.
+    Import(Importing<'a>),
     /// Two records in one picture.
     Compare(Compared<'a>),
     /// The pairs that a replay printed, into a folder.

@@ -1,7 +1,8 @@
 //! What words ask for.
 
 ghost use Rattle.std.specs.Prelude.{◌≡◌, IfOk, MatchOption, codes, map};
-ghost use Rattle.clap.specs.Words.{found_of, kind_of, rows_of, subcommand_rows_of};
+ghost use Rattle.std.specs.Borrow.{Bor};
+ghost use Rattle.clap.specs.Words.{Text, found_of, kind_of, rows_of, subcommand_rows_of};
 ghost use Rattle.comtrade_io.specs.Asking.{AnswersTo, Asks, AsksAs, Does, FitsNothing, Tells};
 ghost use Rattle.comtrade_io.specs.Asking as Spec;
 ghost use Rattle.comtrade_io.specs.Verbs as verbs;
@@ -11,7 +12,8 @@ use crate::command_line::matched::{
     cursor_of, form_of, is_set, kind_of, named, names_of, part_of, picture_of, text_of, texts_of,
 };
 use crate::words::{
-    Asked, Compared, Converted, Survey, View, Viewed, new_names, survey_of, view_of,
+    Asked, Compared, Converted, Importing, Names, Survey, View, Viewed, new_names, survey_of,
+    view_of,
 };
 use clap::error::ErrorKind;
 use clap::{ArgMatches, Error};
@@ -48,29 +50,47 @@ fn viewed_of<'a>(view: View, found: &ArgMatches<'a>) -> Option<Asked<'a>>
     ))
 }
 
-/// What the last word names, and a pair: with three names the second is the data file's.
-fn converted_of<'a>(found: &ArgMatches<'a>) -> Option<Converted<'a>>
-    ensures { MatchOption result ((made : Converted) → Spec.IsConverted (rows_of (found_of found.now)) made → ⊥)
-        (Spec.IsConverted (rows_of (found_of found.now))) }
+/// A pair, and the name of a new one: with three names the second is the data file.
+fn new_pair_of<'a>(found: &ArgMatches<'a>) -> Option<(Names<'a>, &'a str)>
+    ensures { MatchOption result ((names : Names) (name : Bor Text) → Spec.IsNewPair (rows_of (found_of found.now)) names name.now → ⊥)
+        (λ p. Spec.IsNewPair (rows_of (found_of found.now)) p.0 p.1.now) }
 {
     let file = text_of(found, "FILE")?;
     let second = text_of(found, "NAME")?;
     let (dat, name) = new_names(second, text_of(found, "LAST"));
-    Some(Converted {
-        names: named(file, dat)?,
-        kind: kind_of(found),
-        part: part_of(found),
-        name,
-    })
+    Some((named(file, dat)?, name))
 }
 
-/// A pair, and the pair that is written.
+/// A pair, and the pair to write with this data format.
 #[tactic(auto, using(crate::proofs::MetCommands::no_convert))]
 fn convert_of<'a>(found: &ArgMatches<'a>) -> Option<Asked<'a>>
     ensures { MatchOption result (FitsNothing (Asks (rows_of (found_of found.now)) (codes "convert")))
         (Asks (rows_of (found_of found.now)) (codes "convert")) }
 {
-    Some(Asked::Convert(converted_of(found)?))
+    let (names, name) = new_pair_of(found)?;
+    Some(Asked::Convert(Converted {
+        names,
+        kind: kind_of(found),
+        part: part_of(found),
+        name,
+    }))
+}
+
+/// Files to import, and the pair to write.
+#[tactic(auto, using(crate::proofs::MetCommands::no_import))]
+fn import_of<'a>(alloc: Global, found: &ArgMatches<'a>) -> Result<Option<Asked<'a>>, AllocError>
+    ensures { IfOk result (λ asked. MatchOption asked (FitsNothing (Asks (rows_of (found_of found.now)) (codes "import")))
+        (Asks (rows_of (found_of found.now)) (codes "import"))) }
+{
+    let Some((names, name)) = new_pair_of(found) else {
+        return Ok(None);
+    };
+    Ok(Some(Asked::Import(Importing {
+        names,
+        dates: text_of(found, "dates"),
+        refused: texts_of(alloc, found, "refuse")?,
+        name,
+    })))
 }
 
 /// The names of two records, and how they are compared.
@@ -138,6 +158,9 @@ fn asked_of<'a>(
     if verb == "convert" {
         return Ok(convert_of(found));
     }
+    if verb == "import" {
+        return import_of(alloc, found);
+    }
     if verb == "compare" {
         return Ok(compare_of(found));
     }
@@ -169,7 +192,7 @@ fn answer_to<'a>(alloc: Global, matches: &ArgMatches<'a>) -> Result<Answer<'a>, 
         Some(asked) => Ok(Answer::Do(asked)),
         None => Ok(Answer::Refuse(String::from_str(
             alloc,
-            "error: only one of both files can be -, standard input, and the other has to be named\n",
+            "error: only one of FILE and DAT can be - (standard input), and the other needs a name\n",
         )?)),
     }
 }

@@ -1,61 +1,78 @@
-//! The commands of the program, with their words and their help. A command is one function here, its definition of the same name in
-//! `specs/Commands.antt`, and a line in the function of its group; of `list` and `events`, which take the same words, that line is all.
+//! The commands of the program, with their arguments and help texts. A command is one function
+//! here, a definition of the same name in `specs/Commands.antt`, and a line in the function of its
+//! group. `list` and `events` take the same arguments, so each is only that line.
 
 ghost use Rattle.std.specs.Prelude.{IfOk};
 ghost use Rattle.clap.specs.Words.{App, new_app};
 ghost use Rattle.comtrade_io.specs.Commands.{IsCommand, IsKinded};
 ghost use Rattle.comtrade_io.specs.Commands as Spec;
 
+use crate::VERSION;
 use crate::command_line::options::{
-    free_word, option, with, with_encoding, with_json, with_part, with_picture, word, words,
+    free_word, option, repeated, with, with_encoding, with_json, with_part, with_picture, word,
+    words,
 };
 use clap::Command;
 use std::alloc::{AllocError, Global};
 
 const ABOUT: &str =
-    "Looks at COMTRADE files of 1999 (IEEE Std C37.111-1999): shows, checks, draws and converts them";
+    "Looks at COMTRADE records (IEEE Std C37.111): lists, shows, checks, measures, draws, converts, imports";
 
+/// What FILE and DAT name, and the exit status.
 const STATUS: &str = "\
-FILE is a configuration file (.cfg), a data file (.dat) or what both are called: its partner is found by its name, in any case of \
-letters. With DAT both are named; one of them may be -, which is standard input.
+FILE is a configuration file (.cfg), a data file (.dat), a single file (.cff) or the name they share.
+The other file of the pair is found next to it, in upper or lower case. With DAT, FILE is the
+configuration file and DAT the data file; one of the two may be -, for standard input.
 
-Status: 0 all of it was done; 1 a fault of the files, or what can't be read or written; 2 words that ask for nothing.";
+Exit status: 0 success; 1 an error in the files, or a file that cannot be read or written; 2 usage error.";
 
 const TOP_HELP: &str = "\
-Many records, one after a storm:
-  comtrade list storm                            which record, by instant, with the greatest current
-  comtrade events storm/rec1 storm/rec2          what happened, in one list by time
+Many records, after a storm:
+  comtrade list storm                    one line per record, with its greatest current
+  comtrade events storm/rec1 storm/rec2  what happened, in order of time
 
 One record:
-  comtrade show rec1                             names, rates, channels, contacts, gaps
-  comtrade check rec1                            its first fault, or that it has none
-  comtrade measure --at 20 rec1                  rms values, phasors, sequence components at a moment
-  comtrade plot rec1 > rec1.svg                  a picture
-  comtrade page rec1 > rec1.html                 a page for a browser
+  comtrade show rec1                     names, rates, channels, extremes, gaps
+  comtrade check rec1                    its first error, or that it has none
+  comtrade measure --at 20 rec1          rms values, phasors and sequence components
+  comtrade plot rec1 > rec1.svg          a picture
+  comtrade page rec1 > rec1.html         a page for a browser
   comtrade csv --separator ';' --decimal ',' rec1 > rec1.csv
 
 Two records:
-  comtrade compare near far > both.svg           one picture of two ends of a line, by their instants
+  comtrade compare near far > both.svg   two ends of a line, aligned by time
   comtrade compare --by trigger old new > both.svg
 
-Other files of it:
+Other files:
+  comtrade import OLD.CFG new            a valid pair of 1999 from what relays write
   comtrade convert --kind binary --from -20 --to 100 rec1 report
-  comtrade import OLD.CFG new                    a pair of 1999 of what relays write, also of 1991, 2013 and single files (.cff)
   dfr replay < script | comtrade extract records
 
-FILE is a configuration file (.cfg), a data file (.dat) or what both are called: its partner is found by its name, in any case of \
-letters. With DAT both are named; one of them may be -, which is standard input.
+FILE is a configuration file (.cfg), a data file (.dat), a single file (.cff) or the name they share.
+The other file of the pair is found next to it, in upper or lower case. With DAT, FILE is the
+configuration file and DAT the data file; one of the two may be -, for standard input.
 
-Status: 0 all of it was done; 1 a fault of the files, or what can't be read or written; 2 words that ask for nothing.";
+Exit status: 0 success; 1 an error in the files, or a file that cannot be read or written; 2 usage error.";
 
 const SURVEY_STATUS: &str = "\
-Status: 0 all of it was done; 1 a fault of the files, or what can't be read or written; 2 words that ask for nothing.";
+Exit status: 0 success; 1 an error in the files, or a file that cannot be read or written; 2 usage error.";
 
 const COMPARE_STATUS: &str = "\
-A and B are what pairs are called, or a file of each. The rows, channels and contacts that options name are A's; equal channels are those of \
-the same name, unit and side.
+A and B are the names of two pairs, or one file of each. Options that choose rows and channels apply
+to A; channels are compared where name, unit and side are the same.
 
-Status: 0 all of it was done; 1 a fault of the files, what can't be compared, read or written; 2 words that ask for nothing.";
+Exit status: 0 success; 1 an error in the files, or a file that cannot be read or written; 2 usage error.";
+
+const IMPORT_STATUS: &str = "\
+FILE is a configuration file (.cfg), a single file (.cff) or the name that a pair shares. With three
+names the second one is the data file. Each repair is printed as a line: its key, what it means and
+where. The manual lists the keys.
+
+Exit status: 0 the pair was written, also with repairs; 1 the files cannot be imported, read or
+written; 2 usage error.";
+
+const NEW_PAIR: &str =
+    "The name of the new pair, without .cfg and .dat; existing files are never overwritten";
 
 static KINDS: [&str; 2] = ["ascii", "binary"];
 
@@ -71,8 +88,12 @@ fn over_pair<'a>(alloc: Global, name: &'a str, about: &'a str) -> Result<Command
     ensures { IfOk result (IsCommand (Spec.over_pair name.entry.now)) }
 {
     let bare = command(alloc, name, about, STATUS);
-    let file = word(alloc, "FILE", "A file of the pair, or what both are called");
-    let dat = "The data file, where FILE is the configuration file";
+    let file = word(
+        alloc,
+        "FILE",
+        "A file of the record, or the name its files share",
+    );
+    let dat = "The data file, if FILE is the configuration file";
     let one = with(bare, file)?;
     with(one, free_word(alloc, "DAT", dat))
 }
@@ -88,24 +109,24 @@ fn over_part<'a>(alloc: Global, name: &'a str, about: &'a str) -> Result<Command
 fn show<'a>(alloc: Global) -> Result<Command<'a>, AllocError>
     ensures { IfOk result (IsCommand Spec.show) }
 {
-    let about = "Prints what is in a pair: names, instants, channels, extremes, changes, gaps";
+    let about = "Print what a record holds: names, times, channels, extremes, changes, gaps";
     with_json(alloc, over_part(alloc, "show", about)?)
 }
 
 fn check<'a>(alloc: Global) -> Result<Command<'a>, AllocError>
     ensures { IfOk result (IsCommand Spec.check) }
 {
-    let about = "Prints the first fault of a pair, or that it has none";
+    let about = "Print the first error of a pair of 1999, or that it has none";
     with_json(alloc, over_pair(alloc, "check", about)?)
 }
 
 fn csv<'a>(alloc: Global) -> Result<Command<'a>, AllocError>
     ensures { IfOk result (IsCommand Spec.csv) }
 {
-    let about = "Prints the rows: instants, values a*x + b, contacts";
+    let about = "Print the rows as CSV: times, values a*x + b, status channels";
     let part = over_part(alloc, "csv", about)?;
-    let separator = "What separates cells, as ';' or tab";
-    let decimal = "What stands before the places of a number: . or ,";
+    let separator = "Cell separator, such as ';' or tab";
+    let decimal = "Decimal separator: . or ,";
     let one = with(part, option(alloc, "separator", "TEXT", separator))?;
     with(one, option(alloc, "decimal", "TEXT", decimal))
 }
@@ -113,14 +134,14 @@ fn csv<'a>(alloc: Global) -> Result<Command<'a>, AllocError>
 fn plot<'a>(alloc: Global) -> Result<Command<'a>, AllocError>
     ensures { IfOk result (IsCommand Spec.plot) }
 {
-    let part = over_part(alloc, "plot", "Prints a picture, as SVG")?;
+    let part = over_part(alloc, "plot", "Draw the record as an SVG picture")?;
     with_picture(alloc, part)
 }
 
 fn page<'a>(alloc: Global) -> Result<Command<'a>, AllocError>
     ensures { IfOk result (IsCommand Spec.page) }
 {
-    let about = "Prints a page that shows the record in a browser, in one file";
+    let about = "Print a self-contained HTML page that shows the record in a browser";
     over_part(alloc, "page", about)
 }
 
@@ -128,37 +149,49 @@ fn measure<'a>(alloc: Global) -> Result<Command<'a>, AllocError>
     ensures { IfOk result (IsCommand Spec.measure) }
 {
     let about =
-        "Prints where currents left their course; of a moment or window phasors, harmonics, sequence components";
+        "Print fault inceptions; at a moment or in a window rms, phasors, harmonics, sequences";
     let part = over_part(alloc, "measure", about)?;
-    let at = "The moment whose last whole cycle is measured, said as --from is";
-    let reference = "The channel from which angles are counted, by its id or number";
+    let at = "Measure the last whole cycle ending at MOMENT (same forms as --from)";
+    let reference = "The channel that angles refer to, by id or number";
     let one = with(part, option(alloc, "at", "MOMENT", at))?;
     let two = with(one, option(alloc, "reference", "CHANNEL", reference))?;
     with_json(alloc, two)
 }
 
-/// The names of `convert`: with three of them the second is the data file's.
-fn convert_names<'a>(alloc: Global) -> Result<Command<'a>, AllocError>
-    ensures { IfOk result (IsCommand Spec.convert_names) }
+/// A command that writes a pair. With three names the second is the data file.
+fn over_new<'a>(
+    alloc: Global,
+    bare: Command<'a>,
+    written: &'a str,
+) -> Result<Command<'a>, AllocError>
+    ensures { (a : App) → IsCommand a bare.entry → IfOk result (IsCommand (Spec.over_new a)) }
 {
-    let about =
-        "Writes NAME.cfg and NAME.dat, which say the same with data of another kind; neither may be there";
-    let usage = "comtrade convert --kind <KIND> [OPTIONS] <FILE> [DAT] <NAME>";
-    let bare = command(alloc, "convert", about, STATUS).override_usage(usage);
-    let file = word(alloc, "FILE", "A file of the pair, or what both are called");
-    let name =
-        "What both new files are called, without .cfg and .dat; before a third name the data file";
-    let last = "What both new files are called, where the data file stands before it";
+    let file = word(
+        alloc,
+        "FILE",
+        "A file of the record, or the name its files share",
+    );
+    let last = "The name of the new pair, if NAME is the data file";
     let one = with(bare, file)?;
-    let two = with(one, word(alloc, "NAME", name))?;
+    let two = with(one, word(alloc, "NAME", written))?;
     with(two, free_word(alloc, "LAST", last))
 }
 
-/// The same, with the kind of the data.
+/// The names of `convert`.
+fn convert_names<'a>(alloc: Global) -> Result<Command<'a>, AllocError>
+    ensures { IfOk result (IsCommand Spec.convert_names) }
+{
+    let about = "Write the same record, or a part of it, as a pair with this data format";
+    let usage = "comtrade convert --kind <KIND> [OPTIONS] <FILE> [DAT] <NAME>";
+    let bare = command(alloc, "convert", about, STATUS).override_usage(usage);
+    over_new(alloc, bare, NEW_PAIR)
+}
+
+/// The same, with the data format.
 fn convert_kind<'a>(alloc: Global) -> Result<Command<'a>, AllocError>
     ensures { IfOk result (IsKinded Spec.convert_kind) }
 {
-    let kind = word(alloc, "KIND", "The kind of the data that is written")
+    let kind = word(alloc, "KIND", "The data format to write")
         .long("kind")
         .value_parser(KINDS.as_slice());
     convert_names(alloc)?.arg(kind)
@@ -171,13 +204,33 @@ fn convert<'a>(alloc: Global) -> Result<Command<'a>, AllocError>
     with_part(alloc, kinded)
 }
 
+/// The names of `import`.
+fn import_names<'a>(alloc: Global) -> Result<Command<'a>, AllocError>
+    ensures { IfOk result (IsCommand Spec.import_names) }
+{
+    let about =
+        "Read files of 1991, 1999 or 2013 as relays write them, and write a valid pair of 1999";
+    let usage = "comtrade import [OPTIONS] <FILE> [DAT] <NAME>";
+    let bare = command(alloc, "import", about, IMPORT_STATUS).override_usage(usage);
+    over_new(alloc, bare, NEW_PAIR)
+}
+
+fn importing<'a>(alloc: Global) -> Result<Command<'a>, AllocError>
+    ensures { IfOk result (IsCommand Spec.importing) }
+{
+    let dates = "Order of month and day in the dates [possible values: mdy, dmy]";
+    let refuse = "Write nothing if this repair is needed; may be given several times";
+    let named = import_names(alloc)?;
+    let dated = with(named, option(alloc, "dates", "ORDER", dates))?;
+    with(dated, repeated(alloc, "refuse", "KEY", refuse))
+}
+
 fn extract<'a>(alloc: Global) -> Result<Command<'a>, AllocError>
     ensures { IfOk result (IsCommand Spec.extract) }
 {
-    let about =
-        "Cuts what `dfr replay` printed, on standard input, into DIR/recN.cfg and DIR/recN.dat";
+    let about = "Cut what `dfr replay` printed (standard input) into DIR/recN.cfg and DIR/recN.dat";
     let bare = Command::new(alloc, "extract").about(about);
-    let folder = "The folder, which is made where it isn't there";
+    let folder = "The folder; it is made if it does not exist";
     with(bare, word(alloc, "DIR", folder))
 }
 
@@ -186,7 +239,10 @@ fn over_names<'a>(alloc: Global, name: &'a str, about: &'a str) -> Result<Comman
     ensures { IfOk result (IsCommand (Spec.over_names name.entry.now)) }
 {
     let bare = command(alloc, name, about, SURVEY_STATUS);
-    let named = with(bare, words(alloc, "NAMES", "Folders with pairs, and pairs"))?;
+    let named = with(
+        bare,
+        words(alloc, "NAMES", "Folders with records, and records"),
+    )?;
     let json = with_json(alloc, named)?;
     with_encoding(alloc, json)
 }
@@ -194,17 +250,19 @@ fn over_names<'a>(alloc: Global, name: &'a str, about: &'a str) -> Result<Comman
 fn compare<'a>(alloc: Global) -> Result<Command<'a>, AllocError>
     ensures { IfOk result (IsCommand Spec.compare) }
 {
-    let about = "Prints two records in one picture, as SVG, and how far equal channels differ";
+    let about =
+        "Overlay two records in one SVG picture, and print how far same-named channels differ";
     let bare = command(alloc, "compare", about, COMPARE_STATUS);
-    let by = "What falls together: instant (so it is without this) or trigger";
-    let one = with(bare, word(alloc, "A", "A record"))?;
-    let two = with(one, word(alloc, "B", "The record that is laid over it"))?;
+    let by =
+        "Align the records by instant (default) or trigger [possible values: instant, trigger]";
+    let one = with(bare, word(alloc, "A", "The first record"))?;
+    let two = with(one, word(alloc, "B", "The record to overlay"))?;
     let three = with(two, option(alloc, "by", "WHAT", by))?;
     let part = with_part(alloc, three)?;
     with_picture(alloc, part)
 }
 
-/// The commands that print what is in a pair.
+/// The commands that print what a record holds.
 fn views<'a>(alloc: Global, program: Command<'a>) -> Result<Command<'a>, AllocError>
     ensures { IsCommand Spec.top program.entry → IfOk result (IsCommand (Spec.views Spec.top)) }
 {
@@ -216,12 +274,12 @@ fn views<'a>(alloc: Global, program: Command<'a>) -> Result<Command<'a>, AllocEr
         .subcommand(page(alloc)?)
 }
 
-/// The commands over many pairs.
+/// The commands over many records.
 fn surveys<'a>(alloc: Global, program: Command<'a>) -> Result<Command<'a>, AllocError>
     ensures { (a : App) → IsCommand a program.entry → IfOk result (IsCommand (Spec.surveys a)) }
 {
-    let list = "Prints a line for each record of folders, by the instants of the triggers";
-    let events = "Prints the triggers, gaps and changes of contacts of one record or more, by time";
+    let list = "Print one line per record, sorted by trigger time";
+    let events = "Print triggers, gaps and changes of status channels, in order of time";
     program
         .subcommand(over_names(alloc, "list", list)?)?
         .subcommand(over_names(alloc, "events", events)?)?
@@ -233,10 +291,10 @@ fn named_top<'a>(alloc: Global) -> Result<Command<'a>, AllocError>
     ensures { IfOk result (IsCommand Spec.named_top) }
 {
     let bare = command(alloc, "comtrade", ABOUT, TOP_HELP);
-    bare.version("0.1").bin_name("comtrade")
+    bare.version(VERSION).bin_name("comtrade")
 }
 
-/// A command that wants one of those below it.
+/// A command that requires one of its subcommands.
 fn with_choice<'a>(command: Command<'a>) -> Command<'a>
     ensures { (a : App) → IsCommand a command.entry → IsCommand (Spec.with_choice a) result }
 {
@@ -246,7 +304,7 @@ fn with_choice<'a>(command: Command<'a>) -> Command<'a>
         .subcommand_required(true)
 }
 
-/// The program's words.
+/// The program's command line.
 pub(crate) fn comtrade<'a>(alloc: Global) -> Result<Command<'a>, AllocError>
     ensures { IfOk result (IsKinded Spec.program) }
 {
@@ -257,5 +315,6 @@ pub(crate) fn comtrade<'a>(alloc: Global) -> Result<Command<'a>, AllocError>
     surveying
         .subcommand(measure(alloc)?)?
         .subcommand(convert(alloc)?)?
+        .subcommand(importing(alloc)?)?
         .subcommand(extract(alloc)?)
 }

@@ -9,8 +9,9 @@ returns c =
     let kinded = c.in_ok-convert.ensures in
     let measuring = added _ _ _ _ _ surveying c.in_ok-measure.ensures c.in_ok-subcommand.ensures in
     let converting = added _ _ _ _ _ measuring kinded.command c.in_ok-subcommand-2.ensures in
-    IfOk-weaker c.subcommand-3.result _ _ (λ r h. record {
+    let importing = added _ _ _ _ _ converting c.in_ok-importing.ensures c.in_ok-subcommand-3.ensures in
+    IfOk-weaker c.subcommand-4.result _ _ (λ r h. record {
       kinds = kinded.kinds;
       words = kinded.words;
-      command = added _ _ _ _ _ converting c.in_ok-extract.ensures h;
-    }) c.subcommand-3.ensures
+      command = added _ _ _ _ _ importing c.in_ok-extract.ensures h;
+    }) c.subcommand-4.ensures

@@ -11,6 +11,4 @@ returns c =
       app = ap app_of_fields c.override_usage-bare.ensures ∙ told.app;
       local = let is_local = told.local in search rules;
     } in
-    let one = c.in_ok-one.ensures _ _ bare c.word-file.ensures.rule c.word-file.ensures.local in
-    let two = c.in_ok-two.ensures _ _ one c.word.ensures.rule c.word.ensures.local in
-    c.with-3.ensures _ _ two c.free_word.ensures.rule c.free_word.ensures.local
+    c.over_new.ensures _ bare
