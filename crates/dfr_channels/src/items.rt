@@ -70,7 +70,7 @@ impl<T: Copy, A: Allocator + Copy> Items<T, A> {
     }
 }
 
-/// A deep copy that can run out of memory.
+/// A type with a deep copy that can run out of memory.
 pub trait TryClone: Drop {
     /// A deep copy, on the same allocator. `Memory`: an allocation failed.
     fn try_clone(&self) -> Result<Self, Memory>

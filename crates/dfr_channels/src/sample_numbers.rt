@@ -129,8 +129,9 @@ fn signed(minus: bool, number: u64) -> i32
 }
 
 /// The number in the first field of a text, and the text after that field's comma, if it has one.
-/// The field must be four or five digits, with or without a minus sign, as most samples are; None
-/// exactly if it is spelled otherwise. On such fields it is `plain_number`, but faster.
+/// The field must be four or five digits, with or without a minus sign; None exactly if it is
+/// spelled otherwise. On such fields, as most samples are, it gives the same as `plain_number`, but
+/// faster.
 #[inline(always)]
 pub fn sample_number(text: &[u8]) -> Option<(i32, Option<&[u8]>)>
     ensures sample { is_some result ≡ begins_sample text.now }

@@ -10,8 +10,7 @@ use std::fmt::{self, Display, Formatter, Write};
 use std::marker::Model;
 use thiserror::Error;
 
-/// The set-up of a recorder. [`crate::Layout::new`] checks it, also the lengths and ranges given
-/// here.
+/// The set-up of a recorder. [`crate::Layout::new`] checks the lengths and ranges given here.
 #[derive(Drop, Debug)]
 pub struct Setup<A: Allocator = Global> {
     /// The station's name, at most 64 bytes.

@@ -6,9 +6,9 @@ use dfr_channels::Layout;
 use std::alloc::Allocator;
 use thiserror::Error;
 
-/// How many scans a record has before its trigger (`pre`) and after it (`post`), and in all at most
-/// (`longest`). At most `shelf` finished records wait. If `unshared` holds, each scan is in at most
-/// one record.
+/// A record has up to `pre` scans before its trigger and `post` after it. Later triggers can extend
+/// it to at most `longest` scans in all. At most `shelf` finished records wait. If `unshared` holds,
+/// each scan is in at most one record.
 #[derive(Clone, Copy, Debug, PartialEq, Eq)]
 pub struct Limits {
     pre: u32,
@@ -65,8 +65,8 @@ impl Limits {
         (longest as u64 - 1) * 1_000_000 / rate as u64 <= LAST_STAMP
     }
 
-    /// Checks limits for records over this layout, which may share scans; else the first test that
-    /// fails. Doesn't allocate.
+    /// Checks the limits of records over this layout; the records may share scans. The error is the
+    /// first test that fails. Doesn't allocate.
     pub fn new<A: Allocator>(
         layout: &Layout<A>,
         pre: u32,

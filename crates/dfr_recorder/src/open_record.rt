@@ -60,7 +60,7 @@ fn begin<A: Allocator + Copy>(
     Ok(Recording::new(extent, scans))
 }
 
-/// Gives the open record its extent, or opens one. Allocates only to open one.
+/// Gives the open record this extent, or opens a record with it. Allocates only to open one.
 pub(crate) fn place<A: Allocator + Copy>(
     recording: &mut Option<Recording<A>>,
     extent: Option<Extent>,

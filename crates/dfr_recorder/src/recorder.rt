@@ -17,8 +17,8 @@ use std::collections::VecDeque;
 use std::marker::Model;
 
 /// A recorder with pre-trigger memory. It holds the last `pre + 1` scans in a ring, the open
-/// record, and on the shelf the finished records that wait to be taken: at most `pre + 1 + longest
-/// * shelf` scans. Contracts see what it keeps of the steps that it made.
+/// record, and the finished records that wait on the shelf until they are taken. These are at most
+/// `pre + 1 + longest * shelf` scans. Contracts see what it keeps of the steps that it made.
 #[derive(Drop)]
 pub struct Recorder<A: Allocator = Global> {
     layout: Layout<A>,
