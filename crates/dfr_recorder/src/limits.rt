@@ -6,9 +6,9 @@ use dfr_channels::Layout;
 use std::alloc::Allocator;
 use thiserror::Error;
 
-/// A record has up to `pre` scans before its trigger and `post` after it. Later triggers can extend
-/// it to at most `longest` scans in all. At most `shelf` finished records wait. If `unshared` holds,
-/// each scan is in at most one record.
+/// A record has up to `pre` scans before its trigger and `post` after it. Later triggers can
+/// extend it to at most `longest` scans in all. At most `shelf` finished records wait. If
+/// `unshared` holds, each scan is in at most one record.
 #[derive(Clone, Copy, Debug, PartialEq, Eq)]
 pub struct Limits {
     pre: u32,
