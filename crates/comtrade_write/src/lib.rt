@@ -1,5 +1,6 @@
-//! The files of a record: its File, and the bytes of its two files. What a File is and how it is written stands in `comtrade_format`,
-//! whose names are handed on.
+//! The COMTRADE files of a record (C37.111-1999): its `File`, and the bytes of its two files.
+//! `comtrade_format` defines what a `File` is and how it is written. Its names for that are
+//! exported here too.
 #![tactic(auto)]
 
 mod of_record;

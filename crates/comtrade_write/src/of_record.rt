@@ -1,4 +1,4 @@
-//! The File of a record.
+//! The `File` of a record.
 
 ghost use Rattle.std.specs.Prelude.{◌≡◌, ◌≤◌, ◌<◌, ◌^◌, Some, [], ◌∷◌, true, IfOk, length};
 ghost use Rattle.std.specs.List.{list_all};
@@ -17,11 +17,11 @@ use dfr_recorder::Record;
 use std::alloc::Allocator;
 use thiserror::Error;
 
-/// Why a record has no File.
+/// Why a record has no `File`.
 #[derive(Clone, Copy, Debug, PartialEq, Eq, Error)]
 pub enum FileFault {
-    /// The record doesn't match the layout: a scan of it doesn't pass the layout's check, its last scan has no instant in
-    /// this layout, or its last row's stamp is over 4,294,967,294 microseconds.
+    /// The record doesn't match the layout: a scan doesn't pass the layout's check, the last scan
+    /// has no instant in this layout, or the last row's stamp is over 4,294,967,294 microseconds.
     #[error("the record isn't of this layout")]
     Foreign,
     /// An allocation failed.
@@ -66,7 +66,7 @@ fn has_instant<A: Allocator>(layout: &Layout<A>, k: u64) -> bool
     }
 }
 
-/// Whether the stamps of so many rows can be written.
+/// Whether the stamps of this many rows can be written.
 fn has_stamps<A: Allocator>(layout: &Layout<A>, rows: usize) -> bool
     ensures { result ≡ has_stamps layout.now.rate rows }
 {
@@ -87,7 +87,7 @@ fn is_own<A: Allocator>(layout: &Layout<A>, taken: &Record<A>) -> bool
     has_stamps(layout, taken.scans().len())
 }
 
-/// The number without places.
+/// The number as a decimal without places.
 fn whole(n: u32) -> Decimal
     ensures { result ≡ spec.whole n }
 {
@@ -97,7 +97,7 @@ fn whole(n: u32) -> Decimal
     decimal
 }
 
-/// When scan k was taken.
+/// The instant of scan k, in microseconds since 1970-01-01 00:00:00.
 fn instant_at<A: Allocator>(layout: &Layout<A>, k: u64) -> i64
     requires { own.has_instant layout.now k ≡ true }
     ensures { result ≡ spec.instant_at layout.now k }
@@ -193,7 +193,7 @@ fn rows<A: Allocator + Copy>(
     Ok(Items::of(list))
 }
 
-/// The File of a record that matches the layout.
+/// The `File` of a record that matches the layout.
 pub(crate) fn own_file<A: Allocator + Copy>(
     alloc: A,
     layout: &Layout<A>,
@@ -211,9 +211,12 @@ pub(crate) fn own_file<A: Allocator + Copy>(
     Ok(File { head, rows })
 }
 
-/// The File of a record, for data of this kind: the layout's texts, channels and line frequency, one rate, the instants of
-/// the first scan and of the trigger, and a row for each scan with its stamp in microseconds since the first. The writers
-/// refuse it only when out of memory.
+/// The `File` of a record, for ASCII or BINARY data (`kind`). It has the layout's texts, channels
+/// and line frequency, one rate, and the instants of the first scan and of the trigger. Each scan
+/// has a row, with its stamp in microseconds since the first scan. The writers refuse this `File`
+/// only when out of memory.
+///
+/// `Foreign`: exactly if the record doesn't match the layout. `Memory`: an allocation failed.
 pub fn file_of<A: Allocator + Copy>(
     alloc: A,
     layout: &Layout<A>,

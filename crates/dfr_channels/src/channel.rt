@@ -7,26 +7,37 @@ use crate::{Decimal, Items, Memory, TryClone, is_plain};
 use std::alloc::{Allocator, Global};
 use std::marker::Model;
 
-/// Whether a channel's values are those of the primary or of the secondary side of its transformer.
+/// The side of the transformer that a channel's values refer to.
 #[derive(Clone, Copy, Debug, PartialEq, Eq)]
 pub enum Side {
     Primary,
     Secondary,
 }
 
-/// An analogue channel, as its line of a configuration file says it (C37.111-1999, 5.3.3). Its value is a·x + b in `unit`,
-/// with x a sample from `min` to `max`; `skew` is in microseconds; `primary` and `secondary` are the transformer's ratio.
+/// An analogue channel, with the fields of its line in a configuration file (C37.111-1999, 5.3.3).
+/// A sample x has the value a·x + b in `unit`. `Layout::new` checks the lengths and ranges given
+/// here.
 #[derive(Drop, Debug)]
 pub struct AnalogChannel<A: Allocator = Global> {
+    /// The channel's identifier, at most 64 bytes.
     pub id: Items<u8, A>,
+    /// The phase identification, at most 2 bytes.
     pub phase: Items<u8, A>,
+    /// The monitored circuit component, at most 64 bytes.
     pub component: Items<u8, A>,
+    /// The unit of the values, 1 to 32 bytes.
     pub unit: Items<u8, A>,
+    /// The factor of a sample.
     pub a: Decimal,
+    /// The offset, in `unit`.
     pub b: Decimal,
+    /// The channel's time skew, in microseconds.
     pub skew: Decimal,
+    /// The lowest sample, at least -32767.
     pub min: i32,
+    /// The highest sample, at most 32767 and at least `min`.
     pub max: i32,
+    /// The transformer's ratio is `primary` to `secondary`.
     pub primary: Decimal,
     pub secondary: Decimal,
     pub side: Side,
@@ -53,12 +64,17 @@ impl<A: Allocator> Model for AnalogChannel<A> {
     } };
 }
 
-/// A status channel (C37.111-1999, 5.3.4), and its bit while nothing is wrong.
+/// A status channel (contact), with the fields of its line in a configuration file (C37.111-1999,
+/// 5.3.4). `Layout::new` checks the lengths given here.
 #[derive(Drop, Debug)]
 pub struct StatusChannel<A: Allocator = Global> {
+    /// The channel's identifier, at most 64 bytes.
     pub id: Items<u8, A>,
+    /// The phase identification, at most 2 bytes.
     pub phase: Items<u8, A>,
+    /// The monitored circuit component, at most 64 bytes.
     pub component: Items<u8, A>,
+    /// The bit in normal operation.
     pub normal: bool,
 }
 
@@ -108,7 +124,7 @@ impl<A: Allocator + Copy> TryClone for StatusChannel<A> {
     }
 }
 
-/// Whether a file can hold the channel's texts.
+/// Whether a file can hold all texts of the channel.
 #[tactic(auto, unfolding(crate::specs::Setups::has_analog_texts))]
 pub(crate) fn has_analog_texts<A: Allocator>(channel: &AnalogChannel<A>) -> bool
     ensures { result ≡ spec.has_analog_texts channel.now }
@@ -119,7 +135,7 @@ pub(crate) fn has_analog_texts<A: Allocator>(channel: &AnalogChannel<A>) -> bool
         && is_plain(1, 32, channel.unit.items())
 }
 
-/// Whether a file can hold the channel's texts.
+/// Whether a file can hold all texts of the channel.
 #[tactic(auto, unfolding(crate::specs::Setups::has_status_texts))]
 pub(crate) fn has_status_texts<A: Allocator>(channel: &StatusChannel<A>) -> bool
     ensures { result ≡ spec.has_status_texts channel.now }

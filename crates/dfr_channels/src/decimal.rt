@@ -6,7 +6,8 @@ ghost use Rattle.dfr_channels.specs.Spelling.{Number, decimal_number, is_point, 
 use crate::number::{LIMIT, capped_number, without_sign};
 use std::marker::Model;
 
-/// The number units / 10^places.
+/// The decimal number units / 10^places. The units lie strictly between -10^36 and 10^36; there are
+/// at most 80 places.
 #[derive(Clone, Copy, Debug, Eq)]
 pub struct Decimal {
     units: i128,
@@ -36,7 +37,7 @@ impl PartialEq for Decimal {
 
     ghost laws = { Prim.search (comparing, rules) };
 
-    /// Whether units and places are the same: 1.5 isn't 1.50.
+    /// Whether units and places are equal: 1.5 is not equal to 1.50.
     fn eq(&self, other: &Decimal) -> bool
         ensures value { result ≡ is_same self.now other.now }
         ensures same { Decides result (self.now ≡ other.now) }
@@ -46,7 +47,8 @@ impl PartialEq for Decimal {
 }
 
 impl Decimal {
-    /// The units of the number units / 10^places, strictly between -10^36 and 10^36; there are at most 80 places.
+    /// The units of the number units / 10^places, strictly between -10^36 and 10^36. The places are
+    /// at most 80.
     pub fn units(&self) -> i128
         ensures value { result ≡ self.now.units }
         ensures lawful { IsNumber self.now }
@@ -62,21 +64,21 @@ impl Decimal {
     }
 }
 
-/// Where the exponent mark stands.
+/// The position of the first exponent mark (`e` or `E`).
 fn place_of_mark(text: &[u8]) -> Option<usize>
     ensures { result ≡ position is_exponent_mark text.now }
 {
     text.iter().position(|b| *b == b'e' || *b == b'E')
 }
 
-/// Where the point stands.
+/// The position of the first point.
 fn place_of_point(text: &[u8]) -> Option<usize>
     ensures { result ≡ position is_point text.now }
 {
     text.iter().position(|b| *b == b'.')
 }
 
-/// What stands before the exponent mark, and what stands after it.
+/// The text before the exponent mark, and the text after it, if there is a mark.
 #[tactic(auto, using(crate::proofs::Cuts::cuts))]
 fn at_exponent(text: &[u8]) -> (&[u8], Option<&[u8]>)
     ensures front { result.0.now ≡ before_first is_exponent_mark text.now }
@@ -88,7 +90,7 @@ fn at_exponent(text: &[u8]) -> (&[u8], Option<&[u8]>)
     }
 }
 
-/// What stands before the point, and what stands after it.
+/// The text before the point, and the text after it, which is empty if there is no point.
 #[tactic(auto, using(crate::proofs::Cuts::cuts))]
 fn at_point(text: &[u8]) -> (&[u8], &[u8])
     ensures front { result.0.now ≡ before_first is_point text.now }
@@ -100,7 +102,8 @@ fn at_point(text: &[u8]) -> (&[u8], &[u8])
     }
 }
 
-/// The number that the digits before and after the point make, but at most the limit.
+/// The number of the digits before and after the point, capped at 10^36. None if there are no
+/// digits, or if a byte is not a digit.
 fn number_at(whole: &[u8], fraction: &[u8]) -> Option<u128>
     ensures { result ≡ capped_size (whole.now ++ fraction.now) }
 {
@@ -111,7 +114,8 @@ fn number_at(whole: &[u8], fraction: &[u8]) -> Option<u128>
     capped_number(number, fraction)
 }
 
-/// The number that the digits make, but at most 10^36; None where there are none or one is no digit.
+/// The number that the digits spell, capped at 10^36. None if there are no digits, or if a byte is
+/// not a digit.
 pub fn numeral_of(digits: &[u8]) -> Option<u128>
     ensures { result ≡ capped_size digits.now }
 {
@@ -121,7 +125,8 @@ pub fn numeral_of(digits: &[u8]) -> Option<u128>
     capped_number(0, digits)
 }
 
-/// The exponent that stands after the mark, its size capped.
+/// The exponent after the mark: whether it has a minus sign, and its size, capped at 10^36. It is 0
+/// if there is no mark; None if it can't be read.
 fn exponent_of(text: Option<&[u8]>) -> Option<(bool, u128)>
     ensures { result ≡ option_map capped (exponent (option_copied text.entry)) }
 {
@@ -135,7 +140,7 @@ fn exponent_of(text: Option<&[u8]>) -> Option<(bool, u128)>
     Some((down, capped_number(0, digits)?))
 }
 
-/// The decimal digits / 10^places * 10^exponent, where it can be held.
+/// The decimal digits / 10^places * 10^exponent; None if a [`Decimal`] can't hold it.
 fn number_of(minus: bool, digits: u128, places: usize, exponent: (bool, u128)) -> Option<Decimal>
     requires digits { digits ≤ 10 ^ 36 }
     requires exponent { exponent.1 ≤ 10 ^ 36 }
@@ -160,7 +165,7 @@ fn number_of(minus: bool, digits: u128, places: usize, exponent: (bool, u128)) -
     })
 }
 
-/// The number with this many zeros after it, where it is below 10^36.
+/// The number followed by this many zeros; None if that is 10^36 or more.
 fn with_zeros(number: u128, zeros: u128) -> Option<u128>
     ensures { SomeIff result (number * 10 ^ zeros < 10 ^ 36) (number * 10 ^ zeros) }
 {
@@ -176,7 +181,9 @@ fn with_zeros(number: u128, zeros: u128) -> Option<u128>
 }
 
 impl Decimal {
-    /// The decimal that the text spells; None where it spells none, or one that can't be held. Blanks aren't trimmed.
+    /// Reads a decimal: an optional sign, digits with at most one point, and an optional exponent.
+    /// There must be at least one digit before the exponent. None if the text is spelled otherwise
+    /// or a [`Decimal`] can't hold the number. Blanks aren't trimmed.
     pub fn read(text: &[u8]) -> Option<Decimal>
         ensures { result ≡ decimal_number text.now }
     {
@@ -188,8 +195,8 @@ impl Decimal {
         number_of(minus, number, fraction.len(), exponent)
     }
 
-    /// The number units / 10^places, where the units lie strictly between -10^36 and 10^36 and the places are at most 80;
-    /// None otherwise.
+    /// The decimal units / 10^places; None unless the units lie strictly between -10^36 and 10^36
+    /// and the places are at most 80.
     pub fn new(units: i128, places: u8) -> Option<Decimal>
         ensures { SomeIff result (IsNumber (record { units = units; places = places })) (record { units = units; places = places }) }
     {

@@ -1,4 +1,5 @@
-//! The kinds of field that scripts and files share, read from their trimmed text.
+//! Reads the fields that scripts and COMTRADE files share. Each function takes a field's text
+//! without surrounding blanks.
 
 ghost use Rattle.std.specs.Prelude.{◌≡◌};
 ghost use Rattle.dfr_channels.specs.Fields as spec;
@@ -7,7 +8,7 @@ use crate::channel::Side;
 use crate::decimal::Decimal;
 use crate::number::integer_of;
 
-/// The decimal that the text spells, 0 where it is empty; None otherwise.
+/// Reads an optional decimal: 0 if the text is empty, else as [`Decimal::read`] does.
 #[tactic(auto, unfolding(crate::specs::Fields::free_scale))]
 pub fn free_scale_of(text: &[u8]) -> Option<Decimal>
     ensures { result ≡ spec.free_scale text.now }
@@ -19,7 +20,7 @@ pub fn free_scale_of(text: &[u8]) -> Option<Decimal>
     }
 }
 
-/// The bit that the number is.
+/// The bit, if the number is 0 or 1; None otherwise.
 fn as_bit(number: Option<i128>) -> Option<bool>
     ensures { result ≡ spec.as_bit number }
 {
@@ -30,7 +31,7 @@ fn as_bit(number: Option<i128>) -> Option<bool>
     }
 }
 
-/// The bit that the text spells, as the whole number 0 or 1; None otherwise.
+/// Reads a bit: a whole number equal to 0 or 1, in any spelling. None otherwise.
 #[tactic(auto, unfolding(crate::specs::Fields::bit))]
 pub fn bit_of(text: &[u8]) -> Option<bool>
     ensures { result ≡ spec.bit text.now }
@@ -38,7 +39,7 @@ pub fn bit_of(text: &[u8]) -> Option<bool>
     as_bit(integer_of(text))
 }
 
-/// The bit that the text spells, 0 where it is empty; None otherwise.
+/// Reads an optional bit: 0 if the text is empty, else as [`bit_of`] does.
 #[tactic(auto, unfolding(crate::specs::Fields::free_bit))]
 pub fn free_bit_of(text: &[u8]) -> Option<bool>
     ensures { result ≡ spec.free_bit text.now }
@@ -50,7 +51,7 @@ pub fn free_bit_of(text: &[u8]) -> Option<bool>
     }
 }
 
-/// The side that the text names: P or S, in upper or lower case; None otherwise.
+/// Reads a transformer side: P or S, in upper or lower case. None otherwise.
 #[tactic(auto, unfolding(crate::specs::Fields::side))]
 pub fn side_of(text: &[u8]) -> Option<Side>
     ensures { result ≡ spec.side text.now }

@@ -1,4 +1,4 @@
-//! A list that contracts see as the list, and copies that fail when out of memory.
+//! A list that contracts see as its items, and deep copies that can run out of memory.
 
 ghost use Rattle.std.specs.Prelude.{◌≡◌, IfOk};
 
@@ -6,7 +6,7 @@ use crate::Memory;
 use std::alloc::{Allocator, Global};
 use std::marker::Model;
 
-/// A list, which contracts see as its items.
+/// A list. Contracts see its items.
 #[derive(Drop, Debug)]
 pub struct Items<T, A: Allocator = Global> {
     list: Vec<T, A>,
@@ -33,7 +33,7 @@ impl<T: PartialEq, A: Allocator> PartialEq for Items<T, A> {
 }
 
 impl<T, A: Allocator> Items<T, A> {
-    /// The list of these items. Doesn't allocate.
+    /// Makes a list of a vector. Doesn't allocate.
     pub fn of(list: Vec<T, A>) -> Items<T, A>
         ensures { result ≡ list.items }
     {
@@ -47,14 +47,14 @@ impl<T, A: Allocator> Items<T, A> {
         self.list.as_slice()
     }
 
-    /// The list of the items. Doesn't allocate.
+    /// The list as a vector. Doesn't allocate.
     pub fn into_vec(self) -> Vec<T, A>
         ensures { result.items ≡ self }
     {
         self.list
     }
 
-    /// The allocator that the list was made with.
+    /// The allocator of the list.
     pub fn allocator(&self) -> &A {
         self.list.allocator()
     }
@@ -70,14 +70,14 @@ impl<T: Copy, A: Allocator + Copy> Items<T, A> {
     }
 }
 
-/// What can be copied where there is memory for it.
+/// A type with a deep copy that can run out of memory.
 pub trait TryClone: Drop {
     /// A deep copy, on the same allocator. `Memory`: an allocation failed.
     fn try_clone(&self) -> Result<Self, Memory>
         ensures { IfOk result (λ copy. copy ≡ self.now) };
 }
 
-/// A copy of each item, in order, in a list on `alloc`. `Memory`: an allocation failed.
+/// A deep copy of each item, in order, in a list on `alloc`. `Memory`: an allocation failed.
 pub fn copies_of<T: TryClone, A: Allocator + Copy>(
     alloc: A,
     list: &[T],

@@ -1,4 +1,4 @@
-//! A set-up that was found valid.
+//! Valid set-ups, and whether a scan fits one.
 
 ghost use Rattle.std.specs.Prelude.{◌≡◌, ◌<◌, ◌≤◌, ◌≤ℤ◌, ◌+ℤ◌, pos, length, Some, None, IfSome, OnOk, MatchResult, true};
 ghost use Rattle.std.specs.Bool.{OnTrue};
@@ -12,7 +12,7 @@ use std::alloc::{Allocator, Global};
 use std::marker::Model;
 use thiserror::Error;
 
-/// A set-up without a fault, which contracts see as the set-up.
+/// A valid set-up. Contracts see the set-up.
 #[derive(Drop, Debug)]
 pub struct Layout<A: Allocator = Global> {
     setup: Setup<A>,
@@ -33,17 +33,18 @@ impl<A: Allocator> Model for Layout<A> {
 /// Why a scan doesn't fit a layout, in the order of the tests.
 #[derive(Clone, Copy, Debug, PartialEq, Eq, Error)]
 pub enum ScanFault {
-    /// A number of readings or bits that isn't the layout's.
+    /// The number of readings or bits is not the layout's.
     #[error("another number of readings or bits than the layout has")]
     Shape,
-    /// The lowest channel, from 0, whose value is out of its range. A missing reading never is.
+    /// The lowest channel, from 0, whose value is below its `min` or above its `max`. A missing
+    /// reading is always in range.
     #[error("the value of analogue channel {0}, counted from 0, is out of its range")]
     Range(u32),
 }
 
 const LAST: i64 = 253_402_300_799_999_999;
 
-/// A missing reading is always in range.
+/// Whether the reading is in the channel's range. A missing one always is.
 fn is_within<A: Allocator>(channel: &AnalogChannel<A>, reading: &Reading) -> bool
     ensures { result ≡ spec.is_within channel.now reading.now }
 {
@@ -53,7 +54,7 @@ fn is_within<A: Allocator>(channel: &AnalogChannel<A>, reading: &Reading) -> boo
     }
 }
 
-/// The lowest channel whose reading is out of its range.
+/// The lowest channel whose reading is out of range.
 fn lowest_out<A: Allocator>(channels: &[AnalogChannel<A>], readings: &[Reading]) -> Option<u32>
     requires same { length readings.now ≡ length channels.now }
     requires few { length channels.now ≤ 256 }
@@ -75,7 +76,7 @@ fn has_shape<A: Allocator>(setup: &Setup<A>, scan: &Scan<A>) -> bool
         && scan.status().len() == setup.status.items().len()
 }
 
-/// The first fault of a scan under a set-up of at most 256 analogue channels.
+/// The first fault of a scan, for a set-up of at most 256 analogue channels.
 #[tactic(auto, unfolding(crate::specs::Scans::scan_fault))]
 fn scan_fault<A: Allocator>(setup: &Setup<A>, scan: &Scan<A>) -> Result<(), ScanFault>
     requires { length setup.now.analog ≤ 256 }
@@ -91,8 +92,8 @@ fn scan_fault<A: Allocator>(setup: &Setup<A>, scan: &Scan<A>) -> Result<(), Scan
     }
 }
 
-/// The instant of scan k of a recorder that starts then and makes so many scans a second. Whether there is one takes no division,
-/// which is the longest part where that alone is asked.
+/// The instant of scan k, given the scans a second and the instant of scan 0; None after the year
+/// 9999. Whether it is None is decided without a division, the slowest part.
 fn instant_at(rate: u32, start: i64, k: u64) -> Option<i64>
     requires rate { (1 ≤ rate) × (rate ≤ 1000000) }
     requires start { (pos 0 ≤ℤ start) × (start ≤ℤ pos end_of_time) }
@@ -112,7 +113,7 @@ impl<A: Allocator> Layout<A> {
     ghost use Rattle.dfr_channels.specs.Setups.{setup_fault, IsLawful, end_of_time};
     ghost use Rattle.dfr_channels.specs.Scans.{instant_of, scan_fault, Fits};
 
-    /// The layout of a valid set-up; one with a fault is handed back with its first fault. Doesn't allocate.
+    /// Checks a set-up. A refused one is handed back with its first fault. Doesn't allocate.
     pub fn new(setup: Setup<A>) -> Result<Layout<A>, (SetupFault, Setup<A>)>
         ensures made { IfOk result (λ layout. (setup_fault setup ≡ None) × (layout ≡ setup)) }
         ensures fault { IfErr result (λ refused. setup_fault setup ≡ Some refused.0) }
@@ -152,14 +153,14 @@ impl<A: Allocator> Layout<A> {
         self.setup.status.items()
     }
 
-    /// In Hz.
+    /// The line frequency, in Hz.
     pub fn line_freq(&self) -> Decimal
         ensures { result ≡ self.now.line_freq }
     {
         self.setup.line_freq
     }
 
-    /// In scans a second. Any layout is valid (clause `lawful`).
+    /// The number of scans a second. Clause `lawful` states that any layout is valid.
     pub fn rate(&self) -> u32
         ensures value { result ≡ self.now.rate }
         ensures lawful { IsLawful self.now }
@@ -167,7 +168,7 @@ impl<A: Allocator> Layout<A> {
         self.setup.rate
     }
 
-    /// In microseconds since 1970-01-01 00:00:00.
+    /// The instant of scan 0, in microseconds since 1970-01-01 00:00:00.
     pub fn start(&self) -> i64
         ensures { result ≡ self.now.start }
     {
@@ -182,8 +183,8 @@ impl<A: Allocator> Layout<A> {
         instant_at(self.rate(), self.start(), k)
     }
 
-    /// Whether a scan has the layout's channels, each value in its channel's range. Doesn't allocate, and looks at each
-    /// reading at most once.
+    /// Checks that a scan has the layout's channels, and each value is in its channel's range.
+    /// Doesn't allocate, and looks at each reading at most once.
     pub fn check(&self, scan: &Scan<A>) -> Result<(), ScanFault>
         ensures fault { MatchResult result (λ _. scan_fault self.now scan.now ≡ None) (λ fault. scan_fault self.now scan.now ≡ Some fault) }
         ensures fits { OnOk result (Fits self.now scan.now) }
@@ -195,7 +196,7 @@ impl<A: Allocator> Layout<A> {
 impl<A: Allocator + Copy> Layout<A> {
     ghost use Rattle.std.specs.Prelude.{◌≡◌, IfOk};
 
-    /// A deep copy, on the same allocator.
+    /// A deep copy, on the same allocator. `Memory`: an allocation failed.
     pub fn try_clone(&self) -> Result<Layout<A>, Memory>
         ensures { IfOk result (λ copy. copy ≡ self.now) }
     {

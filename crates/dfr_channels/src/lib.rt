@@ -1,4 +1,5 @@
-//! The channels of a recorder, its scans and trigger rules, and how texts and numbers are spelled.
+//! What the recorder and file crates share: channels, scans, trigger rules, and how texts and
+//! numbers are spelled.
 #![tactic(auto)]
 
 mod channel;

@@ -1,4 +1,4 @@
-//! The lines of a text, and the fields of a line.
+//! How a text is cut into lines, and a line into fields.
 
 ghost use Rattle.std.specs.Prelude.{◌≡◌, ◌+◌, ◌≤◌, ℕ, List, [], ◌∷◌, ◌++◌, IfOk, length, option_copied};
 ghost use Rattle.dfr_channels.specs.Lines.{without_cr, cut_lines, lines_left, drop_end, fields, texts, is_blank_line};
@@ -8,7 +8,7 @@ use memchr::{memchr, memrchr};
 use std::alloc::{AllocError, Allocator};
 use std::marker::Model;
 
-/// The line without one carriage return at its end.
+/// Drops one carriage return at the end of the line, if there is one.
 fn without_carriage_return(line: &[u8]) -> &[u8]
     ensures { result.now ≡ without_cr line.now }
 {
@@ -18,13 +18,14 @@ fn without_carriage_return(line: &[u8]) -> &[u8]
     }
 }
 
+/// Whether the line is empty or has only spaces and tabs.
 fn is_blank(line: &[u8]) -> bool
     ensures { result ≡ is_blank_line line.now }
 {
     trim(line).is_empty()
 }
 
-/// A text's first line, and what stands after its line feed, if it has one.
+/// The first line of a text, and the text after its line feed, if it has one.
 #[tactic(auto, using(crate::proofs::LineCuts::line_cuts))]
 fn first_line(text: &[u8]) -> (&[u8], Option<&[u8]>)
     ensures { cut_lines text.now ≡ result.0.now ∷ lines_left (option_copied result.1) }
@@ -35,7 +36,7 @@ fn first_line(text: &[u8]) -> (&[u8], Option<&[u8]>)
     }
 }
 
-/// What stands before a text's last line feed, if it has one, and its last line.
+/// The text before the last line feed, if there is one, and the last line.
 #[tactic(auto, using(crate::proofs::LineCuts::line_cuts))]
 fn last_line(text: &[u8]) -> (Option<&[u8]>, &[u8])
     ensures { cut_lines text.now ≡ lines_left (option_copied result.0) ++ result.1.now ∷ [] }
@@ -46,8 +47,8 @@ fn last_line(text: &[u8]) -> (Option<&[u8]>, &[u8])
     }
 }
 
-/// The lines of a text, cut one after the other: what stands between its line feeds, each without one carriage return at its
-/// end.
+/// The lines of a text, from first to last. Lines are separated by line feeds; one carriage return
+/// at the end of a line is dropped.
 #[derive(Debug, Drop)]
 pub struct Lines<'a> {
     left: Option<&'a [u8]>,
@@ -60,7 +61,7 @@ impl<'a> Model for Lines<'a> {
 }
 
 impl<'a> Lines<'a> {
-    /// All lines of a text.
+    /// All lines of a text: at least one, and at most one more than it has bytes.
     #[tactic(auto, using(crate::proofs::LineCuts::few_lines))]
     pub fn of(text: &'a [u8]) -> Lines<'a>
         ensures lines { result ≡ cut_lines text.now }
@@ -69,7 +70,8 @@ impl<'a> Lines<'a> {
         Lines { left: Some(text) }
     }
 
-    /// The same lines without the blank ones at the end.
+    /// The same lines without the blank ones at the end. A blank line is empty or has only spaces
+    /// and tabs.
     pub fn without_blank_end(self) -> Lines<'a>
         ensures lines { result ≡ drop_end is_blank_line self.entry }
         ensures few { length result ≤ length self.entry }
@@ -103,14 +105,14 @@ impl<'a> Iterator for Lines<'a> {
     }
 }
 
-/// All lines of a text. `AllocError` is an allocation that failed.
+/// All lines of a text, as [`Lines::of`] cuts it. `AllocError`: an allocation failed.
 pub fn lines_of<'a, A: Allocator>(alloc: A, text: &'a [u8]) -> Result<Vec<&'a [u8], A>, AllocError>
     ensures { IfOk result (λ v. texts v.items ≡ cut_lines text.now) }
 {
     Lines::of(text).collect(alloc)
 }
 
-/// The lines without the blank ones at their end.
+/// The lines without the blank ones at the end.
 pub fn without_blank_end<'s, 'a>(lines: &'s [&'a [u8]]) -> &'s [&'a [u8]]
     ensures { texts result.now ≡ drop_end is_blank_line (texts lines.now) }
 {
@@ -124,7 +126,8 @@ pub fn without_blank_end<'s, 'a>(lines: &'s [&'a [u8]]) -> &'s [&'a [u8]]
     left
 }
 
-/// The fields of a line, without the blanks around them. `AllocError`: an allocation failed.
+/// The fields of a line: the texts between its commas, each without surrounding blanks.
+/// `AllocError`: an allocation failed.
 pub fn fields_of<'a, A: Allocator>(alloc: A, line: &'a [u8]) -> Result<Vec<&'a [u8], A>, AllocError>
     ensures { IfOk result (λ v. texts v.items ≡ fields line.now) }
 {

@@ -1,4 +1,4 @@
-//! Out of memory.
+//! The out-of-memory error.
 
 use std::alloc::{AllocError, AllocFailed};
 use thiserror::Error;

@@ -3,10 +3,11 @@ ghost use Rattle.std.specs.Str.{all_ascii_digits};
 ghost use Rattle.std.specs.Str.Parse.{digits_value, digits_value_after, starts_with_minus, without_leading_sign};
 ghost use Rattle.dfr_channels.specs.Spelling.{whole_number};
 
-/// The first number that is too large, 10^36.
+/// The smallest number that is too large, 10^36.
 pub(crate) const LIMIT: u128 = 1_000_000_000_000_000_000_000_000_000_000_000_000;
 
-/// The number that the digits make when they follow those of `start`, but at most the limit.
+/// The number that the digits spell after those of `start`, capped at the limit. None if a byte is
+/// not a digit.
 pub(crate) fn capped_number(start: u128, digits: &[u8]) -> Option<u128>
     requires { start ≤ 10 ^ 36 }
     ensures { result ≡ (if all_ascii_digits digits.now then Some (min (digits_value_after 10 start digits.now) (10 ^ 36)) else None) }
@@ -21,7 +22,7 @@ pub(crate) fn capped_number(start: u128, digits: &[u8]) -> Option<u128>
     Some(number)
 }
 
-/// The number that at most 19 digits make, which 64 bits hold.
+/// The number that at most 19 digits spell, which fits 64 bits. None if a byte is not a digit.
 fn short_number(digits: &[u8]) -> Option<u64>
     requires { length digits.now ≤ 19 }
     ensures value { result ≡ (if all_ascii_digits digits.now then Some (digits_value 10 digits.now) else None) }
@@ -37,7 +38,7 @@ fn short_number(digits: &[u8]) -> Option<u64>
     Some(number)
 }
 
-/// Whether a minus stands first, and what follows the sign.
+/// Whether the text begins with a minus sign, and the text after its sign, if it has one.
 pub(crate) fn without_sign(text: &[u8]) -> (bool, &[u8])
     ensures minus { result.0 ≡ starts_with_minus text.now }
     ensures rest { result.1.now ≡ without_leading_sign text.now }
@@ -49,7 +50,8 @@ pub(crate) fn without_sign(text: &[u8]) -> (bool, &[u8])
     }
 }
 
-/// The whole number that the text spells, if it lies strictly between -10^36 and 10^36; None otherwise. Blanks aren't trimmed.
+/// Reads a whole number: an optional sign and digits, strictly between -10^36 and 10^36. None
+/// otherwise. Blanks aren't trimmed.
 pub fn integer_of(text: &[u8]) -> Option<i128>
     ensures { result ≡ whole_number text.now }
 {

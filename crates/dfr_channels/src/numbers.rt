@@ -1,4 +1,5 @@
-//! What the types of decimals, channels and layouts keep of their numbers. Each function here does nothing: its contract states it.
+//! Bounds on the numbers in decimals, channels and layouts. These functions compute nothing: their
+//! contracts state the bounds.
 
 ghost use Rattle.std.specs.List.{All};
 ghost use Rattle.dfr_channels.specs.Spelling.{IsNumber};
@@ -9,7 +10,7 @@ use crate::decimal::Decimal;
 use crate::layout::Layout;
 use std::alloc::Allocator;
 
-/// Units strictly between -10^36 and 10^36, and at most 80 places.
+/// A decimal has units strictly between -10^36 and 10^36, and at most 80 places.
 pub fn decimal_is_number(decimal: Decimal)
     ensures { IsNumber decimal }
 {
@@ -26,7 +27,7 @@ fn channel_has_numbers<A: Allocator>(channel: &AnalogChannel<A>)
     decimal_is_number(channel.secondary);
 }
 
-/// Every number of the channels is one that a decimal holds.
+/// Every decimal of the channels is within these bounds.
 pub fn channels_have_numbers<A: Allocator>(channels: &[AnalogChannel<A>])
     ensures { All HasDecimals channels.now }
 {
@@ -35,7 +36,7 @@ pub fn channels_have_numbers<A: Allocator>(channels: &[AnalogChannel<A>])
     }
 }
 
-/// Every number of a layout's channels is one that a decimal holds, and so is its line frequency.
+/// Every decimal of a layout's channels is within these bounds, and so is its line frequency.
 pub fn layout_has_numbers<A: Allocator>(layout: &Layout<A>)
     ensures analog { All HasDecimals layout.now.analog }
     ensures line_freq { IsNumber layout.now.line_freq }

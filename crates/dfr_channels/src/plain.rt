@@ -1,4 +1,4 @@
-//! The texts that a file can hold.
+//! Which texts a file can hold.
 
 ghost use Rattle.std.specs.Prelude.{◌≡◌};
 ghost use Rattle.dfr_channels.specs.Spelling.{is_blank};
@@ -31,8 +31,9 @@ fn has_blank_end(text: &[u8]) -> bool
     is_blank(text[0]) || is_blank(text[text.len() - 1])
 }
 
-/// Whether a file can hold the text: `low` to `high` bytes from hexadecimal 20 to 7E without a comma, and no blank at either end.
-/// The bounds are 0 and 64 for station, device, id and component, 0 and 2 for the phase, 1 and 32 for the unit.
+/// Whether a file can hold the text: `low` to `high` bytes, each from hexadecimal 20 to 7E but no
+/// comma, and no blank at either end. The bounds are 0 and 64 for station, device, id and
+/// component, 0 and 2 for the phase, 1 and 32 for the unit.
 #[tactic(auto, unfolding(crate::specs::Texts::is_plain))]
 pub fn is_plain(low: usize, high: usize, text: &[u8]) -> bool
     ensures { result ≡ spec.is_plain low high text.now }

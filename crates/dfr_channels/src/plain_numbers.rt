@@ -1,4 +1,4 @@
-//! Numbers in their plain spelling, read in one pass.
+//! Numbers in plain spelling (digits, with or without a minus sign), read in one pass.
 
 ghost use Rattle.std.specs.Prelude.{◌≡◌, ◌-◌, ◌≤◌, ◌<◌, ◌<ℤ◌, ◌^◌, ◌∷◌, IfSome, option_copied, true, length, min, take, if◌then◌else◌, pos, negsuc, neg_ℤ, nat_lt, ◌&&◌, get_or, false, is_some};
 ghost use Rattle.std.specs.Char.{is_ascii_digit};
@@ -6,7 +6,7 @@ ghost use Rattle.std.specs.Str.{all_ascii_digits};
 ghost use Rattle.std.specs.Str.Parse.{digits_value};
 ghost use Rattle.dfr_channels.specs.PlainNumbers.{DigitsFirst, Begins, behind_minus, begins_short, begins_plain};
 
-/// Whether a minus stands first, and what follows it.
+/// Whether the text begins with a minus sign, and the text after it.
 #[inline(always)]
 pub(crate) fn without_minus(text: &[u8]) -> (bool, &[u8])
     ensures cut { text.now ≡ (if result.0 then 45 ∷ result.1.now else result.1.now) }
@@ -18,7 +18,7 @@ pub(crate) fn without_minus(text: &[u8]) -> (bool, &[u8])
     }
 }
 
-/// The digits at the front of a text, so many at most: how many, and the number that they make.
+/// The digits at the start of a text, at most `most`: how many there are, and their number.
 #[inline(always)]
 fn digits_from(text: &[u8], most: usize) -> (usize, u64)
     requires room { most ≤ length text.now }
@@ -42,7 +42,8 @@ fn digits_from(text: &[u8], most: usize) -> (usize, u64)
     (count, number)
 }
 
-/// What a text says that has these digits at its front, and no eleventh.
+/// The number of a text that starts with these `count` digits, and the text after its comma, if it
+/// has one. None if there is no digit, or if another byte than a comma follows.
 #[inline(always)]
 fn behind_digits(text: &[u8], count: usize, number: u64) -> Option<(u64, Option<&[u8]>)>
     requires within { count ≤ length text.now }
@@ -68,7 +69,8 @@ fn behind_digits(text: &[u8], count: usize, number: u64) -> Option<(u64, Option<
     Some((number, Some(&text[count + 1..])))
 }
 
-/// The number of the one to ten digits that a text begins with, and what stands after its comma if it has one.
+/// The number of the one to ten digits at the start of a text, and the text after its comma, if it
+/// has one. None exactly if the first field is spelled otherwise.
 #[inline(always)]
 fn plain_digits(text: &[u8]) -> Option<(u64, Option<&[u8]>)>
     ensures plain { is_some result ≡ begins_short text.now }
@@ -80,7 +82,7 @@ fn plain_digits(text: &[u8]) -> Option<(u64, Option<&[u8]>)>
     behind_digits(text, count, number)
 }
 
-/// The number with this sign.
+/// The number with its sign.
 #[inline(always)]
 fn signed(minus: bool, number: u64) -> i64
     requires { number < 10 ^ 10 }
@@ -92,8 +94,9 @@ fn signed(minus: bool, number: u64) -> i64
     if minus { -number } else { number }
 }
 
-/// The number that a text begins with, and what stands after its comma if it has one, where the field is a minus or nothing
-/// and one to ten digits; None exactly where it is spelled otherwise.
+/// The number in the first field of a text, and the text after that field's comma, if it has one.
+/// The field must be one to ten digits, with or without a minus sign; None exactly if it is spelled
+/// otherwise.
 #[inline(always)]
 pub fn plain_number(text: &[u8]) -> Option<(i64, Option<&[u8]>)>
     ensures plain { is_some result ≡ begins_plain text.now }

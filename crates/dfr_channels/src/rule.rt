@@ -1,4 +1,4 @@
-//! When one rule holds.
+//! Trigger rules, and when one holds.
 
 ghost use Rattle.std.specs.Prelude.{◌≡◌, option_copied};
 ghost use Rattle.dfr_channels.specs.Firing as spec;
@@ -6,22 +6,25 @@ ghost use Rattle.dfr_channels.specs.Firing as spec;
 use crate::{Layout, Reading, Scan};
 use std::alloc::Allocator;
 
-/// What fires: a reading that is at least (`over`) or at most (else) the threshold, or a bit that rises to 1 or falls to 0.
-/// A level rule names an analogue channel, an edge rule a status channel, both numbered from 0.
+/// A trigger rule. Channels are numbered from 0 within their kind.
 #[derive(Clone, Copy, Debug, PartialEq, Eq)]
 pub enum Rule {
+    /// Holds if the reading of this analogue channel is at least (`over`) or at most (otherwise)
+    /// the threshold, a raw sample. A missing reading never holds.
     Level {
         channel: u32,
         over: bool,
         threshold: i32,
     },
+    /// Holds if the bit of this status channel changed to 1 (`rise`) or to 0 (otherwise) since the
+    /// scan accepted before. It never holds at the first scan.
     Edge {
         channel: u32,
         rise: bool,
     },
 }
 
-/// Whether there is a reading, and it is at least (`over`) or at most (else) the threshold.
+/// Whether there is a reading, and it is at least (`over`) or at most (otherwise) the threshold.
 fn is_beyond(over: bool, threshold: i32, reading: Option<Reading>) -> bool
     ensures { result ≡ spec.is_beyond over threshold reading }
 {
@@ -32,7 +35,7 @@ fn is_beyond(over: bool, threshold: i32, reading: Option<Reading>) -> bool
     }
 }
 
-/// Whether there are both bits, and they rise to 1 (`rise`) or fall to 0 (else).
+/// Whether there are both bits, and the bit changed to 1 (`rise`) or to 0 (otherwise).
 fn has_changed(rise: bool, before: Option<bool>, now: Option<bool>) -> bool
     ensures { result ≡ spec.has_changed rise before now }
 {
@@ -42,7 +45,7 @@ fn has_changed(rise: bool, before: Option<bool>, now: Option<bool>) -> bool
     if rise { !was && is } else { was && !is }
 }
 
-/// A channel's bit in the scan before, where there is one.
+/// The channel's bit in the scan before, if there is one.
 fn bit_before<A: Allocator>(before: Option<&Scan<A>>, channel: usize) -> Option<bool>
     ensures { result ≡ spec.bit_before (option_copied before.entry) channel }
 {
@@ -56,7 +59,7 @@ impl Rule {
     ghost use Rattle.std.specs.Prelude.{◌≡◌, option_copied};
     ghost use Rattle.dfr_channels.specs.Firing.{holds, names_channel, names_one_of};
 
-    /// Whether the rule holds at a scan, after the scan accepted before it.
+    /// Whether the rule holds at a scan, given the scan accepted before it.
     #[tactic(auto, unfolding(crate::specs::Firing::holds))]
     pub(crate) fn holds<A: Allocator>(&self, before: Option<&Scan<A>>, now: &Scan<A>) -> bool
         ensures { result ≡ holds (option_copied before.entry) now.now self.now }
@@ -79,7 +82,7 @@ impl Rule {
         }
     }
 
-    /// Whether the rule names a channel of its kind in the layout.
+    /// Whether the layout has the channel that the rule names.
     #[tactic(auto, unfolding(crate::specs::Firing::names_channel))]
     pub(crate) fn names_channel<A: Allocator>(&self, layout: &Layout<A>) -> bool
         ensures { result ≡ names_channel layout.now self.now }

@@ -1,4 +1,4 @@
-//! Lists of rules.
+//! Lists of trigger rules that fit a layout.
 
 ghost use Rattle.std.specs.Prelude.{◌≡◌, ◌<◌, length, position, not, option_copied, IfSome};
 ghost use Rattle.dfr_channels.specs.Firing as spec;
@@ -8,7 +8,7 @@ use std::alloc::{Allocator, Global};
 use std::marker::Model;
 use thiserror::Error;
 
-/// At most 32 rules, which contracts see as the list.
+/// At most 32 trigger rules. Contracts see the list.
 #[derive(Drop, Debug)]
 pub struct Rules<A: Allocator = Global> {
     list: Items<Rule, A>,
@@ -25,18 +25,18 @@ impl<A: Allocator> Model for Rules<A> {
     ghost invariant = { λ r. length r.list ≤ 32 };
 }
 
-/// Why rules are refused, in the order of the tests.
+/// Why a list of rules is refused, in the order of the tests.
 #[derive(Clone, Copy, Debug, PartialEq, Eq, Error)]
 pub enum RuleFault {
-    /// More than 32.
+    /// There are more than 32 rules.
     #[error("more than 32 rules")]
     TooMany,
-    /// The lowest rule, from 0, that names no channel of its kind in the layout.
+    /// The lowest rule, from 0, whose channel the layout does not have.
     #[error("rule {0}, counted from 0, names no channel of its kind")]
     NoChannel(u32),
 }
 
-/// The lowest rule that names no channel of its kind.
+/// The lowest rule whose channel the layout does not have.
 fn lowest_without<A: Allocator>(layout: &Layout<A>, list: &[Rule]) -> Option<usize>
     ensures lowest { result ≡ position (λ rule. not (spec.names_channel layout.now rule)) list.now }
     ensures within { IfSome result (λ i. i < length list.now) }
@@ -61,7 +61,8 @@ impl<A: Allocator> Rules<A> {
     ghost use Rattle.std.specs.Prelude.{◌≡◌, ◌≤◌, true, Some, None, IfOk, IfErr, length, option_copied};
     ghost use Rattle.dfr_channels.specs.Firing.{lowest_holding, rules_fit, rules_fault};
 
-    /// The rules of a list, which may be empty; one with a fault is handed back with its first fault. Doesn't allocate.
+    /// Checks a list of rules, which may be empty, against a layout. A refused list is handed back
+    /// with its first fault. Doesn't allocate.
     #[tactic(auto, unfolding(crate::specs::Firing::rules_fault))]
     pub fn new(
         layout: &Layout<A>,
@@ -91,7 +92,7 @@ impl<A: Allocator> Rules<A> {
         self.list.items()
     }
 
-    /// Whether each rule names a channel of its kind in the layout.
+    /// Whether the layout has the channel of each rule.
     #[tactic(auto, unfolding(crate::specs::Firing::rules_fit))]
     pub fn fits(&self, layout: &Layout<A>) -> bool
         ensures { result ≡ rules_fit layout.now self.now }
@@ -102,8 +103,9 @@ impl<A: Allocator> Rules<A> {
             .all(|rule| rule.names_channel(layout))
     }
 
-    /// The lowest rule, from 0, that holds at a scan, after the scan accepted before it. A channel that a scan lacks fires
-    /// nothing. Doesn't allocate, and looks at each rule at most once.
+    /// The lowest rule, from 0, that holds at a scan, given the scan accepted before it. A rule
+    /// whose channel a scan lacks does not hold. Doesn't allocate, and checks each rule at most
+    /// once.
     pub fn fires(&self, before: Option<&Scan<A>>, now: &Scan<A>) -> Option<u32>
         ensures { result ≡ lowest_holding (option_copied before.entry) now.now self.now }
     {
@@ -117,7 +119,7 @@ impl<A: Allocator> Rules<A> {
 impl<A: Allocator + Copy> Rules<A> {
     ghost use Rattle.std.specs.Prelude.{◌≡◌, IfOk};
 
-    /// A deep copy, on the same allocator.
+    /// A deep copy, on the same allocator. `Memory`: an allocation failed.
     pub fn try_clone(&self) -> Result<Rules<A>, Memory>
         ensures { IfOk result (λ copy. copy ≡ self.now) }
     {

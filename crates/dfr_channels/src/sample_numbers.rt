@@ -1,4 +1,4 @@
-//! Numbers of four or five digits, as most samples are, in their plain spelling.
+//! Numbers of four or five digits, as most samples are, in plain spelling.
 
 ghost use Rattle.std.specs.Prelude.{◌≡◌, Some, ◌≤◌, ◌<◌, ◌<ℤ◌, ◌^◌, ◌-◌, IfSome, option_copied, true, false, length, take, if◌then◌else◌, pos, negsuc, neg_ℤ, nat_lt, ◌&&◌, get_or, is_some};
 ghost use Rattle.std.specs.Char.{is_ascii_digit};
@@ -9,7 +9,8 @@ ghost use Rattle.dfr_channels.specs.PlainNumbers.{DigitsFirst, Begins, begins_fo
 use crate::plain_numbers::without_minus;
 use std::simd::prelude::*;
 
-/// The number of the four digits that a text begins with; None where one of the four bytes is none. They are looked at together.
+/// The number of the four digits at the start of a text; None if one of these bytes is not a digit.
+/// The four are checked together.
 #[inline(always)]
 fn four_digits(text: &[u8]) -> Option<u64>
     requires { 4 ≤ length text.now }
@@ -25,8 +26,8 @@ fn four_digits(text: &[u8]) -> Option<u64>
     Some(three * 10 + (text[3] - b'0') as u64)
 }
 
-/// The number of four digits with the fifth, where one stands there, and how many they are. It takes no branch, since whether a
-/// number has four digits or five can't be foreseen.
+/// Adds the fifth digit to the number of the first four, if there is one: how many digits there
+/// are, and their number. Written without a branch, since the count can't be predicted.
 #[inline(always)]
 fn with_fifth(text: &[u8], four: u64) -> (usize, u64)
     requires long { 5 ≤ length text.now }
@@ -49,7 +50,8 @@ fn with_fifth(text: &[u8], four: u64) -> (usize, u64)
     }
 }
 
-/// What a text says that has these four digits at its front, and at most one byte after them.
+/// The number of a text of four or five bytes that starts with these four digits, and the text
+/// after its comma, if it has one. None if the fifth byte is neither a digit nor a comma.
 #[inline(always)]
 fn at_end(text: &[u8], four: u64) -> Option<(u64, Option<&[u8]>)>
     requires long { 4 ≤ length text.now }
@@ -75,7 +77,7 @@ fn at_end(text: &[u8], four: u64) -> Option<(u64, Option<&[u8]>)>
     Some((four * 10 + (fifth - b'0') as u64, None))
 }
 
-/// What stands after the comma behind these digits.
+/// The text after the comma that follows these digits.
 #[inline(always)]
 fn behind_comma(text: &[u8], count: usize, number: u64) -> &[u8]
     requires some { 0 < count }
@@ -89,7 +91,8 @@ fn behind_comma(text: &[u8], count: usize, number: u64) -> &[u8]
     &text[count + 1..]
 }
 
-/// The number of the four or five digits that a text begins with, and what stands after its comma if it has one.
+/// The number of the four or five digits at the start of a text, and the text after its comma, if
+/// it has one. None exactly if the first field is spelled otherwise.
 #[inline(always)]
 fn four_or_five_digits(text: &[u8]) -> Option<(u64, Option<&[u8]>)>
     ensures sample { is_some result ≡ begins_four_or_five text.now }
@@ -113,7 +116,7 @@ fn four_or_five_digits(text: &[u8]) -> Option<(u64, Option<&[u8]>)>
     Some((number, Some(behind_comma(text, count, number))))
 }
 
-/// The number with this sign.
+/// The number with its sign.
 #[inline(always)]
 fn signed(minus: bool, number: u64) -> i32
     requires { number < 10 ^ 5 }
@@ -125,8 +128,10 @@ fn signed(minus: bool, number: u64) -> i32
     if minus { -number } else { number }
 }
 
-/// The number that a text begins with, and what stands after its comma if it has one, where the field is a minus or nothing
-/// and four or five digits, as those of most samples; None exactly where it is spelled otherwise. It is `plain_number`, but quicker.
+/// The number in the first field of a text, and the text after that field's comma, if it has one.
+/// The field must be four or five digits, with or without a minus sign; None exactly if it is
+/// spelled otherwise. On such fields, as most samples are, it gives the same as `plain_number`, but
+/// faster.
 #[inline(always)]
 pub fn sample_number(text: &[u8]) -> Option<(i32, Option<&[u8]>)>
     ensures sample { is_some result ≡ begins_sample text.now }

@@ -1,4 +1,4 @@
-//! One scan of all channels.
+//! A scan: the samples of all channels at one instant.
 
 ghost use Rattle.std.specs.Prelude.{◌≡◌, IfOk};
 
@@ -6,14 +6,17 @@ use crate::{Items, Memory};
 use std::alloc::{Allocator, Global};
 use std::marker::Model;
 
-/// A sample of an analogue channel, or that there is none.
+/// The sample of an analogue channel in a scan.
 #[derive(Clone, Copy, Debug, PartialEq, Eq)]
 pub enum Reading {
+    /// The raw sample x; its value in the channel's unit is a·x + b.
     Value(i32),
+    /// There is no sample.
     Missing,
 }
 
-/// The readings of the analogue channels and the bits of the status channels at one instant.
+/// A scan: the readings of the analogue channels and the bits of the status channels at one
+/// instant.
 #[derive(Drop, Debug)]
 pub struct Scan<A: Allocator = Global> {
     analog: Items<Reading, A>,
@@ -29,7 +32,7 @@ impl<A: Allocator> Model for Scan<A> {
 }
 
 impl<A: Allocator> Scan<A> {
-    /// The scan of these readings and bits. Doesn't allocate.
+    /// Makes a scan of these readings and bits. Doesn't allocate.
     pub fn new(analog: Vec<Reading, A>, status: Vec<bool, A>) -> Scan<A>
         ensures { result ≡ record { analog = analog.items; status = status.items } }
     {

@@ -1,4 +1,4 @@
-//! Set-ups, and what is wrong with one.
+//! Set-ups, and the first fault of one.
 
 ghost use Rattle.std.specs.Prelude.{◌≡◌, ◌≤◌, ◌<◌, ◌+◌, ◌&&◌, ℤ, pos, int_le, nat_le, length, take, position, not, IfSome};
 ghost use Rattle.dfr_channels.specs.Setups as spec;
@@ -10,16 +10,22 @@ use std::fmt::{self, Display, Formatter, Write};
 use std::marker::Model;
 use thiserror::Error;
 
-/// What a recorder is set up with. `line_freq` is in Hz, `rate` in scans a second, `start` the instant of scan 0 in
-/// microseconds since 1970-01-01 00:00:00.
+/// The set-up of a recorder. [`crate::Layout::new`] checks the lengths and ranges given here.
 #[derive(Drop, Debug)]
 pub struct Setup<A: Allocator = Global> {
+    /// The station's name, at most 64 bytes.
     pub station: Items<u8, A>,
+    /// The recording device's name, at most 64 bytes.
     pub device: Items<u8, A>,
+    /// The analogue channels, at most 256; there must be at least one channel in all.
     pub analog: Items<AnalogChannel<A>, A>,
+    /// The status channels, at most 256.
     pub status: Items<StatusChannel<A>, A>,
+    /// The line frequency, in Hz.
     pub line_freq: Decimal,
+    /// Scans a second, from 1 to 1,000,000.
     pub rate: u32,
+    /// The instant of scan 0, in microseconds since 1970-01-01 00:00:00; the years 1970 to 9999.
     pub start: i64,
 }
 
@@ -39,7 +45,7 @@ impl<A: Allocator> Model for Setup<A> {
     } };
 }
 
-/// A text of a set-up. Channels are numbered from 0.
+/// Where a text of a set-up is. Channels are numbered from 0.
 #[derive(Clone, Copy, Debug, PartialEq, Eq)]
 pub enum Place {
     Station,
@@ -62,19 +68,20 @@ impl Display for Place {
 /// Why a set-up is refused, in the order of the tests.
 #[derive(Clone, Copy, Debug, PartialEq, Eq, Error)]
 pub enum SetupFault {
-    /// A text that a file can't hold, the first by its place; of each kind the first 256 channels are looked at.
+    /// The first place with a text that a file can't hold. Only the first 256 channels of each kind
+    /// are checked for this.
     #[error("a text of {0} that a file can't hold")]
     Text(Place),
-    /// No channel at all, or more than 256 of a kind.
+    /// There is no channel, or there are more than 256 of a kind.
     #[error("no channel, or more than 256 of a kind")]
     Channels,
-    /// The lowest analogue channel without -32767 <= min <= max <= 32767.
+    /// The lowest analogue channel, from 0, without -32767 <= min <= max <= 32767.
     #[error("min and max of analogue channel {0}, counted from 0, aren't in order within 32767")]
     Span(u32),
-    /// Not 1 to 1,000,000 scans a second.
+    /// The rate is not 1 to 1,000,000 scans a second.
     #[error("not 1 to 1000000 scans a second")]
     Rate,
-    /// Before 1970 or after the year 9999.
+    /// The start is before 1970 or after the year 9999.
     #[error("a start before 1970 or after the year 9999")]
     Start,
 }
@@ -112,7 +119,7 @@ fn without_span<A: Allocator>(channels: &[AnalogChannel<A>]) -> Option<usize>
     channels.iter().position(|c| !has_span(c))
 }
 
-/// The first text that a file can't hold.
+/// The first place with a text that a file can't hold.
 #[tactic(auto, unfolding(crate::specs::Setups::place_fault))]
 fn place_fault<A: Allocator>(setup: &Setup<A>) -> Option<Place>
     ensures { result ≡ spec.place_fault setup.now }
@@ -132,7 +139,7 @@ fn place_fault<A: Allocator>(setup: &Setup<A>) -> Option<Place>
     }
 }
 
-/// At most 256 channels of a kind, and at least one in all.
+/// Whether there are at most 256 channels of each kind, and at least one in all.
 fn has_channels(analog: usize, status: usize) -> bool
     ensures { result ≡ spec.has_channels analog status }
 {
@@ -157,7 +164,7 @@ fn has_start(start: i64) -> bool
     0 <= start && start <= LAST
 }
 
-/// The first fault of a clock.
+/// The first fault of a rate and a start.
 fn clock_fault_at(rate: u32, start: i64) -> Option<SetupFault>
     ensures { result ≡ spec.clock_fault rate start }
 {
@@ -170,7 +177,7 @@ fn clock_fault_at(rate: u32, start: i64) -> Option<SetupFault>
     None
 }
 
-/// The first fault of a set-up's clock.
+/// The first fault of a set-up's rate and start.
 fn clock_fault<A: Allocator>(setup: &Setup<A>) -> Option<SetupFault>
     ensures { result ≡ spec.clock_fault setup.now.rate setup.now.start }
 {
@@ -197,7 +204,7 @@ pub(crate) fn setup_fault<A: Allocator>(setup: &Setup<A>) -> Option<SetupFault>
 impl<A: Allocator + Copy> Setup<A> {
     ghost use Rattle.std.specs.Prelude.{◌≡◌, IfOk};
 
-    /// The set-up over copies of its lists.
+    /// The same set-up, with these copies of its lists.
     fn over(
         &self,
         station: Items<u8, A>,
@@ -222,7 +229,7 @@ impl<A: Allocator + Copy> Setup<A> {
         }
     }
 
-    /// A deep copy, on the same allocator.
+    /// A deep copy, on the same allocator. `Memory`: an allocation failed.
     pub fn try_clone(&self) -> Result<Setup<A>, Memory>
         ensures { IfOk result (λ copy. copy ≡ self.now) }
     {

@@ -1,7 +1,7 @@
 ghost use Rattle.std.specs.Prelude.{◌≡◌};
 ghost use Rattle.dfr_channels.specs.Spelling.{trimmed};
 
-/// The text without the blanks at both ends.
+/// The text without the blanks (spaces and tabs) at both ends.
 #[inline(always)]
 pub fn trim(text: &[u8]) -> &[u8]
     ensures { result.now ≡ trimmed text.now }

@@ -1,4 +1,5 @@
-//! A recorder with pre-trigger memory: the scans around each trigger, within limits of length and of records that wait.
+//! A recorder with pre-trigger memory. It keeps the scans around each trigger as a record, within
+//! limits on the length of records and on how many finished ones wait.
 #![tactic(auto)]
 
 mod laws;

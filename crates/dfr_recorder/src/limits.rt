@@ -1,4 +1,4 @@
-//! How long records are, and how many wait.
+//! How long records are, and how many finished ones may wait.
 
 ghost use Rattle.std.specs.Prelude.{◌≡◌, ◌≤◌, ◌+◌};
 
@@ -6,8 +6,9 @@ use dfr_channels::Layout;
 use std::alloc::Allocator;
 use thiserror::Error;
 
-/// How many scans a record has before its trigger (`pre`) and after it (`post`), how many it has at most (`longest`), how many
-/// closed records wait at most (`shelf`), and whether each scan stands in at most one record (`unshared`).
+/// A record has up to `pre` scans before its trigger and `post` after it. Later triggers can
+/// extend it to at most `longest` scans in all. At most `shelf` finished records wait. If
+/// `unshared` holds, each scan is in at most one record.
 #[derive(Clone, Copy, Debug, PartialEq, Eq)]
 pub struct Limits {
     pre: u32,
@@ -47,15 +48,15 @@ const LONGEST: u32 = 1_000_000;
 
 const MOST_WAITING: u32 = 64;
 
-/// The highest time stamp that a binary data file can hold, in microseconds (C37.111-1999, clause 6: FFFFFFFF is a missing
-/// one).
+/// The highest time stamp that a binary data file can hold, in microseconds. FFFFFFFF marks a
+/// missing one (C37.111-1999, clause 6).
 const LAST_STAMP: u64 = 4_294_967_294;
 
 impl Limits {
     ghost use Rattle.std.specs.Prelude.{◌≡◌, ◌≤◌, Some, None, IfOk, IfErr, true, false};
     ghost use Rattle.dfr_recorder.specs.Limits.{limit_fault, has_stamps};
 
-    /// Whether the time stamps of `longest` rows at this rate, in scans a second, can be written.
+    /// Whether the time stamps of `longest` rows can be written at this rate, in scans a second.
     fn has_stamps(rate: u32, longest: u32) -> bool
         requires low { 1 ≤ rate }
         requires some { 1 ≤ longest }
@@ -64,7 +65,8 @@ impl Limits {
         (longest as u64 - 1) * 1_000_000 / rate as u64 <= LAST_STAMP
     }
 
-    /// Limits for records of this layout, which may share scans, or the first test that fails. Doesn't allocate.
+    /// Checks the limits of records over this layout; the records may share scans. The error is the
+    /// first test that fails. Doesn't allocate.
     pub fn new<A: Allocator>(
         layout: &Layout<A>,
         pre: u32,
@@ -107,8 +109,9 @@ impl Limits {
         })
     }
 
-    /// The same numbers for records that share no scan: a record begins after the last scan of the one opened before it, and
-    /// a manual trigger at a scan of a closed record is refused. Doesn't allocate.
+    /// The same limits for records that share no scan: a record begins after the last scan of the
+    /// one opened before it. A manual trigger at a scan of a closed record is refused. Doesn't
+    /// allocate.
     pub fn unshared(self) -> Limits
         ensures { result ≡ record self { unshared = true } }
     {
@@ -121,42 +124,42 @@ impl Limits {
         }
     }
 
-    /// Whether each scan stands in at most one record.
+    /// Whether each scan is in at most one record.
     pub fn is_unshared(&self) -> bool
         ensures { result ≡ self.now.unshared }
     {
         self.unshared
     }
 
-    /// Whether the longest record's time stamps can be written at this layout's rate.
+    /// Whether the time stamps of the longest record can be written at this layout's rate.
     pub fn fits<A: Allocator>(&self, layout: &Layout<A>) -> bool
         ensures { result ≡ has_stamps layout.now.rate self.now.longest }
     {
         Limits::has_stamps(layout.rate(), self.longest)
     }
 
-    /// The most scans before a trigger.
+    /// The most scans before a trigger, at most 100,000.
     pub fn pre(&self) -> u32
         ensures { result ≡ self.now.pre }
     {
         self.pre
     }
 
-    /// The scans after a trigger.
+    /// The scans after a trigger, at least 1.
     pub fn post(&self) -> u32
         ensures { result ≡ self.now.post }
     {
         self.post
     }
 
-    /// The most scans of a record.
+    /// The most scans of a record, at most 1,000,000.
     pub fn longest(&self) -> u32
         ensures { result ≡ self.now.longest }
     {
         self.longest
     }
 
-    /// The most closed records that wait.
+    /// The most finished records that may wait, from 1 to 64.
     pub fn shelf(&self) -> u32
         ensures { result ≡ self.now.shelf }
     {

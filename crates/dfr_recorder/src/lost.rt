@@ -1,4 +1,4 @@
-//! The scan that stands for a lost one.
+//! The scan that fills the place of a lost one.
 
 ghost use Rattle.std.specs.Prelude.{◌≡◌, ◌≤◌, ◌-◌, IfOk, IfNone, length, map, replicate, slice_get, option_copied};
 ghost use Rattle.dfr_channels.specs.Setups.{end_of_time};
@@ -11,7 +11,7 @@ use circular_buffer::HeapCircularBuffer;
 use dfr_channels::{Layout, Memory, Reading, Scan, StatusChannel};
 use std::alloc::Allocator;
 
-/// Why a lost scan is not accepted at place `k`, if memory suffices.
+/// Why a lost scan numbered `k` would be refused, apart from lack of memory.
 pub(crate) fn lost_refusal<A: Allocator>(layout: &Layout<A>, k: u64) -> Option<LostRefusal>
     ensures value { result ≡ lost_refusal layout.now k }
     ensures early { IfNone result (k ≤ end_of_time) }
@@ -58,7 +58,8 @@ fn bits_after<A: Allocator>(
     }
 }
 
-/// The scan in the place of a lost one, after the ring's newest.
+/// The scan that fills the place of a lost one: every reading is missing. The bits are those of the
+/// ring's newest scan, or each channel's normal state if the ring is empty.
 pub(crate) fn lost_scan<A: Allocator + Copy>(
     layout: &Layout<A>,
     ring: &HeapCircularBuffer<Scan<A>, A>,

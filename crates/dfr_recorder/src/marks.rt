@@ -1,4 +1,4 @@
-//! What a trigger does to the newest record, by numbers alone.
+//! What a trigger does to the newest record, in numbers of scans and records only.
 
 ghost use Rattle.std.specs.Prelude.{◌≡◌, ◌+◌, ◌<◌, ◌^◌, IfSome};
 ghost use Rattle.dfr_recorder.specs.Marks.{extended, first_scan, begun, mark, mark_if, is_covered, closed_by, scanned};
@@ -6,14 +6,15 @@ ghost use Rattle.dfr_recorder.specs.History.{refused_when_full};
 
 use crate::{Cause, Extent, Hit, Limits, Scanned, TriggerFault};
 
-/// The newest record: its number and the place after its last scan, both 0 where none was opened.
+/// The newest record: its number, and the number of the scan after its last. Both are 0 if no
+/// record was opened.
 #[derive(Clone, Copy, Debug)]
 pub(crate) struct Newest {
     pub(crate) number: u64,
     pub(crate) end: u64,
 }
 
-/// What a trigger meets: the newest record, whether the shelf is full, and the open record's extent.
+/// What a trigger meets: the newest record, whether the shelf is full, and the open one's extent.
 #[derive(Clone, Copy, Debug)]
 pub(crate) struct Met {
     pub(crate) newest: Newest,
@@ -21,7 +22,7 @@ pub(crate) struct Met {
     pub(crate) extent: Option<Extent>,
 }
 
-/// What a trigger did, the newest record after it, and the extent of the open one.
+/// The effect of a trigger: what it did, the newest record after it, and the open one's extent.
 #[derive(Clone, Copy, Debug)]
 pub(crate) struct Marked {
     pub(crate) hit: Hit,
@@ -29,7 +30,7 @@ pub(crate) struct Marked {
     pub(crate) extent: Option<Extent>,
 }
 
-/// What a scan did that may have fired no rule; else as `Marked`.
+/// The effect of a scan, which may have fired no rule; otherwise as `Marked`.
 #[derive(Clone, Copy, Debug)]
 pub(crate) struct MarkedIf {
     pub(crate) hit: Option<Hit>,
@@ -37,7 +38,7 @@ pub(crate) struct MarkedIf {
     pub(crate) extent: Option<Extent>,
 }
 
-/// A trigger at place `k` moves the open record's last scan on, as far as the greatest length lets it.
+/// A trigger at scan `k` extends the open record, as far as its greatest length allows.
 fn extend(limits: Limits, k: u64, newest: Newest, extent: Extent) -> Marked
     requires early { k < 2 ^ 62 }
     requires begun { extent.first < 2 ^ 62 }
@@ -61,7 +62,7 @@ fn extend(limits: Limits, k: u64, newest: Newest, extent: Extent) -> Marked
     }
 }
 
-/// The first scan of a record that a trigger at place `k` opens.
+/// The first scan of a record that a trigger at scan `k` opens.
 fn first_scan(limits: Limits, k: u64, newest: Newest) -> u64
     ensures { result ≡ first_scan limits k newest }
 {
@@ -73,7 +74,7 @@ fn first_scan(limits: Limits, k: u64, newest: Newest) -> u64
     }
 }
 
-/// A trigger at place `k` opens a record.
+/// A trigger at scan `k` opens a record.
 fn begin(limits: Limits, k: u64, cause: Cause, newest: Newest) -> Marked
     requires early { k < 2 ^ 62 }
     requires few { newest.number < 2 ^ 62 }
@@ -97,7 +98,7 @@ fn begin(limits: Limits, k: u64, cause: Cause, newest: Newest) -> Marked
     }
 }
 
-/// A trigger at place `k`.
+/// The effect of a trigger at scan `k`.
 pub(crate) fn mark(limits: Limits, k: u64, cause: Cause, met: Met) -> Marked
     requires early { k < 2 ^ 62 }
     requires few { met.newest.number < 2 ^ 62 }
@@ -119,14 +120,15 @@ pub(crate) fn mark(limits: Limits, k: u64, cause: Cause, met: Met) -> Marked
     }
 }
 
-/// Whether a manual trigger at place `k` would share a scan that unshared limits leave to a closed record.
+/// Whether a manual trigger at scan `k` would share a scan of a closed record, which unshared
+/// limits forbid.
 pub(crate) fn is_covered(limits: Limits, k: u64, met: Met) -> bool
     ensures { result ≡ is_covered limits k met }
 {
     limits.is_unshared() && met.extent.is_none() && k < met.newest.end
 }
 
-/// A full shelf refuses a manual trigger.
+/// Refuses a manual trigger that met a full shelf.
 pub(crate) fn refused_when_full(hit: Hit) -> Result<Hit, TriggerFault>
     ensures { result ≡ refused_when_full hit }
 {
@@ -136,7 +138,7 @@ pub(crate) fn refused_when_full(hit: Hit) -> Result<Hit, TriggerFault>
     }
 }
 
-/// A scan at place `n` that may have fired a rule.
+/// The effect of scan `n`, which may have fired a rule.
 pub(crate) fn mark_if(limits: Limits, n: u64, fired: Option<u32>, met: Met) -> MarkedIf
     requires early { n < 2 ^ 62 }
     requires few { met.newest.number < 2 ^ 62 }
@@ -160,7 +162,7 @@ pub(crate) fn mark_if(limits: Limits, n: u64, fired: Option<u32>, met: Met) -> M
     }
 }
 
-/// The number of the newest record, where place `n` is its last.
+/// The number of the record that scan `n` closes, if any.
 fn closed_by(n: u64, newest: Newest, extent: Option<Extent>) -> Option<u64>
     ensures { result ≡ closed_by n newest extent }
 {
@@ -176,7 +178,7 @@ fn closed_by(n: u64, newest: Newest, extent: Option<Extent>) -> Option<u64>
     }
 }
 
-/// The answer to an accepted scan at place `n`.
+/// The answer to the accepted scan `n`.
 pub(crate) fn scanned(n: u64, marked: MarkedIf) -> Scanned
     ensures { result ≡ scanned n marked }
 {

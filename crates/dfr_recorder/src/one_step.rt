@@ -1,4 +1,4 @@
-//! One step, whichever it is.
+//! Any call of a recorder, made as a step.
 
 use crate::{Answer, LostRefusal, Recorder, ScanRefusal, Step, TriggerFault};
 use std::alloc::Allocator;
@@ -11,8 +11,9 @@ impl<A: Allocator + Copy> Recorder<A> {
     ghost use Rattle.dfr_recorder.specs.Memory.{WantsMemory};
     ghost use Rattle.dfr_recorder.specs.Run.{IsOwnAnswer};
 
-    /// Makes a step and answers it. Where an allocation fails, which only a step that needs memory can meet, the step comes back
-    /// and nothing has changed. What it takes or sets it does as the call of that name; a refused scan and refused rules are dropped.
+    /// Makes a step as the call of that name does, and answers it. If an allocation fails, the step
+    /// is handed back and nothing changes; only a step that needs memory can fail so. A refused
+    /// scan and refused rules are dropped.
     pub fn make(&mut self, step: Step<A>) -> Result<Answer<A>, Step<A>>
         ensures ok { IfOk result (λ answer. IsStep self.old (step_of step) (answer_of answer) self.new) }
         ensures told { IfOk result (λ answer. is_memory (answer_of answer) ≡ false) }

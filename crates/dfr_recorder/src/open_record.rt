@@ -1,4 +1,4 @@
-//! What is done to the open record, where there is one.
+//! Operations on the open record, if there is one.
 
 ghost use Rattle.std.specs.Prelude.{◌≡◌, ◌≤◌, ◌<◌, ◌++◌, None, IfOk, IfSome, IfNone, IsOk, OnOk, OnErr, IsSome, option_to_list};
 ghost use Rattle.std.specs.VecDeque.{deque_len, deque_capacity};
@@ -25,7 +25,7 @@ fn extent_of<A: Allocator>(recording: &Option<Recording<A>>) -> Option<Extent>
     }
 }
 
-/// What a trigger meets.
+/// What a trigger meets: the newest record, the open one, and whether the shelf is full.
 pub(crate) fn met_by<A: Allocator>(
     limits: Limits,
     newest: Newest,
@@ -41,12 +41,13 @@ pub(crate) fn met_by<A: Allocator>(
     }
 }
 
-/// How many scans a record is to have.
+/// How many scans a record with this extent has once it is finished.
 fn room_for(extent: Extent) -> usize {
     (extent.last.saturating_sub(extent.first) as usize).saturating_add(1)
 }
 
-/// A record with copies of the ring's scans that lie in it, where place `n` is the next, and with room for the others.
+/// Opens a record: it gets copies of the ring's scans that belong to it, and room for the others.
+/// The next scan has number `n`.
 fn begin<A: Allocator + Copy>(
     ring: &HeapCircularBuffer<Scan<A>, A>,
     extent: Extent,
@@ -59,7 +60,7 @@ fn begin<A: Allocator + Copy>(
     Ok(Recording::new(extent, scans))
 }
 
-/// Gives the open record its extent, or opens one. Only an opening takes memory.
+/// Gives the open record this extent, or opens a record with it. Allocates only to open one.
 pub(crate) fn place<A: Allocator + Copy>(
     recording: &mut Option<Recording<A>>,
     extent: Option<Extent>,
@@ -87,7 +88,8 @@ pub(crate) fn place<A: Allocator + Copy>(
     }
 }
 
-/// The same, and adds a copy of the scan at place `n`. Without a record it doesn't allocate.
+/// The same as `place`, and adds a copy of the scan numbered `n`. Without an extent it doesn't
+/// allocate.
 pub(crate) fn grow<A: Allocator + Copy>(
     recording: &mut Option<Recording<A>>,
     extent: Option<Extent>,
@@ -120,7 +122,7 @@ pub(crate) fn grow<A: Allocator + Copy>(
     }
 }
 
-/// Whether the open record's last scan is at place `n`.
+/// Whether scan `n` is the open record's last.
 fn ends_at<A: Allocator>(recording: &Option<Recording<A>>, n: u64) -> bool
     ensures { result ≡ ends_at n recording.now }
 {
@@ -130,7 +132,7 @@ fn ends_at<A: Allocator>(recording: &Option<Recording<A>>, n: u64) -> bool
     }
 }
 
-/// Moves the open record to the shelf where place `n` is its last.
+/// Moves the open record to the shelf if scan `n` is its last.
 pub(crate) fn shelve<A: Allocator>(
     recording: &mut Option<Recording<A>>,
     n: u64,
@@ -151,7 +153,7 @@ pub(crate) fn shelve<A: Allocator>(
     }
 }
 
-/// How many scans the open record has, where there is one.
+/// How many scans the open record has so far; 0 if there is none.
 pub(crate) fn scans_so_far<A: Allocator>(recording: &Option<Recording<A>>) -> u64
     ensures { result ≡ scans_in (option_to_list recording.now) }
 {

@@ -1,28 +1,33 @@
-//! A record of the scans around a trigger.
+//! Records: the scans around a trigger.
 
 use dfr_channels::{Items, Scan};
 use std::alloc::{Allocator, Global};
 use std::marker::Model;
 
-/// What opened a record: a manual trigger, or the rule of this number, from 0.
+/// What opened a record.
 #[derive(Clone, Copy, Debug, PartialEq, Eq)]
 pub enum Cause {
+    /// A manual trigger.
     Manual,
+    /// The rule of this number, from 0.
     Rule(u32),
 }
 
-/// Which scans a record has. Records are numbered from 1 as they are opened, scans from 0 as they are accepted. It begins
-/// with scan `first` and ends with scan `last`; the trigger that opened it has its place at scan `trigger`.
+/// Which scans a record has, and what opened it. Scans are numbered from 0 as they are accepted.
 #[derive(Clone, Copy, Debug, PartialEq, Eq)]
 pub struct Extent {
+    /// The record's number, from 1 in the order of opening.
     pub number: u64,
+    /// Its first scan.
     pub first: u64,
+    /// The scan at which the trigger that opened it occurred.
     pub trigger: u64,
+    /// Its last scan.
     pub last: u64,
     pub cause: Cause,
 }
 
-/// A record that has all its scans, which contracts see by its parts.
+/// A finished record, with all its scans. Contracts see its parts.
 #[derive(Drop, Debug)]
 pub struct Record<A: Allocator = Global> {
     extent: Extent,
@@ -54,7 +59,8 @@ impl<A: Allocator> Record<A> {
         }
     }
 
-    /// Which scans it has. Any record has its trigger among them, and every scan from its first to its last.
+    /// Which scans it has, and what opened it. Any record has its trigger among its scans, and
+    /// every scan from its first to its last.
     pub fn extent(&self) -> Extent
         ensures value { result ≡ self.now.extent }
         ensures whole { IsWhole self.now }

@@ -16,9 +16,9 @@ use std::alloc::{Allocator, Global};
 use std::collections::VecDeque;
 use std::marker::Model;
 
-/// A recorder with pre-trigger memory. It holds the last `pre + 1` scans in a ring, the open record, and the closed records
-/// that wait to be taken on a shelf: at most `pre + 1 + longest * shelf` scans. Contracts see it as what is kept of the steps
-/// that it made.
+/// A recorder with pre-trigger memory. It holds the last `pre + 1` scans in a ring, the open
+/// record, and the finished records that wait on the shelf until they are taken. These are at most
+/// `pre + 1 + longest * shelf` scans. Contracts see what it keeps of the steps that it made.
 #[derive(Drop)]
 pub struct Recorder<A: Allocator = Global> {
     layout: Layout<A>,
@@ -54,14 +54,14 @@ impl<A: Allocator> Recorder<A> {
     ghost use Rattle.dfr_recorder.specs.History.{Opening, opening, past, waiting, is_open};
     ghost use Rattle.dfr_recorder.specs.Kept.{kept, held, IsStep};
 
-    /// The layout of its channels, which stays the same.
+    /// The layout of its channels, which never changes.
     pub fn layout(&self) -> &Layout<A>
         ensures { result.now ≡ self.now.layout }
     {
         &self.layout
     }
 
-    /// Its limits, which fit its layout and stay the same.
+    /// Its limits, which fit its layout and never change.
     pub fn limits(&self) -> Limits
         ensures value { result ≡ self.now.limits }
         ensures fit { IsTrue (has_stamps self.now.layout.rate self.now.limits.longest) }
@@ -69,7 +69,7 @@ impl<A: Allocator> Recorder<A> {
         self.limits
     }
 
-    /// The rules that hold from the next scan on, which fit its layout.
+    /// The rules in force from the next scan on, which fit its layout.
     pub fn rules(&self) -> &Rules<A>
         ensures value { result.now ≡ self.now.rules }
         ensures fit { IsTrue (rules_fit self.now.layout self.now.rules) }
@@ -77,7 +77,8 @@ impl<A: Allocator> Recorder<A> {
         &self.rules
     }
 
-    /// How many scans were accepted. Where there is none, the recorder is as new over its layout, limits and rules.
+    /// How many scans were accepted, including those for lost scans. If there are none, the
+    /// recorder is as new over its layout, limits and rules.
     pub fn scans(&self) -> u64
         ensures value { result ≡ self.now.scans }
         ensures fresh { result ≡ 0 → self.now ≡ kept (opening self.now.layout self.now.limits self.now.rules) [] }
@@ -85,7 +86,7 @@ impl<A: Allocator> Recorder<A> {
         self.count
     }
 
-    /// How many records wait on the shelf.
+    /// How many finished records wait on the shelf.
     pub fn waiting(&self) -> u32
         ensures value { result ≡ length self.now.shelf }
         ensures history { (o : Opening) (h : List StepParts) → kept o h ≡ self.now → result ≡ waiting (past o h) }
@@ -101,8 +102,8 @@ impl<A: Allocator> Recorder<A> {
         self.recording.is_some()
     }
 
-    /// How many scans ring, open record and shelf hold. That nothing else is held no contract can say: a test counts the memory in
-    /// use over many scans and records.
+    /// How many scans the ring, the open record and the shelf hold. No contract can say that
+    /// nothing else is held: a test measures the memory in use over many scans and records.
     pub fn held(&self) -> u64
         ensures value { result ≡ held self.now }
         ensures bound { result ≤ self.now.limits.pre + 1 + self.now.limits.longest * self.now.limits.shelf }
@@ -110,8 +111,9 @@ impl<A: Allocator> Recorder<A> {
         self.ring.len() as u64 + scans_so_far(&self.recording) + scans_in(&self.shelf)
     }
 
-    /// Takes the oldest closed record off the shelf; None where none waits. Its scans pass the layout's check, the last has an
-    /// instant and its row's time stamp can be written. Doesn't allocate.
+    /// Takes the oldest finished record off the shelf; None if none waits. Its scans pass the
+    /// layout's check, its last scan has an instant, and its last row's time stamp can be written.
+    /// Doesn't allocate.
     pub fn take(&mut self) -> Option<Record<A>>
         ensures step { IsStep self.old step.Take (answer.Take result) self.new }
         ensures opening { (self.new.layout ≡ self.old.layout) × (self.new.limits ≡ self.old.limits) }
@@ -120,8 +122,8 @@ impl<A: Allocator> Recorder<A> {
         self.shelf.pop_front()
     }
 
-    /// Sets the rules that hold from the next scan on. Rules that don't fit the layout are handed back, and change nothing.
-    /// Doesn't allocate.
+    /// Sets the rules in force from the next scan on. Rules that don't fit the layout are handed
+    /// back, and nothing changes. Doesn't allocate.
     pub fn set_rules(&mut self, rules: Rules<A>) -> Result<(), Rules<A>>
         ensures ok { OnOk result (IsStep self.old (step.SetRules rules) (answer.SetRules true) self.new) }
         ensures opening { (self.new.layout ≡ self.old.layout) × (self.new.limits ≡ self.old.limits) }
@@ -147,8 +149,8 @@ impl<A: Allocator + Copy> Recorder<A> {
     ghost use Rattle.dfr_recorder.specs.Kept.{kept, leaving, IsStep};
     ghost use Rattle.dfr_recorder.specs.Memory.{GrowsRecord, AddsLost, OpensRecord};
 
-    /// A new recorder. The limits and the rules have to fit the layout. The room of ring and shelf is made here; where
-    /// that fails, layout and rules are handed back.
+    /// A new recorder. The limits and the rules must fit the layout. This allocates the room of
+    /// ring and shelf; if that fails, layout and rules are handed back.
     pub fn new(
         alloc: A,
         layout: Layout<A>,
@@ -178,8 +180,8 @@ impl<A: Allocator + Copy> Recorder<A> {
         })
     }
 
-    /// Processes a scan. A refused scan is handed back and changes nothing. Memory is needed only for an open record, or to open
-    /// one.
+    /// Processes a scan. A refused scan is handed back and nothing changes. Memory is needed only
+    /// for an open record, or to open one.
     pub fn scan(&mut self, scan: Scan<A>) -> Result<Scanned, (ScanRefusal, Scan<A>)>
         ensures ok { IfOk result (λ scanned. IsStep self.old (step.Scan scan) (answer.Scan (Ok scanned)) self.new) }
         ensures refused { IfErr result (λ refused. refused.0 ≢ ScanRefusal.Memory → IsStep self.old (step.Scan scan) (answer.Scan (Err refused.0)) self.new) }
@@ -191,8 +193,9 @@ impl<A: Allocator + Copy> Recorder<A> {
         self.scan_leaving(scan, &mut leaves)
     }
 
-    /// Processes a scan as [`Recorder::scan`] does, and hands out the one that leaves the ring for it, if any: a thread that made
-    /// it can give its memory back. `leaves` stays as it is where the scan is refused.
+    /// Processes a scan as [`Recorder::scan`] does, and sets `leaves` to the scan that leaves the
+    /// ring for it, if any. The thread that made that scan can then free its memory. A refused scan
+    /// leaves `leaves` unchanged.
     #[inline(always)] // for speed, as `accept` is
     pub fn scan_leaving(
         &mut self,
@@ -217,8 +220,9 @@ impl<A: Allocator + Copy> Recorder<A> {
         }
     }
 
-    /// Fills the place of a lost scan, so that later scans keep their instants: every reading is missing, the bits are those of the
-    /// scan before, or each channel's normal state where there is none. It fires no rule; it can close a record. It always allocates.
+    /// Fills the place of a lost scan, so that later scans keep their instants. Every reading is
+    /// missing; the bits are those of the scan before, or each channel's normal state if there is
+    /// none. It fires no rule, but can close a record. It always allocates.
     pub fn lost(&mut self) -> Result<Scanned, LostRefusal>
         ensures step { result ≢ Err LostRefusal.Memory → IsStep self.old step.Lost (answer.Lost result) self.new }
         ensures same { OnErr result (self.new ≡ self.old) }
@@ -239,7 +243,8 @@ impl<A: Allocator + Copy> Recorder<A> {
         Ok(accepted)
     }
 
-    /// A manual trigger, at the last scan. A refused one changes nothing. Only an opening allocates.
+    /// A manual trigger, at the last scan. A refused one changes nothing. Allocates only to open a
+    /// record.
     pub fn trigger(&mut self) -> Result<Hit, TriggerFault>
         ensures step { result ≢ Err TriggerFault.Memory → IsStep self.old step.Trigger (answer.Trigger result) self.new }
         ensures same { OnErr result (self.new ≡ self.old) }

@@ -1,11 +1,11 @@
-//! A record whose last scan is to come.
+//! The open record, whose last scan has yet to come.
 
 use crate::{Extent, Record};
 use dfr_channels::{Memory, Scan};
 use std::alloc::{Allocator, Global};
 use std::marker::Model;
 
-/// A record whose last scan is to come.
+/// A record whose last scan has yet to come.
 #[derive(Drop, Debug)]
 pub(crate) struct Recording<A: Allocator = Global> {
     extent: Extent,
@@ -43,7 +43,7 @@ impl<A: Allocator> Recording<A> {
         self.scans.len()
     }
 
-    /// Gives it another last scan.
+    /// Sets its extent, and so its last scan.
     pub(crate) fn move_to(&mut self, extent: Extent)
         ensures extent { self.new.extent ≡ extent }
         ensures scans { self.new.scans ≡ self.old.scans }
@@ -51,7 +51,7 @@ impl<A: Allocator> Recording<A> {
         self.extent = extent;
     }
 
-    /// Takes a scan in; refused for memory it changes nothing.
+    /// Adds a scan. If an allocation fails, nothing changes.
     pub(crate) fn push(&mut self, scan: Scan<A>) -> Result<(), Memory>
         ensures extent { self.new.extent ≡ self.old.extent }
         ensures ok { OnOk result (self.new.scans ≡ self.old.scans ++ scan ∷ []) }
@@ -63,7 +63,7 @@ impl<A: Allocator> Recording<A> {
         }
     }
 
-    /// Moves the scans into a record that has them all.
+    /// Makes a finished record of it, once it has all its scans.
     pub(crate) fn close(self) -> Record<A>
         requires { IsWhole self }
         ensures extent { result.extent ≡ self.extent }

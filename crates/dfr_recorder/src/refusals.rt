@@ -8,7 +8,7 @@ use crate::ScanRefusal;
 use dfr_channels::{Layout, Scan, ScanFault};
 use std::alloc::Allocator;
 
-/// Why a scan is not accepted at place `k`, out of memory aside.
+/// Why a scan numbered `k` would be refused, apart from lack of memory.
 pub(crate) fn refusal<A: Allocator>(
     layout: &Layout<A>,
     k: u64,

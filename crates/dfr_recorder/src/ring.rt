@@ -1,4 +1,4 @@
-//! The ring of the last scans.
+//! The ring of the last scans: the pre-trigger memory.
 
 ghost use Rattle.std.specs.Prelude.{◌≡◌, ◌<◌, ◌-◌, ◌++◌, [], ◌∷◌, Some, length, slice_get, IfOk};
 ghost use Rattle.dfr_channels.specs.Firing.{lowest_holding};
@@ -8,7 +8,7 @@ use circular_buffer::HeapCircularBuffer;
 use dfr_channels::{Memory, Rules, Scan};
 use std::alloc::Allocator;
 
-/// The lowest rule that a scan fires after the ring's newest.
+/// The lowest rule that a scan fires, given the ring's newest scan as the one before it.
 pub(crate) fn fires<A: Allocator>(
     rules: &Rules<A>,
     ring: &HeapCircularBuffer<Scan<A>, A>,
@@ -19,7 +19,7 @@ pub(crate) fn fires<A: Allocator>(
     rules.fires(ring.back(), scan)
 }
 
-/// Takes a scan into the ring. Where it is full its oldest leaves it.
+/// Puts a scan into the ring. If the ring is full, its oldest scan leaves it and is returned.
 #[inline(always)]
 pub(crate) fn keep<A: Allocator>(
     ring: &mut HeapCircularBuffer<Scan<A>, A>,
@@ -32,7 +32,7 @@ pub(crate) fn keep<A: Allocator>(
     ring.push_back(scan)
 }
 
-/// The ring's scan at this place, from its oldest.
+/// The ring's scan at index `i`, counted from its oldest.
 fn scan_at<A: Allocator>(ring: &HeapCircularBuffer<Scan<A>, A>, i: usize) -> &Scan<A>
     requires { i < length ring.now.items }
     ensures { slice_get ring.now.items i ≡ Some result.now }
@@ -43,7 +43,7 @@ fn scan_at<A: Allocator>(ring: &HeapCircularBuffer<Scan<A>, A>, i: usize) -> &Sc
     scan
 }
 
-/// Copies of the ring's last `count` scans, or of all where it has fewer, in a list with this room.
+/// Copies of the ring's last `count` scans, or of all if it has fewer, in a list with this room.
 pub(crate) fn copies<A: Allocator + Copy>(
     ring: &HeapCircularBuffer<Scan<A>, A>,
     count: usize,

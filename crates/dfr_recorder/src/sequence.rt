@@ -11,19 +11,23 @@ use crate::{Answer, Recorder, Step};
 use std::alloc::{Allocator, Global};
 use std::collections::VecDeque;
 
-/// What a run left: the recorder, an answer to each step that was made, the step at which it ran out of memory, which
-/// wasn't made, and the steps after that one.
+/// What a run leaves.
 #[derive(Drop)]
 pub struct Ran<A: Allocator = Global> {
+    /// The recorder after the steps that were made.
     pub recorder: Recorder<A>,
+    /// An answer to each step that was made, in order.
     pub answers: Vec<Answer<A>, A>,
+    /// The step that was not made because an allocation failed.
     pub stopped: Option<Step<A>>,
+    /// The steps after that one.
     pub rest: VecDeque<Step<A>, A>,
 }
 
-/// Makes the steps in order, after room was made for all their answers. Where an allocation fails it stops before that step:
-/// where it is the answers' room, before the first; later only at a step that needs memory, which a take and rules never do.
-/// The recorder keeps its layout and its limits, and each record that a step takes matches the layout.
+/// Makes the steps in order. Room for all answers is reserved first. If an allocation fails, the
+/// run stops before that step: before the first if the room can't be reserved, later only at a step
+/// that needs memory. Taking a record and setting rules never need any. The recorder keeps its
+/// layout and its limits, and each record that a step takes matches the layout.
 pub fn run<A: Allocator + Copy>(
     alloc: A,
     recorder: Recorder<A>,

@@ -1,4 +1,4 @@
-//! The shelf, on which closed records wait.
+//! The shelf: the queue of finished records.
 
 ghost use Rattle.std.specs.Prelude.{◌≡◌, ◌<◌, ◌^◌, ◌==◌, length};
 ghost use Rattle.dfr_recorder.specs.Kept.{scans_in};
@@ -7,14 +7,14 @@ use crate::{Limits, Record};
 use std::alloc::Allocator;
 use std::collections::VecDeque;
 
-/// Whether as many records wait as may.
+/// Whether the shelf is full.
 pub(crate) fn is_full<A: Allocator>(shelf: &VecDeque<Record<A>, A>, limits: Limits) -> bool
     ensures { result ≡ (length shelf.now.items == limits.shelf) }
 {
     shelf.len() == limits.shelf() as usize
 }
 
-/// How many scans the records of the shelf have.
+/// How many scans the records on the shelf have.
 pub(crate) fn scans_in<A: Allocator>(shelf: &VecDeque<Record<A>, A>) -> u64
     requires { scans_in shelf.now.items < 2 ^ 62 }
     ensures { result ≡ scans_in shelf.now.items }

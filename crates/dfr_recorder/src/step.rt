@@ -5,31 +5,35 @@ use dfr_channels::{Rules, Scan};
 use std::alloc::{Allocator, Global};
 use thiserror::Error;
 
-/// What a trigger did, with the number of the record that it met or opened.
+/// What a trigger did, with the number of the record that it opened or met.
 #[derive(Clone, Copy, Debug, PartialEq, Eq)]
 pub enum Hit {
-    /// No record was open; this one is now.
+    /// No record was open; it opened this one.
     Opened(u64),
-    /// The open record's last scan is now the one `post` after the trigger, which it may have been before.
+    /// The open record now ends `post` scans after the trigger. It may have ended there before.
     Extended(u64),
-    /// The one `post` after the trigger would make the open record longer than `longest`: it now ends where it has `longest` scans.
+    /// Ending `post` scans after the trigger would make the open record longer than `longest`
+    /// scans. It now ends when it has `longest` scans.
     AtLimit(u64),
-    /// No record was open, and as many wait on the shelf as may: none was opened.
+    /// No record was open, and the shelf was full of finished records. None was opened.
     ShelfFull,
 }
 
-/// An accepted scan: its number, what its trigger did where a rule fired, and the number of the record that it closed.
+/// The answer to an accepted scan.
 #[derive(Clone, Copy, Debug, PartialEq, Eq)]
 pub struct Scanned {
+    /// The scan's number, from 0.
     pub number: u64,
+    /// What its trigger did, if a rule fired.
     pub trigger: Option<Hit>,
+    /// The number of the record that it closed, if any.
     pub closed: Option<u64>,
 }
 
-/// Why a scan is not accepted, in the order of the tests.
+/// Why a scan is refused, in the order of the tests.
 #[derive(Clone, Copy, Debug, PartialEq, Eq)]
 pub enum ScanRefusal {
-    /// A number of readings or bits that isn't the layout's.
+    /// The number of readings or bits is not the layout's.
     Shape,
     /// The lowest channel, from 0, whose value is out of its range.
     Range(u32),
@@ -39,7 +43,7 @@ pub enum ScanRefusal {
     Memory,
 }
 
-/// Why a lost scan is not accepted, in the order of the tests.
+/// Why a lost scan is refused, in the order of the tests.
 #[derive(Clone, Copy, Debug, PartialEq, Eq)]
 pub enum LostRefusal {
     /// Its instant would be after the year 9999.
@@ -48,19 +52,20 @@ pub enum LostRefusal {
     Memory,
 }
 
-/// Why a manual trigger did nothing. The order of the tests is `NoScan`, `Covered`, `ShelfFull`, `Memory`.
+/// Why a manual trigger did nothing. The tests run in the order `NoScan`, `Covered`, `ShelfFull`,
+/// `Memory`.
 #[derive(Clone, Copy, Debug, PartialEq, Eq, Error)]
 pub enum TriggerFault {
-    /// No scan was accepted yet.
+    /// No scan has been accepted yet.
     #[error("no scan was accepted yet")]
     NoScan,
-    /// No record is open, and as many wait on the shelf as may.
+    /// No record is open, and the shelf is full of finished records.
     #[error("the shelf is full of records")]
     ShelfFull,
     /// An allocation failed.
     #[error("out of memory")]
     Memory,
-    /// Under unshared limits: no record is open, and the newest one has the last scan already.
+    /// Under unshared limits: no record is open, and the newest one already has the last scan.
     #[error("the newest record has the last scan already")]
     Covered,
 }
@@ -68,22 +73,26 @@ pub enum TriggerFault {
 /// One call of a recorder.
 #[derive(Drop, Debug)]
 pub enum Step<A: Allocator = Global> {
+    /// Process a scan.
     Scan(Scan<A>),
-    /// A scan that was lost.
+    /// Fill the place of a lost scan.
     Lost,
+    /// A manual trigger at the last scan.
     Trigger,
+    /// Take the oldest finished record.
     Take,
+    /// Set the rules in force from the next scan on.
     SetRules(Rules<A>),
 }
 
-/// What a step was answered.
+/// The answer to a step.
 #[derive(Drop, Debug)]
 pub enum Answer<A: Allocator = Global> {
     Scan(Result<Scanned, ScanRefusal>),
     Lost(Result<Scanned, LostRefusal>),
     Trigger(Result<Hit, TriggerFault>),
-    /// The oldest record on the shelf.
+    /// The oldest finished record; None if none waits.
     Take(Option<Record<A>>),
-    /// Whether the rules were set.
+    /// Whether the rules were set: false if they don't fit the layout.
     SetRules(bool),
 }

@@ -1,4 +1,4 @@
-//! The channels that lines of a set-up name.
+//! Reads the channels of set-up lines.
 
 ghost use Rattle.std.specs.Prelude.{◌≡◌, length, IfOk};
 ghost use Rattle.dfr_script.specs.Faults.{Is};
@@ -10,7 +10,7 @@ use crate::fields::{free_bit_at, free_scale_at, scale_at, side_at, small_at, tex
 use dfr_channels::{AnalogChannel, Decimal, Side, StatusChannel, fields_of};
 use std::alloc::Allocator;
 
-/// The numbers of an analogue channel's line.
+/// The numbers of an analogue channel's line, and its side.
 struct Scaling {
     a: Decimal,
     b: Decimal,
@@ -22,8 +22,8 @@ struct Scaling {
     side: Side,
 }
 
-/// The numbers of an analogue channel. The contract says what the whole line is, with its texts as
-/// they stand in their fields.
+/// Reads the numbers of an analogue channel. The contract describes the whole line, with its texts
+/// as they are in their fields.
 #[tactic(auto, unfolding(dfr_channels::specs::LineFields::analog_from))]
 fn scaling_in(fields: &[&[u8]]) -> Result<Scaling, LineRefusal>
     ensures says { Is (λ x. record {
@@ -65,7 +65,8 @@ fn scaling_in(fields: &[&[u8]]) -> Result<Scaling, LineRefusal>
     })
 }
 
-/// An analogue channel, by the fields of its line of a configuration file (C37.111-1999, 5.3.3) without the number.
+/// Reads an analogue channel. Its 12 fields are those of its line in a configuration file
+/// (C37.111-1999, 5.3.3) without the channel number.
 fn analog_in<A: Allocator + Copy>(
     alloc: A,
     fields: &[&[u8]],
@@ -102,7 +103,7 @@ fn analog_in<A: Allocator + Copy>(
     })
 }
 
-/// The analogue channel that the rest of its line says.
+/// Reads the analogue channel in the rest of a line.
 pub(crate) fn analog_of<A: Allocator + Copy>(
     alloc: A,
     rest: &[u8],
@@ -113,7 +114,8 @@ pub(crate) fn analog_of<A: Allocator + Copy>(
     analog_in(alloc, &fields)
 }
 
-/// A status channel, by the fields of its line of a configuration file (5.3.4) without the number.
+/// Reads a status channel. Its 4 fields are those of its line in a configuration file
+/// (C37.111-1999, 5.3.4) without the channel number.
 #[tactic(auto, unfolding(dfr_channels::specs::LineFields::status_from))]
 fn status_in<A: Allocator + Copy>(
     alloc: A,
@@ -136,7 +138,7 @@ fn status_in<A: Allocator + Copy>(
     })
 }
 
-/// The status channel that the rest of its line says.
+/// Reads the status channel in the rest of a line.
 pub(crate) fn status_of<A: Allocator + Copy>(
     alloc: A,
     rest: &[u8],

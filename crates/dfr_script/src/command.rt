@@ -1,4 +1,4 @@
-//! The commands that stand after `go`.
+//! Reads the commands after `go`.
 
 ghost use Rattle.std.specs.Prelude.{◌≡◌, Some, option_map, codes};
 ghost use Rattle.std.specs.Str.{bytes_eq};
@@ -15,16 +15,19 @@ use std::alloc::{Allocator, Global};
 /// What a line after `go` asks for.
 #[derive(Drop, Debug)]
 pub enum Command<A: Allocator = Global> {
+    /// A scan to process.
     Scan(Scan<A>),
     /// A scan that was lost.
     Lost,
+    /// A manual trigger.
     Trigger,
+    /// Taking the oldest finished record.
     Take,
-    /// Rules that hold from the next scan on, and the number of their line, from 1.
+    /// Rules in force from the next scan on, and the number of their line, from 1.
     Rules { line: u64, list: Vec<Rule, A> },
 }
 
-/// The words of commands.
+/// The first words of commands.
 #[derive(Clone, Copy, PartialEq, Eq)]
 pub(crate) enum Verb {
     Scan,
@@ -34,14 +37,14 @@ pub(crate) enum Verb {
     Rules,
 }
 
-/// Whether the word is that of most lines, told by its four bytes.
+/// Whether the word is `scan`, the first word of most lines. Compares four bytes.
 fn is_scan(word: &[u8]) -> bool
     ensures { result ≡ bytes_eq word.now (codes "scan") }
 {
     matches!(word, [b's', b'c', b'a', b'n'])
 }
 
-/// The command that the word names.
+/// The command that the word names, if any.
 #[tactic(auto, unfolding(crate::specs::Commands::verb))]
 fn verb_of(word: &[u8]) -> Option<Verb>
     ensures { result ≡ spec.verb word.now }
@@ -61,7 +64,7 @@ fn verb_of(word: &[u8]) -> Option<Verb>
     }
 }
 
-/// That no rest follows a word.
+/// Checks that nothing follows a word; else the fault `Word`.
 fn bare(rest: &[u8]) -> Result<(), LineRefusal>
     ensures { Is (λ x. x) (spec.bare tt rest.now) result }
 {
@@ -72,7 +75,7 @@ fn bare(rest: &[u8]) -> Result<(), LineRefusal>
     }
 }
 
-/// The command of line number `line`.
+/// Reads the command of line number `line`.
 fn command_in<A: Allocator + Copy>(
     alloc: A,
     line: u64,
@@ -106,7 +109,7 @@ fn command_in<A: Allocator + Copy>(
     }
 }
 
-/// The command of line number `line`; None where it is skipped.
+/// Reads the command of line number `line`; None if the line is skipped.
 #[tactic(auto, unfolding(crate::specs::Commands::command_line))]
 pub(crate) fn command_of<A: Allocator + Copy>(
     alloc: A,

@@ -1,4 +1,4 @@
-//! The lines of a set-up that came so far.
+//! The set-up lines that were read so far.
 
 ghost use Rattle.std.specs.Prelude.{◌≡◌, [], option_map, unwrap_or};
 ghost use Rattle.dfr_script.specs.Faults.{Is};
@@ -47,7 +47,7 @@ impl<A: Allocator> Model for Draft<A> {
     } };
 }
 
-/// The rules, or none where no line named any.
+/// The rules, or an empty list if no line gave any.
 fn rules_or_none<A: Allocator>(alloc: A, rules: Option<Vec<Rule, A>>) -> Vec<Rule, A>
     ensures { result.items ≡ unwrap_or (option_map (λ v. v.items) rules) [] }
 {
@@ -57,7 +57,8 @@ fn rules_or_none<A: Allocator>(alloc: A, rules: Option<Vec<Rule, A>>) -> Vec<Rul
     }
 }
 
-/// A rest of one field, and what was read of it.
+/// The value that was read from a rest of one field. More fields have the fault `Fields`, a value
+/// that could not be read has `Number`.
 fn single<T: Drop>(rest: &[u8], read: Option<T>) -> Result<T, LineRefusal>
     ensures { Is (λ x. x) (fields.single rest.now read) result }
 {
@@ -89,7 +90,7 @@ impl<A: Allocator + Copy> Draft<A> {
         }
     }
 
-    /// Whether the setting came and may not come again.
+    /// Whether the setting was given already and may not be given again.
     #[tactic(auto, unfolding(crate::specs::Drafts::has))]
     fn has(&self, setting: Setting) -> bool
         ensures { result ≡ spec.has self.now setting }
@@ -106,7 +107,7 @@ impl<A: Allocator + Copy> Draft<A> {
         }
     }
 
-    /// Puts what the rest of a line says in its place; a fault leaves the draft as it was.
+    /// Sets what the rest of a line gives. A fault leaves the draft unchanged.
     #[tactic(auto, unfolding(crate::specs::Drafts::put))]
     fn put(&mut self, alloc: A, setting: Setting, rest: &[u8]) -> Result<(), LineRefusal>
         ensures says { Is (λ _. self.new) (spec.put self.old setting rest.now) result }
@@ -153,7 +154,7 @@ impl<A: Allocator + Copy> Draft<A> {
         Ok(())
     }
 
-    /// Adds a line; a fault leaves the draft as it was.
+    /// Adds a line. A setting given twice has the fault `Word`. A fault leaves the draft unchanged.
     #[tactic(auto, unfolding(crate::specs::Drafts::add))]
     pub(crate) fn add(&mut self, alloc: A, setting: Setting, rest: &[u8]) -> Result<(), LineRefusal>
         ensures says { Is (λ _. self.new) (spec.add self.old setting rest.now) result }
@@ -165,7 +166,7 @@ impl<A: Allocator + Copy> Draft<A> {
         self.put(alloc, setting, rest)
     }
 
-    /// The script of the lines that came, without commands; None where a line is missing.
+    /// The script of the lines that were read, without commands; None if a line is missing.
     #[tactic(auto, unfolding(crate::specs::Drafts::whole))]
     pub(crate) fn finish(self, alloc: A) -> Option<Script<A>>
         ensures { MatchOption result (spec.whole self ≡ Err word.Setup)

@@ -8,20 +8,23 @@ use std::alloc::{AllocError, AllocFailed};
 /// What is wrong with a line, in the order of the tests.
 #[derive(Clone, Copy, Debug, PartialEq, Eq)]
 pub enum Word {
-    /// An unknown or misplaced word, a second line where one is allowed, or a rest where none may stand.
+    /// An unknown or misplaced word, a second line of a setting that is allowed once, or text after
+    /// a word that takes none.
     Word,
-    /// A wrong number of fields, of words of a rule, or of slashes of a scan.
+    /// The wrong number of fields in a line, of words in a rule, or of slashes in a scan.
     Fields,
-    /// A field or a word of a rule that can't be read, or a number that doesn't fit its type.
+    /// A field or a word of a rule can't be read, or a number doesn't fit its type.
     Number,
     /// A line of the set-up is missing.
     Setup,
 }
 
-/// The first fault of a script; lines count from 1.
+/// The first fault of a script.
 #[derive(Clone, Copy, Debug, PartialEq, Eq)]
 pub struct ScriptFault {
+    /// The number of its line, from 1.
     pub line: u64,
+    /// What is wrong with the line.
     pub word: Word,
 }
 

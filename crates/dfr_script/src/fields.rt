@@ -1,4 +1,4 @@
-//! The fields of a line, read one by one.
+//! Reads the fields of a line, one by one. A field that can't be read has the fault `Number`.
 
 ghost use Rattle.std.specs.Prelude.{◌≡◌, IfOk, IfErr, length, ◌<◌};
 ghost use Rattle.dfr_channels.specs.Lines.{texts, field};
@@ -11,7 +11,7 @@ use crate::fault::{LineRefusal, Word};
 use dfr_channels::{Decimal, Items, Side, free_bit_of, free_scale_of, integer_of, side_of};
 use std::alloc::Allocator;
 
-/// The value, or the fault of what can't be read.
+/// The value that was read, or the fault `Number` if there is none.
 pub(crate) fn needed<T>(read: Option<T>) -> Result<T, LineRefusal>
     ensures { Field read result }
 {
@@ -21,7 +21,7 @@ pub(crate) fn needed<T>(read: Option<T>) -> Result<T, LineRefusal>
     }
 }
 
-/// A whole number that fits an i32.
+/// Reads a whole number that fits an i32; None otherwise.
 #[tactic(auto, unfolding(crate::specs::Fields::small))]
 pub(crate) fn small_of(text: &[u8]) -> Option<i32>
     ensures { result ≡ spec.small text.now }
@@ -32,7 +32,7 @@ pub(crate) fn small_of(text: &[u8]) -> Option<i32>
     }
 }
 
-/// A whole number that fits a u32.
+/// Reads a whole number that fits a u32; None otherwise.
 #[tactic(auto, unfolding(crate::specs::Fields::natural))]
 pub(crate) fn natural_of(text: &[u8]) -> Option<u32>
     ensures { result ≡ spec.natural text.now }
@@ -43,7 +43,7 @@ pub(crate) fn natural_of(text: &[u8]) -> Option<u32>
     }
 }
 
-/// A whole number that fits an i64.
+/// Reads a whole number that fits an i64; None otherwise.
 #[tactic(auto, unfolding(crate::specs::Fields::instant))]
 pub(crate) fn instant_of(text: &[u8]) -> Option<i64>
     ensures { result ≡ spec.instant text.now }
@@ -54,7 +54,7 @@ pub(crate) fn instant_of(text: &[u8]) -> Option<i64>
     }
 }
 
-/// A field that is a decimal.
+/// Reads field `i`, from 0, as a decimal.
 pub(crate) fn scale_at(fields: &[&[u8]], i: usize) -> Result<Decimal, LineRefusal>
     requires { i < length fields.now }
     ensures { Field (decimal_number (field (texts fields.now) i)) result }
@@ -62,7 +62,7 @@ pub(crate) fn scale_at(fields: &[&[u8]], i: usize) -> Result<Decimal, LineRefusa
     needed(Decimal::read(fields[i]))
 }
 
-/// A field that is a decimal or empty.
+/// Reads field `i`, from 0, as a decimal; 0 if it is empty.
 pub(crate) fn free_scale_at(fields: &[&[u8]], i: usize) -> Result<Decimal, LineRefusal>
     requires { i < length fields.now }
     ensures { Field (shared.free_scale (field (texts fields.now) i)) result }
@@ -70,7 +70,7 @@ pub(crate) fn free_scale_at(fields: &[&[u8]], i: usize) -> Result<Decimal, LineR
     needed(free_scale_of(fields[i]))
 }
 
-/// A field that is a whole number of 32 bits and a sign.
+/// Reads field `i`, from 0, as a whole number that fits an i32.
 pub(crate) fn small_at(fields: &[&[u8]], i: usize) -> Result<i32, LineRefusal>
     requires { i < length fields.now }
     ensures { Field (spec.small (field (texts fields.now) i)) result }
@@ -78,7 +78,7 @@ pub(crate) fn small_at(fields: &[&[u8]], i: usize) -> Result<i32, LineRefusal>
     needed(small_of(fields[i]))
 }
 
-/// A field that is a whole number of 32 bits.
+/// Reads field `i`, from 0, as a whole number that fits a u32.
 pub(crate) fn natural_at(fields: &[&[u8]], i: usize) -> Result<u32, LineRefusal>
     requires { i < length fields.now }
     ensures { Field (spec.natural (field (texts fields.now) i)) result }
@@ -86,7 +86,7 @@ pub(crate) fn natural_at(fields: &[&[u8]], i: usize) -> Result<u32, LineRefusal>
     needed(natural_of(fields[i]))
 }
 
-/// A field that is 0, 1 or empty.
+/// Reads field `i`, from 0, as 0 or 1; 0 if it is empty.
 pub(crate) fn free_bit_at(fields: &[&[u8]], i: usize) -> Result<bool, LineRefusal>
     requires { i < length fields.now }
     ensures { Field (shared.free_bit (field (texts fields.now) i)) result }
@@ -94,7 +94,7 @@ pub(crate) fn free_bit_at(fields: &[&[u8]], i: usize) -> Result<bool, LineRefusa
     needed(free_bit_of(fields[i]))
 }
 
-/// A field that names a side.
+/// Reads field `i`, from 0, as a side: P or S, in upper or lower case.
 pub(crate) fn side_at(fields: &[&[u8]], i: usize) -> Result<Side, LineRefusal>
     requires { i < length fields.now }
     ensures { Field (shared.side (field (texts fields.now) i)) result }
@@ -102,7 +102,7 @@ pub(crate) fn side_at(fields: &[&[u8]], i: usize) -> Result<Side, LineRefusal>
     needed(side_of(fields[i]))
 }
 
-/// The bytes of a field.
+/// The bytes of field `i`, from 0. Only an allocation can fail.
 pub(crate) fn text_at<A: Allocator>(
     alloc: A,
     fields: &[&[u8]],
@@ -115,7 +115,7 @@ pub(crate) fn text_at<A: Allocator>(
     text_of(alloc, fields[i])
 }
 
-/// The bytes of a text.
+/// A copy of a text's bytes. Only an allocation can fail.
 pub(crate) fn text_of<A: Allocator>(alloc: A, text: &[u8]) -> Result<Items<u8, A>, LineRefusal>
     ensures ok { IfOk result (λ x. x ≡ text.now) }
     ensures memory { IfErr result OnlyMemory }

@@ -1,4 +1,4 @@
-//! The script of a recorder: its set-up, and the commands that are made on it.
+//! Reads the script of a recorder: its set-up, and the commands to make on it.
 #![tactic(auto)]
 
 mod channel_line;

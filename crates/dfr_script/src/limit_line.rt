@@ -1,4 +1,4 @@
-//! The numbers of a line of limits, and its choice.
+//! Reads a `limits` line: its numbers, and the word `unshared` if it is there.
 
 ghost use Rattle.std.specs.Prelude.{◌≡◌, if◌then◌else◌, length, Ok, Err};
 ghost use Rattle.dfr_script.specs.declared.fault.Word.TheVariants as word;
@@ -12,18 +12,23 @@ use crate::line::is_word;
 use dfr_channels::fields_of;
 use std::alloc::Allocator;
 
-/// The numbers of a line of limits, which a recorder tests: scans before and after a trigger, the greatest number of a
-/// record's scans, and how many records wait; and whether each scan stands in at most one record.
+/// The numbers of a `limits` line. They are not checked here: `Limits::new` of `dfr_recorder` does
+/// that.
 #[derive(Clone, Copy, Debug, PartialEq, Eq)]
 pub struct LimitNumbers {
+    /// Scans before a trigger.
     pub pre: u32,
+    /// Scans after a trigger.
     pub post: u32,
+    /// The most scans of a record.
     pub longest: u32,
+    /// The most finished records that wait.
     pub shelf: u32,
+    /// Whether each scan is in at most one record.
     pub unshared: bool,
 }
 
-/// That the fifth of five fields is the choice.
+/// Checks that the fifth of five fields is `unshared`; else the fault `Number`.
 fn chosen(fields: &[&[u8]]) -> Result<(), LineRefusal>
     requires { length fields.now ≡ 5 }
     ensures { Is (λ x. x) (if spec.chooses (texts fields.now) then Ok tt else Err word.Number) result }
@@ -35,7 +40,7 @@ fn chosen(fields: &[&[u8]]) -> Result<(), LineRefusal>
     }
 }
 
-/// Four numbers, and the choice where there is a fifth field.
+/// Reads four numbers, and `unshared` if there is a fifth field.
 fn limits_in(fields: &[&[u8]]) -> Result<LimitNumbers, LineRefusal>
     ensures { Is (λ x. x) (spec.limits_fields (texts fields.now)) result }
 {
@@ -58,7 +63,7 @@ fn limits_in(fields: &[&[u8]]) -> Result<LimitNumbers, LineRefusal>
     })
 }
 
-/// The numbers and the choice that the rest of a line of limits says.
+/// Reads the rest of a `limits` line.
 pub(crate) fn limits_of<A: Allocator>(alloc: A, rest: &[u8]) -> Result<LimitNumbers, LineRefusal>
     ensures { Is (λ x. x) (spec.limits_line rest.now) result }
 {

@@ -1,4 +1,4 @@
-//! The word of a line, and what stands after it.
+//! The first word of a line, and the rest of the line.
 
 ghost use Rattle.std.specs.Prelude.{◌≡◌, position};
 ghost use Rattle.std.specs.Str.{bytes_eq};
@@ -7,7 +7,7 @@ ghost use Rattle.dfr_script.specs.Words as spec;
 
 use dfr_channels::trim;
 
-/// A space or a tab.
+/// Whether the byte is a space or a tab.
 pub(crate) fn is_blank(b: u8) -> bool
     ensures { result ≡ spec.is_blank b }
 {
@@ -20,15 +20,15 @@ fn place_of_blank(line: &[u8]) -> Option<usize>
     line.iter().position(|b| is_blank(*b))
 }
 
-/// Whether the word is this text.
+/// Whether the word is exactly this text.
 pub(crate) fn is_word(word: &[u8], text: &str) -> bool
     ensures { result ≡ bytes_eq word.now text.now }
 {
     word == text.as_bytes()
 }
 
-/// What stands before the first blank, and what stands after it without the blanks around it. Most lines are scans, which are told
-/// by their first bytes.
+/// The text before the first blank, and the rest without surrounding blanks. Most lines are scans,
+/// which are recognized by their first five bytes.
 #[inline(always)]
 #[tactic(auto, unfolding(crate::specs::Words::word, crate::specs::Words::rest))]
 pub(crate) fn cut(line: &[u8]) -> (&[u8], &[u8])
@@ -41,7 +41,7 @@ pub(crate) fn cut(line: &[u8]) -> (&[u8], &[u8])
     }
 }
 
-/// The same, whatever the line begins with.
+/// The same, for a line that begins with any word.
 #[tactic(auto, using(dfr_channels::proofs::Cuts::cuts), unfolding(crate::specs::Words::word, crate::specs::Words::rest))]
 fn cut_at_blank(line: &[u8]) -> (&[u8], &[u8])
     ensures word { result.0.now ≡ spec.word line.now }
@@ -53,7 +53,7 @@ fn cut_at_blank(line: &[u8]) -> (&[u8], &[u8])
     }
 }
 
-/// Whether a text has nothing but blanks.
+/// Whether a text is empty or has only blanks.
 pub(crate) fn is_bare(text: &[u8]) -> bool
     ensures { result ≡ is_blank_line text.now }
 {
@@ -63,7 +63,7 @@ pub(crate) fn is_bare(text: &[u8]) -> bool
     }
 }
 
-/// Whether the line is blank or a comment, which is skipped.
+/// Whether the line is skipped: it is blank, or a comment, which begins with `#`.
 #[tactic(auto, unfolding(crate::specs::Words::is_silent))]
 pub(crate) fn is_silent(line: &[u8]) -> bool
     ensures { result ≡ spec.is_silent line.now }

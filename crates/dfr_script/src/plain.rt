@@ -1,12 +1,13 @@
-//! Readings in their plain spelling, read in one pass.
+//! Readings in plain spelling, read in one pass.
 
 ghost use Rattle.std.specs.Prelude.{◌≡◌, ◌<◌, IfSome, option_copied, length};
 ghost use Rattle.dfr_script.specs.Plain.{Begins};
 
 use dfr_channels::{plain_number, sample_number};
 
-/// The reading that a text begins with, and what stands after its comma if it has one, where the field is a minus or nothing
-/// and one to ten digits. None says no more than that the field is spelled otherwise or doesn't fit.
+/// The reading in the first field of a text, and the text after that field's comma, if it has one.
+/// The field is one to ten digits, with or without a minus sign. None means no more than that the
+/// field is spelled otherwise or doesn't fit.
 pub(crate) fn plain_field(text: &[u8]) -> Option<(i32, Option<&[u8]>)>
     ensures first { IfSome result (λ r. Begins text.now r.0 (option_copied r.1)) }
     ensures shorter { IfSome result (λ r. IfSome r.1 (λ behind. length behind.now < length text.now)) }

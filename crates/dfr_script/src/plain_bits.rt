@@ -1,4 +1,4 @@
-//! Bits in their plain spelling, read in two passes without a branch.
+//! Bits in plain spelling (one digit each), read in two passes without a branch.
 
 ghost use Rattle.std.specs.Prelude.{◌≡◌, ◌*◌, ◌+◌, IfOk, IfSome, None, length, position, true};
 ghost use Rattle.dfr_script.specs.PlainBits.{AreBits, ReadsBits};
@@ -6,7 +6,7 @@ ghost use Rattle.dfr_script.specs.ScanLines.{is_slash};
 
 use std::alloc::{AllocError, Allocator};
 
-/// Whether a text of this length is so many digits 0 and 1, with a comma between each two.
+/// Whether a text of this length is `count` digits 0 and 1 with a comma between each two.
 fn are_bits(text: &[u8], count: usize) -> bool
     requires { length text.now + 1 ≡ 2 * count }
     ensures { result ≡ true → AreBits text.now count }
@@ -31,8 +31,8 @@ fn write_bits(slot: &mut [bool], text: &[u8])
     }
 }
 
-/// The bits of a text, where each is one digit and stands by itself between the commas, and so there is no slash. None says no
-/// more than that one is spelled otherwise.
+/// The bits of a text in which each is one digit, with nothing but a comma between two. Such a text
+/// has no slash. None means no more than that some bit is spelled otherwise.
 pub(crate) fn plain_bits<A: Allocator>(
     alloc: A,
     text: &[u8],

@@ -1,4 +1,4 @@
-//! The rules of a line.
+//! Reads the trigger rules of a line.
 
 ghost use Rattle.std.specs.Prelude.{◌≡◌, if◌then◌else◌, IfOk, length, Ok, Err};
 ghost use Rattle.dfr_script.specs.declared.fault.Word.TheVariants as word;
@@ -12,14 +12,14 @@ use crate::line::{is_blank, is_word};
 use dfr_channels::Rule;
 use std::alloc::{AllocError, Allocator};
 
-/// What stands between the semicolons.
+/// The parts of the text, separated by semicolons.
 fn parts_of<'a, A: Allocator>(alloc: A, rest: &'a [u8]) -> Result<Vec<&'a [u8], A>, AllocError>
     ensures { IfOk result (λ v. texts v.items ≡ spec.parts rest.now) }
 {
     rest.split(|b| *b == b';').collect(alloc)
 }
 
-/// The words between the blanks.
+/// The words of the part, separated by blanks.
 #[tactic(auto, unfolding(crate::specs::RuleLines::words))]
 fn words_of<'a, A: Allocator>(alloc: A, part: &'a [u8]) -> Result<Vec<&'a [u8], A>, AllocError>
     ensures { IfOk result (λ v. texts v.items ≡ spec.words part.now) }
@@ -29,7 +29,8 @@ fn words_of<'a, A: Allocator>(alloc: A, part: &'a [u8]) -> Result<Vec<&'a [u8], 
         .collect(alloc)
 }
 
-/// Whether a rule of this first word has as many words as it needs: four a level, three an edge, and any other at least one.
+/// Whether a rule has as many words as its first word needs: four for `level`, three for `edge`, at
+/// least one for any other.
 #[tactic(auto, unfolding(crate::specs::RuleLines::has_shape))]
 fn has_shape(words: &[&[u8]]) -> bool
     ensures { result ≡ spec.has_shape (texts words.now) }
@@ -46,7 +47,7 @@ fn has_shape(words: &[&[u8]]) -> bool
     true
 }
 
-/// Which of two words stands there.
+/// Whether the word is `yes` (true) or `no` (false); None for any other word.
 fn either(word: &[u8], yes: &str, no: &str) -> Option<bool>
     ensures { result ≡ spec.either word.now yes.now no.now }
 {
@@ -59,7 +60,7 @@ fn either(word: &[u8], yes: &str, no: &str) -> Option<bool>
     }
 }
 
-/// The level rule of four words.
+/// Reads a level rule of four words.
 #[tactic(auto, unfolding(crate::specs::RuleLines::level))]
 fn level_in(words: &[&[u8]]) -> Option<Rule>
     requires { length words.now ≡ 4 }
@@ -75,7 +76,7 @@ fn level_in(words: &[&[u8]]) -> Option<Rule>
     })
 }
 
-/// The edge rule of three words.
+/// Reads an edge rule of three words.
 #[tactic(auto, unfolding(crate::specs::RuleLines::edge))]
 fn edge_in(words: &[&[u8]]) -> Option<Rule>
     requires { length words.now ≡ 3 }
@@ -86,7 +87,7 @@ fn edge_in(words: &[&[u8]]) -> Option<Rule>
     Some(Rule::Edge { channel, rise })
 }
 
-/// `level C over T`, `level C under T`, `edge C rise` or `edge C fall`.
+/// Reads `level C over T`, `level C under T`, `edge C rise` or `edge C fall`; None otherwise.
 #[tactic(auto, unfolding(crate::specs::RuleLines::rule))]
 fn rule_in(words: &[&[u8]]) -> Option<Rule>
     ensures { result ≡ spec.rule (texts words.now) }
@@ -108,7 +109,7 @@ fn is_shaped<A: Allocator>(alloc: A, part: &[u8]) -> Result<bool, AllocError>
     Ok(has_shape(&words))
 }
 
-/// The rule of a part; None where its words can't be read.
+/// Reads the rule of a part; None if its words can't be read.
 fn rule_of<A: Allocator>(alloc: A, part: &[u8]) -> Result<Option<Rule>, AllocError>
     ensures { IfOk result (λ r. r ≡ spec.rule (spec.words part.now)) }
 {
@@ -116,7 +117,7 @@ fn rule_of<A: Allocator>(alloc: A, part: &[u8]) -> Result<Option<Rule>, AllocErr
     Ok(rule_in(&words))
 }
 
-/// That each rule has as many words as it needs.
+/// Checks that each rule has as many words as it needs; else the fault `Fields`.
 fn shapes_of<A: Allocator + Copy>(alloc: A, parts: &[&[u8]]) -> Result<(), LineRefusal>
     ensures { Is (λ x. x) (if spec.all_shaped (texts parts.now) then Ok tt else Err word.Fields) result }
 {
@@ -129,7 +130,7 @@ fn shapes_of<A: Allocator + Copy>(alloc: A, parts: &[&[u8]]) -> Result<(), LineR
     Ok(())
 }
 
-/// The rules of the parts.
+/// Reads the rule of each part. One that can't be read has the fault `Number`.
 fn list_of<A: Allocator + Copy>(alloc: A, parts: &[&[u8]]) -> Result<Vec<Rule, A>, LineRefusal>
     ensures { Is (λ v. v.items) (spec.rule_list (texts parts.now)) result }
 {
@@ -141,7 +142,7 @@ fn list_of<A: Allocator + Copy>(alloc: A, parts: &[&[u8]]) -> Result<Vec<Rule, A
     Ok(list)
 }
 
-/// The rules that the rest of a line says, separated by `;`.
+/// Reads the rules in the rest of a line, separated by `;`. An empty rest has none.
 #[tactic(auto, unfolding(crate::specs::RuleLines::rules))]
 pub(crate) fn rules_of<A: Allocator + Copy>(
     alloc: A,

@@ -1,4 +1,4 @@
-//! The readings and bits of a scan's line.
+//! Reads the readings and bits of a scan's line.
 
 ghost use Rattle.std.specs.Prelude.{◌≡◌, ◌<◌, ◌∷◌, ◌++◌, ◌&&◌, IfSome, None, is_some, length, position, option_copied, option_to_list};
 ghost use Rattle.std.specs.List.{filter_map};
@@ -17,7 +17,7 @@ use dfr_channels::{Reading, Scan, bit_of, trim};
 use memchr::memchr;
 use std::alloc::Allocator;
 
-/// How many readings and bits the set-up's scans have: the room to make for a line's.
+/// How many readings and bits the set-up's scans have. The lists of a line get room for so many.
 #[derive(Clone, Copy)]
 pub(crate) struct Size {
     pub(crate) analog: usize,
@@ -36,7 +36,7 @@ fn place_of_comma(text: &[u8]) -> Option<usize>
     text.iter().position(|b| *b == b',')
 }
 
-/// The first field of a text, and what stands after its comma if it has one.
+/// The first field of a text, and the text after its comma, if it has one.
 #[tactic(auto, using(crate::proofs::CutFields::comma_fields))]
 fn at_comma(text: &[u8]) -> (&[u8], Option<&[u8]>)
     ensures fields { spec.fields text.now ≡ result.0.now ∷ spec.fields_behind (option_copied result.1) }
@@ -48,7 +48,7 @@ fn at_comma(text: &[u8]) -> (&[u8], Option<&[u8]>)
     }
 }
 
-/// A whole number, or `*` for a missing one.
+/// Reads a whole number that fits an i32, or `*` for a missing reading.
 #[tactic(auto, unfolding(crate::specs::ScanLines::reading))]
 fn reading_of(text: &[u8]) -> Option<Reading>
     ensures { result ≡ spec.reading text.now }
@@ -62,7 +62,8 @@ fn reading_of(text: &[u8]) -> Option<Reading>
     }
 }
 
-/// The reading that a text begins with, and what stands after its comma if it has one.
+/// The first reading of a text, and the text after its comma, if it has one. The reading is None if
+/// its field can't be read.
 fn next_reading(text: &[u8]) -> (Option<Reading>, Option<&[u8]>)
     ensures all { reads_all spec.reading (spec.fields text.now)
         ≡ (is_some result.0 && reads_all spec.reading (spec.fields_behind (option_copied result.1))) }
@@ -79,7 +80,7 @@ fn next_reading(text: &[u8]) -> (Option<Reading>, Option<&[u8]>)
     }
 }
 
-/// The readings between the commas of a part; none in an empty one.
+/// The readings of a part, separated by commas; none if the part is blank.
 #[tactic(auto, unfolding(crate::specs::ScanLines::part_fields))]
 fn readings_of<A: Allocator>(
     alloc: A,
@@ -91,7 +92,7 @@ fn readings_of<A: Allocator>(
     if is_bare(part) {
         return Ok(Vec::new(alloc));
     }
-    // no more readings than this can be read of a text, however many channels there are
+    // a text has no more readings than this, however many channels there are
     let mut list = Vec::with_capacity(alloc, room.min(part.len() / 2 + 1))?;
     let mut left = Some(part);
     while let Some(text) = left {
@@ -102,7 +103,8 @@ fn readings_of<A: Allocator>(
     Ok(list)
 }
 
-/// The bit that a text begins with, and what stands after its comma if it has one.
+/// The first bit of a text, and the text after its comma, if it has one. The bit is None if its
+/// field can't be read.
 fn next_bit(text: &[u8]) -> (Option<bool>, Option<&[u8]>)
     ensures all { reads_all bit (spec.fields text.now)
         ≡ (is_some result.0 && reads_all bit (spec.fields_behind (option_copied result.1))) }
@@ -114,7 +116,8 @@ fn next_bit(text: &[u8]) -> (Option<bool>, Option<&[u8]>)
     (bit_of(field), behind)
 }
 
-/// The bits between the commas of a part, of which the plain ones are read already; none in an empty one.
+/// The bits of a part, separated by commas; none if the part is blank. `plain` has them already if
+/// they are in plain spelling.
 #[tactic(auto, unfolding(crate::specs::ScanLines::part_fields))]
 fn bits_of<A: Allocator + Copy>(
     alloc: A,
@@ -141,7 +144,7 @@ fn bits_of<A: Allocator + Copy>(
     Ok(list)
 }
 
-/// Whether a slash stands in a part. It isn't looked for among plain bits.
+/// Whether a part has a slash. Plain bits have none, so they aren't searched.
 fn has_slash<A: Allocator>(part: &[u8], plain: &Option<Vec<bool, A>>) -> bool
     requires { IfSome plain.now (λ _. position spec.is_slash part.now ≡ None) }
     ensures { result ≡ is_some (position spec.is_slash part.now) }
@@ -149,7 +152,8 @@ fn has_slash<A: Allocator>(part: &[u8], plain: &Option<Vec<bool, A>>) -> bool
     !part.is_empty() && plain.is_none() && place_of_slash(part).is_some()
 }
 
-/// The scan that the rest of a line says: readings, one slash, bits.
+/// Reads the scan in the rest of a line: readings, one slash, bits. Another number of slashes has
+/// the fault `Fields`, a field that can't be read `Number`.
 #[tactic(auto, unfolding(crate::specs::ScanLines::scan))]
 pub(crate) fn scan_of<A: Allocator + Copy>(
     alloc: A,

@@ -1,4 +1,4 @@
-//! A script as a whole.
+//! Reads a whole script.
 
 ghost use Rattle.std.specs.Prelude.{◌≡◌, ◌+◌, ◌<◌, ◌^◌, [], ◌∷◌, MatchOption, MatchResult, IfOk, None, length, map, drop};
 ghost use Rattle.std.specs.List.{position_or_len};
@@ -19,12 +19,16 @@ use dfr_channels::{Lines, Rule, Setup};
 use std::alloc::{Allocator, Global};
 use std::marker::Model;
 
-/// What a script says: the set-up, its limits, its first rules, and the commands in order.
+/// A script that was read. Its set-up, limits and rules are not checked here.
 #[derive(Drop, Debug)]
 pub struct Script<A: Allocator = Global> {
+    /// The set-up, which `Layout::new` of `dfr_channels` checks.
     pub setup: Setup<A>,
+    /// The numbers of the line `limits`.
     pub limits: LimitNumbers,
+    /// The rules of the line `rules` before `go`; none if there is no such line.
     pub rules: Vec<Rule, A>,
+    /// The commands after `go`, in order.
     pub commands: Vec<Command<A>, A>,
 }
 
@@ -43,7 +47,7 @@ impl<A: Allocator> Model for Script<A> {
     } };
 }
 
-/// The refusal of the line at this place, from 0.
+/// The refusal of the line at index `place`, from 0.
 fn at_place(place: usize, refusal: LineRefusal) -> ScriptRefusal
     requires { place + 1 < 2 ^ 64 }
     ensures { result ≡ spec.refused_at place refusal }
@@ -57,7 +61,7 @@ fn at_place(place: usize, refusal: LineRefusal) -> ScriptRefusal
     }
 }
 
-/// Adds a line before `go`; a fault leaves the draft as it was.
+/// Adds a line before `go`. A fault leaves the draft unchanged.
 #[tactic(auto, unfolding(crate::specs::Drafts::with_line))]
 fn add_line<A: Allocator + Copy>(
     alloc: A,
@@ -76,7 +80,7 @@ fn add_line<A: Allocator + Copy>(
     }
 }
 
-/// Whether the line's word is `go`.
+/// Whether the line's first word is `go`.
 #[tactic(auto, unfolding(crate::specs::Scripts::is_go))]
 fn is_go(line: &[u8]) -> bool
     ensures { result ≡ spec.is_go line.now }
@@ -85,11 +89,11 @@ fn is_go(line: &[u8]) -> bool
     is_word(word, "go")
 }
 
-/// What the lines up to `go` say.
+/// What was read of the lines up to `go`.
 #[derive(Drop)]
 struct Opening<'a, A: Allocator> {
     draft: Draft<A>,
-    /// How many lines stand before `go`, or in all where it is missing.
+    /// How many lines there are before `go`, or in all if it is missing.
     count: usize,
     go: Option<&'a [u8]>,
 }
@@ -125,7 +129,7 @@ fn opening_of<'a, A: Allocator + Copy>(
     })
 }
 
-/// The script of the lines before `go`, without commands; `go` stands at this place.
+/// The script of the lines before `go`, without commands. `place` is the index of `go`, from 0.
 #[tactic(auto, unfolding(crate::specs::Scripts::go))]
 fn set_up_of<A: Allocator + Copy>(
     alloc: A,
@@ -146,7 +150,7 @@ fn set_up_of<A: Allocator + Copy>(
     }
 }
 
-/// Adds the command of line number `line`, where it isn't skipped.
+/// Adds the command of line number `line`, unless the line is skipped.
 fn add_command<A: Allocator + Copy>(
     alloc: A,
     list: &mut Vec<Command<A>, A>,
@@ -163,7 +167,7 @@ fn add_command<A: Allocator + Copy>(
     Ok(())
 }
 
-/// The commands of the lines that are left, the first of which stands at place `from`.
+/// Reads the commands of the lines that are left. `from` is the index of the first, from 0.
 fn commands_of<A: Allocator + Copy>(
     alloc: A,
     lines: Lines,
@@ -214,7 +218,7 @@ fn with_commands<A: Allocator>(script: Script<A>, commands: Vec<Command<A>, A>) 
     }
 }
 
-/// The script of these lines.
+/// Reads the script of these lines.
 #[tactic(auto, unfolding(crate::specs::Scripts::script))]
 fn script_in<A: Allocator + Copy>(alloc: A, lines: Lines) -> Result<Script<A>, ScriptRefusal>
     requires { length lines + 1 < 2 ^ 64 }
@@ -231,9 +235,10 @@ fn script_in<A: Allocator + Copy>(alloc: A, lines: Lines) -> Result<Script<A>, S
     Ok(with_commands(script, commands))
 }
 
-/// The script that a text says, or its first fault: by lines, and in a line in the order word, fields, number. Where `go`
-/// is missing the fault is `Setup` after the last line. Lines are cut as those of a configuration file; blank lines and
-/// comments are skipped.
+/// Reads the script of a text, or finds its first fault: in the first line with one, and there in
+/// the order word, fields, number. If a set-up line is missing, the fault is `Setup` at `go`; if
+/// `go` is missing, `Setup` after the last line. Lines are cut as in a configuration file; blank
+/// lines and comments are skipped. `Memory`: an allocation failed.
 pub fn script_of<A: Allocator + Copy>(alloc: A, text: &[u8]) -> Result<Script<A>, ScriptRefusal>
     ensures { MatchResult result
         (λ script. (spec.script_fault (lines text.now) ≡ None) × (script ≡ spec.script_value (lines text.now)))

@@ -1,4 +1,4 @@
-//! The words of a set-up.
+//! The first words of set-up lines.
 
 ghost use Rattle.std.specs.Prelude.{◌≡◌};
 ghost use Rattle.dfr_script.specs.Settings as spec;
@@ -19,7 +19,7 @@ pub(crate) enum Setting {
     Rules,
 }
 
-/// The setting that the word names.
+/// The setting that the word names, if any.
 #[tactic(auto, unfolding(crate::specs::Settings::setting))]
 pub(crate) fn setting_of(word: &[u8]) -> Option<Setting>
     ensures { result ≡ spec.setting word.now }

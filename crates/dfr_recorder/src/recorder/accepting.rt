@@ -1,4 +1,4 @@
-//! How a recorder takes in a scan that isn't refused.
+//! How a recorder accepts a scan that passed the tests.
 
 use crate::Scanned;
 use crate::marks::{mark_if, scanned};
@@ -15,8 +15,8 @@ impl<A: Allocator + Copy> Recorder<A> {
     ghost use Rattle.dfr_recorder.specs.Kept.{leaving};
     ghost use Rattle.dfr_recorder.specs.Recording.{fired_mark, IsAccepted};
 
-    /// Takes in a scan that fires this rule or none, and hands out the one that leaves the ring; out of memory it hands it back, which
-    /// only an open record or an opening can cause.
+    /// Accepts a scan that fires this rule, or none, and hands out the scan that leaves the ring.
+    /// Out of memory it hands the new scan back; only an open record, or opening one, needs memory.
     #[inline(always)] // with what it calls, for speed: as a call it costs a scan a third more instructions
     pub(super) fn accept(
         &mut self,
@@ -37,7 +37,7 @@ impl<A: Allocator + Copy> Recorder<A> {
         self.record(scan, fired, leaves)
     }
 
-    /// A scan that no record gets.
+    /// Accepts a scan that no record gets.
     #[inline(always)]
     fn pass(&mut self, scan: Scan<A>, leaves: &mut Option<Scan<A>>) -> Scanned
         requires idle { self.old.recording ≡ None }
@@ -56,7 +56,7 @@ impl<A: Allocator + Copy> Recorder<A> {
         }
     }
 
-    /// A scan that an open record may get, or that may open one.
+    /// Accepts a scan that the open record may get, or that may open one.
     fn record(
         &mut self,
         scan: Scan<A>,
