@@ -1,4 +1,4 @@
-//! The folder into which the files of records are written.
+//! The folder that receives the files of records.
 
 ghost use Rattle.std.specs.Prelude.{◌≡◌, ◌++◌, IfOk, IfErr, codes, decimal};
 ghost use Rattle.std.specs.String.{string_bytes};
@@ -11,18 +11,21 @@ use std::alloc::{AllocError, Allocator};
 use std::fs::File;
 use std::rt::Files;
 
-/// The code of a file that can't be made or can't be written whole.
+/// The code of every error: an empty path, a failed allocation, or a file that could not be created
+/// or written in full.
 const UNWRITTEN: u32 = 1;
 
-/// `recN.cfg` and `recN.dat` of record N are written into it; older files of these names are
-/// replaced. An empty name is no folder's.
+/// A sink that writes record N into the folder `path`, as `recN.cfg` and `recN.dat`. Files that
+/// already have these names are replaced. An empty `path` names no folder, and every write fails.
 #[derive(Drop)]
 pub struct Folder<'a, R> {
+    /// The runtime that gives access to files.
     pub rt: &'a R,
+    /// The folder's path.
     pub path: &'a str,
 }
 
-/// The path of a record's file.
+/// The path of a record's file: `FOLDER/recN` and the ending.
 fn path_of<A: Allocator>(
     alloc: A,
     folder: &str,
@@ -39,7 +42,7 @@ fn path_of<A: Allocator>(
     Ok(path)
 }
 
-/// Makes the file, or empties the one that is there, and writes the bytes.
+/// Creates the file, or empties an existing one, and writes the bytes.
 fn write_file<R: Files>(rt: &R, path: &str, bytes: &[u8]) -> Result<(), u32>
     ensures { IfErr result (λ code. code ≡ 1) }
 {

@@ -1,5 +1,10 @@
-//! The program: `dfr replay [--kind K]`, `dfr live [--kind K] SCRIPT DIR`, `dfr read CFG DAT`, with the
-//! kind `ascii` or `binary`.
+//! The program `dfr`: records from a script, and reads COMTRADE files.
+//!
+//!     dfr replay [--kind K]              replays the script on standard input
+//!     dfr live [--kind K] SCRIPT DIR     records a script in three threads; files go to DIR
+//!     dfr read CFG DAT                   reads a pair of files, and prints what is in it
+//!
+//! K is `ascii` (the default) or `binary`. Exit status: 0 done, 1 error, 2 usage error.
 #![tactic(auto)]
 
 mod folder;
@@ -30,7 +35,8 @@ fn replay_input<R: Input + Print + AllocGlobal>(rt: &R, kind: Kind) -> Result<bo
     }
 }
 
-/// The bytes of a file, at most 16,777,216.
+/// Reads a file of at most 16,777,216 bytes. `Input` where it cannot be opened or read, or
+/// is larger.
 fn read_file<R: Files>(rt: &R, alloc: Global, path: &str) -> Result<Vec<u8>, RunFault>
     ensures { IfOk result (λ bytes. length bytes.items ≤ 16777216) }
 {
@@ -56,7 +62,7 @@ fn read_pair<R: Files + Print + AllocGlobal>(
     }
 }
 
-/// Records the script of a file, and hands the files of its records to the sink.
+/// Records the script in a file, and hands the files of its records to the sink.
 fn record_live<R: Files + Print + AllocGlobal + Threads + Wait + Sync, K: Sink + Send>(
     rt: &R,
     kind: Kind,
@@ -113,7 +119,7 @@ fn words_of<R: Env + AllocGlobal>(rt: &R) -> Result<Option<Vec<String>>, RunFaul
     Ok(Some(rest))
 }
 
-/// The last word, which is the folder of a live run.
+/// The last word, which names the folder of a live run.
 fn last_of(words: &[String]) -> &str {
     match words.last() {
         Some(word) => word.as_str(),

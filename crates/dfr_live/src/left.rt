@@ -1,4 +1,4 @@
-//! What the lane carries, and one step of it.
+//! What the queue carries, and one step of it.
 
 ghost use Rattle.std.specs.Prelude.{◌≡◌, MatchResult};
 ghost use Rattle.dfr_live.specs.Calls.{StepsNext};
@@ -10,11 +10,12 @@ use rtrb::Producer;
 use std::alloc::{Allocator, Global};
 use std::marker::Model;
 
-/// So many lost scans, and then a scan.
+/// A scan, after a number of lost scans.
 #[derive(Drop, Debug)]
 pub struct Left<A: Allocator = Global> {
-    /// How many scans were lost before this one, and after the one before it.
+    /// How many scans were lost between the scan before and this one.
     pub lost: u32,
+    /// The scan.
     pub scan: Scan<A>,
 }
 
@@ -26,8 +27,8 @@ impl<A: Allocator> Model for Left<A> {
     ghost view = { λ l. record { lost = l.lost; scan = l.scan } };
 }
 
-/// The next step of so many lost scans and then this scan. What is left comes back with the answer,
-/// and all of it where an allocation failed. The scan that leaves the ring is handed back.
+/// Makes the next step of a scan after `lost` lost scans. Returns the answer and what is left, or
+/// all of it where an allocation failed. A scan that leaves the pre-trigger memory is handed back.
 pub(crate) fn step_next<A: Allocator + Copy>(
     recorder: &mut Recorder<A>,
     back: &mut Producer<Scan<A>, A>,

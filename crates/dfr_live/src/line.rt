@@ -1,4 +1,4 @@
-//! The receiving end of the lane, and the item that stands first in line.
+//! The receiving end of the queue, and the item that is processed first.
 
 ghost use Rattle.std.specs.Prelude.{◌≡◌, ◌+◌, ◌≤◌, ◌++◌, List, None, length, IfSome, IfNone, vec_len, vec_capacity, option_to_list};
 ghost use Rattle.rtrb.specs.Ring.{received, known_items};
@@ -11,7 +11,7 @@ use crate::left::Left;
 use rtrb::Consumer;
 use std::alloc::Allocator;
 
-/// The item that is next in line. It comes out of the lane where none stands first in line.
+/// Returns the next item: what is left of an item already received, else the next from the queue.
 pub(crate) fn next_in_line<A: Allocator>(
     first: &mut Option<Left<A>>,
     lane: &mut Consumer<Left<A>, A>,
@@ -32,7 +32,7 @@ pub(crate) fn next_in_line<A: Allocator>(
     }
 }
 
-/// Takes out the item that stands first in line, and all that are known to be in the lane.
+/// Moves the item that comes first, and all items known to be in the queue, to `left`.
 pub(crate) fn drain<A: Allocator>(
     first: Option<Left<A>>,
     lane: &mut Consumer<Left<A>, A>,

@@ -1,14 +1,15 @@
-//! The way back: scans that left the ring return to the thread that offers, which made them, so that it lets their memory go. An
-//! allocator that keeps memory for each thread, as that of the C library does, would else have one thread wait for the other's lock at each scan.
+//! The way back. Scans that left the pre-trigger memory return to the thread that made and offered
+//! them, which frees their memory. An allocator that keeps memory for each thread, such as that of
+//! the C library, would otherwise make one thread wait for the other's lock at each scan.
 
 use dfr_channels::Scan;
 use rtrb::{Consumer, Producer};
 use std::alloc::Allocator;
 
-/// How many scans wait on their way back at most. (So few stay in the processor's nearest memory.)
+/// How many scans at most wait on their way back. (So few stay in the processor's nearest cache.)
 pub(crate) const PLACES: usize = 32;
 
-/// Hands a scan back; where all places are taken it is let go here.
+/// Hands a scan back. Where all places are taken, it is freed here.
 #[inline(always)]
 pub(crate) fn hand_back<A: Allocator>(back: &mut Producer<Scan<A>, A>, scan: Option<Scan<A>>) {
     if let Some(scan) = scan {
@@ -16,7 +17,7 @@ pub(crate) fn hand_back<A: Allocator>(back: &mut Producer<Scan<A>, A>, scan: Opt
     }
 }
 
-/// Lets two scans go that came back, where there are any: so more go than come.
+/// Frees two scans that came back, where there are any. So more are freed than come.
 #[inline(always)]
 pub(crate) fn let_go<A: Allocator>(returned: &mut Consumer<Scan<A>, A>) {
     if returned.pop().is_ok() {

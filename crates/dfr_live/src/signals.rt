@@ -1,23 +1,23 @@
-//! What the three threads tell each other.
+//! The flags that the three threads share.
 
 use crate::report::LiveFault;
 use std::sync::atomic::{AtomicBool, AtomicU64, Ordering};
 use std::{hint, thread};
 
-/// For how many turns a thread spins before the next one, each time a little longer; after them it
-/// leaves the processor to others.
+/// How many idle turns a thread spins, each a little longer than the one before. After them it
+/// yields the processor at each turn.
 const SPINNING_TURNS: u64 = 32;
 
-/// What the three threads tell each other.
+/// The flags that the three threads share.
 #[derive(Drop)]
 pub(crate) struct Signals {
     /// The acquisition thread has ended.
     pub(crate) acquired: AtomicBool,
     /// The trigger thread has ended.
     pub(crate) triggered: AtomicBool,
-    /// A thread has a fault.
+    /// A thread has an error.
     failed: AtomicBool,
-    /// The fault that stands first, as a number: its rank, then its code.
+    /// The error that comes first in `LiveFault`, as a number: its rank, then its code.
     fault: AtomicU64,
     turns: u64,
 }
@@ -37,19 +37,19 @@ impl Signals {
         }
     }
 
-    /// Tells the other threads that this one has a fault.
+    /// Tells the other threads that this one has an error.
     pub(crate) fn fail(&self, fault: LiveFault) {
         self.fault.fetch_min(number_of(fault), Ordering::SeqCst);
         self.failed.store(true, Ordering::SeqCst);
     }
 
-    /// The fault that stands first, of a run of which a thread couldn't be started.
+    /// The error that comes first in `LiveFault`, for a run in which a thread could not be started.
     pub(crate) fn fault(&self) -> LiveFault {
         fault_of(self.fault.load(Ordering::SeqCst))
     }
 
-    /// One turn in which the thread didn't get on; `idle` counts them since it last did. False
-    /// where another thread has a fault.
+    /// Counts one turn without progress in `idle`, and pauses. False where another thread has an
+    /// error; `Turns` where `idle` has reached the limit.
     pub(crate) fn turn(&self, idle: &mut u64) -> Result<bool, LiveFault>
         ensures counted { idle.new ≡ min (idle.old + 1) u64.MAX }
         ensures turns { MatchResult result
@@ -74,7 +74,7 @@ impl Signals {
     }
 }
 
-/// A fault as a number, by which they stand in order.
+/// An error as a number, in the order of `LiveFault`.
 fn number_of(fault: LiveFault) -> u64 {
     match fault {
         LiveFault::Feed(code) => code as u64,
@@ -87,7 +87,7 @@ fn number_of(fault: LiveFault) -> u64 {
     }
 }
 
-/// The fault of a number.
+/// The error of a number.
 fn fault_of(number: u64) -> LiveFault {
     let code = (number & 0xFFFF_FFFF) as u32;
     match number >> 32 {

@@ -1,4 +1,4 @@
-//! Works in threads of their own, of which the starter learns what they gave.
+//! Runs works in threads of their own; the starter gets their results.
 
 ghost use Rattle.std.specs.Prelude.{◌≡◌, IfSome};
 ghost use Rattle.dfr_live.specs.Station.{Joins};
@@ -23,7 +23,7 @@ pub(crate) trait Work {
         ensures { run_gives self result };
 }
 
-/// The promise that a work gives what it says.
+/// The promise that a work's result is what the work states.
 #[derive(Drop)]
 struct Promised<S>(Snapshot<S>);
 
@@ -31,8 +31,8 @@ impl<S: Work<Output = T>, T> Promise<T> for Promised<S> {
     ghost kept_by = { λ p r. S.run_gives p.0.value r };
 }
 
-/// Starts a work in a thread, where it is to go on. None where it isn't started; where that can't be done the other
-/// threads are told.
+/// Starts a work in a thread, if `goes_on`. None where it is not started. Where it cannot be
+/// started, it tells the other threads.
 fn start<'s, E, S: Work<Output = T> + Send + Drop + 's, T: Send + Drop + 's>(
     goes_on: bool,
     scope: &Scope<'s, E>,
@@ -59,7 +59,7 @@ fn start<'s, E, S: Work<Output = T> + Send + Drop + 's, T: Send + Drop + 's>(
     started.ok()
 }
 
-/// Waits for a work that was started.
+/// Waits for a work that was started, and returns its result.
 fn join<R: Threads, S: Work<Output = T>, T: Send + Drop>(
     rt: &R,
     started: Option<PromisedHandle<T, Promised<S>>>,
@@ -72,8 +72,8 @@ fn join<R: Threads, S: Work<Output = T>, T: Send + Drop>(
     }
 }
 
-/// Runs three works, each in a thread of its own, and waits for them. None where one of them can't
-/// be started; then those after it aren't started either.
+/// Runs three works, each in a thread of its own, and waits for them. None for a work that could
+/// not be started; then those after it are not started either.
 pub(crate) fn in_three_threads<
     R: Threads + Wait,
     S: Work<Output = X> + Send + Drop,

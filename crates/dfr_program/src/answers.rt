@@ -20,7 +20,7 @@ fn put_hit<A: Allocator>(out: &mut Vec<u8, A>, hit: Hit) -> Result<(), AllocErro
     }
 }
 
-/// The hit of a scan that fired.
+/// Appends what the trigger of a scan did, where a rule fired.
 fn put_fired<A: Allocator>(out: &mut Vec<u8, A>, trigger: Option<Hit>) -> Result<(), AllocError>
     ensures { OnOk result (out.new.items ≡ out.old.items ++ spec.fired_text trigger) }
 {
@@ -33,7 +33,7 @@ fn put_fired<A: Allocator>(out: &mut Vec<u8, A>, trigger: Option<Hit>) -> Result
     }
 }
 
-/// The record that closed with a scan.
+/// Appends the record that closed with a scan, where one did.
 fn put_closed<A: Allocator>(out: &mut Vec<u8, A>, closed: Option<u64>) -> Result<(), AllocError>
     ensures { OnOk result (out.new.items ≡ out.old.items ++ spec.closed_text closed) }
 {
@@ -43,7 +43,7 @@ fn put_closed<A: Allocator>(out: &mut Vec<u8, A>, closed: Option<u64>) -> Result
     }
 }
 
-/// `scan K`, the hit where it fired, and ` closed R` where a record closed.
+/// Appends `scan K`, what a trigger did where a rule fired, and ` closed R` where a record closed.
 #[tactic(auto, unfolding(crate::specs::Texts::scanned_text))]
 pub(crate) fn put_scanned<A: Allocator>(
     out: &mut Vec<u8, A>,
@@ -57,7 +57,7 @@ pub(crate) fn put_scanned<A: Allocator>(
     put(out, "\n")
 }
 
-/// Why a scan was refused, but for memory.
+/// Appends why a scan was refused. `Memory` has no text: it fails.
 #[tactic(auto, unfolding(crate::specs::Texts::scan_refusal_text))]
 pub(crate) fn put_scan_refusal<A: Allocator>(
     out: &mut Vec<u8, A>,
@@ -77,7 +77,8 @@ pub(crate) fn put_scan_refusal<A: Allocator>(
     }
 }
 
-/// `lost K`, and ` closed R` where a record closed; or why the lost scan was refused, but for memory.
+/// Appends `lost K`, and ` closed R` where a record closed; or why the lost scan was refused.
+/// `Memory` has no text: it fails.
 #[tactic(auto, unfolding(crate::specs::Texts::lost_text))]
 pub(crate) fn put_lost<A: Allocator>(
     out: &mut Vec<u8, A>,
@@ -97,7 +98,7 @@ pub(crate) fn put_lost<A: Allocator>(
     }
 }
 
-/// What a trigger did, or why it did nothing, but for memory.
+/// Appends what a trigger did, or why it did nothing. `Memory` has no text: it fails.
 #[tactic(auto, unfolding(crate::specs::Texts::trigger_text))]
 pub(crate) fn put_trigger<A: Allocator>(
     out: &mut Vec<u8, A>,
@@ -141,7 +142,7 @@ pub(crate) fn put_rules_refused<A: Allocator>(
     put(out, "\n")
 }
 
-/// What opened a record, and a line end.
+/// Appends what opened a record, and a line end.
 fn put_cause<A: Allocator>(out: &mut Vec<u8, A>, cause: Cause) -> Result<(), AllocError>
     ensures { OnOk result (out.new.items ≡ out.old.items ++ spec.cause_text cause) }
 {
@@ -154,7 +155,7 @@ fn put_cause<A: Allocator>(out: &mut Vec<u8, A>, cause: Cause) -> Result<(), All
     }
 }
 
-/// `record N FIRST TRIGGER LAST`, and the cause.
+/// Appends `record N FIRST TRIGGER LAST`, and the cause.
 #[tactic(auto, unfolding(crate::specs::Texts::extent_text))]
 pub(crate) fn put_extent<A: Allocator>(
     out: &mut Vec<u8, A>,
@@ -169,7 +170,7 @@ pub(crate) fn put_extent<A: Allocator>(
     put_cause(out, extent.cause)
 }
 
-/// The name of a part, its length in bytes, and a line end.
+/// Appends the name of a file, its length in bytes, and a line end.
 #[tactic(auto, unfolding(crate::specs::Texts::length_text))]
 pub(crate) fn put_length<A: Allocator>(
     out: &mut Vec<u8, A>,

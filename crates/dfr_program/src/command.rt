@@ -1,4 +1,4 @@
-//! The words after the program's name.
+//! Parses the words after the program's name.
 
 ghost use Rattle.std.specs.Prelude.{◌≡◌, IfSome, length, map};
 ghost use Rattle.std.specs.Str.{bytes_eq};
@@ -7,14 +7,14 @@ ghost use Rattle.dfr_program.specs.Words as spec;
 
 use comtrade_write::Kind;
 
-/// What the words ask for, with the place, from 0, of the first word that names a file.
+/// What the words ask for. A number is the index, from 0, of the first word that names a file.
 #[derive(Clone, Copy, Debug, PartialEq, Eq)]
 pub enum Command {
-    /// A script on standard input.
+    /// Replay the script on standard input.
     Replay(Kind),
-    /// A script file, and the folder that the files of its records go into.
+    /// Record a script file in threads. After it comes the folder for the files of its records.
     Live(Kind, usize),
-    /// A configuration file and its data file.
+    /// Read a configuration file and its data file.
     Read(usize),
 }
 
@@ -24,7 +24,7 @@ fn is_word(word: &String, text: &str) -> bool
     word.as_str() == text
 }
 
-/// The kind that the word names.
+/// The kind that the word names: `ascii` or `binary`.
 fn kind_of(word: &String) -> Option<Kind>
     ensures { result ≡ spec.kind (string_bytes word.now) }
 {
@@ -37,9 +37,11 @@ fn kind_of(word: &String) -> Option<Kind>
     }
 }
 
-/// What the words ask for: `replay`, `replay --kind K`, `live SCRIPT DIR`, `live --kind K SCRIPT DIR`,
-/// `read CFG DAT`, or no word, which is `replay`. None for words of any other form: `live` with two
-/// further words names no kind. Doesn't allocate.
+/// Parses `replay`, `replay --kind K`, `live SCRIPT DIR`, `live --kind K SCRIPT DIR` or
+/// `read CFG DAT`. No word at all means `replay`. `ascii` is the default kind.
+///
+/// Returns None for any other words. `live` followed by two words names no kind. It does
+/// not allocate.
 pub fn command_of(words: &[String]) -> Option<Command>
     ensures value { result ≡ spec.command (map string_bytes words.now) }
     ensures files { IfSome result (spec.NamesFiles (length words.now)) }

@@ -1,4 +1,4 @@
-//! The answers to a script's commands.
+//! Answers a script's commands.
 
 ghost use Rattle.std.specs.Prelude.{◌≡◌, ◌++◌, [], Ok, OnOk, IfErr, List, map};
 ghost use Rattle.dfr_channels.specs.Firing.{rules_fault};
@@ -21,8 +21,8 @@ use dfr_script::Command;
 use std::alloc::{AllocError, Allocator};
 use std::io::Write;
 
-/// Sets the rules of a line, and puts whether they were. Rules that don't fit the recorder's layout
-/// are refused before the recorder is asked.
+/// Sets the rules of a line, and appends whether they were set. Rules that do not fit the layout
+/// are refused here, before they reach the recorder.
 fn answer_rules<A: Allocator + Copy>(
     recorder: &mut Recorder<A>,
     list: Vec<Rule, A>,
@@ -41,7 +41,7 @@ fn answer_rules<A: Allocator + Copy>(
     }
 }
 
-/// Makes the step of a scan, and puts what came of it.
+/// Passes a scan to the recorder, and appends its answer.
 fn answer_scan<A: Allocator + Copy>(
     recorder: &mut Recorder<A>,
     scan: Scan<A>,
@@ -56,8 +56,7 @@ fn answer_scan<A: Allocator + Copy>(
     }
 }
 
-/// Makes the step of a command, and prints its answer: all of it or, where an allocation failed,
-/// nothing.
+/// Carries out a command, and prints its answer: all of it, or nothing where an allocation failed.
 fn answer<A: Allocator + Copy, W: Write>(
     alloc: A,
     recorder: &mut Recorder<A>,
@@ -96,9 +95,9 @@ fn answer<A: Allocator + Copy, W: Write>(
     }
 }
 
-/// Answers the commands in order, and writes what was buffered where it exceeds 64 KiB. Where an
-/// allocation failed the answers before are printed; where the writer failed nothing is left to be
-/// written.
+/// Answers the commands in order, and writes the buffer whenever it has reached 64 KiB. Where
+/// an allocation fails, the answers before it are printed. Where a write fails, nothing is left
+/// to write.
 pub(crate) fn answer_all<A: Allocator + Copy, W: Write>(
     alloc: A,
     recorder: Recorder<A>,

@@ -1,4 +1,4 @@
-//! Why a run ended without an answer.
+//! Why a run ended without a result.
 
 ghost use Rattle.std.specs.Prelude.{◌≡◌};
 ghost use Rattle.dfr_program.specs.Inputs.{run_fault};
@@ -9,10 +9,10 @@ use dfr_channels::Memory;
 use std::alloc::AllocError;
 use thiserror::Error;
 
-/// Why a run ended without an answer. Its text goes to standard error.
+/// Why a run ended without a result. Its text goes to standard error.
 #[derive(Clone, Copy, Debug, PartialEq, Eq, Error)]
 pub enum RunFault {
-    /// A read failed, or more came than is read.
+    /// The input could not be read, or has more than 16,777,216 bytes.
     #[error("dfr: input")]
     Input,
     /// A write failed.
@@ -23,12 +23,12 @@ pub enum RunFault {
     Memory,
 }
 
-/// Why not all that a reader has was read.
+/// Why input was not read in full.
 #[derive(Clone, Copy, Debug, PartialEq, Eq)]
 pub enum InputFault {
     /// A read failed.
     Failed,
-    /// More came than is read.
+    /// The input has more bytes than the limit.
     Long,
     /// An allocation failed.
     Memory,

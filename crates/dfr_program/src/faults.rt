@@ -1,4 +1,4 @@
-//! The one line that a fault of a script or of its set-up prints.
+//! The line printed for an error of a script or of its set-up.
 
 ghost use Rattle.std.specs.Prelude.{◌≡◌, ◌++◌, OnOk};
 ghost use Rattle.dfr_program.specs.FaultTexts as spec;
@@ -49,7 +49,7 @@ fn limit_word(fault: LimitFault) -> &'static str
     }
 }
 
-/// What stands before the line's end.
+/// Appends the line without its end.
 fn put_words<A: Allocator>(out: &mut Vec<u8, A>, fault: Fault) -> Result<(), AllocError>
     ensures { OnOk result (out.new.items ≡ out.old.items ++ spec.fault_words fault) }
 {

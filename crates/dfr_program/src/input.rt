@@ -1,4 +1,4 @@
-//! What comes in, up to a limit.
+//! Reads input, up to a limit.
 
 ghost use Rattle.std.specs.Prelude.{◌≡◌, ◌<◌, ◌≤◌, ◌++◌, length, Err, IfOk, IfSome};
 
@@ -6,13 +6,14 @@ use crate::fault::InputFault;
 use std::alloc::{AllocError, Allocator};
 use std::io::Read;
 
-/// The most bytes of a script, or of a file that is read.
+/// The most bytes of a script, or of a file, that are read.
 const LIMIT: usize = 16_777_216;
 
-/// How many bytes are copied at once: a C library moves so few by vectors, more by a string instruction.
+/// How many bytes are copied at once. A C library moves this many with vector instructions, and
+/// more with a string instruction.
 const PART: usize = 2_048;
 
-/// Appends the piece.
+/// Appends the piece, in parts of `PART` bytes.
 fn append<A: Allocator>(bytes: &mut Vec<u8, A>, piece: &[u8]) -> Result<(), AllocError>
     ensures { IfOk result (λ _. bytes.new.items ≡ bytes.old.items ++ piece.now) }
 {
@@ -22,7 +23,7 @@ fn append<A: Allocator>(bytes: &mut Vec<u8, A>, piece: &[u8]) -> Result<(), Allo
     Ok(())
 }
 
-/// All that the reader has, where it is at most so many bytes; more is `Long`.
+/// Reads all that the reader has, at most `limit` bytes; more is `Long`.
 pub(crate) fn read_up_to<A: Allocator, R: Read>(
     alloc: A,
     r: &mut R,
@@ -45,8 +46,11 @@ pub(crate) fn read_up_to<A: Allocator, R: Read>(
     Err(InputFault::Long)
 }
 
-/// All that the reader has, where it is at most 16,777,216 bytes; more is `Long`. A read that failed
-/// is `Failed`, for whatever cause: none is tried again. `Memory`: an allocation failed here.
+/// Reads all that the reader has, at most 16,777,216 bytes.
+///
+/// - `Long`: the reader has more bytes.
+/// - `Failed`: a read failed, for whatever cause. It is not tried again.
+/// - `Memory`: an allocation failed.
 pub fn read_all<A: Allocator, R: Read>(alloc: A, r: &mut R) -> Result<Vec<u8, A>, InputFault>
     ensures bytes { IfOk result (λ v. IfSome (R.remaining r.old) (λ bytes. v.items ≡ bytes)) }
     ensures short { IfOk result (λ v. length v.items ≤ 16777216) }

@@ -1,5 +1,5 @@
-//! The program: a script replayed or recorded live, and a pair of files read, over readers and
-//! writers that are handed in.
+//! What `dfr` does: it replays a script or records it in threads, and reads a pair of COMTRADE
+//! files. Readers, writers and the sink of files are passed in.
 #![tactic(auto)]
 
 mod answers;

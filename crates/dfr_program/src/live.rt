@@ -29,20 +29,20 @@ use std::io::Write;
 use std::sync::Wait;
 use std::thread::Threads;
 
-/// How many scans the lane holds.
+/// How many scans the queue holds.
 const LANE: usize = 1_024;
 
-/// For how many turns a thread may wait.
+/// How many turns in a row a thread may make no progress.
 const TURNS: u64 = 1_000_000_000;
 
-/// What is printed in the end, and whether the run was done.
+/// What is printed at the end, and whether the run succeeded.
 #[derive(Drop)]
 struct Told<A: Allocator> {
     done: bool,
     text: Vec<u8, A>,
 }
 
-/// The line of a script's fault.
+/// The line of a script's error.
 fn told_fault<A: Allocator>(alloc: A, fault: Fault) -> Result<Told<A>, RunFault>
     ensures text { IfOk result (λ told. (told.done ≡ false) × (told.text.items ≡ fault_text fault)) }
     ensures fault { IfErr result (λ fault. fault ≡ RunFault.Memory) }
@@ -52,7 +52,7 @@ fn told_fault<A: Allocator>(alloc: A, fault: Fault) -> Result<Told<A>, RunFault>
     Ok(Told { done: false, text })
 }
 
-/// What a run did.
+/// The report of a run.
 fn told_report<A: Allocator>(alloc: A, report: &LiveReport<A>) -> Result<Told<A>, RunFault>
     ensures law { (x : InnerParts) (source : SourceParts) (tokens : List TokenParts)
         → Ends x source tokens report.now.ended → IsOneThread x source tokens report.now.ended }
@@ -65,7 +65,7 @@ fn told_report<A: Allocator>(alloc: A, report: &LiveReport<A>) -> Result<Told<A>
     Ok(Told { done: true, text })
 }
 
-/// The line of a run's fault.
+/// The line of a run's error.
 fn told_run_fault<A: Allocator>(alloc: A, fault: LiveFault) -> Result<Told<A>, RunFault>
     ensures text { IfOk result (λ told. (told.done ≡ false) × TellsFault told.text.items) }
     ensures fault { IfErr result (λ fault. fault ≡ RunFault.Memory) }
@@ -78,7 +78,7 @@ fn told_run_fault<A: Allocator>(alloc: A, fault: LiveFault) -> Result<Told<A>, R
     Ok(Told { done: false, text })
 }
 
-/// What a run did, or the line of its fault.
+/// The report of a run, or the line of its error.
 fn told_run<A: Allocator + Copy>(
     alloc: A,
     came: Result<LiveReport<A>, LiveFault>,
@@ -95,7 +95,7 @@ fn told_run<A: Allocator + Copy>(
     }
 }
 
-/// Runs what was planned.
+/// Runs a plan.
 fn run_plan<A: Allocator + Copy + Send + Sync, K: Sink + Send, R: Threads + Wait + Sync>(
     rt: &R,
     alloc: A,
@@ -131,7 +131,7 @@ fn run_plan<A: Allocator + Copy + Send + Sync, K: Sink + Send, R: Threads + Wait
     told_run(alloc, came)
 }
 
-/// Runs the script, if nothing is wrong with it.
+/// Runs the script, if it has no error.
 fn run_script<A: Allocator + Copy + Send + Sync, K: Sink + Send, R: Threads + Wait + Sync>(
     rt: &R,
     alloc: A,
@@ -152,15 +152,23 @@ fn run_script<A: Allocator + Copy + Send + Sync, K: Sink + Send, R: Threads + Wa
     }
 }
 
-/// Records a script in three threads: the first is fed its scans, in order, the second makes its
-/// triggers and sets its rules, each at the number of scan lines before it, and the third hands the
-/// files of each record to the sink. `take` lines are skipped. Everything is printed at the end.
+/// Records a script in three threads. The first is fed the script's scans, in order. The second
+/// makes its triggers and sets its rules, each at the number of scans, lost ones included, before
+/// it. The third hands the files of each record that it takes to the sink. `take` lines are
+/// skipped. Everything is printed at the end.
 ///
-/// True where the run was done and its report was printed: then the calls of all threads are one
-/// list of steps, with the answers of a recorder in one thread, and each record reads back from its
-/// files (`as_one_thread`). False where the line of a fault was: with a fault of the script nothing
-/// is run, and the sink stays as it was. `Memory` is an allocation that failed, or a thread that
-/// can't be started, and nothing was written; `Output` a write that failed; it is never `Input`.
+/// Returns true where the run succeeded, and printed its report. Then the calls of all threads and
+/// the scan steps made are one list of steps, with the answers of a recorder in one thread. Every
+/// record of that recorder reads back from its two files (`as_one_thread`).
+///
+/// Returns false where it printed the line of an error, of the script or of the run. Where the
+/// script has an error, nothing runs and the sink is unchanged. The contract does not state which
+/// error of a run is printed, or what the sink has then.
+///
+/// - `Memory`: an allocation failed, or a thread could not be started. Nothing was written to `w`.
+/// - `Output`: a write failed. Only part of the text was written.
+///
+/// It never returns `Input`.
 pub fn live_of<
     A: Allocator + Copy + Send + Sync,
     K: Sink + Send,

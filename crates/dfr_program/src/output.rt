@@ -1,4 +1,4 @@
-//! Text that is buffered, and written where it exceeds 64 KiB.
+//! Buffers text, and writes it once it has reached 64 KiB.
 
 #![tactic(auto, using(crate::proofs::Growing::growing))]
 
@@ -11,10 +11,10 @@ use comtrade_write::write_all_of;
 use std::alloc::Allocator;
 use std::io::Write;
 
-/// How much text is buffered before it is written.
+/// How many bytes of text are buffered before they are written.
 const BUFFERED: usize = 65_536;
 
-/// Writes the bytes.
+/// Writes all of the bytes, or fails with `Output`.
 pub(crate) fn write_out<W: Write>(w: &mut W, bytes: &[u8]) -> Result<(), RunFault>
     ensures all { OnOk result (Appends (W.contents w.old) (W.contents w.new) bytes.now) }
     ensures part { IfErr result (λ _. Cut (W.contents w.old) (W.contents w.new) bytes.now) }
@@ -28,8 +28,8 @@ pub(crate) fn write_out<W: Write>(w: &mut W, bytes: &[u8]) -> Result<(), RunFaul
     }
 }
 
-/// Writes what was buffered, which is gone then. It is also where the writer failed: what such a
-/// write left is never sent again.
+/// Writes and clears the buffer. It clears it also where the write failed: the rest is never
+/// sent again.
 pub(crate) fn send<A: Allocator, W: Write>(w: &mut W, out: &mut Vec<u8, A>) -> Result<(), RunFault>
     ensures all { OnOk result (Appends (W.contents w.old) (W.contents w.new) out.old.items) }
     ensures part { IfErr result (λ _. Cut (W.contents w.old) (W.contents w.new) out.old.items) }
@@ -43,12 +43,12 @@ pub(crate) fn send<A: Allocator, W: Write>(w: &mut W, out: &mut Vec<u8, A>) -> R
     written
 }
 
-/// Whether so many bytes are written at once.
+/// Whether `count` bytes are enough to write at once.
 pub(crate) fn is_much(count: usize) -> bool {
     count >= BUFFERED
 }
 
-/// Writes what was buffered, where it exceeds 64 KiB.
+/// Writes the buffer, where it has reached 64 KiB.
 pub(crate) fn flush_if_full<A: Allocator, W: Write>(
     w: &mut W,
     out: &mut Vec<u8, A>,

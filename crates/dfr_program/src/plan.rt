@@ -1,4 +1,4 @@
-//! What a live run is given of a script.
+//! What a live run takes from a script.
 
 ghost use Rattle.std.specs.Prelude.{◌≡◌, ◌++◌, [], None, Some, option_map, map, length, MatchResult};
 ghost use Rattle.dfr_channels.specs.Firing.{rules_fault};
@@ -15,7 +15,7 @@ use dfr_script::Command;
 use std::alloc::{AllocFailed, Allocator};
 use std::vec::IntoIter;
 
-/// What a line of a script feeds.
+/// What a line of a script gives to the feed.
 #[derive(Drop)]
 pub(crate) enum Given<A: Allocator> {
     Scan(Scan<A>),
@@ -23,7 +23,8 @@ pub(crate) enum Given<A: Allocator> {
     Lost,
 }
 
-/// A recorder, the scans that it is fed, lost ones among them, and the orders with their places.
+/// A recorder, the scans and lost scans that feed it, and the orders with their places. A place is
+/// the number of scans, lost ones included, before the order.
 #[derive(Drop)]
 pub(crate) struct Plan<A: Allocator> {
     pub(crate) recorder: Recorder<A>,
@@ -41,7 +42,7 @@ impl<T: Drop> From<AllocFailed<T>> for Refusal {
     }
 }
 
-/// The scans of a script, one after the other, and then the end.
+/// A feed of the scans of a script, in order, and then the end.
 #[derive(Drop)]
 pub(crate) struct Scans<A: Allocator> {
     rest: IntoIter<Given<A>, A>,
@@ -69,7 +70,7 @@ impl<A: Allocator> Feed<A> for Scans<A> {
     }
 }
 
-/// The orders of a script, one after the other.
+/// The orders of a script, in order.
 #[derive(Drop)]
 pub(crate) struct Placed<A: Allocator> {
     rest: IntoIter<(u64, Order<A>), A>,
@@ -108,7 +109,7 @@ fn rules_at<A: Allocator>(
     }
 }
 
-/// Appends the scan or the order of a command.
+/// Appends the scan or the order of a command. A `take` gives neither.
 fn plan_one<A: Allocator + Copy>(
     layout: &Layout<A>,
     command: Command<A>,
@@ -158,7 +159,7 @@ fn plan_all<A: Allocator + Copy>(
     Ok(())
 }
 
-/// Reads the script, makes its set-up, and plans its commands.
+/// Reads a script, makes its recorder, and plans its commands.
 #[tactic(auto, unfolding(crate::specs::Plans::live_fault))]
 pub(crate) fn plan_of<A: Allocator + Copy>(alloc: A, text: &[u8]) -> Result<Plan<A>, Refusal>
     ensures { MatchResult result

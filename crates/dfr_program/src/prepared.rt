@@ -1,4 +1,4 @@
-//! A recorder that is made of a script, and its commands.
+//! Makes a recorder from a script, and returns the script's commands.
 
 ghost use Rattle.std.specs.Prelude.{◌≡◌, IfOk, IfErr, IsTrue, MatchResult, Some, None, map, option_map, if◌then◌else◌, true};
 ghost use Rattle.dfr_channels.specs.Firing.{rules_fault, rules_fit};
@@ -20,11 +20,11 @@ pub(crate) enum Fault {
     Setup(SetupFault),
     Limits(LimitFault),
     Rules(RuleFault),
-    /// The rules of this line, after `go`, don't fit the layout. Of a live run alone.
+    /// The rules on this line, after `go`, do not fit the layout. Only a live run has this error.
     RulesAt(u64),
 }
 
-/// Why nothing could be made.
+/// Why no recorder could be made.
 #[derive(Clone, Copy, PartialEq, Eq)]
 pub(crate) enum Refusal {
     Fault(Fault),
@@ -37,14 +37,14 @@ pub(crate) struct Prepared<A: Allocator> {
     pub(crate) commands: Vec<Command<A>, A>,
 }
 
-/// The limits with the choice, where it is made.
+/// The limits, with the `unshared` choice where it is made.
 fn with_choice(limits: Limits, unshared: bool) -> Limits
     ensures { result ≡ (if unshared then record limits { unshared = true } else limits) }
 {
     if unshared { limits.unshared() } else { limits }
 }
 
-/// The limits of these numbers and this choice.
+/// The limits with these numbers and this choice.
 fn limits_of<A: Allocator>(layout: &Layout<A>, numbers: LimitNumbers) -> Result<Limits, LimitFault>
     ensures lawful { IfOk result (λ _. spec.number_fault layout.now.rate numbers ≡ None) }
     ensures stamps { IfOk result (λ limits. IsTrue (has_stamps layout.now.rate limits.longest)) }
@@ -73,7 +73,7 @@ fn layout_of<A: Allocator>(setup: Setup<A>) -> Result<Layout<A>, Refusal>
     }
 }
 
-/// The rules of a list, which fit the layout.
+/// The rules of a list, checked against the layout.
 fn rules_of<A: Allocator>(layout: &Layout<A>, list: Vec<Rule, A>) -> Result<Rules<A>, Refusal>
     ensures fits { IfOk result (λ rules. IsTrue (rules_fit layout.now rules)) }
     ensures rules { MatchResult result
@@ -86,7 +86,7 @@ fn rules_of<A: Allocator>(layout: &Layout<A>, list: Vec<Rule, A>) -> Result<Rule
     }
 }
 
-/// The recorder of a layout, the numbers of its limits and its first rules.
+/// Makes a recorder from a layout, the numbers of its limits, and its first rules.
 fn recorder_of<A: Allocator + Copy>(
     alloc: A,
     layout: Layout<A>,
@@ -109,7 +109,7 @@ fn recorder_of<A: Allocator + Copy>(
     }
 }
 
-/// Makes the set-up that a script says.
+/// Makes the recorder that a script describes.
 fn prepared_in<A: Allocator + Copy>(alloc: A, script: Script<A>) -> Result<Prepared<A>, Refusal>
     ensures { MatchResult result
         (λ prepared. (spec.set_up_fault script ≡ None)
@@ -128,7 +128,7 @@ fn prepared_in<A: Allocator + Copy>(alloc: A, script: Script<A>) -> Result<Prepa
     Ok(Prepared { recorder, commands })
 }
 
-/// Reads the script, and makes its set-up.
+/// Reads a script, and makes the recorder that it describes.
 #[tactic(auto, unfolding(crate::specs::Faults::script_fault))]
 pub(crate) fn prepared_of<A: Allocator + Copy>(
     alloc: A,

@@ -1,4 +1,5 @@
-//! Records that are written and read back: what the recorder, the writers and the reader promise together.
+//! Writes records and reads them back: what the recorder, the writers and the reader
+//! promise together.
 
 ghost use Rattle.std.specs.Prelude.{◌≡◌, ◌≢◌, ◌≤◌, ◌++◌, vec_capacity, IfOk, IfSome, IsTrue, length, map, take, option_to_list, false, None, [], List};
 ghost use Rattle.std.specs.List.{All, filter_map};
@@ -22,9 +23,9 @@ use dfr_recorder::{Answer, Ran, Record, Recorder, Step, run};
 use std::alloc::Allocator;
 use std::collections::VecDeque;
 
-/// The law of reading back for the records of a given recorder: every record that a recorder with its layout and its limits
-/// gives, whatever rules and whatever history it has, is read from its own two files, of either kind. It does nothing; the types
-/// keep what the law needs of layout and limits.
+/// A law on the records of a given recorder. Every record that a recorder with its layout and its
+/// limits gives is read back from its own two files, of either kind. That holds for any rules and
+/// any history. The function does nothing: its contract is the law.
 pub fn records_read_back<A: Allocator>(recorder: &Recorder<A>)
     ensures { (rules : List Rule)
         → RecordsReadBack (opening recorder.now.layout recorder.now.limits rules) }
@@ -35,9 +36,10 @@ pub fn records_read_back<A: Allocator>(recorder: &Recorder<A>)
     layout_has_numbers(layout);
 }
 
-/// Writes the two texts of a record that matches the layout, as every record does that a recorder of this layout gives, and
-/// reads them back. What is read is the record's file: it is never foreign, and neither the writers nor the reader refuse it
-/// unless out of memory.
+/// Writes the two files of a record that matches the layout, and reads them back. Returns what was
+/// read, which is the record's file. Every record that a recorder of this layout gives matches it.
+///
+/// Returns `Memory` where an allocation failed. No other error occurs.
 pub fn read_of_record<A: Allocator + Copy>(
     alloc: A,
     layout: &Layout<A>,
@@ -62,7 +64,7 @@ pub fn read_of_record<A: Allocator + Copy>(
     }
 }
 
-/// The same of the record that an answer took, where it took one.
+/// As `read_of_record`, for the record that an answer took; None where it took none.
 fn read_of_answer<A: Allocator + Copy>(
     alloc: A,
     layout: &Layout<A>,
@@ -82,7 +84,7 @@ fn read_of_answer<A: Allocator + Copy>(
     }
 }
 
-/// The same of each record that answers took, in their order.
+/// As `read_of_record`, for each record that the answers took, in their order.
 fn read_of_answers<A: Allocator + Copy>(
     alloc: A,
     layout: &Layout<A>,
@@ -103,8 +105,8 @@ fn read_of_answers<A: Allocator + Copy>(
     Ok(files)
 }
 
-/// The files of the records that a run took, in their order, each read back from its own texts as `read_of_record` does it. What
-/// `run` leaves has what is required here.
+/// Reads back the files of the records that a run took, in their order, as `read_of_record` does.
+/// What `run` returns meets the requirement. Returns `Memory` where an allocation failed.
 pub fn read_of_run<A: Allocator + Copy>(
     alloc: A,
     ran: &Ran<A>,
@@ -117,8 +119,10 @@ pub fn read_of_run<A: Allocator + Copy>(
     read_of_answers(alloc, ran.recorder.layout(), ran.answers.as_slice(), kind)
 }
 
-/// Makes the steps as `run` does, and reads back the files of the records that they took: what a recorder, the writers and the
-/// reader promise together for a list of steps.
+/// Makes the steps as `run` does, and reads back the files of the records that they took. It joins,
+/// for a list of steps, what the recorder, the writers and the reader promise.
+///
+/// Returns what `run` returns, and the files, or `Memory` where an allocation for the files failed.
 pub fn run_and_read<A: Allocator + Copy>(
     alloc: A,
     recorder: Recorder<A>,

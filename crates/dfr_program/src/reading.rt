@@ -1,4 +1,4 @@
-//! Reads a pair of files, and says what is in it.
+//! Reads a pair of files, and prints what is in it.
 
 #![tactic(auto, using(crate::proofs::Growing::growing))]
 
@@ -34,7 +34,7 @@ fn put_names<A: Allocator>(out: &mut Vec<u8, A>, head: &Head<A>) -> Result<(), A
     put_line(out, "device ", head.device.items())
 }
 
-/// The numbers of channels.
+/// Appends the numbers of analogue and status channels.
 #[tactic(auto, unfolding(crate::specs::ReadTexts::channels_text))]
 fn put_channels<A: Allocator>(out: &mut Vec<u8, A>, head: &Head<A>) -> Result<(), AllocError>
     ensures { OnOk result (out.new.items ≡ out.old.items ++ spec.channels_text head.now) }
@@ -43,7 +43,7 @@ fn put_channels<A: Allocator>(out: &mut Vec<u8, A>, head: &Head<A>) -> Result<()
     put_with(out, " status ", head.status.items().len() as u64)
 }
 
-/// The number of rows, and a line end.
+/// Appends the number of rows, and a line end.
 #[tactic(auto, unfolding(crate::specs::ReadTexts::rows_text))]
 fn put_rows<A: Allocator>(out: &mut Vec<u8, A>, rows: &[Row<A>]) -> Result<(), AllocError>
     ensures { OnOk result (out.new.items ≡ out.old.items ++ spec.rows_text (length rows.now)) }
@@ -52,7 +52,8 @@ fn put_rows<A: Allocator>(out: &mut Vec<u8, A>, rows: &[Row<A>]) -> Result<(), A
     put(out, "\n")
 }
 
-/// The two instants, in microseconds since 1970-01-01 00:00:00.
+/// Appends the instants of the first row and of the trigger, in microseconds since
+/// 1970-01-01 00:00:00.
 #[tactic(auto, unfolding(crate::specs::ReadTexts::instants_text))]
 fn put_instants<A: Allocator>(out: &mut Vec<u8, A>, head: &Head<A>) -> Result<(), AllocError>
     ensures { OnOk result (out.new.items ≡ out.old.items ++ spec.instants_text head.now) }
@@ -64,7 +65,7 @@ fn put_instants<A: Allocator>(out: &mut Vec<u8, A>, head: &Head<A>) -> Result<()
     put(out, "\n")
 }
 
-/// The names, the numbers of channels and rows, and the two instants.
+/// Appends the names, the numbers of channels and rows, and the two instants.
 #[tactic(auto, unfolding(crate::specs::ReadTexts::file_text))]
 fn put_file<A: Allocator>(out: &mut Vec<u8, A>, file: &File<A>) -> Result<(), AllocError>
     ensures { OnOk result (out.new.items ≡ out.old.items ++ spec.file_text file.now) }
@@ -75,7 +76,7 @@ fn put_file<A: Allocator>(out: &mut Vec<u8, A>, file: &File<A>) -> Result<(), Al
     put_instants(out, &file.head)
 }
 
-/// The word of a fault, and its line and field, but for memory.
+/// Appends the word of an error, with its line and field. `Memory` has no word.
 fn put_word<A: Allocator>(out: &mut Vec<u8, A>, fault: ReadFault) -> Result<(), AllocError>
     ensures text { OnOk result (out.new.items ≡ out.old.items ++ spec.word_text fault) }
     ensures named { OnOk result (fault ≢ ReadFault.Memory) }
@@ -136,7 +137,7 @@ fn print_file<A: Allocator, W: Write>(alloc: A, file: &File<A>, w: &mut W) -> Re
     Ok(true)
 }
 
-/// Prints why they could not be read.
+/// Prints why a pair could not be read.
 fn print_read_fault<A: Allocator, W: Write>(
     alloc: A,
     part: Part,
@@ -157,9 +158,14 @@ fn print_read_fault<A: Allocator, W: Write>(
     Ok(false)
 }
 
-/// Reads a configuration file and its data file: true where they were read and what is in them was
-/// printed, false where the line of a fault was. `Output`: a write failed, and a front of that was
-/// written, but not all. `Memory`: an allocation failed, and nothing was written. It is never `Input`.
+/// Reads a configuration file and its data file. Returns true where both were read, and printed
+/// what is in them: four lines, as `cases/read` shows. Returns false where the pair is not valid,
+/// and printed the line of its first error.
+///
+/// - `Output`: a write failed. Only part of the text was written.
+/// - `Memory`: an allocation failed. Nothing was written.
+///
+/// It never returns `Input`.
 pub fn read_over<A: Allocator + Copy, W: Write>(
     alloc: A,
     cfg: &[u8],

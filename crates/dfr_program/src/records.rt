@@ -15,7 +15,7 @@ use dfr_recorder::{Extent, Recorder};
 use std::alloc::{AllocError, Allocator};
 use std::io::Write;
 
-/// Puts what stands before the bytes of the data file.
+/// Appends what comes before the bytes of the data file.
 #[tactic(auto, unfolding(crate::specs::Texts::front_text))]
 fn put_front<A: Allocator>(
     line: &mut Vec<u8, A>,
@@ -31,7 +31,7 @@ fn put_front<A: Allocator>(
     put_length(line, "dat ", pair.dat.len())
 }
 
-/// Buffers the front, the bytes of the data file and a line end: all of it or nothing.
+/// Buffers `line`, the bytes of the data file, and a line end: all of it or nothing.
 fn buffer_record<A: Allocator>(
     out: &mut Vec<u8, A>,
     line: &mut Vec<u8, A>,
@@ -46,8 +46,8 @@ fn buffer_record<A: Allocator>(
     out.extend_from_slice(line)
 }
 
-/// Writes what was buffered, the front, the bytes of the data file, which aren't copied, and a line
-/// end.
+/// Writes the buffer, `line`, the bytes of the data file, and a line end. It does not copy the
+/// bytes of the data file.
 fn write_record<A: Allocator, W: Write>(
     w: &mut W,
     out: &mut Vec<u8, A>,
@@ -63,7 +63,7 @@ fn write_record<A: Allocator, W: Write>(
     write_out(w, "\n".as_bytes())
 }
 
-/// Prints a taken record, and its two files.
+/// Prints a taken record and its two files.
 fn print_record<A: Allocator, W: Write>(
     extent: Extent,
     pair: &Pair<A>,
@@ -83,7 +83,7 @@ fn print_record<A: Allocator, W: Write>(
     Ok(())
 }
 
-/// Takes the oldest record that waits, and prints it.
+/// Takes the oldest finished record, and prints it; `take none` where none waits.
 pub(crate) fn answer_take<A: Allocator + Copy, W: Write>(
     alloc: A,
     recorder: &mut Recorder<A>,

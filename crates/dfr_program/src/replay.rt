@@ -22,8 +22,8 @@ use comtrade_write::Kind;
 use std::alloc::Allocator;
 use std::io::{Read, Write};
 
-/// Answers the commands, and writes all that was answered, also where an allocation failed in
-/// between. After a write that failed nothing is left, so nothing more is written.
+/// Answers the commands, and writes all answers, also those before a failed allocation. After a
+/// failed write nothing more is written.
 fn run_commands<A: Allocator + Copy, W: Write>(
     alloc: A,
     prepared: Prepared<A>,
@@ -42,7 +42,7 @@ fn run_commands<A: Allocator + Copy, W: Write>(
     Ok(true)
 }
 
-/// Prints the line of a fault.
+/// Prints the line of an error.
 fn print_fault<A: Allocator, W: Write>(alloc: A, fault: Fault, w: &mut W) -> Result<bool, RunFault>
     ensures text { OnOk result (Appends (W.contents w.old) (W.contents w.new) (fault_text fault)) }
     ensures grows { Grows (W.contents w.old) (W.contents w.new) }
@@ -58,7 +58,7 @@ fn print_fault<A: Allocator, W: Write>(alloc: A, fault: Fault, w: &mut W) -> Res
     Ok(false)
 }
 
-/// Replays a script: true where the whole of it ran, false where the line of a fault was printed.
+/// Replays a script. True where all of it ran, false where the line of an error was printed.
 fn replay_text<A: Allocator + Copy, W: Write>(
     alloc: A,
     text: Vec<u8, A>,
@@ -90,12 +90,14 @@ fn replay_text<A: Allocator + Copy, W: Write>(
     }
 }
 
-/// Replays the script that the reader has: true where the whole of it ran, false where the line of
-/// a fault was printed. The whole script is read, and its set-up made, before any command is.
-/// `Input` is a read that failed, or more than 16,777,216 bytes, and nothing was written; `Output`
-/// a write that failed, and a front of what would be printed was written, but not all; `Memory` an
-/// allocation that failed, and nothing was written, or, of a script without a fault, the answers to
-/// the commands before the one at which it failed.
+/// Replays the script that the reader has. Returns true where all of it ran, and false where it has
+/// an error, whose line was printed. The whole script is read, and its recorder made, before its
+/// first command runs.
+///
+/// - `Input`: a read failed, or the script has more than 16,777,216 bytes. Nothing was written.
+/// - `Output`: a write failed. Only part of the text was written.
+/// - `Memory`: an allocation failed. Nothing was written, or, for a script without an error, the
+///   answers to the commands before the failure.
 pub fn replay_over<A: Allocator + Copy, R: Read, W: Write>(
     alloc: A,
     r: &mut R,

@@ -9,7 +9,7 @@ use crate::text::{put, put_number, put_with};
 use dfr_live::{EndFault, Entry, Left, LiveFault, LiveReport, OpenFault, Reply};
 use std::alloc::{AllocError, Allocator};
 
-/// The number of scan steps made before a call.
+/// Appends the number of scan steps made before a call.
 #[tactic(auto, unfolding(crate::specs::Reports::at_text))]
 fn put_at<A: Allocator>(out: &mut Vec<u8, A>, at: u64) -> Result<(), AllocError>
     ensures { OnOk result (out.new.items ≡ out.old.items ++ spec.at_text at) }
@@ -50,7 +50,7 @@ fn put_entry<A: Allocator>(out: &mut Vec<u8, A>, entry: &Entry<A>) -> Result<(),
     put_reply(out, entry.at, &entry.reply)
 }
 
-/// Each call of a log but takes.
+/// Appends a line for each call of a log, except takes.
 fn put_entries<A: Allocator>(out: &mut Vec<u8, A>, log: &[Entry<A>]) -> Result<(), AllocError>
     ensures { OnOk result (out.new.items ≡ out.old.items ++ flat_map spec.entry_text log.now) }
 {
@@ -60,7 +60,7 @@ fn put_entries<A: Allocator>(out: &mut Vec<u8, A>, log: &[Entry<A>]) -> Result<(
     Ok(())
 }
 
-/// The step of a scan that is left, and those of its losses.
+/// The number of scan steps of a scan that is left: its own, and those of its lost scans.
 fn steps_with<A: Allocator>(item: &Left<A>) -> u64
     ensures steps { result ≡ item.now.lost + 1 }
     ensures few { result ≤ 4_294_967_296 }
@@ -98,7 +98,7 @@ fn put_sums<A: Allocator>(
     put(out, "\n")
 }
 
-/// Each call of the run's log but takes, and what became of the scans.
+/// Appends a line for each call of the run's log, except takes, and the line of sums.
 #[tactic(auto, unfolding(crate::specs::Reports::report_text))]
 pub(crate) fn put_report<A: Allocator>(
     out: &mut Vec<u8, A>,
@@ -116,7 +116,7 @@ pub(crate) fn put_report<A: Allocator>(
     )
 }
 
-/// The word of a run's fault; None where an allocation failed.
+/// The word of a run's error; None where an allocation failed.
 pub(crate) fn run_word(fault: LiveFault) -> Option<&'static str>
     ensures { option_map (λ word. word.now) result ≡ spec.run_word fault }
 {

@@ -1,4 +1,4 @@
-//! Printed text, buffered before it is written.
+//! Appends text to a buffer, before it is written.
 
 ghost use Rattle.std.specs.Prelude.{◌≡◌, ◌++◌, OnOk, decimal};
 
@@ -20,7 +20,7 @@ pub(crate) fn put_number<A: Allocator, I: Integer>(
     out.extend_from_slice(Buffer::new().format(n).as_bytes())
 }
 
-/// The text, and a number after it.
+/// Appends the text, then a number in decimal.
 pub(crate) fn put_with<A: Allocator>(
     out: &mut Vec<u8, A>,
     text: &str,
@@ -32,7 +32,7 @@ pub(crate) fn put_with<A: Allocator>(
     put_number(out, n)
 }
 
-/// One text, and the other after it.
+/// Appends one text, then the other.
 pub(crate) fn put_both<A: Allocator>(
     out: &mut Vec<u8, A>,
     front: &str,

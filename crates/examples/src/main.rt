@@ -1,8 +1,8 @@
-//! Three programs over the library's crates, to start one's own from: each is a module.
+//! Three example programs over the library's crates, each in one module. Start your own from them.
 //!
-//!     examples peaks CFG DAT    the least and the greatest value of each channel of a pair of COMTRADE files
-//!     examples recorder         a recorder of one's own, in three threads: prints both files of each record
-//!     examples write [NAME]     builds a pair of files; prints both, or writes NAME.cfg and NAME.dat
+//!     examples peaks CFG DAT    prints the least and greatest value of each analogue channel
+//!     examples recorder         records in three threads; prints both files of each record
+//!     examples write [NAME]     builds a pair; prints both files, or writes NAME.cfg and NAME.dat
 #![tactic(auto)]
 
 mod peaks;

@@ -1,5 +1,5 @@
-//! Prints the least and the greatest value of each analogue channel of a pair of COMTRADE files: an example of a program over
-//! `comtrade_read` and `comtrade_format`.
+//! Prints the least and the greatest value of each analogue channel of a pair of COMTRADE files. An
+//! example of a program over `comtrade_read` and `comtrade_format`.
 
 mod span;
 
@@ -18,7 +18,7 @@ fn file_in<R: Files + AllocGlobal>(rt: &R, cfg: &str, dat: &str) -> Result<File>
     read(rt.alloc(), &cfg, &dat).map_err(|(part, fault)| anyhow!("{part}: {fault}"))
 }
 
-/// The instant of the first row, as a date and a time of day.
+/// Prints the instant of the first row, as a date and a time of day.
 fn print_first<R: Print>(rt: &R, file: &File) -> Result<()> {
     let first = civil_of(file.head.first).context("a date of the calendar")?;
     let (date, time) = (first.date, first.time);
@@ -35,7 +35,8 @@ fn print_first<R: Print>(rt: &R, file: &File) -> Result<()> {
     Ok(())
 }
 
-/// A channel's line. The id may have any bytes, which `{:?}` doesn't let through to a terminal as they are.
+/// Prints a channel's line. The id may have any bytes; `{:?}` keeps them from reaching a
+/// terminal unchanged.
 fn print_peaks<R: Print + AllocGlobal>(
     rt: &R,
     rows: &[Row],
@@ -64,7 +65,7 @@ fn print_all<R: Print + AllocGlobal>(rt: &R, file: &File) -> Result<()> {
     Ok(())
 }
 
-/// The first instant, and a line for each analogue channel.
+/// Prints the first instant, and a line for each analogue channel.
 pub fn print<R: Files + Print + AllocGlobal>(rt: &R, cfg: &str, dat: &str) -> Result<()> {
     print_all(rt, &file_in(rt, cfg, dat)?)
 }

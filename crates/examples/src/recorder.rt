@@ -1,4 +1,5 @@
-//! A recorder of one's own in three threads: one samples a line, one triggers, one takes the records. Prints both files of each record.
+//! Your own recorder in three threads: one samples a line, one triggers, one takes the records.
+//! Prints both files of each record.
 
 use anyhow::{Context, Result};
 use comtrade_read::read_cfg;
@@ -12,12 +13,13 @@ use std::ops::Range;
 use std::sync::Wait;
 use std::thread::Threads;
 
-/// The channels, as a configuration file says them: a current in steps of 0.5 A.
+/// The channels, in the form of a configuration file: one current in steps of 0.5 A.
 const CHANNELS: &[u8] = b"Northfield 110 kV,My recorder,1999\n1,1A,0D\n\
     1,IA,A,Line 3,A,0.5,0,0,-32767,32767,600,1,P\n50\n1\n1000,1\n\
     01/07/2024,10:30:00\n01/07/2024,10:30:00\nASCII\n1";
 
-/// What samples: here a line whose current rises tenfold from scan 30 to 39. Scan 35 is lost, and after scan 99 no scan comes.
+/// The source of samples: here a line whose current rises tenfold from scan 30 to scan 39. Scan 35
+/// is lost. After scan 99 no more scans come.
 #[derive(Drop)]
 struct Line {
     alloc: Global,
@@ -35,13 +37,13 @@ impl Feed<Global> for Line {
     }
 }
 
-/// A scan of one reading; where memory fails, the feed's own fault 1, which ends the run.
+/// A scan of one reading. Where an allocation fails, the feed's own error 1, which ends the run.
 fn scan(alloc: Global, sample: i32) -> Result<Fed, u32> {
     let readings = Vec::from_slice(alloc, &[Reading::Value(sample)]).or(Err(1u32))?;
     Ok(Fed::Scan(Scan::new(readings, Vec::new(alloc))))
 }
 
-/// What triggers besides the rules: an operator, after so many scans.
+/// A trigger besides the rules: an operator, once, after this many scans.
 #[derive(Drop)]
 struct Operator {
     after: Option<u64>,
@@ -53,7 +55,7 @@ impl Orders<Global> for Operator {
     }
 }
 
-/// What takes the records: both files of each, one after the other in memory.
+/// Receives the records, and keeps both files of each in memory, one after the other.
 #[derive(Drop)]
 struct Kept {
     files: Vec<u8>,
@@ -66,7 +68,8 @@ impl Sink for Kept {
     }
 }
 
-/// 1,000 scans a second from an instant on, which is in microseconds since 1970.
+/// A layout of 1,000 scans a second. Its clock starts at the head's first instant, in microseconds
+/// since 1970.
 fn layout(head: Head) -> Result<Layout> {
     let setup = Setup {
         station: head.station,
@@ -80,7 +83,9 @@ fn layout(head: Head) -> Result<Layout> {
     Layout::new(setup).ok().context("no set-up")
 }
 
-/// A record has 5 scans before the trigger and 10 after the last scan of 500 and more, at most 100; the shelf has room for 4.
+/// A recorder whose rule fires while the reading is 500 or more. A record has up to 5 scans before
+/// the trigger and 10 after the last scan at which it fired, at most 100 in all. Up to 4 finished
+/// records may wait.
 fn recorder(alloc: Global, layout: Layout) -> Result<Recorder> {
     let over = Rule::Level {
         channel: 0,
@@ -96,7 +101,7 @@ fn recorder(alloc: Global, layout: Layout) -> Result<Recorder> {
         .context("out of memory")
 }
 
-/// Runs it until no scan comes any more, and prints what it kept.
+/// Runs the recorder until no more scans come, and prints the files that it kept.
 pub fn record<R: Threads + Wait + Print + AllocGlobal + Sync>(rt: &R) -> Result<()> {
     let alloc = rt.alloc();
     let recorder = recorder(alloc, layout(read_cfg(alloc, CHANNELS)?)?)?;

@@ -1,5 +1,6 @@
-//! Builds a pair of COMTRADE files, and prints or writes it: an example of a program over `comtrade_format`. The record is
-//! 40 ms of a current of 50 Hz, sampled 1,000 times a second, and of a breaker that opens after 30 ms.
+//! Builds a pair of COMTRADE files, and prints or writes it. An example of a program over
+//! `comtrade_format`. The record is 40 ms long, with 1,000 samples a second: a current of 50 Hz,
+//! and a breaker that opens after 30 ms.
 
 mod record;
 mod texts;
@@ -12,7 +13,7 @@ use std::io::Write;
 use std::rt::Files;
 use std::{fs, io};
 
-/// Writes one of both files. A file that is there already is replaced.
+/// Writes one of the two files. An existing file is replaced.
 fn write_file<R: Files + AllocGlobal>(
     rt: &R,
     name: &str,
@@ -23,7 +24,7 @@ fn write_file<R: Files + AllocGlobal>(
     fs::write(rt, path.as_str(), text)
 }
 
-/// The texts of the record.
+/// The two texts of the record.
 fn record_texts(alloc: Global) -> Result<Texts> {
     let file = record(alloc)?;
     texts_of(alloc, &file).context("not written")

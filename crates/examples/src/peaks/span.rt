@@ -10,12 +10,14 @@ use dfr_channels::Reading;
 /// The least and the greatest of some samples.
 #[derive(Clone, Copy, Debug)]
 pub struct Span {
+    /// The least sample.
     pub least: i32,
+    /// The greatest sample.
     pub greatest: i32,
 }
 
 impl Span {
-    /// The span with one sample more.
+    /// The span with one more sample.
     fn with(self, sample: i32) -> Span
         ensures least { result.least ≡ int_min self.least sample }
         ensures greatest { result.greatest ≡ int_max self.greatest sample }
@@ -27,7 +29,7 @@ impl Span {
     }
 }
 
-/// The sample of a channel in a row, counted from 0; None where its reading is missing.
+/// The sample of a channel in a row; None where its reading is missing. Channels count from 0.
 fn sample_of(row: &Row, channel: usize) -> Option<i32>
     ensures { result ≡ Samples.sample channel row.now }
 {
@@ -37,8 +39,8 @@ fn sample_of(row: &Row, channel: usize) -> Option<i32>
     }
 }
 
-/// The span of a channel, counted from 0: all its samples lie in it, and both its ends are samples; None where each of its readings
-/// is missing.
+/// The span of a channel, from 0: all of its samples are in it, and both of its ends are samples.
+/// None where every reading is missing.
 pub fn span_of(rows: &[Row], channel: usize) -> Option<Span>
     ensures { Samples.Spans (Samples.samples channel rows.now) result }
 {

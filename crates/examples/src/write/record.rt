@@ -1,4 +1,4 @@
-//! A record, made by hand.
+//! A record, built field by field.
 
 ghost use Rattle.std.specs.Prelude.{◌<◌, ◌≤◌};
 
@@ -6,38 +6,39 @@ use comtrade_format::{File, Head, Kind, Rate, Row};
 use dfr_channels::{AnalogChannel, Decimal, Items, Reading, Side, StatusChannel};
 use std::alloc::{AllocError, Global};
 
-/// A period of the current at 1,000 scans a second: 1,000 · sin(2π · k / 20), rounded.
+/// One period of the current at 1,000 scans a second: 1,000 * sin(2 * pi * k / 20), rounded.
 const PERIOD: [i32; 20] = [
     0, 309, 588, 809, 951, 1000, 951, 809, 588, 309, 0, -309, -588, -809, -951, -1000, -951, -809,
     -588, -309,
 ];
 
-/// Two periods.
+/// The number of rows: two periods.
 const ROWS: usize = 40;
 
-/// The row with which the breaker is open.
+/// The row, from 0, at which the breaker opens.
 const OPEN: usize = 30;
 
-/// A text of the file: bytes from hexadecimal 20 to 7E without a comma.
+/// A text field of the file. Its bytes are from hexadecimal 20 to 7E, without a comma.
 fn text(alloc: Global, text: &str) -> Result<Items<u8>, AllocError> {
     Ok(Items::of(Vec::from_slice(alloc, text.as_bytes())?))
 }
 
-/// A list of one.
+/// A list of one item.
 fn one<T: Drop>(alloc: Global, item: T) -> Result<Items<T>, AllocError> {
     let mut list = Vec::new(alloc);
     list.push(item)?;
     Ok(Items::of(list))
 }
 
-/// units / 10^places, which a file can hold.
+/// The decimal units / 10^places, where a file can hold it.
 fn decimal(units: i32, places: u8) -> Decimal
     requires { places ≤ 80 }
 {
     Decimal::new(units as i128, places).unwrap()
 }
 
-/// A current in steps of 0.5 A, by a transformer of 600 to 1 A; the values are those of the primary side.
+/// A current in steps of 0.5 A, through a transformer of 600 A to 1 A. The values are those of the
+/// primary side.
 fn current(alloc: Global) -> Result<AnalogChannel, AllocError> {
     Ok(AnalogChannel {
         id: text(alloc, "IA")?,
@@ -64,7 +65,7 @@ fn breaker(alloc: Global) -> Result<StatusChannel, AllocError> {
     })
 }
 
-/// Row k from 0: its number counts from 1, and its stamp is in microseconds.
+/// Row k, from 0. Its number counts from 1, and its stamp is in microseconds.
 fn row(alloc: Global, k: usize) -> Result<Row, AllocError>
     requires { k < ROWS }
 {
@@ -84,7 +85,8 @@ fn rows(alloc: Global) -> Result<Items<Row>, AllocError> {
     Ok(Items::of(rows))
 }
 
-/// The instants are microseconds since 1970-01-01 00:00:00: 2024-07-01 10:30:00, and 20 ms later.
+/// The configuration. The instants are in microseconds since 1970-01-01 00:00:00: the first row at
+/// 2024-07-01 10:30:00, and the trigger 20 ms later.
 fn head(alloc: Global) -> Result<Head, AllocError> {
     let rate = Rate {
         samp: decimal(1000, 0),
@@ -105,7 +107,8 @@ fn head(alloc: Global) -> Result<Head, AllocError> {
     })
 }
 
-/// The whole record. What a file can't hold is found when it is written: `WriteFault` says where it stands.
+/// The whole record. The writers check what a file can hold: `WriteFault` tells where a value does
+/// not fit.
 pub fn record(alloc: Global) -> Result<File, AllocError> {
     let rows = rows(alloc)?;
     let head = head(alloc)?;

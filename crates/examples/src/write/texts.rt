@@ -1,4 +1,4 @@
-//! The two texts of a file, with the promise that they read to it again.
+//! The two texts of a file, with a contract: they read back to that file.
 
 ghost use Rattle.std.specs.Prelude.{IfOk, IfErr};
 ghost use Rattle.dfr_channels.specs.Faults.{◌or◌};
@@ -13,12 +13,15 @@ use std::alloc::Global;
 /// A configuration file and its data file.
 #[derive(Drop)]
 pub struct Texts {
+    /// The text of the configuration file.
     pub cfg: Vec<u8>,
+    /// The bytes of the data file.
     pub dat: Vec<u8>,
 }
 
-/// The two texts of a file. The contract says that the reader gives that very file of them, or which is the first refusal of the
-/// writers; a wrong body, such as data of another kind, would not be proved.
+/// Returns the two texts of a file. By the contract the reader gets exactly that file from them; or
+/// the error is the first refusal of the writers. A wrong body, such as data of another kind, would
+/// not be proved.
 pub fn texts_of(alloc: Global, file: &File) -> Result<Texts, WriteFault>
     ensures read { IfOk result (λ texts. Reads texts.cfg.items texts.dat.items file.now) }
     ensures refused { IfErr result (λ fault.
