@@ -14,7 +14,8 @@ pub enum WriteFault {
     /// The parts of the file contradict each other or exceed a limit:
     ///
     /// - the number of channels isn't 1 to 999,999;
-    /// - `nrates` is over 999, or `rates` has another length (if `nrates` is 0, not one) (5.3.6);
+    /// - `nrates` is over 999;
+    /// - `rates` doesn't have `nrates` entries, or one if `nrates` is 0 (5.3.6);
     /// - an `endsamp` is below the one before it or over 9,999,999,999;
     /// - the number of rows isn't the last `endsamp`;
     /// - a row doesn't have one value per analogue channel and one bit per status channel;

@@ -1,4 +1,4 @@
-//! Writes a whole slice, and tells how much was written if that fails.
+//! Writes a whole slice, and reports how much was written if that fails.
 
 ghost use Rattle.std.specs.Prelude.{◌≡◌, ◌<◌, length, take, OnOk, IfErr};
 ghost use Rattle.std.specs.Io.KnownBytes.{Appends};

@@ -209,8 +209,8 @@ impl<'a> Clock<'a> {
     /// The time of the row with this index, from 0, and this stamp. It is in nanoseconds since the
     /// first row, rounded down within each rate.
     ///
-    /// None if neither a rate nor a stamp gives the time. None also if a number that it is computed
-    /// from is negative, has too many places (over 29 of a rate, over 38 of `timemult`) or exceeds
+    /// None if neither a rate nor a stamp gives the time, or `timemult` is negative. None also if
+    /// a rate has more than 29 places, `timemult` has more than 38, or the computation exceeds
     /// 128 bits.
     pub fn nanos(&self, row: u64, stamp: Option<u64>) -> Option<u128>
         ensures { result ≡ Times.time_by self.now row stamp }
