@@ -110,7 +110,7 @@ fn shown_of_eight(n: u64) -> usize
 }
 
 /// Writes a point and four decimal places at `at`, and returns the position after the last digit
-/// that isn't a trailing zero. Nine bytes are overwritten in any case.
+/// that isn't a trailing zero, or `at` if all are 0. Nine bytes are overwritten in any case.
 fn write_four(slot: &mut [u8], at: usize, n: u64) -> usize
     requires few { n < 10000 }
     requires room { at + 9 ≤ length slot.old }
@@ -149,7 +149,7 @@ fn write_sixteen(slot: &mut [u8], at: usize, high: u64, low: u64) -> usize
 }
 
 /// Writes a point and sixteen decimal places at `at`, and returns the position after the last digit
-/// that isn't a trailing zero. At most 17 bytes are overwritten.
+/// that isn't a trailing zero, or `at` if all are 0. At most 17 bytes are overwritten.
 pub(crate) fn write_places(slot: &mut [u8], at: usize, n: u64) -> usize
     requires few { n < 10 ^ 16 }
     requires room { at + 17 ≤ length slot.old }
