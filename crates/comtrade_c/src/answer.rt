@@ -1,4 +1,4 @@
-//! What a call answers.
+//! The return codes and errors of the calls.
 
 ghost use Rattle.std.specs.Prelude.{◌≡◌, ◌≢◌, ◌<◌, ◌≤◌, ◌⊎◌, ◌+◌, IfOk, IfErr, length};
 ghost use Rattle.comtrade_read.specs.Reads.{ReadsHead};
@@ -9,19 +9,21 @@ use comtrade_format::{Head, WriteFault};
 use comtrade_read::{ReadFault, read_cfg};
 use std::alloc::Allocator;
 
+/// The call has done its work.
 pub(crate) const DONE: i32 = 0;
-/// The configuration file has a fault.
+/// The configuration file has an error.
 pub(crate) const CFG_FAULT: i32 = 1;
-/// The data file has a fault.
+/// The data file has an error.
 pub(crate) const DAT_FAULT: i32 = 2;
-/// A file can't hold what is to be written.
+/// No file can hold the content to be written.
 pub(crate) const WRITE_FAULT: i32 = 3;
 /// An allocation failed.
 pub(crate) const NO_MEMORY: i32 = 4;
-/// A buffer is too short, or of another length than it must be.
+/// A buffer is too short, or doesn't have the length that it must have.
 pub(crate) const NO_ROOM: i32 = 5;
 
-/// A fault: its kind, and the line or row and the field or channel that have it, from 1; 0 where it has none.
+/// An error: its kind, its line or row (`place`), and its field or channel (`field`). Places and
+/// fields count from 1, and are 0 if the kind has none.
 #[repr(C)]
 #[derive(Clone, Copy)]
 pub(crate) struct Fault {
@@ -65,7 +67,8 @@ pub(crate) fn of_write(why: WriteFault) -> Fault
     }
 }
 
-/// The head that a configuration file says, else what the call answers; the numbers are left alone where an allocation failed.
+/// Reads a configuration file. An error is the call's return code, `CFG_FAULT` or `NO_MEMORY`; with
+/// `CFG_FAULT` `said` is the first error of the file, else it is unchanged.
 pub(crate) fn head_of<A: Allocator + Copy>(
     alloc: A,
     cfg: &[u8],
@@ -88,7 +91,7 @@ pub(crate) fn head_of<A: Allocator + Copy>(
     }
 }
 
-/// A text at the front of a buffer that has room for it.
+/// Copies a text to the start of a buffer that has room for it.
 pub(crate) fn put_front(out: &mut [u8], text: &[u8])
     requires { length text.now ≤ length out.old }
     ensures { out.new ≡ buffers.put text.now out.old }

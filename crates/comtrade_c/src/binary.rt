@@ -1,4 +1,4 @@
-//! The rows of BINARY data, straight into tables: no list is made for each row.
+//! Reads the rows of BINARY data directly into tables, without a list for each row.
 
 ghost use Rattle.std.specs.Prelude.{◌≡◌, ◌≢◌, ◌⊎◌, ◌≤◌, ◌<◌, ◌*◌, ◌+◌, ◌/◌, length, map, Ok, IfErr, IsTrue, IsFalse, true, false};
 ghost use Rattle.comtrade_format.specs.declared.file.Kind.TheVariants.{Binary};
@@ -15,7 +15,7 @@ use byteorder::{ByteOrder, LittleEndian};
 use comtrade_format::Head;
 use comtrade_read::ReadFault;
 
-/// The value in the first two bytes, in two's complement; the lowest stands for a missing one.
+/// The sample in the first two bytes, in two's complement. The lowest number means missing.
 fn sample_at(bytes: &[u8]) -> i32
     requires { 2 ≤ length bytes.now }
     ensures { result ≡ tables.sample_of (packed.value_at bytes.now) }
@@ -28,7 +28,7 @@ fn sample_at(bytes: &[u8]) -> i32
     }
 }
 
-/// The time stamp in the first four bytes; the highest stands for none.
+/// The time stamp in the first four bytes. The highest number means none.
 fn stamp_at(bytes: &[u8]) -> u64
     requires { 4 ≤ length bytes.now }
     ensures { result ≡ tables.stamp_of (spec.stamp_at bytes.now) }
@@ -41,7 +41,7 @@ fn stamp_at(bytes: &[u8]) -> u64
     }
 }
 
-/// The samples of one row, whose values begin the bytes.
+/// Fills the samples of one row from the values at the start of the bytes.
 fn put_row(to: &mut [i32], bytes: &[u8])
     requires { 2 * length to.old ≤ length bytes.now }
     ensures { to.new ≡ map tables.sample_of (packed.values_at (length to.old) bytes.now) }
@@ -51,7 +51,7 @@ fn put_row(to: &mut [i32], bytes: &[u8])
     }
 }
 
-/// The lowest bits of a group, a byte for each.
+/// Fills bytes with the lowest bits of a group, one bit each.
 #[inline(always)]
 fn put_group(to: &mut [u8], group: u16)
     requires { length to.old ≤ 16 }
@@ -62,7 +62,7 @@ fn put_group(to: &mut [u8], group: u16)
     }
 }
 
-/// The bits of one row, whose groups begin the bytes.
+/// Fills the bits of one row from the groups at the start of the bytes.
 fn put_row_bits(to: &mut [u8], bytes: &[u8])
     requires { 2 * ((length to.old + 15) / 16) ≤ length bytes.now }
     ensures { to.new ≡ map tables.bit_of (packed.bits_at (length to.old) bytes.now) }
@@ -79,7 +79,7 @@ fn put_row_bits(to: &mut [u8], bytes: &[u8])
     }
 }
 
-/// The bytes of a row of k samples and m bits.
+/// The number of bytes of a row of k samples and m bits.
 fn row_size(k: usize, m: usize) -> usize
     requires k { k < 1000000 }
     requires m { m < 1000000 }
@@ -88,7 +88,7 @@ fn row_size(k: usize, m: usize) -> usize
     8 + 2 * k + 2 * ((m + 15) / 16)
 }
 
-/// The stamp, the samples and the bits of each row of k samples and m bits.
+/// Fills the stamp, the samples and the bits of each row of k samples and m bits.
 fn put_rows(
     stamps: &mut [u64],
     samples: &mut [i32],
@@ -120,17 +120,18 @@ fn put_rows(
     }
 }
 
-/// Whether so many rows, each of this size, are so many items.
+/// Whether `rows` rows of this size have exactly this many items.
 fn are(items: usize, rows: u64, size: usize) -> bool
     requires { size < 5000000 }
     ensures whole { IsTrue result → items ≡ rows * size }
     ensures other { IsFalse result → items ≢ rows * size }
 {
-    // the product may pass 64 bits
+    // the product may exceed 64 bits
     items as u128 == rows as u128 * size as u128
 }
 
-/// Whether three tables are as long as the stamps, samples and bits of so many rows of k samples and m bits.
+/// Whether three tables are as long as the stamps, samples and bits of `rows` rows of k samples and
+/// m bits.
 fn are_tables(stamps: usize, samples: usize, bits: usize, rows: u64, k: usize, m: usize) -> bool
     requires k { k < 1000000 }
     requires m { m < 1000000 }
@@ -142,8 +143,8 @@ fn are_tables(stamps: usize, samples: usize, bits: usize, rows: u64, k: usize, m
     stamps as u64 == rows && are(samples, rows, k) && are(bits, rows, m)
 }
 
-/// Fills the tables with the rows that BINARY data say under their head; false where one of the tables isn't as long as they want, and
-/// then all are left alone, as they are where the data have a fault.
+/// Fills the tables with the rows of BINARY data under their head. If a table doesn't have the
+/// length that they need, it returns false. Neither that nor an error (`Length`) changes a table.
 pub(crate) fn binary_rows(
     head: &Head<&Bump>,
     dat: &[u8],

@@ -14,8 +14,9 @@ use comtrade_format::{Head, Rate, nearest_f64};
 use dfr_channels::{AnalogChannel, Memory, Side, StatusChannel};
 use std::alloc::{AllocError, Global};
 
-/// An analogue channel: its value is a·x + b of a sample x from min to max; the skew in microseconds; the transformer's ratio, and the
-/// side of it that the values are of.
+/// An analogue channel. A sample x, from `min` to `max`, has the value a·x + b. `skew` is in
+/// microseconds. `primary` and `secondary` are the transformer's ratio, and `on_secondary` is
+/// whether the values are of its secondary side.
 #[repr(C)]
 #[derive(Clone, Copy)]
 pub(crate) struct Analog {
@@ -29,7 +30,7 @@ pub(crate) struct Analog {
     pub on_secondary: bool,
 }
 
-/// A rate in scans a second, and the last row that was sampled at it.
+/// A rate in scans per second, and the number of the last row sampled at it.
 #[repr(C)]
 #[derive(Clone, Copy)]
 pub(crate) struct RateEnd {
@@ -113,7 +114,8 @@ fn tables_of(alloc: Global, head: &Head) -> Result<Tables, Memory>
     })
 }
 
-/// Copies a head's tables into those of the caller; false where one of these isn't as long, and then all are left alone.
+/// Copies a head's tables into those of the caller. If one of these doesn't have the same length,
+/// it returns false and changes none.
 fn fill(
     all: &Tables,
     analog: &mut [Analog],
@@ -154,7 +156,10 @@ fn fill(
     true
 }
 
-/// All channels, rates and texts of a configuration file, in tables of the caller.
+/// Copies all channels, rates and texts of a configuration file into tables of the caller.
+///
+/// Returns `DONE`, `CFG_FAULT` with the file's first error in `fault`, `NO_ROOM` if a table doesn't
+/// have the length that it must have, or `NO_MEMORY`. Only `DONE` changes the tables.
 #[unsafe(no_mangle)]
 pub extern "C" fn comtrade_core_channels(
     alloc: Global,

@@ -1,5 +1,6 @@
-//! Reading and writing COMTRADE files from C: `comtrade.h` says what each call takes and answers. A pair is handed over as bytes with
-//! each call, and what a call says goes into numbers and buffers of the caller; nothing stays in memory after a call.
+//! The calls below `examples/embedding/comtrade.h`, which read and write COMTRADE files for C. Each
+//! call takes a pair of files as bytes, and puts its results into variables and buffers of the
+//! caller. Nothing stays in memory after a call.
 #![tactic(auto)]
 
 mod answer;

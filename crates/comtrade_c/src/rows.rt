@@ -1,4 +1,4 @@
-//! The rows of a pair, as tables of numbers.
+//! Reads the rows of a pair as tables of numbers.
 
 ghost use Rattle.std.specs.Prelude.{◌≡◌, ◌≢◌, ◌⊎◌, ◌+◌, ◌<◌, length, map, Ok, IfErr, IsTrue, IsFalse, true, false};
 ghost use Rattle.comtrade_read.specs.declared.fault.ReadFault.TheVariants as faults;
@@ -16,9 +16,9 @@ use comtrade_read::{ReadFault, read_dat};
 use dfr_channels::Reading;
 use std::alloc::Global;
 
-/// What stands for a reading that is missing.
+/// The sample of a missing reading.
 pub(crate) const NO_SAMPLE: i32 = i32::MIN;
-/// What stands for a stamp that is missing.
+/// The stamp of a row without one.
 pub(crate) const NO_STAMP: u64 = u64::MAX;
 
 fn sample_of(reading: Reading) -> i32
@@ -45,7 +45,7 @@ fn stamp_of(stamp: Option<u64>) -> u64
     }
 }
 
-/// Whether tables of these lengths have a place for each sample and for each bit of the rows, and no other.
+/// Whether tables of these lengths have exactly the samples and the bits of the rows.
 fn hold(samples: usize, bits: usize, rows: &[Row<&Bump>]) -> bool
     ensures samples { IsTrue result → samples ≡ length (tables.samples_of rows.now) }
     ensures bits { IsTrue result → bits ≡ length (tables.bits_of rows.now) }
@@ -64,7 +64,7 @@ fn hold(samples: usize, bits: usize, rows: &[Row<&Bump>]) -> bool
     more_samples == 0 && more_bits == 0
 }
 
-/// The samples of one row.
+/// Fills the samples of one row.
 fn put_row(to: &mut [i32], readings: &[Reading])
     requires { length to.old ≡ length readings.now }
     ensures { to.new ≡ map tables.sample_of readings.now }
@@ -74,7 +74,7 @@ fn put_row(to: &mut [i32], readings: &[Reading])
     }
 }
 
-/// The bits of one row.
+/// Fills the bits of one row.
 fn put_row_bits(to: &mut [u8], bits: &[bool])
     requires { length to.old ≡ length bits.now }
     ensures { to.new ≡ map tables.bit_of bits.now }
@@ -84,7 +84,7 @@ fn put_row_bits(to: &mut [u8], bits: &[bool])
     }
 }
 
-/// The stamp, the samples and the bits of each row.
+/// Fills the stamp, the samples and the bits of each row.
 fn put_rows(stamps: &mut [u64], samples: &mut [i32], bits: &mut [u8], rows: &[Row<&Bump>])
     requires stamps { length stamps.old ≡ length rows.now }
     requires samples { length samples.old ≡ length (tables.samples_of rows.now) }
@@ -105,7 +105,8 @@ fn put_rows(stamps: &mut [u64], samples: &mut [i32], bits: &mut [u8], rows: &[Ro
     }
 }
 
-/// Fills the tables; false where one of them isn't as long as the rows want, and then all are left alone.
+/// Fills the tables. If one of them doesn't have the length that the rows need, it returns false
+/// and changes none.
 fn fill(rows: &[Row<&Bump>], stamps: &mut [u64], samples: &mut [i32], bits: &mut [u8]) -> bool
     ensures stamps { IsTrue result → stamps.new ≡ tables.stamps_of rows.now }
     ensures samples { IsTrue result → samples.new ≡ tables.samples_of rows.now }
@@ -124,8 +125,8 @@ fn fill(rows: &[Row<&Bump>], stamps: &mut [u64], samples: &mut [i32], bits: &mut
     true
 }
 
-/// Fills the tables with the rows that data say under their head: straight from the data where they are BINARY, else from the rows that are
-/// read first; false as `fill` says it. After a fault, too, all are left alone.
+/// Fills the tables with the rows of a data file under its head: BINARY data directly, ASCII data
+/// from rows that are read first. Returns false as `fill` does. An error changes no table either.
 fn rows_under<'a>(
     lists: &'a Bump,
     head: Head<&'a Bump>,
@@ -152,7 +153,11 @@ fn rows_under<'a>(
     }
 }
 
-/// The rows of a pair: a stamp for each row, and row by row a sample for each analogue channel and a bit for each status channel.
+/// Reads the rows of a pair into tables: a stamp per row, and row by row a sample per analogue
+/// channel and a bit per status channel.
+///
+/// Returns `DONE`, `CFG_FAULT` or `DAT_FAULT` with the first error in `fault`, `NO_ROOM` if a table
+/// doesn't have the length that it must have, or `NO_MEMORY`. Only `DONE` changes the tables.
 #[unsafe(no_mangle)]
 pub extern "C" fn comtrade_core_rows(
     alloc: Global,
@@ -174,7 +179,7 @@ pub extern "C" fn comtrade_core_rows(
     ensures bits_kept { (result ≢ DONE) → bits.new ≡ bits.old }
     ensures fault_kept { (result ≢ CFG_FAULT) → (result ≢ DAT_FAULT) → fault.new ≡ fault.old }
 {
-    // a file's lists are given up together: one by one that took a tenth of the instructions
+    // a file's lists are freed together: freeing each took a tenth of the instructions
     let lists = Bump::new(alloc);
     let head = match head_of(&lists, cfg, fault) {
         Ok(head) => head,

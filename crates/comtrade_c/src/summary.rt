@@ -1,4 +1,4 @@
-//! What a configuration file says as a whole.
+//! Summarizes a configuration file.
 
 ghost use Rattle.std.specs.Prelude.{◌≡◌, ◌≢◌, ◌⊎◌, IfOk};
 ghost use Rattle.comtrade_read.specs.Head.{last_sample};
@@ -11,22 +11,31 @@ use comtrade_format::{Head, Kind, Rate, nearest_f64};
 use dfr_channels::Memory;
 use std::alloc::Global;
 
-/// How many rows, channels and rates there are, and how long all texts are together; the instants of the first row and of the trigger,
-/// in microseconds since 1970-01-01 00:00:00; the line frequency in Hz; what the stamps are multiplied by; the number of rates as the
-/// file says it; whether the data are binary.
+/// The content of a configuration file, except its channels, rates and texts.
 #[repr(C)]
 #[derive(Clone, Copy)]
 pub(crate) struct Summary {
+    /// The number of rows.
     pub rows: u64,
+    /// The number of analogue channels.
     pub analog: usize,
+    /// The number of status channels.
     pub status: usize,
+    /// The number of rates, at least one.
     pub rates: usize,
+    /// The length of all texts together, in bytes.
     pub text: usize,
+    /// The instant of the first row, in microseconds since 1970-01-01 00:00:00.
     pub first: i64,
+    /// The instant of the trigger, in the same unit.
     pub trigger: i64,
+    /// The line frequency in Hz.
     pub line_freq: f64,
+    /// The factor that turns stamps into microseconds.
     pub timemult: f64,
+    /// The number of rates as the file gives it.
     pub nrates: u32,
+    /// Whether the data file is BINARY.
     pub binary: bool,
 }
 
@@ -58,7 +67,8 @@ fn summary_of(alloc: Global, head: &Head) -> Result<Summary, Memory>
     })
 }
 
-/// What a configuration file says as a whole, or its first fault.
+/// Summarizes a configuration file. Returns `DONE`, `CFG_FAULT` with the file's first error in
+/// `fault`, or `NO_MEMORY`. Only `DONE` changes `summary`.
 #[unsafe(no_mangle)]
 pub extern "C" fn comtrade_core_head(
     alloc: Global,

@@ -1,4 +1,4 @@
-//! All texts of a configuration file, one after the other.
+//! Collects the texts of a configuration file.
 
 ghost use Rattle.std.specs.Prelude.{◌≡◌, ◌++◌, ◌∷◌, [], length, OnOk, IfOk};
 ghost use Rattle.comtrade_c.specs.Channels as spec;
@@ -7,7 +7,7 @@ use comtrade_format::Head;
 use dfr_channels::Items;
 use std::alloc::{AllocError, Global};
 
-/// Texts one after the other, and how long each is.
+/// The texts one after the other, and the length of each in bytes.
 #[derive(Drop)]
 pub(crate) struct Texts {
     pub bytes: Vec<u8>,
@@ -25,7 +25,7 @@ impl Texts {
         Ok(())
     }
 
-    /// The texts that a channel of either kind has.
+    /// Appends the texts that both kinds of channel have.
     fn put_names(
         &mut self,
         id: &Items<u8>,

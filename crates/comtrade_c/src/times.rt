@@ -1,4 +1,4 @@
-//! When the rows of a pair were taken.
+//! Computes when the rows of a pair were sampled.
 
 ghost use Rattle.std.specs.Prelude.{◌≡◌, ◌≢◌, ◌⊎◌, length};
 ghost use Rattle.comtrade_c.specs.declared.answer.TheConstants.{NO_MEMORY};
@@ -10,7 +10,7 @@ use crate::write::stamp_of;
 use comtrade_format::{Head, clock_of};
 use std::alloc::{Allocator, Global};
 
-/// What stands for a time that isn't there, or has more than 63 bits.
+/// The time of a row that has none, or whose time needs more than 63 bits.
 const NO_TIME: i64 = i64::MIN;
 
 fn time_in(nanos: Option<u128>) -> i64
@@ -22,14 +22,14 @@ fn time_in(nanos: Option<u128>) -> i64
     }
 }
 
-/// When each row was taken, from the first one on.
+/// Computes the time of each row, starting with the first row of the file.
 fn put_times<A: Allocator>(head: &Head<A>, stamps: &[u64], times: &mut [i64])
     requires { length times.old ≡ length stamps.now }
     ensures { times.new ≡ spec.times_in head.now stamps.now }
 {
     let mut clock = clock_of(head);
     for (k, stamp) in stamps.iter().enumerate() {
-        // a clock that begins some rows before is as quick
+        // a clock that starts some rows earlier is as fast
         if k % 256 == 0 {
             clock = clock.at(k as u64);
         }
@@ -37,7 +37,11 @@ fn put_times<A: Allocator>(head: &Head<A>, stamps: &[u64], times: &mut [i64])
     }
 }
 
-/// When the rows with these stamps were taken, from the first row on, in nanoseconds since it.
+/// Computes the times of the rows with these stamps, starting with the first row of the file, in
+/// nanoseconds since that row. A row without a time gets -2^63.
+///
+/// Returns `DONE`, `NO_ROOM` if `times` isn't as long as `stamps`, `CFG_FAULT` with `fault` set, or
+/// `NO_MEMORY`. Only `DONE` changes `times`.
 #[unsafe(no_mangle)]
 pub extern "C" fn comtrade_core_times(
     alloc: Global,

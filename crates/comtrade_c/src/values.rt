@@ -1,4 +1,4 @@
-//! Samples as values.
+//! Converts samples to values.
 
 ghost use Rattle.std.specs.Prelude.{◌≡◌, ◌≢◌, ◌⊎◌, length, map};
 ghost use Rattle.comtrade_c.specs.Values as spec;
@@ -7,7 +7,7 @@ use crate::answer::{DONE, NO_ROOM};
 use crate::rows::NO_SAMPLE;
 use comtrade_format::Scale;
 
-/// What stands for the value of a reading that is missing.
+/// The value of a missing reading.
 pub(crate) const NO_VALUE: f64 = f64::NAN;
 
 fn value_of(scale: Scale, sample: i32) -> f64
@@ -20,7 +20,8 @@ fn value_of(scale: Scale, sample: i32) -> f64
     }
 }
 
-/// The values a·x + b of samples x, and a NaN of each that is missing.
+/// Computes the value a·x + b of each sample x; a missing sample (-2^31) gives a NaN. Returns
+/// `DONE`, or `NO_ROOM`, with nothing changed, if `values` isn't as long as `samples`.
 #[unsafe(no_mangle)]
 pub extern "C" fn comtrade_core_values(a: f64, b: f64, samples: &[i32], values: &mut [f64]) -> i32
     ensures answer { (result ≡ DONE) ⊎ (result ≡ NO_ROOM) }

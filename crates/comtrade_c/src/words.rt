@@ -1,4 +1,4 @@
-//! What is wrong with a pair, in words.
+//! Describes the first error of a pair in words.
 
 ghost use Rattle.std.specs.Prelude.{◌≡◌, ◌≢◌, ◌⊎◌, IfOk};
 ghost use Rattle.comtrade_c.specs.Words.{AreWords, Says, LacksRoom};
@@ -9,7 +9,7 @@ use comtrade_diagnostics::{Pair, put_fault};
 use comtrade_read::verdict_of;
 use std::alloc::{AllocError, Global};
 
-/// The line of a pair's first fault; no word where it has none.
+/// The line that describes a pair's first error; empty if it has none.
 fn words_of<'a>(lists: &'a Bump, pair: Pair<'_>) -> Result<Vec<u8, &'a Bump>, AllocError>
     ensures { IfOk result (λ words.
         AreWords pair.entry.cfg.now pair.entry.dat.now words.items) }
@@ -23,7 +23,11 @@ fn words_of<'a>(lists: &'a Bump, pair: Pair<'_>) -> Result<Vec<u8, &'a Bump>, Al
     Ok(words)
 }
 
-/// The first fault of a pair as a line: the file, the line, the field, what stands there and what is wanted; nothing where it has none.
+/// Describes the first error of a pair in a line: the file, the line, the field, what was found and
+/// what was expected. The line is at the start of `text`. `count` is its length in bytes with the
+/// line feed at its end, 0 if the pair has no error.
+///
+/// Returns `DONE`, `NO_ROOM` if `text` is shorter than the `count` that is set, or `NO_MEMORY`.
 #[unsafe(no_mangle)]
 pub extern "C" fn comtrade_core_words(
     alloc: Global,

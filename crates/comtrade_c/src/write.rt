@@ -1,4 +1,4 @@
-//! Writing a pair.
+//! Writes a pair.
 
 ghost use Rattle.std.specs.Prelude.{◌≡◌, ◌≢◌, ◌⊎◌, ◌+◌, length, map, take, drop, IfOk, IfErr};
 ghost use Rattle.comtrade_format.specs.Refusals.{Fails};
@@ -15,7 +15,7 @@ use comtrade_read::file_reads_back;
 use dfr_channels::{Items, Reading};
 use std::alloc::{AllocError, Global};
 
-/// How long the two files are.
+/// The lengths of the two files, in bytes.
 #[repr(C)]
 #[derive(Clone, Copy)]
 pub(crate) struct Sizes {
@@ -59,7 +59,7 @@ fn flags_of(alloc: Global, bits: &[u8]) -> Result<Items<bool>, AllocError>
     Ok(Items::of(list))
 }
 
-/// One row: its number, its stamp, its samples and its bits.
+/// A row with this number, stamp, samples and bits.
 fn row_of(
     alloc: Global,
     number: u64,
@@ -77,7 +77,7 @@ fn row_of(
     })
 }
 
-/// The first so many of a list, and the rest; fewer where it is shorter.
+/// The first `count` items of a list (all if it is shorter), and the rest.
 fn cut<T>(list: &[T], count: usize) -> (&[T], &[T])
     ensures front { result.0.now ≡ take count list.now }
     ensures back { result.1.now ≡ drop count list.now }
@@ -109,7 +109,7 @@ fn rows_of(
     Ok(Items::of(rows))
 }
 
-/// The rates, the last of which ends with the last row.
+/// The rates, with the last one ending at the last row.
 #[tactic(auto, using(crate::proofs::Tables::last_ends))]
 fn rates_of(alloc: Global, rates: &[Rate], rows: usize) -> Result<Items<Rate>, AllocError>
     ensures { IfOk result (λ list. list ≡ spec.ending rows rates.now) }
@@ -126,7 +126,7 @@ fn rates_of(alloc: Global, rates: &[Rate], rows: usize) -> Result<Items<Rate>, A
     Ok(Items::of(list))
 }
 
-/// The two texts of a file, which read to it.
+/// The texts of the two files, which read back to `file`.
 fn texts_of(alloc: Global, file: &File) -> Result<(Vec<u8>, Vec<u8>), WriteFault>
     ensures texts { IfOk result (λ texts. AreTexts file.now texts.0.items texts.1.items) }
     ensures fault { IfErr result (λ why. Fails why (spec.refusal file.now)) }
@@ -143,7 +143,7 @@ fn kind_of(binary: bool) -> Kind
     if binary { Kind::Binary } else { Kind::Ascii }
 }
 
-/// The file with this head and these rows.
+/// The file with this head, this kind of data and these rows.
 fn file_of(
     alloc: Global,
     head: Head,
@@ -162,7 +162,7 @@ fn file_of(
     Ok(File { head, rows })
 }
 
-/// Writes the two texts of a file in front of the buffers, where they have room.
+/// Writes the texts of the two files to the start of the buffers, if they have room.
 fn write_file(
     alloc: Global,
     file: &File,
@@ -202,7 +202,13 @@ fn write_file(
     DONE
 }
 
-/// Writes a pair with the head that a configuration file says and these rows: what is written reads to that very file.
+/// Writes a pair with the head of this configuration file and the rows of these tables; the pair
+/// reads back to exactly that content. The rows are numbered from 1, the last rate ends at the last
+/// row, and `binary` sets the data type. Too few samples or bits are the error `Shape`; extra ones
+/// are ignored. The files are at the start of the buffers, and `sizes` are their lengths.
+///
+/// Returns `DONE`, `CFG_FAULT` or `WRITE_FAULT` with the first error in `fault`, `NO_ROOM` if a
+/// buffer is shorter than the `sizes` that are set, or `NO_MEMORY`.
 #[unsafe(no_mangle)]
 pub extern "C" fn comtrade_core_write(
     alloc: Global,

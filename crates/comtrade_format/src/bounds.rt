@@ -1,9 +1,10 @@
-//! Which numbers a data file can say.
+//! The limits of the numbers in a data file (C37.111-1999, clause 6).
 
 ghost use Rattle.std.specs.Prelude.{◌≡◌};
 ghost use Rattle.comtrade_format.specs.Refusals as spec;
 
-/// What the data files of one kind can say: values from `low` to `high`, row numbers and stamps up to these.
+/// The limits for one kind of data file. Values are from `low` to `high`, row numbers at most
+/// `number`, time stamps at most `stamp`.
 #[derive(Clone, Copy)]
 pub struct Bounds {
     pub low: i32,

@@ -1,4 +1,4 @@
-//! The bytes of a configuration file and of its data file.
+//! Builds the bytes of a configuration file and of its data file.
 
 ghost use Rattle.std.specs.Prelude.{◌≡◌, ◌<◌, None, true, IfOk};
 ghost use Rattle.comtrade_format.specs.Refusals as refusals;
@@ -39,7 +39,8 @@ fn cfg_fault<A: Allocator>(file: &File<A>) -> Option<WriteFault>
     first_text(head_of(file))
 }
 
-/// The configuration file (C37.111-1999, clause 5).
+/// The bytes of the configuration file (C37.111-1999, clause 5). Errors: `Shape`, else the first
+/// `Text`; `Memory` if an allocation failed.
 pub fn cfg_bytes<A: Allocator + Copy>(alloc: A, file: &File<A>) -> Result<Vec<u8, A>, WriteFault>
     ensures { Answers (λ v. v.items) result (cfg_refusal file.now) (cfg file.now.head) }
 {
@@ -64,8 +65,8 @@ fn data_fault<A: Allocator>(m: Bounds, file: &File<A>) -> Option<WriteFault>
     )
 }
 
-/// The most bytes that so many rows of k values and n bits take, with the byte that ends them: 24 for number, stamp and the line's end, 7 for
-/// each value, 2 for each bit.
+/// The most bytes that `rows` rows of k values and n bits take, with the byte that ends them. A row
+/// has 24 for number, stamp and line end, 7 for each value and 2 for each bit.
 fn ascii_size(k: usize, n: usize, rows: usize) -> usize
     requires many { k < 1000000 }
     requires few { n < 1000000 }
@@ -73,7 +74,7 @@ fn ascii_size(k: usize, n: usize, rows: usize) -> usize
     (24 + 7 * k + 2 * n).saturating_mul(rows).saturating_add(1)
 }
 
-/// The rows in ASCII form, or `None` where one of them isn't taken.
+/// The rows in ASCII form; None if one of them is out of range.
 fn ascii_text<A: Allocator + Copy>(
     alloc: A,
     file: &File<A>,
@@ -89,7 +90,9 @@ fn ascii_text<A: Allocator + Copy>(
     if all { Ok(Some(out)) } else { Ok(None) }
 }
 
-/// The data file in ASCII form (C37.111-1999, clause 6), whatever kind the head names.
+/// The bytes of the data file in ASCII form (C37.111-1999, clause 6), whatever kind the head
+/// names. Errors: `Shape`, else the first `Value`, else the first `Stamp`; `Memory` if an
+/// allocation failed.
 pub fn ascii_bytes<A: Allocator + Copy>(alloc: A, file: &File<A>) -> Result<Vec<u8, A>, WriteFault>
     ensures { Answers (λ v. v.items) result (data_refusal refusals.ascii_bounds file.now) (ascii file.now.rows) }
 {
@@ -105,7 +108,7 @@ pub fn ascii_bytes<A: Allocator + Copy>(alloc: A, file: &File<A>) -> Result<Vec<
     }
 }
 
-/// How many bytes so many rows of k values and n bits take.
+/// The bytes that `rows` rows of k values and n bits take.
 fn binary_size(k: usize, n: usize, rows: usize) -> usize
     requires many { k < 1000000 }
     requires few { n < 1000000 }
@@ -113,7 +116,7 @@ fn binary_size(k: usize, n: usize, rows: usize) -> usize
     (8 + 2 * k + 2 * ((n + 15) / 16)).saturating_mul(rows)
 }
 
-/// The rows in BINARY form, or `None` where one of them isn't taken.
+/// The rows in BINARY form; None if one of them is out of range.
 fn binary_text<A: Allocator + Copy>(
     alloc: A,
     file: &File<A>,
@@ -128,7 +131,8 @@ fn binary_text<A: Allocator + Copy>(
     if all { Ok(Some(out)) } else { Ok(None) }
 }
 
-/// The data file in BINARY form (C37.111-1999, clause 6), whatever kind the head names.
+/// The bytes of the data file in BINARY form (C37.111-1999, clause 6), whatever kind the head
+/// names. Errors: as for `ascii_bytes`, within the limits of BINARY data.
 pub fn binary_bytes<A: Allocator + Copy>(alloc: A, file: &File<A>) -> Result<Vec<u8, A>, WriteFault>
     ensures { Answers (λ v. v.items) result (data_refusal refusals.binary_bounds file.now) (binary file.now.rows) }
 {
@@ -144,7 +148,8 @@ pub fn binary_bytes<A: Allocator + Copy>(alloc: A, file: &File<A>) -> Result<Vec
     }
 }
 
-/// The data file in the form of the head's kind (C37.111-1999, clause 6).
+/// The bytes of the data file in the form that the head's kind names (C37.111-1999, clause 6).
+/// Errors: those of `ascii_bytes` or of `binary_bytes`.
 pub fn dat_bytes<A: Allocator + Copy>(alloc: A, file: &File<A>) -> Result<Vec<u8, A>, WriteFault>
     ensures { Answers (λ v. v.items) result (dat_refusal file.now.head.kind file.now) (dat file.now.head.kind file.now) }
 {

@@ -1,4 +1,4 @@
-//! The lines of the configuration file (C37.111-1999, clause 5).
+//! Writes the lines of the configuration file (C37.111-1999, clause 5).
 
 ghost use Rattle.std.specs.Prelude.{◌≡◌, ◌++◌, ◌∷◌, ◌<◌, ◌+◌, [], OnOk, length, map, decimal, true};
 ghost use Rattle.std.specs.List.{flat_map};
@@ -58,7 +58,7 @@ fn put_top<A: Allocator>(
     put_counts(out, k, m)
 }
 
-/// The fields of an analogue line up to the unit.
+/// Writes the first five fields of an analogue line: number, id, phase, component and unit.
 fn analog_names<A: Allocator>(
     out: &mut Vec<u8, A>,
     n: u64,
@@ -74,7 +74,7 @@ fn analog_names<A: Allocator>(
     text_field(out, channel.unit.items())
 }
 
-/// The fields from a to max.
+/// Writes the fields a, b, skew, min and max.
 fn analog_scale<A: Allocator>(
     out: &mut Vec<u8, A>,
     channel: &AnalogChannel<A>,
@@ -170,7 +170,7 @@ fn put_channels<A: Allocator>(
     Ok(())
 }
 
-/// The lines up to the last channel's.
+/// Writes the lines up to the last channel's.
 fn put_front<A: Allocator>(out: &mut Vec<u8, A>, head: &Head<A>) -> Result<(), AllocError>
     requires { length head.now.analog + length head.now.status < 1000000 }
     ensures { OnOk result (out.new.items ≡ out.old.items ++ flat_map line (spec.channel_lines head.now.station head.now.device head.now.analog head.now.status)) }
@@ -250,7 +250,7 @@ fn put_last_lines<A: Allocator>(
     decimal_line(out, timemult)
 }
 
-/// All lines.
+/// Writes all lines.
 pub(crate) fn put_head<A: Allocator>(out: &mut Vec<u8, A>, head: &Head<A>) -> Result<(), AllocError>
     requires few { length head.now.analog + length head.now.status < 1000000 }
     requires first { is_writable head.now.first ≡ true }

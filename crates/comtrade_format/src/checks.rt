@@ -1,4 +1,4 @@
-//! The first value and the first stamp that a data file can't say.
+//! Finds the first value, row number or time stamp that a data file can't hold.
 
 ghost use Rattle.std.specs.Prelude.{◌≡◌, ◌<◌, ◌+◌, true, length};
 ghost use Rattle.std.specs.List.{list_all};
@@ -38,7 +38,7 @@ fn takes_times<A: Allocator>(m: Bounds, row: &Row<A>) -> bool
     row.number <= m.number && takes_stamp(m, row.stamp)
 }
 
-/// Whether each value is taken. It has no branch, since nearly every row passes.
+/// Whether all values are in range. It checks them without a branch, since nearly every row passes.
 fn takes_all(m: Bounds, values: &[Reading]) -> bool
     ensures { result ≡ list_all (spec.takes_reading m) values.now }
 {
@@ -49,7 +49,7 @@ fn takes_all(m: Bounds, values: &[Reading]) -> bool
     all
 }
 
-/// Whether a row's values, number and stamp are taken.
+/// Whether a row's values, number and stamp are in range.
 pub(crate) fn takes_row<A: Allocator>(m: Bounds, row: &Row<A>) -> bool
     ensures { result ≡ spec.takes_row m row.now }
 {
@@ -71,7 +71,7 @@ fn values_fault(m: Bounds, row: u64, values: &[Reading]) -> Option<WriteFault>
     None
 }
 
-/// The first stamp's fault so far, and that of one more row.
+/// The earlier `Stamp` error if there is one, else that of this row.
 fn with_stamp<A: Allocator>(
     m: Bounds,
     late: Option<WriteFault>,
@@ -92,7 +92,7 @@ fn with_stamp<A: Allocator>(
     }
 }
 
-/// The first value or else the first stamp that isn't taken, in one pass.
+/// The first value out of range, else the first row number or stamp out of range, in one pass.
 pub(crate) fn rows_fault<A: Allocator>(
     m: Bounds,
     k: usize,

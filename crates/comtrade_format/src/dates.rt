@@ -1,4 +1,4 @@
-//! Instants as the date and time stamps of a configuration file (C37.111-1999, 5.3.7).
+//! Writes instants as the date and time stamps of a configuration file (C37.111-1999, 5.3.7).
 
 ghost use Rattle.std.specs.Prelude.{◌≡◌, ◌++◌, ◌<◌, ℤ, pos, neg_ℤ, OnOk};
 ghost use Rattle.jiff_core.specs.Calendar.{IsBetween};
@@ -8,7 +8,7 @@ ghost use Rattle.comtrade_format.specs.Dates.{civil_of, date_text, time_text, in
 use jiff_core::civil::Date;
 use std::alloc::{AllocError, Allocator};
 
-/// Microseconds.
+/// Microseconds per day.
 const DAY: i64 = 86_400_000_000;
 
 fn put_two<A: Allocator>(out: &mut Vec<u8, A>, n: u32) -> Result<(), AllocError>
@@ -36,7 +36,7 @@ fn put_six<A: Allocator>(out: &mut Vec<u8, A>, n: u32) -> Result<(), AllocError>
     put_two(out, n % 100)
 }
 
-/// The time of day of so many microseconds since midnight.
+/// Writes a time of day, given in microseconds since midnight.
 fn put_time<A: Allocator>(out: &mut Vec<u8, A>, us: u64) -> Result<(), AllocError>
     requires { us < 86400000000 }
     ensures { OnOk result (out.new.items ≡ out.old.items ++ time_text us) }
@@ -50,7 +50,7 @@ fn put_time<A: Allocator>(out: &mut Vec<u8, A>, us: u64) -> Result<(), AllocErro
     put_six(out, (us % 1_000_000) as u32)
 }
 
-/// The civil date of a day, which is counted from 1970-01-01.
+/// Writes the date of a day, counted from 1970-01-01.
 fn put_date<A: Allocator>(out: &mut Vec<u8, A>, day: i64) -> Result<(), AllocError>
     requires { IsBetween (neg_ℤ (pos 719162)) (pos 2932896) day }
     ensures { OnOk result (out.new.items ≡ out.old.items ++ date_text (civil_of day)) }
@@ -65,7 +65,7 @@ fn put_date<A: Allocator>(out: &mut Vec<u8, A>, day: i64) -> Result<(), AllocErr
     put_four(out, date.year.unsigned_abs() as u32)
 }
 
-/// The date and the time of an instant of the years 1 to 9999, with the comma between them.
+/// Writes the date and time of an instant, with a comma between them. Its year is from 1 to 9999.
 pub(crate) fn put_instant<A: Allocator>(
     out: &mut Vec<u8, A>,
     instant: i64,

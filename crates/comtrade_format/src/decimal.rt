@@ -1,4 +1,4 @@
-//! Decimals as text.
+//! Writes decimals as text.
 
 ghost use Rattle.std.specs.Prelude.{◌≡◌, ◌++◌, ◌∷◌, [], OnOk};
 ghost use Rattle.std.specs.List.{repeat};
@@ -17,7 +17,8 @@ fn put_zeros<A: Allocator>(out: &mut Vec<u8, A>, n: usize) -> Result<(), AllocEr
     Ok(())
 }
 
-/// The digits with a point before the last `places` of them, and a digit before the point.
+/// Writes the digits with a point before the last `places` of them, and at least one digit before
+/// the point. Without places there is no point.
 fn put_pointed<A: Allocator>(
     out: &mut Vec<u8, A>,
     digits: &[u8],
@@ -40,8 +41,11 @@ fn put_pointed<A: Allocator>(
     out.extend_from_slice(digits)
 }
 
-/// Appends a decimal's text as the configuration file has it (C37.111-1999, clause 5): its digits with a point before the last `places` of
-/// them, zeros in front so that a digit stands before the point, and a minus where it is below 0.
+/// Appends a decimal as the configuration file writes it (C37.111-1999, clause 5). The text is a
+/// minus sign for a negative number, then the digits with a point before the last `places` of them.
+/// At least one digit precedes the point.
+///
+/// `AllocError`: an allocation failed. Part of the text may then have been appended.
 pub fn put_decimal<A: Allocator>(out: &mut Vec<u8, A>, d: Decimal) -> Result<(), AllocError>
     ensures { OnOk result (out.new.items ≡ out.old.items ++ decimal_text d) }
 {

@@ -1,4 +1,4 @@
-//! Fields and lines of the configuration file (C37.111-1999, clause 5).
+//! Writes fields and lines of the configuration file (C37.111-1999, clause 5).
 
 ghost use Rattle.std.specs.Prelude.{◌≡◌, ◌++◌, ◌∷◌, [], OnOk, decimal};
 ghost use Rattle.std.specs.Fmt.{signed_decimal};
@@ -16,7 +16,7 @@ pub(crate) fn end_line<A: Allocator>(out: &mut Vec<u8, A>) -> Result<(), AllocEr
     out.extend_from_slice(b"\r\n")
 }
 
-/// A field that another one follows, as the next three.
+/// Writes a text and the comma after it. The next three functions do the same for numbers.
 #[tactic(auto, unfolding(crate::specs::Lines::field))]
 pub(crate) fn text_field<A: Allocator>(out: &mut Vec<u8, A>, text: &[u8]) -> Result<(), AllocError>
     ensures { OnOk result (out.new.items ≡ out.old.items ++ field text.now) }
@@ -56,7 +56,7 @@ pub(crate) fn signed_field<A: Allocator>(out: &mut Vec<u8, A>, n: i32) -> Result
     Ok(())
 }
 
-/// A line of this one field, as the next.
+/// Writes a line whose only field is a decimal. The next function does the same for an integer.
 #[tactic(auto, unfolding(crate::specs::Lines::line))]
 pub(crate) fn decimal_line<A: Allocator>(out: &mut Vec<u8, A>, d: Decimal) -> Result<(), AllocError>
     ensures { OnOk result (out.new.items ≡ out.old.items ++ line (decimal_text d ∷ [])) }

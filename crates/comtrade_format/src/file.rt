@@ -1,38 +1,51 @@
-//! What a configuration file and its data file say.
+//! The content of a configuration file and its data file.
 
 use dfr_channels::{AnalogChannel, Decimal, Items, Reading, StatusChannel};
 use std::alloc::{Allocator, Global};
 use std::marker::Model;
 
-/// The form of the data file (C37.111-1999, 5.3.8).
+/// The type of the data file (C37.111-1999, 5.3.8).
 #[derive(Clone, Copy, Debug, PartialEq, Eq)]
 pub enum Kind {
+    /// One line of text per row.
     Ascii,
+    /// Rows of fixed length, with little-endian numbers.
     Binary,
 }
 
-/// A sampling rate in scans a second, and the number of the last row that was sampled at it (5.3.6).
+/// A sampling rate (5.3.6).
 #[derive(Clone, Copy, Debug)]
 pub struct Rate {
+    /// Scans per second.
     pub samp: Decimal,
+    /// The number of the last row sampled at this rate.
     pub endsamp: u64,
 }
 
-/// What a configuration file says (clause 5). `first` and `trigger` are microseconds since 1970-01-01 00:00:00; `timemult`
-/// multiplies the stamps of the data file (5.3.9); `line_freq` is in Hz. `nrates` is the number of rates as the file says it:
-/// where it is 0, `rates` has one all the same (5.3.6).
+/// The content of a configuration file (clause 5).
 #[derive(Drop, Debug)]
 pub struct Head<A: Allocator = Global> {
+    /// The station's name (5.3.1).
     pub station: Items<u8, A>,
+    /// The recording device (5.3.1).
     pub device: Items<u8, A>,
+    /// The analogue channels, in the order of the file (5.3.3).
     pub analog: Items<AnalogChannel<A>, A>,
+    /// The status channels (contacts), in the order of the file (5.3.4).
     pub status: Items<StatusChannel<A>, A>,
+    /// The line frequency in Hz (5.3.5).
     pub line_freq: Decimal,
+    /// The number of rates as the file gives it. If it is 0, `rates` still has one entry (5.3.6).
     pub nrates: u32,
+    /// The sampling rates (5.3.6).
     pub rates: Items<Rate, A>,
+    /// The instant of the first row, in microseconds since 1970-01-01 00:00:00 (5.3.7).
     pub first: i64,
+    /// The instant of the trigger, in the same unit.
     pub trigger: i64,
+    /// The type of the data file (5.3.8).
     pub kind: Kind,
+    /// The factor that turns time stamps into microseconds (5.3.9).
     pub timemult: Decimal,
 }
 
@@ -56,13 +69,16 @@ impl<A: Allocator> Model for Head<A> {
     } };
 }
 
-/// A row of a data file (clause 6): its number, its time stamp where there is one (times `timemult` it is in microseconds), a value for each
-/// analogue channel and a bit for each status channel.
+/// A row of a data file (clause 6): one scan.
 #[derive(Drop, Debug)]
 pub struct Row<A: Allocator = Global> {
+    /// The row's number.
     pub number: u64,
+    /// The time stamp, if the row has one. Times `timemult` it is in microseconds.
     pub stamp: Option<u64>,
+    /// One reading for each analogue channel.
     pub values: Items<Reading, A>,
+    /// One bit for each status channel.
     pub bits: Items<bool, A>,
 }
 
@@ -74,10 +90,12 @@ impl<A: Allocator> Model for Row<A> {
     ghost view = { λ r. record { number = r.number; stamp = r.stamp; values = r.values; bits = r.bits } };
 }
 
-/// A configuration file and its data file.
+/// A configuration file with its data file.
 #[derive(Drop, Debug)]
 pub struct File<A: Allocator = Global> {
+    /// The content of the configuration file.
     pub head: Head<A>,
+    /// The rows of the data file.
     pub rows: Items<Row<A>, A>,
 }
 

@@ -1,5 +1,5 @@
-//! COMTRADE files of C37.111-1999: the value of a pair of files, the bytes that are written of it, and its numbers as a program computes
-//! with them.
+//! COMTRADE files (C37.111-1999) as values: the content of a configuration file and its data file,
+//! the bytes written for them, and their numbers in forms that a program can compute with.
 #![tactic(auto)]
 
 mod bounds;

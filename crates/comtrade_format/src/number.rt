@@ -1,4 +1,4 @@
-//! Whole numbers as text.
+//! Writes integers as decimal text.
 
 ghost use Rattle.std.specs.Prelude.{◌≡◌, ◌++◌, OnOk, decimal};
 ghost use Rattle.std.specs.Fmt.{signed_decimal};

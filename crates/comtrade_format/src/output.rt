@@ -1,12 +1,13 @@
-//! Writing all of some bytes, and how many went out where that fails.
+//! Writes a whole slice, and reports how much was written if that fails.
 
 ghost use Rattle.std.specs.Prelude.{◌≡◌, ◌<◌, length, take, OnOk, IfErr};
 ghost use Rattle.std.specs.Io.KnownBytes.{Appends};
 
 use std::io::{Error, ErrorKind, Write};
 
-/// Writes all of the bytes. On a fault exactly the first so many of them were written; nothing is tried again. A write
-/// that takes none of them is `WriteZero`. An empty slice makes no call.
+/// Writes all bytes. An error comes with a number n: exactly the first n bytes were written, fewer
+/// than all. Nothing is retried. A write that takes no byte gives `WriteZero`. An empty slice makes
+/// no call.
 pub fn write_all_of<W: Write>(w: &mut W, bytes: &[u8]) -> Result<(), (usize, Error)>
     ensures all { OnOk result (Appends (W.contents w.old) (W.contents w.new) bytes.now) }
     ensures part { IfErr result (λ fault. Appends (W.contents w.old) (W.contents w.new) (take fault.0 bytes.now)) }

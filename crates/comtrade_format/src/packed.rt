@@ -1,4 +1,5 @@
-//! The values and the bits of a row of BINARY data (C37.111-1999, clause 6), read back. Every number has its least significant byte first.
+//! Reads the values and bits of a row of BINARY data (C37.111-1999, clause 6). Numbers
+//! are little-endian.
 
 ghost use Rattle.std.specs.Prelude.{◌≡◌, ◌≤◌, ◌<◌, ◌*◌, ◌+◌, ◌/◌, ◌++◌, length, min, IfOk};
 ghost use Rattle.std.specs.Vec.{vec_len, vec_capacity};
@@ -8,7 +9,7 @@ use byteorder::{ByteOrder, LittleEndian};
 use dfr_channels::Reading;
 use std::alloc::{AllocError, Allocator};
 
-/// The value in the first two bytes, in two's complement; the lowest stands for a missing one.
+/// The value in the first two bytes, in two's complement. The lowest, -32,768, means missing.
 #[inline]
 fn value_of(bytes: &[u8]) -> Reading
     requires { 2 ≤ length bytes.now }
@@ -22,7 +23,8 @@ fn value_of(bytes: &[u8]) -> Reading
     }
 }
 
-/// The first values, of two bytes each.
+/// Reads `count` values of two bytes each from the start of `bytes`, which must hold them all.
+/// -32,768 means missing. `AllocError`: an allocation failed.
 pub fn packed_values<A: Allocator>(
     alloc: A,
     bytes: &[u8],
@@ -38,7 +40,7 @@ pub fn packed_values<A: Allocator>(
     Ok(values)
 }
 
-/// Appends the lowest bits of a group, for which there is room.
+/// Appends the lowest `count` bits of a group. `bits` must have room for them.
 #[inline(always)]
 fn push_group<A: Allocator>(bits: &mut Vec<bool, A>, group: u16, count: usize)
     requires few { count ≤ 16 }
@@ -52,7 +54,7 @@ fn push_group<A: Allocator>(bits: &mut Vec<bool, A>, group: u16, count: usize)
     }
 }
 
-/// How many bits of a group are of channels, where so many channels are left.
+/// How many bits of the next group belong to channels, when `left` channels are left.
 #[inline]
 fn group_len(left: usize) -> usize
     ensures { result ≡ min left 16 }
@@ -60,7 +62,9 @@ fn group_len(left: usize) -> usize
     if left < 16 { left } else { 16 }
 }
 
-/// The first status bits, sixteen to a group of two bytes, the lowest channel in the lowest bit.
+/// Reads `count` status bits from the start of `bytes`, which must hold all their groups. A group
+/// has two bytes for 16 channels, the lowest channel in the lowest bit. `AllocError`: an
+/// allocation failed.
 pub fn packed_bits<A: Allocator>(
     alloc: A,
     bytes: &[u8],
@@ -71,7 +75,7 @@ pub fn packed_bits<A: Allocator>(
 {
     let mut bits = Vec::with_capacity(alloc, count)?;
     let whole = count / 16;
-    // a number, since the compiler lays a loop of sixteen out step by step, and another out in vectors
+    // a variable, since the compiler unrolls a loop of exactly sixteen but vectorizes this one
     let size = group_len(count);
     for i in 0..whole {
         let group = LittleEndian::read_u16(&bytes[2 * i..]);

@@ -1,4 +1,4 @@
-//! One part of a file each.
+//! Functions that return one part of a file.
 
 ghost use Rattle.std.specs.Prelude.{◌≡◌};
 

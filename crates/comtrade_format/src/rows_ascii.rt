@@ -1,4 +1,4 @@
-//! The lines of ASCII data (C37.111-1999, clause 6).
+//! Writes the lines of ASCII data (C37.111-1999, clause 6).
 
 ghost use Rattle.std.specs.Prelude.{◌≡◌, ◌++◌, ◌∷◌, ◌≤◌, ◌<◌, ◌*◌, ◌+◌, true, OnOk, IfOk, length, take};
 ghost use Rattle.std.specs.List.{flat_map, list_all};
@@ -27,7 +27,7 @@ fn put_stamp<A: Allocator>(out: &mut Vec<u8, A>, stamp: Option<u64>) -> Result<(
     }
 }
 
-/// Writes the values' fields from the slot's start on, and answers the place after them.
+/// Writes the value fields from the start of the buffer, and returns the position after them.
 fn write_readings(slot: &mut [u8], readings: &[Reading]) -> usize
     requires taken { list_all (spec.takes_reading spec.ascii_bounds) readings.now ≡ true }
     requires room { length slot.old ≡ 7 * length readings.now + 8 }
@@ -41,14 +41,14 @@ fn write_readings(slot: &mut [u8], readings: &[Reading]) -> usize
     at
 }
 
-/// The two bytes of a bit's field, the comma in the lower one.
+/// The two bytes of a bit's field, the comma in the lower byte.
 fn bit_word(bit: bool) -> u16
     ensures { little_bytes 2 result ≡ 44 ∷ bit_text bit }
 {
     if bit { 0x312C } else { 0x302C }
 }
 
-/// Fills the slot with the fields of a row's bits.
+/// Fills the buffer with the fields of a row's bits.
 fn write_bits(slot: &mut [u8], bits: &[bool])
     requires { length slot.old ≡ 2 * length bits.now }
     ensures { slot.new ≡ flat_map (λ b. 44 ∷ bit_text b) bits.now }
@@ -58,7 +58,7 @@ fn write_bits(slot: &mut [u8], bits: &[bool])
     }
 }
 
-/// A row's line, whose values and bits are put together in slots that are large enough for them.
+/// Appends a row's line. `values` and `bits` are buffers that are large enough, to build it in.
 fn put_row<A: Allocator>(
     out: &mut Vec<u8, A>,
     values: &mut [u8],
@@ -80,7 +80,7 @@ fn put_row<A: Allocator>(
     out.extend_from_slice(b"\r\n")
 }
 
-/// A line for each row, and whether every row is taken. At the first one that isn't the writing stops.
+/// Appends a line for each row. At the first row that is out of range it stops and returns false.
 pub(crate) fn put_rows<A: Allocator + Copy>(
     out: &mut Vec<u8, A>,
     k: usize,

@@ -1,4 +1,4 @@
-//! The rows of BINARY data (C37.111-1999, clause 6).
+//! Writes the rows of BINARY data (C37.111-1999, clause 6).
 
 ghost use Rattle.std.specs.Prelude.{◌≡◌, ◌++◌, ◌≤◌, ◌<◌, ◌*◌, ◌+◌, ◌/◌, true, OnOk, IfOk, length, take, drop};
 ghost use Rattle.std.specs.List.{flat_map, list_all};
@@ -15,7 +15,7 @@ use byteorder::{ByteOrder, LittleEndian};
 use dfr_channels::Reading;
 use std::alloc::{AllocError, Allocator};
 
-/// The number whose two bytes a reading is written as.
+/// The number written for a reading, in two bytes.
 fn word_of(reading: Reading) -> u16
     requires { takes_reading spec.binary_bounds reading ≡ true }
     ensures { result ≡ reading_number reading }
@@ -26,7 +26,7 @@ fn word_of(reading: Reading) -> u16
     }
 }
 
-/// Fills the slot with the values of a row.
+/// Fills the buffer with a row's values.
 fn write_readings(slot: &mut [u8], readings: &[Reading])
     requires taken { list_all (takes_reading spec.binary_bounds) readings.now ≡ true }
     requires room { length slot.old ≡ 2 * length readings.now }
@@ -37,7 +37,7 @@ fn write_readings(slot: &mut [u8], readings: &[Reading])
     }
 }
 
-/// Sixteen bits at most, the first one the least significant.
+/// At most sixteen bits as a number, the first bit least significant.
 #[inline(always)]
 fn group_of(bits: &[bool]) -> u16
     requires { length bits.now ≤ 16 }
@@ -50,7 +50,8 @@ fn group_of(bits: &[bool]) -> u16
     group as u16
 }
 
-/// The i-th sixteen bits as a number. The compiler knows how long a whole group is, and has no loop for it.
+/// The i-th group of sixteen bits as a number. For a whole group the compiler knows the length, and
+/// needs no loop.
 fn group_at(bits: &[bool], i: usize) -> u16
     requires { 16 * i < length bits.now }
     ensures { result ≡ bits_number (take 16 (drop (16 * i) bits.now)) }
@@ -63,7 +64,7 @@ fn group_at(bits: &[bool], i: usize) -> u16
     }
 }
 
-/// Fills the slot with the groups of sixteen bits of a row.
+/// Fills the buffer with a row's bits, in groups of sixteen.
 fn write_status(slot: &mut [u8], bits: &[bool])
     requires few { length bits.now < 1000000 }
     requires room { length slot.old ≡ 2 * ((length bits.now + 15) / 16) }
@@ -92,7 +93,7 @@ fn put_u32<A: Allocator>(out: &mut Vec<u8, A>, n: u32) -> Result<(), AllocError>
     out.extend_from_slice(&slot)
 }
 
-/// The bytes of a row, whose values and bits are put together in slots of their size.
+/// Appends the bytes of a row. `values` and `status` are buffers of the exact size, to build it in.
 fn put_row<A: Allocator>(
     out: &mut Vec<u8, A>,
     values: &mut [u8],
@@ -114,7 +115,7 @@ fn put_row<A: Allocator>(
     out.extend_from_slice(status)
 }
 
-/// The bytes of each row, and whether every row is taken. At the first one that isn't the writing stops.
+/// Appends the bytes of each row. At the first row that is out of range it stops and returns false.
 pub(crate) fn put_rows<A: Allocator + Copy>(
     out: &mut Vec<u8, A>,
     k: usize,

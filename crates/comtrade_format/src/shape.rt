@@ -1,4 +1,4 @@
-//! Whether a file has a shape that the forms can hold.
+//! Checks that the parts of a file match each other and keep to the limits of the format.
 
 ghost use Rattle.std.specs.Prelude.{◌≡◌};
 ghost use Rattle.std.specs.List.{list_all};
@@ -9,14 +9,14 @@ use crate::parts::{analog_of, head_of, rows_of, status_of};
 use dfr_channels::AnalogChannel;
 use std::alloc::Allocator;
 
-/// 1 to 999,999 channels together.
+/// Whether there are 1 to 999,999 channels in total.
 fn channels_fit(k: usize, m: usize) -> bool
     ensures { result ≡ spec.channels_fit k m }
 {
     k < 1_000_000 && m < 1_000_000 - k && 0 < k + m
 }
 
-/// As many rates as are wanted.
+/// Whether there are `nrates` rates, or one if that is 0, and at most 999.
 fn rates_counted<A: Allocator>(h: &Head<A>) -> bool
     ensures { result ≡ spec.rates_counted h.now }
 {
@@ -24,7 +24,7 @@ fn rates_counted<A: Allocator>(h: &Head<A>) -> bool
     h.nrates <= 999 && h.rates.items().len() == lines as usize
 }
 
-/// The last endsamp, where none is below the one before or too great.
+/// The last `endsamp`; None if one is below the one before it or over 9,999,999,999.
 fn rates_end(rates: &[Rate]) -> Option<u64>
     ensures { result ≡ spec.rates_end 0 rates.now }
 {
@@ -53,7 +53,7 @@ fn is_counted<A: Allocator>(h: &Head<A>, n: u64) -> bool
     is_some_of(rates_end(h.rates.items()), n)
 }
 
-/// An instant of the years 1 to 9999.
+/// Whether an instant is in the years 1 to 9999.
 fn is_writable(instant: i64) -> bool
     ensures { result ≡ spec.is_writable instant }
 {
@@ -114,7 +114,8 @@ fn rows_shaped<A: Allocator>(h: &Head<A>, rows: &[Row<A>]) -> bool
     rows.iter().all(|row| row_shaped(k, m, row))
 }
 
-/// Whether the file has the shape that its configuration says, each number in its range.
+/// Whether the parts of the file match each other, and its counts, instants and bounds are
+/// in range.
 #[tactic(auto, unfolding(crate::specs::Shape::is_shaped))]
 pub(crate) fn is_shaped<A: Allocator>(file: &File<A>) -> bool
     ensures { result ≡ spec.is_shaped file.now }

@@ -1,4 +1,4 @@
-//! The first text that a configuration file can't hold.
+//! Finds the first text that a configuration file can't hold.
 
 ghost use Rattle.std.specs.Prelude.{◌≡◌, ◌<◌, ◌+◌, true, length};
 ghost use Rattle.dfr_channels.specs.Texts.{is_plain};
@@ -74,7 +74,7 @@ fn names_fault<A: Allocator>(h: &Head<A>) -> Option<WriteFault>
     station.or(device)
 }
 
-/// The first text that breaks the rule.
+/// The first text that the configuration file can't hold.
 pub(crate) fn first_text<A: Allocator>(h: &Head<A>) -> Option<WriteFault>
     requires { length h.now.analog + length h.now.status < 1000000 }
     ensures { result ≡ spec.text_refusal h.now }

@@ -1,4 +1,4 @@
-//! The fields of values in ASCII data, written at a place in a slot (C37.111-1999, clause 6).
+//! Writes the value fields of ASCII data at a position in a buffer (C37.111-1999, clause 6).
 
 ghost use Rattle.std.specs.Prelude.{◌≡◌, ◌++◌, ◌∷◌, [], ◌+◌, ◌*◌, ◌/◌, ◌%◌, ◌<◌, ◌≤◌, true, if◌then◌else◌, unsigned_abs, length, take, decimal};
 ghost use Rattle.std.specs.Fmt.{signed_decimal};
@@ -23,7 +23,7 @@ const PAIRS: [u16; 100] = [
     0x3639, 0x3739, 0x3839, 0x3939,
 ];
 
-/// Two digits, the first in the lower byte.
+/// The two digits of a number, the first in the lower byte.
 pub(crate) fn pair_of(n: u64) -> u64
     requires { n < 100 }
     ensures { result ≡ (48 + n / 10) + 256 * (48 + n % 10) }
@@ -31,7 +31,7 @@ pub(crate) fn pair_of(n: u64) -> u64
     PAIRS[n as usize] as u64
 }
 
-/// Five digits with zeros in front, the first digit in the lowest byte.
+/// Five digits with leading zeros, the first in the lowest byte.
 fn five_digits(n: u32) -> u64
     requires { n < 100000 }
     ensures { little_bytes 5 result ≡ padded 5 n }
@@ -42,7 +42,7 @@ fn five_digits(n: u32) -> u64
     (48 + n / 10_000) + 256 * high + 16_777_216 * low
 }
 
-/// How many zeros stand in front, where five digits are written.
+/// How many leading zeros the number has when it is written with five digits.
 fn zeros_before(n: u32) -> usize
     requires { n < 100000 }
     ensures { result + length (decimal n) ≡ 5 }
@@ -60,7 +60,8 @@ fn zeros_before(n: u32) -> usize
     }
 }
 
-/// Writes a number's digits from the place on, and answers the place after them. Eight bytes are written in any case.
+/// Writes a number's digits at `at`, and returns the position after them. Eight bytes are
+/// overwritten in any case.
 fn write_digits(slot: &mut [u8], at: usize, n: u32) -> usize
     requires few { n < 100000 }
     requires room { at + 8 ≤ length slot.old }
@@ -72,7 +73,8 @@ fn write_digits(slot: &mut [u8], at: usize, n: u32) -> usize
     at + (5 - zeros)
 }
 
-/// Writes a comma and a minus from the place on, and answers the place after the minus, or after the comma where there is none.
+/// Writes a comma at `at`, and a minus sign if the number is negative. Returns the position after
+/// them. Two bytes are overwritten in any case.
 fn write_mark(slot: &mut [u8], at: usize, is_below: bool) -> usize
     requires { at + 2 ≤ length slot.old }
     ensures text { take result slot.new ≡ take at slot.old ++ 44 ∷ (if is_below then 45 ∷ [] else []) }
@@ -82,7 +84,7 @@ fn write_mark(slot: &mut [u8], at: usize, is_below: bool) -> usize
     if is_below { at + 2 } else { at + 1 }
 }
 
-/// The number that a reading is written as.
+/// The number written for a reading; 99,999 means missing.
 fn value_of(reading: Reading) -> i32
     requires { takes_reading ascii_bounds reading ≡ true }
     ensures text { signed_decimal result ≡ reading_text reading }
@@ -94,7 +96,7 @@ fn value_of(reading: Reading) -> i32
     }
 }
 
-/// Writes a comma and a reading from the place on, and answers the place after them.
+/// Writes a comma and a reading at `at`, and returns the position after them.
 pub(crate) fn write_reading(slot: &mut [u8], at: usize, reading: Reading) -> usize
     requires taken { takes_reading ascii_bounds reading ≡ true }
     requires room { at + 10 ≤ length slot.old }

@@ -1,5 +1,5 @@
-//! The numbers of a file as a program computes with them: scaled samples as decimals, exactly, and as floats, decimals as floats, instants as
-//! civil dates, when rows were taken, how many rows a cycle has.
+//! The numbers of a file, for computation: scaled samples as exact decimals and as floats, decimals
+//! as floats, instants as dates, the times of rows, and rows per cycle.
 
 mod aligned;
 mod civil;

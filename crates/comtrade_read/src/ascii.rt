@@ -1,4 +1,4 @@
-//! The lines of an ASCII data file.
+//! Reads the lines of an ASCII data file.
 
 ghost use Rattle.std.specs.Prelude.{◌≡◌, ◌+◌, ◌<◌, [], length, map};
 ghost use Rattle.std.specs.List.{before_first};
@@ -17,7 +17,7 @@ use dfr_channels::{Items, Reading, bit_of, integer_of};
 use memchr::memchr;
 use std::alloc::Allocator;
 
-/// A stamp, or none where nothing stands.
+/// Reads a time stamp; an empty field means none.
 #[tactic(auto, unfolding(crate::specs::Ascii::stamp))]
 fn stamp_of(text: &[u8]) -> Option<Option<u64>>
     ensures { result ≡ spec.stamp text.now }
@@ -31,7 +31,7 @@ fn stamp_of(text: &[u8]) -> Option<Option<u64>>
     }
 }
 
-/// A value; 99,999 and nothing stand for a missing one.
+/// Reads a value; 99,999 and an empty field mean missing.
 #[tactic(auto, unfolding(crate::specs::Ascii::value, crate::specs::Fields::small))]
 fn value_of(text: &[u8]) -> Option<Reading>
     ensures { result ≡ spec.value text.now }
@@ -46,7 +46,7 @@ fn value_of(text: &[u8]) -> Option<Reading>
     }
 }
 
-/// A row of k values and m bits whose fields are as many.
+/// Reads a row of k values and m bits from a line with that many fields.
 fn parts_of<A: Allocator + Copy>(
     alloc: A,
     line: u64,
@@ -83,7 +83,7 @@ fn parts_of<A: Allocator + Copy>(
     })
 }
 
-/// A row of k values and m bits.
+/// Reads a row of k values and m bits.
 #[tactic(auto, unfolding(crate::specs::Ascii::row_line))]
 fn row_of<A: Allocator + Copy>(
     alloc: A,
@@ -105,7 +105,7 @@ fn row_of<A: Allocator + Copy>(
     parts_of(alloc, line, k, m, text)
 }
 
-/// The next row.
+/// Reads the next row.
 #[tactic(auto, unfolding(crate::specs::Line::next))]
 fn next_row<A: Allocator + Copy>(
     alloc: A,
@@ -121,7 +121,7 @@ fn next_row<A: Allocator + Copy>(
     row_of(alloc, line, k, m, text)
 }
 
-/// So many rows, one a line, in a list with this room.
+/// Reads `count` rows, one per line, into a list with this capacity.
 #[inline(never)] // in one piece with the reading of the head the loops run out of registers
 fn rows_of<A: Allocator + Copy>(
     alloc: A,
@@ -142,7 +142,7 @@ fn rows_of<A: Allocator + Copy>(
     Ok(list)
 }
 
-/// What stands before the first byte 1A.
+/// The data before the first byte 1A (hexadecimal), the end mark.
 fn before_end_mark(dat: &[u8]) -> &[u8]
     ensures { result.now ≡ before_first spec.is_end_mark dat.now }
 {
@@ -152,7 +152,7 @@ fn before_end_mark(dat: &[u8]) -> &[u8]
     }
 }
 
-/// The rows that an ASCII data file says.
+/// Reads the rows of an ASCII data file.
 #[tactic(auto, unfolding(crate::specs::Ascii::rows, crate::specs::Ascii::data_lines))]
 pub(crate) fn ascii_rows<A: Allocator + Copy>(
     alloc: A,
@@ -166,7 +166,8 @@ pub(crate) fn ascii_rows<A: Allocator + Copy>(
     ensures { Is (λ v. v.items) (spec.rows k m count (map fields (spec.data_lines dat.now))) result }
 {
     let text = before_end_mark(dat);
-    // the head may claim more rows than there are: each has a digit, a comma for each field after it, and an end
+    // the head may claim more rows than exist: each has a digit, a comma before each other field,
+    // and an end
     let most = text.len() / (3 + k as usize + m as usize) + 1;
     let mut left = Left::of(text);
     let rows = rows_of(alloc, &mut left, k, m, count, most.min(count as usize))?;

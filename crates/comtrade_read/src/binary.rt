@@ -1,4 +1,4 @@
-//! The rows of a binary data file (C37.111-1999, clause 6).
+//! Reads the rows of a BINARY data file (C37.111-1999, clause 6).
 
 ghost use Rattle.std.specs.Prelude.{◌≡◌, ◌≢◌, ◌≤◌, ◌<◌, ◌*◌, length, IfOk, IfErr};
 ghost use Rattle.comtrade_read.specs.declared.fault.ReadFault.TheVariants as faults;
@@ -11,7 +11,7 @@ use comtrade_format::{Row, packed_bits, packed_values};
 use dfr_channels::Items;
 use std::alloc::{AllocError, Allocator};
 
-/// The time stamp in the first four bytes; the highest stands for none.
+/// The time stamp in the first four bytes. The highest number means none.
 fn stamp_of(bytes: &[u8]) -> Option<u64>
     requires { 4 ≤ length bytes.now }
     ensures { result ≡ spec.stamp_at bytes.now }
@@ -24,7 +24,7 @@ fn stamp_of(bytes: &[u8]) -> Option<u64>
     }
 }
 
-/// The row that begins the bytes.
+/// Reads the row at the start of the bytes.
 #[tactic(auto, unfolding(crate::specs::Inner::BinaryRows::row_at))]
 fn row_of<A: Allocator + Copy>(
     alloc: A,
@@ -47,7 +47,7 @@ fn row_of<A: Allocator + Copy>(
     })
 }
 
-/// The bytes of a row of k values and m bits.
+/// The number of bytes of a row of k values and m bits.
 fn row_size(k: usize, m: usize) -> usize
     requires k { k < 1000000 }
     requires m { m < 1000000 }
@@ -56,7 +56,7 @@ fn row_size(k: usize, m: usize) -> usize
     8 + 2 * k + 2 * ((m + 15) / 16)
 }
 
-/// So many rows, one after the other.
+/// Reads `count` rows, one after the other.
 #[inline(never)] // in one piece with the reading of the head the loops run out of registers
 fn rows_of<A: Allocator + Copy>(
     alloc: A,
@@ -78,7 +78,7 @@ fn rows_of<A: Allocator + Copy>(
     Ok(rows)
 }
 
-/// The rows that a binary data file says.
+/// Reads the rows of a BINARY data file; `Length` if it isn't as long as `count` rows.
 pub(crate) fn binary_rows<A: Allocator + Copy>(
     alloc: A,
     dat: &[u8],
@@ -92,7 +92,7 @@ pub(crate) fn binary_rows<A: Allocator + Copy>(
     ensures fault { IfErr result (λ e. e ≢ faults.Memory → (length dat.now ≢ count * row_size k m) × (e ≡ faults.Length)) }
 {
     let size = row_size(k, m);
-    // The product may pass 64 bits.
+    // the product may exceed 64 bits
     if dat.len() as u128 != count as u128 * size as u128 {
         return Err(ReadFault::Length);
     }

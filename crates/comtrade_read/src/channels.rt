@@ -1,4 +1,4 @@
-//! The lines of channels.
+//! Reads the channel lines of a configuration file.
 
 ghost use Rattle.std.specs.Prelude.{◌≡◌, [], length, IfOk};
 ghost use Rattle.dfr_channels.specs.Lines.{texts, field};
@@ -12,7 +12,7 @@ use crate::left::{Left, Line};
 use dfr_channels::{AnalogChannel, Decimal, Side, StatusChannel};
 use std::alloc::Allocator;
 
-/// The numbers of an analogue channel's line.
+/// The numbers in an analogue channel's line.
 struct Scaling {
     a: Decimal,
     b: Decimal,
@@ -24,8 +24,8 @@ struct Scaling {
     side: Side,
 }
 
-/// The numbers of the analogue channel n. The contract says what the whole line is, with its texts
-/// as they stand in their fields.
+/// Reads the numbers of analogue channel n. The contract describes the whole line, with its texts
+/// as they are in the fields.
 #[tactic(auto, unfolding(crate::specs::Head::analog_line, crate::specs::Fields::scale, dfr_channels::specs::LineFields::analog_from))]
 fn scaling_in(line: u64, n: u64, fields: &[&[u8]]) -> Result<Scaling, ReadFault>
     ensures says { Is (λ x. record {
@@ -71,7 +71,7 @@ fn scaling_in(line: u64, n: u64, fields: &[&[u8]]) -> Result<Scaling, ReadFault>
     })
 }
 
-/// The analogue channel n of these fields.
+/// Reads analogue channel n from these fields.
 fn analog_in<A: Allocator + Copy>(
     alloc: A,
     line: u64,
@@ -110,7 +110,7 @@ fn analog_in<A: Allocator + Copy>(
     })
 }
 
-/// The analogue channel n, counted from 1.
+/// Reads the line of analogue channel n, counted from 1.
 #[tactic(auto, unfolding(crate::specs::Line::next))]
 fn analog_of<A: Allocator + Copy>(
     alloc: A,
@@ -123,7 +123,7 @@ fn analog_of<A: Allocator + Copy>(
     analog_in(alloc, number, n, &fields)
 }
 
-/// The status channel n, counted from 1.
+/// Reads the line of status channel n, counted from 1.
 #[tactic(auto, unfolding(crate::specs::Line::next, crate::specs::Head::status_line, dfr_channels::specs::LineFields::status_from))]
 fn status_of<A: Allocator + Copy>(
     alloc: A,
@@ -155,7 +155,7 @@ fn status_of<A: Allocator + Copy>(
     })
 }
 
-/// The analogue channels, so many.
+/// Reads `count` analogue channels.
 pub(crate) fn analogs_of<A: Allocator + Copy>(
     alloc: A,
     left: &mut Left,
@@ -170,7 +170,7 @@ pub(crate) fn analogs_of<A: Allocator + Copy>(
     Ok(list)
 }
 
-/// The status channels, so many.
+/// Reads `count` status channels.
 pub(crate) fn statuses_of<A: Allocator + Copy>(
     alloc: A,
     left: &mut Left,

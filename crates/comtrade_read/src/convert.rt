@@ -1,4 +1,4 @@
-//! A pair of files as a pair of another kind.
+//! Converts a pair of files to another kind of data.
 
 ghost use Rattle.std.specs.Prelude.{◌≡◌, IfOk, IfErr};
 ghost use Rattle.dfr_channels.specs.Faults.{◌or◌};
@@ -18,17 +18,19 @@ use thiserror::Error;
 /// The bytes of a configuration file and its data file.
 #[derive(Drop)]
 pub struct Written<A: Allocator> {
+    /// The configuration file.
     pub cfg: Vec<u8, A>,
+    /// The data file.
     pub dat: Vec<u8, A>,
 }
 
-/// Why a pair has no form of the kind asked for.
+/// Why a pair can't be converted.
 #[derive(Clone, Copy, Debug, PartialEq, Eq, Error)]
 pub enum ConvertFault {
-    /// It can't be read.
+    /// The pair can't be read: its first error.
     #[error("{0}")]
     Read(Fault),
-    /// A file of this kind can't hold what it says.
+    /// Files of this kind can't hold the content: the writers' first error.
     #[error("{0}")]
     Write(WriteFault),
     /// An allocation failed.
@@ -36,7 +38,7 @@ pub enum ConvertFault {
     Memory,
 }
 
-/// The same file, with data of this kind.
+/// The same file with data of this kind.
 fn with_kind<A: Allocator>(file: File<A>, kind: Kind) -> File<A>
     ensures { result ≡ of_kind kind file }
 {
@@ -45,7 +47,8 @@ fn with_kind<A: Allocator>(file: File<A>, kind: Kind) -> File<A>
     File { head, rows }
 }
 
-/// The two files of a record, which read back to it. Refused by the first of what its files can't hold.
+/// Writes both files of a `File`; they read back to it. Errors: those of `cfg_bytes`, else those of
+/// `dat_bytes`. `Memory` (an allocation failed) can replace both.
 pub fn written_of<A: Allocator + Copy>(alloc: A, file: &File<A>) -> Result<Written<A>, WriteFault>
     ensures reads { IfOk result (λ pair. Reads pair.cfg.items pair.dat.items file.now) }
     ensures fault { IfErr result (λ e. Fails e (cfg_refusal file.now or dat_refusal file.now.head.kind file.now)) }
@@ -62,8 +65,9 @@ pub fn written_of<A: Allocator + Copy>(alloc: A, file: &File<A>) -> Result<Writt
     Ok(Written { cfg, dat })
 }
 
-/// The pair as a pair of this kind: what is written reads to the file that the pair reads to, but for its kind. `Read` is the
-/// pair's first fault; `Write` is the writers' first refusal of that file in this kind.
+/// Converts a pair to this kind of data. The new pair reads to the same `File`, except for the
+/// kind. Errors: `Read` if the pair can't be read, `Write` if the writers reject its content in
+/// this kind, `Memory` if an allocation failed.
 pub fn converted<A: Allocator + Copy>(
     alloc: A,
     cfg: &[u8],

@@ -14,7 +14,7 @@ use comtrade_format::{File, Head, Kind, Rate, Row};
 use dfr_channels::Items;
 use std::alloc::Allocator;
 
-/// The last sample of the last rate, or 0 where there is none.
+/// The `endsamp` of the last rate, or 0 if there is none.
 fn last_sample(rates: &[Rate]) -> u64
     ensures { result ≡ last_sample rates.now }
 {
@@ -24,7 +24,7 @@ fn last_sample(rates: &[Rate]) -> u64
     }
 }
 
-/// The rows that data of this kind say.
+/// Reads the rows of data of this kind.
 fn rows_as<A: Allocator + Copy>(
     alloc: A,
     kind: Kind,
@@ -43,7 +43,7 @@ fn rows_as<A: Allocator + Copy>(
     }
 }
 
-/// The rows that the data say under the head.
+/// Reads the rows of data under this head.
 fn rows_of<A: Allocator + Copy>(
     alloc: A,
     head: &Head<A>,
@@ -58,9 +58,12 @@ fn rows_of<A: Allocator + Copy>(
     rows_as(alloc, head.kind, dat, k, m, count)
 }
 
-/// The file of this head and of the rows that the data say, in the head's kind (C37.111-1999, clause 6). As many rows are
-/// wanted as the last rate's last sample says, or none where the head has no rate. The head has at most 999,999 channels, as
-/// any that `read_cfg` gives. A fault hands the head back.
+/// Reads a data file under its head, in the head's kind (C37.111-1999, clause 6). The file must
+/// have as many rows as the last rate's `endsamp`, or none if the head has no rate. The head must
+/// have at most 999,999 channels, as every head from `read_cfg` has.
+///
+/// An error is the first of the data file, or `Memory` if an allocation failed. The head is
+/// returned with it.
 pub fn read_dat<A: Allocator + Copy>(
     alloc: A,
     head: Head<A>,

@@ -1,4 +1,4 @@
-//! The fields of a line, read one by one.
+//! Reads single fields of a line.
 
 ghost use Rattle.std.specs.Prelude.{◌≡◌, ◌<◌, ◌+◌, ◌^◌, length, pos, negsuc, IfOk, IfErr, IfSome, ◌≤◌, ◌≤ℤ◌, Some, Ok};
 ghost use Rattle.std.specs.Option.{option_copied};
@@ -14,7 +14,7 @@ use comtrade_format::Kind;
 use dfr_channels::{Decimal, Items, Side, integer_of};
 use std::alloc::Allocator;
 
-/// The value of a field, or the fault of its place.
+/// The value that was read, or the `Number` error of field `i`, which counts from 0.
 pub(crate) fn needed<T>(read: Option<T>, line: u64, i: u32) -> Result<T, ReadFault>
     requires { i + 1 < 2 ^ 32 }
     ensures { GivesField read (faults.Number line (i + 1)) result }
@@ -25,7 +25,7 @@ pub(crate) fn needed<T>(read: Option<T>, line: u64, i: u32) -> Result<T, ReadFau
     }
 }
 
-/// The number, where it lies from 0 to high.
+/// The number, if it is from 0 to `high`.
 pub(crate) fn up_to(high: u64, number: Option<i128>) -> Option<u64>
     ensures value { result ≡ shared.up_to high number }
     ensures bound { IfSome result (λ n. n ≤ high) }
@@ -36,7 +36,7 @@ pub(crate) fn up_to(high: u64, number: Option<i128>) -> Option<u64>
     }
 }
 
-/// A whole number.
+/// Reads an integer.
 #[tactic(auto, unfolding(crate::specs::Fields::whole))]
 pub(crate) fn whole_of(line: u64, fields: &[&[u8]], i: u32) -> Result<i128, ReadFault>
     requires small { i + 1 < 2 ^ 32 }
@@ -46,7 +46,7 @@ pub(crate) fn whole_of(line: u64, fields: &[&[u8]], i: u32) -> Result<i128, Read
     needed(integer_of(fields[i as usize]), line, i)
 }
 
-/// The whole number from 0 to high that the text spells.
+/// The integer from 0 to `high` that the text spells.
 #[tactic(auto, unfolding(crate::specs::Fields::natural))]
 pub(crate) fn natural(text: &[u8], high: u64) -> Option<u64>
     ensures value { result ≡ spec.natural high text.now }
@@ -55,7 +55,7 @@ pub(crate) fn natural(text: &[u8], high: u64) -> Option<u64>
     up_to(high, integer_of(text))
 }
 
-/// A whole number from 0 to high.
+/// Reads an integer from 0 to `high`.
 pub(crate) fn natural_of(line: u64, fields: &[&[u8]], i: u32, high: u64) -> Result<u64, ReadFault>
     requires small { i + 1 < 2 ^ 32 }
     requires in_line { i < length fields.now }
@@ -65,7 +65,7 @@ pub(crate) fn natural_of(line: u64, fields: &[&[u8]], i: u32, high: u64) -> Resu
     needed(natural(fields[i as usize], high), line, i)
 }
 
-/// The number, where it lies from -99,999 to 99,999.
+/// The number, if it is from -99,999 to 99,999.
 pub(crate) fn within(number: Option<i128>) -> Option<i32>
     ensures { result ≡ shared.within (negsuc 99998) (pos 99999) number }
 {
@@ -75,7 +75,7 @@ pub(crate) fn within(number: Option<i128>) -> Option<i32>
     }
 }
 
-/// A whole number from -99,999 to 99,999.
+/// Reads an integer from -99,999 to 99,999.
 #[tactic(auto, unfolding(crate::specs::Fields::small))]
 pub(crate) fn small_of(line: u64, fields: &[&[u8]], i: u32) -> Result<i32, ReadFault>
     requires small { i + 1 < 2 ^ 32 }
@@ -85,7 +85,7 @@ pub(crate) fn small_of(line: u64, fields: &[&[u8]], i: u32) -> Result<i32, ReadF
     needed(within(integer_of(fields[i as usize])), line, i)
 }
 
-/// A decimal.
+/// Reads a decimal.
 #[tactic(auto, unfolding(crate::specs::Fields::scale))]
 pub(crate) fn scale_of(line: u64, fields: &[&[u8]], i: u32) -> Result<Decimal, ReadFault>
     requires small { i + 1 < 2 ^ 32 }
@@ -95,7 +95,7 @@ pub(crate) fn scale_of(line: u64, fields: &[&[u8]], i: u32) -> Result<Decimal, R
     needed(Decimal::read(fields[i as usize]), line, i)
 }
 
-/// A decimal, or 0 where nothing stands.
+/// Reads a decimal; an empty field is 0.
 pub(crate) fn free_scale_of(line: u64, fields: &[&[u8]], i: u32) -> Result<Decimal, ReadFault>
     requires small { i + 1 < 2 ^ 32 }
     requires in_line { i < length fields.now }
@@ -104,7 +104,7 @@ pub(crate) fn free_scale_of(line: u64, fields: &[&[u8]], i: u32) -> Result<Decim
     needed(dfr_channels::free_scale_of(fields[i as usize]), line, i)
 }
 
-/// What stands before the letter at the end of the text.
+/// The text before this letter at its end, in upper or lower case.
 fn before_letter(text: &[u8], letter: u8) -> Option<&[u8]>
     requires { letter < 128 }
     ensures { option_copied result ≡ spec.before_letter letter text.now }
@@ -115,7 +115,7 @@ fn before_letter(text: &[u8], letter: u8) -> Option<&[u8]>
     }
 }
 
-/// A number of channels directly followed by its letter.
+/// The number of channels in a text that ends with this letter.
 #[tactic(auto, unfolding(crate::specs::Fields::count))]
 fn count(text: &[u8], letter: u8) -> Option<u64>
     requires { letter < 128 }
@@ -126,7 +126,7 @@ fn count(text: &[u8], letter: u8) -> Option<u64>
     up_to(999_999, integer_of(front))
 }
 
-/// A number of channels directly followed by its letter.
+/// Reads a number of channels, followed directly by its letter.
 pub(crate) fn count_of(line: u64, fields: &[&[u8]], i: u32, letter: u8) -> Result<u64, ReadFault>
     requires small { i + 1 < 2 ^ 32 }
     requires in_line { i < length fields.now }
@@ -137,7 +137,7 @@ pub(crate) fn count_of(line: u64, fields: &[&[u8]], i: u32, letter: u8) -> Resul
     needed(count(fields[i as usize], letter), line, i)
 }
 
-/// The side of the values.
+/// Reads the side of the transformer that the values are of.
 pub(crate) fn side_of(line: u64, fields: &[&[u8]], i: u32) -> Result<Side, ReadFault>
     requires small { i + 1 < 2 ^ 32 }
     requires in_line { i < length fields.now }
@@ -146,7 +146,7 @@ pub(crate) fn side_of(line: u64, fields: &[&[u8]], i: u32) -> Result<Side, ReadF
     needed(dfr_channels::side_of(fields[i as usize]), line, i)
 }
 
-/// 0 or 1, or 0 where nothing stands.
+/// Reads 0 or 1; an empty field is 0.
 pub(crate) fn free_bit_of(line: u64, fields: &[&[u8]], i: u32) -> Result<bool, ReadFault>
     requires small { i + 1 < 2 ^ 32 }
     requires in_line { i < length fields.now }
@@ -155,7 +155,7 @@ pub(crate) fn free_bit_of(line: u64, fields: &[&[u8]], i: u32) -> Result<bool, R
     needed(dfr_channels::free_bit_of(fields[i as usize]), line, i)
 }
 
-/// The kind of data that the text names.
+/// The data type that the text names, in upper or lower case.
 #[tactic(auto, unfolding(crate::specs::Head::kind))]
 fn kind(text: &[u8]) -> Option<Kind>
     ensures { result ≡ head.kind text.now }
@@ -169,7 +169,7 @@ fn kind(text: &[u8]) -> Option<Kind>
     }
 }
 
-/// The kind of the data.
+/// Reads the data type.
 pub(crate) fn kind_of(fields: &[&[u8]]) -> Result<Kind, ReadFault>
     requires { 0 < length fields.now }
     ensures { GivesField (head.kind (field (texts fields.now) 0)) faults.Kind result }
@@ -180,7 +180,7 @@ pub(crate) fn kind_of(fields: &[&[u8]]) -> Result<Kind, ReadFault>
     }
 }
 
-/// The bytes of a field.
+/// Copies the bytes of a field.
 pub(crate) fn text_of<A: Allocator>(
     alloc: A,
     fields: &[&[u8]],

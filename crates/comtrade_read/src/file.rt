@@ -1,4 +1,4 @@
-//! Files that are written and read back.
+//! Writes a file and reads it back.
 
 ghost use Rattle.std.specs.Prelude.{◌≡◌, IfOk, IfErr};
 ghost use Rattle.dfr_channels.specs.Faults.{◌or◌};
@@ -13,8 +13,9 @@ use crate::pair::read;
 use comtrade_format::{File, WriteFault, cfg_bytes, dat_bytes};
 use std::alloc::Allocator;
 
-/// Writes a file's two texts and reads them back, as a host does that checks what it stores. What is read is the file. A file
-/// that isn't written is refused as `cfg_bytes` refuses it, else as `dat_bytes` does; `Memory` may come in place of both.
+/// Writes both files of a `File` and reads them back, as a host does to check what it stores. The
+/// result equals `file`. Errors: those of `cfg_bytes`, else those of `dat_bytes`. `Memory` (an
+/// allocation failed) can replace both.
 pub fn read_of_file<A: Allocator + Copy>(alloc: A, file: &File<A>) -> Result<File<A>, WriteFault>
     ensures same { IfOk result (λ f. f ≡ file.now) }
     ensures reads { IfOk result (λ f. Reads (cfg f.head) (dat f.head.kind f) f) }

@@ -26,7 +26,7 @@ struct End {
     timemult: Decimal,
 }
 
-/// The lines after the rates, and no line after them.
+/// Reads the lines after the rates, and checks that no line follows.
 #[tactic(auto, unfolding(crate::specs::Head::ending))]
 fn end_of<A: Allocator + Copy>(alloc: A, left: &mut Left) -> Result<End, ReadFault>
     ensures { Is {Y = spec.EndParts}
@@ -55,7 +55,7 @@ struct Tail<A: Allocator> {
     end: End,
 }
 
-/// The lines after the channels.
+/// Reads the lines after the channels.
 #[tactic(auto, unfolding(crate::specs::Head::tail))]
 fn tail_of<A: Allocator + Copy>(alloc: A, left: &mut Left) -> Result<Tail<A>, ReadFault>
     ensures small { IfOk result (λ x. x.nrates ≤ 999) }
@@ -80,7 +80,7 @@ fn tail_of<A: Allocator + Copy>(alloc: A, left: &mut Left) -> Result<Tail<A>, Re
     })
 }
 
-/// The head that the lines say.
+/// Reads the head from the lines of a text.
 #[tactic(auto, unfolding(crate::specs::Head::head))]
 fn head_of<A: Allocator + Copy>(alloc: A, text: &[u8]) -> Result<Head<A>, ReadFault>
     ensures { Is (λ x. x) (spec.head (map fields (lines text.now))) result }
@@ -106,11 +106,13 @@ fn head_of<A: Allocator + Copy>(alloc: A, text: &[u8]) -> Result<Head<A>, ReadFa
     })
 }
 
-/// The head that a configuration file says (C37.111-1999, clause 5), or its first fault.
+/// Reads a configuration file (C37.111-1999, clause 5). An error is the first of the file, or
+/// `Memory` if an allocation failed.
 ///
-/// Lines end with LF or CR LF, blanks around fields and blank lines at the end are optional, and numbers, dates and letters may be
-/// spelled as other programs spell them. Any bytes without a comma, a line feed or a blank at either end are a station, a device or a
-/// channel's text. A head that is read has at most 999,999 channels, as `read_dat` requires.
+/// Lines end with LF or CR LF. Blanks around fields and blank lines at the end are allowed.
+/// Numbers, dates and letters may be spelled as other programs spell them. The texts of station,
+/// device and channels may have any bytes except commas and line feeds; blanks at their ends aren't
+/// part of them. The head has at most 999,999 channels, as `read_dat` requires.
 pub fn read_cfg<A: Allocator + Copy>(alloc: A, text: &[u8]) -> Result<Head<A>, ReadFault>
     ensures found { IfOk result (ReadsHead text.now) }
     ensures few { IfOk result (λ h. length h.analog + length h.status < 1000000) }

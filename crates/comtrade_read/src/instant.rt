@@ -1,4 +1,4 @@
-//! Dates and times of day.
+//! Reads dates and times of day (C37.111-1999, 5.3.7).
 
 ghost use Rattle.std.specs.Prelude.{◌≡◌, ◌≤◌, ◌<◌, ◌==◌, ◌↔◌, ◌≤ℤ◌, ◌-◌, length, position, Some, None, IfSome, IfOk, IsSome, IfNone, pos, neg_ℤ, unsigned_abs, ◌^◌, ◌+◌, ◌*◌};
 ghost use Rattle.std.specs.List.{before_first, after_first};
@@ -12,14 +12,14 @@ use crate::fault::ReadFault;
 use dfr_channels::numeral_of;
 use jiff_core::civil::Date;
 
-/// Where the byte first stands.
+/// The position of the first such byte.
 pub(crate) fn place_of(text: &[u8], byte: u8) -> Option<usize>
     ensures { result ≡ position (λ b. b == byte) text.now }
 {
     text.iter().position(|b| *b == byte)
 }
 
-/// What stands before the byte and what stands after it, where the text has one.
+/// The text before and the text after the first such byte, if there is one.
 #[tactic(auto, using(dfr_channels::proofs::Cuts::cuts))]
 fn cut_at(text: &[u8], byte: u8) -> Option<(&[u8], &[u8])>
     ensures found { IsSome result ↔ IsSome (position (λ b. b == byte) text.now) }
@@ -30,7 +30,7 @@ fn cut_at(text: &[u8], byte: u8) -> Option<(&[u8], &[u8])>
     Some((&text[..at], &text[at + 1..]))
 }
 
-/// The number that one to six digits spell.
+/// The number that `low` to `high` digits spell, at most six.
 fn digits(low: usize, high: usize, text: &[u8]) -> Option<u32>
     requires low { 1 ≤ low }
     requires high { high ≤ 6 }
@@ -50,7 +50,7 @@ fn digits(low: usize, high: usize, text: &[u8]) -> Option<u32>
     }
 }
 
-/// The day number of a civil date.
+/// The day number of a date, counted from 1970-01-01; None if there is no such date.
 fn civil(year: i16, month: i8, day: i8) -> Option<i32>
     ensures succeeds { IsSome result ↔ IsDate year month day }
     ensures value { IfSome result (λ n. n ≡ days_from_civil year (unsigned_abs month) (unsigned_abs day)) }
@@ -62,7 +62,7 @@ fn civil(year: i16, month: i8, day: i8) -> Option<i32>
     }
 }
 
-/// The day number of a civil date of the years from 1 on.
+/// The day number of a date from year 1 on.
 #[tactic(auto, unfolding(crate::specs::Instant::day_at))]
 fn day_at(year: u32, month: u32, day: u32) -> Option<i32>
     requires year { year < 10000 }
@@ -77,7 +77,7 @@ fn day_at(year: u32, month: u32, day: u32) -> Option<i32>
     civil(year as i16, month as i8, day as i8)
 }
 
-/// The day number that a date says.
+/// Reads a date, dd/mm/yyyy, as a day number.
 #[tactic(auto, unfolding(crate::specs::Instant::date))]
 fn date(text: &[u8]) -> Option<i32>
     ensures value { result ≡ spec.date text.now }
@@ -92,7 +92,7 @@ fn date(text: &[u8]) -> Option<i32>
     )
 }
 
-/// The microseconds that the digits after a point say.
+/// The microseconds that the digits after a point spell.
 #[tactic(auto, unfolding(crate::specs::Instant::micros))]
 fn micros(text: &[u8]) -> Option<u32>
     ensures value { result ≡ spec.micros text.now }
@@ -102,7 +102,7 @@ fn micros(text: &[u8]) -> Option<u32>
     Some(number * 10u32.pow(6 - text.len() as u32))
 }
 
-/// The seconds, and the microseconds after them.
+/// Reads seconds, and the microseconds after the point if there is one.
 #[tactic(auto, unfolding(crate::specs::Instant::seconds), using(dfr_channels::proofs::Cuts::cuts))]
 fn seconds(text: &[u8]) -> Option<(u32, u32)>
     ensures value { result ≡ spec.seconds text.now }
@@ -114,7 +114,7 @@ fn seconds(text: &[u8]) -> Option<(u32, u32)>
     }
 }
 
-/// The microseconds since the day began, where there is such a time of day.
+/// The microseconds since midnight, if there is such a time of day.
 #[tactic(auto, unfolding(crate::specs::Instant::time_at))]
 fn time_at(hours: u32, minutes: u32, seconds: u32, micros: u32) -> Option<u64>
     requires { micros < 1000000 }
@@ -127,7 +127,7 @@ fn time_at(hours: u32, minutes: u32, seconds: u32, micros: u32) -> Option<u64>
     Some(((hours as u64 * 60 + minutes as u64) * 60 + seconds as u64) * 1_000_000 + micros as u64)
 }
 
-/// The microseconds since the day began that a time of day says.
+/// Reads a time of day as microseconds since midnight.
 #[tactic(auto, unfolding(crate::specs::Instant::time))]
 fn time(text: &[u8]) -> Option<u64>
     ensures value { result ≡ spec.time text.now }
@@ -141,7 +141,7 @@ fn time(text: &[u8]) -> Option<u64>
     time_at(hours, minutes, seconds, micros)
 }
 
-/// The day number of a date field.
+/// Reads a date field as a day number; else `Instant`.
 pub(crate) fn date_of(line: u64, fields: &[&[u8]]) -> Result<i32, ReadFault>
     requires { 0 < length fields.now }
     ensures value { GivesField (spec.date (field (texts fields.now) 0)) (faults.Instant line) result }
@@ -153,7 +153,7 @@ pub(crate) fn date_of(line: u64, fields: &[&[u8]]) -> Result<i32, ReadFault>
     }
 }
 
-/// The microseconds of a time field.
+/// Reads a time field as microseconds since midnight; else `Instant`.
 pub(crate) fn time_of(line: u64, fields: &[&[u8]]) -> Result<u64, ReadFault>
     requires { 1 < length fields.now }
     ensures value { GivesField (spec.time (field (texts fields.now) 1)) (faults.Instant line) result }
@@ -165,7 +165,7 @@ pub(crate) fn time_of(line: u64, fields: &[&[u8]]) -> Result<u64, ReadFault>
     }
 }
 
-/// The microseconds since 1970-01-01 00:00:00.
+/// The instant in microseconds since 1970-01-01 00:00:00.
 #[tactic(auto, unfolding(crate::specs::Instant::instant_at))]
 pub(crate) fn instant_at(day: i32, micros: u64) -> i64
     requires day { IsBetween (neg_ℤ (pos 4371587)) (pos 2932896) day }

@@ -1,4 +1,4 @@
-//! What is left of a file, line by line.
+//! The lines of a file that are still to be read.
 
 ghost use Rattle.std.specs.Prelude.{◌≡◌, map};
 ghost use Rattle.dfr_channels.specs.Lines.{texts, fields, lines};
@@ -17,7 +17,7 @@ pub(crate) struct Line<'a, A: Allocator> {
     pub(crate) fields: Vec<&'a [u8], A>,
 }
 
-/// The lines of a file that are left, and the number of the first of them.
+/// The lines of a file that are still to be read, and the number of the first of them.
 #[derive(Drop)]
 pub(crate) struct Left<'a> {
     lines: Lines<'a>,
@@ -47,7 +47,7 @@ impl<'a> Left<'a> {
         }
     }
 
-    /// The next line, and its number.
+    /// Takes the next line: its number and its text. `Missing` if there is none.
     #[tactic(auto, unfolding(crate::specs::Line::taken))]
     pub(crate) fn next_text(&mut self) -> Result<(u64, &'a [u8]), ReadFault>
         ensures { Is {Y = spec.Taken}
@@ -64,7 +64,7 @@ impl<'a> Left<'a> {
         }
     }
 
-    /// The next line's number and fields.
+    /// Takes the next line: its number and its fields. `Missing` if there is none.
     pub(crate) fn next_line<A: Allocator>(&mut self, alloc: A) -> Result<Line<'a, A>, ReadFault>
         ensures { Is {Y = spec.Taken}
             (λ x. record { line = x.number; fields = texts x.fields.items; left = self.new })
@@ -75,7 +75,7 @@ impl<'a> Left<'a> {
         Ok(Line { number, fields })
     }
 
-    /// That no line is left.
+    /// Checks that no line is left; else `Extra`.
     #[tactic(auto, unfolding(crate::specs::Line::end))]
     pub(crate) fn end(&mut self) -> Result<(), ReadFault>
         ensures { Is (λ x. x) (spec.end self.old) result }

@@ -1,5 +1,6 @@
-//! Reads COMTRADE files of C37.111-1999. `specs/Reads` says which texts read to which files, and which fault is the first of
-//! those that read to none; `specs/Head` says what each line of a configuration file says, `specs/Ascii` a row of ASCII data.
+//! Reads COMTRADE files (C37.111-1999). `specs/Reads` defines which bytes read to which file, and
+//! which error comes first if they read to none. `specs/Head` defines the lines of a configuration
+//! file, and `specs/Ascii` the rows of ASCII data.
 #![tactic(auto)]
 
 mod ascii;

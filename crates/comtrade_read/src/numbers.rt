@@ -1,4 +1,4 @@
-//! What the numbers of every head are.
+//! What holds for the numbers of every head.
 
 ghost use Rattle.std.specs.List.{All};
 ghost use Rattle.dfr_channels.specs.Spelling.{IsNumber};
@@ -16,7 +16,7 @@ fn samps(rates: &[Rate])
     }
 }
 
-/// Every number of a head is one that a decimal holds.
+/// Every decimal number of a head is one that `Decimal` can hold.
 pub(crate) fn numbers<A: Allocator>(head: &Head<A>)
     ensures { HasNumbers head.now }
 {

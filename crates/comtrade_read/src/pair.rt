@@ -29,8 +29,9 @@ impl Display for Part {
     }
 }
 
-/// The file that a configuration file and its data file say, or the part that isn't read and its first fault. The data are
-/// looked at only where the configuration file reads.
+/// Reads a configuration file and its data file. An error comes with the part that has it, and is
+/// the first of the pair: the data file is read only if the configuration file is valid. `Memory`:
+/// an allocation failed.
 pub fn read<A: Allocator + Copy>(
     alloc: A,
     cfg: &[u8],

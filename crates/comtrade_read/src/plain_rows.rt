@@ -1,4 +1,4 @@
-//! Rows with a stamp, in the writers' spelling, read in one pass.
+//! Reads rows that have a stamp and are spelled as the writers spell them, in one pass.
 
 ghost use Rattle.std.specs.Prelude.{◌≡◌, ◌<◌, ◌<ℤ◌, ◌+◌, ◌-◌, ◌*◌, ◌^◌, [], IfOk, IfSome, option_copied, option_map, Some, Ok, true, pos, negsuc, length};
 ghost use Rattle.dfr_channels.specs.Lines.{fields};
@@ -12,7 +12,7 @@ use comtrade_format::Row;
 use dfr_channels::{Items, Reading, plain_number, sample_number};
 use std::alloc::{AllocError, Allocator};
 
-/// The number, where a row's number or stamp can be it.
+/// The number, if it is possible as a row's number or stamp.
 fn count(number: i64) -> Option<u64>
     ensures { result ≡ up_to ten_digits (Some number) }
 {
@@ -25,7 +25,7 @@ fn count(number: i64) -> Option<u64>
     Some(number as u64)
 }
 
-/// The row's number that stands next, and what stands after its comma if it has one.
+/// The row's number at the start, and the text after its comma if it has one.
 fn next_number(left: Option<&[u8]>) -> Option<(u64, Option<&[u8]>)>
     ensures { IfSome result (λ r. IsNext (natural ten_digits) (fields_behind (option_copied left.entry)) r.0 (fields_behind (option_copied r.1))) }
 {
@@ -34,7 +34,7 @@ fn next_number(left: Option<&[u8]>) -> Option<(u64, Option<&[u8]>)>
     Some((count, behind))
 }
 
-/// The stamp that stands next, and what stands after its comma if it has one.
+/// The stamp at the start, and the text after its comma if it has one.
 fn next_stamp(left: Option<&[u8]>) -> Option<(u64, Option<&[u8]>)>
     ensures { IfSome result (λ r. IsNext spec.stamp (fields_behind (option_copied left.entry)) (Some r.0) (fields_behind (option_copied r.1))) }
 {
@@ -42,7 +42,7 @@ fn next_stamp(left: Option<&[u8]>) -> Option<(u64, Option<&[u8]>)>
     Some((stamp, behind))
 }
 
-/// What `plain_number` says; the values of most samples have four or five digits.
+/// As `plain_number`, but tries `sample_number` first: most samples have four or five digits.
 #[inline(always)]
 fn value_number(text: &[u8]) -> Option<(i64, Option<&[u8]>)>
     ensures first { IfSome result (λ r. Begins text.now r.0 (option_copied r.1)) }
@@ -55,7 +55,7 @@ fn value_number(text: &[u8]) -> Option<(i64, Option<&[u8]>)>
     }
 }
 
-/// A number as a value; 99,999 stands for a missing one.
+/// A number as a reading; 99,999 means missing.
 fn reading(number: i64) -> Option<Reading>
     ensures { result ≡ option_map spec.reading (within (negsuc 99998) (pos 99999) (Some number)) }
 {
@@ -71,7 +71,7 @@ fn reading(number: i64) -> Option<Reading>
     Some(Reading::Value(number as i32))
 }
 
-/// The value that stands next, and what stands after its comma if it has one.
+/// The value at the start, and the text after its comma if it has one.
 fn next_value(left: Option<&[u8]>) -> Option<(Reading, Option<&[u8]>)>
     ensures { IfSome result (λ r. IsNext spec.value (fields_behind (option_copied left.entry)) r.0 (fields_behind (option_copied r.1))) }
 {
@@ -80,7 +80,7 @@ fn next_value(left: Option<&[u8]>) -> Option<(Reading, Option<&[u8]>)>
     Some((value, behind))
 }
 
-/// The values that stand next, so many, and what stands after them.
+/// The first `count` values, and the text after them.
 fn next_values<A: Allocator>(
     alloc: A,
     text: Option<&[u8]>,
@@ -100,7 +100,7 @@ fn next_values<A: Allocator>(
     Ok(Some((list, left)))
 }
 
-/// Whether a text of this length is so many digits 0 and 1, with a comma between each two. It has no branch.
+/// Whether a text of this length is `count` digits 0 and 1, separated by commas. It has no branch.
 fn are_bits(text: &[u8], count: usize) -> bool
     requires { length text.now + 1 ≡ 2 * count }
     ensures { result ≡ true → AreBits text.now count }
@@ -114,7 +114,7 @@ fn are_bits(text: &[u8], count: usize) -> bool
     all & (last == b'0' || last == b'1')
 }
 
-/// Fills the slot with the bits of a text, so many.
+/// Fills the buffer with the `count` bits of a text.
 fn write_bits(slot: &mut [bool], text: &[u8], count: usize)
     requires many { length slot.old ≡ count }
     requires bits { AreBits text.now count }
@@ -126,7 +126,7 @@ fn write_bits(slot: &mut [bool], text: &[u8], count: usize)
     }
 }
 
-/// The bits of a text, where it is so many and nothing stands after them.
+/// The bits of a text, if it has exactly `count` bits and nothing after them.
 fn plain_bits<A: Allocator>(
     alloc: A,
     text: &[u8],
@@ -143,7 +143,7 @@ fn plain_bits<A: Allocator>(
     Ok(Some(bits))
 }
 
-/// The bits that stand last, so many.
+/// The last `count` bits of a row.
 fn last_bits<A: Allocator>(
     alloc: A,
     left: Option<&[u8]>,
@@ -164,7 +164,7 @@ fn last_bits<A: Allocator>(
     }
 }
 
-/// The row that the text says in the writers' spelling. None says no more than that it is spelled otherwise.
+/// Reads a row in the writers' spelling. None means only that it is spelled differently.
 pub(crate) fn plain_row<A: Allocator + Copy>(
     alloc: A,
     text: &[u8],
@@ -175,7 +175,7 @@ pub(crate) fn plain_row<A: Allocator + Copy>(
     requires m { m < 1000000 }
     ensures { IfOk result (λ r. IfSome r (λ row. spec.row_line k m (fields text.now) ≡ Ok row)) }
 {
-    // room is made for no more values and bits than the text has
+    // reserve room for no more values and bits than the text can have
     if text.len() / 2 < 1 + k as usize + m as usize {
         return Ok(None);
     }

@@ -1,4 +1,4 @@
-//! The lines other than the channels, one by one.
+//! Reads the lines of a configuration file, except those of channels.
 
 ghost use Rattle.std.specs.Prelude.{◌≡◌, ◌<◌, ◌≤◌, IfOk, List, [], ℕ};
 ghost use Rattle.comtrade_read.specs.Line.{next, each};
@@ -22,7 +22,7 @@ pub(crate) struct Names<A: Allocator> {
     pub(crate) device: Items<u8, A>,
 }
 
-/// Whether the text is the revision's year.
+/// Whether the text is the revision year, 1999.
 #[tactic(auto, unfolding(crate::specs::Fields::whole))]
 fn is_revision(text: &[u8]) -> bool
     ensures { result ≡ spec.is_number 1999 (whole text.now) }
@@ -30,7 +30,7 @@ fn is_revision(text: &[u8]) -> bool
     integer_of(text) == Some(1999)
 }
 
-/// Station and device.
+/// Reads the line of station and device.
 #[tactic(auto, unfolding(crate::specs::Line::next, crate::specs::Head::names_line))]
 pub(crate) fn names_of<A: Allocator + Copy>(
     alloc: A,
@@ -55,7 +55,7 @@ pub(crate) fn names_of<A: Allocator + Copy>(
     Ok(Names { station, device })
 }
 
-/// The numbers of analogue and status channels.
+/// Reads the numbers of analogue and status channels.
 #[tactic(auto, unfolding(crate::specs::Line::next, crate::specs::Head::counts_line))]
 pub(crate) fn counts_of<A: Allocator>(alloc: A, left: &mut Left) -> Result<(u64, u64), ReadFault>
     ensures value { Is (λ x. (x, left.new)) (next spec.counts_line left.old) result }
@@ -74,7 +74,7 @@ pub(crate) fn counts_of<A: Allocator>(alloc: A, left: &mut Left) -> Result<(u64,
     Ok((analog, status))
 }
 
-/// A rate whose last sample isn't below the one before.
+/// Reads a rate whose last sample isn't below the one before.
 #[tactic(auto, unfolding(crate::specs::Line::next, crate::specs::Head::rate_line))]
 fn rate_of<A: Allocator>(alloc: A, left: &mut Left, before: u64) -> Result<Rate, ReadFault>
     ensures { Is (λ x. (x, left.new)) (next (spec.rate_line before) left.old) result }
@@ -91,7 +91,7 @@ fn rate_of<A: Allocator>(alloc: A, left: &mut Left, before: u64) -> Result<Rate,
     Ok(Rate { samp, endsamp })
 }
 
-/// The rates, so many.
+/// Reads `count` rates.
 pub(crate) fn rates_of<A: Allocator + Copy>(
     alloc: A,
     left: &mut Left,
@@ -109,7 +109,7 @@ pub(crate) fn rates_of<A: Allocator + Copy>(
     Ok(list)
 }
 
-/// An instant.
+/// Reads an instant.
 #[tactic(auto, unfolding(crate::specs::Line::next, crate::specs::Head::instant_line))]
 pub(crate) fn instant_of<A: Allocator>(alloc: A, left: &mut Left) -> Result<i64, ReadFault>
     ensures { Is (λ x. (x, left.new)) (next spec.instant_line left.old) result }
@@ -123,7 +123,7 @@ pub(crate) fn instant_of<A: Allocator>(alloc: A, left: &mut Left) -> Result<i64,
     Ok(instant_at(day, micros))
 }
 
-/// The kind of the data file.
+/// Reads the data type.
 #[tactic(auto, unfolding(crate::specs::Line::next))]
 pub(crate) fn kind_in<A: Allocator>(alloc: A, left: &mut Left) -> Result<Kind, ReadFault>
     ensures { Is (λ x. (x, left.new)) (next spec.kind_line left.old) result }
@@ -135,7 +135,7 @@ pub(crate) fn kind_in<A: Allocator>(alloc: A, left: &mut Left) -> Result<Kind, R
     kind_of(&fields)
 }
 
-/// The time multiplier.
+/// Reads the time multiplier.
 #[tactic(auto, unfolding(crate::specs::Line::next))]
 pub(crate) fn timemult_of<A: Allocator>(alloc: A, left: &mut Left) -> Result<Decimal, ReadFault>
     ensures { Is (λ x. (x, left.new)) (next spec.timemult_line left.old) result }
@@ -147,7 +147,7 @@ pub(crate) fn timemult_of<A: Allocator>(alloc: A, left: &mut Left) -> Result<Dec
     scale_of(number, &fields, 0)
 }
 
-/// The line frequency.
+/// Reads the line frequency; an empty field is 0.
 #[tactic(auto, unfolding(crate::specs::Line::next))]
 pub(crate) fn frequency_of<A: Allocator>(alloc: A, left: &mut Left) -> Result<Decimal, ReadFault>
     ensures { Is (λ x. (x, left.new)) (next spec.frequency_line left.old) result }
@@ -159,7 +159,7 @@ pub(crate) fn frequency_of<A: Allocator>(alloc: A, left: &mut Left) -> Result<De
     free_scale_of(number, &fields, 0)
 }
 
-/// The number of rates.
+/// Reads the number of rates.
 #[tactic(auto, unfolding(crate::specs::Line::next))]
 pub(crate) fn nrates_of<A: Allocator>(alloc: A, left: &mut Left) -> Result<u64, ReadFault>
     ensures value { Is (λ x. (x, left.new)) (next spec.nrates_line left.old) result }

@@ -1,4 +1,4 @@
-//! Whether a pair of files can be read, else its first fault.
+//! Checks whether a pair of files can be read.
 
 ghost use Rattle.std.specs.Prelude.{◌≡◌, None, IfOk, IfSome};
 ghost use Rattle.comtrade_read.specs.Verdicts.{IsFile, IsFaultyPair};
@@ -9,15 +9,18 @@ use dfr_channels::Memory;
 use std::alloc::Allocator;
 use thiserror::Error;
 
-/// The first fault of a pair, and the file that has it.
+/// The first error of a pair, and the file that has it.
 #[derive(Clone, Copy, Debug, PartialEq, Eq, Error)]
 #[error("{part}: {fault}")]
 pub struct Fault {
+    /// The file with the error.
     pub part: Part,
+    /// The error.
     pub fault: ReadFault,
 }
 
-/// The first fault of a pair, in reading order; None where the pair can be read. `Memory`: an allocation failed.
+/// The first error of a pair, or None if the pair can be read. The configuration file comes first.
+/// `Memory`: an allocation failed.
 pub fn verdict_of<A: Allocator + Copy>(
     alloc: A,
     cfg: &[u8],

@@ -1,4 +1,4 @@
-//! Values a·x + b of few digits, written at a place in a slot.
+//! Writes values a·x + b with few digits at a position in a buffer.
 
 ghost use Rattle.std.specs.Prelude.{◌≡◌, ◌+◌, ◌*◌, ◌/◌, ◌%◌, ◌^◌, ◌<◌, ◌≤◌, ◌++◌, ◌+ℤ◌, ◌*ℤ◌, FitsSigned, IfNone, IfSome, length, take};
 ghost use Rattle.std.specs.Int.{w64};
@@ -10,24 +10,28 @@ use crate::values::exact::with_places;
 use crate::values::places::{write_front, write_places};
 use dfr_channels::Decimal;
 
-/// The factors a and b of a channel (C37.111-1999, 5.3.3) with the same places, of 64 bits each.
+/// A channel's factors a and b (C37.111-1999, 5.3.3) with the same number of decimal places. Each
+/// is an integer over 10^`places`.
 #[derive(Clone, Copy, Debug)]
 pub struct AlignedScale {
+    /// The factor a, in units of the last place.
     pub a: i64,
+    /// The offset b, in the same units.
     pub b: i64,
+    /// The number of decimal places of both.
     pub places: u8,
 }
 
-/// The most places of a value whose digits are written here.
+/// The most decimal places of a value written here.
 const MOST_PLACES: u8 = 16;
 
-/// The greatest number of eight digits, the most that stand before the point.
+/// The largest number with eight digits, the most that are written before the point.
 const MOST_BEFORE: u64 = 99_999_999;
 
-/// The most bytes of a value that is written here: a minus, 8 digits, a point and 16 digits.
+/// The most bytes of a value written here: a minus sign, 8 digits, a point and 16 digits.
 pub const LONGEST_VALUE: usize = 26;
 
-/// The number's units with so many places; None where they have more than 64 bits.
+/// The number in units of `places` decimal places; None if these need more than 64 bits.
 fn units_of(number: Decimal, places: u8) -> Option<i64>
     requires more { number.places ≤ places }
     requires few { places ≤ 16 }
@@ -40,7 +44,8 @@ fn units_of(number: Decimal, places: u8) -> Option<i64>
     i64::try_from(longer.units()).ok()
 }
 
-/// A channel's a and b with the places of the finer one; None where they have more than 64 bits then, or more than 16 places.
+/// A channel's a and b with the decimal places of the finer one. None if these are more than 16, or
+/// if a or b then needs more than 64 bits.
 pub fn aligned_scale_of(a: Decimal, b: Decimal) -> Option<AlignedScale>
     ensures value { IfSome result (Values.IsAligned a b) }
     ensures some { IfSome result (λ scale. Values.IsUnaligned a b → ⊥) }
@@ -57,7 +62,7 @@ pub fn aligned_scale_of(a: Decimal, b: Decimal) -> Option<AlignedScale>
     })
 }
 
-/// n * factor / 2^(64 + shift), rounded down: a quotient without a division, for speed.
+/// n * factor / 2^(64 + shift), rounded down. It replaces a division, for speed.
 fn scaled(n: u64, factor: u64, shift: u32) -> u64
     requires { shift < 64 }
     ensures { result ≡ n * factor / 2 ^ 64 / 2 ^ shift }
@@ -65,7 +70,7 @@ fn scaled(n: u64, factor: u64, shift: u32) -> u64
     ((n as u128 * factor as u128) >> 64) as u64 >> shift
 }
 
-/// 10^zeros, where zeros are at most 16.
+/// 10^zeros; `zeros` is at most 16.
 fn ten_to(zeros: u8) -> u64
     requires { zeros < 17 }
     ensures { result ≡ 10 ^ zeros }
@@ -91,7 +96,7 @@ fn ten_to(zeros: u8) -> u64
     }
 }
 
-/// A number's quotient by 10^places, where places are at most 16. Most values have few.
+/// n / 10^places, rounded down; `places` is at most 16. Most values have few places.
 fn quotient(n: u64, places: u8) -> u64
     requires places { places < 17 }
     requires size { n ≤ 2 ^ 63 }
@@ -109,14 +114,15 @@ fn quotient(n: u64, places: u8) -> u64
     }
 }
 
-/// What stands before the point of a number, and after it as so many digits of sixteen.
+/// The number before the point, and the digits after it as a number of 16 digits.
 #[derive(Clone, Copy)]
 struct Parts {
     before: u64,
     after: u64,
 }
 
-/// The parts of a number with so many places; None where more than eight digits stand before the point.
+/// Splits a number of `places` decimal places at its point. None if more than eight digits precede
+/// the point.
 fn parts_of(n: u64, places: u8) -> Option<Parts>
     requires places { places < 17 }
     requires size { n ≤ 2 ^ 63 }
@@ -132,7 +138,8 @@ fn parts_of(n: u64, places: u8) -> Option<Parts>
     Some(Parts { before, after })
 }
 
-/// Writes a minus at the place where the number is below 0, and answers the place after it. The byte is written in any case.
+/// Writes a minus sign at `at` if the number is negative, and returns the position after it. The
+/// byte at `at` is overwritten in any case.
 fn write_minus(slot: &mut [u8], at: usize, units: i64) -> usize
     requires { at < length slot.old }
     ensures text { take result slot.new ≡ take at slot.old ++ minus units }
@@ -142,8 +149,11 @@ fn write_minus(slot: &mut [u8], at: usize, units: i64) -> usize
     if units < 0 { at + 1 } else { at }
 }
 
-/// Writes the number units / 10^places without zeros at the end of its places, from `at` on, and answers the place after it; None where it
-/// has more than 16 places or 8 digits before the point, or fewer than 26 bytes stand from `at` on. Bytes after it may be overwritten.
+/// Writes the number units / 10^places from `at` on, without trailing zeros after the point, and
+/// returns the position after it. Bytes after that position may be overwritten.
+///
+/// None, with `slot` unchanged, if `places` is over 16, if more than 8 digits precede the point, or
+/// if fewer than 26 bytes follow from `at` on.
 pub fn write_shortened(slot: &mut [u8], at: usize, units: i64, places: u8) -> Option<usize>
     ensures value { IfSome result (λ end.
         Values.WritesValue slot.old slot.new at end (number_of units places)) }
@@ -161,7 +171,7 @@ pub fn write_shortened(slot: &mut [u8], at: usize, units: i64, places: u8) -> Op
 }
 
 impl AlignedScale {
-    /// The value of a sample in units of the last place; None where they have more than 64 bits.
+    /// The value of a sample in units of the last place; None if these need more than 64 bits.
     fn units_at(self, sample: i32) -> Option<i64>
         ensures value { IfSome result (λ units. units ≡ self.a *ℤ sample +ℤ self.b) }
         ensures some { IfSome result (λ units. Values.HasUnits self sample) }
@@ -170,7 +180,9 @@ impl AlignedScale {
         self.a.checked_mul(sample as i64)?.checked_add(self.b)
     }
 
-    /// Writes the value a·x + b of a sample as `write_shortened` does; None where that does, or where its units have more than 64 bits.
+    /// Writes the value a·x + b of a sample x as `write_shortened` does. None, with `slot`
+    /// unchanged, for the same reasons, or if the value in units of the last place needs more than
+    /// 64 bits.
     pub fn write_value(self, slot: &mut [u8], at: usize, sample: i32) -> Option<usize>
         ensures value { IfSome result (λ end.
             Values.WritesValue slot.old slot.new at end (Values.aligned_value self sample)) }

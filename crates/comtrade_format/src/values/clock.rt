@@ -1,4 +1,4 @@
-//! When the rows of a data file were taken.
+//! Computes when the rows of a data file were sampled.
 
 ghost use Rattle.std.specs.Prelude.{◌≡◌, ◌<◌, ◌≤◌, ◌*◌, ◌^◌, ℕ, Option, length, IfSome};
 ghost use Rattle.comtrade_format.specs.Times as Times;
@@ -7,7 +7,7 @@ use crate::file::{Head, Rate};
 use dfr_channels::Decimal;
 use std::alloc::Allocator;
 
-/// 10^zeros. Rates have few places, and a power is dear to a call for each row.
+/// 10^zeros. Rates have few places, and computing a power for each row would cost much.
 fn ten_to(zeros: u8) -> u128
     requires { zeros < 39 }
     ensures { result ≡ 10 ^ zeros }
@@ -23,7 +23,7 @@ fn ten_to(zeros: u8) -> u128
     }
 }
 
-/// The units of a number that isn't negative.
+/// The number's units; None if it is negative.
 fn size_of(number: Decimal) -> Option<u128>
     ensures { result ≡ Times.size number.units }
 {
@@ -34,7 +34,7 @@ fn size_of(number: Decimal) -> Option<u128>
     Some(units.unsigned_abs())
 }
 
-/// The product, where it and both numbers have 64 bits.
+/// The product, if it and both numbers fit in 64 bits.
 #[inline(always)]
 fn short_product(x: u128, y: u128) -> Option<u64>
     ensures { IfSome result (λ n. n ≡ x * y) }
@@ -44,7 +44,7 @@ fn short_product(x: u128, y: u128) -> Option<u64>
     x.checked_mul(y)
 }
 
-/// The product, where it has 128 bits; nearly all have 64.
+/// The product, if it fits in 128 bits; nearly all fit in 64.
 fn product(x: u128, y: u128) -> Option<u128>
     ensures { result ≡ Times.product x y }
 {
@@ -54,15 +54,15 @@ fn product(x: u128, y: u128) -> Option<u128>
     }
 }
 
-/// The quotient, rounded down.
+/// The quotient, rounded down; None if the divisor is 0.
 fn quotient(x: u128, y: u128) -> Option<u128>
     ensures { result ≡ Times.quotient x y }
 {
     if y == 0 { None } else { Some(x / y) }
 }
 
-/// How long so many rows at a rate last, in nanoseconds, rounded down; none where that has no number of 128 bits, or the rate is 0 or has
-/// more than 29 places.
+/// How long `rows` rows take at a rate, in nanoseconds, rounded down. None if the rate isn't above
+/// 0 or has more than 29 places, or if the computation exceeds 128 bits.
 fn span_of(rate: Decimal, rows: u64) -> Option<u128>
     ensures { result ≡ Times.span rate rows }
 {
@@ -74,7 +74,9 @@ fn span_of(rate: Decimal, rows: u64) -> Option<u128>
     quotient(nanos, units)
 }
 
-/// The time of a stamp, which counts in microseconds times the multiplier, in nanoseconds, rounded down.
+/// The time of a stamp in nanoseconds, rounded down; the stamp times `timemult` is in
+/// microseconds. None if `timemult` is negative or has more than 38 places, or if the computation
+/// exceeds 128 bits.
 fn nanos_of_stamp(timemult: Decimal, stamp: u64) -> Option<u128>
     ensures { result ≡ Times.stamp_time timemult stamp }
 {
@@ -86,21 +88,21 @@ fn nanos_of_stamp(timemult: Decimal, stamp: u64) -> Option<u128>
     quotient(nanos, ten_to(timemult.places()))
 }
 
-/// Both times together, where both are there and the sum has 128 bits.
+/// The sum of both times, if both exist and it fits in 128 bits.
 fn together(x: Option<u128>, y: Option<u128>) -> Option<u128>
     ensures { result ≡ Times.together x y }
 {
     x?.checked_add(y?)
 }
 
-/// Whether a rate says when its rows were taken.
+/// Whether a rate is above 0, so that it gives the times of its rows.
 fn is_rate(rate: &Rate) -> bool
     ensures { result ≡ Times.is_rate rate.now }
 {
     0 < rate.samp.units()
 }
 
-/// Whether each rate says when its rows were taken.
+/// Whether every rate is above 0.
 fn are_rates(rates: &[Rate]) -> bool
     ensures { result ≡ Times.are_rates rates.now }
 {
@@ -112,13 +114,13 @@ fn are_rates(rates: &[Rate]) -> bool
     true
 }
 
-/// The rates of a file, from that of a row on.
+/// The rates of a file, from that of some row on.
 #[derive(Clone, Copy, Debug)]
 struct Paces<'a> {
     rates: &'a [Rate],
-    /// When the row after the last one of the rates before them was taken.
+    /// The time of row `from`, in nanoseconds since the first row.
     begun: Option<u128>,
-    /// How many rows the rates before them have.
+    /// The number of rows of the earlier rates.
     from: u64,
 }
 
@@ -134,7 +136,7 @@ fn next<'a>(paces: Paces<'a>, rate: &Rate, more: &'a [Rate]) -> Paces<'a>
     }
 }
 
-/// The rates without those of which all rows are before this one.
+/// The rates without the ones whose rows all precede `row`.
 #[inline(always)] // for each row: to hand its answer over in memory takes as long as to find it
 fn past<'a>(paces: Paces<'a>, row: u64) -> Paces<'a>
     ensures since { (later : ℕ) → row ≤ later → Times.since_by result later ≡ Times.since_by paces.entry later }
@@ -150,7 +152,7 @@ fn past<'a>(paces: Paces<'a>, row: u64) -> Paces<'a>
     left
 }
 
-/// When the row of this index, from 0, was taken by the rates.
+/// The time of the row with this index, from 0, according to the rates.
 fn by_rates(paces: Paces<'_>, row: u64) -> Option<u128>
     ensures { result ≡ Times.since_by paces.entry row }
 {
@@ -164,8 +166,9 @@ fn by_rates(paces: Paces<'_>, row: u64) -> Option<u128>
     }
 }
 
-/// When the rows of one file were taken. Where the file says a rate, and none of its rates is 0, the rates alone decide, also where rows
-/// have stamps (C37.111-1999, 5.3.6); else the stamps do (5.3.9).
+/// The clock of a file: it gives the time of each row. If `nrates` isn't 0 and every rate is above
+/// 0, the rates alone decide, even if rows have stamps (C37.111-1999, 5.3.6). Otherwise the stamps
+/// decide (5.3.9).
 #[derive(Clone, Copy, Debug)]
 pub struct Clock<'a> {
     paces: Paces<'a>,
@@ -173,7 +176,7 @@ pub struct Clock<'a> {
     timemult: Decimal,
 }
 
-/// The clock of a file.
+/// The clock of the file with this head.
 pub fn clock_of<A: Allocator>(head: &Head<A>) -> Clock<'_>
     ensures { (row : ℕ) (stamp : Option ℕ) → Times.time_by result row stamp ≡ Times.time_of head.now row stamp }
 {
@@ -190,7 +193,8 @@ pub fn clock_of<A: Allocator>(head: &Head<A>) -> Clock<'_>
 }
 
 impl<'a> Clock<'a> {
-    /// The clock from this row on: it answers the same of it and the rows after it, and is quicker where there are many rates.
+    /// The clock from `row` on. It gives the same times for `row` and all later rows, and is faster
+    /// if there are many rates.
     pub fn at(&self, row: u64) -> Clock<'a>
         ensures { (later : ℕ) (stamp : Option ℕ) → row ≤ later
             → Times.time_by result later stamp ≡ Times.time_by self.now later stamp }
@@ -202,8 +206,12 @@ impl<'a> Clock<'a> {
         }
     }
 
-    /// When the row of this index, from 0, with this stamp was taken, in nanoseconds since the first row, rounded down in each rate; none
-    /// where neither a rate nor a stamp says it, or where it has more than 128 bits.
+    /// The time of the row with this index, from 0, and this stamp. It is in nanoseconds since the
+    /// first row, rounded down within each rate.
+    ///
+    /// None if neither a rate nor a stamp gives the time, or `timemult` is negative. None also if
+    /// a rate has more than 29 places, `timemult` has more than 38, or the computation exceeds
+    /// 128 bits.
     pub fn nanos(&self, row: u64, stamp: Option<u64>) -> Option<u128>
         ensures { result ≡ Times.time_by self.now row stamp }
     {

@@ -5,27 +5,28 @@ ghost use Rattle.std.specs.Prelude.{◌≡◌, ◌+◌, ◌-◌, ◌*◌, ◌/�
 use dfr_channels::Decimal;
 use std::num::nearest_u64_to_f64;
 
-/// Why a rate has no cycle of a line frequency.
+/// Why `cycle_of` has no result.
 #[derive(Clone, Copy, Debug, PartialEq, Eq)]
 pub enum CycleFault {
-    /// The line frequency isn't over 0.
+    /// The line frequency isn't above 0.
     NoFrequency,
-    /// The rate isn't over 0.
+    /// The rate isn't above 0.
     NoRate,
-    /// The rows of a cycle are no quotient of two numbers of 64 bits.
+    /// The computation exceeds 128 bits, or the quotient in lowest terms needs more than 64.
     Digits,
-    /// There are fewer than 3 rows a cycle.
+    /// A cycle has fewer than 3 rows.
     Slow,
 }
 
-/// So many cycles of the line frequency are so many rows, exactly. There are at least 3 rows a cycle.
+/// The length of a cycle: `cycles` cycles of the line frequency last exactly `rows` rows. From
+/// `cycle_of` there are at least 3 rows per cycle.
 #[derive(Clone, Copy, Debug, PartialEq, Eq)]
 pub struct Cycle {
     pub cycles: u64,
     pub rows: u64,
 }
 
-/// The greatest common divisor: numbers of 128 bits take at most 185 steps.
+/// The greatest common divisor. Numbers of 128 bits take at most 185 steps.
 fn common(x: u128, y: u128) -> u128 {
     let mut greater = x;
     let mut less = y;
@@ -40,7 +41,7 @@ fn common(x: u128, y: u128) -> u128 {
     greater
 }
 
-/// The number times 10^zeros, where it has 128 bits.
+/// The number's size times 10^zeros, if it fits in 128 bits.
 fn with_zeros(number: i128, zeros: u8) -> Option<u128> {
     let mut long = number.unsigned_abs();
     for _ in 0..zeros {
@@ -49,7 +50,7 @@ fn with_zeros(number: i128, zeros: u8) -> Option<u128> {
     Some(long)
 }
 
-/// The quotient of both in lowest terms, where these have 64 bits.
+/// The quotient in lowest terms, if both of its numbers fit in 64 bits.
 fn reduced(cycles: u128, rows: u128) -> Option<Cycle> {
     let divisor = common(cycles, rows).max(1);
     Some(Cycle {
@@ -58,7 +59,7 @@ fn reduced(cycles: u128, rows: u128) -> Option<Cycle> {
     })
 }
 
-/// The rate's rows a second over the frequency's cycles a second.
+/// Rows per second over cycles per second.
 fn quotient_of(frequency: Decimal, rate: Decimal) -> Option<Cycle> {
     let cycles = with_zeros(
         frequency.units(),
@@ -71,7 +72,8 @@ fn quotient_of(frequency: Decimal, rate: Decimal) -> Option<Cycle> {
     reduced(cycles, rows)
 }
 
-/// The cycle of a line frequency at a rate (C37.111-1999, 5.3.5, 5.3.6).
+/// The cycle of a line frequency in Hz at a rate in scans per second (C37.111-1999, 5.3.5, 5.3.6).
+/// Errors, in this order: `NoFrequency`, `NoRate`, `Digits`, `Slow`.
 pub fn cycle_of(frequency: Decimal, rate: Decimal) -> Result<Cycle, CycleFault>
     ensures { IfOk result (λ cycle. (0 < cycle.cycles) × (3 * cycle.cycles ≤ cycle.rows)) }
 {
@@ -91,21 +93,21 @@ pub fn cycle_of(frequency: Decimal, rate: Decimal) -> Result<Cycle, CycleFault>
 }
 
 impl Cycle {
-    /// The rows of so many cycles, rounded down.
+    /// The rows in this many cycles, rounded down.
     pub fn rows_in(self, cycles: u64) -> u128
         ensures { 0 < self.cycles → result ≡ cycles * self.rows / self.cycles }
     {
         cycles as u128 * self.rows as u128 / self.cycles.max(1) as u128
     }
 
-    /// The most cycles of which the rows are at most so many.
+    /// The most cycles whose rows, rounded down, are at most this many.
     pub fn cycles_in(self, rows: u64) -> u128
         ensures { 0 < self.cycles → 0 < self.rows → result ≡ ((rows + 1) * self.cycles - 1) / self.rows }
     {
         ((rows as u128 + 1) * self.cycles as u128).saturating_sub(1) / self.rows.max(1) as u128
     }
 
-    /// What part of a row a cycle has over its whole rows.
+    /// The fraction of a row that a cycle has in addition to its whole rows.
     pub fn part(self) -> f64 {
         let rest = self.rows % self.cycles.max(1);
         nearest_u64_to_f64(rest) / nearest_u64_to_f64(self.cycles)

@@ -1,4 +1,4 @@
-//! The value a * x + b of a sample, exactly.
+//! Computes the value a·x + b of a sample exactly.
 
 ghost use Rattle.std.specs.Prelude.{◌≡◌, ◌≢◌, ◌+◌, ◌<◌, ◌≤◌, ◌^◌, ◌*ℤ◌, pos, FitsSigned, IfNone, IfSome};
 ghost use Rattle.std.specs.Int.{w128};
@@ -16,7 +16,8 @@ fn short_product(x: i64, y: i64) -> i128
     x as i128 * y as i128
 }
 
-/// The product; None where it has more than 128 bits. Most numbers have 64, and their product never more than 128.
+/// The product; None if it exceeds 128 bits. Most numbers fit in 64 bits, and the product of two
+/// such numbers in 128.
 fn times(one: i128, other: i128) -> Option<i128>
     ensures { SomeIff result (FitsSigned w128 (one *ℤ other)) (one *ℤ other) }
 {
@@ -28,7 +29,7 @@ fn times(one: i128, other: i128) -> Option<i128>
     one.checked_mul(other)
 }
 
-/// The number times a sample; None where that has more than 36 digits.
+/// The number times a sample; None if the result has more than 36 digits.
 fn product(number: Decimal, sample: i32) -> Option<Decimal>
     ensures { SomeIff result (IsNumber (Values.times number sample)) (Values.times number sample) }
 {
@@ -36,7 +37,7 @@ fn product(number: Decimal, sample: i32) -> Option<Decimal>
     Decimal::new(units, number.places())
 }
 
-/// 10^zeros, where zeros are at most 35.
+/// 10^zeros; `zeros` is at most 35.
 fn power(zeros: u8) -> i128
     requires { zeros < 36 }
     ensures { result ≡ pos (10 ^ zeros) }
@@ -44,7 +45,7 @@ fn power(zeros: u8) -> i128
     10i128.pow(zeros as u32)
 }
 
-/// The number with zeros after its places; None where it then has more than 36 digits.
+/// The same number with `places` decimal places; None if it then has more than 36 digits.
 pub(super) fn with_places(number: Decimal, places: u8) -> Option<Decimal>
     requires { number.places ≤ places }
     ensures { let longer = Values.with_places places number in
@@ -64,7 +65,8 @@ pub(super) fn with_places(number: Decimal, places: u8) -> Option<Decimal>
     Decimal::new(units, places)
 }
 
-/// a * x + b, with the places of the finer of a and b; None where a * x, b or the sum then has more than 36 digits.
+/// The value a·x + b of a sample x, exactly, with the decimal places of the finer of a and b. None
+/// if a·x, b or the sum then has more than 36 digits.
 pub fn exact_value(a: Decimal, b: Decimal, sample: i32) -> Option<Decimal>
     ensures { SomeIff result (Values.IsShort a b sample) (Values.value a b sample) }
 {
@@ -74,7 +76,8 @@ pub fn exact_value(a: Decimal, b: Decimal, sample: i32) -> Option<Decimal>
     Decimal::new(product.units() + offset.units(), places)
 }
 
-/// A tenth of a whole number; None where its last digit isn't 0. Most have 64 bits, whose division is the quicker one.
+/// A tenth of an integer; None if its last digit isn't 0. Most fit in 64 bits, where division
+/// is faster.
 fn tenth_of(units: i128) -> Option<i128>
     ensures none { IfNone result (int_rem units (pos 10) ≢ pos 0) }
     ensures some { IfSome result (λ tenth. tenth *ℤ pos 10 ≡ units) }
@@ -93,7 +96,7 @@ fn tenth_of(units: i128) -> Option<i128>
     }
 }
 
-/// The same number with one place fewer; None where it has none, or its last digit isn't 0.
+/// The same number with one place fewer; None if it has no places or its last digit isn't 0.
 fn shortened(number: Decimal) -> Option<Decimal>
     ensures none { IfNone result (Values.HasNoZero number) }
     ensures same { IfSome result (λ n. Values.with_places number.places n ≡ number) }
@@ -106,7 +109,7 @@ fn shortened(number: Decimal) -> Option<Decimal>
     Decimal::new(tenth, number.places() - 1)
 }
 
-/// The same number without zeros at the end of its places.
+/// The same number without trailing zeros in its decimal places.
 pub fn without_zeros(number: Decimal) -> Decimal
     ensures { Values.IsTrimmed number result }
 {

@@ -1,4 +1,4 @@
-//! Decimals as floats.
+//! Converts decimals to floats.
 
 ghost use Rattle.std.specs.Prelude.{◌≡◌, IfOk};
 ghost use Rattle.comtrade_format.specs.Floats.{IsNearest, spelled};
@@ -7,7 +7,7 @@ use dfr_channels::{Decimal, Memory};
 use itoa::Buffer;
 use std::alloc::Allocator;
 
-/// The decimal's units and places, spelled with an exponent.
+/// The decimal as its units and an exponent, in text.
 fn spelled_of<A: Allocator>(alloc: A, decimal: Decimal) -> Result<Vec<u8, A>, Memory>
     ensures { IfOk result (λ text. text.items ≡ spelled decimal) }
 {

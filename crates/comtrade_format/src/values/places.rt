@@ -1,4 +1,4 @@
-//! Digits before and after a point, four of them at once, written at a place in a slot.
+//! Writes digits before and after a decimal point at a position in a buffer, four at a time.
 
 ghost use Rattle.std.specs.Prelude.{◌≡◌, ◌++◌, ◌+◌, ◌*◌, ◌^◌, ◌<◌, ◌≤◌, length, take, decimal};
 ghost use Rattle.byteorder.specs.Endian.{little_bytes};
@@ -8,7 +8,7 @@ ghost use Rattle.comtrade_format.specs.Places.{IsShown, WritesPlaces};
 use crate::value_text::pair_of;
 use byteorder::{ByteOrder, LittleEndian};
 
-/// Four digits with zeros in front, the first in the lowest byte.
+/// Four digits with leading zeros, the first in the lowest byte.
 fn four_digits(n: u64) -> u64
     requires { n < 10000 }
     ensures digits { little_bytes 4 result ≡ padded 4 n }
@@ -17,7 +17,7 @@ fn four_digits(n: u64) -> u64
     pair_of(n / 100) + 65_536 * pair_of(n % 100)
 }
 
-/// Eight digits with zeros in front, the first in the lowest byte.
+/// Eight digits with leading zeros, the first in the lowest byte.
 fn eight_digits(n: u64) -> u64
     requires { n < 100000000 }
     ensures { little_bytes 8 result ≡ padded 8 n }
@@ -25,7 +25,7 @@ fn eight_digits(n: u64) -> u64
     four_digits(n / 10_000) + 4_294_967_296 * four_digits(n % 10_000)
 }
 
-/// How many zeros stand in front, where four digits are written.
+/// How many leading zeros the number has when it is written with four digits.
 fn zeros_of_four(n: u64) -> usize
     requires { n < 10000 }
     ensures { result + length (decimal n) ≡ 4 }
@@ -41,7 +41,8 @@ fn zeros_of_four(n: u64) -> usize
     }
 }
 
-/// Writes a number of at most four digits from the place on, and answers the place after it. Eight bytes are written in any case.
+/// Writes a number of at most four digits at `at`, and returns the position after it. Eight bytes
+/// are overwritten in any case.
 fn write_few(slot: &mut [u8], at: usize, n: u64) -> usize
     requires few { n < 10000 }
     requires room { at + 8 ≤ length slot.old }
@@ -66,7 +67,8 @@ fn write_more(slot: &mut [u8], at: usize, n: u64) -> usize
     at + (8 - zeros)
 }
 
-/// Writes a number of at most eight digits from the place on, and answers the place after it. Eight bytes are written in any case.
+/// Writes a number of at most eight digits at `at`, and returns the position after it. Eight bytes
+/// are overwritten in any case.
 pub(crate) fn write_front(slot: &mut [u8], at: usize, n: u64) -> usize
     requires few { n < 100000000 }
     requires room { at + 8 ≤ length slot.old }
@@ -80,7 +82,7 @@ pub(crate) fn write_front(slot: &mut [u8], at: usize, n: u64) -> usize
     }
 }
 
-/// How many of four digits are shown, without zeros at their end.
+/// How many of four digits are left without trailing zeros.
 fn shown_of_four(n: u64) -> usize
     requires { n < 10000 }
     ensures { IsShown 4 n result }
@@ -94,7 +96,7 @@ fn shown_of_four(n: u64) -> usize
     }
 }
 
-/// How many of eight digits are shown, without zeros at their end.
+/// How many of eight digits are left without trailing zeros.
 fn shown_of_eight(n: u64) -> usize
     requires { n < 100000000 }
     ensures { IsShown 8 n result }
@@ -107,8 +109,8 @@ fn shown_of_eight(n: u64) -> usize
     }
 }
 
-/// Writes a point and four places without zeros at their end from the place on, and answers the place after them. Nine bytes are
-/// written in any case.
+/// Writes a point and four decimal places at `at`, and returns the position after the last digit
+/// that isn't a trailing zero, or `at` if all are 0. Nine bytes are overwritten in any case.
 fn write_four(slot: &mut [u8], at: usize, n: u64) -> usize
     requires few { n < 10000 }
     requires room { at + 9 ≤ length slot.old }
@@ -120,7 +122,7 @@ fn write_four(slot: &mut [u8], at: usize, n: u64) -> usize
     if shown == 0 { at } else { at + 1 + shown }
 }
 
-/// Writes a point and eight places in the same way.
+/// Writes a point and eight decimal places in the same way.
 fn write_eight(slot: &mut [u8], at: usize, n: u64) -> usize
     requires few { n < 100000000 }
     requires room { at + 9 ≤ length slot.old }
@@ -132,7 +134,7 @@ fn write_eight(slot: &mut [u8], at: usize, n: u64) -> usize
     if shown == 0 { at } else { at + 1 + shown }
 }
 
-/// Writes a point and sixteen places, of which the last eight aren't all zeros, in the same way.
+/// Writes a point and sixteen decimal places, the last eight not all zeros, in the same way.
 fn write_sixteen(slot: &mut [u8], at: usize, high: u64, low: u64) -> usize
     requires high { high < 100000000 }
     requires low { low < 100000000 }
@@ -146,8 +148,8 @@ fn write_sixteen(slot: &mut [u8], at: usize, high: u64, low: u64) -> usize
     at + 9 + shown_of_eight(low)
 }
 
-/// Writes a point and sixteen places without zeros at their end from the place on, and answers the place after them. 17 bytes are written
-/// at most.
+/// Writes a point and sixteen decimal places at `at`, and returns the position after the last digit
+/// that isn't a trailing zero, or `at` if all are 0. At most 17 bytes are overwritten.
 pub(crate) fn write_places(slot: &mut [u8], at: usize, n: u64) -> usize
     requires few { n < 10 ^ 16 }
     requires room { at + 17 ≤ length slot.old }

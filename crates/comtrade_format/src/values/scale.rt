@@ -1,4 +1,4 @@
-//! Samples as values in their channel's unit.
+//! Scales samples to values in their channel's unit.
 
 ghost use Rattle.std.specs.Prelude.{◌≡◌, IfOk};
 ghost use Rattle.comtrade_format.specs.Floats.{IsScale, scaled};
@@ -7,10 +7,13 @@ use crate::values::nearest_f64;
 use dfr_channels::{AnalogChannel, Memory};
 use std::alloc::Allocator;
 
-/// What turns the samples x of a channel into values a·x + b in its unit (C37.111-1999, 5.3.3).
+/// A channel's factors as floats: a sample x has the value a·x + b in the channel's unit
+/// (C37.111-1999, 5.3.3).
 #[derive(Clone, Copy, Debug)]
 pub struct Scale {
+    /// The factor, in the channel's unit per step of a sample.
     pub a: f64,
+    /// The offset, in the channel's unit.
     pub b: f64,
 }
 
@@ -24,7 +27,8 @@ pub fn scale_of<A: Allocator + Copy>(alloc: A, channel: &AnalogChannel<A>) -> Re
 }
 
 impl Scale {
-    /// a·x + b of a sample x, with the product and the sum rounded to the nearest float.
+    /// The value a·x + b of a sample x. The product and the sum are each rounded to the
+    /// nearest float.
     pub fn value(self, sample: i32) -> f64
         ensures { result ≡ scaled self sample }
     {
