@@ -59,7 +59,7 @@ class Store:
         self.refused = {} if is_anew else self.found()
 
     def found(self):
-        """What was kept; nothing where that can't be read."""
+        """What was kept; nothing where that cannot be read."""
         try:
             with open(self.path, encoding="utf-8") as file:
                 found = json.load(file)

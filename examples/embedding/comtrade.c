@@ -69,7 +69,7 @@ int32_t comtrade_version(void) { return COMTRADE_VERSION; }
 const char *comtrade_answer_text(int32_t answer) {
     static const char *const words[] = {
         "done", "the configuration file has a fault", "the data file has a fault", "no file can hold this", "out of memory",
-        "the buffer is too short", "there is no such channel, rate or row", "a file can't be read or written",
+        "the buffer is too short", "there is no such channel, rate or row", "a file cannot be read or written",
         "a struct has the size of no version", "an argument isn't one that the call takes",
     };
     return 0 <= answer && answer < (int32_t)(sizeof words / sizeof *words) ? words[answer] : "no answer of this library";
@@ -86,14 +86,14 @@ static int32_t put_text(const void *text, size_t length, char *buffer, size_t ro
 
 int32_t comtrade_fault_text(const struct comtrade_fault *fault, char *buffer, size_t room, size_t *needed) {
     static const char *const words[] = {
-        "no fault", "the first line isn't that of the revision of 1999", "line %llu has another number of fields than its kind wants",
-        "line %llu, field %lu can't be read or is out of its range",
-        "line %llu has a number that contradicts the lines before it or its own fields", "line %llu isn't a date and a time of day",
-        "the type of the data is neither ASCII nor BINARY", "line %llu is missing", "line %llu stands after the last line",
-        "the binary data aren't as long as their rows", "the parts of the file don't fit each other",
-        "line %llu, field %lu of the configuration file would be a text that it can't hold",
-        "row %llu has a value of channel %lu that the data file can't hold",
-        "row %llu has a number or a time stamp that the data file can't hold",
+        "no fault", "the first line is not that of a file of 1999", "line %llu has the wrong number of fields",
+        "line %llu, field %lu cannot be read or is out of its range",
+        "line %llu: a number contradicts an earlier line or its own fields", "line %llu is not a date and a time of day",
+        "the data type is neither ASCII nor BINARY", "line %llu is missing", "line %llu comes after the last line",
+        "the length of the binary data does not fit its rows", "the parts of the file do not fit each other",
+        "line %llu, field %lu of the configuration file: the text cannot be written there",
+        "row %llu: the data file cannot hold the value of channel %lu",
+        "row %llu: the data file cannot hold the row's number or time stamp",
     };
     char text[160];
     if (!fault || fault->kind >= sizeof words / sizeof *words) return COMTRADE_BAD_CALL;
@@ -382,7 +382,7 @@ int32_t comtrade_times(const comtrade *r, size_t first, size_t count, int64_t *t
     return answer;
 }
 
-/* A configuration file that is being composed; `fault` has a kind as soon as something can't be written. */
+/* A configuration file that is being composed; `fault` has a kind as soon as something cannot be written. */
 struct lines {
     char *at;
     size_t length, room;

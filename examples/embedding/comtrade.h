@@ -52,7 +52,7 @@ enum {
     COMTRADE_NO_MEMORY = 4,
     COMTRADE_NO_ROOM = 5,     /* a buffer is too short: `room` must be greater than `needed` */
     COMTRADE_NO_ITEM = 6,     /* there is no channel, rate or row with this number */
-    COMTRADE_NO_FILE = 7,     /* a file can't be read or written; errno gives the reason */
+    COMTRADE_NO_FILE = 7,     /* a file cannot be read or written; errno gives the reason */
     COMTRADE_BAD_SIZE = 8,    /* the `size` of a struct is not that of any version */
     COMTRADE_BAD_CALL = 9     /* a pointer is NULL, or a number is not one that the call accepts */
 };
@@ -63,10 +63,10 @@ const char *comtrade_answer_text(int32_t answer);
 enum {
     COMTRADE_REVISION = 1, /* place 1: the first line isn't of the 1999 revision (5.3.1) */
     COMTRADE_FIELDS = 2,   /* place: the line with the wrong number of fields */
-    COMTRADE_NUMBER = 3,   /* place, field: the field that can't be read or is out of its range */
+    COMTRADE_NUMBER = 3,   /* place, field: the field that cannot be read or is out of its range */
     COMTRADE_COUNTS = 4,   /* place: the line whose counts don't add up (5.3.2), whose number isn't
                             * its channel's position, or whose rate ends before the one above */
-    COMTRADE_INSTANT = 5,  /* place: the line that isn't a date and a time of day (5.3.7) */
+    COMTRADE_INSTANT = 5,  /* place: the line that is not a date and a time of day (5.3.7) */
     COMTRADE_KIND = 6,     /* the data type is neither ASCII nor BINARY (5.3.8) */
     COMTRADE_MISSING = 7,  /* place: the missing line, before which the file ends */
     COMTRADE_EXTRA = 8,    /* place: the first line after the last one that the file should have */
@@ -86,7 +86,7 @@ struct comtrade_fault {
     uint32_t kind;
 };
 
-/* The fault in words, such as "line 3, field 2 can't be read or is out of its range", with a
+/* The fault in words, such as "line 3, field 2 cannot be read or is out of its range", with a
  * zero at its end. `needed` is the length of the text without the zero; NO_ROOM unless
  * `room` is greater. */
 int32_t comtrade_fault_text(const struct comtrade_fault *fault, char *buffer, size_t room, size_t *needed);

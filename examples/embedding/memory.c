@@ -165,7 +165,7 @@ static void edges(const comtrade *r) {
     WANT(comtrade_text(r, -1, 0, text, 3, NULL), COMTRADE_BAD_CALL);
     WANT(comtrade_text(r, 9, 0, text, 3, NULL), COMTRADE_BAD_CALL);
     WANT(comtrade_fault_text(&fault, NULL, 0, &needed), COMTRADE_NO_ROOM);
-    WANT(needed, (long)strlen("line 3, field 2 can't be read or is out of its range"));
+    WANT(needed, (long)strlen("line 3, field 2 cannot be read or is out of its range"));
     WANT(comtrade_fault_text(&unknown, text, sizeof text, NULL), COMTRADE_BAD_CALL);
     WANT(comtrade_fault_text(NULL, text, sizeof text, NULL), COMTRADE_BAD_CALL);
 

@@ -6,7 +6,7 @@ from . import _library as c
 
 
 class ComtradeError(Exception):
-    """A record that can't be read or written. `place` and `field` count from 1, and are 0 where the fault has none: for a fault of a
+    """A record that cannot be read or written. `place` and `field` count from 1, and are 0 where the fault has none: for a fault of a
     configuration file or of ASCII data `place` is the line, for a sample or a stamp to be written the row (then `field` is the channel)."""
 
     def __init__(self, message: str, kind: int = 0, place: int = 0, field: int = 0):

@@ -12,37 +12,37 @@ use thiserror::Error;
 #[derive(Clone, Copy, Debug, PartialEq, Eq, Error)]
 pub enum ToolFault {
     /// No file or folder has this name.
-    #[error("there is no such file or folder")]
+    #[error("no such file or folder")]
     NoFile,
     /// The system doesn't let it be opened.
     #[error("no permission")]
     Denied,
     /// A file of this name is there, and isn't written over.
-    #[error("is there already, and stays as it is")]
+    #[error("already exists, and was left as it is")]
     Exists,
     /// A folder stands in a file's place.
     #[error("is a folder")]
     Folder,
     /// A single file, where a pair is asked for.
-    #[error("is a single file, and no pair of 1999")]
+    #[error("is a single file, not a pair of 1999")]
     Single,
     /// Links lead back to themselves.
-    #[error("is a link that leads back to itself")]
+    #[error("is a link that leads to itself")]
     Loop,
     /// A read failed.
-    #[error("can't be read")]
+    #[error("cannot be read")]
     Input,
     /// More came than is read.
     #[error("is longer than 536870912 bytes")]
     Long,
     /// A file that was begun is taken away again, since its pair isn't whole.
-    #[error("is removed again, since its pair can't be written whole")]
+    #[error("was removed again, because the whole pair could not be written")]
     Removed,
     /// A file that was begun can't be taken away, though its pair isn't whole.
-    #[error("can't be removed again, and stays there, though its pair isn't whole")]
+    #[error("could not be removed; an incomplete pair is left behind")]
     Left,
     /// A write failed.
-    #[error("can't be written")]
+    #[error("cannot be written")]
     Output,
     /// Who reads what is written has gone away.
     #[error("is closed")]

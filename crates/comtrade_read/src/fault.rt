@@ -13,35 +13,35 @@ use thiserror::Error;
 #[derive(Clone, Copy, Debug, PartialEq, Eq, Error)]
 pub enum ReadFault {
     /// The first line has only two fields, or its third isn't the revision year 1999 (5.3.1).
-    #[error("the first line isn't that of the revision of 1999")]
+    #[error("the first line is not that of a file of 1999")]
     Revision,
     /// The line has the wrong number of fields.
-    #[error("line {0} has another number of fields than its kind wants")]
+    #[error("line {0} has the wrong number of fields")]
     Fields(u64),
     /// Line and field: the field can't be read or is out of its range. In the first line, in an
     /// instant and in the data type the error is `Revision`, `Instant` or `Kind` instead.
-    #[error("line {0}, field {1} can't be read or is out of its range")]
+    #[error("line {0}, field {1} cannot be read or is out of its range")]
     Number(u64, u32),
     /// The channel counts don't add up or are 0 (5.3.2), a channel's number isn't its position
     /// (5.3.3, 5.3.4), or a rate's last sample is below the one before it (5.3.6).
-    #[error("line {0} has a number that contradicts the lines before it or its own fields")]
+    #[error("line {0}: a number contradicts an earlier line or its own fields")]
     Counts(u64),
     /// The line has two fields, but they aren't a date and a time of day in the years 1 to
     /// 9999 (5.3.7).
-    #[error("line {0} isn't a date and a time of day")]
+    #[error("line {0} is not a date and a time of day")]
     Instant(u64),
     /// The data type is neither ASCII nor BINARY, in upper or lower case (5.3.8).
-    #[error("the type of the data is neither ASCII nor BINARY")]
+    #[error("the data type is neither ASCII nor BINARY")]
     Kind,
     /// The file ends before this line. Blank lines at its end don't count.
     #[error("line {0} is missing")]
     Missing(u64),
     /// The file continues after its last line with text that isn't blank. The number is that of the
     /// first line after the last one.
-    #[error("line {0} stands after the last line")]
+    #[error("line {0} comes after the last line")]
     Extra(u64),
     /// The length of BINARY data isn't that of the expected rows (clause 6).
-    #[error("the binary data aren't as long as their rows")]
+    #[error("the length of the binary data does not fit its rows")]
     Length,
     /// An allocation failed. The file may have another error as well.
     #[error("out of memory")]

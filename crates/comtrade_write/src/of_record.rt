@@ -22,7 +22,7 @@ use thiserror::Error;
 pub enum FileFault {
     /// The record doesn't match the layout: a scan doesn't pass the layout's check, the last scan
     /// has no instant in this layout, or the last row's stamp is over 4,294,967,294 microseconds.
-    #[error("the record isn't of this layout")]
+    #[error("the record does not match the layout")]
     Foreign,
     /// An allocation failed.
     #[error("out of memory")]

@@ -34,11 +34,11 @@ impl<A: Allocator> Model for Layout<A> {
 #[derive(Clone, Copy, Debug, PartialEq, Eq, Error)]
 pub enum ScanFault {
     /// The number of readings or bits is not the layout's.
-    #[error("another number of readings or bits than the layout has")]
+    #[error("the number of readings or bits is not that of the layout")]
     Shape,
     /// The lowest channel, from 0, whose value is below its `min` or above its `max`. A missing
     /// reading is always in range.
-    #[error("the value of analogue channel {0}, counted from 0, is out of its range")]
+    #[error("the value of analogue channel {0} (counted from 0) is out of its range")]
     Range(u32),
 }
 

@@ -32,7 +32,7 @@ pub enum RuleFault {
     #[error("more than 32 rules")]
     TooMany,
     /// The lowest rule, from 0, whose channel the layout does not have.
-    #[error("rule {0}, counted from 0, names no channel of its kind")]
+    #[error("rule {0} (counted from 0) names no channel of its kind")]
     NoChannel(u32),
 }
 

@@ -70,19 +70,19 @@ impl Display for Place {
 pub enum SetupFault {
     /// The first place with a text that a file can't hold. Only the first 256 channels of each kind
     /// are checked for this.
-    #[error("a text of {0} that a file can't hold")]
+    #[error("a text of {0} cannot be written to a file")]
     Text(Place),
     /// There is no channel, or there are more than 256 of a kind.
-    #[error("no channel, or more than 256 of a kind")]
+    #[error("no channels, or more than 256 of one kind")]
     Channels,
     /// The lowest analogue channel, from 0, without -32767 <= min <= max <= 32767.
-    #[error("min and max of analogue channel {0}, counted from 0, aren't in order within 32767")]
+    #[error("min and max of analogue channel {0} (counted from 0) are not in order, or beyond 32767")]
     Span(u32),
     /// The rate is not 1 to 1,000,000 scans a second.
-    #[error("not 1 to 1000000 scans a second")]
+    #[error("the rate is not 1 to 1000000 scans a second")]
     Rate,
     /// The start is before 1970 or after the year 9999.
-    #[error("a start before 1970 or after the year 9999")]
+    #[error("the start is before 1970 or after the year 9999")]
     Start,
 }
 

@@ -32,13 +32,13 @@ pub enum LimitFault {
     #[error("no scan after the trigger")]
     Post,
     /// Not `pre + 1 + post <= longest <= 1,000,000`.
-    #[error("the longest record has too few scans, or more than 1000000")]
+    #[error("the longest record is too short, or longer than 1000000 scans")]
     Longest,
     /// `shelf` is not 1 to 64.
-    #[error("not 1 to 64 records on the shelf")]
+    #[error("the queue of finished records does not have room for 1 to 64")]
     Shelf,
     /// The last row of the longest record would have a time stamp over 4,294,967,294 microseconds.
-    #[error("the longest record would have a time stamp over 4294967294 microseconds")]
+    #[error("the longest record would have a time stamp above 4294967294 microseconds")]
     Stamp,
 }
 

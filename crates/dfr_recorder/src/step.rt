@@ -57,16 +57,16 @@ pub enum LostRefusal {
 #[derive(Clone, Copy, Debug, PartialEq, Eq, Error)]
 pub enum TriggerFault {
     /// No scan has been accepted yet.
-    #[error("no scan was accepted yet")]
+    #[error("no scan has been accepted yet")]
     NoScan,
     /// No record is open, and the shelf is full of finished records.
-    #[error("the shelf is full of records")]
+    #[error("the queue of finished records is full")]
     ShelfFull,
     /// An allocation failed.
     #[error("out of memory")]
     Memory,
     /// Under unshared limits: no record is open, and the newest one already has the last scan.
-    #[error("the newest record has the last scan already")]
+    #[error("the newest record already has the last scan")]
     Covered,
 }
 

@@ -20,6 +20,6 @@ fn main(rt: HostRuntime) -> Result<()> {
         (Some("recorder"), None, _) => recorder::record(&rt),
         (Some("write"), None, _) => write::print(&rt),
         (Some("write"), Some(name), None) => write::write_named(&rt, name),
-        _ => Err(anyhow!("wanted is: peaks CFG DAT, recorder, or write [NAME]")),
+        _ => Err(anyhow!("expected: peaks CFG DAT, recorder, or write [NAME]")),
     }
 }
