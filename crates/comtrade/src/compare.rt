@@ -188,9 +188,7 @@ pub(crate) fn run_compare<R: Files + Input + Print + Eprint + AllocGlobal + Clon
     asked: Compared<'_>,
 ) -> u8 {
     let Some(by) = by_of(asked.by) else {
-        let _ = eprintln!(rt;
-            "error: what falls together is instant or trigger: --by instant, --by trigger"
-        );
+        let _ = eprintln!(rt; "error: --by expects instant or trigger");
         return 2;
     };
     let Some(picture) = options_of(asked.picture) else {

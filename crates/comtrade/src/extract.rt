@@ -64,14 +64,14 @@ fn extract_all<R: Files + Print + Eprint + AllocGlobal>(
             }
             Next::End => {
                 if written == 0 {
-                    let _ = eprintln!(rt; "comtrade: standard input holds no record");
+                    let _ = eprintln!(rt; "comtrade: standard input has no record");
                 }
-                return 0;
+                return u8::from(written == 0);
             }
             Next::Foreign(line) => {
                 refuse_line(
                     rt,
-                    "a line that no replay prints, or a record cut off",
+                    "not a line that dfr replay prints, or a truncated record",
                     line,
                 );
                 return stop(rt, written);
@@ -90,7 +90,7 @@ pub(crate) fn run_extract<R: Files + Input + Print + Eprint + AllocGlobal>(
     folder: &str,
 ) -> u8 {
     if folder.is_empty() {
-        let _ = eprintln!(rt; "error: the folder has no name");
+        let _ = eprintln!(rt; "error: the name of the folder is empty");
         return 2;
     }
     if let Err(error) = fs::create_dir_all(rt, folder) {

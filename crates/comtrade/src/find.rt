@@ -158,7 +158,7 @@ fn refuse_partner<R: Eprint + AllocGlobal>(rt: &R, name: &str, ending: Ending) -
     let _ = eprint!(rt; "comtrade: ");
     say(rt, &text);
     let _ = eprint!(rt;
-        "{}: there is no such file, in any case of letters, in the folder ",
+        "{}: no such file, in upper or lower case, in the folder ",
         ending.text()
     );
     say(rt, &place);

@@ -2,130 +2,71 @@
 
 use crate::load::{put_notes, read_inputs, refuse_import};
 use crate::write::{is_name, write_named};
-use crate::{out_of_memory, print_bytes};
+use crate::{out_of_memory, print_bytes, say};
 use comtrade_diagnostics::{Choices, Imported, Key, Order, import, import_single};
-use comtrade_io::Names;
-use std::alloc::AllocError;
+use comtrade_io::{Importing, put, put_quoted};
+use std::alloc::{AllocError, Allocator};
 use std::rt::Files;
 
-const HELP: &str = "\
-Reads COMTRADE files of 1991, 1999 and 2013 as relays and programs write them, and writes a pair of 1999 that says the same.
-
-Usage: comtrade import [--dates mdy|dmy] [--refuse KEY] FILE [DAT] NAME
-
-  FILE             a configuration file, a single file (.cff), or what a pair is called without its endings
-  DAT              the data file; without it the one beside FILE
-  NAME             what both new files are called, without .cfg and .dat; neither may be there
-  --dates mdy|dmy  which of month and day stands first in the dates
-  --refuse KEY     writes nothing where this repair would be made; may stand several times
-
-Each repair is a line on standard output: its key, what it means, and where. The manual lists the keys.
-
-Status: 0 the pair was written, with repairs too; 1 it can't be imported, read or written; 2 words that ask for nothing.
-";
-
-/// What the words ask for.
-#[derive(Drop)]
-struct Wanted<'a> {
-    dates: Option<Order>,
-    refused: Vec<Key>,
-    files: Vec<&'a str>,
+/// Choices that an option named, or the value that it does not have.
+enum Parsed<'a, T> {
+    Chosen(T),
+    Unknown(&'a str),
 }
 
-/// Why words ask for nothing.
-#[derive(Clone, Copy)]
-enum Wrong {
-    Words,
-    Memory,
-}
-
-impl From<AllocError> for Wrong {
-    fn from(_error: AllocError) -> Wrong {
-        Wrong::Memory
+/// The order of month and day that `--dates` names.
+fn order_of(dates: Option<&str>) -> Parsed<'_, Option<Order>> {
+    match dates {
+        None => Parsed::Chosen(None),
+        Some("mdy") => Parsed::Chosen(Some(Order::MonthFirst)),
+        Some("dmy") => Parsed::Chosen(Some(Order::DayFirst)),
+        Some(other) => Parsed::Unknown(other),
     }
 }
 
-/// A word that an option is given: `--option VALUE` or `--option=VALUE`.
-fn value_of<'a>(word: &'a str, option: &str) -> Option<&'a str> {
-    word.strip_prefix(option)?.strip_prefix('=')
-}
-
-fn order_of(word: &str) -> Option<Order> {
-    match word {
-        "mdy" => Some(Order::MonthFirst),
-        "dmy" => Some(Order::DayFirst),
-        _ => None,
-    }
-}
-
-/// What an option asks for with its value.
-fn set<'a>(wanted: &mut Wanted<'a>, option: &str, value: &str) -> Result<(), Wrong> {
-    if option == "--dates" {
-        wanted.dates = order_of(value);
-        return if wanted.dates.is_some() {
-            Ok(())
-        } else {
-            Err(Wrong::Words)
-        };
-    }
-    match Key::named(value) {
-        Some(key) => match wanted.refused.push(key) {
-            Ok(()) => Ok(()),
-            Err(_) => Err(Wrong::Memory),
-        },
-        None => Err(Wrong::Words),
-    }
-}
-
-fn option_in(word: &str) -> Option<&'static str> {
-    match word {
-        "--dates" => Some("--dates"),
-        "--refuse" => Some("--refuse"),
-        _ => None,
-    }
-}
-
-/// Takes a word that is no name of an option: `--NAME=VALUE`, or a file.
-fn take_word<'a>(wanted: &mut Wanted<'a>, word: &'a str) -> Result<(), Wrong> {
-    if let Some(value) = value_of(word, "--dates") {
-        set(wanted, "--dates", value)
-    } else if let Some(value) = value_of(word, "--refuse") {
-        set(wanted, "--refuse", value)
-    } else if word.starts_with("--") {
-        Err(Wrong::Words)
-    } else {
-        wanted.files.push(word).map_err(|_| Wrong::Memory)
-    }
-}
-
-/// What the words after `import` ask for.
-fn wanted_of<'a, R: AllocGlobal>(rt: &R, words: &[&'a str]) -> Result<Wanted<'a>, Wrong> {
-    let mut wanted = Wanted {
-        dates: None,
-        refused: Vec::new(rt.alloc()),
-        files: Vec::new(rt.alloc()),
-    };
-    let mut option: Option<&'static str> = None;
-    for word in words.iter().copied() {
-        if let Some(name) = option {
-            set(&mut wanted, name, word)?;
-            option = None;
-        } else {
-            option = option_in(word);
-            if option.is_none() {
-                take_word(&mut wanted, word)?;
-            }
+/// The repairs that `--refuse` names.
+fn keys_of<'a, R: AllocGlobal>(
+    rt: &R,
+    names: &[&'a str],
+) -> Result<Parsed<'a, Vec<Key>>, AllocError> {
+    let mut keys = Vec::new(rt.alloc());
+    for name in names.iter().copied() {
+        match Key::named(name) {
+            Some(key) => keys.push(key)?,
+            None => return Ok(Parsed::Unknown(name)),
         }
     }
-    if option.is_some() {
-        Err(Wrong::Words)
-    } else {
-        Ok(wanted)
-    }
+    Ok(Parsed::Chosen(keys))
 }
 
-/// The first repair that isn't wanted.
-fn unwanted(imported: &Imported, refused: &[Key]) -> Option<Key> {
+/// Why a value of an option is refused: a usage error.
+fn put_unknown<A: Allocator>(
+    out: &mut Vec<u8, A>,
+    value: &str,
+    option: &str,
+    expected: &str,
+) -> Result<(), AllocError> {
+    put(out, "error: invalid value ")?;
+    put_quoted(out, value.as_bytes())?;
+    put(out, " for '")?;
+    put(out, option)?;
+    put(out, "'\n  ")?;
+    put(out, expected)?;
+    put(out, "\n\nFor more information, try '--help'.\n")
+}
+
+/// Prints why a value of an option is refused.
+fn refuse_value<R: Eprint + AllocGlobal>(rt: &R, value: &str, option: &str, expected: &str) -> u8 {
+    let mut text = Vec::new(rt.alloc());
+    if put_unknown(&mut text, value, option, expected).is_err() {
+        return out_of_memory(rt);
+    }
+    say(rt, &text);
+    2
+}
+
+/// The first repair that the user refuses.
+fn refused_in(imported: &Imported, refused: &[Key]) -> Option<Key> {
     for note in imported.notes.iter() {
         if refused.contains(&note.key()) {
             return Some(note.key());
@@ -134,17 +75,17 @@ fn unwanted(imported: &Imported, refused: &[Key]) -> Option<Key> {
     None
 }
 
-/// Writes the pair, and tells the repairs.
+/// Writes the pair, and prints the repairs.
 fn write<R: Files + Print + Eprint + AllocGlobal>(
     rt: &R,
     imported: &Imported,
-    wanted: &Wanted<'_>,
+    refused: &[Key],
     name: &str,
 ) -> u8 {
-    if let Some(key) = unwanted(imported, &wanted.refused) {
+    if let Some(key) = refused_in(imported, refused) {
         let (name, words) = (key.name(), key.words());
         let _ = eprintln!(rt;
-            "comtrade: nothing is written, since this repair isn't wanted: {name}: {words}"
+            "comtrade: nothing was written, because this repair is refused: {name}: {words}"
         );
         return 1;
     }
@@ -159,21 +100,17 @@ fn write<R: Files + Print + Eprint + AllocGlobal>(
     print_bytes(rt, &lines)
 }
 
-/// Imports what two or three names name.
-fn run_wanted<R: Files + Input + Print + Eprint + AllocGlobal + Clone + Drop>(
+/// Imports with choices that were parsed.
+fn import_with<R: Files + Input + Print + Eprint + AllocGlobal + Clone + Drop>(
     rt: &R,
-    wanted: &Wanted<'_>,
-    file: &str,
-    dat: Option<&str>,
-    name: &str,
+    made: &Importing<'_>,
+    choices: Choices,
+    refused: &[Key],
 ) -> u8 {
-    if !is_name(rt, name) {
+    if !is_name(rt, made.name) {
         return 2;
     }
-    let choices = Choices {
-        dates: wanted.dates,
-    };
-    let Some(inputs) = read_inputs(rt, Names { file, dat }) else {
+    let Some(inputs) = read_inputs(rt, made.names) else {
         return 1;
     };
     let done = if inputs.is_single() {
@@ -182,35 +119,37 @@ fn run_wanted<R: Files + Input + Print + Eprint + AllocGlobal + Clone + Drop>(
         import(rt.alloc(), &inputs.cfg, &inputs.dat, choices)
     };
     match done {
-        Ok(imported) => write(rt, &imported, wanted, name),
-        Err(fault) => refuse_import(rt, file, fault),
+        Ok(imported) => write(rt, &imported, refused, made.name),
+        Err(fault) => refuse_import(rt, made.names.file, fault),
     }
 }
 
-fn refuse_words<R: Eprint>(rt: &R) -> u8 {
-    let _ = eprintln!(rt;
-        "error: these words ask for nothing\n\nUsage: comtrade import [--dates mdy|dmy] [--refuse KEY] FILE [DAT] NAME\n\nFor more information, try 'comtrade import --help'."
-    );
-    2
+/// Imports with the repairs that `--refuse` names.
+fn import_dated<R: Files + Input + Print + Eprint + AllocGlobal + Clone + Drop>(
+    rt: &R,
+    made: &Importing<'_>,
+    choices: Choices,
+) -> u8 {
+    match keys_of(rt, &made.refused) {
+        Ok(Parsed::Chosen(refused)) => import_with(rt, made, choices, &refused),
+        Ok(Parsed::Unknown(value)) => {
+            let expected = "no repair has this key; the manual lists the keys";
+            refuse_value(rt, value, "--refuse <KEY>", expected)
+        }
+        Err(_) => out_of_memory(rt),
+    }
 }
 
-/// Does what the words after `import` ask for.
+/// Does what `comtrade import` asks for.
 pub(crate) fn run_import<R: Files + Input + Print + Eprint + AllocGlobal + Clone + Drop>(
     rt: &R,
-    words: &[&str],
+    made: &Importing<'_>,
 ) -> u8 {
-    if words.iter().any(|word| *word == "--help" || *word == "-h") {
-        let _ = print!(rt; "{HELP}");
-        return 0;
-    }
-    let wanted = match wanted_of(rt, words) {
-        Ok(wanted) => wanted,
-        Err(Wrong::Words) => return refuse_words(rt),
-        Err(Wrong::Memory) => return out_of_memory(rt),
-    };
-    match wanted.files.as_slice() {
-        [file, name] => run_wanted(rt, &wanted, *file, None, *name),
-        [file, dat, name] => run_wanted(rt, &wanted, *file, Some(*dat), *name),
-        _ => refuse_words(rt),
+    match order_of(made.dates) {
+        Parsed::Chosen(dates) => import_dated(rt, made, Choices { dates }),
+        Parsed::Unknown(value) => {
+            let expected = "[possible values: mdy, dmy]";
+            refuse_value(rt, value, "--dates <ORDER>", expected)
+        }
     }
 }

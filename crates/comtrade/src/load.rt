@@ -215,7 +215,7 @@ fn file_in<A: Allocator + Copy>(
 }
 
 /// Why texts aren't spelled so.
-pub(crate) const NO_ENCODING: &str = "comtrade: an encoding is utf-8 or latin1\n";
+pub(crate) const NO_ENCODING: &str = "comtrade: --encoding expects utf-8 or latin1\n";
 
 /// The file that a pair reads to, as `file_in`, with its texts in UTF-8; None also where no encoding is called so, which is put to `said`.
 pub(crate) fn file_spelled<A: Allocator + Copy>(

@@ -1,5 +1,5 @@
-//! The program: `comtrade show|check|csv|plot|page|measure FILE [DAT]`, `comtrade compare A B`,
-//! `comtrade convert --kind ascii|binary FILE [DAT] NAME`, `comtrade import FILE [DAT] NAME`, `comtrade extract DIR`.
+//! The program `comtrade`: it parses its arguments, reads the files that they name, and hands the work
+//! to the libraries. Each command prints its errors on standard error and returns the exit status.
 #![tactic(auto)]
 
 mod compare;
@@ -155,7 +155,7 @@ pub(crate) fn note_size<R: Eprint>(rt: &R, is_watched: bool, inputs: &Inputs) {
     let bytes = inputs.cfg.len().saturating_add(inputs.dat.len());
     if is_watched && LONG <= bytes {
         let megabytes = bytes / 1_000_000;
-        let _ = eprintln!(rt; "comtrade: works on {megabytes} MB");
+        let _ = eprintln!(rt; "comtrade: reading {megabytes} MB ..");
     }
 }
 
@@ -202,6 +202,7 @@ fn run<R: Files + Input + Print + Eprint + AllocGlobal + Clone + Drop>(
     match asked {
         Asked::View(view, viewed) => run_view(rt, is_watched, view, viewed),
         Asked::Convert(made) => run_convert(rt, is_watched, made),
+        Asked::Import(made) => run_import(rt, &made),
         Asked::Compare(made) => run_compare(rt, is_watched, made),
         Asked::Extract(folder) => run_extract(rt, folder),
         Asked::Survey(survey, json, encoding, names) => {
@@ -221,9 +222,6 @@ fn answer<R: Files + Input + Print + Eprint + AllocGlobal + Clone + Drop>(
         if texts.push(word.as_str()).is_err() {
             return out_of_memory(rt);
         }
-    }
-    if let ["import", rest @ ..] = texts.as_slice() {
-        return run_import(rt, rest);
     }
     match answer_of(rt.alloc(), &texts) {
         Ok(Answer::Do(asked)) => run(rt, is_watched, asked),

@@ -7,7 +7,7 @@ use comtrade_views::{MeasureFault, Measuring, Shown, measure_text};
 use std::alloc::Allocator;
 use std::io::Write;
 
-const TWICE: &str = "comtrade: --at says one moment, and stands in the place of --from and --to\n";
+const TWICE: &str = "comtrade: --at cannot be combined with --from or --to\n";
 
 /// What of a part is measured: its last whole cycle with `--at`, its whole cycles in a window, else the courses of currents.
 fn measuring_of<'a>(part: Part<'a>, cursor: Cursor<'a>) -> Measuring<'a> {

@@ -12,11 +12,11 @@ use std::alloc::{AllocError, Allocator, Global};
 use std::io::Write;
 
 const NO_SPELLING: &str = "\
-comtrade: a separator is tab or one sign that isn't a letter, a digit, a minus or a quotation mark; a decimal sign is . or , and not the \
-separator\n";
+comtrade: --separator expects tab or one character that is not a letter, digit, minus or quotation mark; \
+--decimal expects . or , and not the separator\n";
 
 pub(crate) const NO_SIZE: &str =
-    "comtrade: --width and --height are whole numbers of pixels from 1 to 100000\n";
+    "comtrade: --width and --height expect a whole number of pixels from 1 to 100000\n";
 
 /// Where texts lie, and where the lists of a file do, which are given up together.
 #[derive(Clone, Copy)]

@@ -74,6 +74,6 @@ pub(crate) fn refuse_start<R: Eprint>(rt: &R, kind: ErrorKind) -> u8 {
     if kind == ErrorKind::OutOfMemory {
         return out_of_memory(rt);
     }
-    let _ = eprintln!(rt; "comtrade: a word isn't valid text");
+    let _ = eprintln!(rt; "comtrade: an argument is not valid UTF-8");
     2
 }

@@ -106,7 +106,7 @@ fn write_record<R: Files + Eprint + AllocGlobal>(rt: &R, name: &str, file: &Reco
         Ok(made) => write_named(rt, name, &made.cfg, &made.dat),
         Err(WriteFault::Memory) => out_of_memory(rt),
         Err(fault) => {
-            let _ = eprintln!(rt; "comtrade: the part isn't written: {fault}");
+            let _ = eprintln!(rt; "comtrade: the part was not written: {fault}");
             1
         }
     }
@@ -172,7 +172,7 @@ fn without_ending(name: &str) -> Option<&str> {
 /// Whether files can be called so with .cfg and .dat; where they can't, it says why.
 pub(crate) fn is_name<R: Eprint + AllocGlobal>(rt: &R, name: &str) -> bool {
     if name.is_empty() || name.ends_with('/') {
-        let _ = eprintln!(rt; "error: the new files have no name");
+        let _ = eprintln!(rt; "error: the name of the new pair is empty");
         return false;
     }
     let Some(stem) = without_ending(name) else {
@@ -183,7 +183,7 @@ pub(crate) fn is_name<R: Eprint + AllocGlobal>(rt: &R, name: &str) -> bool {
         out_of_memory(rt);
         return false;
     }
-    let _ = eprint!(rt; "error: the name of the new files stands without .cfg and .dat: ");
+    let _ = eprint!(rt; "error: give the name of the new pair without .cfg or .dat: ");
     say(rt, &text);
     let _ = eprintln!(rt; "");
     false
