@@ -94,9 +94,21 @@ def print_pair(cfg, dat, out):
         print(f"row {row}: {time} ns:" + "".join(" -" if v[row] is None else f" {v[row]:.6f}" for v in values) + " /" + "".join(f" {b}" for b in rows[row][2]), file=out)
 
 
+def print_sample(cfg, dat, out):
+    """What sample.c, sample.py and sample.rs print of a pair of one rate: the time and the value of its first analogue channel."""
+    lines = cfg.split("\r\n")
+    n, m = (int(count[:-1]) for count in lines[1].split(",")[1:])
+    _, name, _, _, unit, a, b, *_ = lines[2].split(",")
+    samp, _ = lines[n + m + 4].split(",")
+    for row, (_, xs, _) in enumerate(rows_of(dat, lines[n + m + 7], n, m)):
+        print(f"{row / float(samp):.6f} s: {name} {float(a) * xs[0] + float(b):.3f} {unit}", file=out)
+
+
 if __name__ == "__main__":
     for name, (cfg, dat) in {"plain": plain(), "many": many(), "rates": rates()}.items():
         Path(f"pairs/{name}.cfg").write_bytes(cfg.encode())
         Path(f"pairs/{name}.dat").write_bytes(dat)
         with open(f"pairs/{name}.printed", "w") as out:
             print_pair(cfg, dat, out)
+    with open("pairs/plain.sample", "w") as out:
+        print_sample(*plain(), out)
