@@ -33,7 +33,7 @@ extern "C" {
 #endif
 
 /* The version of this header, as 10000 times the first number, 100 times the second, and the third. */
-#define COMTRADE_VERSION 10100
+#define COMTRADE_VERSION 10200
 /* The version of the library that runs. Of one first number, a later library does all that an earlier one does. */
 int32_t comtrade_version(void);
 
