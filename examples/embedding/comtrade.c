@@ -68,7 +68,7 @@ int32_t comtrade_version(void) { return COMTRADE_VERSION; }
 
 const char *comtrade_answer_text(int32_t answer) {
     static const char *const words[] = {
-        "done", "the configuration file has a fault", "the data file has a fault", "no COMTRADE file can hold this record", "out of memory",
+        "done", "the configuration file has an error", "the data file has an error", "no COMTRADE file can hold this record", "out of memory",
         "the buffer is too short", "there is no such channel, rate or row", "a file cannot be read or written",
         "the `size` of a struct is too small for any version", "a pointer is NULL, or an argument is not valid for the call",
     };
@@ -86,7 +86,7 @@ static int32_t put_text(const void *text, size_t length, char *buffer, size_t ro
 
 int32_t comtrade_fault_text(const struct comtrade_fault *fault, char *buffer, size_t room, size_t *needed) {
     static const char *const words[] = {
-        "no fault", "the first line does not have the year 1999", "line %llu has the wrong number of fields",
+        "no error", "the first line does not have the year 1999", "line %llu has the wrong number of fields",
         "line %llu, field %lu is malformed or out of range",
         "line %llu has a number that contradicts the lines before it or its own fields", "line %llu is not a date and a time of day",
         "the data file type is neither ASCII nor BINARY", "line %llu is missing", "line %llu comes after the last expected line",
