@@ -1,4 +1,4 @@
-/* Prints what a pair says, and writes the pair anew from the arrays that were read: caller CFG DAT NEWCFG NEWDAT */
+/* Prints the contents of a pair and writes the pair again from the arrays that it read: caller CFG DAT NEWCFG NEWDAT */
 #include <inttypes.h>
 #include <stdio.h>
 #include <stdlib.h>
@@ -115,5 +115,5 @@ int main(int argc, char **argv) {
     setup.analog = analog, setup.status = status, setup.rates = rates;
     setup.stamps = stamps, setup.samples = sample_table, setup.bits = bit_table;
     need(comtrade_write_files(&setup, argv[3], argv[4], &fault));
-    return 0; /* the process ends, and its memory with it */
+    return 0; /* the end of the process frees the memory */
 }

@@ -1,7 +1,7 @@
 #!/usr/bin/env python3
-"""Prints what a pair says, and writes the pair anew from the arrays that were read: caller.py CFG DAT NEWCFG NEWDAT
+"""Prints the contents of a pair and writes the pair again from the arrays that it read: caller.py CFG DAT NEWCFG NEWDAT
 
-The package of python/ is found by PYTHONPATH where it isn't installed, and the library by DFR_COMTRADE_LIBRARY."""
+If the package is not installed, set PYTHONPATH to the folder python/, and DFR_COMTRADE_LIBRARY to the shared object."""
 import sys
 from datetime import datetime
 from pathlib import Path

@@ -1,6 +1,6 @@
-/* The calls of comtrade.h over those of crates/comtrade_c, which are proved: what is read and written is theirs. Here a record is kept in
- * tables on the heap, which the proved calls fill; looked into; and a configuration file is composed of a setup, which the proved
- * writer reads by the grammar of the standard before it writes a byte. */
+/* The calls of comtrade.h, built on the proved calls of crates/comtrade_c, which do the reading and writing. This file keeps a record in
+ * tables on the heap that the proved calls fill, and looks into them. To write, it composes a configuration file from a setup; the proved
+ * writer reads that by the grammar of the standard before it writes a byte. */
 #define _DEFAULT_SOURCE /* madvise */
 #include "comtrade.h"
 
@@ -15,7 +15,7 @@
 #include <sys/mman.h>
 #endif
 
-/* The proved calls: crates/comtrade_c/src says by contract what each answers. No pointer may be NULL. */
+/* The proved calls. Their contracts in crates/comtrade_c/src define what each answers. No pointer may be NULL. */
 struct core_head {
     uint64_t rows;
     size_t analog, status, rates, text;
@@ -54,7 +54,7 @@ struct comtrade {
     struct core_analog *analog;
     uint8_t *normal;
     struct core_rate *rates;
-    size_t *ends; /* where each text ends in `text` */
+    size_t *ends; /* the end of each text in `text` */
     uint8_t *text;
     uint64_t *stamps;
     int64_t *times;
@@ -68,11 +68,11 @@ int32_t comtrade_version(void) { return COMTRADE_VERSION; }
 
 const char *comtrade_answer_text(int32_t answer) {
     static const char *const words[] = {
-        "done", "the configuration file has a fault", "the data file has a fault", "no file can hold this", "out of memory",
+        "done", "the configuration file has an error", "the data file has an error", "no COMTRADE file can hold this record", "out of memory",
         "the buffer is too short", "there is no such channel, rate or row", "a file cannot be read or written",
-        "a struct has the size of no version", "an argument isn't one that the call takes",
+        "the `size` of a struct is too small for any version", "a pointer is NULL, or an argument is not valid for the call",
     };
-    return 0 <= answer && answer < (int32_t)(sizeof words / sizeof *words) ? words[answer] : "no answer of this library";
+    return 0 <= answer && answer < (int32_t)(sizeof words / sizeof *words) ? words[answer] : "not an answer of this library";
 }
 
 static int32_t put_text(const void *text, size_t length, char *buffer, size_t room, size_t *needed) {
@@ -101,7 +101,7 @@ int32_t comtrade_fault_text(const struct comtrade_fault *fault, char *buffer, si
     return put_text(text, (size_t)length, buffer, room, needed);
 }
 
-/* Something to point to where a length is 0. */
+/* A valid pointer for a length of 0. */
 static const uint8_t *some(const void *at) {
     static const uint64_t nothing[2] = {0, 0};
     return at ? (const uint8_t *)at : (const uint8_t *)nothing;
@@ -113,14 +113,14 @@ int32_t comtrade_explain(const uint8_t *cfg, size_t cfg_length, const uint8_t *d
     size_t count = 0;
     int32_t answer = comtrade_core_words(some(cfg), cfg_length, some(dat), dat_length, buffer ? (uint8_t *)buffer : none, room, &count);
     if (answer == COMTRADE_NO_MEMORY) return answer;
-    size_t length = count ? count - 1 : 0; /* in place of the line's end the zero stands */
+    size_t length = count ? count - 1 : 0; /* the zero replaces the end of the line */
     if (needed) *needed = length;
     if (answer != COMTRADE_DONE || room <= length) return COMTRADE_NO_ROOM;
     buffer[length] = 0;
     return COMTRADE_DONE;
 }
 
-/* Megabytes in large pages, where the system has them: first use of each page of 4 KB takes longer than what is written there. */
+/* Asks for large pages for a block of megabytes: the first use of each 4 KB page takes longer than writing to it. */
 static void *in_large_pages(void *at, size_t size) {
 #ifdef MADV_HUGEPAGE
     const uintptr_t page = 4096, from = ((uintptr_t)at + page - 1) / page * page;
@@ -130,7 +130,7 @@ static void *in_large_pages(void *at, size_t size) {
     return at;
 }
 
-/* Room for so many; for one where there are none. NULL where that is more than there is. */
+/* Room for `count` items, or 16 bytes if there are none. NULL if memory runs out. */
 static void *room_for(size_t count, size_t size) {
     return count > SIZE_MAX / size ? NULL : in_large_pages(malloc(count ? count * size : 16), count * size);
 }
@@ -168,7 +168,7 @@ static int32_t read_channels(comtrade *r, const uint8_t *cfg, size_t cfg_length,
 }
 
 static int32_t read_rows(comtrade *r, const uint8_t *cfg, size_t cfg_length, const uint8_t *dat, size_t dat_length, struct comtrade_fault *fault) {
-    /* a row takes a byte and one for each sample at least, in either form: where the data are shorter, their fault is asked for alone */
+    /* In either form a row takes at least a byte and one more for each sample. Shorter data have a fault, so only that is asked for. */
     bool fits = r->head.rows <= dat_length / (1 + r->head.analog);
     size_t rows = fits ? (size_t)r->head.rows : 0, analog = rows * r->head.analog, status = 0;
     if (r->head.status) fits = fits && rows <= SIZE_MAX / r->head.status, status = fits ? rows * r->head.status : 0;
@@ -201,7 +201,7 @@ int32_t comtrade_open(const uint8_t *cfg, size_t cfg_length, const uint8_t *dat,
     return answer;
 }
 
-/* How much room a file's bytes want, and one more, by which its end is seen; a guess where it can't be told, as of a pipe or a folder. */
+/* Room for the bytes of a file and one more, which shows its end. A guess if the length is unknown, as for a pipe or a folder. */
 static size_t room_of(FILE *file) {
     long end = fseek(file, 0, SEEK_END) == 0 ? ftell(file) : -1;
     rewind(file);
@@ -247,7 +247,7 @@ int32_t comtrade_open_files(const char *cfg_name, const char *dat_name, comtrade
     return answer;
 }
 
-/* A struct of the caller's that is long enough for what the first version has. */
+/* Fills a struct of the caller, which must be long enough for the members of the first version. */
 static int32_t give(void *to, const void *from, size_t size) {
     size_t given;
     if (!to) return COMTRADE_BAD_CALL;
@@ -311,7 +311,7 @@ int32_t comtrade_rate(const comtrade *r, size_t rate, struct comtrade_rate *to) 
     return give(to, &said, sizeof said);
 }
 
-/* Whether these rows and this channel of so many are there, and something to write them to. */
+/* Checks that these rows and this channel (of `channels`) exist, and that there is a buffer. */
 static int32_t asked(const comtrade *r, size_t channel, size_t channels, size_t first, size_t count, const void *to) {
     if (!r) return COMTRADE_BAD_CALL;
     if (r->rows < first || r->rows - first < count || (channel != COMTRADE_ALL && channels <= channel)) return COMTRADE_NO_ITEM;
@@ -330,7 +330,7 @@ int32_t comtrade_samples(const comtrade *r, size_t channel, size_t first, size_t
     return COMTRADE_DONE;
 }
 
-/* The values of a channel in these rows, to every `step`-th place; a block at a time. */
+/* Writes the values of a channel in these rows to every `step`-th place, a block at a time. */
 static int32_t put_values(const comtrade *r, size_t channel, size_t first, size_t count, double *to, size_t step) {
     enum { BLOCK = 1024 };
     int32_t samples[BLOCK];
@@ -351,7 +351,7 @@ int32_t comtrade_values(const comtrade *r, size_t channel, size_t first, size_t 
     int32_t answer = asked(r, channel, n, first, count, to);
     if (answer != COMTRADE_DONE) return answer;
     if (channel != COMTRADE_ALL) return put_values(r, channel, first, count, to, 1);
-    enum { BLOCK = 64 }; /* so many rows of all channels are in the cache */
+    enum { BLOCK = 64 }; /* this many rows of all channels fit in the cache */
     for (size_t k = 0, now; k < count; k += now) {
         now = count - k < BLOCK ? count - k : BLOCK;
         for (size_t c = 0; c < n && answer == COMTRADE_DONE; c++) answer = put_values(r, c, first + k, now, to + k * n + c, n);
@@ -382,7 +382,7 @@ int32_t comtrade_times(const comtrade *r, size_t first, size_t count, int64_t *t
     return answer;
 }
 
-/* A configuration file that is being composed; `fault` has a kind as soon as something cannot be written. */
+/* A configuration file being composed. `fault` gets a kind at the first thing that cannot be written. */
 struct lines {
     char *at;
     size_t length, room;
@@ -426,7 +426,7 @@ static void refuse(struct lines *to, uint32_t kind) {
     to->fault.kind = kind, to->fault.place = to->line, to->fault.field = to->field;
 }
 
-/* A text of so many bytes 20 to 7E without a comma and without a blank at either end (5.3.1, 5.3.3, 5.3.4). */
+/* A text of `least` to `most` bytes 20 to 7E, without a comma and without a blank at either end (5.3.1, 5.3.3, 5.3.4). */
 static void put_name(struct lines *to, const char *text, size_t least, size_t most) {
     if (!text) text = "";
     size_t length = strlen(text);
@@ -437,7 +437,7 @@ static void put_name(struct lines *to, const char *text, size_t least, size_t mo
     put(to, text, length);
 }
 
-/* The shortest decimal whose nearest double this is. */
+/* The shortest decimal that reads back to this double. */
 static void put_number(struct lines *to, double number) {
     char text[48];
     int digits = 1;
@@ -448,17 +448,17 @@ static void put_number(struct lines *to, double number) {
     }
     do snprintf(text, sizeof text, "%.*g", digits, number);
     while (digits++ < 17 && strtod(text, NULL) != number);
-    const char *point = localeconv()->decimal_point, *stands = strstr(text, point);
-    if (stands) {
-        put(to, text, (size_t)(stands - text));
+    const char *point = localeconv()->decimal_point, *found = strstr(text, point);
+    if (found) {
+        put(to, text, (size_t)(found - text));
         put(to, ".", 1);
-        stands += strlen(point);
-        put(to, stands, strlen(stands));
+        found += strlen(point);
+        put(to, found, strlen(found));
     } else
         put(to, text, strlen(text));
 }
 
-/* dd/mm/yyyy,hh:mm:ss.ssssss (5.3.7); a year that no file has is left for the writer to refuse. */
+/* dd/mm/yyyy,hh:mm:ss.ssssss (5.3.7). A year outside 1 to 9999 is refused. */
 static void put_instant(struct lines *to, int64_t instant) {
     const int64_t day = INT64_C(86400000000);
     int64_t days = instant / day, rest = instant % day;
@@ -511,7 +511,7 @@ static bool is_whole(const struct comtrade_setup *s) {
         && (s->samples || !s->rows || !s->analog_count) && (s->bits || !s->rows || !s->status_count);
 }
 
-/* Both files of a head and the setup's rows: first how long they are, then the bytes. */
+/* Makes both files from a head and the rows of the setup: first their lengths, then the bytes. */
 static int32_t write_rows(const struct comtrade_setup *s, const struct lines *head, const uint64_t *stamps, uint8_t **cfg, size_t *cfg_length,
                           uint8_t **dat, size_t *dat_length, struct comtrade_fault *fault) {
     struct core_sizes sizes = {0, 0};

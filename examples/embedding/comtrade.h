@@ -1,4 +1,5 @@
 /* The C library of Mehukarau: reads and writes COMTRADE 1999 records (IEEE Std C37.111-1999).
+ * sample.c is a whole program.
  *
  *     comtrade *record;
  *     struct comtrade_fault fault;
@@ -38,7 +39,7 @@ extern "C" {
 
 /* The version of this header: 10000 times the first number, plus 100 times the second, plus the
  * third. */
-#define COMTRADE_VERSION 10100
+#define COMTRADE_VERSION 10200
 /* The version of the library in use. A later library with the same first number does everything
  * that an earlier one does. */
 int32_t comtrade_version(void);
@@ -56,7 +57,7 @@ enum {
     COMTRADE_BAD_SIZE = 8,    /* the `size` of a struct is not that of any version */
     COMTRADE_BAD_CALL = 9     /* a pointer is NULL, or a number is not one that the call accepts */
 };
-/* The return code in words, such as "no room". Never NULL. */
+/* The return code in words, such as "the buffer is too short". Never NULL. */
 const char *comtrade_answer_text(int32_t answer);
 
 /* Kinds of faults. When a pair is read: */

@@ -1,6 +1,7 @@
 #!/usr/bin/env python3
-"""Makes the pairs of `pairs/` and, by a plain reader of the layout of C37.111-1999 that knows nothing of the library, what each caller must
-print of them: ./expected.py in this folder. Each pair is spelled as the writers spell one, so a caller must write the very same bytes."""
+"""Makes the pairs in `pairs/` and what each caller and sample must print of them: run ./expected.py in this folder. It uses a plain reader
+of the layout of C37.111-1999 that shares nothing with the library. The pairs are spelled as the writers spell them, so a caller must write
+the same bytes."""
 import math
 import struct
 from datetime import datetime
@@ -13,7 +14,7 @@ def wave(k, c):
 
 
 def many():
-    """64 and 64 channels in ASCII; readings and stamps are missing."""
+    """64 analogue and 64 status channels in ASCII, with missing samples and time stamps."""
     head = ["Northfield 110 kV,Many,1999", "128,64A,64D"]
     head += [f"{c + 1},I{c},{'ABCN'[c % 4]},Line {c // 4},A,0.{c + 1}1,-{c}.5,{c}.25,-99999,99998,{100 + c},1,{'PS'[c % 2]}" for c in range(64)]
     head += [f"{c + 1},Contact {c},,Q{c},{c % 2}" for c in range(64)]
@@ -26,7 +27,7 @@ def many():
 
 
 def rates():
-    """Three rates in BINARY; the stamps aren't those of the rates, which go before them."""
+    """Three rates in BINARY. The time stamps differ from the rates, which take precedence."""
     head = ["Southfield,Rates,1999", "3,2A,1D", "1,UA,A,Bus,kV,0.5,-0.125,0,-32767,32767,110,0.1,P", "2,UB,B,Bus,kV,0.5,0,2,-32767,32767,110,0.1,S",
             "1,Trip,,Q0,1", "50", "3", "1200,10", "4800,30", "600,45", "31/12/1999,23:59:59.999999", "01/01/2000,00:00:00.000001", "BINARY", "2"]
     rows = b"".join(struct.pack("<IIhhH", k + 1, 7 * k, wave(k, 0), -32768 if k == 3 else wave(k, 5), k % 2) for k in range(45))
@@ -34,7 +35,7 @@ def rates():
 
 
 def plain():
-    """3 and 1 channels in BINARY, as crates/examples/data has them."""
+    """3 analogue and 1 status channel in BINARY: the pair of crates/examples/data."""
     head = ["Northfield 110 kV,Example,1999", "4,3A,1D"]
     for n, (name, phase, unit, a, b) in enumerate([("UA", "A", "kV", "0.01", "0.5"), ("IA", "A", "A", "-0.25", "0"), ("IB", "B", "A", "0.1", "0")], 1):
         head.append(f"{n},{name},{phase},Line 3,{unit},{a},{b},0,-32767,32767,1,1,P")
@@ -94,9 +95,21 @@ def print_pair(cfg, dat, out):
         print(f"row {row}: {time} ns:" + "".join(" -" if v[row] is None else f" {v[row]:.6f}" for v in values) + " /" + "".join(f" {b}" for b in rows[row][2]), file=out)
 
 
+def print_sample(cfg, dat, out):
+    """What sample.c, sample.py and sample.rs print of a pair of one rate: the time and the value of its first analogue channel."""
+    lines = cfg.split("\r\n")
+    n, m = (int(count[:-1]) for count in lines[1].split(",")[1:])
+    _, name, _, _, unit, a, b, *_ = lines[2].split(",")
+    samp, _ = lines[n + m + 4].split(",")
+    for row, (_, xs, _) in enumerate(rows_of(dat, lines[n + m + 7], n, m)):
+        print(f"{row / float(samp):.6f} s: {name} {float(a) * xs[0] + float(b):.3f} {unit}", file=out)
+
+
 if __name__ == "__main__":
     for name, (cfg, dat) in {"plain": plain(), "many": many(), "rates": rates()}.items():
         Path(f"pairs/{name}.cfg").write_bytes(cfg.encode())
         Path(f"pairs/{name}.dat").write_bytes(dat)
         with open(f"pairs/{name}.printed", "w") as out:
             print_pair(cfg, dat, out)
+    with open("pairs/plain.sample", "w") as out:
+        print_sample(*plain(), out)

@@ -1,8 +1,8 @@
-/* What the calls answer where an allocation fails, and at their edges: NULL, lengths of 0, short buffers, structs of other sizes, rows and
- * channels that aren't there: memory CFG DAT
- * comtrade_open and comtrade_write are made with all memory, and then again with their first, second, .. allocation refused, until none is:
- * with all after it too, and then that one alone, for which another may make up. Linked with -Wl,--wrap=malloc,--wrap=calloc,--wrap=realloc,
- * --wrap=free, so that the library's allocations come by here. */
+/* Checks what the calls answer if an allocation fails, and at their edges: NULL, lengths of 0, short buffers, structs of other sizes, rows and
+ * channels that do not exist: memory CFG DAT
+ * It makes comtrade_open and comtrade_write with all memory, then again with the first, second, .. allocation refused, until none is refused:
+ * once with every later allocation refused too, and once with that one alone, which another may make up for. It is linked with
+ * -Wl,--wrap=malloc,--wrap=calloc,--wrap=realloc,--wrap=free, so that the allocations of the library pass through here. */
 #include <stdio.h>
 #include <stdlib.h>
 #include <string.h>
@@ -14,10 +14,10 @@ void *__real_calloc(size_t count, size_t size);
 void *__real_realloc(void *at, size_t size);
 void __real_free(void *at);
 
-static bool in_call;        /* only the library's allocations are counted and refused */
-static long until_refused;  /* the allocation with this number from now is refused; none where it is 0 */
-static bool alone;          /* those after it aren't */
-static long refused, held;  /* how many were refused, and how many blocks the library holds */
+static bool in_call;        /* only allocations of the library are counted and refused */
+static long until_refused;  /* the allocation with this number from now is refused; 0: none */
+static bool alone;          /* those after it are not */
+static long refused, held;  /* the number of refused allocations, and of blocks that the library holds */
 
 static bool refuse(void) {
     if (!in_call || until_refused == 0) return false;

@@ -1,11 +1,11 @@
-"""The shared object, with the structs and calls of comtrade.h."""
+"""Loads the shared object; the structs and calls of comtrade.h."""
 import ctypes
 import ctypes.util
 import os
 from ctypes import POINTER, Structure, c_bool, c_char_p, c_double, c_int32, c_int64, c_size_t, c_uint8, c_uint32, c_uint64, c_void_p
 from pathlib import Path
 
-VERSION = 10100
+VERSION = 10100  # the oldest library that has every call used here
 ALL = ctypes.c_size_t(-1).value
 NO_SAMPLE = -(2**31)
 NO_STAMP = 2**64 - 1
@@ -75,15 +75,19 @@ def _path() -> str:
     beside = Path(__file__).with_name("libcomtrade.so")
     found = named or (str(beside) if beside.exists() else ctypes.util.find_library("comtrade"))
     if not found:
-        raise ImportError("libcomtrade.so is neither beside the package, nor named by DFR_COMTRADE_LIBRARY, nor installed")
+        raise ImportError("libcomtrade.so not found: it is not in the package, not named by DFR_COMTRADE_LIBRARY and not installed")
     return found
+
+
+def _dotted(version: int) -> str:
+    return f"{version // 10000}.{version // 100 % 100}.{version % 100}"
 
 
 def _load() -> ctypes.CDLL:
     library = ctypes.CDLL(_path())
     version = library.comtrade_version()
     if version // 10000 != VERSION // 10000 or version < VERSION:
-        raise ImportError(f"libcomtrade.so has version {version}; wanted is {VERSION} or later of the same first number")
+        raise ImportError(f"libcomtrade.so has version {_dotted(version)}, expected {_dotted(VERSION)} or later with the same first number")
     fault, out, rows = POINTER(Fault), c_void_p, [c_void_p, c_size_t, c_size_t, c_size_t, c_void_p]
     calls = {
         "open": [c_char_p, c_size_t, c_char_p, c_size_t, POINTER(c_void_p), fault],

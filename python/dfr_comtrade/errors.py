@@ -1,4 +1,4 @@
-"""What a call of the library answers, as exceptions."""
+"""The answers of the library as exceptions."""
 import ctypes
 import os
 
@@ -6,8 +6,10 @@ from . import _library as c
 
 
 class ComtradeError(Exception):
-    """A record that cannot be read or written. `place` and `field` count from 1, and are 0 where the fault has none: for a fault of a
-    configuration file or of ASCII data `place` is the line, for a sample or a stamp to be written the row (then `field` is the channel)."""
+    """A record cannot be read or written.
+
+    `place` and `field` count from 1, and are 0 if the fault has none. In a configuration file or ASCII data, `place` is the line. For a sample
+    or a time stamp to be written, `place` is the row, and `field` is the channel of the sample. `kind` is a number of comtrade.h."""
 
     def __init__(self, message: str, kind: int = 0, place: int = 0, field: int = 0):
         super().__init__(message)
@@ -15,34 +17,35 @@ class ComtradeError(Exception):
 
     @property
     def line(self) -> int:
-        """The same number as `place`."""
+        """The same as `place`."""
         return self.place
 
 
 class CfgFault(ComtradeError):
-    """The configuration file has a fault."""
+    """The configuration file has an error."""
 
 
 class DatFault(ComtradeError):
-    """The data file has a fault."""
+    """The data file has an error."""
 
 
 class WriteFault(ComtradeError):
-    """No file can hold what is to be written."""
+    """No COMTRADE file can hold this record."""
 
 
 _KINDS = {c.CFG_FAULT: (CfgFault, "the configuration file: "), c.DAT_FAULT: (DatFault, "the data file: "), c.WRITE_FAULT: (WriteFault, "")}
 
 
 def fault_text(fault: c.Fault) -> str:
-    """A fault in the library's words."""
+    """A fault in the words of the library."""
     text = ctypes.create_string_buffer(200)
     c.library.comtrade_fault_text(ctypes.byref(fault), text, len(text), None)
     return text.value.decode()
 
 
 def explain(cfg: bytes, dat: bytes) -> str:
-    """The first fault of a pair in words: where it stands, what stands there and what is wanted; empty where it has none."""
+    """The first fault of a pair in words: where it is, what was found and what was expected. Empty if the pair has none. `cfg` and `dat` are
+    the bytes of both files."""
     needed = ctypes.c_size_t()
     c.library.comtrade_explain(cfg, len(cfg), dat, len(dat), None, 0, ctypes.byref(needed))
     text = ctypes.create_string_buffer(needed.value + 1)
@@ -51,14 +54,14 @@ def explain(cfg: bytes, dat: bytes) -> str:
 
 
 def need_read(answer: int, fault: c.Fault, cfg: bytes, dat: bytes) -> None:
-    """Raises unless the pair was read; a fault in all its words."""
+    """Raises unless the pair was read; a fault with its full explanation."""
     if answer in (c.CFG_FAULT, c.DAT_FAULT):
         raise _KINDS[answer][0](explain(cfg, dat), fault.kind, fault.place, fault.field)
     need(answer)
 
 
 def need(answer: int, fault: "c.Fault | None" = None) -> None:
-    """Raises unless the call is done."""
+    """Raises unless the call succeeded."""
     if answer == c.DONE:
         return
     if answer in _KINDS and fault is not None:

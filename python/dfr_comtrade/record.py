@@ -1,4 +1,4 @@
-"""A record that was read, and its channels."""
+"""A record that has been read, and its channels."""
 import array
 import ctypes
 import datetime
@@ -15,35 +15,35 @@ except ImportError:
 _EPOCH = datetime.datetime(1970, 1, 1)
 _NUMBERS = {"i": "int32", "d": "float64", "B": "uint8", "Q": "uint64", "q": "int64"}
 _TYPES = {"i": ctypes.c_int32, "d": ctypes.c_double, "B": ctypes.c_uint8}
-# Tables of more bytes are read a channel at a time.
+# Larger tables (in bytes) are read one channel at a time.
 _MOST = 1 << 30
-# Of so many samples or bits a block of rows stays in the processor's cache.
+# A block of rows with this many samples or bits stays in the cache of the processor.
 _BLOCK = 1 << 17
 
 
 def _tables(code: str, tables: int, count: int) -> List[Any]:
-    """So many arrays of so many numbers: numpy's where it is, else `array.array`."""
+    """`tables` arrays of `count` numbers: of numpy if it is installed, else of `array.array`."""
     if numpy is not None:
         return list(numpy.empty((tables, count), _NUMBERS[code]))
     return [array.array(code, [0]) * count for _ in range(tables)]
 
 
 def _place(table: Any) -> Any:
-    """Where an array's numbers stand; None where it has none."""
+    """The address of the numbers of an array; None if it is empty."""
     if not len(table):
         return None
     return table.ctypes.data if numpy is not None else table.buffer_info()[0]
 
 
 class Rate(NamedTuple):
-    """A rate in rows a second, and the number (from 1) of the last row that was sampled at it."""
+    """A sampling rate in rows per second, and the number (from 1) of the last row sampled at it."""
 
     samp: float
     endsamp: int
 
 
 class _Kept:
-    """The library's record, which goes with the last that looks into it: a `Record` or one of its channels."""
+    """The record in the library. It is closed when the `Record` and all its channels are gone."""
 
     def __init__(self, at: ctypes.c_void_p):
         self.at = at
@@ -63,8 +63,8 @@ class _Kept:
         return text.raw[: needed.value].decode("utf-8", "surrogateescape")
 
     def column(self, name: str, code: str, channel: int, channels: int) -> Any:
-        """What a channel has in each row. The first channel that is asked for is read alone; with the second all are, some rows at a
-        time, since the rows of a record stand one after the other, and each pass over them takes about as long."""
+        """The numbers of a channel, one for each row. The first channel asked for is read alone; the second time all others are read too, a
+        block of rows at a time: the record is stored row by row, so each pass takes about as long for one channel as for all."""
         columns = self._columns.setdefault(name, {})
         if channel not in columns:
             is_alone = not columns or channels * self.rows * ctypes.sizeof(_TYPES[code]) > _MOST
@@ -90,7 +90,7 @@ class _Kept:
 
 
 class _Channel(Sequence):
-    """A channel of a record; as a sequence it is its values or bits."""
+    """A channel of a record. As a sequence it is its values or bits."""
 
     def __init__(self, kept: _Kept, number: int, texts: Sequence[int]):
         self._record, self._number = kept, number
@@ -98,7 +98,7 @@ class _Channel(Sequence):
 
     @property
     def name(self) -> str:
-        """The same text as `id`."""
+        """The same as `id`."""
         return self.id
 
     def _items(self) -> Any:
@@ -121,7 +121,7 @@ class _Channel(Sequence):
 
 
 class AnalogChannel(_Channel):
-    """An analogue channel. The value of a sample x is a * x + b in `unit`; a missing sample is NO_SAMPLE, and its value a NaN."""
+    """An analogue channel. The value of a sample x is a * x + b in `unit`. A missing sample is NO_SAMPLE, and its value is a NaN."""
 
     def __init__(self, kept: _Kept, number: int):
         super().__init__(kept, number, (c.ANALOG_ID, c.ANALOG_PHASE, c.ANALOG_COMPONENT))
@@ -133,7 +133,7 @@ class AnalogChannel(_Channel):
 
     @property
     def samples(self) -> Any:
-        """The sample of each row, as int32."""
+        """The samples, one for each row, as int32."""
         return self._record.column("samples", "i", self._number, self._record.head.analog)
 
     @property
@@ -145,7 +145,7 @@ class AnalogChannel(_Channel):
 
 
 class StatusChannel(_Channel):
-    """A status channel; `normal` is its bit while nothing is wrong."""
+    """A status channel. `normal` is its bit in normal operation."""
 
     def __init__(self, kept: _Kept, number: int):
         super().__init__(kept, number, (c.STATUS_ID, c.STATUS_PHASE, c.STATUS_COMPONENT))
@@ -155,14 +155,14 @@ class StatusChannel(_Channel):
 
     @property
     def bits(self) -> Any:
-        """The bit of each row, as uint8."""
+        """The bits, one for each row, as uint8."""
         return self._record.column("bits", "B", self._number, self._record.head.status)
 
     _items = bits.fget  # type: ignore[assignment]
 
 
 class Channels(Sequence):
-    """Channels by their number, or by their id: the first that has it."""
+    """The channels, by index (from 0) or by id. An id that several channels have means the first of them."""
 
     def __init__(self, channels: List[Any]):
         self._channels = channels
@@ -188,7 +188,7 @@ class Channels(Sequence):
 
 
 class Record:
-    """A pair of files that was read. Times count from the first row; rows from 0."""
+    """A record that has been read. Times count from the first row."""
 
     def __init__(self, at: ctypes.c_void_p):
         self._record = kept = _Kept(at)
@@ -216,17 +216,17 @@ class Record:
 
     @property
     def stamps(self) -> Any:
-        """The stamp of each row as the data file has it, as uint64; NO_STAMP where it has none."""
+        """The time stamp of each row as the data file has it, as uint64; NO_STAMP if it is missing."""
         return self._of_rows("stamps", "Q")
 
     @property
     def times_ns(self) -> Any:
-        """Nanoseconds since the first row, as int64; NO_TIME where a row has neither a rate nor a stamp."""
+        """The time of each row in nanoseconds since the first row, as int64; NO_TIME if a row has neither a rate nor a time stamp."""
         return self._of_rows("times", "q")
 
     @property
     def times(self) -> Any:
-        """Seconds since the first row, as float64; a NaN where a row has neither a rate nor a stamp."""
+        """The time of each row in seconds since the first row, as float64; a NaN if a row has neither a rate nor a time stamp."""
         if "seconds" not in self._read:
             times = self.times_ns
             if numpy is not None:
@@ -242,17 +242,17 @@ class Record:
 
     @property
     def first(self) -> datetime.datetime:
-        """The instant of the first row, without a zone, to the microsecond."""
+        """The instant of the first row, to the microsecond, without a time zone."""
         return _EPOCH + datetime.timedelta(microseconds=self._record.head.first)
 
     @property
     def trigger(self) -> datetime.datetime:
-        """The instant of the trigger, without a zone, to the microsecond."""
+        """The instant of the trigger, to the microsecond, without a time zone."""
         return _EPOCH + datetime.timedelta(microseconds=self._record.head.trigger)
 
     def to_pandas(self) -> Any:
-        """A pandas table of all values and bits, a column for each channel, by seconds since the first row. Columns of channels that share
-        an id are told apart by `#2`, `#3` ..."""
+        """A pandas DataFrame of all values and bits: a column for each channel, indexed by seconds since the first row. Channels with the same
+        id get column names ending in `#2`, `#3` .."""
         import pandas
 
         columns: Dict[str, Any] = {}
@@ -264,7 +264,7 @@ class Record:
             columns[name] = channel._items()
         return pandas.DataFrame(columns, index=pandas.Index(self.times, name="time"))
 
-    # The names that users of other Python readers know.
+    # Names that other Python readers use.
 
     @property
     def station_name(self) -> str:

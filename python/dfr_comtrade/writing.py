@@ -1,4 +1,4 @@
-"""Writing a record from arrays."""
+"""Writes a record from arrays."""
 import array
 import ctypes
 import datetime
@@ -16,7 +16,7 @@ _EPOCH = datetime.datetime(1970, 1, 1)
 
 @dataclass
 class Analog:
-    """An analogue channel and its samples, NO_SAMPLE where one is missing: the value of a sample x is a * x + b in `unit`."""
+    """An analogue channel to be written. The value of a sample x is a * x + b in `unit`; a missing sample is NO_SAMPLE."""
 
     id: str
     samples: Sequence[int]
@@ -35,7 +35,7 @@ class Analog:
 
 @dataclass
 class Status:
-    """A status channel, its bits, and its bit while nothing is wrong."""
+    """A status channel to be written. `normal` is its bit in normal operation."""
 
     id: str
     bits: Sequence[int]
@@ -46,20 +46,20 @@ class Status:
 
 def _text(text: str) -> bytes:
     if "\0" in text:
-        raise ValueError("a text has a zero in it")
+        raise ValueError("a text contains a zero character")
     return text.encode("utf-8", "surrogateescape")
 
 
 def _table(code: str, kind: str, columns: Sequence[Sequence[int]], rows: int) -> Any:
-    """The columns as one table, row by row."""
+    """The columns as one table, row by row, and its address."""
     if any(len(column) != rows for column in columns):
-        raise ValueError("the channels and stamps are of different lengths")
+        raise ValueError("channels and stamps have different lengths")
     if numpy is not None:
         table = numpy.empty((rows, len(columns)), kind)
         for k, column in enumerate(columns):
             found = numpy.asarray(column)
             if len(found) and not numpy.array_equal(found, found.astype(kind)):
-                raise ValueError("a number isn't one that the table can hold")
+                raise ValueError(f"a sample, bit or stamp does not fit in {kind}")
             table[:, k] = found
         return table, table.ctypes.data
     table = array.array(code, (int(x) for row in zip(*columns) for x in row))
@@ -84,8 +84,12 @@ def write_bytes(
     timemult: float = 1.0,
     binary: bool = True,
 ) -> Tuple[bytes, bytes]:
-    """Both files of a record, as bytes. `rates` are pairs of rows a second and the number (from 1) of the last row at it; with none the
-    stamps tell the time, in microseconds times `timemult`. Raises WriteFault where no file can hold this, MemoryError, ValueError."""
+    """The bytes of the configuration file and of the data file of a record.
+
+    `analog` and `status` are lists of Analog and Status. `rates` has a pair for each sampling rate: rows per second, and the number (from 1)
+    of the last row at that rate; the last rate ends at the last row. Without rates, `stamps` gives the time of each row, in microseconds
+    after multiplication by `timemult`. `trigger` is `first` by default. Raises WriteFault if no COMTRADE file can hold this, MemoryError,
+    ValueError."""
     columns = [channel.samples for channel in analog]
     flags = [channel.bits for channel in status]
     rows = len((columns + flags + ([stamps] if stamps is not None else []) or [[]])[0])
@@ -121,8 +125,9 @@ def _written(setup: c.Setup) -> Tuple[bytes, bytes]:
 
 
 def write(path: Union[str, "os.PathLike[str]"], record: Union[Record, Sequence[Any]], status: Sequence[Any] = (), **setup: Any) -> None:
-    """Writes `path` (its ending is made .cfg) and the data file beside it: a record that was read, or the channels, as `write_bytes`
-    takes them. What is said by name goes before what the record says. Raises what `write_bytes` does, and OSError."""
+    """Writes a configuration file, `path` with the ending .cfg, and the data file with the same name. `record` is either a record that has
+    been read, or a list of Analog (then `status` is a list of Status). Keyword arguments are those of `write_bytes`; they take precedence
+    over the record. Raises the exceptions of `write_bytes`, and OSError."""
     analog: Sequence[Any]
     if isinstance(record, Record):
         known = {

@@ -1,4 +1,4 @@
-//! Links libcomtrade.a of the folder COMTRADE_LIB, as `install PREFIX` leaves it in PREFIX/lib.
+//! Links libcomtrade.a from the folder COMTRADE_LIB: PREFIX/lib after `install PREFIX`.
 fn main() {
     println!("cargo:rerun-if-env-changed=COMTRADE_LIB");
     if let Ok(folder) = std::env::var("COMTRADE_LIB") {

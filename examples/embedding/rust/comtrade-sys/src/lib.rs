@@ -1,4 +1,4 @@
-//! The structs and calls of comtrade.h, which says what each takes and answers.
+//! The structs and calls of comtrade.h, which describes each of them.
 #![no_std]
 #![allow(non_camel_case_types)]
 
@@ -14,7 +14,7 @@ pub const NO_SAMPLE: i32 = i32::MIN;
 pub const NO_STAMP: u64 = u64::MAX;
 pub const NO_TIME: i64 = i64::MIN;
 
-/// A record; only behind a pointer.
+/// A record, used only through a pointer.
 #[repr(C)]
 pub struct comtrade {
     _private: [u8; 0],

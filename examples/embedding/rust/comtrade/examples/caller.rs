@@ -1,4 +1,4 @@
-//! Prints what a pair says, and writes the pair anew from the arrays that were read: caller CFG DAT NEWCFG NEWDAT
+//! Prints the contents of a pair and writes the pair again from the arrays that it read: caller CFG DAT NEWCFG NEWDAT
 use comtrade::{Analog, NO_SAMPLE, Record, Setup, Status, Text};
 use std::error::Error;
 

@@ -1,19 +1,23 @@
-//! Records of COMTRADE 1999 (IEEE Std C37.111-1999): read whole, looked into, written from arrays.
+//! Reads COMTRADE 1999 records (IEEE Std C37.111-1999) and writes them from arrays.
 use comtrade_sys as sys;
 use std::ffi::{CString, NulError};
 use std::fmt;
 
 pub use sys::{NO_SAMPLE, NO_STAMP, NO_TIME};
 
-/// Why a record isn't read or written.
+/// Why a record could not be read or written.
 #[derive(Clone, Copy, Debug)]
 pub enum Error {
-    /// The configuration file, the data file, or what was to be written has this fault.
+    /// The first fault of the configuration file.
     Cfg(sys::comtrade_fault),
+    /// The first fault of the data file.
     Dat(sys::comtrade_fault),
+    /// No COMTRADE file can hold the record, for this reason.
     Write(sys::comtrade_fault),
+    /// An allocation failed.
     Memory,
-    /// No such channel, rate or row, or a table of the wrong length: the number is the library's answer.
+    /// Another answer of the library, by its number in comtrade.h: no such channel, rate or row, or columns of different lengths (6), or a
+    /// text with a zero in it (9).
     Other(i32),
 }
 
@@ -50,7 +54,7 @@ fn done(answer: i32) -> Result<(), Error> {
     need(answer, sys::comtrade_fault::default())
 }
 
-/// The first fault of a pair in words: where it stands, what stands there and what is wanted; empty where it has none.
+/// The first fault of a pair in words: where it is, what was found and what was expected. Empty if the pair has none.
 pub fn explain(cfg: &[u8], dat: &[u8]) -> Result<String, Error> {
     let call = |text: *mut u8, room: usize, length: &mut usize| unsafe {
         sys::comtrade_explain(cfg.as_ptr(), cfg.len(), dat.as_ptr(), dat.len(), text.cast(), room, length)
@@ -62,7 +66,7 @@ pub fn explain(cfg: &[u8], dat: &[u8]) -> Result<String, Error> {
     Ok(String::from_utf8_lossy(&text[..length]).into_owned())
 }
 
-/// Texts of a record; of the first two the channel is 0.
+/// The texts of a record. For `Station` and `Device` the channel is 0.
 #[derive(Clone, Copy, Debug)]
 #[repr(i32)]
 pub enum Text {
@@ -77,7 +81,7 @@ pub enum Text {
     StatusComponent,
 }
 
-/// A record that was read. Nothing in it changes, so calls may run side by side.
+/// A record that has been read. It never changes, so several threads may use it at once.
 pub struct Record {
     at: *mut sys::comtrade,
     pub head: sys::comtrade_head,
@@ -93,7 +97,7 @@ impl Drop for Record {
 }
 
 impl Record {
-    /// The record that the bytes of both files say.
+    /// Reads a record from the bytes of both files.
     pub fn read(cfg: &[u8], dat: &[u8]) -> Result<Record, Error> {
         let (mut at, mut fault) = (std::ptr::null_mut(), sys::comtrade_fault::default());
         need(unsafe { sys::comtrade_open(cfg.as_ptr(), cfg.len(), dat.as_ptr(), dat.len(), &mut at, &mut fault) }, fault)?;
@@ -102,6 +106,7 @@ impl Record {
         Ok(record)
     }
 
+    /// A text as the bytes of the file.
     pub fn text(&self, which: Text, channel: usize) -> Result<Vec<u8>, Error> {
         let mut length = 0;
         unsafe { sys::comtrade_text(self.at, which as i32, channel, std::ptr::null_mut(), 0, &mut length) };
@@ -111,45 +116,48 @@ impl Record {
         Ok(text)
     }
 
+    /// The scale, transformer ratio and limits of an analogue channel.
     pub fn analog(&self, channel: usize) -> Result<sys::comtrade_analog, Error> {
         let mut said = sys::comtrade_analog { size: size_of::<sys::comtrade_analog>(), ..Default::default() };
         done(unsafe { sys::comtrade_analog(self.at, channel, &mut said) })?;
         Ok(said)
     }
 
+    /// A status channel: its bit in normal operation.
     pub fn status(&self, channel: usize) -> Result<sys::comtrade_status, Error> {
         let mut said = sys::comtrade_status { size: size_of::<sys::comtrade_status>(), ..Default::default() };
         done(unsafe { sys::comtrade_status(self.at, channel, &mut said) })?;
         Ok(said)
     }
 
+    /// A sampling rate, and the number (from 1) of the last row sampled at it.
     pub fn rate(&self, rate: usize) -> Result<sys::comtrade_rate, Error> {
         let mut said = sys::comtrade_rate { size: size_of::<sys::comtrade_rate>(), ..Default::default() };
         done(unsafe { sys::comtrade_rate(self.at, rate, &mut said) })?;
         Ok(said)
     }
 
-    /// The sample of each row of one channel; `NO_SAMPLE` where it is missing.
+    /// The samples of one channel, one for each row; `NO_SAMPLE` if one is missing.
     pub fn samples(&self, channel: usize) -> Result<Vec<i32>, Error> {
         self.column(channel, 0, |at, c, n, to| unsafe { sys::comtrade_samples(at, c, 0, n, to) })
     }
 
-    /// The value of each row of one channel; a NaN where the sample is missing.
+    /// The values of one channel, one for each row; a NaN if the sample is missing.
     pub fn values(&self, channel: usize) -> Result<Vec<f64>, Error> {
         self.column(channel, 0.0, |at, c, n, to| unsafe { sys::comtrade_values(at, c, 0, n, to) })
     }
 
-    /// The bit of each row of one channel.
+    /// The bits of one status channel, one for each row.
     pub fn bits(&self, channel: usize) -> Result<Vec<u8>, Error> {
         self.column(channel, 0, |at, c, n, to| unsafe { sys::comtrade_bits(at, c, 0, n, to) })
     }
 
-    /// The stamp of each row; `NO_STAMP` where it has none.
+    /// The time stamp of each row; `NO_STAMP` if it has none.
     pub fn stamps(&self) -> Result<Vec<u64>, Error> {
         self.column(0, 0, |at, _, n, to| unsafe { sys::comtrade_stamps(at, 0, n, to) })
     }
 
-    /// Nanoseconds since the first row of each row; `NO_TIME` where neither a rate nor a stamp says it.
+    /// The time of each row in nanoseconds since the first row; `NO_TIME` if neither a rate nor a time stamp gives it.
     pub fn times(&self) -> Result<Vec<i64>, Error> {
         self.column(0, 0, |at, _, n, to| unsafe { sys::comtrade_times(at, 0, n, to) })
     }
@@ -164,7 +172,7 @@ impl Record {
     }
 }
 
-/// An analogue channel to be written, with the sample of each row.
+/// An analogue channel to be written, with one sample for each row.
 pub struct Analog {
     pub id: String,
     pub phase: String,
@@ -174,7 +182,7 @@ pub struct Analog {
     pub samples: Vec<i32>,
 }
 
-/// A status channel to be written, with the bit of each row.
+/// A status channel to be written, with one bit for each row.
 pub struct Status {
     pub id: String,
     pub phase: String,
@@ -183,7 +191,8 @@ pub struct Status {
     pub bits: Vec<u8>,
 }
 
-/// A record to be written; instants are microseconds since 1970. With no rates the stamps alone tell the time.
+/// A record to be written. Instants are microseconds since 1970. There is one time stamp for each row; with no rates the time stamps give
+/// the times.
 pub struct Setup {
     pub station: String,
     pub device: String,
@@ -213,12 +222,12 @@ impl From<NulError> for Error {
 }
 
 impl Setup {
-    /// Both files as bytes.
+    /// Writes the record: the bytes of the configuration file and of the data file.
     pub fn write(&self) -> Result<(Vec<u8>, Vec<u8>), Error> {
         let rows = self.stamps.len();
         let samples = table(&self.analog.iter().map(|c| &c.samples[..]).collect::<Vec<_>>(), rows)?;
         let bits = table(&self.status.iter().map(|c| &c.bits[..]).collect::<Vec<_>>(), rows)?;
-        let mut texts = Vec::new(); // they stay while the pointers are used
+        let mut texts = Vec::new(); // keeps the texts alive while the pointers are used
         let mut text = |from: &str| -> Result<_, NulError> {
             texts.push(CString::new(from)?);
             Ok(texts[texts.len() - 1].as_ptr())
