@@ -1,4 +1,4 @@
-# the version and the help; words that ask for nothing
+# the version and the help; usage errors
 . files/dfrd.bash
 "$dfrd" --version
 "$dfrd" --help > "$work/help"

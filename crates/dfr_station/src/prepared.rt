@@ -15,13 +15,13 @@ use thiserror::Error;
 #[derive(Clone, Copy, Debug, PartialEq, Eq, Error)]
 pub enum SetupRefusal {
     /// A line, from 1.
-    #[error("line {0}: an unknown or misplaced word, a second line of its kind, or a rest where none may stand")]
+    #[error("line {0}: unknown or misplaced word, repeated setting, or extra text at the end")]
     Word(u64),
-    #[error("line {0}: a wrong number of fields")]
+    #[error("line {0}: wrong number of fields")]
     Fields(u64),
-    #[error("line {0}: a field that can't be read")]
+    #[error("line {0}: a field cannot be read")]
     Number(u64),
-    #[error("a line is missing: station, device, freq, rate and limits have to be there")]
+    #[error("a line is missing: station, device, freq, rate and limits are required")]
     Missing,
     #[error("{0}")]
     Setup(SetupFault),

@@ -28,15 +28,15 @@ pub trait Records: Store {
 /// Why a folder can't be recorded into.
 #[derive(Clone, Copy, Debug, PartialEq, Eq, Error)]
 pub enum FolderFault {
-    #[error("there is no such folder")]
+    #[error("no such folder")]
     Gone,
-    #[error("no permission")]
+    #[error("permission denied, or a read-only file system")]
     Denied,
-    #[error("another dfrd records into it")]
+    #[error("in use by another dfrd")]
     Taken,
     #[error("out of memory")]
     Memory,
-    #[error("can't be recorded into")]
+    #[error("the folder cannot be read or tidied up")]
     Other,
 }
 

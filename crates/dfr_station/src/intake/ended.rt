@@ -12,14 +12,14 @@ use thiserror::Error;
 pub enum RunFault {
     #[error("out of memory")]
     Memory,
-    #[error("a thread can't be started")]
+    #[error("a thread could not be started")]
     Thread,
-    #[error("the recorder wasn't opened: {0}")]
+    #[error("the recorder could not be opened: {0}")]
     Open(OpenFault),
-    #[error("the recording wasn't ended: {0}")]
+    #[error("the recording could not be ended: {0}")]
     End(EndFault),
     /// More lost scans in a row, or more scans, than can be counted.
-    #[error("more scans than can be counted")]
+    #[error("more scans, or more lost scans in a row, than can be counted")]
     Counter,
 }
 
