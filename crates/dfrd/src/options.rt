@@ -57,7 +57,7 @@ fn with_forms<'a>(alloc: Global, command: Command<'a>) -> Result<Command<'a>, Al
         alloc,
         "kind",
         "KIND",
-        "Kind of the data files (default: ascii)",
+        "The form of the data files; ascii if not given",
     )
     .value_parser(KINDS.as_slice());
     let one = with(command, kind)?;
@@ -66,7 +66,7 @@ fn with_forms<'a>(alloc: Global, command: Command<'a>) -> Result<Command<'a>, Al
         flag(alloc, "raw", "Read scans as frames of bytes, not as lines"),
     )?;
     let start =
-        "Instant of the first scan: now (default) or microseconds since 1970-01-01 00:00:00 UTC";
+        "The time of the first scan: now (default) or microseconds since 1970-01-01 00:00:00 UTC";
     with(two, choice(alloc, "start", "START", start))
 }
 
@@ -99,9 +99,9 @@ fn with_names<'a>(alloc: Global, command: Command<'a>) -> Result<Command<'a>, Al
     let setup = word(
         alloc,
         "SETUP",
-        "Set-up file: the lines of a script up to `go`",
+        "The set-up file: the lines of a script up to `go`",
     );
-    let folder = word(alloc, "DIR", "Folder for the records");
+    let folder = word(alloc, "DIR", "The folder for the records, which must exist");
     with(with(command, setup)?, folder)
 }
 
