@@ -22,7 +22,7 @@ pub enum SetupRefusal {
     #[error("line {0}: wrong number of fields")]
     Fields(u64),
     /// A field of the line can't be read.
-    #[error("line {0}: a field cannot be read")]
+    #[error("line {0}: a field that cannot be read")]
     Number(u64),
     /// A required line is missing.
     #[error("a line is missing: station, device, freq, rate and limits are required")]
