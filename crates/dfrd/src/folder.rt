@@ -34,7 +34,7 @@ pub enum FolderFault {
     #[error("no such folder")]
     Gone,
     /// The system denies access, or the file system is read-only.
-    #[error("permission denied, or a read-only file system")]
+    #[error("no permission, or a read-only file system")]
     Denied,
     /// Another `dfrd` has locked the folder.
     #[error("in use by another dfrd")]

@@ -65,7 +65,7 @@ fn refuse_start<R: Eprint>(rt: &R, kind: ErrorKind) -> u8 {
     if kind == ErrorKind::OutOfMemory {
         return out_of_memory(rt);
     }
-    let _ = eprintln!(rt; "dfrd: an argument is not valid text");
+    let _ = eprintln!(rt; "dfrd: an argument is not valid UTF-8");
     2
 }
 

@@ -17,10 +17,10 @@ pub enum RunFault {
     #[error("a thread could not be started")]
     Thread,
     /// The recorder could not be opened.
-    #[error("the recorder could not be opened: {0}")]
+    #[error("the recorder was not opened: {0}")]
     Open(OpenFault),
     /// The recording could not be ended.
-    #[error("the recording could not be ended: {0}")]
+    #[error("the recording was not ended: {0}")]
     End(EndFault),
     /// There were more scans, or more lost scans in a row, than can be counted.
     #[error("more scans, or more lost scans in a row, than can be counted")]
