@@ -1,4 +1,4 @@
-# words that ask for nothing, no set-up file, its faults, no folder, a file in its place
+# usage errors; no set-up file, and its errors; no folder, a file in its place, a folder that can't be written
 . files/dfrd.bash
 try() { "$dfrd" "$@" < /dev/null 2>&1 | sed "s|$work|WORK|g" | head -1; echo "${PIPESTATUS[0]}"; }
 setup() { printf 'station S\ndevice D\nanalog A,,,A,1,0,0,-100,100,1,1,P\nfreq 50\n%s\nlimits 1,1,3,1\n' "$1" > "$work/setup"; }

@@ -1,6 +1,6 @@
-# the version and the help; words that ask for nothing
+# the version and the help; usage errors
 . files/dfrd.bash
-"$dfrd" --version
+"$dfrd" --version | cut -d' ' -f1 # (the case `versions` compares the rest)
 "$dfrd" --help > "$work/help"
 echo $?
 grep -o -- '^ *\(-h, \|-V, \)\?--[a-z-]*' "$work/help" | grep -o -- '--[a-z-]*' | paste -sd ' '

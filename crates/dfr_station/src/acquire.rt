@@ -1,4 +1,4 @@
-//! The acquisition: it waits in its reads alone, and for no other thread.
+//! The acquisition: it waits only for the input, never for another thread.
 
 use crate::frames::take_frames;
 use crate::orders::Placed;
@@ -13,7 +13,7 @@ use std::alloc::{Allocator, Global};
 use std::io::Read;
 use std::sync::atomic::Ordering;
 
-/// What the acquisition works on.
+/// The state of the acquisition.
 #[derive(Drop)]
 pub(crate) struct Acquisition<'x, N: Session<A>, I, A: Allocator = Global> {
     pub(crate) input: &'x mut I,
@@ -21,12 +21,12 @@ pub(crate) struct Acquisition<'x, N: Session<A>, I, A: Allocator = Global> {
     pub(crate) scans: Scans<A>,
     pub(crate) orders: Producer<Placed<A>, A>,
     pub(crate) form: Input,
-    /// What came before the recorder was made stands in it up to `held`.
+    /// The input buffer. Up to `held` it has what came before the recorder was made.
     pub(crate) buffer: Vec<u8, A>,
     pub(crate) held: usize,
 }
 
-/// Takes in all that comes until the input ends.
+/// Reads the input until it ends.
 fn take_in<N: Session<A>, A: Allocator + Copy, I: Read>(
     alloc: A,
     signals: &Signals,
@@ -64,7 +64,7 @@ fn take_in<N: Session<A>, A: Allocator + Copy, I: Read>(
     }
 }
 
-/// Takes in all that comes until the input ends, and lets the other threads know.
+/// Reads the input until it ends, then signals its end to the other threads.
 pub(crate) fn acquire<N: Session<A>, A: Allocator + Copy, I: Read>(
     alloc: A,
     signals: &Signals,

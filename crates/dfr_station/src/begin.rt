@@ -1,4 +1,4 @@
-//! What the threads of a station work on, before they start.
+//! Sets up the state of a station's threads, before they start.
 
 use crate::acquire::Acquisition;
 use crate::event::Event;
@@ -20,7 +20,7 @@ use std::io::Read;
 use std::sync::Mutex;
 use std::time::Clock;
 
-/// How many orders of the input wait at most.
+/// The most orders of the input that may wait.
 const ORDERS: usize = 1_024;
 
 /// The queues between the threads.
@@ -31,6 +31,7 @@ pub(crate) struct Queues<A: Allocator> {
     orders: (Producer<Placed<A>, A>, Consumer<Placed<A>, A>),
 }
 
+/// Allocates the queues.
 pub(crate) fn queues_in<A: Allocator + Copy>(alloc: A) -> Result<Queues<A>, AllocError> {
     let (scans, of_scans) = telling_of(alloc)?;
     let (triggers, of_triggers) = telling_of(alloc)?;
@@ -43,7 +44,7 @@ pub(crate) fn queues_in<A: Allocator + Copy>(alloc: A) -> Result<Queues<A>, Allo
     })
 }
 
-/// How a station is run.
+/// How to run a station, apart from its recorder.
 #[derive(Drop)]
 pub(crate) struct How<A: Allocator> {
     pub(crate) form: Input,
@@ -53,7 +54,7 @@ pub(crate) struct How<A: Allocator> {
     pub(crate) first: First<A>,
 }
 
-/// The operator's lines, where there is one.
+/// The operator's lines, if there is an operator.
 fn operator_of<A: Allocator>(alloc: A, bytes: Option<Consumer<u8, A>>) -> Option<Operator<A>> {
     match bytes {
         Some(bytes) => Some(Operator::new(alloc, bytes)),
@@ -61,7 +62,7 @@ fn operator_of<A: Allocator>(alloc: A, bytes: Option<Consumer<u8, A>>) -> Option
     }
 }
 
-/// What all threads work on.
+/// The state of all threads.
 pub(crate) fn tasks_of<
     'x,
     'y,

@@ -1,119 +1,124 @@
-//! What happens, as it is told.
+//! The events that a station reports.
 
 use crate::intake::Why;
 use crate::key::Key;
 use dfr_recorder::{Extent, Hit, TriggerFault};
 
-/// Why something that came is skipped.
+/// Why a line is skipped or refused.
 #[derive(Clone, Copy, Debug, PartialEq, Eq)]
 pub enum Skipped {
-    /// An unknown or misplaced word, or a rest where none may stand.
+    /// An unknown or misplaced word, or text after a word that takes none.
     Word,
     /// A wrong number of fields, or of words of a rule.
     Fields,
     /// A field that can't be read.
     Number,
-    /// Rules that name no channel of their kind.
+    /// A rule names a missing channel.
     NoChannel,
     /// More than 32 rules.
     TooMany,
     /// A line of more than 65,536 bytes.
     Long,
-    /// As many orders wait as may.
+    /// The queue of orders is full.
     Busy,
     /// An allocation failed.
     Memory,
 }
 
-/// Why a store doesn't take a pair.
+/// Why a store does not take a pair.
 #[derive(Clone, Copy, Debug, PartialEq, Eq)]
 pub enum Trouble {
     /// No space, a quota, or a limit on the size of a file.
     Full,
-    /// The folder isn't there.
+    /// There is no folder.
     Gone,
-    /// The folder may not be written.
+    /// The folder can't be written: no permission, or a read-only file system.
     Denied,
     /// An allocation failed.
     Memory,
-    /// Whatever else the system says.
+    /// Any other error of the system.
     Other,
 }
 
 /// Who gave an order.
 #[derive(Clone, Copy, Debug, PartialEq, Eq)]
 pub enum Asked {
+    /// A line of the input.
     Input,
+    /// An operator.
     Operator,
 }
 
-/// What an order was answered.
+/// The answer to an order.
 #[derive(Clone, Copy, Debug, PartialEq, Eq)]
 pub enum Replied {
+    /// What a manual trigger did, or why it was refused.
     Trigger(Result<Hit, TriggerFault>),
-    /// Whether the rules were set.
+    /// Whether the rules were set. If not, a rule names a missing channel.
     Rules(bool),
 }
 
-/// What happened.
+/// An event.
 #[derive(Clone, Copy, Debug, PartialEq, Eq)]
 pub enum Event {
-    /// Recording begins: the instant of scan 0, in microseconds since 1970-01-01 00:00:00, and scans a second.
+    /// Recording begins: the instant of scan 0, in microseconds since 1970-01-01 00:00:00 UTC, and
+    /// the scans per second.
     Started {
         start: i64,
         rate: u32,
     },
-    /// From the first to the last of these places so many scans were lost; why the first of them was.
+    /// Of the scans from `first` to `last`, `count` were lost; `why` is the reason for the
+    /// first one.
     Lost {
         first: u64,
         last: u64,
         count: u64,
         why: Why,
     },
-    /// A line of the input that is no scan's, from 1, was skipped.
+    /// A line of the input that is not a scan line was skipped. Lines count from 1.
     Line {
         line: u64,
         why: Skipped,
     },
-    /// A line of the operator was skipped.
+    /// A line of the operator was refused.
     Order(Skipped),
-    /// An order was carried out after so many scans.
+    /// An order was answered after `at` scans.
     Reply {
         asked: Asked,
         at: u64,
         reply: Replied,
     },
-    /// A record's pair stands in the store under this name.
+    /// A record's pair was stored under this name.
     Record {
         extent: Extent,
         key: Key,
     },
-    /// A record that the store didn't take before the end.
+    /// A record was given up, since the store did not take it before the end.
     Unwritten(Extent),
-    /// So many records wait, as many as may: a trigger opens none.
+    /// So many finished records wait, as many as may. No trigger opens a record.
     ShelfFull(u32),
     /// The shelf has room again.
     ShelfFree,
-    /// At so many scans more a rule fired while the shelf was full, and opened no record.
+    /// At so many more scans a rule fired while the shelf was full, and opened no record.
     Unopened(u64),
-    /// The store takes no pair; it is asked again each second.
+    /// The store did not take a pair. It is tried again each second.
     Trouble(Trouble),
-    /// It takes them again.
+    /// The store takes pairs again.
     Over,
-    /// So many pairs were removed, the oldest.
+    /// So many of the oldest pairs were removed.
     Removed(u64),
-    /// A record was open when the input ended; it isn't written.
+    /// A record was open when the input ended. It is not written.
     Unfinished,
     /// The input ended within a frame, of which so many bytes came.
     Cut(u64),
-    /// The input can't be read any more.
+    /// The input can't be read any more; recording ends.
     Broken,
-    /// An allocation failed; what needed it is tried again.
+    /// An allocation failed. What needed it is tried again.
     Memory,
-    /// So many events couldn't be told.
+    /// So many events were not reported, since the queue was full.
     Missed(u64),
-    /// How it stands each minute: scans and lost ones among them, records written, records that wait, and at how many scans a rule
-    /// found the shelf full.
+    /// The counts of each minute: scans, lost scans among them, records written, records that wait,
+    /// and scans at which a rule fired while the shelf was full.
     Minute {
         scans: u64,
         lost: u64,
@@ -121,7 +126,8 @@ pub enum Event {
         waiting: u64,
         missed: u64,
     },
-    /// It ended.
+    /// Recording ended: scans, lost scans among them, records written, and `left`, the scans for
+    /// which no step was made.
     Ended {
         scans: u64,
         lost: u64,

@@ -1,4 +1,5 @@
-//! The export thread: it takes each record the moment it closes, and hands its pair to the store until that takes it.
+//! The export thread: it takes each finished record, and hands its pair to the store until the
+//! store takes it.
 
 ghost use Rattle.std.specs.Prelude.{IfOk, IsTrue};
 ghost use Rattle.dfr_recorder.specs.Own.{is_own};
@@ -19,13 +20,13 @@ use std::sync::atomic::Ordering;
 use std::thread;
 use std::time::{Clock, Duration};
 
-/// How long the thread sleeps where no record waits, in milliseconds.
+/// How long the thread sleeps if no record waits, in milliseconds.
 const NAP: u64 = 10;
 
-/// How long it waits before it asks a store again, in milliseconds.
+/// How long it waits before it tries a record again, in milliseconds.
 const RETRY: u64 = 1_000;
 
-/// How often a store is asked at most once the input has ended.
+/// The most times a record is tried after the input has ended.
 const LAST_TRIES: u32 = 10;
 
 /// What the export thread works on.
@@ -35,7 +36,7 @@ pub(crate) struct Exports<'x, K, A: Allocator = Global> {
     token: Token<A>,
     teller: Teller<A>,
     kind: Kind,
-    /// The store took nothing the last time.
+    /// The store did not take the last pair.
     is_in_trouble: bool,
     /// How many records were given up.
     unwritten: u64,
@@ -58,7 +59,7 @@ impl<'x, K, A: Allocator> Exports<'x, K, A> {
         }
     }
 
-    /// The thread's token, and how many records weren't written.
+    /// The thread's token, and how many records could not be written.
     pub(crate) fn into_token(self) -> (Token<A>, u64) {
         let Exports {
             token,
@@ -71,7 +72,7 @@ impl<'x, K, A: Allocator> Exports<'x, K, A> {
     }
 }
 
-/// Takes a record, which matches the layout.
+/// Takes the oldest finished record, if there is one. It matches the layout.
 fn take_own<N: Session<A>, A: Allocator + Copy>(
     rt: &impl Wait,
     shared: &Shared<N, A>,
@@ -97,7 +98,7 @@ fn pair_and_key<A: Allocator + Copy>(
     Ok((pair, key_at(instant, extent.number)))
 }
 
-/// Hands a record's pair to the store once.
+/// Makes a record's pair and hands it to the store, once.
 fn hand_over<K: Store, A: Allocator + Copy>(
     alloc: A,
     layout: &Layout<A>,
@@ -113,7 +114,8 @@ fn hand_over<K: Store, A: Allocator + Copy>(
     }
 }
 
-/// Whether a record that the store didn't take is given up: the input has ended, and it was asked often enough since.
+/// Whether to give up a record that the store didn't take: the input has ended, and the record was
+/// tried often enough since then.
 fn is_last(signals: &Signals, tries: &mut u32) -> bool {
     if !signals.acquired.load(Ordering::SeqCst) {
         return false;
@@ -123,7 +125,7 @@ fn is_last(signals: &Signals, tries: &mut u32) -> bool {
 }
 
 impl<K: Store, A: Allocator + Copy> Exports<'_, K, A> {
-    /// Tells what the store answered. Whether it took the pair.
+    /// Reports the store's answer. Returns whether it took the pair.
     fn answered(
         &mut self,
         signals: &Signals,
@@ -156,7 +158,8 @@ impl<K: Store, A: Allocator + Copy> Exports<'_, K, A> {
         }
     }
 
-    /// Hands a record's pair to the store, each second until it takes it; a few times only once the input has ended.
+    /// Hands a record's pair to the store, again each second until the store takes it. After the
+    /// input has ended, gives up after a few tries.
     fn put_record<R: Wait + Clock>(
         &mut self,
         rt: &R,
@@ -183,7 +186,7 @@ impl<K: Store, A: Allocator + Copy> Exports<'_, K, A> {
     }
 }
 
-/// Hands the pair of the oldest record that waits to the store.
+/// Hands the pair of the oldest finished record to the store.
 fn put_oldest<N: Session<A>, A: Allocator + Copy, K: Store, R: Wait + Clock>(
     rt: &R,
     alloc: A,
@@ -203,7 +206,8 @@ fn put_oldest<N: Session<A>, A: Allocator + Copy, K: Store, R: Wait + Clock>(
     }
 }
 
-/// Hands the pair of each record that closes to the store, until all steps are made and none waits.
+/// Hands the pair of each finished record to the store, until all steps are made and no
+/// record waits.
 pub(crate) fn export<N: Session<A>, A: Allocator + Copy, K: Store, R: Wait + Clock>(
     rt: &R,
     alloc: A,

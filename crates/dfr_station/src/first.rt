@@ -1,4 +1,4 @@
-//! What comes up to the first scan, whose instant is that of scan 0.
+//! Reads the input up to the first scan, whose instant becomes that of scan 0.
 
 use crate::intake::{HEAD_LEN, is_scan_line};
 use crate::station::Input;
@@ -6,19 +6,20 @@ use dfr_channels::Lines;
 use std::alloc::{AllocError, Allocator, Global};
 use std::io::Read;
 
-/// How many bytes are read at once at most, and how long a line may be.
+/// The most bytes read at once, and the greatest length of a line.
 const ROOM: usize = 65_536;
 
-/// What came before the recorder was made: it stands in the buffer, after the room for the head of lines, up to `held`.
+/// What came before the recorder was made. It is in the buffer up to `held`; with lines, after the
+/// room for the shortest set-up.
 #[derive(Drop)]
 pub struct First<A: Allocator = Global> {
     pub(crate) buffer: Vec<u8, A>,
     pub(crate) held: usize,
-    /// No more will come.
+    /// The input has ended, or can't be read.
     pub is_all: bool,
 }
 
-/// Whether a whole line of a scan is among these bytes.
+/// Whether these bytes have a whole scan line.
 fn has_scan_line(text: &[u8]) -> bool {
     let Some(end) = text.iter().rposition(|b| *b == b'\n') else {
         return false;
@@ -34,7 +35,7 @@ fn has_scan_line(text: &[u8]) -> bool {
     false
 }
 
-/// Whether the first scan is whole. A buffer that is half full is taken as it is.
+/// Whether all of the first scan has come. Also true once the buffer is half full.
 fn has_scan(form: Input, frame: usize, bytes: &[u8]) -> bool {
     if bytes.len() >= ROOM / 2 {
         return true;
@@ -45,7 +46,8 @@ fn has_scan(form: Input, frame: usize, bytes: &[u8]) -> bool {
     }
 }
 
-/// Reads until the first scan came whole, or nothing comes any more. `frame` is how many bytes a frame has.
+/// Reads until all of the first scan has come or the input ends. `frame` is the size of a frame
+/// in bytes.
 pub fn read_first<A: Allocator, I: Read>(
     alloc: A,
     input: &mut I,

@@ -1,4 +1,4 @@
-//! Frames as they come, in pieces of any size.
+//! Reads frames, which come in pieces of any size.
 
 use crate::event::Event;
 use crate::intake::{frame_len, give_frames};
@@ -9,7 +9,7 @@ use dfr_live::{LossFault, Session, Source};
 use std::alloc::Allocator;
 use std::io::Read;
 
-/// Moves what stands after the first `done` of `held` bytes to the front. How many there are.
+/// Moves the bytes after the first `done` of `held` bytes to the front. Returns how many there are.
 pub(crate) fn moved_up(buffer: &mut [u8], done: usize, held: usize) -> usize {
     if done == 0 || held <= done || buffer.len() < held {
         return held.saturating_sub(done);
@@ -18,7 +18,8 @@ pub(crate) fn moved_up(buffer: &mut [u8], done: usize, held: usize) -> usize {
     held - done
 }
 
-/// Gives all whole frames among the first `held` bytes. How many bytes are left, at the front.
+/// Gives the scans of all whole frames in the first `held` bytes. Moves the rest to the front and
+/// returns its length.
 fn give_whole<N: Session<A>, A: Allocator + Copy>(
     alloc: A,
     layout: &Layout<A>,
@@ -37,7 +38,8 @@ fn give_whole<N: Session<A>, A: Allocator + Copy>(
     Ok(moved_up(buffer, count * size, held))
 }
 
-/// Gives the scan of each frame that comes until the input ends; `held` bytes stand in the buffer already.
+/// Gives the scan of each frame that comes until the input ends. The buffer already has
+/// `held` bytes.
 pub(crate) fn take_frames<N: Session<A>, A: Allocator + Copy, I: Read>(
     alloc: A,
     signals: &Signals,

@@ -1,5 +1,6 @@
-//! What a station takes in, as steps of a source: each frame is one scan, offered or lost; lines are the commands of a script.
-//! What it leaves when it ends; and how many of the oldest pairs go where only so many bytes may be kept.
+//! What a station takes in. Each frame becomes one step of the source: a scan that is offered, or a
+//! lost one. Lines become the commands of a script. Here are also the result of a recording, and
+//! how many of the oldest pairs to remove.
 
 mod ended;
 mod feed;

@@ -1,33 +1,35 @@
-//! What the files of a record are called: by the instant of its trigger and its number.
+//! The names of a record's files, from the instant of its trigger and its number.
 
 use itoa::Buffer;
 use jiff_core::civil::DateTime;
 use std::alloc::{AllocError, Allocator};
 
-/// The name of a pair, `yyyymmddThhmmss.ffffff-N`, in its parts; older names come first. A name that was there already has
-/// a number of its own at the end, from 2 on.
+/// The parts of a pair's name, `yyyymmddThhmmss.ffffff-N`. Names are ordered by instant, then by
+/// number. If a name exists already, `-2` is added at its end, then `-3` and so on.
 #[derive(Clone, Copy, Debug, PartialEq, Eq, PartialOrd, Ord, Drop)]
 pub struct Key {
     /// Year, month and day as eight digits.
     pub date: u32,
     /// Hour, minute and second as six digits.
     pub time: u32,
+    /// Microseconds of the second.
     pub micros: u32,
     /// The record's number.
     pub number: u64,
-    /// 1, or the number at the end.
+    /// The number at the end; 1 if there is none.
     pub copy: u64,
 }
 
-/// Three numbers in one, the last two in two digits each. They stay far below a `u32`'s end; that costs no proof where they couldn't
-/// pass it.
+/// Three numbers in one, the last two with two digits each. The result is far below the end of
+/// `u32`; with saturating arithmetic this needs no proof.
 fn packed(first: u16, second: u8, third: u8) -> u32 {
     let whole = (first as u32).saturating_mul(10_000);
     let hundreds = (second as u32).saturating_mul(100);
     whole.saturating_add(hundreds).saturating_add(third as u32)
 }
 
-/// The name of record `number`, triggered at an instant in microseconds since 1970-01-01 00:00:00.
+/// The name of record `number`, triggered at an instant in microseconds since 1970-01-01
+/// 00:00:00 UTC.
 pub fn key_at(instant: i64, number: u64) -> Key {
     match DateTime::from_nanosecond(instant as i128 * 1000) {
         Ok(civil) => Key {
@@ -51,7 +53,7 @@ pub fn key_at(instant: i64, number: u64) -> Key {
     }
 }
 
-/// A number with zeros in front, `width` digits at least.
+/// Appends a number with leading zeros, with at least `width` digits.
 pub(crate) fn put_padded<A: Allocator>(
     out: &mut Vec<u8, A>,
     n: u64,
@@ -65,7 +67,7 @@ pub(crate) fn put_padded<A: Allocator>(
     out.extend_from_slice(digits)
 }
 
-/// A name in letters.
+/// Appends a name as text.
 pub fn put_key<A: Allocator>(out: &mut Vec<u8, A>, key: Key) -> Result<(), AllocError> {
     put_padded(out, key.date as u64, 8)?;
     out.extend_from_slice(b"T")?;
@@ -81,7 +83,8 @@ pub fn put_key<A: Allocator>(out: &mut Vec<u8, A>, key: Key) -> Result<(), Alloc
     put_padded(out, key.copy, 1)
 }
 
-/// The number that a text is, in its shortest spelling with zeros up to `width` digits.
+/// The number that a text of 1 to 19 digits has. None for any other text, and with `width` 1 also
+/// for one with a leading zero.
 fn digits_in(text: &[u8], width: usize) -> Option<u64> {
     if text.is_empty() || 19 < text.len() || (width == 1 && 1 < text.len() && text[0] == b'0') {
         return None;
@@ -96,13 +99,13 @@ fn digits_in(text: &[u8], width: usize) -> Option<u64> {
     Some(n)
 }
 
-/// The digits of a fixed number of places.
+/// The number in the digits at these indexes.
 fn fixed_in(name: &[u8], from: usize, to: usize) -> Option<u32> {
     let n = digits_in(name.get(from..to)?, 0)?;
     u32::try_from(n).ok()
 }
 
-/// The byte at a place is this one.
+/// Some if the byte at this index is `b`.
 fn has(name: &[u8], at: usize, b: u8) -> Option<()> {
     if name.get(at) == Some(&b) {
         Some(())
@@ -111,7 +114,7 @@ fn has(name: &[u8], at: usize, b: u8) -> Option<()> {
     }
 }
 
-/// The record's number, and the number at the end.
+/// The record's number, and the number at the end; 1 if there is none.
 fn numbers_in(text: &[u8]) -> Option<(u64, u64)> {
     match text.iter().position(|b| *b == b'-') {
         None => Some((digits_in(text, 1)?, 1)),
@@ -125,7 +128,7 @@ fn numbers_in(text: &[u8]) -> Option<(u64, u64)> {
     }
 }
 
-/// The name that these letters are, without an ending; None where no record of ours is called so.
+/// Parses a name without an ending. None if it isn't a name of our records.
 pub fn key_in(name: &[u8]) -> Option<Key> {
     has(name, 8, b'T')?;
     has(name, 15, b'.')?;

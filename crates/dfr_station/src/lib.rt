@@ -1,5 +1,6 @@
-//! A recorder that runs for months: scans come as frames or as lines, each record's pair goes into a store the moment it closes,
-//! an operator gives orders meanwhile, and what happens is told, one line an event.
+//! A recorder that runs for months. Scans come as frames or as lines. When a record closes, its
+//! pair of files goes into a store. An operator can give orders meanwhile. Each event is printed as
+//! a line.
 #![tactic(auto)]
 
 mod acquire;

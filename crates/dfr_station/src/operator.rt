@@ -1,4 +1,4 @@
-//! The lines of an operator, which come while scans are recorded.
+//! An operator's lines, which come while scans are recorded.
 
 use crate::event::{Asked, Event, Skipped};
 use crate::intake::{HEAD, commands_of};
@@ -10,18 +10,19 @@ use rtrb::Consumer;
 use std::alloc::{AllocError, Allocator, Global};
 use std::sync::Wait;
 
-/// How long an operator's line may be, in bytes.
+/// The greatest length of an operator's line, in bytes.
 const LONGEST: usize = 4_096;
 
-/// How many bytes are looked at in one turn.
+/// The most bytes read in one turn.
 const TURN: usize = 65_536;
 
-/// What an operator sends, up to the end of a line.
+/// The queue of an operator's bytes, and the line that is being read.
 #[derive(Drop)]
 pub(crate) struct Operator<A: Allocator = Global> {
     pub(crate) bytes: Consumer<u8, A>,
+    /// What of the current line has come.
     line: Vec<u8, A>,
-    /// The line is too long, and is refused.
+    /// The line is too long, or an allocation failed: it is refused.
     is_long: bool,
 }
 
@@ -34,7 +35,8 @@ impl<A: Allocator> Operator<A> {
         }
     }
 
-    /// The next whole line that came: whether it is too long.
+    /// Reads up to the end of a line. Returns whether that line is too long, or None if its end was
+    /// not found in this turn.
     fn next_line(&mut self) -> Option<bool> {
         for _ in 0..TURN {
             match self.bytes.pop() {
@@ -55,7 +57,7 @@ impl<A: Allocator> Operator<A> {
     }
 }
 
-/// The line after the shortest set-up.
+/// A script of the shortest set-up and this line.
 fn script_with<A: Allocator>(alloc: A, line: &[u8]) -> Result<Vec<u8, A>, AllocError> {
     let mut script = Vec::new(alloc);
     script.extend_from_slice(HEAD)?;
@@ -64,6 +66,7 @@ fn script_with<A: Allocator>(alloc: A, line: &[u8]) -> Result<Vec<u8, A>, AllocE
 }
 
 impl<A: Allocator + Copy> Trigger<A> {
+    /// Sets rules, or reports why they are refused.
     fn set_rules<N: Session<A>>(
         &mut self,
         rt: &impl Wait,
@@ -79,7 +82,7 @@ impl<A: Allocator + Copy> Trigger<A> {
         }
     }
 
-    /// Carries out what an operator's line asks for.
+    /// Carries out a command of an operator. Only `trigger` and `rules` are accepted.
     fn obey<N: Session<A>>(&mut self, rt: &impl Wait, shared: &Shared<N, A>, command: Command<A>) {
         match command {
             Command::Trigger => self.carry(rt, shared, Asked::Operator, Order::Trigger),
@@ -90,7 +93,7 @@ impl<A: Allocator + Copy> Trigger<A> {
         }
     }
 
-    /// Carries out an operator's line.
+    /// Reads and carries out an operator's line.
     fn hear<N: Session<A>>(&mut self, rt: &impl Wait, shared: &Shared<N, A>, line: &[u8]) {
         let Ok(script) = script_with(self.alloc, line) else {
             self.teller.tell(Event::Order(Skipped::Memory));
@@ -111,7 +114,7 @@ impl<A: Allocator + Copy> Trigger<A> {
         }
     }
 
-    /// Carries out one line that an operator sent, if one came whole. False where none did.
+    /// Carries out the next line of the operator, if all of it has come.
     pub(crate) fn hear_operator<N: Session<A>>(&mut self, rt: &impl Wait, shared: &Shared<N, A>) {
         let Some(mut operator) = self.operator.take() else {
             return;

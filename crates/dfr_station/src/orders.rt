@@ -1,4 +1,5 @@
-//! The trigger thread: it makes the steps of the scans that came, and carries out orders. It sleeps while nothing comes.
+//! The trigger thread: it processes the scans that came, and carries out orders. It sleeps while
+//! nothing comes.
 
 use crate::event::{Asked, Event, Replied, Skipped};
 use crate::operator::Operator;
@@ -13,10 +14,10 @@ use std::sync::atomic::Ordering;
 use std::thread;
 use std::time::{Clock, Duration};
 
-/// How many steps are made at most while the lock is held.
+/// The most steps made while the lock is held.
 const MOST: u64 = 256;
 
-/// How long the thread sleeps where nothing comes, in milliseconds.
+/// How long the thread sleeps if nothing comes, in milliseconds.
 const NAP: u64 = 4;
 
 /// An order of the input, and how many scans came before it.
@@ -32,31 +33,34 @@ pub(crate) struct Trigger<A: Allocator = Global> {
     pub(crate) alloc: A,
     pub(crate) token: Token<A>,
     pub(crate) orders: Consumer<Placed<A>, A>,
+    /// The next order of the input, if it was taken off the queue before it was due.
     pub(crate) next: Option<Placed<A>>,
     pub(crate) operator: Option<Operator<A>>,
     pub(crate) teller: Teller<A>,
-    /// How many records may wait.
+    /// How many finished records may wait.
     pub(crate) shelf: u32,
+    /// Whether the shelf was full when it was last looked at.
     pub(crate) is_full: bool,
-    /// At how many scans a rule fired while the shelf was full, and of how many of them was told.
+    /// At how many scans a rule fired while the shelf was full.
     pub(crate) missed: u64,
+    /// How many of these have been reported.
     pub(crate) told: u64,
 }
 
-/// Whether the steps go on.
+/// How a turn of steps went.
 #[derive(Clone, Copy, PartialEq, Eq)]
 enum Went {
-    /// Some were made, or more can be.
+    /// Some steps were made.
     On,
-    /// None could be made.
+    /// No step could be made.
     Nowhere,
-    /// An allocation failed; it is tried again.
+    /// An allocation failed; the step is tried again.
     Short,
-    /// No more can be counted.
+    /// More steps can't be counted.
     Full,
 }
 
-/// Why an order with such rules is skipped.
+/// Why an order with these rules is skipped.
 pub(crate) fn skipped_of(fault: RuleFault) -> Skipped {
     match fault {
         RuleFault::TooMany => Skipped::TooMany,
@@ -64,7 +68,8 @@ pub(crate) fn skipped_of(fault: RuleFault) -> Skipped {
     }
 }
 
-/// The next order of the input, if it came after so many scans at most; else it stays the next.
+/// The next order of the input, if at most `to` scans came before it. Otherwise it is kept
+/// in `next`.
 fn due_order<A: Allocator>(
     orders: &mut Consumer<Placed<A>, A>,
     next: &mut Option<Placed<A>>,
@@ -85,7 +90,7 @@ fn due_order<A: Allocator>(
     }
 }
 
-/// Carries out an order. What it is answered; None where memory is short.
+/// Carries out an order. Returns the answer, or None if an allocation failed.
 fn carried<N: Session<A>, A: Allocator + Copy>(
     rt: &impl Wait,
     shared: &Shared<N, A>,
@@ -108,7 +113,7 @@ fn carried<N: Session<A>, A: Allocator + Copy>(
 }
 
 impl<A: Allocator + Copy> Trigger<A> {
-    /// Carries out an order, and tells what it is answered.
+    /// Carries out an order, and reports the answer.
     pub(crate) fn carry<N: Session<A>>(
         &mut self,
         rt: &impl Wait,
@@ -124,7 +129,8 @@ impl<A: Allocator + Copy> Trigger<A> {
         self.teller.tell(told);
     }
 
-    /// Carries out the orders of the input that are due: all of them where no step can be made any more.
+    /// Carries out the orders of the input that are due. With `is_end`, when no more steps can be
+    /// made, carries out all of them.
     fn carry_due<N: Session<A>>(&mut self, rt: &impl Wait, shared: &Shared<N, A>, is_end: bool) {
         for _ in 0..u64::MAX {
             let to = if is_end {
@@ -139,7 +145,7 @@ impl<A: Allocator + Copy> Trigger<A> {
         }
     }
 
-    /// How many steps may be made before the next order, of so many scans that came.
+    /// How many steps to make before the next order, at most, if `came` scans came.
     fn room(&self, came: u64) -> u32 {
         let to = match &self.next {
             Some(placed) => placed.at.min(came),
@@ -148,7 +154,8 @@ impl<A: Allocator + Copy> Trigger<A> {
         to.saturating_sub(self.token.pumped()).min(MOST) as u32
     }
 
-    /// Tells how many triggers of rules found the shelf full since that was told last.
+    /// Reports how many more scans a rule fired at while the shelf was full, since the last
+    /// such report.
     fn tell_missed(&mut self) {
         let more = self.missed.saturating_sub(self.told);
         if more > 0 {
@@ -157,7 +164,8 @@ impl<A: Allocator + Copy> Trigger<A> {
         }
     }
 
-    /// Tells that the shelf is full, or no longer.
+    /// Publishes the numbers of waiting records and missed triggers. Reports when the shelf gets
+    /// full or has room again.
     fn watch_shelf<N: Session<A>>(
         &mut self,
         rt: &impl Wait,
@@ -180,8 +188,8 @@ impl<A: Allocator + Copy> Trigger<A> {
         }
     }
 
-    /// Makes steps, and the orders among them. `Nowhere` is only answered where all that may be made are made, or where those
-    /// that are left have no scan after them.
+    /// Carries out due orders, then makes steps up to the next order. Returns `Nowhere` only if all
+    /// allowed steps have been made, or those that are left are lost scans with no scan after them.
     fn go_on<N: Session<A>>(
         &mut self,
         rt: &impl Wait,

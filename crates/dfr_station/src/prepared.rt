@@ -1,4 +1,4 @@
-//! A recorder that is made of a set-up file.
+//! Makes a recorder from a set-up file.
 
 ghost use Rattle.std.specs.Prelude.{◌≡◌, IfOk, IsTrue, if◌then◌else◌, true, None};
 ghost use Rattle.dfr_recorder.specs.Limits.{has_stamps};
@@ -11,24 +11,32 @@ use dfr_script::{LimitNumbers, Script, ScriptFault, ScriptRefusal, Word, script_
 use std::alloc::{AllocError, Allocator};
 use thiserror::Error;
 
-/// Why a set-up file isn't taken, in the order of the tests.
+/// Why a set-up file is refused, in the order of the checks.
 #[derive(Clone, Copy, Debug, PartialEq, Eq, Error)]
 pub enum SetupRefusal {
-    /// A line, from 1.
-    #[error("line {0}: an unknown or misplaced word, a second line of its kind, or a rest where none may stand")]
+    /// The line with this number, from 1, has an unknown or misplaced word, is a second line of a
+    /// setting that is allowed once, or has text after a word that takes none.
+    #[error("line {0}: unknown or misplaced word, repeated setting, or extra text at the end")]
     Word(u64),
-    #[error("line {0}: a wrong number of fields")]
+    /// The line has a wrong number of fields.
+    #[error("line {0}: wrong number of fields")]
     Fields(u64),
-    #[error("line {0}: a field that can't be read")]
+    /// A field of the line can't be read.
+    #[error("line {0}: a field that cannot be read")]
     Number(u64),
-    #[error("a line is missing: station, device, freq, rate and limits have to be there")]
+    /// A required line is missing.
+    #[error("a line is missing: station, device, freq, rate and limits are required")]
     Missing,
+    /// The layout is refused.
     #[error("{0}")]
     Setup(SetupFault),
+    /// The limits are refused.
     #[error("{0}")]
     Limits(LimitFault),
+    /// The rules are refused.
     #[error("{0}")]
     Rules(RuleFault),
+    /// An allocation failed.
     #[error("out of memory")]
     Memory,
 }
@@ -41,7 +49,8 @@ impl From<AllocError> for SetupRefusal {
     }
 }
 
-/// The refusal of a script's fault; lines after the last one before `go` stand one further up in the file.
+/// The refusal for a script's fault. `lines` is how many lines the file has before `go`. The script
+/// has its `start` line after them, so the number of the `go` line is reduced to that in the file.
 fn refusal_of(fault: ScriptFault, lines: u64) -> SetupRefusal {
     let line = fault.line.min(lines.saturating_add(1));
     match fault.word {
@@ -52,7 +61,7 @@ fn refusal_of(fault: ScriptFault, lines: u64) -> SetupRefusal {
     }
 }
 
-/// The limits that a line says.
+/// The limits of a `limits` line.
 fn limits_of<A: Allocator>(layout: &Layout<A>, line: LimitNumbers) -> Result<Limits, LimitFault>
     ensures { IfOk result (λ limits. IsTrue (has_stamps layout.now.rate limits.longest)) }
 {
@@ -63,7 +72,7 @@ fn limits_of<A: Allocator>(layout: &Layout<A>, line: LimitNumbers) -> Result<Lim
     Ok(limits)
 }
 
-/// The recorder of a script's set-up.
+/// The recorder for a script's set-up.
 fn recorder_in<A: Allocator + Copy>(
     alloc: A,
     script: Script<A>,
@@ -80,8 +89,9 @@ fn recorder_in<A: Allocator + Copy>(
     Recorder::new(alloc, layout, limits, rules).or(Err(SetupRefusal::Memory))
 }
 
-/// The recorder of a set-up file, whose scan 0 is taken at `start`, in microseconds since 1970-01-01 00:00:00. The file has the
-/// lines of a script's set-up, up to a `go`, if it has one; a line `start` of its own isn't read.
+/// The recorder for a set-up file. `start` is the instant of scan 0, in microseconds since
+/// 1970-01-01 00:00:00 UTC. The file has the lines of a script up to `go`, or to its end. Its
+/// `start` line is not read.
 pub fn recorder_of<A: Allocator + Copy>(
     alloc: A,
     text: &[u8],

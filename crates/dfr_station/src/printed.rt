@@ -1,4 +1,4 @@
-//! Events as lines: the instant, what happened, and its numbers with their names.
+//! The lines of events: the instant of printing, what happened, and its numbers with their names.
 
 use crate::event::{Asked, Event, Replied, Skipped, Trouble};
 use crate::intake::Why;
@@ -8,23 +8,25 @@ use itoa::Buffer;
 use jiff_core::civil::DateTime;
 use std::alloc::{AllocError, Allocator};
 
+/// Appends a text.
 fn put<A: Allocator>(out: &mut Vec<u8, A>, text: &str) -> Result<(), AllocError> {
     out.extend_from_slice(text.as_bytes())
 }
 
-/// A text, and a number after it.
+/// Appends a text and a number.
 fn put_with<A: Allocator>(out: &mut Vec<u8, A>, text: &str, n: u64) -> Result<(), AllocError> {
     put(out, text)?;
     put(out, Buffer::new().format(n))
 }
 
-/// A number of two digits after a separator.
+/// Appends a separator and a number with two digits.
 fn put_two<A: Allocator>(out: &mut Vec<u8, A>, before: &str, n: u8) -> Result<(), AllocError> {
     put(out, before)?;
     put_padded(out, n as u64, 2)
 }
 
-/// An instant as `yyyy-mm-ddThh:mm:ss.ffffff`; it is in microseconds since 1970-01-01 00:00:00.
+/// Appends an instant, in microseconds since 1970-01-01 00:00:00 UTC,
+/// as `yyyy-mm-ddThh:mm:ss.ffffff`.
 fn put_instant<A: Allocator>(out: &mut Vec<u8, A>, instant: i64) -> Result<(), AllocError> {
     let Ok(civil) = DateTime::from_nanosecond(instant as i128 * 1000) else {
         return put(out, "?");
@@ -118,7 +120,7 @@ fn put_reply<A: Allocator>(
     }
 }
 
-/// A record's number, its first scan, its trigger's and its last, and its cause.
+/// Appends a word and a record's number, first scan, trigger, last scan and cause.
 fn put_extent<A: Allocator>(
     out: &mut Vec<u8, A>,
     word: &str,
@@ -234,7 +236,8 @@ fn put_what<A: Allocator>(out: &mut Vec<u8, A>, event: Event) -> Result<(), Allo
     }
 }
 
-/// Appends an event's line, which is told at an instant in microseconds since 1970-01-01 00:00:00.
+/// Appends an event's line. `at` is the instant of printing, in microseconds since 1970-01-01
+/// 00:00:00 UTC.
 pub fn put_event<A: Allocator>(
     out: &mut Vec<u8, A>,
     at: i64,

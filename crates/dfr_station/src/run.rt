@@ -1,4 +1,4 @@
-//! A station, from its first scan to the end of its input.
+//! Runs a station, from its first scan to the end of its input.
 
 ghost use Rattle.std.specs.Prelude.{◌≡◌, IfOk};
 ghost use Rattle.dfr_recorder.specs.History.{Opening};
@@ -24,16 +24,21 @@ use std::sync::atomic::Ordering;
 use std::thread::Threads;
 use std::time::Clock;
 
-/// How many scans wait at most for the trigger thread.
+/// The most scans that may wait for the trigger thread.
 const LANE: usize = 65_536;
 
-/// How many bytes an event's line has at most.
+/// The greatest length of an event's line, in bytes.
 const LINE: usize = 512;
 
-/// Records what comes on the input until it ends, in four threads: the acquisition offers each scan, and waits in its reads alone;
-/// the trigger thread makes the steps and carries out orders; the export thread hands each record's pair to the store until that
-/// takes it; the last one prints what happens. What the threads saw is one list of steps with the one-thread recorder's answers,
-/// as `Ended::one_list` says.
+/// Records the input until it ends, in four threads:
+///
+/// - The acquisition offers each scan. It waits only for the input.
+/// - The trigger thread makes the steps and carries out orders.
+/// - The export thread hands each record's pair to the store until the store takes it.
+/// - The last thread prints the events.
+///
+/// The steps of all threads form one list, with the answers that a recorder in one thread gives:
+/// see `Ended::one_list`.
 pub fn run_station<
     A: Allocator + Copy + Send + Sync,
     I: Read + Send,
@@ -88,7 +93,7 @@ pub fn run_station<
     }
 }
 
-/// The same under a name.
+/// Runs the station in the session `N`.
 fn run_named<N: Session<A> + Send + Sync, A: Allocator + Copy + Send + Sync>(
     rt: &(impl Threads + Wait + Clock + Sync),
     alloc: A,
@@ -126,8 +131,9 @@ fn run_named<N: Session<A> + Send + Sync, A: Allocator + Copy + Send + Sync>(
     ended_of(alloc, shared.unlock(), source, tokens, unwritten)
 }
 
-/// Takes the tasks apart once all threads have ended, and prints what came of them: the shared recorder, the source, the tokens
-/// of the trigger thread and the export thread, and how many records weren't written.
+/// Takes the state apart after all threads have ended, and prints the event of the end. Returns the
+/// shared recorder, the source, the tokens of the trigger thread and the export thread, and how
+/// many records could not be written.
 fn taken_apart<N: Session<A>, A: Allocator + Copy, I, K, P: Printer, R: Clock>(
     rt: &R,
     tasks: Tasks<'_, '_, '_, N, I, K, P, A>,
@@ -171,7 +177,7 @@ fn taken_apart<N: Session<A>, A: Allocator + Copy, I, K, P: Printer, R: Clock>(
     Ok((shared, source, first, second, unwritten))
 }
 
-/// The source, and how many scans came and were lost.
+/// The source, how many scans came, and how many of them were lost.
 fn source_of<N: Session<A>, A: Allocator, I>(
     acquisition: Acquisition<'_, N, I, A>,
 ) -> (Source<N, A>, u64, u64) {
@@ -212,7 +218,7 @@ fn trigger_token<A: Allocator>(trigger: Trigger<A>) -> Token<A> {
     token
 }
 
-/// Prints an event, whose line has room in the text.
+/// Prints an event. The text has room for its line.
 fn print_one<A: Allocator, P: Printer>(
     clock: &impl Clock,
     text: &mut Vec<u8, A>,

@@ -1,4 +1,4 @@
-//! The scans that came, as they are counted and told.
+//! Counts the scans that came, and reports lost ones.
 
 use crate::event::Event;
 use crate::intake::{Came, Tally, Why};
@@ -7,7 +7,7 @@ use crate::teller::Teller;
 use std::alloc::{Allocator, Global};
 use std::sync::atomic::Ordering;
 
-/// Lost scans that weren't told yet.
+/// Lost scans that have not been reported yet.
 #[derive(Clone, Copy)]
 struct Losses {
     first: u64,
@@ -16,7 +16,8 @@ struct Losses {
     why: Why,
 }
 
-/// Counts the scans that come, and tells the lost ones: the first at once, others within a second of scans.
+/// Counts scans and reports lost ones: the first at once, those of the next second of
+/// scans together.
 #[derive(Drop)]
 pub(crate) struct Scans<A: Allocator = Global> {
     pub(crate) teller: Teller<A>,
@@ -24,7 +25,7 @@ pub(crate) struct Scans<A: Allocator = Global> {
     came: u64,
     lost: u64,
     losses: Option<Losses>,
-    /// From this place on losses are told.
+    /// Losses are reported once this many scans have come.
     quiet: u64,
 }
 
@@ -50,7 +51,8 @@ impl<A: Allocator> Scans<A> {
         self.lost
     }
 
-    /// Lets the other threads know, and tells losses that are due; all of them at the end.
+    /// Reports losses that are due, or all of them at the end. Then publishes the counts to the
+    /// other threads.
     pub(crate) fn publish(&mut self, signals: &Signals, is_end: bool) {
         if let Some(losses) = self.losses {
             if is_end || self.quiet <= self.came {

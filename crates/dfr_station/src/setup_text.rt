@@ -1,17 +1,17 @@
-//! A set-up file as the text of a script.
+//! Turns a set-up file into a script.
 
 use dfr_channels::Lines;
 use itoa::Buffer;
 use std::alloc::{AllocError, Allocator, Global};
 
-/// The script that a set-up file stands for, and how many lines of it stand before its end.
+/// The script made from a set-up file, and how many of its lines come from the file before `go`.
 #[derive(Drop)]
 pub(crate) struct SetupText<A: Allocator = Global> {
     pub(crate) script: Vec<u8, A>,
     pub(crate) lines: u64,
 }
 
-/// Whether a line's word is this one.
+/// Whether a line begins with this word.
 fn has_word(line: &[u8], word: &[u8]) -> bool {
     match line.strip_prefix(word) {
         Some([]) => true,
@@ -20,13 +20,14 @@ fn has_word(line: &[u8], word: &[u8]) -> bool {
     }
 }
 
+/// Appends a line and a line feed.
 fn put_line<A: Allocator>(script: &mut Vec<u8, A>, line: &[u8]) -> Result<(), AllocError> {
     script.extend_from_slice(line)?;
     script.extend_from_slice(b"\n")
 }
 
-/// The lines up to the first `go`, with this start in place of their own; what stands after `go` is not read. An empty line
-/// stands for a line that is left out, so that the others keep their numbers.
+/// The lines up to the first `go`, with this start instead of their own. Lines after `go` are not
+/// read. An empty line replaces each `start` line, so that the other lines keep their numbers.
 pub(crate) fn setup_text<A: Allocator>(
     alloc: A,
     text: &[u8],

@@ -1,27 +1,29 @@
-//! What the threads let each other know, without a lock.
+//! Counters and flags that the threads share without a lock.
 
 use std::sync::atomic::{AtomicBool, AtomicU64};
 
-/// What the threads let each other know.
+/// The counters and flags. Each is written by one thread, but for `failed`.
 #[derive(Drop)]
 pub(crate) struct Signals {
-    /// How many scans came, lost ones among them: so many steps may be made. An order of the input before one of them was
-    /// sent on before this is written.
+    /// How many scans came, including lost ones. The trigger thread may make this many steps.
+    /// An order of the input that came before one of these scans is in the queue before this
+    /// is written.
     pub(crate) came: AtomicU64,
+    /// How many of them were lost.
     pub(crate) lost: AtomicU64,
-    /// How many records stand in the store.
+    /// How many records the store took.
     pub(crate) records: AtomicU64,
-    /// How many records wait on the shelf, or have been taken off and aren't in the store yet.
+    /// How many finished records wait on the shelf.
     pub(crate) waiting: AtomicU64,
     /// At how many scans a rule fired while the shelf was full.
     pub(crate) missed: AtomicU64,
     /// The input has ended.
     pub(crate) acquired: AtomicBool,
-    /// All steps are made.
+    /// All steps have been made.
     pub(crate) triggered: AtomicBool,
-    /// All records are in the store, or given up.
+    /// All records have been stored or given up.
     pub(crate) exported: AtomicBool,
-    /// A thread couldn't be started, or can't go on.
+    /// A thread could not be started, or cannot continue.
     pub(crate) failed: AtomicBool,
 }
 

@@ -7,42 +7,46 @@ use dfr_recorder::Recorder;
 use rtrb::Consumer;
 use std::alloc::{Allocator, Global};
 
-/// What a store did with a pair.
+/// What a store did with a pair that it took.
 #[derive(Clone, Copy, Debug, PartialEq, Eq)]
 pub struct Stored {
-    /// The name under which the pair stands.
+    /// The name under which the pair is stored.
     pub key: Key,
     /// How many older pairs were removed.
     pub removed: u64,
 }
 
-/// Where records go.
+/// Takes the records' pairs of files.
 pub trait Store {
-    /// Takes a record's configuration file and data file, whole or not at all.
+    /// Stores a record's configuration file and data file: both of them, or neither on an error.
     fn put(&mut self, key: Key, cfg: &[u8], dat: &[u8]) -> Result<Stored, Trouble>;
 }
 
-/// Where events go.
+/// Prints the lines of events.
 pub trait Printer {
-    /// Prints whole lines; what can't be printed is dropped.
+    /// Prints whole lines. What can't be printed is dropped.
     fn print(&mut self, text: &[u8]);
 }
 
-/// In which form scans come.
+/// The form in which scans come.
 #[derive(Clone, Copy, Debug, PartialEq, Eq)]
 pub enum Input {
+    /// Lines of text.
     Lines,
+    /// Frames of bytes.
     Frames,
 }
 
-/// A recorder, and how it is run.
+/// A recorder, and how to run it.
 #[derive(Drop)]
 pub struct Station<A: Allocator = Global> {
     pub recorder: Recorder<A>,
+    /// The form of the input.
     pub input: Input,
+    /// The kind of the data files.
     pub kind: Kind,
-    /// Whether a line is printed each minute.
+    /// Whether to print a line each minute.
     pub minutes: bool,
-    /// What an operator sends.
+    /// The bytes that an operator sends, if there is one.
     pub operator: Option<Consumer<u8, A>>,
 }

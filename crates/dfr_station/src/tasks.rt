@@ -15,7 +15,7 @@ use std::thread;
 use std::thread::{Scope, Threads};
 use std::time::Clock;
 
-/// All that the threads work on. What belongs to one thread stands behind a lock that it holds throughout.
+/// The state of all threads. The state of one thread has a lock that this thread holds throughout.
 #[derive(Drop)]
 pub(crate) struct Tasks<'x, 'y, 'z, N: Session<A>, I, K, P, A: Allocator = Global> {
     pub(crate) alloc: A,
@@ -27,6 +27,7 @@ pub(crate) struct Tasks<'x, 'y, 'z, N: Session<A>, I, K, P, A: Allocator = Globa
     pub(crate) telling: Mutex<Telling<'z, P, A>>,
 }
 
+/// Runs the acquisition until the input ends.
 fn run_acquisition<N: Session<A>, A: Allocator + Copy, I: Read, K, P>(
     rt: &impl Wait,
     tasks: &Tasks<'_, '_, '_, N, I, K, P, A>,
@@ -40,7 +41,7 @@ fn run_acquisition<N: Session<A>, A: Allocator + Copy, I: Read, K, P>(
     );
 }
 
-/// A thread beside the acquisition.
+/// The threads other than the acquisition.
 #[derive(Clone, Copy)]
 enum Beside {
     Trigger,
@@ -48,7 +49,7 @@ enum Beside {
     Telling,
 }
 
-/// Does what this thread does.
+/// Runs this thread to its end.
 fn run_beside<N: Session<A>, A: Allocator + Copy, I, K: Store, P: Printer, R: Wait + Clock>(
     rt: &R,
     tasks: &Tasks<'_, '_, '_, N, I, K, P, A>,
@@ -72,7 +73,7 @@ fn run_beside<N: Session<A>, A: Allocator + Copy, I, K: Store, P: Printer, R: Wa
     }
 }
 
-/// Starts a thread. False where it can't be started.
+/// Starts a thread. Returns false if it can't be started.
 fn start<'s, E, N: Session<A> + Send + Sync, A: Allocator + Copy + Send + Sync>(
     scope: &Scope<'s, E>,
     rt: &'s (impl Threads + Wait + Clock + Sync),
@@ -82,8 +83,8 @@ fn start<'s, E, N: Session<A> + Send + Sync, A: Allocator + Copy + Send + Sync>(
     scope.spawn(move || run_beside(rt, tasks, thread)).is_ok()
 }
 
-/// Starts the threads, takes in all that comes, and waits for them. False where one of them can't be started: nothing is
-/// recorded then.
+/// Starts the other threads, reads the input to its end, and waits for the threads. Returns false
+/// if a thread can't be started; then nothing is recorded.
 pub(crate) fn in_threads<N: Session<A> + Send + Sync, A: Allocator + Copy + Send + Sync>(
     rt: &(impl Threads + Wait + Clock + Sync),
     tasks: &Tasks<'_, '_, '_, N, impl Read + Send, impl Store + Send, impl Printer + Send, A>,

@@ -1,27 +1,29 @@
-//! A queue of events: the end that tells them, and the end that makes lines of them.
+//! A queue of events: one end takes them, the other makes lines of them.
 
 use crate::event::Event;
 use crate::printed::put_event;
 use rtrb::{Consumer, Producer, RingBuffer};
 use std::alloc::{AllocError, Allocator, Global};
 
-/// How many events of a thread wait at most until they are printed.
+/// The most events of a thread that may wait to be printed.
 const WAITING: usize = 4_096;
 
-/// How many lines are made at once at most.
+/// The most lines that are made at once.
 const BATCH: usize = 50;
 
-/// How many bytes they have at most, and one line more: a line has some 300.
+/// Room in bytes for these lines and one more: a line has about 300 bytes.
 const ROOM: usize = 16_384;
 
-/// Tells events. It waits for nobody: where none can be taken they are counted.
+/// The end that reports events. It never waits: while the queue is full, it counts them.
 #[derive(Drop)]
 pub(crate) struct Teller<A: Allocator = Global> {
     lane: Producer<Event, A>,
+    /// How many events were not taken since the last one that was.
     missed: u64,
 }
 
-/// The events of a thread that wait, and their lines, for which there is room from the start: to print them needs no memory.
+/// The end from which events are taken, and the lines made of them. Room for the lines is allocated
+/// at the start, so that printing doesn't allocate.
 #[derive(Drop)]
 pub(crate) struct Waiting<A: Allocator = Global> {
     events: Consumer<Event, A>,
@@ -37,7 +39,7 @@ pub(crate) fn telling_of<A: Allocator + Copy>(
     Ok((Teller { lane, missed: 0 }, Waiting { events, text }))
 }
 
-/// Appends an event's line, all of it or nothing.
+/// Appends an event's line, or nothing if an allocation fails.
 pub(crate) fn put_line<A: Allocator>(text: &mut Vec<u8, A>, at: i64, event: Event) {
     let before = text.len();
     if put_event(text, at, event).is_err() {
@@ -46,7 +48,7 @@ pub(crate) fn put_line<A: Allocator>(text: &mut Vec<u8, A>, at: i64, event: Even
 }
 
 impl<A: Allocator> Waiting<A> {
-    /// Makes lines of the events that wait. How many there were.
+    /// Makes lines of the first waiting events. Returns how many there were.
     pub(crate) fn fill(&mut self, at: i64) -> usize {
         self.text.clear();
         for count in 0..BATCH {
@@ -60,6 +62,7 @@ impl<A: Allocator> Waiting<A> {
 }
 
 impl<A: Allocator> Teller<A> {
+    /// Reports an event. Missed events are reported before it.
     pub(crate) fn tell(&mut self, event: Event) {
         if self.missed > 0 {
             if self.lane.push(Event::Missed(self.missed)).is_err() {

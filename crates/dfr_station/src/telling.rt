@@ -1,4 +1,4 @@
-//! The thread that prints what the others tell.
+//! The thread that prints the events of the other threads.
 
 use crate::event::Event;
 use crate::signals::Signals;
@@ -10,7 +10,7 @@ use std::sync::atomic::Ordering;
 use std::thread;
 use std::time::{Clock, Duration};
 
-/// How long the thread sleeps where nothing is told, in milliseconds.
+/// How long the thread sleeps if there are no events, in milliseconds.
 const NAP: u64 = 20;
 
 /// What the printing thread works on.
@@ -21,11 +21,11 @@ pub(crate) struct Telling<'x, P, A: Allocator = Global> {
     pub(crate) triggers: Waiting<A>,
     pub(crate) exports: Waiting<A>,
     pub(crate) minutes: bool,
-    /// The last whole minute that was told, of the clock that never goes back.
+    /// The minute of the last such line, or of the start, on the monotonic clock.
     pub(crate) minute: u64,
 }
 
-/// Now, in microseconds since 1970-01-01 00:00:00; 0 where the clock can't be read.
+/// The current instant in microseconds since 1970-01-01 00:00:00 UTC; 0 if the clock can't be read.
 pub fn now(clock: &impl Clock) -> i64 {
     match clock.since_1970() {
         Ok(time) => i64::try_from(time.as_micros()).unwrap_or(i64::MAX),
@@ -33,7 +33,7 @@ pub fn now(clock: &impl Clock) -> i64 {
     }
 }
 
-/// Minutes since some start.
+/// The minutes on the monotonic clock; 0 if it can't be read.
 pub(crate) fn minute(clock: &impl Clock) -> u64 {
     match clock.monotonic() {
         Ok(time) => time.as_secs() / 60,
@@ -41,7 +41,7 @@ pub(crate) fn minute(clock: &impl Clock) -> u64 {
     }
 }
 
-/// How it stands.
+/// The event with the current counts.
 fn standing(signals: &Signals) -> Event {
     Event::Minute {
         scans: signals.came.load(Ordering::SeqCst),
@@ -53,7 +53,7 @@ fn standing(signals: &Signals) -> Event {
 }
 
 impl<P: Printer, A: Allocator + Copy> Telling<'_, P, A> {
-    /// Whether a line is due that is printed each minute.
+    /// Whether the line of each minute is due. If so, its minute is noted.
     fn is_due(&mut self, clock: &impl Clock) -> bool {
         let minute = minute(clock);
         let is_due = self.minutes && self.minute < minute;
@@ -63,8 +63,8 @@ impl<P: Printer, A: Allocator + Copy> Telling<'_, P, A> {
         is_due
     }
 
-    /// Prints what waits. Whether there was anything. A record's event is popped before that of its trigger is looked for, and
-    /// printed after it: no effect stands before its cause.
+    /// Prints the waiting events. Returns whether there were any. The queues are emptied in the
+    /// reverse of the order of printing, so that a record is never printed before its trigger.
     fn print(&mut self, clock: &impl Clock, signals: &Signals) -> bool {
         let at = now(clock);
         let exports = self.exports.fill(at);
@@ -87,7 +87,7 @@ fn print_lines<P: Printer>(printer: &mut P, text: &[u8]) {
     }
 }
 
-/// Prints what is told until all threads have ended and all of it is printed.
+/// Prints events until all other threads have ended and all events are printed.
 pub(crate) fn print_events<A: Allocator + Copy, P: Printer, R: Wait + Clock>(
     rt: &R,
     signals: &Signals,

@@ -1,10 +1,10 @@
-//! Lines in the buffer of the input, which has room for the shortest set-up at its front.
+//! Lines in the input buffer, which has room for the shortest set-up at its front.
 
 use crate::frames::moved_up;
 use crate::intake::{HEAD, HEAD_LEN, is_scan_line};
 use memchr::{memchr, memrchr};
 
-/// How many line feeds a text has.
+/// The number of line feeds in a text.
 pub(crate) fn feeds_in(text: &[u8]) -> u64 {
     let mut count = 0u64;
     for b in text {
@@ -15,7 +15,7 @@ pub(crate) fn feeds_in(text: &[u8]) -> u64 {
     count
 }
 
-/// Where the line at a place, from 0, begins; the end where there are fewer.
+/// Where line `place`, from 0, begins; the end of the text if it has fewer lines.
 pub(crate) fn line_at(text: &[u8], place: u64) -> usize {
     let mut at = 0usize;
     for _ in 0..place {
@@ -30,7 +30,7 @@ pub(crate) fn line_at(text: &[u8], place: u64) -> usize {
     at.min(text.len())
 }
 
-/// Where the line that begins a text ends, with its line feed.
+/// Where the first line of a text ends, after its line feed.
 pub(crate) fn line_end(text: &[u8]) -> usize {
     match memchr(b'\n', text) {
         Some(feed) => feed.saturating_add(1),
@@ -38,7 +38,8 @@ pub(crate) fn line_end(text: &[u8]) -> usize {
     }
 }
 
-/// Puts the shortest set-up before a place of the buffer, over bytes that were read. None where there is no room.
+/// Writes the shortest set-up before index `at`, over bytes that have been processed. Returns the
+/// buffer from the set-up to `end`, or None if there is no room.
 pub(crate) fn with_head(buffer: &mut [u8], at: usize, end: usize) -> Option<&[u8]> {
     let from = at.checked_sub(HEAD_LEN)?;
     for (slot, b) in buffer.get_mut(from..at)?.iter_mut().zip(HEAD) {
@@ -47,8 +48,8 @@ pub(crate) fn with_head(buffer: &mut [u8], at: usize, end: usize) -> Option<&[u8
     buffer.get(from..end)
 }
 
-/// Where the lines of scans end that a text begins with; where it begins with none, the end of its first line, which is
-/// carried out by itself, so that its number is known.
+/// Where the scan lines at the start of a text end. If the first line is not a scan line, where
+/// that line ends: it is carried out by itself, so that its number is known.
 pub(crate) fn piece_end(text: &[u8]) -> usize {
     let mut at = 0usize;
     for _ in 0..text.len() {
@@ -67,7 +68,7 @@ pub(crate) fn piece_end(text: &[u8]) -> usize {
     }
 }
 
-/// Where the buffer's last whole line ends.
+/// Where the last whole line in the buffer ends.
 pub(crate) fn whole_end(buffer: &[u8], held: usize) -> usize {
     match memrchr(b'\n', buffer.get(HEAD_LEN..held).unwrap_or(&[])) {
         Some(feed) => feed.saturating_add(HEAD_LEN).saturating_add(1),
@@ -75,7 +76,8 @@ pub(crate) fn whole_end(buffer: &[u8], held: usize) -> usize {
     }
 }
 
-/// Moves the bytes from `from` to `held` to the front, after the room for the head. Where they end.
+/// Moves the bytes from `from` to `held` to the front, after the room for the set-up. Returns where
+/// they end.
 pub(crate) fn kept_after(buffer: &mut [u8], from: usize, held: usize) -> usize {
     match buffer.get_mut(HEAD_LEN..) {
         Some(data) => moved_up(

@@ -1,4 +1,4 @@
-//! Lines as they come, in pieces of any size.
+//! Reads lines, which come in pieces of any size.
 
 use crate::event::{Event, Skipped};
 use crate::intake::{
@@ -18,7 +18,7 @@ use rtrb::Producer;
 use std::alloc::{Allocator, Global};
 use std::io::Read;
 
-/// What the lines of the input act on.
+/// What the lines of the input are applied to.
 #[derive(Drop)]
 pub(crate) struct Lane<'a, N: Session<A>, A: Allocator = Global> {
     pub(crate) alloc: A,
@@ -26,28 +26,31 @@ pub(crate) struct Lane<'a, N: Session<A>, A: Allocator = Global> {
     pub(crate) source: &'a mut Source<N, A>,
     pub(crate) scans: &'a mut Scans<A>,
     pub(crate) orders: &'a mut Producer<Placed<A>, A>,
-    /// How many lines came.
+    /// How many lines were processed.
     pub(crate) lines: u64,
 }
 
 impl<N: Session<A>, A: Allocator + Copy> Lane<'_, N, A> {
+    /// Reports a skipped line.
     fn skip(&mut self, line: u64, why: Skipped) {
         self.scans.teller.tell(Event::Line { line, why });
     }
 
+    /// Gives a scan to the recorder and counts it.
     fn give(&mut self, scan: Scan<A>) -> Result<(), LossFault> {
         let came = give(self.layout, self.source, scan)?;
         self.scans.count(came);
         Ok(())
     }
 
+    /// Counts a lost scan.
     fn lose(&mut self, why: Why) -> Result<(), LossFault> {
         let came = lose(self.source, why)?;
         self.scans.count(came);
         Ok(())
     }
 
-    /// Sends an order on, to be carried out after the scans that came.
+    /// Puts an order into the queue, to be carried out after the scans that came before it.
     fn order(&mut self, line: u64, order: Order<A>) {
         let placed = Placed {
             at: self.scans.came(),
@@ -58,6 +61,7 @@ impl<N: Session<A>, A: Allocator + Copy> Lane<'_, N, A> {
         }
     }
 
+    /// Puts an order to set rules into the queue, or reports why the line is skipped.
     fn set_rules(&mut self, line: u64, list: Vec<Rule, A>) {
         match Rules::new(self.layout, list) {
             Ok(rules) => self.order(line, Order::SetRules(rules)),
@@ -68,7 +72,7 @@ impl<N: Session<A>, A: Allocator + Copy> Lane<'_, N, A> {
         }
     }
 
-    /// Carries out a command; its line is at or after line `from`.
+    /// Carries out a command. Its line is `from` or a later one.
     fn carry(&mut self, from: u64, command: Command<A>) -> Result<(), LossFault> {
         match command {
             Command::Scan(scan) => return self.give(scan),
@@ -85,6 +89,7 @@ impl<N: Session<A>, A: Allocator + Copy> Lane<'_, N, A> {
         Ok(())
     }
 
+    /// Carries out commands. Their lines begin after those that were processed.
     fn carry_all(&mut self, commands: Vec<Command<A>, A>) -> Result<(), LossFault> {
         let from = self.lines.saturating_add(1);
         for command in commands {
@@ -93,7 +98,7 @@ impl<N: Session<A>, A: Allocator + Copy> Lane<'_, N, A> {
         Ok(())
     }
 
-    /// A line that can't be read: a scan's is a lost scan.
+    /// Handles a line that can't be read: a scan line is a lost scan, any other line is skipped.
     fn refuse(&mut self, text: &[u8], why: Skipped) -> Result<(), LossFault> {
         self.lines = self.lines.saturating_add(1);
         if is_scan_line(text) {
@@ -108,7 +113,7 @@ impl<N: Session<A>, A: Allocator + Copy> Lane<'_, N, A> {
         Ok(())
     }
 
-    /// Carries out lines, if all of them can be read; else their first fault.
+    /// Carries out lines if all of them can be read; otherwise returns their first fault.
     fn carry_read(
         &mut self,
         buffer: &mut [u8],
@@ -134,8 +139,8 @@ impl<N: Session<A>, A: Allocator + Copy> Lane<'_, N, A> {
         }
     }
 
-    /// Carries out the first lines from `at` to `end`: those of scans up to the first that can't be read, or one line. Where the
-    /// next line begins.
+    /// Carries out the first lines from `at` to `end`: scan lines up to the first that can't be
+    /// read, or one other line. Returns where the next line begins.
     fn carry_some(&mut self, buffer: &mut [u8], at: usize, end: usize) -> Result<usize, LossFault> {
         let piece = piece_end(buffer.get(at..end).unwrap_or(&[]));
         let to = at.saturating_add(piece.max(1)).min(end);
@@ -151,12 +156,12 @@ impl<N: Session<A>, A: Allocator + Copy> Lane<'_, N, A> {
         }
         match self.carry_read(buffer, at, bad)? {
             None => Ok(bad),
-            // they could be read before: an allocation failed
+            // these lines could be read before, so an allocation failed
             Some(fault) => self.refuse_first(buffer, at, bad, fault.word),
         }
     }
 
-    /// Refuses the line that begins at `at`. Where the next one begins.
+    /// Refuses the line that begins at `at`. Returns where the next one begins.
     fn refuse_first(
         &mut self,
         buffer: &[u8],
@@ -168,7 +173,7 @@ impl<N: Session<A>, A: Allocator + Copy> Lane<'_, N, A> {
             Word::Word => Skipped::Word,
             Word::Fields => Skipped::Fields,
             Word::Number => Skipped::Number,
-            // no fault of a line after the shortest set-up: an allocation failed
+            // after the shortest set-up no line has this fault, so an allocation failed
             Word::Setup => Skipped::Memory,
         };
         let rest = buffer.get(at..to).unwrap_or(&[]);
@@ -177,7 +182,7 @@ impl<N: Session<A>, A: Allocator + Copy> Lane<'_, N, A> {
         Ok(at.saturating_add(len.max(1)))
     }
 
-    /// Carries out the lines from `from` to `end`, which is after a line's end.
+    /// Carries out the lines from `from` to `end`, where a line ends.
     fn carry_lines(&mut self, buffer: &mut [u8], from: usize, end: usize) -> Result<(), LossFault> {
         let mut at = from;
         for _ in from..end {
@@ -190,16 +195,16 @@ impl<N: Session<A>, A: Allocator + Copy> Lane<'_, N, A> {
     }
 }
 
-/// What of a line that is too long was read.
+/// Whether the buffer begins with the rest of a line that was too long.
 #[derive(Clone, Copy, PartialEq, Eq)]
 enum Reading {
-    /// The buffer begins with a line's begin.
+    /// The buffer begins with the start of a line.
     Lines,
-    /// What comes up to the next line feed belongs to a line that was refused.
+    /// The bytes up to the next line feed belong to a line that was refused.
     Skipping,
 }
 
-/// Drops what belongs to a line that was refused. How many bytes are held then.
+/// Drops the rest of a line that was refused. Returns where the remaining bytes end.
 fn skip_on(buffer: &mut [u8], held: usize, reading: &mut Reading) -> usize {
     if *reading == Reading::Lines {
         return held;
@@ -217,7 +222,8 @@ fn skip_on(buffer: &mut [u8], held: usize, reading: &mut Reading) -> usize {
     }
 }
 
-/// Carries out all whole lines that are held. Where what is left ends.
+/// Carries out all whole lines in the buffer, and refuses a line that fills it. Returns where the
+/// remaining bytes end.
 fn take_whole<N: Session<A>, A: Allocator + Copy>(
     lane: &mut Lane<'_, N, A>,
     buffer: &mut [u8],
@@ -236,8 +242,8 @@ fn take_whole<N: Session<A>, A: Allocator + Copy>(
     Ok(HEAD_LEN)
 }
 
-/// Carries out each line that comes until the input ends. The buffer has room for the head at its front; up to `held` stands
-/// what came already.
+/// Carries out each line that comes until the input ends. The buffer has room for the shortest
+/// set-up at its front; up to `held` it has the bytes that have already come.
 pub(crate) fn take_lines<N: Session<A>, A: Allocator + Copy, I: Read>(
     signals: &Signals,
     lane: &mut Lane<'_, N, A>,

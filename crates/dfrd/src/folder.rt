@@ -1,4 +1,5 @@
-//! The folder into which records are written, so that whoever sees a configuration file finds its whole pair.
+//! The folder of records. While `dfrd` runs, a `.cfg` appears only after its `.dat`: a program that
+//! sees a `.cfg` finds a whole pair.
 
 use dfr_station::{Key, Store, Stored, Trouble, put_key, surplus_bytes};
 use std::alloc::{AllocError, Global};
@@ -8,52 +9,59 @@ use std::rt::Files;
 use std::{fs, io};
 use thiserror::Error;
 
-/// How many older pairs are kept.
+/// How many pairs the folder keeps.
 #[derive(Clone, Copy)]
 pub enum Keep {
+    /// All of them.
     All,
-    /// So many pairs.
+    /// At most this many pairs.
     Pairs(u64),
-    /// As many as have so many bytes.
+    /// The newest pairs that have at most this many bytes together; the newest one always stays.
     Bytes(u64),
 }
 
-/// A store of records that is opened under a name.
+/// A store of records that is opened by its path.
 pub trait Records: Store {
-    /// Opens it, ends what an earlier recording left that was cut off, and notes the pairs that stand there where some may
-    /// have to go.
+    /// Opens the store. Finishes or removes what an interrupted recording left. Notes the existing
+    /// pairs, unless all are kept.
     fn open(&mut self, path: &str, keep: Keep) -> Result<(), FolderFault>;
 }
 
-/// Why a folder can't be recorded into.
+/// Why a folder can't be used for records.
 #[derive(Clone, Copy, Debug, PartialEq, Eq, Error)]
 pub enum FolderFault {
-    #[error("there is no such folder")]
+    /// There is no such folder, or a file has this name.
+    #[error("no such folder")]
     Gone,
-    #[error("no permission")]
+    /// The system denies access, or the file system is read-only.
+    #[error("no permission, or a read-only file system")]
     Denied,
-    #[error("another dfrd records into it")]
+    /// Another `dfrd` has locked the folder.
+    #[error("in use by another dfrd")]
     Taken,
+    /// An allocation failed.
     #[error("out of memory")]
     Memory,
-    #[error("can't be recorded into")]
+    /// Any other error while the folder was opened, listed or tidied up.
+    #[error("the folder cannot be read or tidied up")]
     Other,
 }
 
-/// The folder, and the names of the pairs in it with their sizes in bytes, the oldest first: those of earlier recordings by their
-/// names, then ours as they were written, so that a clock that was set back makes no new pair an old one.
+/// The folder, and the pairs in it with their sizes in bytes, the oldest first. Pairs of earlier
+/// recordings come first, sorted by name. Pairs of this recording follow in the order of writing,
+/// so a new pair never counts as old because the clock was set back.
 #[derive(Drop)]
 pub struct Folder<'a, R> {
     pub(crate) rt: &'a R,
     pub(crate) path: String,
     pub(crate) keep: Keep,
     pub(crate) pairs: Vec<(Key, u64)>,
-    /// While it is open no other recording has the folder.
+    /// While it is open, no other `dfrd` can use the folder.
     pub(crate) lock: Option<File>,
 }
 
 impl<'a, R: AllocGlobal> Folder<'a, R> {
-    /// A folder that isn't opened yet.
+    /// A folder that is not open yet.
     pub fn new(rt: &'a R) -> Folder<'a, R> {
         Folder {
             rt,
@@ -65,7 +73,7 @@ impl<'a, R: AllocGlobal> Folder<'a, R> {
     }
 }
 
-/// What a fault of the system means.
+/// The trouble to report for an error of the system.
 fn trouble_of(error: &io::Error) -> Trouble {
     match error.kind() {
         ErrorKind::StorageFull | ErrorKind::QuotaExceeded | ErrorKind::FileTooLarge => {
@@ -78,7 +86,7 @@ fn trouble_of(error: &io::Error) -> Trouble {
     }
 }
 
-/// The path of a file of a pair.
+/// The path of one file of a pair: the folder, the pair's name and an ending.
 fn path_of(alloc: Global, folder: &str, key: Key, ending: &str) -> Result<String, AllocError> {
     let mut name = Vec::new(alloc);
     put_key(&mut name, key)?;
@@ -91,17 +99,18 @@ fn path_of(alloc: Global, folder: &str, key: Key, ending: &str) -> Result<String
     Ok(path)
 }
 
-/// The paths of a pair: of both files, and of each while it is written.
+/// The paths of a pair's files under their final names, and while they are written or removed.
 #[derive(Drop)]
 pub(crate) struct Paths {
     pub(crate) cfg: String,
     pub(crate) dat: String,
     cfg_part: String,
     pub(crate) dat_part: String,
-    /// The configuration file's name while the pair is removed.
+    /// The configuration file while the pair is removed.
     gone: String,
 }
 
+/// The paths of the pair with this name.
 pub(crate) fn paths_of(alloc: Global, folder: &str, key: Key) -> Result<Paths, AllocError> {
     Ok(Paths {
         cfg: path_of(alloc, folder, key, ".cfg")?,
@@ -112,7 +121,7 @@ pub(crate) fn paths_of(alloc: Global, folder: &str, key: Key) -> Result<Paths, A
     })
 }
 
-/// Whether nothing is called so.
+/// Whether no file, folder or link has this path.
 pub(crate) fn is_free<R: Files>(rt: &R, path: &str) -> io::Result<bool> {
     match fs::symlink_metadata(rt, path) {
         Ok(_) => Ok(false),
@@ -126,27 +135,27 @@ pub(crate) fn is_free<R: Files>(rt: &R, path: &str) -> io::Result<bool> {
     }
 }
 
-/// Writes a file and has the disk take it.
+/// Writes a file and syncs it.
 fn write_synced<R: Files>(rt: &R, path: &str, bytes: &[u8]) -> io::Result<()> {
     let mut file = File::create(rt, path)?;
     file.write_all(bytes)?;
     file.sync_all()
 }
 
-/// Has the disk take the folder's names. Where a folder can't be opened so, nothing is done.
+/// Syncs the folder, so that the new names are on the disk. An error is ignored.
 fn sync_folder<R: Files>(rt: &R, path: &str) {
     if let Ok(folder) = File::open(rt, path) {
         let _ = folder.sync_all();
     }
 }
 
-/// Gives the configuration file its name.
+/// Gives the configuration file its final name.
 pub(crate) fn name_config<R: Files>(rt: &R, paths: &Paths) -> io::Result<()> {
     fs::rename(rt, paths.cfg_part.as_str(), paths.cfg.as_str())
 }
 
-/// Writes both files aside, and then gives them their names, the data file first; where the configuration file can't have its own,
-/// neither has.
+/// Writes both files under their `.part` names and renames them, the data file first. If the
+/// configuration file can't be renamed, the data file is removed.
 fn write_pair<R: Files>(rt: &R, paths: &Paths, cfg: &[u8], dat: &[u8]) -> io::Result<()> {
     write_synced(rt, paths.dat_part.as_str(), dat)?;
     write_synced(rt, paths.cfg_part.as_str(), cfg)?;
@@ -158,13 +167,14 @@ fn write_pair<R: Files>(rt: &R, paths: &Paths, cfg: &[u8], dat: &[u8]) -> io::Re
     named
 }
 
-/// Removes a pair: its configuration file has another name first, so that none is seen without its data.
+/// Removes a pair. Its configuration file is renamed to `.cfg.gone` first, so no `.cfg` is ever
+/// without its data.
 fn remove_pair<R: Files>(rt: &R, paths: &Paths) -> io::Result<()> {
     fs::rename(rt, paths.cfg.as_str(), paths.gone.as_str())?;
     finish_removal(rt, paths)
 }
 
-/// Removes what is left of a pair whose configuration file has its other name.
+/// Removes the rest of a pair whose configuration file has been renamed to `.cfg.gone`.
 pub(crate) fn finish_removal<R: Files>(rt: &R, paths: &Paths) -> io::Result<()> {
     if !is_free(rt, paths.dat.as_str())? {
         fs::remove_file(rt, paths.dat.as_str())?;
@@ -172,19 +182,19 @@ pub(crate) fn finish_removal<R: Files>(rt: &R, paths: &Paths) -> io::Result<()> 
     fs::remove_file(rt, paths.gone.as_str())
 }
 
-/// Whether neither file of a pair is there.
+/// Whether neither file of a pair exists.
 fn both_free<R: Files>(rt: &R, paths: &Paths) -> io::Result<bool> {
     Ok(is_free(rt, paths.cfg.as_str())? && is_free(rt, paths.dat.as_str())?)
 }
 
-/// Takes away what was begun.
+/// Removes the `.part` files of a pair, if they exist.
 pub(crate) fn take_back<R: Files>(rt: &R, paths: &Paths) {
     let _ = fs::remove_file(rt, paths.cfg_part.as_str());
     let _ = fs::remove_file(rt, paths.dat_part.as_str());
 }
 
 impl<R: Files + AllocGlobal> Folder<'_, R> {
-    /// The paths of the first name of this record that isn't there yet.
+    /// The first name for this record that no pair has yet, and its paths.
     fn free_paths(&self, key: Key) -> Result<(Key, Paths), Trouble> {
         for copy in 1..u64::MAX {
             let key = Key { copy, ..key };
@@ -200,7 +210,7 @@ impl<R: Files + AllocGlobal> Folder<'_, R> {
         Err(Trouble::Other)
     }
 
-    /// How many of the oldest pairs have to go.
+    /// How many of the oldest pairs have to be removed; 0 if an allocation failed.
     fn surplus(&self) -> usize {
         match self.keep {
             Keep::All => 0,
@@ -216,7 +226,8 @@ impl<R: Files + AllocGlobal> Folder<'_, R> {
         }
     }
 
-    /// Removes the oldest pair, and forgets it. Whether it was there; None where it can't be removed.
+    /// Removes the oldest pair, and drops it from the list. Returns whether it still existed, or
+    /// None if there is no pair or it can't be removed.
     fn remove_oldest(&mut self) -> Option<bool> {
         let (key, _) = *self.pairs.first()?;
         let was_there = removed(self.rt, self.path.as_str(), key)?;
@@ -224,7 +235,7 @@ impl<R: Files + AllocGlobal> Folder<'_, R> {
         Some(was_there)
     }
 
-    /// Removes the oldest pairs where there are too many. How many went.
+    /// Removes the oldest pairs if there are too many. Returns how many were removed.
     pub fn remove_surplus(&mut self) -> u64 {
         let mut count = 0u64;
         for _ in 0..self.surplus() {
@@ -238,7 +249,7 @@ impl<R: Files + AllocGlobal> Folder<'_, R> {
     }
 }
 
-/// Removes a pair. False where somebody did already; None where it can't be removed.
+/// Removes a pair. Returns false if it no longer exists, and None if it can't be removed.
 fn removed<R: Files + AllocGlobal>(rt: &R, folder: &str, key: Key) -> Option<bool> {
     let Ok(paths) = paths_of(rt.alloc(), folder, key) else {
         return None;
@@ -249,6 +260,7 @@ fn removed<R: Files + AllocGlobal>(rt: &R, folder: &str, key: Key) -> Option<boo
     }
 }
 
+/// The sizes of the pairs, in bytes.
 fn sizes_of(alloc: Global, pairs: &[(Key, u64)]) -> Result<Vec<u64>, AllocError> {
     let mut sizes = Vec::new(alloc);
     for (_, size) in pairs {

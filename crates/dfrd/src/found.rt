@@ -1,4 +1,5 @@
-//! What stands in a folder when recording begins: the pairs of earlier recordings, and what one left that was cut off.
+//! What is in the folder when recording begins: the pairs of earlier recordings, and files that an
+//! interrupted recording left.
 
 use crate::folder::{
     Folder, FolderFault, Keep, Paths, Records, finish_removal, is_free, name_config, paths_of,
@@ -10,17 +11,19 @@ use std::io::ErrorKind;
 use std::rt::Files;
 use std::{fs, io};
 
-/// The endings of our files.
+/// What the name of one of our files ends in.
 #[derive(Clone, Copy, PartialEq, Eq)]
 enum Ending {
+    /// `.cfg`: a configuration file.
     Config,
-    /// A file that was being written.
+    /// `.cfg.part` or `.dat.part`: a file that was being written.
     Part,
-    /// The configuration file of a pair that was being removed.
+    /// `.cfg.gone`: the configuration file of a pair that was being removed.
     Gone,
 }
 
-/// Whose file a name is, and which.
+/// The name of the pair that a file belongs to, and which of its files it is. None if it is none of
+/// our files, or a `.dat`.
 fn found_in(name: &str) -> Option<(Key, Ending)> {
     let (stem, ending) = if let Some(stem) = name.strip_suffix(".cfg") {
         (stem, Ending::Config)
@@ -36,7 +39,7 @@ fn found_in(name: &str) -> Option<(Key, Ending)> {
     Some((key_in(stem.as_bytes())?, ending))
 }
 
-/// How many bytes a file has.
+/// The size of a file in bytes; 0 if it can't be found.
 fn size_of<R: Files>(rt: &R, path: &str) -> u64 {
     match fs::metadata(rt, path) {
         Ok(metadata) => metadata.len(),
@@ -44,7 +47,8 @@ fn size_of<R: Files>(rt: &R, path: &str) -> u64 {
     }
 }
 
-/// Ends the writing of a pair that was cut off: with its data file in place the pair is whole; else nothing of it is left.
+/// Finishes writing a pair that was interrupted between the two renames: gives its configuration
+/// file the final name. Otherwise removes the `.part` files.
 fn end_writing<R: Files>(rt: &R, paths: &Paths) -> io::Result<()> {
     if !is_free(rt, paths.dat.as_str())?
         && is_free(rt, paths.cfg.as_str())?
@@ -57,7 +61,7 @@ fn end_writing<R: Files>(rt: &R, paths: &Paths) -> io::Result<()> {
 }
 
 impl<R: Files + AllocGlobal + Clone + Drop> Folder<'_, R> {
-    /// The files of ours in the folder.
+    /// Our files in the folder, but for the `.dat` files.
     fn found(&self) -> io::Result<Vec<(Key, Ending)>> {
         let mut found = Vec::new(self.rt.alloc());
         for entry in fs::read_dir(self.rt, self.path.as_str())? {
@@ -71,7 +75,7 @@ impl<R: Files + AllocGlobal + Clone + Drop> Folder<'_, R> {
         Ok(found)
     }
 
-    /// Ends what an earlier recording left that was cut off.
+    /// Finishes or removes what an interrupted recording left.
     fn tidy(&self, found: &[(Key, Ending)]) -> io::Result<()> {
         for (key, ending) in found {
             let paths = paths_of(self.rt.alloc(), self.path.as_str(), *key)?;
@@ -84,7 +88,8 @@ impl<R: Files + AllocGlobal + Clone + Drop> Folder<'_, R> {
         Ok(())
     }
 
-    /// Ends what an earlier recording left that was cut off, and notes the pairs that stand there where some may have to go.
+    /// Finishes or removes what an interrupted recording left. Then notes the existing pairs,
+    /// unless all are kept.
     fn find_pairs(&mut self) -> io::Result<()> {
         let found = self.found()?;
         self.tidy(&found)?;
@@ -101,7 +106,7 @@ impl<R: Files + AllocGlobal + Clone + Drop> Folder<'_, R> {
         Ok(())
     }
 
-    /// Makes a file in the folder, and removes it.
+    /// Tests whether a file can be created in the folder: creates one and removes it.
     fn probe(&self) -> io::Result<()> {
         let mut path = String::from_str(self.rt.alloc(), self.path.as_str())?;
         path.push_str("/.dfrd.part")?;
@@ -115,7 +120,7 @@ impl<R: Files + AllocGlobal + Clone + Drop> Folder<'_, R> {
         }
     }
 
-    /// How many bytes a pair has.
+    /// The size of both files of a pair, in bytes.
     fn size_of_pair(&self, key: Key) -> io::Result<u64> {
         let paths = paths_of(self.rt.alloc(), self.path.as_str(), key)?;
         Ok(size_of(self.rt, paths.cfg.as_str()).saturating_add(size_of(
@@ -125,7 +130,7 @@ impl<R: Files + AllocGlobal + Clone + Drop> Folder<'_, R> {
     }
 }
 
-/// What a fault of the system means.
+/// Why the folder can't be used, from an error of the system.
 fn fault_of(error: &io::Error) -> FolderFault {
     match error.kind() {
         ErrorKind::NotFound | ErrorKind::NotADirectory => FolderFault::Gone,
@@ -135,7 +140,7 @@ fn fault_of(error: &io::Error) -> FolderFault {
     }
 }
 
-/// The folder's lock; a file system without locks has none.
+/// Opens the folder and locks it. On a file system without locks it is open but not locked.
 fn locked<R: Files<File = File>>(rt: &R, path: &str) -> Result<File, FolderFault> {
     let folder = match File::open(rt, path) {
         Ok(folder) => folder,
@@ -155,7 +160,7 @@ impl<R: Files<File = File> + AllocGlobal + Clone + Drop> Records for Folder<'_, 
         };
         self.path = path;
         self.keep = keep;
-        // a full disk is no such fault: it may have room when the first record comes
+        // a full disk is not refused: it may have room when the first record comes
         if let Err(error) = self.probe()
             && fault_of(&error) == FolderFault::Denied
         {

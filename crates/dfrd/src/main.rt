@@ -1,4 +1,4 @@
-//! The program: `dfrd [OPTIONS] SETUP DIR` records what comes on standard input until it ends.
+//! The program: `dfrd [OPTIONS] SETUP DIR` records the scans on standard input until that ends.
 #![tactic(auto)]
 
 mod folder;
@@ -28,7 +28,7 @@ use std::thread::Threads;
 use std::time::Clock;
 use std::{env, io, thread};
 
-/// Says why words ask for nothing, in printable characters.
+/// Prints a usage error in printable characters. Returns the exit status.
 fn refuse_words<R: Eprint + AllocGlobal>(rt: &R, text: &str) -> u8 {
     let mut safe = Vec::new(rt.alloc());
     for line in text.lines() {
@@ -42,7 +42,7 @@ fn refuse_words<R: Eprint + AllocGlobal>(rt: &R, text: &str) -> u8 {
     2
 }
 
-/// The words after the program's name.
+/// The arguments after the program's name.
 fn words_of<R: Env + AllocGlobal>(rt: &R) -> io::Result<Vec<String>> {
     let mut rest = Vec::new(rt.alloc());
     for word in env::args(rt)?.skip(1) {
@@ -51,7 +51,7 @@ fn words_of<R: Env + AllocGlobal>(rt: &R) -> io::Result<Vec<String>> {
     Ok(rest)
 }
 
-/// The words as texts.
+/// The arguments as string slices.
 fn texts_of<'a, R: AllocGlobal>(rt: &R, words: &'a [String]) -> Result<Vec<&'a str>, AllocError> {
     let mut texts: Vec<&str> = Vec::new(rt.alloc());
     for word in words {
@@ -60,16 +60,16 @@ fn texts_of<'a, R: AllocGlobal>(rt: &R, words: &'a [String]) -> Result<Vec<&'a s
     Ok(texts)
 }
 
-/// Says why there are no words.
+/// Prints why the arguments can't be read. Returns the exit status.
 fn refuse_start<R: Eprint>(rt: &R, kind: ErrorKind) -> u8 {
     if kind == ErrorKind::OutOfMemory {
         return out_of_memory(rt);
     }
-    let _ = eprintln!(rt; "dfrd: a word isn't valid text");
+    let _ = eprintln!(rt; "dfrd: an argument is not valid UTF-8");
     2
 }
 
-/// Prints a text that words ask for.
+/// Prints the help or the version. Returns the exit status.
 fn print_text<R: Print>(rt: &R, text: &str) -> u8 {
     match print!(rt; "{text}") {
         Ok(()) => 0,
@@ -77,8 +77,9 @@ fn print_text<R: Print>(rt: &R, text: &str) -> u8 {
     }
 }
 
-/// Starts a thread that sends on what an operator writes, and ends with the program. What it sends comes out of the queue; or
-/// the program's status, where it can't be started.
+/// Starts the thread that reads the operator's file and puts the bytes into a queue. The thread
+/// ends with the program. Returns the consumer of the queue, or the exit status if the thread can't
+/// be started.
 fn followed<
     R: Files + Eprint + AllocGlobal + Clone + Drop + Threads + Wait + Clock + Send + 'static,
 >(rt: &R, path: &str) -> Result<Consumer<u8>, u8>
@@ -103,7 +104,7 @@ where
     }
 }
 
-/// Does what is to be done with the words.
+/// Runs the program with these arguments. Returns the exit status.
 fn run<
     I: Read + Send,
     K: Records + Send,

@@ -1,4 +1,4 @@
-//! An operator's lines, from a FIFO or a file that grows.
+//! The operator's lines, from a FIFO or a growing file.
 
 use rtrb::Producer;
 use std::fs::{File, OpenOptions};
@@ -8,13 +8,14 @@ use std::sync::Wait;
 use std::time::{Clock, Duration};
 use std::{io, thread};
 
-/// How many bytes of an operator wait at most.
+/// The most bytes of an operator that may wait.
 pub(crate) const WAITING: usize = 65_536;
 
-/// How long the thread sleeps where nothing comes, in milliseconds.
+/// How long the thread sleeps if nothing comes or the queue is full, in milliseconds.
 const NAP: u64 = 50;
 
-/// Opens a file for writing too where it can be, so that a FIFO doesn't end where a writer closes it.
+/// Opens a file for reading and writing, so that a FIFO doesn't end when a writer closes it. Opens
+/// it for reading alone if writing isn't possible.
 fn open_both<R: Files>(rt: &R, path: &str) -> io::Result<R::File> {
     match OpenOptions::new().read(true).write(true).open(rt, path) {
         Ok(file) => Ok(file),
@@ -22,7 +23,8 @@ fn open_both<R: Files>(rt: &R, path: &str) -> io::Result<R::File> {
     }
 }
 
-/// Opens the operator's file at its end: what stands in it already was for an earlier recording. A FIFO has no such place.
+/// Opens the operator's file at its end, so that lines already in it are ignored. Seeking fails on
+/// a FIFO; that error is ignored.
 pub(crate) fn open_orders<R: Files>(rt: &R, path: &str) -> io::Result<R::File> {
     match open_both(rt, path) {
         Ok(mut file) => {
@@ -33,7 +35,7 @@ pub(crate) fn open_orders<R: Files>(rt: &R, path: &str) -> io::Result<R::File> {
     }
 }
 
-/// Sends the bytes on; waits where none can be taken.
+/// Puts the bytes into the queue; waits while it is full.
 fn send<R: Wait + Clock>(rt: &R, bytes: &mut Producer<u8>, piece: &[u8]) {
     for b in piece {
         for _ in rt.forever() {
@@ -45,7 +47,7 @@ fn send<R: Wait + Clock>(rt: &R, bytes: &mut Producer<u8>, piece: &[u8]) {
     }
 }
 
-/// Sends on what an operator writes, as it comes.
+/// Puts what an operator writes into the queue, as it comes. Returns after a read error.
 pub(crate) fn follow<R: Wait + Clock, F: Read>(rt: &R, file: &mut F, bytes: &mut Producer<u8>) {
     let mut piece = [0u8; 4_096];
     for _ in rt.forever() {

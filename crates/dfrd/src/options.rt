@@ -1,20 +1,22 @@
-//! The program's words, each option a function.
+//! The command line: the options and arguments of `dfrd`, and the texts of its help.
 
 use clap::{Arg, ArgAction, Command};
+use comtrade_io::VERSION;
 use std::alloc::{AllocError, Global};
 
 const ABOUT: &str =
-    "Records from a converter for months: scans on standard input, a pair of COMTRADE files for each record";
+    "Record disturbances: read scans from standard input, write a COMTRADE pair for each record";
 
 const AFTER: &str = "\
-Standard input has a line for each scan, as after `go` in a script of dfr, or with --raw a frame: each analogue channel
-as 2 bytes, then the status channels, sixteen in 2 bytes. A line is printed for each event; docs/dfrd.md says what each means.
+Standard input has one line for each scan, as after `go` in a script of dfr. With --raw it has one
+frame for each scan: each analogue channel in 2 bytes, then the status channels, sixteen in 2 bytes.
+dfrd prints one line for each event; docs/dfrd.md explains these lines.
 
-Status: 0 it recorded to the end of its input; 1 a fault; 2 words that ask for nothing.";
+Exit status: 0 recorded to the end of the input; 1 an error; 2 usage error.";
 
 static KINDS: [&str; 2] = ["ascii", "binary"];
 
-/// A word that has to be there.
+/// A required argument.
 fn word<'a>(alloc: Global, name: &'a str, help: &'a str) -> Arg<'a> {
     Arg::new(alloc, name).required(true).help(help)
 }
@@ -35,58 +37,75 @@ fn flag<'a>(alloc: Global, name: &'a str, help: &'a str) -> Arg<'a> {
         .help(help)
 }
 
-/// The command with an argument more.
+/// The command with one more argument.
 fn with<'a>(command: Command<'a>, arg: Arg<'a>) -> Result<Command<'a>, AllocError> {
     command.arg(arg)
 }
 
-/// The program without options.
+/// The command without options and arguments.
 fn program<'a>(alloc: Global) -> Result<Command<'a>, AllocError> {
     Command::new(alloc, "dfrd")
-        .version("0.1")
+        .version(VERSION)
         .about(ABOUT)
         .after_help(AFTER)
         .bin_name("dfrd")
 }
 
-/// What comes, and which files are written.
+/// Adds `--kind`, `--raw` and `--start`.
 fn with_forms<'a>(alloc: Global, command: Command<'a>) -> Result<Command<'a>, AllocError> {
-    let kind = choice(alloc, "kind", "KIND", "The kind of the data files").value_parser(
-        KINDS.as_slice(),
-    );
+    let kind = choice(
+        alloc,
+        "kind",
+        "KIND",
+        "The form of the data files; ascii if not given",
+    )
+    .value_parser(KINDS.as_slice());
     let one = with(command, kind)?;
-    let two = with(one, flag(alloc, "raw", "Scans come as frames"))?;
-    let start = "The instant of the first scan: now, or microseconds since 1970-01-01 00:00:00";
+    let two = with(
+        one,
+        flag(alloc, "raw", "Read scans as frames of bytes, not as lines"),
+    )?;
+    let start =
+        "The time of the first scan: now (default) or microseconds since 1970-01-01 00:00:00 UTC";
     with(two, choice(alloc, "start", "START", start))
 }
 
-/// An operator's orders, and which pairs are kept.
+/// Adds `--orders`, `--keep` and `--keep-bytes`.
 fn with_paths<'a>(alloc: Global, command: Command<'a>) -> Result<Command<'a>, AllocError> {
-    let orders = "A FIFO, or a file that grows, with lines `trigger` and `rules ..` of an operator";
+    let orders = "Read an operator's orders (`trigger`, `rules ..`) from a FIFO or a growing file";
     let one = with(command, choice(alloc, "orders", "PATH", orders))?;
     let two = with(
         one,
-        choice(alloc, "keep", "N", "How many pairs are kept: the oldest go"),
+        choice(
+            alloc,
+            "keep",
+            "N",
+            "Keep at most N records; delete the oldest",
+        ),
     )?;
-    let bytes = "How many bytes of pairs are kept: the oldest go";
+    let bytes = "Keep at most this many bytes of records; delete the oldest";
     with(two, choice(alloc, "keep-bytes", "BYTES", bytes))
 }
 
-/// How it runs.
+/// Adds `--check` and `--quiet`.
 fn with_flags<'a>(alloc: Global, command: Command<'a>) -> Result<Command<'a>, AllocError> {
-    let check = flag(alloc, "check", "Judges SETUP and DIR, and ends");
-    let quiet = flag(alloc, "quiet", "No line each minute");
+    let check = flag(alloc, "check", "Check SETUP and DIR, then exit");
+    let quiet = flag(alloc, "quiet", "Do not print a line each minute");
     with(with(command, check)?, quiet)
 }
 
-/// The names that have to be there.
+/// Adds the arguments SETUP and DIR.
 fn with_names<'a>(alloc: Global, command: Command<'a>) -> Result<Command<'a>, AllocError> {
-    let setup = word(alloc, "SETUP", "The lines of a script's set-up, up to a go");
-    let folder = word(alloc, "DIR", "The folder of the records");
+    let setup = word(
+        alloc,
+        "SETUP",
+        "The set-up file: the lines of a script up to `go`",
+    );
+    let folder = word(alloc, "DIR", "The folder for the records, which must exist");
     with(with(command, setup)?, folder)
 }
 
-/// The program's words.
+/// The command line of `dfrd`, which is parsed without the program's name.
 pub(crate) fn dfrd<'a>(alloc: Global) -> Result<Command<'a>, AllocError> {
     let program = program(alloc)?.no_binary_name(true);
     let forms = with_forms(alloc, program)?;

@@ -1,15 +1,15 @@
-//! What is said on standard error.
+//! Messages on standard error.
 
 use comtrade_io::put_safe;
 use std::fmt::Display;
 
-/// That an allocation failed: a text that doesn't allocate.
+/// Prints that an allocation failed, without allocating. Returns the exit status, 1.
 pub(crate) fn out_of_memory<R: Eprint>(rt: &R) -> u8 {
     let _ = eprintln!(rt; "dfrd: out of memory");
     1
 }
 
-/// `dfrd: `, a name, and what is wrong with it.
+/// Prints `dfrd: NAME: ERROR`, the name in printable characters. Returns the exit status, 1.
 pub(crate) fn complain<R: Eprint + AllocGlobal, F: Display + Drop>(
     rt: &R,
     name: &str,

@@ -1,13 +1,14 @@
-//! Standard output, where events are printed.
+//! Standard output, on which events are printed.
 
 use dfr_station::Printer;
 use std::io;
 use std::io::Write;
 
-/// Standard output. Once it is closed nothing is printed any more, and recording goes on.
+/// Standard output. After a write fails, nothing more is printed, and recording goes on.
 #[derive(Drop)]
 pub(crate) struct Lines<'a, R> {
     pub(crate) rt: &'a R,
+    /// A write failed.
     pub(crate) is_closed: bool,
 }
 

@@ -18,18 +18,19 @@ use std::sync::Wait;
 use std::thread::Threads;
 use std::time::Clock;
 
-/// The most bytes of a set-up file: 512 MiB.
+/// The greatest size of a set-up file: 512 MiB.
 const LIMIT: usize = 536_870_912;
 
-/// A set-up that was judged.
+/// A set-up that was checked.
 #[derive(Drop)]
 pub(crate) struct Plan {
+    /// The bytes of the set-up file.
     pub(crate) setup: Vec<u8>,
-    /// How many bytes a frame has.
+    /// The size of a frame in bytes.
     pub(crate) frame: usize,
 }
 
-/// The bytes of the set-up file.
+/// Reads the set-up file.
 fn read_setup<R: Files + AllocGlobal>(rt: &R, path: &str) -> Result<Vec<u8>, ToolFault> {
     match File::open(rt, path) {
         Ok(mut file) => read_up_to(rt.alloc(), &mut file, LIMIT),
@@ -37,14 +38,14 @@ fn read_setup<R: Files + AllocGlobal>(rt: &R, path: &str) -> Result<Vec<u8>, Too
     }
 }
 
-/// How many bytes a frame of the set-up has.
+/// The size of a frame in bytes, for this set-up.
 fn frame_of(recorder: &Recorder<Global>) -> usize {
     let layout = recorder.layout();
     let _rate = layout.rate();
     frame_len(layout.analog().len(), layout.status().len())
 }
 
-/// Prints what would be recorded.
+/// Prints what would be recorded: channels, rate, rules, size of a frame, and limits.
 pub(crate) fn print_judged<R: Print>(rt: &R, recorder: &Recorder<Global>) {
     let layout = recorder.layout();
     let limits = recorder.limits();
@@ -61,8 +62,8 @@ pub(crate) fn print_judged<R: Print>(rt: &R, recorder: &Recorder<Global>) {
     let _ = println!(rt; "pre {pre} post {post} longest {longest} shelf {shelf}");
 }
 
-/// Reads and judges the set-up; prints what would be recorded where only that is asked. None where it is refused, which is
-/// said.
+/// Reads and checks the set-up. With `--check`, prints what would be recorded. If the set-up is
+/// refused, prints why and returns None.
 pub(crate) fn plan_of<R: Files + Print + Eprint + AllocGlobal>(
     rt: &R,
     asked: &Asked<'_>,
@@ -89,7 +90,7 @@ pub(crate) fn plan_of<R: Files + Print + Eprint + AllocGlobal>(
     }
 }
 
-/// What is kept of older pairs.
+/// How many pairs to keep.
 pub(crate) fn keep_of(asked: &Asked<'_>) -> Keep {
     match (asked.pairs, asked.bytes) {
         (Some(n), _) => Keep::Pairs(n),
@@ -98,7 +99,8 @@ pub(crate) fn keep_of(asked: &Asked<'_>) -> Keep {
     }
 }
 
-/// The program's status after a recording that ended.
+/// The exit status of a recording: 1 if a finished record could not be written. Prints the error if
+/// the recording failed.
 fn status_of<R: Eprint + AllocGlobal>(rt: &R, left: Result<Recorded, RunFault>) -> u8 {
     match left {
         Ok(recorded) => { if recorded.unwritten > 0 { 1 } else { 0 } }
@@ -106,7 +108,7 @@ fn status_of<R: Eprint + AllocGlobal>(rt: &R, left: Result<Recorded, RunFault>) 
     }
 }
 
-/// Records what comes until the input ends. The program's status.
+/// Records until the input ends. Returns the exit status.
 pub(crate) fn record<
     I: Read + Send,
     K: Store + Send,
@@ -124,7 +126,7 @@ pub(crate) fn record<
     let Ok(first) = read_first(rt.alloc(), input, asked.input, plan.frame) else {
         return out_of_memory(rt);
     };
-    // scan 0 has just come
+    // the first scan has just come
     let start = match asked.start {
         Some(start) => start,
         None => now(rt),

@@ -1,4 +1,4 @@
-//! What the program's words ask for.
+//! What the command line asks for.
 
 use crate::options::dfrd;
 use clap::error::ErrorKind;
@@ -7,35 +7,45 @@ use comtrade_write::Kind;
 use dfr_station::Input;
 use std::alloc::{AllocError, Global};
 
-/// What the words ask for.
+/// A recording, or a check, as the command line asks for it.
 #[derive(Clone, Copy, Debug)]
 pub struct Asked<'a> {
+    /// The path of the set-up file.
     pub setup: &'a str,
+    /// The path of the folder of records.
     pub folder: &'a str,
+    /// The kind of the data files.
     pub kind: Kind,
+    /// The form in which scans come.
     pub input: Input,
-    /// The instant of scan 0; None where it is taken at the first scan.
+    /// The instant of scan 0 in microseconds since 1970-01-01 00:00:00 UTC. None if it is read from
+    /// the clock when the first scan comes.
     pub start: Option<i64>,
+    /// The path of an operator's FIFO or file.
     pub orders: Option<&'a str>,
-    /// How many pairs are kept.
+    /// The most records to keep. None if there is no such limit.
     pub pairs: Option<u64>,
-    /// How many bytes are kept.
+    /// The most bytes of records to keep. None if there is no such limit.
     pub bytes: Option<u64>,
+    /// Only check the set-up and the folder.
     pub is_check: bool,
+    /// Do not print a line each minute.
     pub is_quiet: bool,
 }
 
-/// What is to be done with words.
+/// The answer to a command line.
 #[derive(Debug, Drop)]
 pub enum Answer<'a> {
+    /// Record, or check.
     Do(Asked<'a>),
-    /// Help or the version.
+    /// Print this text: the help or the version.
     Print(String),
-    /// Why they ask for nothing.
+    /// Report this usage error.
     Refuse(String),
 }
 
-/// The number of an option, where it is given; an error where it is none, or less than 1.
+/// The number given with an option, or None without the option. An error if it isn't a number or is
+/// less than 1.
 fn count_of(found: &ArgMatches<'_>, name: &str) -> Result<Option<u64>, ()> {
     match found.get_str(name) {
         None => Ok(None),
@@ -46,7 +56,8 @@ fn count_of(found: &ArgMatches<'_>, name: &str) -> Result<Option<u64>, ()> {
     }
 }
 
-/// The start that is given; an error where it is none.
+/// The start given with `--start`, or None for `now`. An error if it is neither `now` nor a number
+/// of at least 0.
 fn start_of(found: &ArgMatches<'_>) -> Result<Option<i64>, ()> {
     match found.get_str("start") {
         None | Some("now") => Ok(None),
@@ -57,6 +68,7 @@ fn start_of(found: &ArgMatches<'_>) -> Result<Option<i64>, ()> {
     }
 }
 
+/// The kind of the data files, ASCII if it isn't given.
 fn kind_of(found: &ArgMatches<'_>) -> Kind {
     match found.get_str("kind") {
         Some("binary") => Kind::Binary,
@@ -64,6 +76,7 @@ fn kind_of(found: &ArgMatches<'_>) -> Kind {
     }
 }
 
+/// The form of the input: frames with `--raw`, else lines.
 fn input_of(found: &ArgMatches<'_>) -> Input {
     if found.get_flag("raw") {
         Input::Frames
@@ -72,28 +85,29 @@ fn input_of(found: &ArgMatches<'_>) -> Input {
     }
 }
 
-/// What is kept of older pairs: so many, or so many bytes of them.
+/// The most records and the most bytes of records to keep; at most one of them is given. The error
+/// is the text of a usage error.
 fn kept_of(found: &ArgMatches<'_>) -> Result<(Option<u64>, Option<u64>), &'static str> {
     let Ok(pairs) = count_of(found, "keep") else {
-        return Err("error: --keep takes a number of pairs, 1 or more\n");
+        return Err("error: --keep expects a number of records, 1 or more\n");
     };
     let Ok(bytes) = count_of(found, "keep-bytes") else {
-        return Err("error: --keep-bytes takes a number of bytes, 1 or more\n");
+        return Err("error: --keep-bytes expects a number of bytes, 1 or more\n");
     };
     if pairs.is_some() && bytes.is_some() {
-        return Err("error: only one of --keep and --keep-bytes can be given\n");
+        return Err("error: --keep cannot be combined with --keep-bytes\n");
     }
     Ok((pairs, bytes))
 }
 
-/// What matches ask for, or why they ask for nothing.
+/// What the parsed command line asks for, or the text of a usage error.
 fn asked_of<'a>(found: &ArgMatches<'a>) -> Result<Asked<'a>, &'static str> {
     let Ok(start) = start_of(found) else {
-        return Err("error: --start takes now, or microseconds since 1970-01-01 00:00:00\n");
+        return Err("error: --start expects now or microseconds since 1970-01-01 00:00:00 UTC\n");
     };
     let (pairs, bytes) = kept_of(found)?;
     let (Some(setup), Some(folder)) = (found.get_str("SETUP"), found.get_str("DIR")) else {
-        return Err("error: SETUP and DIR have to be given\n");
+        return Err("error: SETUP and DIR are required\n");
     };
     Ok(Asked {
         setup,
@@ -109,7 +123,8 @@ fn asked_of<'a>(found: &ArgMatches<'a>) -> Result<Asked<'a>, &'static str> {
     })
 }
 
-/// The text of a parse that found nothing to do: help or the version, else why. A parse that ran out of memory has none.
+/// The answer if parsing stopped: print the help or the version, else report a usage error. If an
+/// allocation failed there is no answer.
 fn told<'a>(alloc: Global, error: &Error) -> Result<Answer<'a>, AllocError> {
     let kind = error.kind();
     if let ErrorKind::OutOfMemory = kind {
@@ -123,7 +138,7 @@ fn told<'a>(alloc: Global, error: &Error) -> Result<Answer<'a>, AllocError> {
     }
 }
 
-/// Why matches ask for nothing.
+/// The answer that reports a usage error.
 fn refused<'a>(alloc: Global, why: &str) -> Result<Answer<'a>, AllocError> {
     match String::from_str(alloc, why) {
         Ok(text) => Ok(Answer::Refuse(text)),
@@ -131,7 +146,7 @@ fn refused<'a>(alloc: Global, why: &str) -> Result<Answer<'a>, AllocError> {
     }
 }
 
-/// What is to be done with the words after the program's name.
+/// Parses the arguments after the program's name.
 pub fn answer_of<'a>(alloc: Global, words: &'a [&'a str]) -> Result<Answer<'a>, AllocError> {
     match dfrd(alloc)?.try_get_matches_from(words) {
         Ok(matches) => match asked_of(&matches) {

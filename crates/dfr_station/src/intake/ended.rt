@@ -1,4 +1,4 @@
-//! What a station leaves that ended, and why it wasn't recorded.
+//! The result of a recording, and why one failed.
 
 ghost use Rattle.std.specs.Prelude.{◌≡◌, IfOk};
 ghost use Rattle.dfr_station.specs.Runs.{Leaves};
@@ -7,23 +7,27 @@ use dfr_live::{EndFault, Ended, Inner, OpenFault, Session, Source, Token, end};
 use std::alloc::{Allocator, Global};
 use thiserror::Error;
 
-/// Why a station wasn't recorded, or not to its end.
+/// Why a recording didn't start, or did not reach its end.
 #[derive(Clone, Copy, Debug, PartialEq, Eq, Error)]
 pub enum RunFault {
+    /// An allocation failed.
     #[error("out of memory")]
     Memory,
-    #[error("a thread can't be started")]
+    /// A thread could not be started. Nothing was recorded.
+    #[error("a thread could not be started")]
     Thread,
-    #[error("the recorder wasn't opened: {0}")]
+    /// The recorder could not be opened.
+    #[error("the recorder was not opened: {0}")]
     Open(OpenFault),
-    #[error("the recording wasn't ended: {0}")]
+    /// The recording could not be ended.
+    #[error("the recording was not ended: {0}")]
     End(EndFault),
-    /// More lost scans in a row, or more scans, than can be counted.
-    #[error("more scans than can be counted")]
+    /// There were more scans, or more lost scans in a row, than can be counted.
+    #[error("more scans, or more lost scans in a row, than can be counted")]
     Counter,
 }
 
-/// What a station that ended leaves, and how many records its store didn't take.
+/// What a recording leaves at its end, and how many finished records its store did not take.
 #[derive(Drop)]
 pub struct Recorded<A: Allocator = Global> {
     pub ended: Ended<A>,

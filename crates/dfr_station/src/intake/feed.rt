@@ -1,4 +1,5 @@
-//! Scans that come are offered to the recorder; each that can't be is lost, so that every later one keeps its instant.
+//! Offers the scans that come to the recorder. A scan that can't be offered is lost, so that all
+//! later scans keep their instants.
 
 ghost use Rattle.std.specs.Prelude.{◌≡◌, ◌≤◌, ◌*◌, ◌+◌, length, IfErr, MatchResult};
 ghost use Rattle.dfr_station.specs.Frames as frames;
@@ -13,15 +14,15 @@ use std::alloc::Allocator;
 /// Why a scan is lost.
 #[derive(Clone, Copy, Debug, PartialEq, Eq)]
 pub enum Why {
-    /// A line `lost` says so.
+    /// A `lost` line.
     Told,
-    /// A line that can't be read.
+    /// A scan line that can't be read, or is too long.
     Unread,
-    /// A number of readings or bits that isn't the set-up's.
+    /// The numbers of readings or bits differ from the set-up.
     Shape,
-    /// The lowest analogue channel, from 0, whose value is out of its range.
+    /// A value is out of its range; the lowest such analogue channel, from 0.
     Range(u32),
-    /// As many scans wait as the lane has places.
+    /// The queue of scans is full.
     Full,
     /// An allocation failed.
     Memory,
@@ -30,11 +31,13 @@ pub enum Why {
 /// What became of a scan that came.
 #[derive(Clone, Copy, Debug, PartialEq, Eq)]
 pub enum Came {
+    /// It was offered to the recorder.
     Offered,
+    /// It was lost.
     Lost(Why),
 }
 
-/// Counts a scan as lost.
+/// Counts a scan as lost. On an error no more losses can be counted, and nothing has changed.
 pub fn lose<N: Session<A>, A: Allocator>(
     source: &mut Source<N, A>,
     why: Why,
@@ -49,8 +52,8 @@ pub fn lose<N: Session<A>, A: Allocator>(
     }
 }
 
-/// Offers a scan that came, or counts it as lost where it doesn't fit the layout or no place is free: it waits for nobody. An
-/// error says that no more losses can be counted; nothing has changed then.
+/// Offers a scan, or counts it as lost if it doesn't fit the layout or the queue is full. Never
+/// waits. On an error no more losses can be counted, and nothing has changed.
 pub fn give<N: Session<A>, A: Allocator>(
     layout: &Layout<A>,
     source: &mut Source<N, A>,
@@ -71,12 +74,13 @@ pub fn give<N: Session<A>, A: Allocator>(
     }
 }
 
-/// What is told of each scan that came, in order.
+/// Counts the scans that came, in order.
 pub trait Tally {
+    /// Counts one scan.
     fn count(&mut self, came: Came);
 }
 
-/// Gives the scan of a frame.
+/// Offers the scan of a frame, or counts it as lost.
 fn give_frame<N: Session<A>, A: Allocator + Copy>(
     alloc: A,
     layout: &Layout<A>,
@@ -98,7 +102,8 @@ fn give_frame<N: Session<A>, A: Allocator + Copy>(
     }
 }
 
-/// Gives the scans of so many frames: each is one step of the source, its scan or a lost one, in order.
+/// Gives the scans of the first `count` frames, in order. Each frame is one step of the source: its
+/// scan, or a lost one.
 pub fn give_frames<N: Session<A>, A: Allocator + Copy, T: Tally>(
     alloc: A,
     layout: &Layout<A>,

@@ -1,4 +1,5 @@
-//! Frames: each is one scan, as a row of BINARY data has it after its number and its time stamp (C37.111-1999, clause 6).
+//! Frames. A frame is one scan, as a row of BINARY data without its number and time stamp
+//! (C37.111-1999, clause 6).
 
 ghost use Rattle.std.specs.Prelude.{◌≡◌, ◌≤◌, length, IfOk};
 ghost use Rattle.dfr_station.specs.Frames as spec;
@@ -7,7 +8,8 @@ use comtrade_format::{packed_bits, packed_values};
 use dfr_channels::Scan;
 use std::alloc::{AllocError, Allocator};
 
-/// How many bytes a frame has: two for each analogue channel, two for each sixteen status channels begun.
+/// The size of a frame in bytes: two for each analogue channel, and two for each group of up to
+/// sixteen status channels.
 pub fn frame_len(analog: usize, status: usize) -> usize
     requires analog { analog ≤ 256 }
     requires status { status ≤ 256 }

@@ -1,9 +1,9 @@
-//! Which pairs go where only so many bytes may be kept.
+//! How many pairs to remove if only so many bytes may be kept.
 
 ghost use Rattle.std.specs.Prelude.{◌≤◌, ◌<◌, ◌-◌, length, drop, sum};
 
-/// How many pairs have to go, the oldest first, so that the others have at most `bound` bytes; the newest stays, whatever it
-/// has. The sizes are in bytes, the oldest pair's first.
+/// How many of the oldest pairs to remove, so that the others have at most `bound` bytes. The
+/// newest pair always stays. The sizes are in bytes, oldest pair first.
 pub fn surplus_bytes(sizes: &[u64], bound: u64) -> usize
     ensures few { result ≤ length sizes.now - 1 }
     ensures enough { result < length sizes.now - 1 → sum (drop result sizes.now) ≤ bound }

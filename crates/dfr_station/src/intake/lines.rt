@@ -1,4 +1,4 @@
-//! The lines that may come, each of which means what it means after the shortest set-up.
+//! The meaning of the lines that come: each is read as a line after the shortest set-up.
 
 ghost use Rattle.std.specs.Prelude.{◌≡◌, None, MatchResult, map};
 ghost use Rattle.dfr_channels.specs.Lines.{lines};
@@ -8,13 +8,14 @@ ghost use Rattle.dfr_script.specs.Scripts.{script_fault, script_value, Tells};
 use dfr_script::{Command, Script, ScriptRefusal, script_of};
 use std::alloc::Allocator;
 
-/// The shortest set-up: what a line means doesn't depend on the channels. It stands before the lines that are read.
+/// The shortest set-up. It is put before the lines that are read; their meaning doesn't depend on
+/// the channels.
 pub const HEAD: &[u8] = b"station S\ndevice D\nfreq 50\nrate 1\nstart 0\nlimits 0,1,2,1\ngo\n";
 
-/// How many bytes it has.
+/// The length of the shortest set-up in bytes.
 pub const HEAD_LEN: usize = 60;
 
-/// How many lines it has.
+/// The number of its lines.
 pub const HEAD_LINES: u64 = 7;
 
 /// The commands of the lines of a script after its `go`, or the script's first fault.
@@ -41,7 +42,8 @@ pub fn commands_of<A: Allocator + Copy>(
     }
 }
 
-/// Whether a line's word is `scan` or `lost`: then a scan was made, even if the line can't be read.
+/// Whether a line is a scan line: it begins with the word `scan` or `lost`. Such a line counts as a
+/// scan, even if it can't be read.
 pub fn is_scan_line(line: &[u8]) -> bool {
     let word = match line {
         [b's', b'c', b'a', b'n', rest @ ..] => rest,
