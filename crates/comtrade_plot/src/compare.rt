@@ -49,13 +49,13 @@ impl Refusal {
         match self {
             Refusal::UntriggeredOne => "A has no trigger time",
             Refusal::UntriggeredOther => "B has no trigger time",
-            Refusal::TimelessOne => "A doesn't say when its rows were taken",
-            Refusal::TimelessOther => "B doesn't say when its rows were taken",
+            Refusal::TimelessOne => "A does not say when its rows were taken",
+            Refusal::TimelessOther => "B does not say when its rows were taken",
             Refusal::Apart => {
-                "A and B have no time in common; --by trigger lays them over each other by their triggers"
+                "A and B have no time in common; use --by trigger to align them by their triggers"
             }
             Refusal::NoEqual => {
-                "A and B have no equal channel: one of the same name, unit and side, and of the same phase and component where both say them"
+                "A and B have no matching channel: same name, unit and side, and same phase and component where both give them"
             }
         }
     }

@@ -50,9 +50,9 @@ fn put_alignment<A: Allocator>(sheet: &mut Sheet<A>, beside: &Beside<'_, A>, y: 
     sheet.begin_text(LEFT, y, SMALL);
     let shift = beside.other.trigger;
     match beside.laid.by {
-        By::Trigger => sheet.text("laid over each other by their triggers"),
+        By::Trigger => sheet.text("aligned by trigger"),
         By::Instant => {
-            sheet.text("laid over each other by their instants: the trigger of B is ");
+            sheet.text("aligned by instant: the trigger of B is ");
             if shift == 0 {
                 sheet.text("at the same instant");
             } else {
@@ -72,14 +72,14 @@ fn put_alignment<A: Allocator>(sheet: &mut Sheet<A>, beside: &Beside<'_, A>, y: 
 fn put_method<A: Allocator>(sheet: &mut Sheet<A>, beside: &Beside<'_, A>, y: u32) {
     sheet.begin_text(LEFT, y, SMALL);
     sheet.text(if is_exact(beside) {
-        "A \u{2212} B at A's rows, each at the instant of a row of B"
+        "A \u{2212} B at A's rows; B has a row at each of these instants"
     } else {
-        "A \u{2212} B at A's rows, B on straight lines between its rows"
+        "A \u{2212} B at A's rows; B interpolated linearly between its rows"
     });
     if beside.laid.is_part {
-        sheet.text("; drawn around A's trigger, --whole draws all of both");
+        sheet.text("; drawn around A's trigger (--whole draws all of both)");
     } else if !beside.laid.is_whole {
-        sheet.text("; drawn: what both have");
+        sheet.text("; drawn: the time that both cover");
     }
     sheet.end_text();
 }

@@ -16,15 +16,17 @@ use std::alloc::{AllocError, Allocator};
 use std::io::Write;
 
 /// What stands in a page between its names and its data.
-const BODY: &str = "<p><button data-key=\"0\" title=\"key 0\">whole record</button> \
-<button data-key=\"t\" title=\"key T\">around the trigger</button> \
-<button data-key=\"+\" title=\"key +\">+</button> <button data-key=\"-\" title=\"key -\">&minus;</button> \
-<button data-key=\"p\" title=\"key P\" id=\"side\"></button> <output id=\"cursors\"></output></p>\n\
-<details><summary>Keys</summary><p>Wheel, pinch or + and &minus;: zoom. Drag, Page Up, Page Down, Home, End: move. \
-Click: cursor A; Shift and click: cursor B; drag a cursor. A, B: the cursor that the arrows move by a row, with Shift by ten. \
-0: the whole record. T: around the trigger. P: values as in the file, primary, secondary. Tab and space: channels in and out. \
-rms and phasor: of the cycle that ends at the cursor that the arrows move; angles since that of the first channel drawn.</p></details>\n\
-</header>\n<main><div><canvas id=\"picture\" tabindex=\"0\" role=\"img\" aria-label=\"traces and contacts\"></canvas></div>\n\
+const BODY: &str =
+    "<p><button data-key=\"0\" title=\"show the whole record (key 0)\">whole record</button> \
+<button data-key=\"t\" title=\"show the part around the trigger (key T)\">around the trigger</button> \
+<button data-key=\"+\" title=\"zoom in (key +)\">+</button> <button data-key=\"-\" title=\"zoom out (key -)\">&minus;</button> \
+<button data-key=\"p\" title=\"primary or secondary values (key P)\" id=\"side\"></button> <output id=\"cursors\"></output></p>\n\
+<details><summary>Keys</summary><p>Zoom: wheel, pinch, + and &minus;. Move: drag, Page Up, Page Down, Home, End. \
+Click sets cursor A, Shift and click cursor B; cursors can be dragged. A or B chooses the active cursor; the arrow keys move it by one row, \
+with Shift by ten. 0 shows the whole record, T the part around the trigger. P switches between values as in the file, primary and secondary. \
+Tab and Space show or hide channels. rms and phasor are of the cycle that ends at the active cursor; \
+angles are relative to the first channel shown.</p></details>\n\
+</header>\n<main><div><canvas id=\"picture\" tabindex=\"0\" role=\"img\" aria-label=\"waveforms and status channels\"></canvas></div>\n\
 <aside><table><thead><tr><th></th><th>channel</th><th>A</th><th>B</th><th>B&minus;A</th><th>rms</th><th>phasor</th></tr></thead>\
 <tbody id=\"channels\"></tbody></table></aside></main>\n";
 

@@ -59,10 +59,7 @@ fn put_reference<A: Allocator>(
             put_safe(out, channel.id.items())?;
             put(out, "\n")
         }
-        _ => put(
-            out,
-            "reference  none: no channel has a part at the line frequency\n",
-        ),
+        _ => put(out, "reference  none: no channel has a fundamental\n"),
     }
 }
 
@@ -128,7 +125,7 @@ fn put_measures<A: Allocator>(
     put_reference(out, file, measures.reference)?;
     put(
         out,
-        "\nrms of all, and rms and degrees of the part at the line frequency\n",
+        "\nrms of the whole signal; magnitude (rms) and angle (degrees) of the fundamental\n",
     )?;
     put_table(out, &measures.channels)?;
     let orders = measures.window.orders() as u64;
@@ -139,7 +136,7 @@ fn put_measures<A: Allocator>(
     if lines <= 1 {
         return put(
             out,
-            "\nno sequence components: no channels of one unit are of the phases A, B and C\n",
+            "\nno sequence components: no three channels of the same unit have phases A, B and C\n",
         );
     }
     put(out, "\nsequence components\n")?;

@@ -59,7 +59,7 @@ fn put_courses<A: Allocator + Copy>(
                 let above = millis_of(window, frequency, course.rows_above);
                 put_course(table, course, above, shown)?
             }
-            Outcome::Stays => put(table, "-\x1F-\x1F-\x1F-\x1Fstays on its course\x1F\n")?,
+            Outcome::Stays => put(table, "-\x1F-\x1F-\x1F-\x1Fno inception found\x1F\n")?,
             Outcome::Unknown => put(table, "-\x1F-\x1F-\x1F-\x1Freadings are missing\x1F\n")?,
         }
     }
@@ -83,10 +83,13 @@ pub(crate) fn put_record<A: Allocator + Copy>(
         put_rows_json(alloc, out, "{\"currents\":", COURSES, &table)?;
         put(out, "}\n")?;
     } else if count == 0 {
-        let none = "no channel is a current: none has the unit A, with or without a prefix\n";
+        let none = "no current channels: no channel has the unit A, with or without a prefix\n";
         put(out, none)?;
     } else {
-        put(out, "where currents first left their earlier course; ")?;
+        put(
+            out,
+            "fault inception: where each current first departs from its earlier waveform; ",
+        )?;
         put_cycle(out, window)?;
         put_table(out, &table)?;
     }

@@ -55,10 +55,7 @@ fn put_head<A: Allocator>(
 /// The rates, as the file says them.
 fn put_rates<A: Allocator>(out: &mut Vec<u8, A>, head: &Head<A>) -> Result<(), AllocError> {
     if head.nrates == 0 {
-        return put(
-            out,
-            "rate       none; the stamps say when rows were taken\n",
-        );
+        return put(out, "rate       none; row times come from the stamps\n");
     }
     for rate in head.rates.items() {
         put(out, "rate       ")?;

@@ -160,7 +160,7 @@ fn put_faults<A: Allocator>(
     }
     put_count(out, records.len() as u64, " pair, ", " pairs, ")?;
     put_number(out, faulty)?;
-    put(out, " of them with a fault\n")
+    put(out, " with errors\n")
 }
 
 /// The table of records, then the faults, then how many there are.

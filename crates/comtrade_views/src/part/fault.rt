@@ -11,13 +11,13 @@ pub enum PartFault<'a> {
     #[error("out of memory")]
     Memory,
     /// A text is no moment.
-    #[error("\"{0}\" is no moment; wanted are ms since the trigger as -20, an instant as 2024-07-01T10:30:00.35, or row N")]
+    #[error("\"{0}\" is not a valid time; use ms since the trigger (-20), an instant (2024-07-01T10:30:00.35) or row N")]
     Moment(&'a str),
     /// Neither rates nor stamps say when rows were taken.
-    #[error("nothing says when its rows were taken: only row N can be asked for")]
+    #[error("the record does not say when its rows were taken: use row N")]
     Timeless,
     /// No row is from the first moment to the last.
-    #[error("no row stands from the first moment to the last")]
+    #[error("no row lies between the two moments")]
     NoRow,
     /// No channel is called so.
     #[error("no channel is called \"{0}\"")]
@@ -26,10 +26,10 @@ pub enum PartFault<'a> {
     #[error("no channel is left")]
     Empty,
     /// Both sides are asked for.
-    #[error("values are of the primary or of the secondary side, not of both")]
+    #[error("values can be primary or secondary, not both")]
     Sides,
     /// A channel's ratio gives no value of the other side; its number, from 1.
-    #[error("the ratio of analogue channel {0} gives no value of the other side")]
+    #[error("the ratio of analogue channel {0} cannot convert its values to the other side")]
     Ratio(u64),
 }
 
