@@ -93,7 +93,8 @@ fn pair_at(sums: &[f64], order: usize, less: usize) -> Phasor {
     }
 }
 
-/// The products of two orders' cosines and sines: cos j cos k = (cos (j-k) + cos (j+k)) / 2, and so on.
+/// The products of two orders' cosines and sines: cos j cos k = (cos (j-k) + cos (j+k)) / 2, and so
+/// on.
 fn put_products<A: Allocator>(matrix: &mut Matrix<A>, sums: &[f64], j: usize, k: usize) {
     let less = pair_at(sums, j, k);
     let more = pair_at(sums, j.saturating_add(k), 0);
