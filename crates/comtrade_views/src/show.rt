@@ -56,7 +56,10 @@ fn put_head<A: Allocator>(
 /// The rates, as the file gives them.
 fn put_rates<A: Allocator>(out: &mut Vec<u8, A>, head: &Head<A>) -> Result<(), AllocError> {
     if head.nrates == 0 {
-        return put(out, "rate       none; row times come from the stamps\n");
+        return put(
+            out,
+            "rate       none; row times come from the stamps, if any\n",
+        );
     }
     for rate in head.rates.items() {
         put(out, "rate       ")?;
