@@ -1,5 +1,5 @@
-# two records in one picture: what is drawn and told of equal channels is what a plain reader of both pairs works out, at both ends of a line with
-# other rates and triggers, before and after a change, of a record with itself; what is told of the other channels; what can't be compared
+# two records in one picture: what is drawn and printed of matching channels is what a plain reader of both pairs works out, at both ends of a line with
+# other rates and triggers, before and after a change, of a record with itself; what is printed of the other channels; what can't be compared
 if ! command -v python3 > /dev/null; then
     cat comtrade-compare/out # skipped: there is no python3 here
     exit 0
@@ -17,10 +17,10 @@ check near near
 texts() { grep -o '>[^<>]*</text>' | sed 's/^>//; s/<.*//'; }
 cd "$folder"
 # the heads; the channels and contacts of one record alone; both triggers at one time and at two
-"$comtrade" compare near far | texts | grep -E '^(A|B|laid.*|A .* B at.*|only.*|.*field 110 kV.*|trigger 2024.*|[AB]: (Trip|Breaker).*)$'
-"$comtrade" compare near near | texts | grep -E '^(laid|A .* B at|only)'
+"$comtrade" compare near far | texts | grep -E '^(A|B|aligned.*|A .* B at.*|only.*|.*field 110 kV.*|trigger 2024.*|[AB]: (Trip|Breaker).*)$'
+"$comtrade" compare near near | texts | grep -E '^(aligned|A .* B at|only)'
 "$comtrade" compare near near | texts | grep -E '^A .* B: (greatest|rms)' | LC_ALL=C sort | uniq -c
-"$comtrade" compare --by trigger old new | texts | grep -E '^(laid|A .* B at|only)'
+"$comtrade" compare --by trigger old new | texts | grep -E '^(aligned|A .* B at|only)'
 # of a part of A its channels are drawn, no contact of either, and what B has besides isn't told; both on one side of the transformers
 "$comtrade" compare --from 0 --to 40 --channels 'IA,UA' near.cfg far.dat | texts | grep -E '^(only|[AB]: )|, instants'
 "$comtrade" compare --secondary --channels UA near far | texts | grep -E 'secondary|primary'

@@ -1,6 +1,6 @@
 #!/usr/bin/env python3
-"""Writes page.js and page.css as constants of src/script_text.rt and src/style_text.rt, from which the program prints them. With `check` it
-only says whether they are there as they stand here."""
+"""Writes page.js and page.css into src/script_text.rt and src/style_text.rt, from which the
+program prints them. With `check` it only reports whether the copies there are up to date."""
 
 import pathlib
 import sys
@@ -11,7 +11,7 @@ HERE = pathlib.Path(__file__).parent
 def carried(name, function, what):
     text = (HERE / name).read_text()
     assert text.isascii() and '"##' not in text and "\r" not in text, name
-    return f'//! {what}, as `page/carry.py` writes it.\n\n/// {what}.\npub fn {function}() -> &\'static str {{\n    r##"{text}"##\n}}\n'
+    return f'//! {what}, written by `page/carry.py`.\n\n/// {what}.\npub fn {function}() -> &\'static str {{\n    r##"{text}"##\n}}\n'
 
 
 def main():

@@ -1,4 +1,4 @@
-// The viewer of a page that `comtrade page` makes. The page holds one record: its head as JSON in #head, each analogue channel's
+// The viewer in a page that `comtrade page` writes. The page holds one record: its head as JSON in #head, each analogue channel's
 // samples in #s0, #s1 .. (little-endian integers in base64; the least one is a missing reading), each contact's bits in #d0, #d1 ..,
 // the rows' times in #times (doubles, nanoseconds since the trigger). Everything else is drawn here.
 "use strict";
@@ -22,7 +22,7 @@ const times = new Float64Array(bytesOf("times").buffer);
 /** Rows of a block of the lowest level of a pyramid, and blocks of a block of the next one. */
 const BLOCK = 32, FACTOR = 4;
 
-/** The least and the greatest sample of blocks of rows, level by level, so that a column of any width is found by a few looks. */
+/** The least and the greatest sample of blocks of rows, level by level, so that the extremes of a column of any width are found in a few steps. */
 function pyramidOf(samples, missing) {
   const levels = [];
   let count = Math.ceil(rows / BLOCK);
@@ -56,7 +56,7 @@ const channels = head.analog.map((channel, i) => {
 
 const bitAt = (contact, row) => (contact.bits[row >> 3] >> (row & 7)) & 1;
 
-/** The rows whose bit isn't that of the row before. */
+/** The rows whose bit differs from that of the row before. */
 function changesOf(contact) {
   const list = [];
   for (let i = 1; i < rows; i++) if (bitAt(contact, i) !== bitAt(contact, i - 1)) list.push(i);
@@ -79,7 +79,7 @@ for (let i = 0; i < rows; i++) {
   gaps.push([from, Math.min(i, rows - 1)]);
 }
 
-/** The least and the greatest sample of the rows from one on and before another; null where none has one. */
+/** The least and greatest sample of the rows from `from` on and before `to`; null where all are missing. */
 function extremes(channel, from, to) {
   let low = Infinity, high = -Infinity, row = from;
   const look = (least, greatest) => {
@@ -104,7 +104,7 @@ function extremes(channel, from, to) {
   return low <= high ? [low, high] : null;
 }
 
-/** The first row that wasn't taken before a time. */
+/** The first row at or after a time. */
 function rowAt(time) {
   let low = 0, high = rows;
   while (low < high) {
@@ -115,7 +115,7 @@ function rowAt(time) {
   return low;
 }
 
-/** The row that was taken nearest to a time. */
+/** The row nearest to a time. */
 function nearestRow(time) {
   const after = Math.min(rowAt(time), rows - 1), before = Math.max(after - 1, 0);
   return time - times[before] < times[after] - time ? before : after;
@@ -130,7 +130,7 @@ const state = {
   active: 0, side: "file",
 };
 
-/** What a channel's values are multiplied by to be of the side that is chosen. */
+/** The factor that converts a channel's values to the chosen side. */
 function ratio(channel) {
   if (state.side === "file" || state.side === channel.side || !(channel.primary > 0) || !(channel.secondary > 0)) return 1;
   return state.side === "P" ? channel.primary / channel.secondary : channel.secondary / channel.primary;
@@ -163,7 +163,7 @@ function quantity(value, unit) {
   return digits(value * 10 ** (shift - exponent)) + " " + PREFIXES[exponent] + match[2];
 }
 
-/** What times are shown in. */
+/** The unit in which times are shown. */
 function timeUnit(span) {
   if (!head.isTimed) return { size: 1, name: "row" };
   if (span < 2e6) return { size: 1e3, name: "\u00b5s" };
@@ -181,7 +181,7 @@ function cycleTo(row) {
   return times[row] - cycle < times[0] - cycle / 100 || row - from < 3 ? null : [from, row + 1];
 }
 
-/** The effective value of the cycle that ends at a row, and its phasor: its effective value and its angle. */
+/** The rms value of the cycle that ends at a row, and the rms value and angle of its fundamental. */
 function cycleValues(channel, row) {
   const span = cycleTo(row);
   if (!span) return null;
@@ -214,24 +214,24 @@ const COLOURS = {
 };
 const colours = () => (dark.matches ? COLOURS.dark : COLOURS.light);
 
-/** Where a time stands. */
+/** The x coordinate of a time. */
 const across = (time) => LEFT + ((time - state.from) / (state.to - state.from)) * plot.width;
-/** The time at a place. */
+/** The time at an x coordinate. */
 const timeAt = (x) => state.from + ((x - LEFT) / plot.width) * (state.to - state.from);
 
-/** 1, 2 or 5 times a power of ten: the least one that is at least so much. */
+/** The smallest 1, 2 or 5 times a power of ten that is not below a value. */
 function roundStep(least) {
   const power = 10 ** Math.floor(Math.log10(least));
   for (const digit of [1, 2, 5, 10]) if (power * digit >= least * 0.999999) return power * digit;
 }
-/** The multiples of a round step in a span, so many at most. */
+/** The multiples of a round step in a span, at most `most` of them. */
 function ticks(from, to, most) {
   const step = roundStep((to - from) / most), list = [];
   for (let i = Math.ceil(from / step - 1e-6); i * step <= to + step * 1e-6 && list.length < 50; i++) list.push(i * step);
   return list;
 }
 
-/** The panels with channels that are on, their room, and the contacts that are on. */
+/** Lays out the panels of the channels shown, and the contacts shown. */
 function layOut() {
   const numbers = [...new Set(channels.filter((channel) => channel.isOn).map((channel) => channel.panel))].sort((a, b) => a - b);
   const height = Math.max(70, Math.min(190, 620 / Math.max(1, numbers.length)));
@@ -251,7 +251,7 @@ function layOut() {
   pen.setTransform(scale, 0, 0, scale, 0, 0);
 }
 
-/** The values at a panel's edges: of the rows that are drawn, and a bit more. */
+/** The values at a panel's edges: the extremes of the rows drawn, and a margin. */
 function edgesOf(panel) {
   const from = Math.max(0, rowAt(state.from) - 1), to = Math.min(rows, rowAt(state.to) + 1);
   let low = Infinity, high = -Infinity;
@@ -269,7 +269,7 @@ function edgesOf(panel) {
   return { low: low - edge, high: high + edge };
 }
 
-/** A channel's trace: a line through its samples, or for each column a stroke from the least to the greatest. */
+/** A channel's trace: a line through its samples, or a stroke from least to greatest for each column. */
 function drawTrace(channel, panel, edges) {
   const factor = ratio(channel);
   const level = (sample) => panel.top + (panel.height * (edges.high - (channel.a * sample + channel.b) * factor)) / (edges.high - edges.low);
@@ -352,7 +352,7 @@ function drawGaps(bottom) {
   }
 }
 
-/** The contacts' bars: a column is filled where the bit is 1 at its begin, or becomes 1 in it. */
+/** The contacts' bars: a column is filled where the bit is 1 at its start or becomes 1 within it. */
 function drawContacts() {
   const edges = [];
   for (let column = 0; column <= plot.width; column++) edges.push(rowAt(timeAt(LEFT + column)));
@@ -375,7 +375,7 @@ function drawContacts() {
   });
 }
 
-/** The contacts' names, over their bars. */
+/** The contacts' names, on top of their bars. */
 function nameContacts() {
   plot.bars.forEach((contact, i) => text(contact.id, LEFT + 4, plot.barsTop + i * BAR + 12));
 }
@@ -390,7 +390,7 @@ function drawTimes(bottom) {
     text(label, x, bottom + 16, "center");
   }
   text(head.isTimed ? unit.name + " since the trigger" : "row", LEFT + plot.width, bottom + 32, "right", colours().faint);
-  text("the record: " + timeText(whole.from) + " to " + timeText(whole.to), LEFT, bottom + 32, "left", colours().faint);
+  text("whole record: " + timeText(whole.from) + " to " + timeText(whole.to), LEFT, bottom + 32, "left", colours().faint);
 }
 
 function drawUpright(time, colour, dash, label, bottom) {
@@ -418,7 +418,7 @@ function draw() {
 
 // The tables
 
-/** An element with a text, under another one. */
+/** Adds an element with a text to a parent. */
 function add(parent, tag, words = "", attributes = {}) {
   const element = document.createElement(tag);
   element.textContent = words;
@@ -427,7 +427,7 @@ function add(parent, tag, words = "", attributes = {}) {
   return element;
 }
 
-/** A box that takes a channel or a contact in and out. */
+/** Adds a box that shows or hides a channel or a contact. */
 function addBox(row, item) {
   const box = add(add(row, "td"), "input", "", { type: "checkbox", "aria-label": item.id + " is drawn" });
   box.checked = item.isOn;
@@ -450,7 +450,7 @@ function buildTables() {
   }
 }
 
-/** The angle that angles are told from: that of the first channel that is drawn. */
+/** The reference angle: that of the first channel shown. */
 function reference(row) {
   const first = channels.find((channel) => channel.isOn);
   const found = first && cycleValues(first, row);
@@ -470,9 +470,10 @@ function fillTables() {
     channel.name.style.color = colours()[channel.hue];
   }
   for (const contact of contacts) contact.cells.forEach((cell, i) => { cell.textContent = bitAt(contact, state.cursors[i]); });
-  const gap = times[b] - times[a];
-  document.getElementById("cursors").textContent = `A ${timeText(times[a])} (row ${a + 1})   B ${timeText(times[b])} (row ${b + 1})   B\u2212A ${timeText(gap)}`
-    + (cycle && head.isTimed ? `, ${digits(gap / cycle)} cycles` : "") + `   keys move ${"AB"[state.active]}`;
+  const gap = times[b] - times[a], cycles = digits(gap / cycle);
+  document.getElementById("cursors").textContent = `A: ${timeText(times[a])} (row ${a + 1}) \u00b7 B: ${timeText(times[b])} (row ${b + 1})`
+    + ` \u00b7 B \u2212 A: ${timeText(gap)}` + (cycle && head.isTimed ? ` (${cycles} ${/^\u2212?1$/.test(cycles) ? "cycle" : "cycles"})` : "")
+    + ` \u00b7 arrow keys move ${"AB"[state.active]}`;
   document.getElementById("side").textContent = { file: "values as in the file", P: "primary values", S: "secondary values" }[state.side];
 }
 
@@ -483,7 +484,7 @@ function update() {
   requestAnimationFrame(() => { isWaiting = false, draw(), fillTables(); });
 }
 
-// What moves the picture
+// Navigation
 
 /** Shows a span of times, not shorter than a few rows and within the record. */
 function show(from, to) {
@@ -493,7 +494,7 @@ function show(from, to) {
   state.to = state.from + span;
   update();
 }
-/** Shows a span so many times as long, in which a time stays where it is. */
+/** Scales the span by a factor; a time keeps its position. */
 const zoom = (time, factor) => show(time - (time - state.from) * factor, time + (state.to - time) * factor);
 /** Moves the picture by a part of its width. */
 const pan = (part) => show(state.from + part * (state.to - state.from), state.to + part * (state.to - state.from));

@@ -1,13 +1,13 @@
--- Which channels of two records are the same.
+-- Which channels of two records match.
 use Rattle.std.specs.Prelude.{◌≡◌, ◌<◌, ◌⊎◌, ℕ, List, [], Option, MatchOption, ⊤, length}
 use Rattle.std.specs.List.{HoldsAt}
 use Rattle.dfr_channels.specs.Parts.{AnalogParts}
 
--- two texts say the same, or one of them says nothing
+-- two texts are equal, or one of them is empty
 abbrev pub AgreeIn : List ℕ → List ℕ → Type 0
 AgreeIn one other = (one ≡ []) ⊎ ((other ≡ []) ⊎ (one ≡ other))
 
--- two channels have one name, unit and side, and their phases and components agree where both are given
+-- two channels have the same name, unit and side, and their phases and components agree where both are given
 pub record AreEqual (one other : AnalogParts) : Type 0 where
   pub id : one.id ≡ other.id
   pub unit : one.unit ≡ other.unit
@@ -15,6 +15,6 @@ pub record AreEqual (one other : AnalogParts) : Type 0 where
   pub phase : AgreeIn one.phase other.phase
   pub component : AgreeIn one.component other.component
 
--- a partner is an equal channel
+-- a partner is a matching channel
 abbrev pub IsPartner : List AnalogParts → AnalogParts → Option ℕ → Type 0
 IsPartner others one place = MatchOption place ⊤ (λ k. (k < length others) × HoldsAt (AreEqual one) others k)

@@ -1,4 +1,4 @@
-//! Times at round numbers, their lines through the panels, cycles, the trigger, gaps.
+//! Times at round numbers with their lines through the panels, cycles, the trigger, gaps.
 
 use crate::gaps::Gap;
 use crate::instant::{TimeUnit, put_places, put_span, time_unit};
@@ -8,7 +8,7 @@ use crate::plan::{Frame, LEFT, RIGHT};
 use crate::sheet::Sheet;
 use std::alloc::Allocator;
 
-/// The least of 1, 2 and 5 times a power of ten that is at least so much.
+/// The least of 1, 2 and 5 times a power of ten that is not below this number.
 pub(crate) fn round_step(least: u64) -> u64 {
     let mut power = 1u64;
     for _ in 0..19 {
@@ -23,13 +23,13 @@ pub(crate) fn round_step(least: u64) -> u64 {
     power
 }
 
-/// The step between ticks of a frame, of which it has ten at most.
+/// The step between ticks of a frame, which has at most ten.
 fn step_of(frame: Frame) -> i64 {
     let step = round_step(frame.span().div_ceil(10).max(1));
     i64::try_from(step).unwrap_or(i64::MAX)
 }
 
-/// The first multiple of a step that isn't before a time.
+/// The first multiple of a step that is not before a time.
 fn first_tick(from: i64, step: i64) -> i64 {
     let step = step.max(1);
     let at = (from / step).saturating_mul(step);
@@ -40,7 +40,7 @@ fn first_tick(from: i64, step: i64) -> i64 {
     }
 }
 
-/// The frame, a bit longer where its ends are near ticks.
+/// The frame, slightly extended where its ends are near ticks.
 pub(crate) fn rounded_out(frame: Frame) -> Frame {
     let step = step_of(frame);
     let near = i64::try_from(frame.span() / 40).unwrap_or(0);
@@ -60,7 +60,7 @@ pub(crate) fn rounded_out(frame: Frame) -> Frame {
     }
 }
 
-/// What times of the chart are shown in: the numbers of rows have no unit.
+/// The unit of the chart's times; the numbers of rows have no unit.
 fn unit_of<A: Allocator>(chart: &Chart<'_, A>) -> TimeUnit {
     if chart.is_timed {
         return time_unit(chart.frame.span());
@@ -88,7 +88,7 @@ pub(crate) fn put_grid<A: Allocator>(sheet: &mut Sheet<A>, frame: Frame, band: B
     sheet.text("\"/>\n");
 }
 
-/// The times at a height.
+/// The times at a vertical position.
 pub(crate) fn put_times<A: Allocator>(sheet: &mut Sheet<A>, chart: &Chart<'_, A>, y: u32) {
     let unit = unit_of(chart);
     let step = step_of(chart.frame);
@@ -104,7 +104,7 @@ pub(crate) fn put_times<A: Allocator>(sheet: &mut Sheet<A>, chart: &Chart<'_, A>
     }
 }
 
-/// What the times at a height are.
+/// The name of the times at a vertical position.
 pub(crate) fn put_times_name<A: Allocator>(sheet: &mut Sheet<A>, chart: &Chart<'_, A>, y: u32) {
     if chart.is_timed {
         sheet.begin_text(NAMES, y, "");
@@ -115,7 +115,8 @@ pub(crate) fn put_times_name<A: Allocator>(sheet: &mut Sheet<A>, chart: &Chart<'
     }
 }
 
-/// A mark at each cycle since the trigger, or at so many of them, below a height, and their numbers.
+/// A mark at each cycle since the trigger, or at every few of them, below a vertical position, and
+/// their numbers.
 fn put_cycle_marks<A: Allocator>(sheet: &mut Sheet<A>, frame: Frame, cycle: i64, top: u32) {
     let cycles = frame.span() / cycle.unsigned_abs().max(1);
     let each = i64::try_from(round_step(cycles.div_ceil(25).max(1))).unwrap_or(i64::MAX);
@@ -140,7 +141,8 @@ fn put_cycle_marks<A: Allocator>(sheet: &mut Sheet<A>, frame: Frame, cycle: i64,
     }
 }
 
-/// The cycles of the line's frequency below a height, where it is known and the frame has one.
+/// The cycles of the line frequency below a vertical position, if it is known and the frame has a
+/// whole cycle.
 pub(crate) fn put_cycles<A: Allocator>(sheet: &mut Sheet<A>, chart: &Chart<'_, A>, top: u32) {
     let file = chart.file;
     let Some(cycle) = chart.cycle else {
@@ -177,7 +179,7 @@ pub(crate) fn put_trigger<A: Allocator>(sheet: &mut Sheet<A>, chart: &Chart<'_, 
     sheet.text("\"/>\n");
 }
 
-/// Where a gap begins, and how wide it is drawn: a pixel at least.
+/// Where a gap begins, and the width it is drawn with: at least a pixel.
 fn drawn_gap(frame: Frame, gap: Gap) -> (u32, u32) {
     let from = frame.across(gap.from);
     let to = frame.across(gap.to);
@@ -185,7 +187,7 @@ fn drawn_gap(frame: Frame, gap: Gap) -> (u32, u32) {
     (from.min(RIGHT - 10).max(LEFT), width)
 }
 
-/// The gaps as shades through a panel; those that are no pixel apart are one.
+/// The gaps as shaded areas in a panel; those less than a pixel apart are merged.
 pub(crate) fn put_gaps<A: Allocator>(sheet: &mut Sheet<A>, chart: &Chart<'_, A>, band: Band) {
     if chart.gaps.is_empty() {
         return;
@@ -206,7 +208,7 @@ pub(crate) fn put_gaps<A: Allocator>(sheet: &mut Sheet<A>, chart: &Chart<'_, A>,
     sheet.text("\"/>\n");
 }
 
-/// The lengths of gaps at a height, or how many rows they have, as far as there is room.
+/// The lengths of gaps at a vertical position, or their numbers of rows, as far as there is room.
 pub(crate) fn put_gap_names<A: Allocator>(sheet: &mut Sheet<A>, chart: &Chart<'_, A>, y: u32) {
     let mut end = 0u32;
     for gap in chart.gaps {

@@ -10,7 +10,7 @@ use std::alloc::{AllocError, Allocator};
 use std::io::Write;
 use std::num::{f64_to_bits_with_nan, nearest_i64_to_f64};
 
-/// So many bytes are encoded at once: a multiple of three.
+/// How many bytes are encoded at once: a multiple of three.
 const PIECE: usize = 49_152;
 
 /// Writes a block of the page, whose name is a word, or a letter and a number.
@@ -37,7 +37,8 @@ pub(crate) fn write_block<A: Allocator + Copy, W: Write>(
     write_out(w, b"</script>\n")
 }
 
-/// A channel's samples as little-endian integers of 16 bits, or of 32 bits; a missing one, and one that has no room, is the least number.
+/// A channel's samples as little-endian integers of 16 or 32 bits. The least number stands for a
+/// missing sample, and for one that does not fit.
 #[derive(Drop)]
 pub(crate) struct Samples<A: Allocator> {
     pub(crate) bytes: Vec<u8, A>,
@@ -59,7 +60,7 @@ impl<A: Allocator> Samples<A> {
     }
 }
 
-/// Adds the samples of channels that follow each other, from this one on, by one look over the rows.
+/// Adds the samples of consecutive channels, from this one on, in one pass over the rows.
 pub(crate) fn gather_samples<A: Allocator>(
     channels: &mut [Samples<A>],
     rows: &[Row<A>],
@@ -73,14 +74,15 @@ pub(crate) fn gather_samples<A: Allocator>(
     Ok(())
 }
 
-/// A contact's bits, eight in a byte, the first one lowest, and those of the byte that isn't full yet.
+/// A status channel's bits, eight in a byte, the first one lowest, and those of the byte that is
+/// not full yet.
 #[derive(Drop)]
 pub(crate) struct Bits<A: Allocator> {
     pub(crate) bytes: Vec<u8, A>,
     pub(crate) byte: u8,
 }
 
-/// Ends the byte of each contact.
+/// Completes the last byte of each status channel.
 fn end_bytes<A: Allocator>(contacts: &mut [Bits<A>]) -> Result<(), AllocError> {
     for contact in contacts.iter_mut() {
         contact.bytes.push(contact.byte)?;
@@ -89,7 +91,7 @@ fn end_bytes<A: Allocator>(contacts: &mut [Bits<A>]) -> Result<(), AllocError> {
     Ok(())
 }
 
-/// Adds the bits of contacts that follow each other, from this one on, by one look over the rows.
+/// Adds the bits of consecutive status channels, from this one on, in one pass over the rows.
 pub(crate) fn gather_bits<A: Allocator>(
     contacts: &mut [Bits<A>],
     rows: &[Row<A>],
@@ -112,7 +114,8 @@ pub(crate) fn gather_bits<A: Allocator>(
     end_bytes(contacts)
 }
 
-/// When rows were taken, as little-endian doubles; a row without a time, or with one that goes back, has the one before it.
+/// When rows were taken, as little-endian doubles. A row without a time, or with an earlier one
+/// than the row before, has the time of the row before.
 pub(crate) fn times_of_rows<A: Allocator + Copy>(
     alloc: A,
     times: &[Option<i64>],

@@ -1,4 +1,4 @@
-//! A picture of two records that are laid over each other.
+//! A picture of two records, overlaid.
 
 use crate::axis::{put_cycles, put_gap_names, put_times, put_times_name};
 use crate::compare_head::{put_compare_head, put_singles, singles_in};
@@ -18,14 +18,15 @@ use comtrade_io::ToolFault;
 use std::alloc::Allocator;
 use std::io::Write;
 
-/// What falls together in two records: the instants of their rows, or their triggers.
+/// How two records are aligned: by the instants of their rows, or by their triggers.
 #[derive(Clone, Copy, Debug, PartialEq, Eq)]
 pub enum By {
     Instant,
     Trigger,
 }
 
-/// How two records are drawn; `is_chosen`: the first one's channels are those that were asked for, and the other's aren't told.
+/// How two records are drawn. `is_chosen`: the first record's channels were chosen by the user, so
+/// the other's are not listed.
 #[derive(Clone, Copy, Debug)]
 pub struct CompareOptions {
     pub by: By,
@@ -33,7 +34,7 @@ pub struct CompareOptions {
     pub is_chosen: bool,
 }
 
-/// Why two records can't be compared.
+/// Why two records cannot be compared.
 #[derive(Clone, Copy, Debug, PartialEq, Eq)]
 pub enum Refusal {
     UntriggeredOne,
@@ -49,19 +50,20 @@ impl Refusal {
         match self {
             Refusal::UntriggeredOne => "A has no trigger time",
             Refusal::UntriggeredOther => "B has no trigger time",
-            Refusal::TimelessOne => "A doesn't say when its rows were taken",
-            Refusal::TimelessOther => "B doesn't say when its rows were taken",
+            Refusal::TimelessOne => "A does not say when its rows were taken",
+            Refusal::TimelessOther => "B does not say when its rows were taken",
             Refusal::Apart => {
-                "A and B have no time in common; --by trigger lays them over each other by their triggers"
+                "A and B have no time in common; use --by trigger to align them by their triggers"
             }
             Refusal::NoEqual => {
-                "A and B have no equal channel: one of the same name, unit and side, and of the same phase and component where both say them"
+                "A and B have no matching channel: same name, unit and side, and same phase and component where both give them"
             }
         }
     }
 }
 
-/// The times of the contacts, the cycles and the singles below the panels.
+/// The vertical positions of the names, the panels, both groups of status channels and the times
+/// below.
 #[derive(Clone, Copy)]
 struct Places {
     names: u32,
@@ -86,7 +88,7 @@ fn places_in<A: Allocator>(beside: &Beside<'_, A>, bars: &[bool], other_bars: &[
     }
 }
 
-/// Times above and below, cycles, and the lengths of gaps.
+/// The times above and below, the cycles, and the lengths of gaps.
 fn put_scales<A: Allocator>(sheet: &mut Sheet<A>, beside: &Beside<'_, A>, places: Places) {
     let one = beside.one;
     put_gap_names(sheet, one, places.names.saturating_sub(150));
@@ -103,7 +105,8 @@ fn put_scales<A: Allocator>(sheet: &mut Sheet<A>, beside: &Beside<'_, A>, places
     );
 }
 
-/// The picture of two records; no contact of the other's is drawn where none of the one's was asked for.
+/// The picture of two records. No status channel of the other is drawn where none of the first was
+/// asked for.
 fn put_picture<A: Allocator + Copy>(
     sheet: &mut Sheet<A>,
     beside: &Beside<'_, A>,
@@ -136,7 +139,7 @@ fn put_picture<A: Allocator + Copy>(
     Ok(())
 }
 
-/// Both records with their parts of one frame, laid over each other.
+/// Both records with their parts of one frame, overlaid.
 fn put_over<'a, A: Allocator + Copy>(
     alloc: A,
     sheet: &mut Sheet<A>,
@@ -148,7 +151,7 @@ fn put_over<'a, A: Allocator + Copy>(
 ) -> Result<(), ToolFault> {
     let one = chart_of(alloc, files.0, records.0, parts.0);
     let other = chart_of(alloc, files.1, records.1, parts.1);
-    // (also the rows that were lost, which have no readings)
+    // (includes lost rows, which have no readings)
     let moments = course_of(alloc, &records.1.times)?;
     let places = places_of(alloc, &moments, &records.0.kept)?;
     let beside = Beside {
@@ -167,7 +170,7 @@ fn put_over<'a, A: Allocator + Copy>(
     put_picture(sheet, &beside, options)
 }
 
-/// Prints a picture of two records; or why they can't be compared, and nothing is printed.
+/// Prints a picture of two records; or returns why they cannot be compared, and prints nothing.
 pub fn compare_over<A: Allocator + Copy, W: Write>(
     alloc: A,
     one: Timed<'_, A>,
@@ -177,7 +180,7 @@ pub fn compare_over<A: Allocator + Copy, W: Write>(
 ) -> Result<Option<Refusal>, ToolFault> {
     let (file, beside) = (one.file, other.file);
     let (from, to) = (file.head.trigger, beside.head.trigger);
-    // an instant that isn't known is the first of 1970
+    // an unknown instant is the first of 1970
     match (from, to) {
         (0, _) => return Ok(Some(Refusal::UntriggeredOne)),
         (_, 0) => return Ok(Some(Refusal::UntriggeredOther)),

@@ -1,4 +1,4 @@
-//! The head of a picture of two records, and what is only in one of them.
+//! The head of a picture of two records, and the channels that only one of them has.
 
 use crate::compare::By;
 use crate::differing::{Beside, is_exact};
@@ -15,10 +15,10 @@ use std::alloc::Allocator;
 
 const SMALL: &str = " class=\"f\" fill=\"#55595f\"";
 
-/// The most bytes of the names of channels in a line.
+/// The limit in bytes of the names of channels in a line.
 const NAMED: usize = 60;
 
-/// What the picture shows, for those who hear it.
+/// The description of the picture, for screen readers.
 fn put_description<A: Allocator>(sheet: &mut Sheet<A>, beside: &Beside<'_, A>) {
     sheet.text("<desc id=\"desc\">Two records, A and B, in one picture. ");
     let pairs = panel_count(beside.one.panels);
@@ -45,14 +45,14 @@ fn put_record<A: Allocator>(sheet: &mut Sheet<A>, chart: &Chart<'_, A>, letter: 
     put_facts(sheet, file, y.saturating_add(160));
 }
 
-/// What falls together in both records.
+/// How the records are aligned.
 fn put_alignment<A: Allocator>(sheet: &mut Sheet<A>, beside: &Beside<'_, A>, y: u32) {
     sheet.begin_text(LEFT, y, SMALL);
     let shift = beside.other.trigger;
     match beside.laid.by {
-        By::Trigger => sheet.text("laid over each other by their triggers"),
+        By::Trigger => sheet.text("aligned by trigger"),
         By::Instant => {
-            sheet.text("laid over each other by their instants: the trigger of B is ");
+            sheet.text("aligned by instant: the trigger of B is ");
             if shift == 0 {
                 sheet.text("at the same instant");
             } else {
@@ -68,18 +68,18 @@ fn put_alignment<A: Allocator>(sheet: &mut Sheet<A>, beside: &Beside<'_, A>, y: 
     sheet.end_text();
 }
 
-/// How differences are taken, and what is drawn.
+/// How differences are calculated, and which times are drawn.
 fn put_method<A: Allocator>(sheet: &mut Sheet<A>, beside: &Beside<'_, A>, y: u32) {
     sheet.begin_text(LEFT, y, SMALL);
     sheet.text(if is_exact(beside) {
-        "A \u{2212} B at A's rows, each at the instant of a row of B"
+        "A \u{2212} B at A's rows; B has a row at each of these instants"
     } else {
-        "A \u{2212} B at A's rows, B on straight lines between its rows"
+        "A \u{2212} B at A's rows; B interpolated linearly between its rows"
     });
     if beside.laid.is_part {
-        sheet.text("; drawn around A's trigger, --whole draws all of both");
+        sheet.text("; drawn around A's trigger (--whole draws all of both)");
     } else if !beside.laid.is_whole {
-        sheet.text("; drawn: what both have");
+        sheet.text("; drawn: the time that both cover");
     }
     sheet.end_text();
 }
@@ -102,7 +102,7 @@ pub(crate) fn put_compare_head<A: Allocator>(sheet: &mut Sheet<A>, beside: &Besi
     put_method(sheet, beside, 1100);
 }
 
-/// Whether a channel of these is called so.
+/// Whether one of these channels has this name.
 fn is_named<A: Allocator>(channels: &[AnalogChannel<A>], id: &[u8]) -> bool {
     for channel in channels {
         if channel.id.items() == id {
@@ -112,7 +112,7 @@ fn is_named<A: Allocator>(channels: &[AnalogChannel<A>], id: &[u8]) -> bool {
     false
 }
 
-/// How many channels aren't drawn.
+/// How many channels are not drawn.
 pub(crate) fn singles_in<A: Allocator>(chart: &Chart<'_, A>) -> usize {
     let mut count = 0usize;
     for panel in chart.panels {
@@ -123,7 +123,8 @@ pub(crate) fn singles_in<A: Allocator>(chart: &Chart<'_, A>) -> usize {
     count
 }
 
-/// The channels that are only in the one of two records, at a height, as far as there is room; with the reason where the other has its name.
+/// The channels that only one of two records has, at a vertical position, as far as there is room.
+/// A channel whose name the other record has, too, gets the reason.
 pub(crate) fn put_singles<A: Allocator + Copy>(
     sheet: &mut Sheet<A>,
     one: &Chart<'_, A>,

@@ -1,4 +1,4 @@
-//! The panels of two records: each has a channel of the one, and over it its partner of the other.
+//! The panels of two records: each overlays a channel of one record with its partner of the other.
 
 use crate::differing::{Beside, differences_of};
 use crate::instant::put_span;
@@ -12,7 +12,7 @@ use crate::quantity::put_quantity;
 use crate::sheet::Sheet;
 use std::alloc::Allocator;
 
-/// How high a panel is, without its title: both names, and the differences.
+/// The height of a panel without its title: both names, and the differences.
 pub(crate) fn pair_height<A: Allocator>(beside: &Beside<'_, A>, number: usize) -> u32 {
     let count = panel_count(beside.one.panels);
     legends_height(beside.one, number)
@@ -32,7 +32,8 @@ pub(crate) fn pairs_end<A: Allocator>(beside: &Beside<'_, A>, top: u32) -> u32 {
     end
 }
 
-/// Both lines on the differences of a channel and its partner, from a height on: the greatest one and when it is, and how they are in all.
+/// Two lines about the differences of a channel and its partner, from a vertical position on: the
+/// greatest one and its time, and their rms value.
 fn put_differences<A: Allocator + Copy>(
     sheet: &mut Sheet<A>,
     differences: Differences,
@@ -58,7 +59,7 @@ fn put_differences<A: Allocator + Copy>(
     put_small(sheet, y.saturating_add(LINE_HEIGHT), &second);
 }
 
-/// What stands beside a panel: both channels' names, peaks and effective values, and how far they differ.
+/// The legend of a panel: both channels' names, peaks and rms values, and how much they differ.
 fn put_pair_legend<A: Allocator + Copy>(
     sheet: &mut Sheet<A>,
     beside: &Beside<'_, A>,
@@ -79,7 +80,7 @@ fn put_pair_legend<A: Allocator + Copy>(
     }
 }
 
-/// All panels from a height on.
+/// All panels, from a vertical position on.
 pub(crate) fn put_pairs<A: Allocator + Copy>(
     sheet: &mut Sheet<A>,
     beside: &Beside<'_, A>,

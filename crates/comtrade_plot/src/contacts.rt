@@ -1,4 +1,4 @@
-//! The bars of contacts, and the line for those that don't change.
+//! The bars of status channels (contacts), and the line for those that do not change.
 
 use crate::axis::{put_gaps, put_grid, put_trigger};
 use crate::layers::Layer;
@@ -24,7 +24,8 @@ fn first_drawn<'a, A: Allocator>(chart: &Chart<'a, A>) -> Option<&'a Row<A>> {
     None
 }
 
-/// Marks the contacts that change in the rows that are drawn, or all where else one alone would have no mark.
+/// Marks the status channels that change in the rows that are drawn; all of them, if otherwise only
+/// one would have no mark.
 fn mark_drawn<A: Allocator>(chart: &Chart<'_, A>, changed: &mut [bool]) {
     let Some(first) = first_drawn(chart) else {
         return;
@@ -46,8 +47,8 @@ fn mark_drawn<A: Allocator>(chart: &Chart<'_, A>, changed: &mut [bool]) {
     }
 }
 
-/// Of each contact whether it has a bar: where it changes in the rows that are drawn, or all are to be shown, or it would be
-/// the only one without.
+/// Whether each status channel has a bar: it changes in the rows that are drawn, or all are to be
+/// shown, or it would be the only one without.
 pub(crate) fn bars_of<A: Allocator + Copy>(
     chart: &Chart<'_, A>,
     shows_all: bool,
@@ -72,7 +73,7 @@ fn unmarked(marks: &[bool]) -> u32 {
     count
 }
 
-/// How high the bars of contacts are.
+/// The height of the bars of status channels.
 fn bars_height<A: Allocator>(chart: &Chart<'_, A>, bars: &[bool]) -> u32 {
     let file = chart.file;
     let mut height = 0u32;
@@ -84,13 +85,13 @@ fn bars_height<A: Allocator>(chart: &Chart<'_, A>, bars: &[bool]) -> u32 {
     height
 }
 
-/// How high the bars of contacts are, with the line for the others.
+/// The height of the bars of status channels, with the line for the others.
 pub(crate) fn contacts_height<A: Allocator>(chart: &Chart<'_, A>, bars: &[bool]) -> u32 {
     let others = unmarked(bars).min(1);
     bars_height(chart, bars).saturating_add(others.saturating_mul(CONTACT))
 }
 
-/// A bar that isn't drawn yet: where it begins, and where it ends so far.
+/// A bar that is not drawn yet: where it begins, and where it ends so far.
 #[derive(Clone, Copy)]
 struct Bar {
     from: u32,
@@ -109,8 +110,8 @@ fn put_bar<A: Allocator>(sheet: &mut Sheet<A>, bar: Option<Bar>, top: u32) {
     }
 }
 
-/// The bars of a contact, from each row in which its bit is 1 to the next in which it is 0; none over a gap. A bar goes on where less than
-/// half a pixel is between.
+/// The bars of a status channel, from each row where its bit becomes 1 to the next one where it
+/// becomes 0; none over a gap. Bars less than half a pixel apart are joined.
 fn put_bars<A: Allocator>(sheet: &mut Sheet<A>, chart: &Chart<'_, A>, top: u32, channel: usize) {
     let file = chart.file;
     let rows = file.rows.items();
@@ -142,7 +143,7 @@ fn put_bars<A: Allocator>(sheet: &mut Sheet<A>, chart: &Chart<'_, A>, top: u32, 
     put_bar(sheet, bar, top);
 }
 
-/// A contact's name, and its bars.
+/// A status channel's name, and its bars.
 fn put_contact<A: Allocator>(
     sheet: &mut Sheet<A>,
     chart: &Chart<'_, A>,
@@ -164,7 +165,7 @@ fn put_contact<A: Allocator>(
     sheet.text("\"/>\n");
 }
 
-/// How many contacts don't change, and in which state they are.
+/// The number of status channels that do not change, and their states.
 fn put_unchanged<A: Allocator>(
     sheet: &mut Sheet<A>,
     chart: &Chart<'_, A>,
@@ -199,7 +200,7 @@ fn put_unchanged<A: Allocator>(
     sheet.end_text();
 }
 
-/// The contacts from a height on.
+/// The status channels, from a vertical position on.
 pub(crate) fn put_contacts<A: Allocator>(
     sheet: &mut Sheet<A>,
     chart: &Chart<'_, A>,

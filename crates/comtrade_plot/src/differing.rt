@@ -1,4 +1,4 @@
-//! How far equal channels of two records differ.
+//! How much matching channels of two records differ.
 
 use crate::compare::By;
 use crate::layout::Chart;
@@ -7,7 +7,8 @@ use crate::rows::reading_at;
 use dfr_channels::Reading;
 use std::alloc::Allocator;
 
-/// How two records are laid over each other, and what is drawn: a part of what both have, that, or all of both.
+/// How two records are aligned, and what is drawn: a part of the time that both cover, all of that,
+/// or all of both records.
 #[derive(Clone, Copy)]
 pub(crate) struct Laid {
     pub(crate) by: By,
@@ -15,9 +16,9 @@ pub(crate) struct Laid {
     pub(crate) is_whole: bool,
 }
 
-/// Two records in one frame: when the rows of the one were taken, the other's moments, of each row of the one the place of the last of
-/// them that isn't after it, and how far two moments are apart at most between which values are taken from a straight line; how they are
-/// laid over each other.
+/// Two records in one frame: when the rows of the first were taken; the other's moments; for each
+/// row of the first, the index of the last moment that is not after it; the greatest distance of
+/// two moments between which values are interpolated; and how the records are aligned.
 #[derive(Drop)]
 pub(crate) struct Beside<'a, A: Allocator> {
     pub(crate) one: &'a Chart<'a, A>,
@@ -29,7 +30,7 @@ pub(crate) struct Beside<'a, A: Allocator> {
     pub(crate) laid: Laid,
 }
 
-/// The value of a channel in a row, where it has one.
+/// The value of a channel in a row, if it has one.
 fn value_in<A: Allocator>(chart: &Chart<'_, A>, row: usize, channel: usize) -> Option<f64> {
     let file = chart.file;
     let row = file.rows.items().get(row)?;
@@ -40,7 +41,8 @@ fn value_in<A: Allocator>(chart: &Chart<'_, A>, row: usize, channel: usize) -> O
     }
 }
 
-/// The other record's value at a time that isn't before the moment at this place: that of its row, or on the line to the next one.
+/// The other record's value at a time that is not before the moment at this index: that of its row,
+/// or interpolated to the next one.
 fn value_beside<A: Allocator>(
     beside: &Beside<'_, A>,
     channel: usize,
@@ -67,7 +69,8 @@ fn value_beside<A: Allocator>(
     Some(between(from, to, time))
 }
 
-/// The differences of a channel of the one record from its partner in the other, over the rows that are drawn.
+/// The differences between a channel of one record and its partner in the other, over the rows that
+/// are drawn.
 pub(crate) fn differences_of<A: Allocator>(
     beside: &Beside<'_, A>,
     channel: usize,
@@ -90,7 +93,7 @@ pub(crate) fn differences_of<A: Allocator>(
     differences
 }
 
-/// Whether a row of the other record stands at the instant of each drawn row, as far as that record goes.
+/// Whether the other record has a row at the instant of each drawn row, as far as that record goes.
 pub(crate) fn is_exact<A: Allocator>(beside: &Beside<'_, A>) -> bool {
     let last = beside.moments.len().saturating_sub(1);
     for (time, place) in beside.times.iter().zip(beside.places.iter()) {

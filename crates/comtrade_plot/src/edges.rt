@@ -1,6 +1,6 @@
 //! The values at the edges of a panel.
 
-/// The bounds with others.
+/// The bounds, extended by others.
 pub(crate) fn spread(bounds: Option<(f64, f64)>, more: Option<(f64, f64)>) -> Option<(f64, f64)> {
     match (bounds, more) {
         (Some((low, high)), Some((least, greatest))) => Some((
@@ -12,7 +12,8 @@ pub(crate) fn spread(bounds: Option<(f64, f64)>, more: Option<(f64, f64)>) -> Op
     }
 }
 
-/// The values at a panel's edges: a twentieth of what they span is left above and below; a constant stands in the middle.
+/// The values at a panel's edges, with a margin of a twentieth of their span above and below; a
+/// constant is in the middle.
 pub(crate) fn with_edges(low: f64, high: f64) -> (f64, f64) {
     let size = if high.abs() < low.abs() {
         low.abs()

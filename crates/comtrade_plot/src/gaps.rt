@@ -1,10 +1,10 @@
-//! Stretches without scans.
+//! Intervals without scans.
 
 use crate::plan::Frame;
 use comtrade_io::ToolFault;
 use std::alloc::Allocator;
 
-/// Rows that were lost between two times, and how many.
+/// Rows that were lost between two times, and their number.
 #[derive(Clone, Copy)]
 pub(crate) struct Gap {
     pub(crate) from: i64,
@@ -22,7 +22,7 @@ impl Gap {
         }
     }
 
-    /// The gap where it ends at a time, cut to the frame; None where there is none.
+    /// The gap when it ends at a time, clipped to the frame; None where nothing is left.
     fn up_to(self, frame: Frame, to: i64) -> Option<Gap> {
         let from = self.from.max(frame.from);
         let to = to.min(frame.to);

@@ -10,10 +10,11 @@ use comtrade_io::ToolFault;
 use dfr_channels::AnalogChannel;
 use std::alloc::{AllocError, Allocator};
 
-/// The most channels of a panel.
+/// The maximum number of channels in a panel.
 const TOGETHER: usize = 4;
 
-/// What is known of a panel: its first channel, how many it has, their hues, and the least and greatest extent of a trace.
+/// What is known of a panel: its first channel, the number of its channels, their hues, and the
+/// least and greatest extent of a trace.
 #[derive(Clone, Copy)]
 struct Bunch {
     first: usize,
@@ -25,7 +26,7 @@ struct Bunch {
 /// A trace of fewer steps than this is noise, or nothing.
 const NOISE: i64 = 10;
 
-/// Over how many units the values of a channel go, where that is more than noise.
+/// The range of a channel's values in its unit, if it is more than noise.
 fn extent_of(survey: Survey, scale: Scale) -> Option<f64> {
     let (least, greatest) = survey.bounds?;
     if i64::from(greatest) - i64::from(least) < NOISE {
@@ -35,10 +36,10 @@ fn extent_of(survey: Survey, scale: Scale) -> Option<f64> {
     Some(high - low)
 }
 
-/// A trace whose values go over less than this part of its panel would be a line.
+/// A trace whose values span less than this part of its panel would look like a line.
 const HIDDEN: f64 = 40.0;
 
-/// The extents with one more; None where one scale would hide one of them.
+/// The extents with one more; None where a common scale would hide one of them.
 fn joined(extents: Option<(f64, f64)>, extent: Option<f64>) -> Option<Option<(f64, f64)>> {
     match (extents, extent) {
         (extents, None) => Some(extents),
@@ -55,7 +56,7 @@ fn joined(extents: Option<(f64, f64)>, extent: Option<f64>) -> Option<Option<(f6
     }
 }
 
-/// A channel that looks for a panel.
+/// A channel that needs a panel.
 #[derive(Drop)]
 struct Newcomer<'a, A: Allocator> {
     channel: &'a AnalogChannel<A>,
@@ -63,7 +64,7 @@ struct Newcomer<'a, A: Allocator> {
     extent: Option<f64>,
 }
 
-/// How well a channel goes into a panel.
+/// How well a channel fits into a panel.
 fn fit_of<A: Allocator>(
     channels: &[AnalogChannel<A>],
     bunch: Bunch,
@@ -82,7 +83,7 @@ fn fit_of<A: Allocator>(
     }
 }
 
-/// The panel that a channel goes into: the first one with a name alike, else the first one that takes it.
+/// The panel for a channel: the first one with a related name, else the first one that takes it.
 fn panel_for<A: Allocator>(
     channels: &[AnalogChannel<A>],
     bunches: &[Bunch],
@@ -113,7 +114,7 @@ impl Bunch {
     }
 }
 
-/// Puts a channel into its panel, or into a new one, whose number is told.
+/// Puts a channel into its panel or into a new one, and returns the panel's number.
 fn settle<A: Allocator, B: Allocator>(
     channels: &[AnalogChannel<A>],
     bunches: &mut Vec<Bunch, B>,
@@ -154,7 +155,8 @@ fn newcomer_of<'a, A: Allocator>(
     }
 }
 
-/// The number of each channel's panel, from 0 on, in the order of the panels' first channels: each channel has exactly one.
+/// The number of each channel's panel, from 0 on, in the order of the panels' first channels. Each
+/// channel has exactly one.
 pub(crate) fn panels_of<A: Allocator + Copy>(
     alloc: A,
     channels: &[AnalogChannel<A>],
@@ -172,7 +174,7 @@ pub(crate) fn panels_of<A: Allocator + Copy>(
     Ok(panels)
 }
 
-/// The hue of a channel of a panel: its phase's, or that of its place among those without one.
+/// The hue of a channel in a panel: that of its phase, or of its position among those without one.
 pub(crate) fn hue_in<A: Allocator>(
     channels: &[AnalogChannel<A>],
     panels: &[usize],

@@ -1,4 +1,4 @@
-//! The head of a picture: its size, its colours, its names, and what it shows in words.
+//! The head of a picture: its size, its colours, its names, and its description in words.
 
 use crate::instant::{put_instant, put_range};
 use crate::layout::{Chart, panel_count};
@@ -19,7 +19,7 @@ svg{fill:#e8eaed}.p{fill:#14171c}.f{fill:#a9b0b8}.g{stroke:#2c323a}.e{stroke:#7b
 @media print{.b{stroke-dasharray:8 2}.c{stroke-dasharray:3 2}.n{stroke-dasharray:8 2 2 2}\
 .v{stroke-dasharray:8 2}.w{stroke-dasharray:3 2}.z{stroke-dasharray:8 2 2 2}}</style>\n";
 
-/// The tag of a picture of so many pixels: it keeps its form where only its width is asked for.
+/// The tag of a picture of this many pixels. It keeps its aspect ratio if only its width is given.
 pub(crate) fn put_tag<A: Allocator>(sheet: &mut Sheet<A>, options: PlotOptions, height: u32) {
     let width = options.width.unwrap_or(WIDTH / 10);
     let pixels = u64::from(width).saturating_mul(u64::from(height)) / 12_000;
@@ -44,7 +44,7 @@ pub(crate) fn put_station<A: Allocator>(sheet: &mut Sheet<A>, head: &Head<A>) {
     }
 }
 
-/// So many of something.
+/// A count with its noun.
 pub(crate) fn put_count<A: Allocator>(sheet: &mut Sheet<A>, n: usize, one: &str, more: &str) {
     sheet.number(n as u64);
     sheet.text(if n == 1 { one } else { more });
@@ -73,7 +73,7 @@ fn put_peaks<A: Allocator>(sheet: &mut Sheet<A>, chart: &Chart<'_, A>) {
     });
 }
 
-/// What the picture shows, for those who hear it.
+/// The description of the picture, for screen readers.
 fn put_description<A: Allocator>(sheet: &mut Sheet<A>, chart: &Chart<'_, A>) {
     let file = chart.file;
     let head = &file.head;
@@ -100,7 +100,7 @@ fn put_description<A: Allocator>(sheet: &mut Sheet<A>, chart: &Chart<'_, A>) {
     sheet.text("</desc>\n");
 }
 
-/// When the trigger was, and how many rows at which rates.
+/// When the trigger was, the number of rows, and their rates.
 pub(crate) fn put_facts<A: Allocator>(sheet: &mut Sheet<A>, file: &File<A>, y: u32) {
     let head = &file.head;
     sheet.begin_text(LEFT, y, " class=\"f\" fill=\"#55595f\"");

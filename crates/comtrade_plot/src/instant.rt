@@ -21,7 +21,7 @@ pub(crate) fn put_instant<A: Allocator>(sheet: &mut Sheet<A>, instant: i64) {
     sheet.padded((civil.time.subsec_nanosecond / 1000) as u64, 6);
 }
 
-/// What times are counted in: how many nanoseconds, its decimal places, its name.
+/// A unit of time: its nanoseconds, its decimal places, its name.
 #[derive(Clone, Copy)]
 pub(crate) struct TimeUnit {
     pub(crate) nanos: u64,
@@ -47,7 +47,7 @@ const SECONDS: TimeUnit = TimeUnit {
     name: "s",
 };
 
-/// The unit for times of a span: seconds from ten of them on, milliseconds from one on.
+/// The unit for times of a span: seconds from ten seconds on, milliseconds from one on.
 pub(crate) fn time_unit(span: u64) -> TimeUnit {
     if span < 1_000_000 {
         MICROS
@@ -58,7 +58,7 @@ pub(crate) fn time_unit(span: u64) -> TimeUnit {
     }
 }
 
-/// Units of a decimal with so many places, without zeros at its end.
+/// Units of a decimal with this many places, without trailing zeros.
 pub(crate) fn put_places<A: Allocator>(sheet: &mut Sheet<A>, units: i64, places: u32) {
     if units < 0 {
         sheet.text("-");
@@ -83,7 +83,7 @@ pub(crate) fn put_places<A: Allocator>(sheet: &mut Sheet<A>, units: i64, places:
     }
 }
 
-/// Nanoseconds rounded to so few digits that a reader needs: a thousandth of the unit or so.
+/// Nanoseconds, rounded to about a thousandth of the unit.
 fn rounded(nanos: i64, unit: TimeUnit) -> i64 {
     let grain = (unit.nanos / 1000).max(1);
     let size = nanos.unsigned_abs();

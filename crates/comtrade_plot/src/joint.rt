@@ -1,4 +1,5 @@
-//! What is worked out of two records before they are drawn: times of one axis, panels of partners, the times that are drawn.
+//! Preparation of two records before they are drawn: times on one axis, panels of partners, the
+//! times that are drawn.
 
 use crate::axis::rounded_out;
 use crate::layout::NOWHERE;
@@ -9,7 +10,7 @@ use comtrade_format::File;
 use comtrade_io::ToolFault;
 use std::alloc::Allocator;
 
-/// Times so much later; none where one has no number of 64 bits.
+/// Times shifted by this much; None where the result is not a number of 64 bits.
 pub(crate) fn shifted<A: Allocator + Copy>(
     alloc: A,
     times: &[Option<i64>],
@@ -25,7 +26,7 @@ pub(crate) fn shifted<A: Allocator + Copy>(
     Ok(later)
 }
 
-/// The panels of channels with these partners: one for each that has one.
+/// The panels of channels with these partners: one for each channel that has one.
 pub(crate) fn own_panels<A: Allocator + Copy>(
     alloc: A,
     partners: &[Option<usize>],
@@ -43,7 +44,7 @@ pub(crate) fn own_panels<A: Allocator + Copy>(
     Ok(panels)
 }
 
-/// The panels of the partners, of so many channels.
+/// The panels of the partners, of this many channels.
 pub(crate) fn panels_beside<A: Allocator + Copy>(
     alloc: A,
     partners: &[Option<usize>],
@@ -65,15 +66,15 @@ pub(crate) fn panels_beside<A: Allocator + Copy>(
     Ok(panels)
 }
 
-/// The times that are drawn of two records, and whether they are a part of what both have.
+/// The times that are drawn of two records, and whether they are only a part of what both cover.
 #[derive(Clone, Copy)]
 pub(crate) struct Drawn {
     pub(crate) frame: Frame,
     pub(crate) is_part: bool,
 }
 
-/// Which times are drawn of two records: those that both have, around the trigger where these are long, or all; None where they have none
-/// in common.
+/// The times that are drawn of two records: those that both cover, around the trigger where these
+/// are long, or all; None where they have none in common.
 pub(crate) fn drawn_of<A: Allocator>(
     file: &File<A>,
     one: &Record<A>,

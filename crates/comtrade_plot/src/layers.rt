@@ -1,8 +1,8 @@
-//! Which record of a picture a trace is of, and how that is seen.
+//! Which record of a picture a trace belongs to, and how that is shown.
 
 use crate::phases::Hue;
 
-/// The only record of a picture, or the one or the other of two.
+/// The only record of a picture, or one of two.
 #[derive(Clone, Copy, PartialEq, Eq)]
 pub(crate) enum Layer {
     Alone,
@@ -11,7 +11,7 @@ pub(crate) enum Layer {
 }
 
 impl Layer {
-    /// What stands before the names of its channels.
+    /// The prefix of the names of its channels.
     pub(crate) fn tag(self) -> &'static str {
         match self {
             Layer::Alone => "",
@@ -20,7 +20,7 @@ impl Layer {
         }
     }
 
-    /// The hue of its trace, where the channel has this one: of two records each has one hue.
+    /// The hue of its trace, for a channel with this hue. Of two records, each has one hue.
     pub(crate) fn hue(self, own: Hue) -> Hue {
         match self {
             Layer::Alone => own,
@@ -37,7 +37,7 @@ impl Layer {
         }
     }
 
-    /// What its trigger is called.
+    /// The name of its trigger.
     pub(crate) fn trigger_name(self) -> &'static str {
         match self {
             Layer::Alone => "the trigger",

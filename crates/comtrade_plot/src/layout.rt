@@ -1,4 +1,4 @@
-//! How much room panels and names have.
+//! The room that panels and names take.
 
 use crate::gaps::Gap;
 use crate::groups::hue_in;
@@ -10,8 +10,9 @@ use comtrade_format::{File, Scale};
 use dfr_channels::{AnalogChannel, StatusChannel};
 use std::alloc::Allocator;
 
-/// What is drawn: a file; what turns samples into values; the number of each channel's panel; what the drawn rows say; the times
-/// that are drawn; where each row stands; the gaps; whether times are known; when the trigger was; which record of the picture it is.
+/// What is drawn: a file; the scales of samples; the number of each channel's panel; the survey of
+/// the drawn rows; the times that are drawn; the position of each row; the gaps; whether times are
+/// known; when the trigger was; which record of the picture it is.
 #[derive(Drop)]
 pub(crate) struct Chart<'a, A: Allocator> {
     pub(crate) alloc: A,
@@ -37,7 +38,7 @@ impl<'a, A: Allocator> Chart<'a, A> {
     }
 }
 
-/// What a panel or the bars of contacts take of a picture's height.
+/// The vertical band of a panel, or of the bars of status channels.
 #[derive(Clone, Copy)]
 pub(crate) struct Band {
     pub(crate) top: u32,
@@ -50,25 +51,25 @@ impl Band {
     }
 }
 
-/// The panel of a channel that isn't drawn.
+/// The panel of a channel that is not drawn.
 pub(crate) const NOWHERE: usize = usize::MAX;
 
-/// The most bytes of a line of a name.
+/// The limit in bytes of a line of a name.
 const LINE: usize = 32;
 
-/// The most lines of a name.
+/// The maximum number of lines of a name.
 const LINES: u32 = 3;
 
-/// How high a line of a legend is.
+/// The height of a line of a legend.
 pub(crate) const LINE_HEIGHT: u32 = 140;
 
-/// What stands above a panel, for its title.
+/// The height of a panel's title, above it.
 pub(crate) const TITLE: u32 = 210;
 
-/// How high a contact's bar is, with what is between two, where its name has one line.
+/// The height of a status channel's bar with the space below it, where its name has one line.
 pub(crate) const CONTACT: u32 = 200;
 
-/// Where the character of UTF-8 begins that a byte belongs to.
+/// Where the UTF-8 character of a byte begins.
 fn begin_of(name: &[u8], at: usize) -> usize {
     let mut begin = at;
     for _ in 0..3 {
@@ -80,7 +81,7 @@ fn begin_of(name: &[u8], at: usize) -> usize {
     begin
 }
 
-/// The first line of a name and what is left of it: it ends at a space of its last third, where there is one.
+/// The first line of a name, and the rest. It ends at a space in its last third, if there is one.
 pub(crate) fn first_line(name: &[u8]) -> (&[u8], &[u8]) {
     if name.len() <= LINE {
         return (name, &[]);
@@ -113,7 +114,7 @@ fn lines_of(name: &[u8]) -> u32 {
     lines
 }
 
-/// How high a contact's bar is with its name, and with what is between two.
+/// The height of a status channel's bar with its name, and with the space below it.
 pub(crate) fn contact_height<A: Allocator>(channel: &StatusChannel<A>) -> u32 {
     lines_of(channel.id.items())
         .saturating_sub(1)
@@ -121,7 +122,7 @@ pub(crate) fn contact_height<A: Allocator>(channel: &StatusChannel<A>) -> u32 {
         .saturating_add(CONTACT)
 }
 
-/// How high a channel's name and numbers beside its panel are.
+/// The height of a channel's name and numbers next to its panel.
 pub(crate) fn legend_height<A: Allocator>(channel: &AnalogChannel<A>) -> u32 {
     lines_of(channel.id.items())
         .saturating_add(1)
@@ -129,7 +130,7 @@ pub(crate) fn legend_height<A: Allocator>(channel: &AnalogChannel<A>) -> u32 {
         .saturating_add(20)
 }
 
-/// How high panels are where their legends don't need more.
+/// The height of panels whose legends do not need more.
 pub(crate) fn least_height(panels: usize) -> u32 {
     if panels <= 3 {
         1500
@@ -140,7 +141,7 @@ pub(crate) fn least_height(panels: usize) -> u32 {
     }
 }
 
-/// How high the names and numbers beside a panel are.
+/// The height of the names and numbers next to a panel.
 pub(crate) fn legends_height<A: Allocator>(chart: &Chart<'_, A>, panel: usize) -> u32 {
     let file = chart.file;
     let channels = file.head.analog.items();
@@ -153,7 +154,7 @@ pub(crate) fn legends_height<A: Allocator>(chart: &Chart<'_, A>, panel: usize) -
     legend
 }
 
-/// How high a panel is, without its title.
+/// The height of a panel, without its title.
 pub(crate) fn height_of<A: Allocator>(chart: &Chart<'_, A>, panel: usize, count: usize) -> u32 {
     legends_height(chart, panel).max(least_height(count))
 }
@@ -168,7 +169,7 @@ pub(crate) fn channel_in<A: Allocator>(chart: &Chart<'_, A>, panel: usize) -> Op
     None
 }
 
-/// How many panels there are.
+/// The number of panels.
 pub(crate) fn panel_count(panels: &[usize]) -> usize {
     let mut count = 0usize;
     for panel in panels {

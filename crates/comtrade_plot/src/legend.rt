@@ -1,4 +1,4 @@
-//! Names of channels beside their panels, with their peaks and effective values.
+//! Names of channels next to their panels, with their peaks and rms values.
 
 use crate::layers::Layer;
 use crate::layout::{Chart, LINE_HEIGHT, first_line, legend_height};
@@ -14,7 +14,7 @@ use std::alloc::Allocator;
 /// Where names begin.
 pub(crate) const NAMES: u32 = RIGHT + 320;
 
-/// A piece of a trace of a layer, from a place on.
+/// A piece of a trace of a layer, from a position on.
 pub(crate) fn put_mark<A: Allocator>(sheet: &mut Sheet<A>, layer: Layer, hue: Hue, x: u32, y: u32) {
     sheet.texts(&["<path class=\"", hue.class(), "\" stroke=\"", hue.colour()]);
     sheet.texts(&[
@@ -27,7 +27,8 @@ pub(crate) fn put_mark<A: Allocator>(sheet: &mut Sheet<A>, layer: Layer, hue: Hu
     sheet.text("\"/>\n");
 }
 
-/// A name in as many lines as it takes, three at most, what stands before it and a phase after it; where it ends.
+/// A name on as many lines as it takes, at most three, with a prefix and with its phase; returns
+/// where it ends.
 pub(crate) fn put_name<A: Allocator>(
     sheet: &mut Sheet<A>,
     tag: &str,
@@ -71,7 +72,7 @@ pub(crate) fn peak_of(survey: Survey, scale: Scale) -> Option<f64> {
     Some(if high.abs() < low.abs() { low } else { high })
 }
 
-/// The effective values of a current or voltage around the trigger, where they are known.
+/// The rms values of a current or voltage around the trigger, where they are known.
 fn put_rms<A: Allocator>(sheet: &mut Sheet<A>, survey: Survey, unit: &[u8]) {
     let base = unit_of(unit).base;
     if base != b"A".as_slice() && base != b"V".as_slice() {
@@ -88,7 +89,7 @@ fn put_rms<A: Allocator>(sheet: &mut Sheet<A>, survey: Survey, unit: &[u8]) {
     }
 }
 
-/// A small text at a height beside a panel, made narrower where there is no room for it.
+/// A small text at a vertical position next to a panel, compressed where there is not enough room.
 pub(crate) fn put_small<A: Allocator>(sheet: &mut Sheet<A>, y: u32, text: &Sheet<A>) {
     let small = " class=\"f\" font-size=\"10.5\" fill=\"#55595f\"";
     let narrow =
@@ -98,7 +99,8 @@ pub(crate) fn put_small<A: Allocator>(sheet: &mut Sheet<A>, y: u32, text: &Sheet
     sheet.end_text();
 }
 
-/// A channel's legend at a height, its peak and effective values below its name; the height of the next one.
+/// A channel's legend at a vertical position, with its peak and rms values below its name; returns
+/// the position of the next one.
 pub(crate) fn put_legend<A: Allocator + Copy>(
     sheet: &mut Sheet<A>,
     chart: &Chart<'_, A>,

@@ -1,4 +1,4 @@
-//! The values at a panel's left, at round numbers.
+//! The labels of values at the left of a panel, at round numbers.
 
 use crate::instant::put_places;
 use crate::plan::{LEFT, Panel, RIGHT};
@@ -15,7 +15,7 @@ struct Step {
     size: f64,
 }
 
-/// The least such step of at least this size, from 1E-16 on.
+/// The smallest such step of at least this size, from 1E-16 on.
 fn step_of(least: f64) -> Step {
     let mut power = 1e-16;
     for exponent in -16..20 {
@@ -38,7 +38,7 @@ fn step_of(least: f64) -> Step {
     }
 }
 
-/// The index of the first tick that isn't below the value.
+/// The index of the first tick that is not below the value.
 fn first_tick(step: Step, low: f64) -> i64 {
     let at = saturating_f64_to_i64(low / step.size);
     if nearest_i64_to_f64(at) * step.size < low - step.size * 1e-6 {
@@ -48,7 +48,7 @@ fn first_tick(step: Step, low: f64) -> i64 {
     }
 }
 
-/// A level's line, and its value, which is made narrower where it has more than ten characters.
+/// A level's line and its value, which is compressed where it has more than ten characters.
 fn put_level<A: Allocator + Copy>(sheet: &mut Sheet<A>, step: Step, tick: i64, y: u32) {
     sheet.text("<path class=\"g\" stroke=\"#e2e2e2\" d=\"");
     sheet.point("M", LEFT, y);
@@ -71,7 +71,8 @@ fn put_level<A: Allocator + Copy>(sheet: &mut Sheet<A>, step: Step, tick: i64, y
     sheet.end_text();
 }
 
-/// The level lines of a panel, whose values are shown divided by a power of ten: one for each 20 pixels, five at most.
+/// The level lines of a panel, with values divided by a power of ten: one for each 20 pixels, at
+/// most five.
 pub(crate) fn put_levels<A: Allocator + Copy>(sheet: &mut Sheet<A>, panel: Panel, exponent: i32) {
     let power = power_of_ten(exponent);
     let (low, high) = (panel.low / power, panel.high / power);

@@ -1,4 +1,4 @@
-//! Whether names of channels tell that they are of one bay.
+//! Whether channels belong to one bay, by their names.
 
 use dfr_channels::AnalogChannel;
 use std::alloc::Allocator;
@@ -8,13 +8,13 @@ use std::alloc::Allocator;
 pub(crate) enum Likeness {
     /// Not at all.
     None,
-    /// Nothing says that they are of different bays.
+    /// Nothing indicates different bays.
     Loose,
-    /// Their names differ in their phases alone.
+    /// Their names differ only in their phases.
     Close,
 }
 
-/// How many bytes two names have in common at their front.
+/// The length of the common prefix of two names, in bytes.
 fn common_front(one: &[u8], other: &[u8]) -> usize {
     one.iter()
         .zip(other.iter())
@@ -22,7 +22,7 @@ fn common_front(one: &[u8], other: &[u8]) -> usize {
         .count()
 }
 
-/// How many bytes two names have in common at their end.
+/// The length of the common suffix of two names, in bytes.
 fn common_end(one: &[u8], other: &[u8]) -> usize {
     one.iter()
         .rev()
@@ -31,7 +31,7 @@ fn common_end(one: &[u8], other: &[u8]) -> usize {
         .count()
 }
 
-/// What is left of a name without so many bytes in front and at its end.
+/// A name without this many bytes at its beginning and at its end.
 fn middle(name: &[u8], front: usize, end: usize) -> &[u8] {
     let Some(rest) = name.get(front..) else {
         return &[];
@@ -66,14 +66,14 @@ fn is_separator(b: u8) -> bool {
     b" _-.:/".contains(&b)
 }
 
-/// The first and the last word of a name; None where it has one alone.
+/// The first and the last word of a name; None if it has only one.
 fn outer_words(name: &[u8]) -> Option<(&[u8], &[u8])> {
     let first = name.iter().position(|b| is_separator(*b))?;
     let last = name.iter().rposition(|b| is_separator(*b))?;
     Some((name.get(..first)?, name.get(last..)?))
 }
 
-/// How well two channels go together: those of different units, components or sides don't.
+/// How well two channels go together. Those with different units, components or sides do not.
 pub(crate) fn likeness_of<A: Allocator>(
     one: &AnalogChannel<A>,
     other: &AnalogChannel<A>,

@@ -1,4 +1,4 @@
-//! The strip that shows where in a long record the drawn times are.
+//! The strip that shows which part of a long record is drawn.
 
 use crate::instant::{put_range, put_span};
 use crate::layout::{Band, Chart};
@@ -9,7 +9,7 @@ use crate::sheet::Sheet;
 use crate::units::unit_of;
 use std::alloc::Allocator;
 
-/// How high the strip is, with what is below it.
+/// The height of the strip, with the text below it.
 pub(crate) const STRIP: u32 = 760;
 
 const HEIGHT: u32 = 440;
@@ -38,7 +38,8 @@ fn chosen_panel<A: Allocator>(chart: &Chart<'_, A>) -> usize {
     0
 }
 
-/// The strip of a whole record, at a height, and beside it what it is. The part that is drawn below is a box in it: a few pixels wide at least.
+/// The strip of a whole record at a vertical position, and its description next to it. A box marks
+/// the part that is drawn below; it is at least a few pixels wide.
 pub(crate) fn put_overview<A: Allocator>(
     sheet: &mut Sheet<A>,
     whole: &Chart<'_, A>,

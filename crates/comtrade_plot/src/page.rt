@@ -1,4 +1,4 @@
-//! A page that shows a record in a browser: one file, with its data and what draws them.
+//! A page that shows a record in a browser: one file with its data and the script that draws them.
 
 use crate::blocks::{Bits, Samples, gather_bits, gather_samples, times_of_rows, write_block};
 use crate::groups::hue_in;
@@ -15,16 +15,18 @@ use dfr_channels::{AnalogChannel, Side, StatusChannel};
 use std::alloc::{AllocError, Allocator};
 use std::io::Write;
 
-/// What stands in a page between its names and its data.
-const BODY: &str = "<p><button data-key=\"0\" title=\"key 0\">whole record</button> \
-<button data-key=\"t\" title=\"key T\">around the trigger</button> \
-<button data-key=\"+\" title=\"key +\">+</button> <button data-key=\"-\" title=\"key -\">&minus;</button> \
-<button data-key=\"p\" title=\"key P\" id=\"side\"></button> <output id=\"cursors\"></output></p>\n\
-<details><summary>Keys</summary><p>Wheel, pinch or + and &minus;: zoom. Drag, Page Up, Page Down, Home, End: move. \
-Click: cursor A; Shift and click: cursor B; drag a cursor. A, B: the cursor that the arrows move by a row, with Shift by ten. \
-0: the whole record. T: around the trigger. P: values as in the file, primary, secondary. Tab and space: channels in and out. \
-rms and phasor: of the cycle that ends at the cursor that the arrows move; angles since that of the first channel drawn.</p></details>\n\
-</header>\n<main><div><canvas id=\"picture\" tabindex=\"0\" role=\"img\" aria-label=\"traces and contacts\"></canvas></div>\n\
+/// The part of a page between the record's names and its data.
+const BODY: &str =
+    "<p><button data-key=\"0\" title=\"show the whole record (key 0)\">whole record</button> \
+<button data-key=\"t\" title=\"show the part around the trigger (key T)\">around the trigger</button> \
+<button data-key=\"+\" title=\"zoom in (key +)\">+</button> <button data-key=\"-\" title=\"zoom out (key -)\">&minus;</button> \
+<button data-key=\"p\" title=\"primary or secondary values (key P)\" id=\"side\"></button> <output id=\"cursors\"></output></p>\n\
+<details><summary>Keys</summary><p>Zoom: wheel, pinch, + and &minus;. Move: drag, Page Up, Page Down, Home, End. \
+Click sets cursor A, Shift and click cursor B; cursors can be dragged. A or B chooses the active cursor; the arrow keys move it by one row, \
+with Shift by ten. 0 shows the whole record, T the part around the trigger. P switches between values as in the file, primary and secondary. \
+Tab and Space show or hide channels. rms and phasor are of the cycle that ends at the active cursor; \
+angles are relative to the first channel shown.</p></details>\n\
+</header>\n<main><div><canvas id=\"picture\" tabindex=\"0\" role=\"img\" aria-label=\"waveforms and status channels\"></canvas></div>\n\
 <aside><table><thead><tr><th></th><th>channel</th><th>A</th><th>B</th><th>B&minus;A</th><th>rms</th><th>phasor</th></tr></thead>\
 <tbody id=\"channels\"></tbody></table></aside></main>\n";
 
@@ -32,7 +34,7 @@ fn put_flag<A: Allocator>(sheet: &mut Sheet<A>, name: &str, is_so: bool) {
     sheet.texts(&[",\"", name, "\":", if is_so { "true" } else { "false" }]);
 }
 
-/// A member of an object whose value is a text of the file.
+/// A member of a JSON object whose value is a text of the file.
 fn put_text<A: Allocator>(sheet: &mut Sheet<A>, before: &str, text: &[u8]) {
     sheet.text(before);
     sheet.json(text);
@@ -46,7 +48,7 @@ fn is_wide(survey: Survey) -> bool {
     }
 }
 
-/// What the page has to know of the analogue channel of this index.
+/// The page's data about the analogue channel with this index.
 fn put_analog<A: Allocator>(
     sheet: &mut Sheet<A>,
     channels: &[AnalogChannel<A>],
@@ -153,7 +155,8 @@ fn put_begin<A: Allocator>(sheet: &mut Sheet<A>, file: &File<A>) {
     sheet.text(BODY);
 }
 
-/// Begins with the samples of a channel, in the room of one that is written, where there is one at this place.
+/// Starts the samples of a channel, if there is one at this index, in the memory of one that was
+/// written.
 fn begin_samples<A: Allocator + Copy>(
     alloc: A,
     channels: &mut Vec<Samples<A>, A>,
@@ -174,7 +177,8 @@ fn begin_samples<A: Allocator + Copy>(
     Ok(())
 }
 
-/// Writes the samples of all channels, some of them by one look over the rows, whose readings lie apart.
+/// Writes the samples of all channels, several of them in one pass over the rows, whose readings
+/// lie far apart.
 fn write_samples<A: Allocator + Copy, W: Write>(
     alloc: A,
     rows: &[Row<A>],
@@ -199,7 +203,7 @@ fn write_samples<A: Allocator + Copy, W: Write>(
     Ok(())
 }
 
-/// Writes the bits of all contacts, in the same way.
+/// Writes the bits of all status channels, in the same way.
 fn write_bits<A: Allocator + Copy, W: Write>(
     alloc: A,
     file: &File<A>,

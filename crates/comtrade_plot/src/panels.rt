@@ -12,7 +12,7 @@ use crate::units::{put_unit, shown_exponent, unit_of};
 use dfr_channels::{AnalogChannel, Side};
 use std::alloc::Allocator;
 
-/// The bounds with those of a chart's channels in a panel.
+/// The bounds, extended by those of a chart's channels in a panel.
 fn bounds_with<A: Allocator>(
     bounds: Option<(f64, f64)>,
     chart: &Chart<'_, A>,
@@ -28,7 +28,7 @@ fn bounds_with<A: Allocator>(
     bounds
 }
 
-/// A panel of one chart, or of two that are drawn over each other, in a band; None where it has no readings.
+/// A panel of one chart, or of two that are overlaid, in a band; None where it has no readings.
 pub(crate) fn panel_of<'a, A: Allocator>(
     one: &Chart<'a, A>,
     other: Option<&Chart<'a, A>>,
@@ -55,7 +55,7 @@ fn first_of<'a, A: Allocator>(chart: &Chart<'a, A>, panel: usize) -> Option<&'a 
     file.head.analog.items().get(channel_in(chart, panel)?)
 }
 
-/// The power of ten by which a panel's values are divided where they are shown.
+/// The power of ten by which a panel's values are divided for display.
 fn exponent_of<A: Allocator>(channel: &AnalogChannel<A>, panel: Panel) -> i32 {
     let size = if panel.high.abs() < panel.low.abs() {
         panel.low.abs()
@@ -65,7 +65,7 @@ fn exponent_of<A: Allocator>(channel: &AnalogChannel<A>, panel: Panel) -> i32 {
     shown_exponent(unit_of(channel.unit.items()), size / 1.05)
 }
 
-/// What all channels of a panel share: the unit, the side, the component.
+/// The properties that all channels of a panel share: the unit, the side, the component.
 fn put_title<A: Allocator>(
     sheet: &mut Sheet<A>,
     channel: &AnalogChannel<A>,
@@ -124,7 +124,7 @@ pub(crate) fn put_frame<A: Allocator>(sheet: &mut Sheet<A>, band: Band) {
     sheet.text(" class=\"e\" fill=\"none\" stroke=\"#8a8f96\"/>\n");
 }
 
-/// A panel without a reading says so, away from the trigger's line.
+/// Labels a panel without readings, away from the trigger's line.
 fn put_empty<A: Allocator>(sheet: &mut Sheet<A>, chart: &Chart<'_, A>, band: Band) {
     let middle = (LEFT + RIGHT) / 2;
     let is_left = chart.frame.across(chart.trigger) < middle;
@@ -140,7 +140,7 @@ fn put_empty<A: Allocator>(sheet: &mut Sheet<A>, chart: &Chart<'_, A>, band: Ban
     );
 }
 
-/// A panel of one chart, or of two over each other, in a band below its title.
+/// A panel of one chart, or of two that are overlaid, in a band below its title.
 pub(crate) fn put_panel<'a, A: Allocator + Copy>(
     sheet: &mut Sheet<A>,
     one: &Chart<'a, A>,
@@ -176,7 +176,7 @@ pub(crate) fn put_panel<'a, A: Allocator + Copy>(
     put_frame(sheet, band);
 }
 
-/// All panels from a height on.
+/// All panels, from a vertical position on.
 pub(crate) fn put_panels<A: Allocator + Copy>(
     sheet: &mut Sheet<A>,
     chart: &Chart<'_, A>,

@@ -3,7 +3,8 @@
 use dfr_channels::AnalogChannel;
 use std::alloc::Allocator;
 
-/// A colour with its line style: those of the phases A, B, C and N, and four for what has no phase.
+/// A colour with its line style: those of the phases A, B, C and N, and four for channels without a
+/// phase.
 #[derive(Clone, Copy, PartialEq, Eq)]
 pub(crate) enum Hue {
     A,
@@ -16,7 +17,8 @@ pub(crate) enum Hue {
     Fourth,
 }
 
-/// The letter of a channel's phase: of a channel without one that of a short name as IA or UL1, where it has one.
+/// The letter of a channel's phase. A channel without one takes it from a short name such as IA or
+/// UL1, if it has one.
 fn letter_of<A: Allocator>(channel: &AnalogChannel<A>) -> Option<u8> {
     let phase = channel.phase.items();
     if let Some(letter) = phase.last() {
@@ -30,7 +32,7 @@ fn letter_of<A: Allocator>(channel: &AnalogChannel<A>) -> Option<u8> {
     Some(*id.last()?)
 }
 
-/// The hue of a channel's phase by its last letter, where it has one.
+/// The hue of a channel's phase by its last letter, if it has one.
 pub(crate) fn phase_hue<A: Allocator>(channel: &AnalogChannel<A>) -> Option<Hue> {
     match letter_of(channel)? {
         b'A' | b'a' | b'1' | b'R' | b'r' => Some(Hue::A),
@@ -41,7 +43,7 @@ pub(crate) fn phase_hue<A: Allocator>(channel: &AnalogChannel<A>) -> Option<Hue>
     }
 }
 
-/// The hue of a channel without a phase, by its place in the panel.
+/// The hue of a channel without a phase, by its position in the panel.
 pub(crate) fn other_hue(place: usize) -> Hue {
     match place {
         0 => Hue::First,
@@ -80,7 +82,8 @@ impl Hue {
         }
     }
 
-    /// Its colour on a light page. Colours of both pages are at least so far apart, for every eye, as a test asks.
+    /// Its colour on a light page. A test checks that colours on both pages differ enough, also for
+    /// colour-blind readers.
     pub(crate) fn colour(self) -> &'static str {
         match self {
             Hue::A => "#de0d49",

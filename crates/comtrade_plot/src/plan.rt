@@ -1,5 +1,6 @@
-//! What pictures are laid out by: which times of a record are drawn, where times and values stand, which row of one record stands beside
-//! which time of another, which channels are the same, how far they differ.
+//! The layout rules of pictures: which times of a record are drawn, the positions of times and
+//! values, which row of one record goes with which time of another, which channels match, and how
+//! much they differ.
 
 mod beside;
 mod course;

@@ -13,7 +13,8 @@ use comtrade_io::ToolFault;
 use std::alloc::Allocator;
 use std::io::Write;
 
-/// How a picture is drawn: all of the record; every contact with a bar of its own; how wide and how high it is shown, in pixels.
+/// How a picture is drawn: the whole record; a bar for each status channel; its width and height in
+/// pixels.
 #[derive(Clone, Copy, Debug, Default, PartialEq, Eq)]
 pub struct PlotOptions {
     pub is_whole: bool,
@@ -22,7 +23,8 @@ pub struct PlotOptions {
     pub height: Option<u32>,
 }
 
-/// Where the parts of a picture are: the times above, the panels, the contacts, their end.
+/// The vertical positions of a picture's parts: the times above, the panels, the status channels,
+/// their end.
 #[derive(Clone, Copy)]
 struct Places {
     names: u32,
@@ -31,7 +33,8 @@ struct Places {
     end: u32,
 }
 
-/// The places of a picture, with room for the strip where a part of a record is drawn.
+/// The positions in a picture, with room for the overview strip where only a part of a record is
+/// drawn.
 fn places_in<A: Allocator>(chart: &Chart<'_, A>, bars: &[bool], is_part: bool) -> Places {
     let strip = if is_part { STRIP } else { 0 };
     let gaps = if chart.gaps.is_empty() { 0 } else { 150 };
@@ -46,7 +49,8 @@ fn places_in<A: Allocator>(chart: &Chart<'_, A>, bars: &[bool], is_part: bool) -
     }
 }
 
-/// What is drawn beside panels and contacts: times, cycles, gaps, the note about effective values.
+/// What is drawn besides panels and status channels: times, cycles, gaps, the note about rms
+/// values.
 fn put_scales<A: Allocator>(sheet: &mut Sheet<A>, chart: &Chart<'_, A>, places: Places) {
     put_times(sheet, chart, places.names);
     put_times_name(sheet, chart, places.names);

@@ -6,7 +6,7 @@ use crate::units::{power_of_ten, put_unit, shown_exponent, unit_of};
 use std::alloc::Allocator;
 use std::num::saturating_f64_to_i64;
 
-/// A value with its unit, to four digits and whole ones.
+/// A value with its unit, to four digits; digits before the point are all kept.
 pub(crate) fn put_quantity<A: Allocator>(sheet: &mut Sheet<A>, value: f64, unit: &[u8]) {
     let unit = unit_of(unit);
     let exponent = shown_exponent(unit, value.abs());

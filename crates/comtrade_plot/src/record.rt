@@ -1,4 +1,4 @@
-//! What is worked out of a file before it is drawn.
+//! Preparation of a file before it is drawn.
 
 use crate::axis::rounded_out;
 use crate::gaps::{Gap, gaps_of};
@@ -17,7 +17,7 @@ use std::num::saturating_f64_to_i64;
 /// A cycle of 50 Hz, in nanoseconds.
 pub(crate) const USUAL_CYCLE: i64 = 20_000_000;
 
-/// What turns each channel's samples into values.
+/// The scales that turn each channel's samples into values.
 fn scales_of<A: Allocator + Copy>(
     alloc: A,
     channels: &[AnalogChannel<A>],
@@ -36,9 +36,10 @@ pub struct Timed<'a, A: Allocator> {
     pub times: &'a [Option<i64>],
 }
 
-/// What is known of a file whichever part of it is drawn: when its rows were taken, and those that weren't lost, in nanoseconds since the
-/// trigger, or their numbers where the file has no times; what turns samples into values; how long a cycle of the line's frequency is, where
-/// that is one; when the trigger was, and which record of the picture it is.
+/// What is known of a file whichever part of it is drawn: when its rows were taken, including and
+/// excluding lost ones, in nanoseconds since the trigger, or their numbers where the file has no
+/// times; the scales of samples; the length of a cycle of the line frequency, if there is one; when
+/// the trigger was; and which record of the picture it is.
 #[derive(Drop)]
 pub(crate) struct Record<A: Allocator> {
     pub(crate) times: Vec<Option<i64>, A>,
@@ -88,7 +89,7 @@ pub(crate) struct Choice {
     pub(crate) is_part: bool,
 }
 
-/// A frame that lasts: around a single time as much as is told.
+/// A frame with a duration: a single time is extended by this much on both sides.
 pub(crate) fn lasting(frame: Option<Frame>, least: i64) -> Frame {
     match frame {
         Some(frame) if frame.from < frame.to => frame,
@@ -126,8 +127,8 @@ pub(crate) fn choice_of<A: Allocator>(
     }
 }
 
-/// What is known of the part of a file that is drawn: the number of each channel's panel, what the rows say, where they stand,
-/// the gaps.
+/// What is known of the part of a file that is drawn: the number of each channel's panel, the
+/// survey of its rows, their positions, the gaps.
 #[derive(Drop)]
 pub(crate) struct Part<A: Allocator> {
     frame: Frame,
@@ -137,7 +138,8 @@ pub(crate) struct Part<A: Allocator> {
     gaps: Vec<Gap, A>,
 }
 
-/// The length of a cycle, where the record has a whole one before the trigger and after it, but for a twentieth.
+/// The length of a cycle, where the record has a whole one before the trigger and one after it, to
+/// within a twentieth.
 fn whole_cycle<A: Allocator>(record: &Record<A>) -> Option<i64> {
     let cycle = record.cycle?;
     let whole = whole_frame(&record.kept)?;
@@ -149,7 +151,7 @@ fn whole_cycle<A: Allocator>(record: &Record<A>) -> Option<i64> {
     }
 }
 
-/// What the rows of a frame say, with the cycles around the trigger.
+/// The survey of the rows of a frame, with the cycles around the trigger.
 fn surveys_in<A: Allocator + Copy>(
     alloc: A,
     file: &File<A>,

@@ -1,4 +1,4 @@
-//! What rows say: readings, bits, which rows are lost, where they stand.
+//! The contents of rows: readings, bits, which rows are lost, and their positions in the picture.
 
 use crate::plan::{Frame, later_change};
 use comtrade_format::{File, Row};
@@ -28,7 +28,7 @@ fn is_lost<A: Allocator>(row: &Row<A>) -> bool {
     !readings.is_empty()
 }
 
-/// When each row was taken, and None for those that were lost.
+/// When each row was taken; None for lost rows.
 pub(crate) fn kept_times<A: Allocator + Copy>(
     alloc: A,
     file: &File<A>,
@@ -41,7 +41,7 @@ pub(crate) fn kept_times<A: Allocator + Copy>(
     Ok(kept)
 }
 
-/// Where each row stands in a frame; None where it isn't drawn.
+/// The position of each row in a frame; None where it is not drawn.
 pub(crate) fn places_of<A: Allocator + Copy>(
     alloc: A,
     frame: Frame,
@@ -78,7 +78,7 @@ pub(crate) fn whole_frame(times: &[Option<i64>]) -> Option<Frame> {
     bounds
 }
 
-/// The numbers of rows from 1 on, for files that don't say when their rows were taken.
+/// The numbers of rows from 1 on, for files that do not say when their rows were taken.
 pub(crate) fn numbers_of<A: Allocator + Copy>(
     alloc: A,
     count: usize,
@@ -92,7 +92,7 @@ pub(crate) fn numbers_of<A: Allocator + Copy>(
     Ok(numbers)
 }
 
-/// When the last contact changed of those changes that belong to the fault.
+/// When the last status channel changed, of the changes that belong to the fault.
 pub(crate) fn last_change<A: Allocator>(file: &File<A>, kept: &[Option<i64>], cycle: i64) -> i64 {
     let mut last = 0;
     let mut before: Option<&Row<A>> = None;

@@ -1,4 +1,5 @@
-//! Text that is made piece by piece, and the parts of an SVG picture. An allocation that fails is kept in mind until the end.
+//! Text that is built piece by piece, and the elements of an SVG picture. A failed allocation is
+//! remembered until the end.
 
 use comtrade_format::put_decimal;
 use comtrade_io::{ToolFault, put, put_number, put_safe, put_signed, seen_len, write_out};
@@ -15,7 +16,7 @@ fn hex_digit(n: u8) -> u8 {
     }
 }
 
-/// What was made so far, and whether an allocation failed on the way.
+/// The text so far, and whether an allocation failed on the way.
 #[derive(Drop)]
 pub(crate) struct Sheet<A: Allocator> {
     bytes: Vec<u8, A>,
@@ -36,7 +37,7 @@ impl<A: Allocator> Sheet<A> {
         }
     }
 
-    /// An empty sheet whose text lies in the same memory.
+    /// An empty sheet in the same memory.
     pub(crate) fn another(&self) -> Sheet<A>
     where
         A: Copy,
@@ -44,13 +45,13 @@ impl<A: Allocator> Sheet<A> {
         Sheet::new(*self.bytes.allocator())
     }
 
-    /// A text as it is.
+    /// Adds a text unchanged.
     pub(crate) fn text(&mut self, text: &str) {
         let outcome = put(&mut self.bytes, text);
         self.keep(outcome);
     }
 
-    /// Texts as they are, one after the other.
+    /// Adds texts unchanged, one after the other.
     pub(crate) fn texts(&mut self, texts: &[&str]) {
         for text in texts {
             self.text(text);
@@ -67,13 +68,13 @@ impl<A: Allocator> Sheet<A> {
         self.keep(outcome);
     }
 
-    /// A decimal of a file.
+    /// Adds a decimal of a file.
     pub(crate) fn decimal(&mut self, decimal: Decimal) {
         let outcome = put_decimal(&mut self.bytes, decimal);
         self.keep(outcome);
     }
 
-    /// A number with zeros in front, `width` digits at least.
+    /// Adds a number with leading zeros, at least `width` digits.
     pub(crate) fn padded(&mut self, n: u64, width: u32) {
         let mut bound = 10u64;
         for _ in 1..width {
@@ -85,7 +86,7 @@ impl<A: Allocator> Sheet<A> {
         self.number(n);
     }
 
-    /// Tenths of a pixel, in pixels.
+    /// Adds tenths of a pixel as pixels.
     pub(crate) fn tenths(&mut self, n: u32) {
         self.number(u64::from(n / 10));
         if n % 10 != 0 {
@@ -94,7 +95,7 @@ impl<A: Allocator> Sheet<A> {
         }
     }
 
-    /// A text of a file, as characters of XML that are seen.
+    /// Adds a text of a file as printable XML characters.
     pub(crate) fn name(&mut self, text: &[u8]) {
         let mut left = text;
         for _ in 0..=text.len() {
@@ -117,7 +118,7 @@ impl<A: Allocator> Sheet<A> {
         }
     }
 
-    /// Bytes as they are.
+    /// Adds bytes unchanged.
     fn raw(&mut self, bytes: &[u8]) {
         let outcome = self.bytes.extend_from_slice(bytes);
         self.keep(outcome);
@@ -139,8 +140,8 @@ impl<A: Allocator> Sheet<A> {
         }
     }
 
-    /// A text of a file as one of JSON, which can stand in a page: a character that is seen and has several bytes as it is, a byte of none as the
-    /// letter of Latin-1.
+    /// Adds a text of a file as a JSON string that is safe in a page. A printable multi-byte
+    /// character is kept; a byte that belongs to none becomes the character of Latin-1.
     pub(crate) fn json(&mut self, text: &[u8]) {
         self.text("\"");
         let mut left = text;
@@ -159,7 +160,7 @@ impl<A: Allocator> Sheet<A> {
         self.text("\"");
     }
 
-    /// `<text x=.. y=..` and what stands after it, up to the text.
+    /// Opens a text element: `<text x=.. y=..`, then these attributes, up to the text.
     pub(crate) fn begin_text(&mut self, x: u32, y: u32, rest: &str) {
         self.text("<text x=\"");
         self.tenths(x);
@@ -172,14 +173,14 @@ impl<A: Allocator> Sheet<A> {
         self.text("</text>\n");
     }
 
-    /// A text at a place.
+    /// Adds a text at a position.
     pub(crate) fn label(&mut self, x: u32, y: u32, rest: &str, text: &str) {
         self.begin_text(x, y, rest);
         self.text(text);
         self.end_text();
     }
 
-    /// A point of a path, after its letter.
+    /// Adds a point of a path, after its letter.
     pub(crate) fn point(&mut self, letter: &str, x: u32, y: u32) {
         self.text(letter);
         self.tenths(x);
@@ -187,13 +188,14 @@ impl<A: Allocator> Sheet<A> {
         self.tenths(y);
     }
 
-    /// A step of a path along one axis, after its letter.
+    /// Adds a step of a path along one axis, after its letter.
     pub(crate) fn along(&mut self, letter: &str, n: u32) {
         self.text(letter);
         self.tenths(n);
     }
 
-    /// A rectangle from its corner on, so wide and so high in tenths of a pixel, up to what follows in its tag.
+    /// Adds a rectangle from its corner, with its width and height in tenths of a pixel, up to its
+    /// other attributes.
     pub(crate) fn begin_box(&mut self, (x, y): (u32, u32), (width, height): (u32, u32)) {
         self.text("<rect");
         for (name, n) in [("x", x), ("y", y), ("width", width), ("height", height)] {
@@ -203,7 +205,7 @@ impl<A: Allocator> Sheet<A> {
         }
     }
 
-    /// What was made by another sheet.
+    /// Adds what another sheet has.
     pub(crate) fn append(&mut self, other: &Sheet<A>) {
         let outcome = self.bytes.extend_from_slice(&other.bytes);
         self.keep(outcome);
@@ -214,7 +216,7 @@ impl<A: Allocator> Sheet<A> {
         self.bytes.len()
     }
 
-    /// Writes what was made, unless an allocation failed on the way.
+    /// Writes the text, unless an allocation failed on the way.
     pub(crate) fn write<W: Write>(&self, w: &mut W) -> Result<(), ToolFault> {
         if self.is_cut {
             return Err(ToolFault::Memory);

@@ -1,4 +1,4 @@
-//! The style of a page, `page/page.css`, as `page/carry.py` writes it.
+//! The style of a page, `page/page.css`, written by `page/carry.py`.
 
 /// The style of a page, `page/page.css`.
 pub fn style() -> &'static str {

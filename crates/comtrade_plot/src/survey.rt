@@ -1,4 +1,4 @@
-//! What the drawn rows say of each channel: its least and greatest sample, its effective values.
+//! A survey of each channel's drawn rows: its least and greatest sample, its rms values.
 
 use crate::plan::Frame;
 use comtrade_format::{File, Row, Scale};
@@ -7,7 +7,7 @@ use dfr_channels::Reading;
 use std::alloc::Allocator;
 use std::num::nearest_u64_to_f64;
 
-/// The sum of the squares of values, and how many they are.
+/// The sum of the squares of values, and their number.
 #[derive(Clone, Copy)]
 pub(crate) struct Squares {
     count: u64,
@@ -24,7 +24,7 @@ impl Squares {
         }
     }
 
-    /// The effective value, where there are four values at least.
+    /// The rms value, from four values on.
     pub(crate) fn rms(self) -> Option<f64> {
         if self.count < 4 {
             return None;
@@ -33,8 +33,8 @@ impl Squares {
     }
 }
 
-/// What is known of a channel: its least and its greatest sample, where it has one, and the squares of its values in the last
-/// cycle before the trigger and in the first after it.
+/// What is known of a channel: its least and its greatest sample, if it has any, and the squares of
+/// its values in the last cycle before the trigger and in the first one after it.
 #[derive(Clone, Copy)]
 pub(crate) struct Survey {
     pub(crate) bounds: Option<(i32, i32)>,
@@ -113,7 +113,7 @@ fn add_squares<A: Allocator>(
     }
 }
 
-/// How many rows were taken from one time on and before another, also those that were lost.
+/// How many rows were taken from one time on and before another, including lost ones.
 fn rows_between(times: &[Option<i64>], from: i64, to: i64) -> u64 {
     let mut count = 0u64;
     for time in times {
@@ -125,7 +125,7 @@ fn rows_between(times: &[Option<i64>], from: i64, to: i64) -> u64 {
     count
 }
 
-/// Takes back the squares of cycles of which a reading is missing.
+/// Discards the squares of cycles with a missing reading.
 pub(crate) fn drop_partial(surveys: &mut [Survey], times: &[Option<i64>], cycle: i64) {
     let before = rows_between(times, cycle.saturating_neg(), 0);
     let after = rows_between(times, 0, cycle);

@@ -1,4 +1,4 @@
-//! The traces of channels, at most two points for each half pixel: no peak is lost.
+//! The traces of channels, at most two points for each half pixel, so that no peak is lost.
 
 use crate::layout::Chart;
 use crate::plan::Panel;
@@ -8,11 +8,11 @@ use comtrade_format::{Row, Scale};
 use dfr_channels::Reading;
 use std::alloc::Allocator;
 
-/// How wide a column is in which a trace has one stroke, in tenths of a pixel.
+/// The width in tenths of a pixel of a column in which a trace has one stroke.
 const COLUMN: u32 = 5;
 
-/// What a trace has in one column: where its first sample stands, its highest and lowest place, which of both came later, and
-/// whether it begins a run and is the run's only sample.
+/// A trace in one column: the position of its first sample, its highest and lowest position, which
+/// of both came later, and whether it begins a run and is the run's only sample.
 #[derive(Clone, Copy)]
 struct Stroke {
     x: u32,
@@ -35,7 +35,7 @@ impl Stroke {
         }
     }
 
-    /// The stroke with a sample more.
+    /// The stroke with one more sample.
     fn with(self, y: u32) -> Stroke {
         Stroke {
             x: self.x,
@@ -67,8 +67,8 @@ impl Stroke {
     }
 }
 
-/// Where a row's reading of a channel stands, if the row is drawn and the reading isn't missing. Of other rows nothing is looked at: they are far
-/// apart in memory.
+/// The position of a row's reading of a channel, if the row is drawn and the reading is not
+/// missing. Other rows, which lie far apart in memory, are not read.
 fn point_of<A: Allocator>(
     panel: Panel,
     scale: Scale,
@@ -83,7 +83,8 @@ fn point_of<A: Allocator>(
     }
 }
 
-/// The stroke after a point: the one before is drawn where the point stands in another column, or there is none, which ends the run.
+/// The stroke after a point. The one before is drawn where the point is in another column, or where
+/// there is no point, which ends the run.
 fn moved<A: Allocator>(
     sheet: &mut Sheet<A>,
     stroke: Option<Stroke>,
@@ -108,10 +109,10 @@ fn moved<A: Allocator>(
     Some(Stroke::at(x, y, false))
 }
 
-/// A record of so many rows or fewer has a dot at each sample.
+/// A record with at most this many rows has a dot at each sample.
 const DOTTED: usize = 60;
 
-/// A channel's trace in a panel, which a missing reading interrupts.
+/// A channel's trace in a panel; a missing reading interrupts it.
 pub(crate) fn put_channel<A: Allocator>(
     sheet: &mut Sheet<A>,
     chart: &Chart<'_, A>,

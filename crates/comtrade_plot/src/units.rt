@@ -3,7 +3,8 @@
 use crate::sheet::Sheet;
 use std::alloc::Allocator;
 
-/// A unit of a channel: its name without a prefix, the power of ten of the prefix that it has, and whether it takes prefixes.
+/// A channel's unit: its name without the prefix, the prefix's power of ten, and whether it takes
+/// prefixes.
 #[derive(Clone, Copy)]
 pub(crate) struct Unit<'a> {
     pub(crate) base: &'a [u8],
@@ -11,7 +12,7 @@ pub(crate) struct Unit<'a> {
     pub(crate) takes_prefixes: bool,
 }
 
-/// Whether a unit is one that takes prefixes.
+/// Whether a unit takes prefixes.
 fn is_base(unit: &[u8]) -> bool {
     let bases: [&[u8]; 11] = [
         b"A", b"V", b"W", b"VA", b"var", b"VAr", b"VAR", b"Hz", b"Ohm", b"ohm", b"s",
@@ -24,7 +25,7 @@ fn is_base(unit: &[u8]) -> bool {
     false
 }
 
-/// The unit with a prefix taken off.
+/// The unit without its prefix.
 fn without_prefix(unit: &[u8]) -> Option<Unit<'_>> {
     let (first, base) = unit.split_first()?;
     let exponent = match first {
@@ -84,7 +85,7 @@ fn prefix_of(exponent: i32) -> Option<&'static str> {
     }
 }
 
-/// The power of a thousand that brings a size between 1 and 1000, as a power of ten.
+/// The power of a thousand, as a power of ten, that brings a size between 1 and 1000.
 fn thousands(size: f64) -> i32 {
     let mut left = size;
     let mut exponent = 0i32;
@@ -105,8 +106,8 @@ fn thousands(size: f64) -> i32 {
     exponent
 }
 
-/// The power of ten by which values of a size are divided where they are shown in a unit: none where a unit that takes no
-/// prefix needs none.
+/// The power of ten by which values of a size are divided for display in a unit; none where a unit
+/// without prefixes needs none.
 pub(crate) fn shown_exponent(unit: Unit<'_>, size: f64) -> i32 {
     if !unit.takes_prefixes && 0.001 <= size && size < 1e6 {
         return 0;
@@ -114,7 +115,7 @@ pub(crate) fn shown_exponent(unit: Unit<'_>, size: f64) -> i32 {
     thousands(size)
 }
 
-/// 10^exponent, near it where that is no whole power.
+/// 10^exponent, or near it where that is not a whole power.
 pub(crate) fn power_of_ten(exponent: i32) -> f64 {
     let mut power = 1.0;
     for _ in 0..exponent.unsigned_abs().min(300) {

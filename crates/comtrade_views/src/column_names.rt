@@ -1,4 +1,4 @@
-//! The names of columns of comma-separated values: the first line.
+//! The column names of comma-separated values: the first line.
 
 use comtrade_format::Head;
 use comtrade_io::{ToolFault, fault_of, put, put_safe, put_with};
@@ -7,7 +7,7 @@ use std::alloc::{AllocError, Allocator};
 use std::collections::BTreeMap;
 use std::io::Write;
 
-/// What came of a write to a table.
+/// The outcome of a write to a table.
 fn outcome_of(written: Result<(), Error>) -> Result<(), ToolFault> {
     let Err(error) = written else {
         return Ok(());
@@ -18,7 +18,7 @@ fn outcome_of(written: Result<(), Error>) -> Result<(), ToolFault> {
     }
 }
 
-/// Writes a cell, and empties it.
+/// Writes a cell and clears it.
 fn end_cell<A: Allocator, W: Write>(
     table: &mut Writer<&mut W>,
     cell: &mut Vec<u8, A>,
@@ -28,7 +28,7 @@ fn end_cell<A: Allocator, W: Write>(
     outcome_of(written)
 }
 
-/// A text of the file, after an apostrophe where a spreadsheet would read a formula.
+/// A text from the file, after an apostrophe where a spreadsheet would read a formula.
 fn put_name_of<A: Allocator>(cell: &mut Vec<u8, A>, id: &[u8]) -> Result<(), AllocError> {
     if let Some(b'=' | b'+' | b'-' | b'@') = id.first() {
         put(cell, "'")?;
@@ -36,7 +36,7 @@ fn put_name_of<A: Allocator>(cell: &mut Vec<u8, A>, id: &[u8]) -> Result<(), All
     put_safe(cell, id)
 }
 
-/// How often a name was seen before; now it is seen once more.
+/// How often a name has occurred before; counts it once more.
 fn times_seen<A: Allocator + Copy>(
     name: &[u8],
     seen: &mut BTreeMap<Vec<u8, A>, u64, A>,
@@ -49,7 +49,7 @@ fn times_seen<A: Allocator + Copy>(
     Ok(before)
 }
 
-/// Writes the name of a column: ` (2)` stands after the second one of a name, and so on.
+/// Writes the name of a column. The second column with the same name ends in ` (2)`, and so on.
 fn end_name<A: Allocator + Copy, W: Write>(
     table: &mut Writer<&mut W>,
     cell: &mut Vec<u8, A>,
@@ -64,7 +64,8 @@ fn end_name<A: Allocator + Copy, W: Write>(
     end_cell(table, cell)
 }
 
-/// The names of the channels' columns: of analogue channels with their units. None of them is seen yet.
+/// The names of the channels' columns, those of analogue channels with their units. None of them
+/// has occurred yet.
 fn put_channel_names<A: Allocator + Copy, W: Write>(
     table: &mut Writer<&mut W>,
     cell: &mut Vec<u8, A>,
@@ -101,7 +102,7 @@ fn put_names<A: Allocator + Copy, W: Write>(
     outcome_of(table.flush())
 }
 
-/// Writes the line of the names of the columns.
+/// Writes the line of column names.
 pub(crate) fn write_names<A: Allocator + Copy, W: Write>(
     alloc: A,
     head: &Head<A>,

@@ -11,8 +11,8 @@ use dfr_channels::{AnalogChannel, Reading};
 use std::alloc::{AllocError, Allocator};
 use std::io::Write;
 
-/// The lines that aren't written yet, the instant of the last row, a cell whose number is spelled otherwise, and the cells of a row's values and
-/// bits.
+/// The lines not yet written, the instant of the last row, a cell whose number is written in
+/// another way, and the cells of a row's values and bits.
 #[derive(Drop)]
 struct Lines<A: Allocator> {
     text: Vec<u8, A>,
@@ -23,7 +23,7 @@ struct Lines<A: Allocator> {
     spelling: Spelling,
 }
 
-/// The cells of so many bits, each after a separator.
+/// The cells of this many bits, each after a separator.
 fn bit_cells<A: Allocator>(alloc: A, bits: usize, separator: u8) -> Result<Vec<u8, A>, AllocError> {
     let mut cells = Vec::new(alloc);
     for _ in 0..bits {
@@ -37,7 +37,7 @@ impl<A: Allocator> Lines<A> {
         Ok(self.text.push(self.spelling.separator)?)
     }
 
-    /// Ends the cell of a number, with the sign that is asked for before its places.
+    /// Ends the cell of a number, with the decimal sign that is asked for.
     fn end_number(&mut self) -> Result<(), AllocError> {
         set_decimal_sign(&mut self.cell, self.spelling.decimal);
         self.text.extend_from_slice(&self.cell)?;
@@ -45,7 +45,7 @@ impl<A: Allocator> Lines<A> {
         Ok(())
     }
 
-    /// The cell of an instant in microseconds, in quotation marks where the separator stands in it.
+    /// The cell of an instant in microseconds, in quotation marks if it contains the separator.
     fn put_instant(&mut self, micros: i128) -> Result<(), AllocError> {
         let text = self.instant.of(micros);
         if !text.contains(&self.spelling.separator) {
@@ -56,7 +56,8 @@ impl<A: Allocator> Lines<A> {
         put(&mut self.text, "\"")
     }
 
-    /// The instant of a row and the milliseconds since the trigger, by its nanoseconds since then: nothing where nothing says them.
+    /// The instant of a row and the milliseconds since the trigger, from its nanoseconds since
+    /// then; empty cells if the time is not known.
     fn put_times(&mut self, trigger: i64, since: Option<i64>) -> Result<(), AllocError> {
         self.separate()?;
         let Some(since) = since else {
@@ -69,7 +70,7 @@ impl<A: Allocator> Lines<A> {
         self.end_number()
     }
 
-    /// A value, or nothing for a missing one.
+    /// A value, or an empty cell for a missing one.
     fn put_reading(&mut self, scale: Scale, reading: Reading) -> Result<(), AllocError> {
         self.separate()?;
         let Reading::Value(sample) = reading else {
@@ -123,7 +124,7 @@ impl<A: Allocator> Lines<A> {
     }
 }
 
-/// Writes the lines of the rows, a piece of them each time that enough has come together.
+/// Writes the lines of the rows, a piece whenever enough of them have been collected.
 fn write_rows<A: Allocator, W: Write>(
     lines: &mut Lines<A>,
     file: &File<A>,
@@ -138,8 +139,8 @@ fn write_rows<A: Allocator, W: Write>(
     write_out(w, &lines.text)
 }
 
-/// Prints the rows of a file: number, instant, milliseconds since the trigger, values a*x + b, bits. The rows were taken at these times, in
-/// nanoseconds since the trigger.
+/// Prints the rows of a file: number, instant, milliseconds since the trigger, values a*x + b,
+/// bits. The rows were taken at these times, in nanoseconds since the trigger.
 pub fn csv_over<A: Allocator + Copy, W: Write>(
     alloc: A,
     file: &File<A>,

@@ -1,4 +1,4 @@
-//! The greatest current of a record, beside its channel's nominal one.
+//! The greatest current of a record, relative to its channel's nominal current.
 
 use crate::peaks::{Peaks, peaks_at, peaks_of};
 use comtrade_format::{File, nearest_f64, scale_of};
@@ -6,7 +6,7 @@ use comtrade_io::ToolFault;
 use dfr_channels::{AnalogChannel, Decimal, Side};
 use std::alloc::Allocator;
 
-/// How often a channel's greatest current is its nominal one, and the current.
+/// The ratio of a channel's greatest current to its nominal one, and the current.
 #[derive(Clone, Copy)]
 pub(crate) struct Current {
     pub(crate) times: f64,
@@ -22,7 +22,7 @@ pub(crate) fn nominal_of<A: Allocator>(channel: &AnalogChannel<A>) -> Decimal {
     }
 }
 
-/// The greatest current of a channel, by its nominal one, or the greatest before it.
+/// The greatest current of a channel relative to its nominal one, or the greatest before it.
 fn greatest_of<A: Allocator + Copy>(
     alloc: A,
     peaks: Peaks,

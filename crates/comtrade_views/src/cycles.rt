@@ -1,5 +1,5 @@
-//! What an engineer measures in a record: rms values, phasors at the line frequency, harmonics and dc part over whole cycles, sequence
-//! components of three phases, and where currents left their earlier course.
+//! Measurements in a record: rms values, phasors at the line frequency, harmonics and dc over whole
+//! cycles, sequence components of three phases, and fault inception.
 
 mod course;
 mod fault;

@@ -1,4 +1,4 @@
-//! What happened in records, as a table.
+//! Events of records, as a table.
 
 use crate::events::Event;
 use crate::instant::{put_instant, put_millis};
@@ -12,8 +12,8 @@ const ONE: &str = "instant\x1Fms since trigger\x1Fsince before\x1Fwhat\x1F\n";
 /// The columns of the table of several records.
 const MANY: &str = "instant\x1Fms since trigger\x1Fsince before\x1Frecord\x1Fwhat\x1F\n";
 
-/// A line of the table: the instant, how long after the trigger and after the event before it is, the record where there are several, and
-/// what happened.
+/// A line of the table: the instant, how long it is after the trigger and after the event before
+/// it, the record if there are several, and what happened.
 fn put_event<A: Allocator>(
     table: &mut Vec<u8, A>,
     event: &Event<A>,
@@ -46,7 +46,7 @@ fn put_event<A: Allocator>(
     end_row(table)
 }
 
-/// The table of events of the records with these names, a line of names above them.
+/// The table of the events of the records with these names, below a line of column names.
 pub(crate) fn event_table<A: Allocator + Copy>(
     alloc: A,
     events: &[Event<A>],

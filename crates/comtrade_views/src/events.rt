@@ -1,4 +1,4 @@
-//! What happened in records, in one list: triggers, changes of contacts, gaps.
+//! The events of records, in one list: triggers, changes of status channels, gaps.
 
 use crate::peaks::bit_at;
 use crate::times::times_since_trigger;
@@ -7,26 +7,26 @@ use comtrade_io::{ToolFault, put, put_count, put_safe, put_with};
 use dfr_channels::Reading;
 use std::alloc::{AllocError, Allocator, Global};
 
-/// Something that happened, with the text that says it.
+/// An event, with its text.
 #[derive(Debug, Drop)]
 pub struct Event<A: Allocator = Global> {
-    /// Nanoseconds since 1970-01-01 00:00:00; none where nothing says when the row was taken.
+    /// Nanoseconds since 1970-01-01 00:00:00; None where the time of the row is not known.
     pub(crate) at: Option<i128>,
     /// Nanoseconds since the trigger of the record.
     pub(crate) since: Option<i128>,
-    /// The record's place in the list, from 0.
+    /// The record's index in the list, from 0.
     pub(crate) record: usize,
-    /// The number of the row, from 1; of a trigger 0.
+    /// The number of the row, from 1; 0 for a trigger.
     pub(crate) row: u64,
     pub(crate) text: Vec<u8, A>,
 }
 
-/// A record, when its rows were taken, and where the texts on it lie.
+/// A record, when its rows were taken, and the memory for its texts.
 #[derive(Drop)]
 struct Source<'a, A: Allocator> {
     alloc: A,
     file: &'a File<A>,
-    /// Its place in the list, from 0.
+    /// Its index in the list, from 0.
     record: usize,
     /// The trigger, in nanoseconds since 1970-01-01 00:00:00.
     trigger: i128,
@@ -34,7 +34,7 @@ struct Source<'a, A: Allocator> {
     times: &'a [Option<i64>],
 }
 
-/// What happened at a row, with a text that is put after.
+/// An event at a row, with the text that follows.
 fn event_at<A: Allocator + Copy>(source: &Source<'_, A>, row: usize) -> Event<A> {
     let since = match source.times.get(row) {
         Some(Some(nanos)) => Some(*nanos as i128),
@@ -49,7 +49,7 @@ fn event_at<A: Allocator + Copy>(source: &Source<'_, A>, row: usize) -> Event<A>
     }
 }
 
-/// The text of a change of a contact.
+/// The text of a change of a status channel.
 fn put_change<A: Allocator>(
     text: &mut Vec<u8, A>,
     place: usize,
@@ -62,7 +62,7 @@ fn put_change<A: Allocator>(
     put(text, if bit { " 1" } else { " 0" })
 }
 
-/// The changes of contacts from one row to the next.
+/// The changes of status channels from one row to the next.
 fn add_changes<A: Allocator + Copy>(
     events: &mut Vec<Event<A>, A>,
     source: &Source<'_, A>,
@@ -82,16 +82,16 @@ fn add_changes<A: Allocator + Copy>(
     Ok(())
 }
 
-/// A run of rows that miss readings.
+/// A run of rows with missing readings.
 #[derive(Clone, Copy)]
 struct Gap {
     from: usize,
     to: usize,
-    /// The most readings that one of the rows misses.
+    /// The greatest number of missing readings in one of the rows.
     channels: u64,
 }
 
-/// The text of a run of rows that miss readings.
+/// The text of a run of rows with missing readings.
 fn put_gap<A: Allocator>(text: &mut Vec<u8, A>, gap: Gap) -> Result<(), AllocError> {
     put(text, "readings of ")?;
     put_count(text, gap.channels, " channel", " channels")?;
@@ -99,7 +99,7 @@ fn put_gap<A: Allocator>(text: &mut Vec<u8, A>, gap: Gap) -> Result<(), AllocErr
     put_with(text, " to ", (gap.to as u64).saturating_add(1))
 }
 
-/// Adds a run of rows that miss readings, where there is one.
+/// Adds a run of rows with missing readings, if there is one.
 fn add_gap<A: Allocator + Copy>(
     events: &mut Vec<Event<A>, A>,
     source: &Source<'_, A>,
@@ -113,7 +113,7 @@ fn add_gap<A: Allocator + Copy>(
     Ok(())
 }
 
-/// The runs of rows that miss readings.
+/// The runs of rows with missing readings.
 fn add_gaps<A: Allocator + Copy>(
     events: &mut Vec<Event<A>, A>,
     source: &Source<'_, A>,
@@ -143,7 +143,7 @@ fn add_gaps<A: Allocator + Copy>(
     add_gap(events, source, begun)
 }
 
-/// The names of a record at its trigger.
+/// The text of a trigger: the names of its record.
 fn put_trigger<A: Allocator>(text: &mut Vec<u8, A>, file: &File<A>) -> Result<(), AllocError> {
     put(text, "trigger of ")?;
     put_safe(text, file.head.station.items())?;
@@ -168,7 +168,7 @@ fn add_trigger<A: Allocator + Copy>(
     Ok(())
 }
 
-/// Adds what happened in a record, whose place in the list is this.
+/// Adds the events of a record, which has this index in the list.
 pub fn add_events<A: Allocator + Copy>(
     alloc: A,
     events: &mut Vec<Event<A>, A>,
@@ -188,7 +188,7 @@ pub fn add_events<A: Allocator + Copy>(
     add_gaps(events, &source)
 }
 
-/// Brings the events into their order in time, those without an instant after all others.
+/// Sorts the events by time; those without an instant come last.
 pub fn sort_events<A: Allocator + Copy>(events: &mut Vec<Event<A>, A>) -> Result<(), ToolFault> {
     events.sort_by_key(|event| {
         let is_late = event.at.is_none();

@@ -5,7 +5,7 @@ use ryu::Buffer;
 use std::alloc::{AllocError, Allocator};
 use std::num::saturating_f64_to_i64;
 
-/// A float as its shortest decimal; none where it is no number.
+/// A float as its shortest decimal; None where it is not a number.
 fn number_of(x: f64) -> Option<Number> {
     let size = x.abs();
     if !size.is_finite() {
@@ -34,14 +34,15 @@ fn number_of(x: f64) -> Option<Number> {
     })
 }
 
-/// How many digits a float has: six, and 0 where its size is at most a 10^9th of another one; or as many as read back to it.
+/// How many digits a float is written with: six, but 0 where its size is at most a 10^9th of
+/// another one; or as many as are needed to read it back exactly.
 #[derive(Clone, Copy)]
 pub(crate) enum Digits {
     Six(f64),
     All,
 }
 
-/// A float with so many digits.
+/// A float with this many digits.
 pub(crate) fn put_float<A: Allocator>(
     out: &mut Vec<u8, A>,
     x: f64,
@@ -63,7 +64,7 @@ pub(crate) fn put_float<A: Allocator>(
     }
 }
 
-/// A float with so many places at most.
+/// A float with at most this many places.
 pub(crate) fn put_places<A: Allocator>(
     out: &mut Vec<u8, A>,
     x: f64,

@@ -1,4 +1,4 @@
-//! What is in a pair of files, as JSON.
+//! What a pair of files contains, as JSON.
 
 use crate::instant::put_instant;
 use crate::json::{put_rows_json, put_text};
@@ -24,7 +24,7 @@ fn put_when(alloc: Global, out: &mut Vec<u8>, key: &str, instant: i64) -> Result
     put_text(alloc, out, &text)
 }
 
-/// The rates, as the file says them: none where the stamps say when rows were taken.
+/// The rates, as the file gives them: none where the stamps give the times of rows.
 fn put_rates<A: Allocator>(out: &mut Vec<u8>, head: &Head<A>) -> Result<(), AllocError> {
     put(out, ",\"rates\":[")?;
     let mut before = "{\"rate\":";
@@ -40,7 +40,7 @@ fn put_rates<A: Allocator>(out: &mut Vec<u8>, head: &Head<A>) -> Result<(), Allo
     put(out, "]")
 }
 
-/// What the configuration file says beside its channels.
+/// The configuration file's values other than its channels.
 fn put_head<A: Allocator>(
     alloc: Global,
     out: &mut Vec<u8>,
@@ -63,7 +63,8 @@ fn put_head<A: Allocator>(
     put_decimal(out, head.timemult)
 }
 
-/// What is in a file as an object of JSON, whose rows were taken at these times, in nanoseconds since the trigger.
+/// What a file contains, as a JSON object. The rows were taken at these times, in nanoseconds since
+/// the trigger.
 pub fn show_json<A: Allocator + Copy>(
     alloc: Global,
     lists: A,

@@ -16,14 +16,14 @@ fn set_digits(digits: &mut [u8], n: u64) {
     }
 }
 
-/// Sets the digits of a text between two places.
+/// Sets the digits of a text between two indices.
 fn set_between(text: &mut [u8], from: usize, to: usize, n: u64) {
     if let Some(digits) = text.get_mut(from..to) {
         set_digits(digits, n);
     }
 }
 
-/// How long the text of a date with a time of day is.
+/// The length of the text of a date with a time of day.
 const LENGTH: usize = 26;
 
 /// A date, and a time of that day in microseconds.
@@ -48,7 +48,8 @@ fn text_of(micros: i64) -> Option<[u8; LENGTH]> {
     Some(civil_text(date, micros.rem_euclid(DAY).unsigned_abs()))
 }
 
-/// The text of the instant before, by the second in which it is: another one of this second differs in its last digits alone.
+/// The text of the previous instant, kept with its second: another instant of the same second
+/// differs only in the last digits.
 #[derive(Clone, Copy)]
 pub(crate) struct InstantText {
     second: Option<i64>,
@@ -76,7 +77,8 @@ impl InstantText {
         Some(&self.text)
     }
 
-    /// Microseconds since 1970-01-01 00:00:00 as `yyyy-mm-dd hh:mm:ss.ssssss`; an instant outside the years 1 to 9999 has a text.
+    /// Microseconds since 1970-01-01 00:00:00 as `yyyy-mm-dd hh:mm:ss.ssssss`; words for an instant
+    /// outside the years 1 to 9999.
     pub(crate) fn of(&mut self, instant: i128) -> &[u8] {
         if let Ok(micros) = i64::try_from(instant) {
             if let Some(text) = self.near(micros) {
@@ -91,7 +93,7 @@ impl InstantText {
     }
 }
 
-/// The text of an instant by itself.
+/// The text of an instant, without a previous one.
 pub(crate) fn put_instant<A: Allocator>(
     out: &mut Vec<u8, A>,
     instant: i128,

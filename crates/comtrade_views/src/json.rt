@@ -4,7 +4,8 @@ use crate::table::CELL;
 use comtrade_io::{put, put_safe};
 use std::alloc::{AllocError, Global};
 
-/// A text of a file, its bytes outside 20 to 7E in hexadecimal as in what people read, between quotation marks.
+/// A text from a file in quotation marks. Its bytes outside 20 to 7E are written in hexadecimal, as
+/// in the text output.
 pub fn put_text(alloc: Global, out: &mut Vec<u8>, text: &[u8]) -> Result<(), AllocError> {
     let mut safe = Vec::new(alloc);
     put_safe(&mut safe, text)?;
@@ -20,7 +21,7 @@ fn put_string(alloc: Global, out: &mut Vec<u8>, text: &[u8]) -> Result<(), Alloc
     }
 }
 
-/// Whether a cell is spelled as a number of JSON, or as an array.
+/// Whether a cell is written as a JSON number or array.
 fn is_number(cell: &[u8]) -> bool {
     match cell {
         [b'-', b, ..] => b.is_ascii_digit(),
@@ -29,7 +30,7 @@ fn is_number(cell: &[u8]) -> bool {
     }
 }
 
-/// A cell under its key. One that is to be a number and is none is null.
+/// A cell under its key. A cell that should be a number and is not is null.
 fn put_member(
     alloc: Global,
     out: &mut Vec<u8>,
@@ -52,7 +53,7 @@ fn put_member(
     put(out, "null")
 }
 
-/// What stands before the first such byte, and what after it; all and nothing where there is none.
+/// The text before the first such byte, and the text after it; all and nothing without one.
 fn cut_at(text: &[u8], end: u8) -> (&[u8], &[u8]) {
     let at = text.iter().position(|b| *b == end).unwrap_or(text.len());
     let front = text.get(..at).unwrap_or(&[]);
@@ -74,8 +75,9 @@ fn put_row(alloc: Global, out: &mut Vec<u8>, members: &str, row: &[u8]) -> Resul
     put(out, "}")
 }
 
-/// The rows of a table after its first, which are the names of its columns: what stands before them, and an array of objects. Each object has
-/// these members, with a blank between two; those with a `#` behind their key are numbers or arrays of them, the others texts.
+/// The rows of a table after its first, which has the column names: the text before them, and an
+/// array of objects. Each object has these members, with a blank between two. A `#` after a key
+/// marks numbers or arrays of them; the others are texts.
 pub(crate) fn put_rows_json(
     alloc: Global,
     out: &mut Vec<u8>,

@@ -1,5 +1,5 @@
-//! What can be seen of a pair of COMTRADE files of C37.111-1999 that was read, or of a part of it: what is in it, its rows as CSV, what is
-//! measured over its cycles.
+//! Views of a pair of COMTRADE files (C37.111-1999) that was read, or of a part of it: what it
+//! contains, its rows as CSV, and what is measured over its cycles.
 #![tactic(auto)]
 
 mod column_names;

@@ -14,17 +14,17 @@ use comtrade_format::File;
 use comtrade_io::{put, put_safe, put_with};
 use std::alloc::{AllocError, Allocator, Global};
 
-/// What of a record is measured.
+/// What to measure.
 #[derive(Clone, Copy, Debug, PartialEq, Eq)]
 pub enum Measuring<'a> {
-    /// Where currents left their earlier course.
+    /// The fault inception of each current.
     Course,
-    /// Its last whole cycle, or all of its whole cycles; angles from the channel that is named.
+    /// The last whole cycle, or all whole cycles; angles are relative to the channel that is named.
     LastCycle(Option<&'a str>),
     WholeCycles(Option<&'a str>),
 }
 
-/// Which rows are measured, when they were taken, and how many cycles they are.
+/// The rows that are measured, when they were taken, and how many cycles they are.
 fn put_window<A: Allocator>(
     out: &mut Vec<u8, A>,
     window: Window,
@@ -42,7 +42,7 @@ fn put_window<A: Allocator>(
     put_cycle(out, window)
 }
 
-/// From which channel angles are counted.
+/// The reference channel of angles.
 fn put_reference<A: Allocator>(
     out: &mut Vec<u8>,
     file: &File<A>,
@@ -59,14 +59,12 @@ fn put_reference<A: Allocator>(
             put_safe(out, channel.id.items())?;
             put(out, "\n")
         }
-        _ => put(
-            out,
-            "reference  none: no channel has a part at the line frequency\n",
-        ),
+        _ => put(out, "reference  none: no channel has a fundamental\n"),
     }
 }
 
-/// What was measured over whole cycles: its rows, the reference's place, and the tables of channels, harmonics and sequence components.
+/// What was measured over whole cycles: its rows, the reference's index, and the tables of
+/// channels, harmonics and sequence components.
 #[derive(Drop)]
 pub(crate) struct Measures<A: Allocator> {
     pub(crate) window: Window,
@@ -117,7 +115,7 @@ fn measures_with<A: Allocator + Copy>(
     Ok(made)
 }
 
-/// What was measured, for people.
+/// What was measured, as text.
 fn put_measures<A: Allocator>(
     out: &mut Vec<u8>,
     file: &File<A>,
@@ -128,7 +126,7 @@ fn put_measures<A: Allocator>(
     put_reference(out, file, measures.reference)?;
     put(
         out,
-        "\nrms of all, and rms and degrees of the part at the line frequency\n",
+        "\nrms of the whole signal; magnitude (rms) and angle (degrees) of the fundamental\n",
     )?;
     put_table(out, &measures.channels)?;
     let orders = measures.window.orders() as u64;
@@ -139,7 +137,7 @@ fn put_measures<A: Allocator>(
     if lines <= 1 {
         return put(
             out,
-            "\nno sequence components: no channels of one unit are of the phases A, B and C\n",
+            "\nno sequence components: no three channels of the same unit have phases A, B and C\n",
         );
     }
     put(out, "\nsequence components\n")?;
@@ -183,7 +181,8 @@ fn put_measuring<A: Allocator + Copy>(
     put_window_of(alloc, lists, out, file, window, name, shown)
 }
 
-/// The text of what is measured in a record. Refused where rows can't be measured, and where the channel that is named has no angle.
+/// The text of what is measured in a record. Refused where the rows cannot be measured, and where
+/// the channel that is named has no angle.
 pub fn measure_text<A: Allocator + Copy>(
     alloc: Global,
     lists: A,

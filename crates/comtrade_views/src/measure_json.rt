@@ -13,7 +13,7 @@ const ORDERS: &str = "n# id phase unit orders#";
 const SEQUENCES: &str =
     "a b c unit positive# positive_angle# negative# negative_angle# zero# zero_angle#";
 
-/// What was measured, as an object of JSON.
+/// What was measured, as a JSON object.
 pub(crate) fn put_measures_json<A: Allocator>(
     alloc: Global,
     out: &mut Vec<u8>,

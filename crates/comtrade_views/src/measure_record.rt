@@ -1,4 +1,4 @@
-//! Where the currents of a record left their earlier course, for people.
+//! The fault inception of each current of a record, as text or JSON.
 
 use crate::cycles::{Course, MeasureFault, Outcome, Window, courses_of, whole_record};
 use crate::float::put_places;
@@ -12,13 +12,13 @@ use comtrade_io::put;
 use std::alloc::{AllocError, Allocator, Global};
 use std::num::nearest_u64_to_f64;
 
-/// How many milliseconds so many rows last: they are cycles of the line frequency.
+/// The duration of this many rows in milliseconds, from the cycles of the line frequency.
 fn millis_of(window: Window, frequency: f64, rows: u64) -> f64 {
     let cycles = nearest_u64_to_f64(window.cycle.cycles) / nearest_u64_to_f64(window.cycle.rows);
     nearest_u64_to_f64(rows) * cycles / frequency * 1000.0
 }
 
-/// Where a current left its course, and what it was before and after that, up to the end of the row.
+/// The cells of a fault inception: when and where it is, and the current before and after it.
 fn put_course<A: Allocator>(
     table: &mut Vec<u8, A>,
     course: Course,
@@ -35,7 +35,7 @@ fn put_course<A: Allocator>(
     end_row(table)
 }
 
-/// The table of all currents, a line of names above them; how many there are.
+/// The table of all currents, below a line of column names; returns the number of currents.
 fn put_courses<A: Allocator + Copy>(
     alloc: A,
     table: &mut Vec<u8, A>,
@@ -59,7 +59,7 @@ fn put_courses<A: Allocator + Copy>(
                 let above = millis_of(window, frequency, course.rows_above);
                 put_course(table, course, above, shown)?
             }
-            Outcome::Stays => put(table, "-\x1F-\x1F-\x1F-\x1Fstays on its course\x1F\n")?,
+            Outcome::Stays => put(table, "-\x1F-\x1F-\x1F-\x1Fno inception found\x1F\n")?,
             Outcome::Unknown => put(table, "-\x1F-\x1F-\x1F-\x1Freadings are missing\x1F\n")?,
         }
     }
@@ -68,7 +68,8 @@ fn put_courses<A: Allocator + Copy>(
 
 const COURSES: &str = "n# id phase unit left_ms# left_row# rms_before# rms_greatest# above_ms#";
 
-/// Where the currents of a record first left their earlier course, for people or as an object of JSON.
+/// Where each current of a record first departs from its earlier waveform, as text or as a JSON
+/// object.
 pub(crate) fn put_record<A: Allocator + Copy>(
     alloc: Global,
     lists: A,
@@ -83,10 +84,13 @@ pub(crate) fn put_record<A: Allocator + Copy>(
         put_rows_json(alloc, out, "{\"currents\":", COURSES, &table)?;
         put(out, "}\n")?;
     } else if count == 0 {
-        let none = "no channel is a current: none has the unit A, with or without a prefix\n";
+        let none = "no current channels: no channel has the unit A, with or without a prefix\n";
         put(out, none)?;
     } else {
-        put(out, "where currents first left their earlier course; ")?;
+        put(
+            out,
+            "fault inception: where each current first departs from its earlier waveform; ",
+        )?;
         put_cycle(out, window)?;
         put_table(out, &table)?;
     }

@@ -9,7 +9,7 @@ use comtrade_format::File;
 use comtrade_io::{put, put_with};
 use std::alloc::{AllocError, Allocator};
 
-/// What was measured of a record's channels, the phasor from which angles are counted, and how that is shown.
+/// What was measured of a record's channels, the reference phasor of angles, and how it is shown.
 #[derive(Drop)]
 pub(crate) struct Found<'a, A: Allocator> {
     pub(crate) file: &'a File<A>,
@@ -18,7 +18,7 @@ pub(crate) struct Found<'a, A: Allocator> {
     pub(crate) shown: Shown<'a>,
 }
 
-/// The cells of five numbers that weren't measured, and why, up to the end of the row.
+/// The cells of five numbers that were not measured, and why, up to the end of the row.
 pub(crate) const MISSING: &str = "-\x1F-\x1F-\x1F-\x1F-\x1Freadings are missing\x1F\n";
 
 pub(crate) fn put_float_cell<A: Allocator>(
@@ -30,7 +30,7 @@ pub(crate) fn put_float_cell<A: Allocator>(
     end_cell(table)
 }
 
-/// The cell of an angle in degrees, over -180 and at most 180, where there is one.
+/// The cell of an angle in degrees, above -180 and at most 180, if there is one.
 pub(crate) fn put_angle_cell<A: Allocator>(
     table: &mut Vec<u8, A>,
     phasor: Phasor,
@@ -93,7 +93,7 @@ pub(crate) fn put_channels<A: Allocator>(
     Ok(())
 }
 
-/// The orders that are at least a thousandth of the magnitude, in percent of it.
+/// The orders of at least a thousandth of the magnitude, in percent of it.
 fn put_orders<A: Allocator>(
     table: &mut Vec<u8, A>,
     measured: &Measured<A>,
@@ -116,7 +116,7 @@ fn put_orders<A: Allocator>(
     Ok(())
 }
 
-/// The rms values of the orders 1, 2, .. as an array of JSON.
+/// The rms values of the orders 1, 2, .. as a JSON array.
 fn put_order_list<A: Allocator>(
     table: &mut Vec<u8, A>,
     measured: &Measured<A>,

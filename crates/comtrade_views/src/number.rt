@@ -1,4 +1,5 @@
-//! Numbers of a pair as decimals: what stands in the file, and a scaled sample, exact where floats would round.
+//! Numbers of a pair as decimals: a number of the file, and a scaled sample, exact where floats
+//! would round.
 
 ghost use Rattle.std.specs.Prelude.{OnOk};
 ghost use Rattle.comtrade_format.specs.Values as Values;
@@ -17,7 +18,7 @@ pub(crate) struct Number {
     pub(crate) exponent: i32,
 }
 
-/// The number with so few digits that its units are below `most`; the digits after them are left out.
+/// The number with its units below `most`; further digits are dropped.
 pub(crate) fn cut(number: Number, most: u128) -> Number {
     let mut cut = number;
     for _ in 0..40 {
@@ -41,7 +42,7 @@ pub(crate) fn number_of(decimal: Decimal) -> Number {
     cut(exact, 1_000_000_000_000_000_000_000_000_000)
 }
 
-/// With zeros added after the units until the exponent is the lower one, as long as they fit.
+/// With zeros added to the units until the exponent is the lower one, as long as they fit.
 fn lowered(number: Number, exponent: i32) -> Number {
     let mut low = number;
     for _ in 0..80 {
@@ -58,7 +59,7 @@ fn lowered(number: Number, exponent: i32) -> Number {
     low
 }
 
-/// With digits left out until the exponent is the higher one.
+/// With digits dropped until the exponent is the higher one.
 fn raised(number: Number, exponent: i32) -> Number {
     let mut high = number;
     for _ in 0..160 {
@@ -88,7 +89,7 @@ fn sum(one: Number, other: Number) -> Number {
     }
 }
 
-/// What a channel makes of its samples: a * x + b.
+/// The scale of a channel: a * x + b.
 #[derive(Clone, Copy)]
 pub(crate) struct Scale {
     pub(crate) a: Decimal,
@@ -102,7 +103,7 @@ pub(crate) fn scale_of<A: Allocator>(channel: &AnalogChannel<A>) -> Scale {
     }
 }
 
-/// The value of a sample, near where it has more digits than a decimal can have.
+/// The value of a sample, near it where it has more digits than a decimal can have.
 pub(crate) fn value_of(scale: Scale, sample: i32) -> Number {
     let a = number_of(scale.a);
     let product = Number {
@@ -112,8 +113,8 @@ pub(crate) fn value_of(scale: Scale, sample: i32) -> Number {
     sum(product, number_of(scale.b))
 }
 
-/// The value of a sample: a * x + b, exactly and without zeros at its end, where each of both terms and the sum has at most
-/// 36 digits; else a value near it.
+/// The value of a sample: a * x + b, exactly and without trailing zeros, where both terms and the
+/// sum have at most 36 digits each; else a value near it.
 pub(crate) fn put_sample<A: Allocator>(
     out: &mut Vec<u8, A>,
     scale: Scale,
@@ -128,7 +129,7 @@ pub(crate) fn put_sample<A: Allocator>(
     }
 }
 
-/// The number units / 10^places without zeros at its end.
+/// The number units / 10^places without trailing zeros.
 pub(crate) fn put_shortened<A: Allocator>(
     out: &mut Vec<u8, A>,
     units: i64,
@@ -164,7 +165,8 @@ fn put_zeros<A: Allocator>(out: &mut Vec<u8, A>, n: usize) -> Result<(), AllocEr
     out.resize(out.len().saturating_add(n), b'0')
 }
 
-/// The digits with a point before the last `places` of them, and a digit before the point.
+/// The digits with a point before the last `places` of them, and at least one digit before the
+/// point.
 fn put_pointed<A: Allocator>(
     out: &mut Vec<u8, A>,
     digits: &[u8],
@@ -177,7 +179,7 @@ fn put_pointed<A: Allocator>(
     out.extend_from_slice(back)
 }
 
-/// A number as a decimal without an exponent and without zeros at its end.
+/// A number as a decimal without an exponent and without trailing zeros.
 pub(crate) fn put_value<A: Allocator>(
     out: &mut Vec<u8, A>,
     number: Number,
@@ -208,7 +210,7 @@ pub(crate) fn put_value<A: Allocator>(
     put_zeros(out, places)
 }
 
-/// A decimal as text, without zeros at its end.
+/// A decimal as text, without trailing zeros.
 pub(crate) fn put_decimal<A: Allocator>(
     out: &mut Vec<u8, A>,
     decimal: Decimal,

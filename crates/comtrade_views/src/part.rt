@@ -1,5 +1,5 @@
-//! A part of a record: rows from one moment to another, channels by their names, values of one side of the transformers; and how its
-//! texts are spelled.
+//! A part of a record: the rows between two moments, channels by name, values of one side of the
+//! transformers; and the encoding of its texts.
 
 mod cut;
 mod encoding;

@@ -1,4 +1,5 @@
-//! What the rows say of one channel: its least and greatest sample, its missing readings, its changes.
+//! Summaries of each channel's rows: its least and greatest sample, its missing readings, its
+//! changes.
 
 use comtrade_format::{File, Row};
 use dfr_channels::Reading;
@@ -11,14 +12,15 @@ pub(crate) struct Peak {
     pub(crate) row: usize,
 }
 
-/// The first least and the first greatest sample of a channel, where it has one, and how many readings are missing.
+/// The first least and the first greatest sample of a channel, if it has any, and the number of
+/// missing readings.
 #[derive(Clone, Copy)]
 pub(crate) struct Peaks {
     pub(crate) extremes: Option<(Peak, Peak)>,
     pub(crate) missing: u64,
 }
 
-/// Those of a channel of which nothing is known.
+/// Those of an unknown channel.
 const NONE: Peaks = Peaks {
     extremes: None,
     missing: 0,
@@ -29,7 +31,7 @@ pub(crate) fn bit_at<A: Allocator>(row: &Row<A>, channel: usize) -> bool {
     row.bits.items().get(channel).copied().unwrap_or(false)
 }
 
-/// The extremes with one sample more.
+/// The extremes with one more sample.
 fn with_sample(extremes: Option<(Peak, Peak)>, peak: Peak) -> (Peak, Peak) {
     match extremes {
         None => (peak, peak),
@@ -49,7 +51,7 @@ fn with_sample(extremes: Option<(Peak, Peak)>, peak: Peak) -> (Peak, Peak) {
     }
 }
 
-/// The peaks of each analogue channel, by one look over the rows.
+/// The peaks of each analogue channel, in one pass over the rows.
 pub(crate) fn peaks_of<A: Allocator + Copy>(
     alloc: A,
     file: &File<A>,
@@ -76,10 +78,11 @@ pub(crate) fn peaks_at(peaks: &[Peaks], channel: usize) -> Peaks {
     peaks.get(channel).copied().unwrap_or(NONE)
 }
 
-/// How many changes of a contact, and gaps of a channel, are listed.
+/// How many changes of a status channel, and gaps of a channel, are listed.
 pub(crate) const LISTED: u64 = 20;
 
-/// How often a contact changes, and the indexes of the first rows, at most `LISTED`, that differ from the row before.
+/// How often a status channel changes, and the indices of the first rows, at most `LISTED`, that
+/// differ from the row before.
 #[derive(Drop)]
 pub(crate) struct Changes<A: Allocator> {
     pub(crate) count: u64,
@@ -87,7 +90,7 @@ pub(crate) struct Changes<A: Allocator> {
 }
 
 impl<A: Allocator> Changes<A> {
-    /// With a change at a row more.
+    /// With one more change, at a row.
     fn add(&mut self, row: usize) -> Result<(), AllocError> {
         if self.count < LISTED {
             self.first.push(row)?;
@@ -97,7 +100,8 @@ impl<A: Allocator> Changes<A> {
     }
 }
 
-/// Adds the contacts that change from one row to the next, which has this index: mostly none does.
+/// Adds the status channels that change from one row to the next, which has this index. Mostly none
+/// does.
 fn add_changes<A: Allocator>(
     changes: &mut [Changes<A>],
     before: &Row<A>,
@@ -115,7 +119,7 @@ fn add_changes<A: Allocator>(
     Ok(())
 }
 
-/// How often each contact changes, and where first, by one look over the rows.
+/// How often each status channel changes, and where first, in one pass over the rows.
 pub(crate) fn changes_of<A: Allocator + Copy>(
     alloc: A,
     file: &File<A>,

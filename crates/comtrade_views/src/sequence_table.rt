@@ -29,7 +29,7 @@ fn put_sequence<A: Allocator>(
     end_row(table)
 }
 
-/// The ids of three channels, and their unit; empty cells where there is no channel.
+/// The ids of three channels, and their unit; empty cells without a channel.
 fn put_three<A: Allocator>(
     table: &mut Vec<u8, A>,
     channels: &[AnalogChannel<A>],

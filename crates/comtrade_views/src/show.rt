@@ -1,4 +1,4 @@
-//! What is in a pair of files, for people.
+//! What a pair of files contains, as text.
 
 use crate::instant::{put_instant, put_millis};
 use crate::number::put_decimal;
@@ -12,7 +12,8 @@ use dfr_channels::Reading;
 use std::alloc::{AllocError, Allocator};
 use std::io::Write;
 
-/// When the rows were taken, in nanoseconds since the trigger, and when the trigger was, in nanoseconds since the first instant.
+/// When the rows were taken, in nanoseconds since the trigger, and when the trigger was, in
+/// nanoseconds since the first row.
 #[derive(Clone, Copy)]
 pub(crate) struct Clock<'a> {
     pub(crate) times: &'a [Option<i64>],
@@ -31,7 +32,7 @@ pub(crate) fn put_row_time<A: Allocator>(
     }
 }
 
-/// The names of the record, its instants, and the frequency.
+/// The station, the device, the instants and the frequency.
 fn put_head<A: Allocator>(
     out: &mut Vec<u8, A>,
     head: &Head<A>,
@@ -52,12 +53,12 @@ fn put_head<A: Allocator>(
     put(out, " Hz\n")
 }
 
-/// The rates, as the file says them.
+/// The rates, as the file gives them.
 fn put_rates<A: Allocator>(out: &mut Vec<u8, A>, head: &Head<A>) -> Result<(), AllocError> {
     if head.nrates == 0 {
         return put(
             out,
-            "rate       none; the stamps say when rows were taken\n",
+            "rate       none; row times come from the stamps, if any\n",
         );
     }
     for rate in head.rates.items() {
@@ -69,7 +70,7 @@ fn put_rates<A: Allocator>(out: &mut Vec<u8, A>, head: &Head<A>) -> Result<(), A
     Ok(())
 }
 
-/// How many rows there are, how they are written, and how long they last.
+/// The number of rows, their data format, and how long the record is.
 fn put_data<A: Allocator>(
     out: &mut Vec<u8, A>,
     file: &File<A>,
@@ -90,14 +91,14 @@ fn put_data<A: Allocator>(
     put(out, "\n")
 }
 
-/// The gaps of a channel so far: how many have ended, and the first row of the one that goes on.
+/// The gaps of a channel so far: how many have ended, and the first row of the open one.
 #[derive(Clone, Copy)]
 struct Gaps {
     count: u64,
     begun: Option<usize>,
 }
 
-/// Ends the gap that goes on before this row: the first and the last of its rows, with their times.
+/// Ends the open gap before this row: prints its first and last row, with their times.
 fn end_gap<A: Allocator>(
     out: &mut Vec<u8, A>,
     clock: Clock<'_>,
@@ -123,7 +124,7 @@ fn end_gap<A: Allocator>(
     })
 }
 
-/// The runs of rows in which a channel's reading is missing.
+/// Prints the runs of rows in which a channel's reading is missing.
 fn put_gaps_of<A: Allocator>(
     out: &mut Vec<u8, A>,
     rows: &[Row<A>],
@@ -150,7 +151,7 @@ fn put_gaps_of<A: Allocator>(
     put(out, "\n")
 }
 
-/// The gaps of the channels that have any, a line above those of each.
+/// Prints the gaps of each channel that has any, under a line with its name.
 fn put_gaps<A: Allocator>(
     out: &mut Vec<u8, A>,
     file: &File<A>,
@@ -170,7 +171,7 @@ fn put_gaps<A: Allocator>(
     Ok(())
 }
 
-/// What is in a file.
+/// Everything that `show` prints.
 fn put_all<A: Allocator + Copy>(
     alloc: A,
     out: &mut Vec<u8, A>,
@@ -186,7 +187,8 @@ fn put_all<A: Allocator + Copy>(
     put_gaps(out, file, clock, &peaks)
 }
 
-/// Prints what is in a file, whose rows were taken at these times, in nanoseconds since the trigger.
+/// Prints what a file contains. The rows were taken at these times, in nanoseconds since the
+/// trigger.
 pub fn show_over<A: Allocator + Copy, W: Write>(
     alloc: A,
     file: &File<A>,

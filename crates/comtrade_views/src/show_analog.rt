@@ -9,10 +9,11 @@ use comtrade_io::{put, put_count, put_number, put_safe, put_signed};
 use dfr_channels::{AnalogChannel, Side};
 use std::alloc::{AllocError, Allocator};
 
-/// The most bytes of a text that a file of the standard holds.
+/// The greatest length in bytes of a text in a file of the standard.
 const LONGEST: usize = 64;
 
-/// A text of the file; of one that is longer than a file of the standard holds, its first bytes and three dots.
+/// A text from the file. One that is longer than the standard allows is cut to its first bytes and
+/// three dots.
 fn put_text_cell<A: Allocator>(table: &mut Vec<u8, A>, text: &[u8]) -> Result<(), AllocError> {
     match text.get(..LONGEST) {
         Some(front) if front.len() < text.len() => {
@@ -24,7 +25,7 @@ fn put_text_cell<A: Allocator>(table: &mut Vec<u8, A>, text: &[u8]) -> Result<()
     end_cell(table)
 }
 
-/// Number from 1, id, phase and component of the channel at this place.
+/// Number from 1, id, phase and component of the channel at this index.
 pub(crate) fn put_names<A: Allocator>(
     table: &mut Vec<u8, A>,
     place: usize,
@@ -65,7 +66,8 @@ fn put_scale<A: Allocator>(
     )
 }
 
-/// A channel's least and greatest value, and when they were; where a is negative that of the greatest sample comes first.
+/// A channel's least and greatest value, and when they occurred. Where a is negative, that of the
+/// greatest sample comes first.
 fn put_extremes<A: Allocator>(
     table: &mut Vec<u8, A>,
     clock: Clock<'_>,
@@ -90,7 +92,7 @@ fn put_extremes<A: Allocator>(
     Ok(())
 }
 
-/// The row of the channel at this place, and how many of its readings are missing.
+/// The row of the channel at this index, with the number of its missing readings.
 fn put_row<A: Allocator>(
     table: &mut Vec<u8, A>,
     clock: Clock<'_>,
@@ -105,7 +107,7 @@ fn put_row<A: Allocator>(
     end_row(table)
 }
 
-/// The table of the analogue channels, which have these peaks, a line of names above them.
+/// The table of the analogue channels, which have these peaks, below a line of column names.
 pub(crate) fn analog_table<A: Allocator + Copy>(
     alloc: A,
     file: &File<A>,

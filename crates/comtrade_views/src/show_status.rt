@@ -9,7 +9,7 @@ use comtrade_io::{put, put_count, put_with};
 use dfr_channels::StatusChannel;
 use std::alloc::{AllocError, Allocator};
 
-/// What stands after the listed ones.
+/// The words after the changes that are listed.
 pub(crate) fn put_more<A: Allocator>(out: &mut Vec<u8, A>, count: u64) -> Result<(), AllocError> {
     if LISTED < count {
         put_with(out, " and ", count.saturating_sub(LISTED))?;
@@ -18,7 +18,7 @@ pub(crate) fn put_more<A: Allocator>(out: &mut Vec<u8, A>, count: u64) -> Result
     Ok(())
 }
 
-/// The first changes of a contact, and how many there are more, up to the end of the row.
+/// The first changes of a status channel, and how many more there are, up to the end of the row.
 fn put_changes<A: Allocator>(
     table: &mut Vec<u8, A>,
     rows: &[Row<A>],
@@ -37,7 +37,7 @@ fn put_changes<A: Allocator>(
     end_row(table)
 }
 
-/// The row of a contact that changes so: its names, its normal bit, that in the first row, its changes.
+/// The row of a status channel: its names, its normal bit, the bit in the first row, its changes.
 fn put_contact<A: Allocator>(
     table: &mut Vec<u8, A>,
     file: &File<A>,
@@ -58,7 +58,7 @@ fn put_contact<A: Allocator>(
 /// The columns of the table.
 const NAMES: &str = "n\x1Fid\x1Fphase\x1Fcomponent\x1Fnormal\x1Fat first\x1Fchanges\n";
 
-/// The table of contacts, a line of names above them.
+/// The table of status channels, below a line of column names.
 pub(crate) fn contact_table<A: Allocator + Copy>(
     alloc: A,
     file: &File<A>,

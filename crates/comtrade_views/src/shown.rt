@@ -1,4 +1,4 @@
-//! The rows of a record that are measured, and their channels.
+//! The rows of a record that are measured, and the names of its channels.
 
 use crate::cycles::Window;
 use crate::float::{Digits, put_float};
@@ -9,8 +9,8 @@ use dfr_channels::AnalogChannel;
 use std::alloc::{AllocError, Allocator};
 use std::num::nearest_u64_to_f64;
 
-/// The rows of a record that are shown: when they were taken, in nanoseconds since the trigger, and the index from 0 of the first of them;
-/// whether as JSON, with all digits.
+/// The rows that are shown: when they were taken, in nanoseconds since the trigger; the index, from
+/// 0, of the first of them; whether as JSON, with all digits.
 #[derive(Clone, Copy)]
 pub struct Shown<'a> {
     pub times: &'a [Option<i64>],
@@ -26,7 +26,7 @@ impl<'a> Shown<'a> {
         }
     }
 
-    /// How many digits a value has, beside another one.
+    /// The number of digits of a value shown next to another one.
     pub(crate) fn digits(self, beside: f64) -> Digits {
         if self.json {
             Digits::All
@@ -43,7 +43,7 @@ impl<'a> Shown<'a> {
     }
 }
 
-/// The rows of a cycle, to six digits.
+/// The rows per cycle, to six digits.
 pub(crate) fn put_cycle<A: Allocator>(
     out: &mut Vec<u8, A>,
     window: Window,
@@ -57,7 +57,7 @@ pub(crate) fn put_cycle<A: Allocator>(
     put(out, " rows a cycle\n")
 }
 
-/// The names of a channel: number, id and phase.
+/// The cells that name a channel: number, id, phase and unit.
 pub(crate) fn put_channel<A: Allocator>(
     table: &mut Vec<u8, A>,
     place: usize,

@@ -1,6 +1,6 @@
-//! How tables of values are spelled.
+//! How tables of values are written.
 
-/// What separates the cells of a table, and what stands before the places of a number.
+/// The separator of cells, and the decimal sign.
 #[derive(Clone, Copy, Debug, PartialEq, Eq)]
 pub struct Spelling {
     pub separator: u8,
@@ -8,8 +8,8 @@ pub struct Spelling {
 }
 
 impl Spelling {
-    /// The spelling with what words ask for: a separator of one printable character or `tab`, a decimal point or a comma; none where they ask
-    /// for something else, or for one sign in both places.
+    /// The spelling that a user asks for: one printable character or `tab` as separator, a point or
+    /// a comma as decimal sign; None for anything else, or for the same sign as both.
     pub fn of(separator: Option<&str>, decimal: Option<&str>) -> Option<Spelling> {
         let separator = match separator.unwrap_or(",").as_bytes() {
             b"tab" => b'\t',
@@ -28,7 +28,7 @@ impl Spelling {
     }
 }
 
-/// A printable character that stands in no number and isn't a quotation mark.
+/// A printable character that cannot be part of a number and is not a quotation mark.
 fn is_sign(b: u8) -> bool {
     33 <= b && b <= 126 && !b.is_ascii_alphanumeric() && b != b'"' && b != b'-'
 }

@@ -17,15 +17,15 @@ const NAMES: &str =
 /// A record in one line, or why it has none.
 #[derive(Debug, Drop)]
 pub struct Summary<A: Allocator = Global> {
-    /// The trigger, in microseconds since 1970-01-01 00:00:00; none of a pair with a fault.
+    /// The trigger, in microseconds since 1970-01-01 00:00:00; None for a pair that cannot be read.
     pub(crate) trigger: Option<i64>,
     /// The name of the pair.
     pub(crate) name: Vec<u8, A>,
-    /// The cells after the instant, or the fault's line.
+    /// The cells after the instant, or the line of the error.
     pub(crate) text: Vec<u8, A>,
 }
 
-/// How long the rows last.
+/// How long the record is.
 fn put_length<A: Allocator + Copy>(text: &mut Vec<u8, A>, file: &File<A>) -> Result<(), ToolFault> {
     let times = times_of(*text.allocator(), file)?;
     if let (Some(Some(first)), Some(Some(last))) = (times.first(), times.last()) {
@@ -35,7 +35,7 @@ fn put_length<A: Allocator + Copy>(text: &mut Vec<u8, A>, file: &File<A>) -> Res
     Ok(())
 }
 
-/// How many channels there are, and how many contacts change.
+/// How many channels there are, and how many status channels change.
 fn put_channels<A: Allocator + Copy>(
     text: &mut Vec<u8, A>,
     file: &File<A>,
@@ -67,7 +67,8 @@ fn put_current<A: Allocator + Copy>(
     Ok(())
 }
 
-/// The cells of a record after its instant. It has no rate where stamps alone say when rows were taken.
+/// The cells of a record after its instant. Its rate is `-` where only stamps give the times of
+/// rows.
 fn put_cells<A: Allocator + Copy>(text: &mut Vec<u8, A>, file: &File<A>) -> Result<(), ToolFault> {
     put_length(text, file)?;
     match file.head.rates.items().first() {
@@ -98,7 +99,7 @@ pub fn summary_of<A: Allocator + Copy>(
     })
 }
 
-/// The line of a pair that has none: why.
+/// The line of a pair that cannot be read: the error.
 pub fn fault_summary<A: Allocator + Copy>(
     alloc: A,
     fault: Vec<u8, A>,
@@ -111,7 +112,7 @@ pub fn fault_summary<A: Allocator + Copy>(
     })
 }
 
-/// Brings the records into the order of their triggers, those with a fault after all others.
+/// Sorts the records by their triggers; those that cannot be read come last.
 pub fn sort_summaries<A: Allocator + Copy>(
     records: &mut Vec<Summary<A>, A>,
 ) -> Result<(), ToolFault> {
@@ -134,7 +135,7 @@ fn put_summary<A: Allocator>(
     end_row(table)
 }
 
-/// The table of the records without a fault, a line of names above them.
+/// The table of the records that can be read, below a line of column names.
 pub(crate) fn summary_table<A: Allocator + Copy>(
     alloc: A,
     records: &[Summary<A>],
@@ -146,7 +147,7 @@ pub(crate) fn summary_table<A: Allocator + Copy>(
     Ok(table)
 }
 
-/// The faults of records, and how many records and faults there are.
+/// The errors of records, then the number of records and of those with errors.
 fn put_faults<A: Allocator>(
     out: &mut Vec<u8, A>,
     records: &[Summary<A>],
@@ -160,10 +161,10 @@ fn put_faults<A: Allocator>(
     }
     put_count(out, records.len() as u64, " pair, ", " pairs, ")?;
     put_number(out, faulty)?;
-    put(out, " of them with a fault\n")
+    put(out, " with errors\n")
 }
 
-/// The table of records, then the faults, then how many there are.
+/// The table of records, then the errors, then how many there are.
 pub fn put_summaries<A: Allocator + Copy>(
     alloc: A,
     out: &mut Vec<u8, A>,

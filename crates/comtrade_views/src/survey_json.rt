@@ -7,16 +7,16 @@ use crate::summary::{Summary, summary_table};
 use comtrade_io::{ToolFault, put};
 use std::alloc::{AllocError, Global};
 
-/// An event of one record.
+/// The members of an event of one record.
 const ONE: &str = "instant ms# since_before_ms# what";
 
-/// An event of several records.
+/// The members of an event of several records.
 const MANY: &str = "instant ms# since_before_ms# record what";
 
-/// A record.
+/// The members of a record.
 const RECORD: &str = "trigger ms# rate# channels changed# greatest_current station device record";
 
-/// The events of the records with these names, as an object of JSON.
+/// The events of the records with these names, as a JSON object.
 pub fn put_events_json(
     alloc: Global,
     out: &mut Vec<u8>,
@@ -30,7 +30,7 @@ pub fn put_events_json(
     Ok(())
 }
 
-/// The faults of the records that can't be read.
+/// The errors of the records that cannot be read.
 fn put_faults(alloc: Global, out: &mut Vec<u8>, records: &[Summary]) -> Result<(), AllocError> {
     put(out, ",\"faults\":[")?;
     let mut before = "{\"record\":";
@@ -47,7 +47,8 @@ fn put_faults(alloc: Global, out: &mut Vec<u8>, records: &[Summary]) -> Result<(
     put(out, "]}\n")
 }
 
-/// Records as an object of JSON: those that can be read, and the faults of the others with the names of their pairs.
+/// Records as a JSON object: those that can be read, and the errors of the others with the names of
+/// their pairs.
 pub fn put_summaries_json(
     alloc: Global,
     out: &mut Vec<u8>,

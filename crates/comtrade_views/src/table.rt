@@ -3,10 +3,10 @@
 use comtrade_io::{put, put_number, put_safe};
 use std::alloc::{AllocError, Allocator};
 
-/// Ends a cell; texts of a file hold no such byte once they are printable.
+/// Ends a cell. Printable texts of a file contain no such byte.
 pub(crate) const CELL: u8 = 0x1F;
 
-/// A table that has the names of its columns so far.
+/// A table that so far has only its column names.
 pub(crate) fn table_of<A: Allocator>(alloc: A, names: &str) -> Result<Vec<u8, A>, AllocError> {
     let mut table = Vec::new(alloc);
     put(&mut table, names)?;
@@ -21,13 +21,13 @@ pub(crate) fn end_row<A: Allocator>(table: &mut Vec<u8, A>) -> Result<(), AllocE
     table.extend_from_slice(b"\n")
 }
 
-/// A cell of plain text.
+/// Adds a cell of plain text.
 pub(crate) fn put_cell<A: Allocator>(table: &mut Vec<u8, A>, text: &str) -> Result<(), AllocError> {
     put(table, text)?;
     end_cell(table)
 }
 
-/// A cell of a text of the file.
+/// Adds a cell with a text from the file.
 pub(crate) fn put_safe_cell<A: Allocator>(
     table: &mut Vec<u8, A>,
     text: &[u8],
@@ -36,7 +36,7 @@ pub(crate) fn put_safe_cell<A: Allocator>(
     end_cell(table)
 }
 
-/// A cell of a number.
+/// Adds a cell with a number.
 pub(crate) fn put_number_cell<A: Allocator>(
     table: &mut Vec<u8, A>,
     n: u64,
@@ -45,7 +45,7 @@ pub(crate) fn put_number_cell<A: Allocator>(
     end_cell(table)
 }
 
-/// Makes a column at least so wide.
+/// Makes a column at least this wide.
 fn widen<A: Allocator>(
     widths: &mut Vec<usize, A>,
     column: usize,
@@ -59,23 +59,24 @@ fn widen<A: Allocator>(
     Ok(())
 }
 
-/// The widest that a column gets: a longer cell, which the standard allows in no field, moves its own row alone.
+/// The greatest width of a column. A longer cell, which no field of the standard allows, shifts
+/// only its own row.
 const WIDEST: usize = 64;
 
-/// Where a byte stands: its column, and how many characters of the cell are before it.
+/// The position of a byte: its column, and the number of characters of the cell before it.
 #[derive(Clone, Copy)]
 struct Spot {
     column: usize,
     width: usize,
 }
 
-/// Where a row begins.
+/// The start of a row.
 const BEGIN: Spot = Spot {
     column: 0,
     width: 0,
 };
 
-/// The spot after a byte.
+/// The position after a byte.
 fn after(spot: Spot, b: u8) -> Spot {
     match b {
         CELL => Spot {
@@ -92,7 +93,7 @@ fn after(spot: Spot, b: u8) -> Spot {
     }
 }
 
-/// How wide each column is: as wide as its widest cell.
+/// The width of each column: that of its widest cell.
 fn widths_of<A: Allocator>(alloc: A, table: &[u8]) -> Result<Vec<usize, A>, AllocError> {
     let mut widths = Vec::new(alloc);
     let mut spot = BEGIN;
@@ -105,7 +106,7 @@ fn widths_of<A: Allocator>(alloc: A, table: &[u8]) -> Result<Vec<usize, A>, Allo
     Ok(widths)
 }
 
-/// How many blanks stand before the next character after a byte, where so many stood before this one.
+/// The number of blanks before the next character after a byte, given the number before this one.
 fn blanks_after(widths: &[usize], spot: Spot, blanks: usize, b: u8) -> usize {
     if b == b'\n' {
         return 2;
@@ -117,7 +118,7 @@ fn blanks_after(widths: &[usize], spot: Spot, blanks: usize, b: u8) -> usize {
     blanks.saturating_add(wanted.saturating_sub(spot.width).saturating_add(2))
 }
 
-/// A table with columns of these widths: blanks before each character, and none at a line's end.
+/// A table with columns of these widths, padded with blanks, with none at the end of a line.
 fn put_columns<A: Allocator>(
     out: &mut Vec<u8, A>,
     table: &[u8],
@@ -139,7 +140,7 @@ fn put_columns<A: Allocator>(
     Ok(())
 }
 
-/// A table with its columns below one another, two blanks between them and none at a line's end.
+/// A table with aligned columns, two blanks between them and none at the end of a line.
 pub(crate) fn put_table<A: Allocator + Copy>(
     out: &mut Vec<u8, A>,
     table: &[u8],

@@ -4,8 +4,8 @@ use comtrade_format::{File, clock_of};
 use comtrade_io::ToolFault;
 use std::alloc::Allocator;
 
-/// When each row was taken, in nanoseconds since the instant of the first: by the rates where the file says them, else by its stamp. None
-/// where neither says it, and beyond 292 years.
+/// When each row was taken, in nanoseconds since the first row: by the rates if the file has any,
+/// else by its stamp. None where neither gives it, and beyond 292 years.
 pub(crate) fn times_of<A: Allocator + Copy>(
     alloc: A,
     file: &File<A>,
@@ -22,12 +22,13 @@ pub(crate) fn times_of<A: Allocator + Copy>(
     Ok(times)
 }
 
-/// When the trigger was, in nanoseconds since the instant of the first row.
+/// When the trigger was, in nanoseconds since the first row.
 pub(crate) fn trigger_since_first<A: Allocator>(file: &File<A>) -> i128 {
     (file.head.trigger as i128 - file.head.first as i128) * 1000
 }
 
-/// When each row was taken, in nanoseconds since the trigger; none where nothing says it, and beyond 292 years.
+/// When each row was taken, in nanoseconds since the trigger; None where that is not known, and
+/// beyond 292 years.
 pub fn times_since_trigger<A: Allocator + Copy>(
     alloc: A,
     file: &File<A>,

@@ -5,7 +5,7 @@ use comtrade_format::{AlignedScale, LONGEST_VALUE, aligned_scale_of};
 use dfr_channels::{AnalogChannel, Reading};
 use std::alloc::{AllocError, Allocator};
 
-/// How the channels' samples are scaled, where their values have few digits, and room for the cells of a row.
+/// The scales of the channels whose values have few digits, and room for the cells of a row.
 #[derive(Drop)]
 pub(crate) struct ValueCells<A: Allocator> {
     scales: Vec<Option<AlignedScale>, A>,
@@ -32,7 +32,7 @@ pub(crate) fn value_cells_of<A: Allocator + Copy>(
     })
 }
 
-/// Spells the number of a cell with this sign before its places.
+/// Replaces the decimal sign of a cell's number by this one.
 pub(crate) fn set_decimal_sign(cell: &mut [u8], sign: u8) {
     for b in cell.iter_mut() {
         if *b == b'.' {
@@ -41,8 +41,8 @@ pub(crate) fn set_decimal_sign(cell: &mut [u8], sign: u8) {
     }
 }
 
-/// Writes a separator and a value, nothing for a missing one, from the place on, and answers the place after them; None where the value has
-/// many digits.
+/// Writes a separator and a value (nothing for a missing one) from an index on, and returns the
+/// index after them; None where the value has many digits.
 fn write_cell(
     cells: &mut [u8],
     at: usize,
@@ -63,7 +63,7 @@ fn write_cell(
 }
 
 impl<A: Allocator> ValueCells<A> {
-    /// The cells of these values, each after a separator; None where one has many digits.
+    /// The cells of these values, each after a separator; None where a value has many digits.
     pub(crate) fn of(&mut self, readings: &[Reading]) -> Option<&[u8]> {
         if self.scales.len() != readings.len() {
             return None;

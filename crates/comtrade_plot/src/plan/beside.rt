@@ -1,4 +1,4 @@
-//! Which row of a record stands beside a time of another.
+//! Which row of one record goes with a time of another.
 
 ghost use Rattle.std.specs.Prelude.{◌≡◌, IfOk};
 ghost use Rattle.std.specs.List.{AllZip};
@@ -7,7 +7,7 @@ ghost use Rattle.comtrade_plot.specs.Beside.{IsBeside, StandsBeside};
 use crate::plan::course::Moment;
 use std::alloc::{AllocError, Allocator};
 
-/// The place of the last moment that isn't after a time; None where all are after it.
+/// The index of the last moment that is not after a time; None where all are after it.
 pub fn place_of(moments: &[Moment], time: i64) -> Option<usize>
     ensures { StandsBeside moments.now time result }
 {
@@ -28,7 +28,7 @@ pub fn place_of(moments: &[Moment], time: i64) -> Option<usize>
     Some(low)
 }
 
-/// The same of a row that may have no time.
+/// The same for a row that may have no time.
 fn place_beside(moments: &[Moment], time: Option<i64>) -> Option<usize>
     ensures { IsBeside moments.now time result }
 {
@@ -38,7 +38,7 @@ fn place_beside(moments: &[Moment], time: Option<i64>) -> Option<usize>
     }
 }
 
-/// Of each row of one record the place of the other's last moment that isn't after it.
+/// For each row of one record, the index of the other's last moment that is not after it.
 pub fn places_of<A: Allocator>(
     alloc: A,
     moments: &[Moment],

@@ -23,7 +23,7 @@ fn is_next(moments: &[Moment], time: i64) -> bool
     }
 }
 
-/// The rows that have a time, each later than those before it: a row that isn't is left out.
+/// The rows that have a time, each later than those before it; a row that is not later is left out.
 pub fn course_of<A: Allocator>(
     alloc: A,
     times: &[Option<i64>],

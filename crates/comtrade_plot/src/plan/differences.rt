@@ -1,10 +1,11 @@
-//! How far the values of one channel are from those of another.
+//! How much the values of one channel differ from those of another.
 
 ghost use Rattle.std.specs.Prelude.{◌≡◌, ◌<◌, ◌+◌, ◌⊎◌, ◌^◌};
 
 use std::num::{nearest_i64_to_f64, nearest_u64_to_f64};
 
-/// The differences of two channels: how many were taken, the one that is farthest from 0, when that was, and the sum of their squares.
+/// The differences of two channels: their number, the one farthest from 0, its time, and the sum of
+/// their squares.
 #[derive(Clone, Copy, Debug)]
 pub struct Differences {
     pub count: u64,
@@ -14,7 +15,7 @@ pub struct Differences {
 }
 
 impl Differences {
-    /// None.
+    /// No differences.
     pub fn none() -> Differences
         ensures { result.count ≡ 0 }
     {
@@ -26,7 +27,8 @@ impl Differences {
         }
     }
 
-    /// With the difference at a time more; of equal ones the first stays the greatest.
+    /// Adds the difference at a time. Of differences of the same size, the first one stays the
+    /// greatest.
     pub fn with(self, time: i64, difference: f64) -> Differences
         ensures count { self.count + 1 < 2 ^ 64 → result.count ≡ self.count + 1 }
         ensures first { self.count ≡ 0 → (result.greatest ≡ difference) × (result.time ≡ time) }
@@ -46,7 +48,7 @@ impl Differences {
         }
     }
 
-    /// The root of the mean of the squares, where there is one at least.
+    /// The root of the mean of the squares; None without a difference.
     pub fn rms(self) -> Option<f64> {
         if self.count == 0 {
             return None;

@@ -1,4 +1,4 @@
-//! Which channels of two records are the same.
+//! Which channels of two records match.
 
 ghost use Rattle.std.specs.Prelude.{◌↔◌, IfOk, IsTrue, Some};
 ghost use Rattle.std.specs.List.{AllZip};
@@ -7,14 +7,15 @@ ghost use Rattle.comtrade_plot.specs.Equal.{AgreeIn, AreEqual, IsPartner};
 use dfr_channels::AnalogChannel;
 use std::alloc::{AllocError, Allocator};
 
-/// Whether two texts say the same, or one of them says nothing.
+/// Whether two texts are equal, or one of them is empty.
 fn agree_in(one: &[u8], other: &[u8]) -> bool
     ensures { IsTrue result ↔ AgreeIn one.now other.now }
 {
     one.is_empty() || other.is_empty() || one == other
 }
 
-/// Whether two channels have one name, unit and side, and their phases and components agree where both are given.
+/// Whether two channels have the same name, unit and side, and their phases and components agree
+/// where both are given.
 pub fn is_equal<A: Allocator>(one: &AnalogChannel<A>, other: &AnalogChannel<A>) -> bool
     ensures { IsTrue result ↔ AreEqual one.now other.now }
 {
@@ -25,7 +26,7 @@ pub fn is_equal<A: Allocator>(one: &AnalogChannel<A>, other: &AnalogChannel<A>) 
         && agree_in(one.component.items(), other.component.items())
 }
 
-/// Whether the channel at this place is equal, and nobody's partner yet.
+/// Whether the channel at this index matches and is not yet a partner.
 fn is_free<A: Allocator>(
     one: &AnalogChannel<A>,
     others: &[AnalogChannel<A>],
@@ -40,7 +41,7 @@ fn is_free<A: Allocator>(
     is_equal(one, &others[place])
 }
 
-/// The first equal channel that is nobody's partner yet.
+/// The first matching channel that is not yet a partner.
 fn partner_of<A: Allocator>(
     one: &AnalogChannel<A>,
     others: &[AnalogChannel<A>],
@@ -56,7 +57,8 @@ fn partner_of<A: Allocator>(
     None
 }
 
-/// Of each channel of one record the place of its partner in the other: of equal names the first goes with the first.
+/// The index of each channel's partner in the other record. Of channels with the same name, the
+/// first goes with the first.
 pub fn partners_of<A: Allocator + Copy>(
     alloc: A,
     ones: &[AnalogChannel<A>],

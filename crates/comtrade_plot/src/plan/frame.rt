@@ -1,10 +1,10 @@
-//! Where times and values stand in the picture, in tenths of a pixel.
+//! The positions of times and values in the picture, in tenths of a pixel.
 
 ghost use Rattle.std.specs.Prelude.{◌≡◌, ◌≤◌, ◌+◌, ◌≤ℤ◌, ◌↔◌, IsTrue};
 
 use std::num::{nearest_i64_to_f64, nearest_u64_to_f64, saturating_f64_to_u32};
 
-/// Where panels begin and end, and how wide they and the picture are.
+/// The left and right edges of panels, and the widths of panels and picture.
 pub const LEFT: u32 = 760;
 
 pub const RIGHT: u32 = 9160;
@@ -28,12 +28,12 @@ impl Frame {
         self.from <= time && time <= self.to
     }
 
-    /// How long it lasts; where that has no number of 64 bits with a sign, the nearest one.
+    /// Its duration; the nearest number where it is not a signed number of 64 bits.
     pub fn span(self) -> u64 {
         self.to.saturating_sub(self.from).unsigned_abs()
     }
 
-    /// Where a time stands: within the panels, also where it isn't drawn.
+    /// The position of a time: within the panels, also where it is not drawn.
     pub fn across(self, time: i64) -> u32
         ensures left { 760 ≤ result }
         ensures right { result ≤ 9160 }
@@ -54,7 +54,7 @@ pub struct Panel {
 }
 
 impl Panel {
-    /// Where a value stands: within the panel, whatever the value.
+    /// The position of a value: within the panel, whatever the value.
     pub fn level(self, value: f64) -> u32
         ensures top { self.top ≤ result }
         ensures bottom { result ≤ self.top + self.height }

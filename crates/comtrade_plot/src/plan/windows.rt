@@ -4,7 +4,7 @@ ghost use Rattle.std.specs.Prelude.{◌≡◌, ◌≤ℤ◌, ◌⊎◌, IfSome, 
 
 use crate::plan::frame::Frame;
 
-/// A record that lasts longer than so many cycles is drawn around its trigger alone.
+/// A record of more than this many cycles is drawn only around its trigger.
 const LONG: i64 = 100;
 
 /// How many cycles are drawn before the trigger, and after it.
@@ -12,12 +12,13 @@ const BEFORE: i64 = 10;
 
 const AFTER: i64 = 30;
 
-/// How many cycles after the trigger a contact's change still belongs to the fault, and how many are drawn after the last one.
+/// How many cycles after the trigger a change of a status channel still belongs to the fault, and
+/// how many are drawn after the last change.
 const FAULT: i64 = 60;
 
 const ENDING: i64 = 5;
 
-/// The last change of a contact that belongs to the fault: the one so far, or a later one.
+/// The last change of a status channel that belongs to the fault: the one so far, or a later one.
 pub fn later_change(last: i64, change: i64, cycle: i64) -> i64
     ensures one { (result ≡ last) ⊎ (result ≡ change) }
     ensures later { last ≤ℤ result }
@@ -48,8 +49,9 @@ fn last_drawn(end: i64, cycle: i64, change: i64) -> i64
     cycle.saturating_mul(AFTER).max(after_change).clamp(0, end)
 }
 
-/// The times that are drawn of a record around its trigger, which is at 0, where they are a small part of the record: `change`
-/// is when the last contact changed that belongs to the fault. They are part of the record, and the trigger is among them.
+/// The times that are drawn of a record around its trigger, which is at 0, where they are a small
+/// part of the record. `change` is when the last status channel changed that belongs to the fault.
+/// The times are part of the record, and the trigger is among them.
 pub fn window_of(whole: Frame, cycle: i64, change: i64) -> Option<Frame>
     ensures first { IfSome result (λ w. (whole.from ≤ℤ w.from) × (w.from ≤ℤ pos 0)) }
     ensures last { IfSome result (λ w. (pos 0 ≤ℤ w.to) × (w.to ≤ℤ whole.to)) }

@@ -1,5 +1,6 @@
-//! Where currents left their earlier course. The rows of a long record lie far apart in memory, so all currents are followed in one look over
-//! them, after one that finds how great they are.
+//! Fault inception: where a current first departs from its earlier waveform. The rows of a long
+//! record lie far apart in memory, so all currents are followed in one pass over them, after a
+//! first pass that finds how large they are.
 
 use crate::cycles::fault::MeasureFault;
 use crate::cycles::readings::value_in;
@@ -9,20 +10,21 @@ use dfr_channels::AnalogChannel;
 use std::alloc::Allocator;
 use std::num::nearest_usize_to_f64;
 
-/// Where a current first left its earlier course.
+/// Where a current first departs from its earlier waveform.
 #[derive(Clone, Copy, Debug)]
 pub struct Course {
     /// The index of the row.
     pub row: usize,
     /// The rms value of the cycle before it.
     pub before: f64,
-    /// Of how many rows from it on the cycle that ends there has more than twice that rms value, and more than the bound.
+    /// The number of rows from it on at which the cycle that ends there has more than twice that
+    /// rms value, and more than the bound.
     pub rows_above: u64,
-    /// The greatest rms value of a cycle that ends at it or after it.
+    /// The greatest rms value of a cycle that ends at that row or after it.
     pub greatest: f64,
 }
 
-/// What a current did.
+/// What was found of a current.
 #[derive(Clone, Copy, Debug)]
 pub enum Outcome {
     /// A reading is missing.
@@ -31,14 +33,14 @@ pub enum Outcome {
     Leaves(Course),
 }
 
-/// What the current of a channel, counted from 0, did.
+/// What was found of the current of a channel, whose index is counted from 0.
 #[derive(Clone, Copy, Debug)]
 pub struct Followed {
     pub place: usize,
     pub outcome: Outcome,
 }
 
-/// Whether a channel's unit is that of currents: A with or without a prefix.
+/// Whether a channel's unit is that of a current: A, with or without a prefix.
 pub fn is_current<A: Allocator>(channel: &AnalogChannel<A>) -> bool {
     matches!(
         channel.unit.items(),
@@ -46,12 +48,12 @@ pub fn is_current<A: Allocator>(channel: &AnalogChannel<A>) -> bool {
     )
 }
 
-/// A cycle: its whole rows, and the part of a row that it has over them.
+/// A cycle: its whole rows, and the remaining fraction of a row.
 #[derive(Clone, Copy)]
 struct Length {
     rows: usize,
     part: f64,
-    /// Both together.
+    /// The sum of both.
     all: f64,
 }
 
@@ -75,7 +77,8 @@ impl Length {
         }
     }
 
-    /// The value a cycle before a row, on the straight line between the two rows next to that instant.
+    /// The value one cycle before a row, interpolated linearly between the two rows next to that
+    /// instant.
     fn earlier(self, near: f64, far: f64) -> f64 {
         if 0.0 < self.part {
             near * (1.0 - self.part) + far * self.part
@@ -84,7 +87,8 @@ impl Length {
         }
     }
 
-    /// The mean square of a cycle, of the sum of squares of its whole rows and the value of the row of which it has a part.
+    /// The mean square of a cycle, from the sum of squares of its whole rows and the value of the
+    /// row of which it has a fraction.
     fn mean_square(self, sum: f64, value: f64) -> f64 {
         let rest = if 0.0 < self.part {
             value * value * self.part
@@ -95,7 +99,7 @@ impl Length {
     }
 }
 
-/// A row, and the two next to the instant a cycle before it, where they are in the record.
+/// A row, and the two rows next to the instant one cycle before it, if they are in the record.
 #[derive(Drop)]
 struct Place<'a, A: Allocator> {
     row: usize,
@@ -104,21 +108,21 @@ struct Place<'a, A: Allocator> {
     far: Option<&'a Row<A>>,
 }
 
-/// A current on its way over the rows.
+/// A current that is followed over the rows.
 #[derive(Clone, Copy)]
 struct Current {
     place: usize,
     scale: Scale,
     is_missing: bool,
-    /// The greatest size in the first cycle, and of all.
+    /// The greatest magnitude in the first cycle, and in all rows.
     begun: f64,
     greatest: f64,
-    /// By more than this its value differs from that a cycle before where it leaves its course.
+    /// The current departs where its value differs by more than this from that of one cycle before.
     bound: f64,
     /// The sum of squares of the last cycle's whole rows, and the mean square of the cycle before.
     sum: f64,
     before: f64,
-    /// Where it left its course, with mean squares in place of rms values.
+    /// Where it departed from its waveform, with mean squares in place of rms values.
     left: Option<Course>,
 }
 
@@ -137,7 +141,7 @@ impl Current {
         }
     }
 
-    /// Notes how great it is in a row.
+    /// Records its magnitude in a row.
     fn look<A: Allocator>(&mut self, row: &Row<A>, is_begun: bool) {
         let Some(value) = value_in(row, self.place, self.scale) else {
             self.is_missing = true;
@@ -150,14 +154,15 @@ impl Current {
         }
     }
 
-    /// Sets the bound: a quarter of the greatest size in the first cycle, a fiftieth of the greatest of all, and four steps of the samples.
+    /// Sets the bound: the greatest of a quarter of the greatest magnitude in the first cycle, a
+    /// fiftieth of the greatest of all, and four steps of the samples.
     fn settle(&mut self) {
         self.bound = (self.begun / 4.0)
             .max(self.greatest / 50.0)
             .max(self.scale.a.abs() * 4.0);
     }
 
-    /// Its value in a row; 0 in none.
+    /// Its value in a row; 0 without a row.
     fn value<A: Allocator>(self, row: Option<&Row<A>>) -> f64 {
         match row {
             Some(row) => value_in(row, self.place, self.scale).unwrap_or(0.0),
@@ -165,7 +170,7 @@ impl Current {
         }
     }
 
-    /// Follows it to a row. A cycle is above only where it is over the bound, too.
+    /// Follows it to a row. A cycle counts as above only where it is over the bound, too.
     fn follow<A: Allocator>(&mut self, place: &Place<'_, A>, length: Length) {
         let value = self.value(Some(place.now));
         let near = self.value(place.near);
@@ -223,7 +228,7 @@ fn currents_of<A: Allocator + Copy>(
     Ok(currents)
 }
 
-/// Finds how great the currents are.
+/// Finds how large the currents are.
 fn look_over<A: Allocator>(currents: &mut [Current], rows: &[Row<A>], length: Length) {
     for (row, now) in rows.iter().enumerate() {
         for current in currents.iter_mut() {
@@ -251,7 +256,7 @@ fn follow_over<A: Allocator>(currents: &mut [Current], rows: &[Row<A>], length: 
     }
 }
 
-/// Where the currents first left their earlier course in a whole record.
+/// The fault inception of each current in a whole record.
 pub fn courses_of<A: Allocator + Copy>(
     alloc: A,
     file: &File<A>,

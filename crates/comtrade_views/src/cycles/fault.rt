@@ -1,42 +1,42 @@
-//! Why rows can't be measured.
+//! Why rows cannot be measured.
 
 use comtrade_format::CycleFault;
 use dfr_channels::Memory;
 use std::alloc::AllocError;
 use thiserror::Error;
 
-/// Why rows can't be measured.
+/// Why rows cannot be measured.
 #[derive(Clone, Copy, Debug, PartialEq, Eq, Error)]
 pub enum MeasureFault {
     /// An allocation failed.
     #[error("out of memory")]
     Memory(#[from(alloc)] AllocError),
-    /// The line frequency isn't over 0 (C37.111-1999, 5.3.5).
-    #[error("the configuration file says no line frequency: nothing is measured over its cycles")]
+    /// The line frequency is not above 0 (C37.111-1999, 5.3.5).
+    #[error("the configuration file gives no line frequency, so no cycles can be measured")]
     NoFrequency,
-    /// No rate says when rows were taken (5.3.6).
-    #[error("the configuration file says no rate: nothing is measured over cycles by stamps alone")]
+    /// No rate gives the times of rows (5.3.6).
+    #[error("the configuration file gives no sampling rate: cycles cannot be measured from stamps alone")]
     NoRate,
     /// The rows have more than one rate.
-    #[error("the rows have several rates: a window within one of them can be measured")]
+    #[error("the rows have several rates: choose a window within one of them")]
     ManyRates,
-    /// The rows of a cycle are no quotient of two numbers of 64 bits.
+    /// The rows of a cycle are not a quotient of two numbers of 64 bits.
     #[error("the rate and the line frequency have too many digits")]
     Digits,
-    /// There are fewer than 3 rows a cycle.
-    #[error("the rate gives fewer than 3 rows a cycle")]
+    /// There are fewer than 3 rows per cycle.
+    #[error("the rate gives fewer than 3 rows per cycle")]
     Slow,
-    /// There are fewer than 8 rows a cycle.
-    #[error("the rate gives fewer than 8 rows a cycle: too few to see where currents left their course")]
+    /// There are fewer than 8 rows per cycle.
+    #[error("the rate gives fewer than 8 rows per cycle: too few to find the fault inception")]
     Coarse,
     /// There are this many rows, and a cycle has more.
-    #[error("the rows of one rate are {0}, and a whole cycle has {1}")]
+    #[error("too few rows at one rate: {0}; a whole cycle has {1}")]
     Short(u64, u64),
-    /// No channel that was measured is called so, or has this number.
-    #[error("no analogue channel is called as the reference is")]
+    /// No measured channel has this name or number.
+    #[error("no analogue channel has the name or number of the reference")]
     NoReference,
     /// The reference has no angle.
-    #[error("the reference has no angle: a reading is missing, or it has no part at the line frequency")]
+    #[error("the reference has no angle: a reading is missing, or it has no fundamental")]
     NoAngle,
 }
 

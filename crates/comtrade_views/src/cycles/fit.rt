@@ -1,4 +1,4 @@
-//! The channels of a file over a window's whole cycles.
+//! Measures the channels of a file over a window's whole cycles.
 
 use crate::cycles::fault::MeasureFault;
 use crate::cycles::matrix::{Matrix, at, zeros};
@@ -12,16 +12,17 @@ use std::alloc::{Allocator, Global};
 use std::f64::consts::{SQRT_2, TAU};
 use std::num::nearest_usize_to_f64;
 
-/// A channel over whole cycles, in its unit.
+/// What was measured of a channel over whole cycles, in its unit.
 #[derive(Debug, Drop)]
 pub struct Measured<A: Allocator = Global> {
     /// The square root of the mean square.
     pub rms: f64,
-    /// The rms value and the angle at the line frequency; the angle is that of a cosine, at the window's first row.
+    /// The rms value and the angle of the fundamental; the angle is that of a cosine at the
+    /// window's first row.
     pub phasor: Phasor,
-    /// The dc part.
+    /// The dc component.
     pub dc: f64,
-    /// The value farthest from 0, the first of those, and the index of its row.
+    /// The value farthest from 0 (the first one, if several are equal), and the index of its row.
     pub peak: f64,
     pub peak_row: usize,
     /// The rms values of the orders 1, 2, .., at most 25 and less than half the rows of a cycle.
@@ -29,13 +30,13 @@ pub struct Measured<A: Allocator = Global> {
 }
 
 impl<A: Allocator> Measured<A> {
-    /// Whether the part at the line frequency is over a 10^9th of the peak: else its angle says nothing.
+    /// Whether the fundamental exceeds a 10^9th of the peak; else its angle is meaningless.
     pub fn has_angle(&self) -> bool {
         self.peak.abs() * 1e-9 < self.phasor.magnitude()
     }
 }
 
-/// What was measured of the channel at this place, where its readings are there.
+/// What was measured of the channel at this index, if it has all its readings.
 pub fn measured_at<A: Allocator>(
     measures: &[Option<Measured<A>>],
     place: usize,
@@ -46,7 +47,7 @@ pub fn measured_at<A: Allocator>(
     }
 }
 
-/// What a channel's rows come to.
+/// The totals of a channel's rows.
 #[derive(Drop)]
 struct Totals<A: Allocator> {
     sums: Vec<f64, A>,
@@ -55,7 +56,7 @@ struct Totals<A: Allocator> {
     peak_row: usize,
 }
 
-/// The totals of a channel's rows; none where a reading is missing.
+/// The totals of a channel's rows; None where a reading is missing.
 fn totals_of<A: Allocator + Copy>(
     alloc: A,
     rows: &[Row<A>],
@@ -86,7 +87,7 @@ fn totals_of<A: Allocator + Copy>(
     Ok(Some(totals))
 }
 
-/// The phasor of an order, of the solved equations.
+/// The phasor of an order, from the solved equations.
 fn phasor_at(parts: &[f64], order: usize) -> Phasor {
     let place = place_of(order);
     Phasor {
@@ -95,7 +96,7 @@ fn phasor_at(parts: &[f64], order: usize) -> Phasor {
     }
 }
 
-/// What totals say of a channel.
+/// The measured values that follow from totals.
 fn measured_of<A: Allocator + Copy>(
     alloc: A,
     matrix: &Matrix<A>,
@@ -105,7 +106,7 @@ fn measured_of<A: Allocator + Copy>(
     let mut parts = Vec::from_slice(alloc, &totals.sums)?;
     matrix.solve(&mut parts);
     let dc = at(&parts, 0);
-    // the squares that the parts leave
+    // The squares that the components leave.
     let mut rest = totals.squares;
     for (i, sum) in totals.sums.iter().enumerate() {
         rest -= sum * at(&parts, i);
@@ -127,7 +128,7 @@ fn measured_of<A: Allocator + Copy>(
     })
 }
 
-/// The phasor by which an angle is turned back, since the channel's samples were taken so much later (C37.111-1999, 5.3.3).
+/// The phasor that corrects an angle for the channel's skew (C37.111-1999, 5.3.3).
 fn skew_of<A: Allocator + Copy>(
     alloc: A,
     channel: &AnalogChannel<A>,
@@ -138,7 +139,7 @@ fn skew_of<A: Allocator + Copy>(
     Ok(Phasor::unit(-(micros * 1e-6 * frequency * TAU)))
 }
 
-/// One channel over a window's rows.
+/// Measures one channel over a window's rows.
 fn measure<A: Allocator + Copy>(
     alloc: A,
     file: &File<A>,
@@ -161,8 +162,9 @@ fn measure<A: Allocator + Copy>(
     Ok(Some(measured))
 }
 
-/// The analogue channels of a file over whole cycles: by least squares, dc part, cosines and sines of the orders; none of a channel of which
-/// a reading is missing there. `Slow`: the rows don't tell the orders apart.
+/// Measures the analogue channels of a file over whole cycles by least squares: the dc component,
+/// and the cosines and sines of the orders. None for a channel with a missing reading. `Slow`: the
+/// rows cannot separate the orders.
 pub fn measures_of<A: Allocator + Copy>(
     alloc: A,
     file: &File<A>,

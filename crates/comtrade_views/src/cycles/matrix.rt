@@ -1,8 +1,8 @@
-//! Square matrices, and the solution of their equations.
+//! Square matrices, and the solution of their linear equations.
 
 use std::alloc::{AllocError, Allocator};
 
-/// A number of a list, or 0 where the list ends before it.
+/// A number of a list; 0 after its end.
 pub(crate) fn at(list: &[f64], place: usize) -> f64 {
     match list.get(place) {
         Some(number) => *number,
@@ -10,7 +10,7 @@ pub(crate) fn at(list: &[f64], place: usize) -> f64 {
     }
 }
 
-/// So many zeros.
+/// This many zeros.
 pub(crate) fn zeros<A: Allocator>(alloc: A, count: usize) -> Result<Vec<f64, A>, AllocError> {
     let mut list = Vec::with_capacity(alloc, count)?;
     for _ in 0..count {
@@ -46,7 +46,7 @@ impl<A: Allocator> Matrix<A> {
         replace(&mut self.cells, place, number);
     }
 
-    /// A cell less the products of both rows in the columns before it.
+    /// A cell minus the products of both rows in the columns before it.
     fn reduced(&self, row: usize, column: usize) -> f64 {
         let mut rest = self.cell(row, column);
         for i in 0..column {
@@ -55,8 +55,9 @@ impl<A: Allocator> Matrix<A> {
         rest
     }
 
-    /// A symmetric matrix, of which only the lower half counts, as a lower triangle times its mirror image (Cholesky); false where the
-    /// equations have no single solution. Each diagonal cell keeps at least this part of what it was.
+    /// Factors a symmetric matrix, of which only the lower half is used, into a lower triangle
+    /// times its transpose (Cholesky). False where the equations have no single solution: each
+    /// diagonal cell must keep at least a 10^10th of its value.
     pub(crate) fn factor(&mut self) -> bool {
         for column in 0..self.side {
             let least = self.cell(column, column) * 1e-10;
@@ -74,7 +75,7 @@ impl<A: Allocator> Matrix<A> {
         true
     }
 
-    /// Solves the equations of a matrix that was factored, in place of their right sides.
+    /// Solves the equations of a factored matrix; the solution replaces the right-hand sides.
     pub(crate) fn solve(&self, sides: &mut [f64]) {
         for row in 0..self.side {
             let mut rest = at(sides, row);

@@ -8,10 +8,10 @@ use std::alloc::{AllocError, Allocator};
 /// The square root of 3, over 2.
 const HALF_ROOT: f64 = 0.8660254037844386;
 
-/// After how many channels the others of three phases aren't looked for.
+/// The other two phases must follow within this many channels.
 const NEAR: usize = 32;
 
-/// The places of three channels of the phases A, B and C.
+/// The indices of three channels of phases A, B and C.
 #[derive(Clone, Copy, Debug, PartialEq, Eq)]
 pub struct Three {
     pub a: usize,
@@ -27,7 +27,7 @@ pub struct Sequence {
     pub zero: Phasor,
 }
 
-/// Which phase a channel is of: 0, 1, 2 of A B C, R S T, 1 2 3, L1 L2 L3, in any case of letters.
+/// The phase of a channel: 0, 1 or 2 for A B C, R S T, 1 2 3 or L1 L2 L3. Case is ignored.
 fn phase_of<A: Allocator>(channel: &AnalogChannel<A>) -> Option<u8> {
     let letter = match trim(channel.phase.items()) {
         [b'L' | b'l', digit] if digit.is_ascii_digit() => *digit,
@@ -42,8 +42,8 @@ fn phase_of<A: Allocator>(channel: &AnalogChannel<A>) -> Option<u8> {
     }
 }
 
-/// The place of the first channel of a phase among these that is of another one's unit, component and side; none where one of the phase A is
-/// before it.
+/// The index of the first of these channels that has this phase and another channel's unit,
+/// component and side; None where one of phase A comes first.
 fn next_of<A: Allocator>(
     channels: &[AnalogChannel<A>],
     one: &AnalogChannel<A>,
@@ -79,8 +79,9 @@ fn three_at<A: Allocator>(channels: &[AnalogChannel<A>], place: usize) -> Option
     })
 }
 
-/// The channels that are three phases: one of the phase A, and the first ones of B and C of its unit, component and side that stand at most 32
-/// channels after it and before the next one of A. `AllocError`: an allocation failed.
+/// The channels that form three phases: one of phase A, and the first ones of B and C with its
+/// unit, component and side, at most 32 channels after it and before the next one of A.
+/// `AllocError`: an allocation failed.
 pub fn threes_of<A: Allocator + Copy>(
     alloc: A,
     channels: &[AnalogChannel<A>],
@@ -94,12 +95,12 @@ pub fn threes_of<A: Allocator + Copy>(
     Ok(threes)
 }
 
-/// The phasor of one channel, where it was measured.
+/// The phasor of one channel, if it was measured.
 pub fn phasor_in<A: Allocator>(measures: &[Option<Measured<A>>], place: usize) -> Option<Phasor> {
     Some(measured_at(measures, place)?.phasor)
 }
 
-/// A third of a + turn * b + turn^2 * c, where turn is 120 degrees ahead or behind.
+/// A third of a + turn * b + turn^2 * c, where turn is 120 degrees, leading or lagging.
 fn third(a: Phasor, b: Phasor, c: Phasor, half_root: f64) -> Phasor {
     let ahead = Phasor {
         re: -0.5,
@@ -114,7 +115,7 @@ fn third(a: Phasor, b: Phasor, c: Phasor, half_root: f64) -> Phasor {
         .scaled(1.0 / 3.0)
 }
 
-/// The sequence components of three phases; none where one of them wasn't measured.
+/// The sequence components of three phases; None where one of them was not measured.
 pub fn sequence_of<A: Allocator>(
     measures: &[Option<Measured<A>>],
     three: Three,

@@ -1,6 +1,6 @@
 //! Phasors: rms magnitudes with angles.
 
-/// A magnitude and an angle, as the two coordinates of a point.
+/// A magnitude and an angle, as the coordinates of a point.
 #[derive(Clone, Copy, Debug)]
 pub struct Phasor {
     pub re: f64,
@@ -8,7 +8,7 @@ pub struct Phasor {
 }
 
 impl Phasor {
-    /// The phasor of a magnitude 1 at an angle in radians.
+    /// The phasor of magnitude 1 at an angle in radians.
     pub(crate) fn unit(angle: f64) -> Phasor {
         Phasor {
             re: angle.cos(),
@@ -41,7 +41,8 @@ impl Phasor {
         self.re.hypot(self.im)
     }
 
-    /// Its angle before that of another one, in degrees over -180 and at most 180.
+    /// Its angle relative to another one, positive when it leads: in degrees, above -180 and at
+    /// most 180.
     pub fn degrees_from(self, other: Phasor) -> f64 {
         let turned = self.times(Phasor {
             re: other.re,

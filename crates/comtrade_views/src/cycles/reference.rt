@@ -1,11 +1,11 @@
-//! The channel from which angles are counted.
+//! The reference channel of angles.
 
 use crate::cycles::fault::MeasureFault;
 use crate::cycles::fit::{Measured, measured_at};
 use comtrade_format::Head;
 use std::alloc::Allocator;
 
-/// Whether the channel at this place was measured, and has an angle.
+/// Whether the channel at this index was measured and has an angle.
 fn has_angle<A: Allocator>(measures: &[Option<Measured<A>>], place: usize) -> bool {
     match measured_at(measures, place) {
         Some(measured) => measured.has_angle(),
@@ -13,7 +13,8 @@ fn has_angle<A: Allocator>(measures: &[Option<Measured<A>>], place: usize) -> bo
     }
 }
 
-/// The place of the first channel with this id, in any case of letters, else that of this number from 1.
+/// The index of the first channel with this id (case is ignored), else of the channel with this
+/// number from 1.
 fn place_of<A: Allocator>(head: &Head<A>, name: &str) -> Option<usize> {
     for (place, channel) in head.analog.items().iter().enumerate() {
         if channel.id.items().eq_ignore_ascii_case(name.as_bytes()) {
@@ -28,8 +29,8 @@ fn place_of<A: Allocator>(head: &Head<A>, name: &str) -> Option<usize> {
     }
 }
 
-/// The channel from which angles are counted: the one that is named, else the first that has an angle, where there is one. `NoReference`: no
-/// channel is called so; `NoAngle`: it has none.
+/// The reference channel of angles: the one that is named, else the first one that has an angle, if
+/// any. `NoReference`: no channel has this name. `NoAngle`: it has no angle.
 pub fn reference_in<A: Allocator>(
     head: &Head<A>,
     measures: &[Option<Measured<A>>],

@@ -1,4 +1,4 @@
-//! Sums over rows, against the cosines and sines of the harmonics.
+//! Sums over rows, weighted by the cosines and sines of the harmonics.
 
 use crate::cycles::matrix::{Matrix, at, zeros};
 use crate::cycles::phasor::Phasor;
@@ -8,7 +8,7 @@ use std::alloc::{AllocError, Allocator};
 use std::f64::consts::TAU;
 use std::num::nearest_u64_to_f64;
 
-/// The angle of the line frequency, row by row, exactly: `at` of `cycle.rows` parts of a turn.
+/// The angle of the fundamental, row by row, exactly: `at` of `cycle.rows` parts of a turn.
 #[derive(Clone, Copy)]
 pub(crate) struct Turning {
     cycle: Cycle,
@@ -47,12 +47,13 @@ fn add_to(list: &mut [f64], place: usize, number: f64) {
     }
 }
 
-/// Where the sum against the cosine of an order stands; that against the sine stands after it. At 0 stands the sum itself.
+/// The index of the sum weighted by the cosine of an order; that by the sine follows it. Index 0
+/// has the plain sum.
 pub(crate) fn place_of(order: usize) -> usize {
     order.saturating_mul(2).saturating_sub(1)
 }
 
-/// Adds a row's value times 1 and times the cosine and the sine of each order.
+/// Adds a row's value, and the value times the cosine and the sine of each order.
 pub(crate) fn add_row(sums: &mut [f64], turn: Phasor, value: f64) {
     add_to(sums, 0, value);
     let mut power = turn;
@@ -64,7 +65,7 @@ pub(crate) fn add_row(sums: &mut [f64], turn: Phasor, value: f64) {
     }
 }
 
-/// The sums of so many orders over a window's rows, each with the value 1.
+/// The sums of this many orders over a window's rows, each with the value 1.
 fn ones<A: Allocator>(alloc: A, window: Window, orders: usize) -> Result<Vec<f64, A>, AllocError> {
     let mut sums = zeros(alloc, orders.saturating_mul(2).saturating_add(1))?;
     let mut turning = Turning::new(window.cycle);
@@ -75,7 +76,7 @@ fn ones<A: Allocator>(alloc: A, window: Window, orders: usize) -> Result<Vec<f64
     Ok(sums)
 }
 
-/// The sum of the cosines of an order, and that of the sines, also of an order below 0.
+/// The sum of the cosines of an order, and that of the sines; the order may be negative.
 fn pair_at(sums: &[f64], order: usize, less: usize) -> Phasor {
     let size = order.abs_diff(less);
     if size == 0 {
@@ -92,7 +93,8 @@ fn pair_at(sums: &[f64], order: usize, less: usize) -> Phasor {
     }
 }
 
-/// The products of two orders' cosines and sines: cos j cos k = (cos (j-k) + cos (j+k)) / 2, and so on.
+/// The products of two orders' cosines and sines: cos j cos k = (cos (j-k) + cos (j+k)) / 2, and so
+/// on.
 fn put_products<A: Allocator>(matrix: &mut Matrix<A>, sums: &[f64], j: usize, k: usize) {
     let less = pair_at(sums, j, k);
     let more = pair_at(sums, j.saturating_add(k), 0);
@@ -104,7 +106,7 @@ fn put_products<A: Allocator>(matrix: &mut Matrix<A>, sums: &[f64], j: usize, k:
     matrix.put(row, right, (more.im - less.im) / 2.0);
 }
 
-/// The matrix of the equations of dc part and orders over a window's rows.
+/// The matrix of the equations for dc and the orders over a window's rows.
 pub(crate) fn equations<A: Allocator + Copy>(
     alloc: A,
     window: Window,

@@ -5,12 +5,12 @@ use comtrade_format::{Cycle, File, Head, cycle_of};
 use dfr_channels::Decimal;
 use std::alloc::Allocator;
 
-/// Whole cycles of rows of one rate, by their indices from 0: from the first one on, and not from the second one on.
+/// Whole cycles of rows of one rate, by their indices from 0: from `from` up to but without `to`.
 #[derive(Clone, Copy, Debug)]
 pub struct Window {
     pub from: usize,
     pub to: usize,
-    /// How many cycles they are.
+    /// The number of cycles.
     pub cycles: u64,
     pub cycle: Cycle,
 }
@@ -19,21 +19,21 @@ pub struct Window {
 const HIGHEST: usize = 25;
 
 impl Window {
-    /// How many orders are measured: those below half the rows of a cycle, at most 25.
+    /// The number of orders that are measured: those below half the rows of a cycle, at most 25.
     pub fn orders(self) -> usize {
         let rows = usize::try_from(self.cycle.rows_in(1)).unwrap_or(usize::MAX);
         (rows.saturating_sub(1) / 2).min(HIGHEST)
     }
 }
 
-/// The last rate that rows of a file have, and the index of its first row.
+/// The last rate that applies to rows of a file, and the index of its first row.
 #[derive(Clone, Copy)]
 struct Stretch {
     rate: Decimal,
     from: usize,
 }
 
-/// The rate of the last of so many rows.
+/// The rate of the last of these rows.
 fn last_stretch<A: Allocator>(head: &Head<A>, rows: usize) -> Result<Stretch, MeasureFault> {
     let mut from = 0usize;
     if head.nrates == 0 {
@@ -52,7 +52,7 @@ fn last_stretch<A: Allocator>(head: &Head<A>, rows: usize) -> Result<Stretch, Me
     Err(MeasureFault::NoRate)
 }
 
-/// The window of so many cycles at most from a row on, or up to a row.
+/// The window of at most this many cycles, from one row on or up to another.
 fn window_of(
     cycle: Cycle,
     from: usize,
@@ -81,8 +81,8 @@ fn window_of(
     })
 }
 
-/// The last whole cycle of a file, at the rate of its last row. `NoFrequency`, `NoRate`, `Digits`, `Slow`: as of `cycle_of`; `Short`: that
-/// rate has fewer rows than a cycle.
+/// The last whole cycle of a file, at the rate of its last row. `NoFrequency`, `NoRate`, `Digits`,
+/// `Slow`: as for `cycle_of`. `Short`: that rate has fewer rows than a cycle.
 pub fn last_cycle<A: Allocator>(file: &File<A>) -> Result<Window, MeasureFault> {
     let rows = file.rows.items().len();
     let stretch = last_stretch(&file.head, rows)?;
@@ -90,7 +90,8 @@ pub fn last_cycle<A: Allocator>(file: &File<A>) -> Result<Window, MeasureFault> 
     window_of(cycle, stretch.from, rows, 1, true)
 }
 
-/// The whole cycles of a file from its first row on. `ManyRates`: its rows have several rates; else as `last_cycle`.
+/// The whole cycles of a file from its first row on. `ManyRates`: its rows have several rates.
+/// Other errors are those of `last_cycle`.
 pub fn whole_cycles<A: Allocator>(file: &File<A>) -> Result<Window, MeasureFault> {
     let rows = file.rows.items().len();
     let stretch = last_stretch(&file.head, rows)?;
@@ -101,7 +102,8 @@ pub fn whole_cycles<A: Allocator>(file: &File<A>) -> Result<Window, MeasureFault
     window_of(cycle, 0, rows, u128::MAX, false)
 }
 
-/// All rows of a file, by whose course currents are judged. `Coarse`: there are fewer than 8 rows a cycle; else as `whole_cycles`.
+/// All rows of a file, to look for the fault inception. `Coarse`: there are fewer than 8 rows per
+/// cycle. Other errors are those of `whole_cycles`.
 pub fn whole_record<A: Allocator>(file: &File<A>) -> Result<Window, MeasureFault> {
     let window = whole_cycles(file)?;
     if window.cycle.rows_in(1) < 8 {

@@ -1,4 +1,4 @@
-//! A record's rows and channels, cut out of it.
+//! Cuts rows and channels out of a record.
 
 use crate::part::names::Channels;
 use crate::part::rows::Rows;
@@ -6,7 +6,7 @@ use comtrade_format::{File, Head, Rate, Row, clock_of};
 use dfr_channels::{AnalogChannel, Items, Memory, StatusChannel, TryClone};
 use std::alloc::Allocator;
 
-/// The items at these places.
+/// The items at these indices.
 fn picked<T: TryClone, A: Allocator + Copy>(
     alloc: A,
     list: &[T],
@@ -21,7 +21,7 @@ fn picked<T: TryClone, A: Allocator + Copy>(
     Ok(Items::of(picked))
 }
 
-/// The same of items that are copied without memory.
+/// The items at these indices, which are copied without memory.
 fn picked_copies<T: Copy, A: Allocator>(
     alloc: A,
     list: &[T],
@@ -32,7 +32,7 @@ fn picked_copies<T: Copy, A: Allocator>(
     Ok(Items::of(picked))
 }
 
-/// The rows with these channels, numbered from 1, with stamps that count from the first one's.
+/// The rows with these channels only, numbered from 1, with stamps relative to the first row.
 fn cut_rows<A: Allocator + Copy>(
     alloc: A,
     rows: &[Row<A>],
@@ -58,7 +58,7 @@ fn cut_rows<A: Allocator + Copy>(
     Ok(Items::of(cut))
 }
 
-/// The rates of the rows, which end with the last of them.
+/// The rates of the rows; the last one ends with the last row.
 fn cut_rates<A: Allocator + Copy>(
     alloc: A,
     rates: &[Rate],
@@ -91,7 +91,7 @@ fn first_instant<A: Allocator>(head: &Head<A>, rows: &[Row<A>], from: usize) -> 
     head.first.saturating_add(micros)
 }
 
-/// What the configuration file says of the part.
+/// The head of the part.
 fn cut_head<A: Allocator + Copy>(
     alloc: A,
     file: &File<A>,
@@ -124,7 +124,7 @@ fn cut_head<A: Allocator + Copy>(
     })
 }
 
-/// A record of these rows and channels: its instants are those of the rows.
+/// A record of these rows and channels, which keep their instants.
 pub(crate) fn cut_of<A: Allocator + Copy>(
     alloc: A,
     file: &File<A>,

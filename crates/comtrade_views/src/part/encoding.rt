@@ -5,7 +5,7 @@ use dfr_channels::{AnalogChannel, Items, StatusChannel};
 use std::alloc::{AllocError, Allocator};
 use std::mem;
 
-/// How texts are spelled.
+/// The encoding of texts.
 #[derive(Clone, Copy, Debug, PartialEq, Eq)]
 pub enum Encoding {
     Utf8,
@@ -13,7 +13,7 @@ pub enum Encoding {
 }
 
 impl Encoding {
-    /// The one that is called so, UTF-8 where none is named; None where none is called so.
+    /// The encoding with this name; UTF-8 without a name, None for an unknown one.
     pub fn named(name: Option<&str>) -> Option<Encoding> {
         let Some(name) = name else {
             return Some(Encoding::Utf8);
@@ -29,7 +29,7 @@ impl Encoding {
     }
 }
 
-/// Makes a text of Latin-1 one of UTF-8: a byte from 80 on has two there.
+/// Converts a text from Latin-1 to UTF-8: a byte from 80 (hexadecimal) on becomes two.
 fn turn<A: Allocator>(alloc: A, text: &mut Items<u8, A>) -> Result<(), AllocError> {
     let mut made = Vec::new(alloc);
     for b in text.items() {
@@ -43,7 +43,7 @@ fn turn<A: Allocator>(alloc: A, text: &mut Items<u8, A>) -> Result<(), AllocErro
     Ok(())
 }
 
-/// A channel, whose texts are made texts of UTF-8.
+/// A channel with its texts converted to UTF-8.
 trait Named<A: Allocator>: Drop {
     fn turn_texts(&mut self, alloc: A) -> Result<(), AllocError>;
 }
@@ -65,7 +65,7 @@ impl<A: Allocator + Copy> Named<A> for StatusChannel<A> {
     }
 }
 
-/// Makes the texts of channels texts of UTF-8.
+/// Converts the texts of channels to UTF-8.
 fn turn_all<T: Named<A>, A: Allocator + Copy>(
     alloc: A,
     list: &mut Items<T, A>,
@@ -81,7 +81,7 @@ fn turn_all<T: Named<A>, A: Allocator + Copy>(
     turned
 }
 
-/// Makes the texts of a file, which are spelled so, texts of UTF-8.
+/// Converts the texts of a file, which have this encoding, to UTF-8.
 pub fn spell_in_utf8<A: Allocator + Copy>(
     alloc: A,
     file: &mut File<A>,

@@ -1,35 +1,35 @@
-//! Why a record has no such part.
+//! Why the part that is asked for cannot be taken.
 
 use dfr_channels::Memory;
 use std::alloc::{AllocError, AllocFailed};
 use thiserror::Error;
 
-/// Why a record has no such part.
+/// Why the part that is asked for cannot be taken.
 #[derive(Clone, Copy, Debug, PartialEq, Eq, Error)]
 pub enum PartFault<'a> {
     /// An allocation failed.
     #[error("out of memory")]
     Memory,
-    /// A text is no moment.
-    #[error("\"{0}\" is no moment; wanted are ms since the trigger as -20, an instant as 2024-07-01T10:30:00.35, or row N")]
+    /// A text is not a moment.
+    #[error("\"{0}\" is not a valid time; use ms since the trigger (-20), an instant (2024-07-01T10:30:00.35) or row N")]
     Moment(&'a str),
-    /// Neither rates nor stamps say when rows were taken.
-    #[error("nothing says when its rows were taken: only row N can be asked for")]
+    /// Neither rates nor stamps give the times of rows.
+    #[error("the record does not say when its rows were taken: use row N")]
     Timeless,
-    /// No row is from the first moment to the last.
-    #[error("no row stands from the first moment to the last")]
+    /// No row lies between the two moments.
+    #[error("no row lies between the two moments")]
     NoRow,
-    /// No channel is called so.
+    /// No channel has this name.
     #[error("no channel is called \"{0}\"")]
     NoChannel(&'a str),
-    /// No channel is left.
+    /// The names leave no channel.
     #[error("no channel is left")]
     Empty,
     /// Both sides are asked for.
-    #[error("values are of the primary or of the secondary side, not of both")]
+    #[error("values can be primary or secondary, not both")]
     Sides,
-    /// A channel's ratio gives no value of the other side; its number, from 1.
-    #[error("the ratio of analogue channel {0} gives no value of the other side")]
+    /// The ratio of the channel with this number, from 1, does not allow the conversion.
+    #[error("the ratio of analogue channel {0} cannot convert its values to the other side")]
     Ratio(u64),
 }
 

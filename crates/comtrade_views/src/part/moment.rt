@@ -1,4 +1,4 @@
-//! Moments, as words say them.
+//! Moments, as a user writes them.
 
 use jiff_core::civil::{Date, DateTime, Time};
 
@@ -13,7 +13,7 @@ pub(crate) enum Moment {
     Instant(i128),
 }
 
-/// The number of decimal digits, of which there is one at least.
+/// The value of decimal digits; None without a digit.
 fn digits(text: &str) -> Option<i128> {
     if text.is_empty() || 18 < text.len() {
         return None;
@@ -30,7 +30,7 @@ fn digits(text: &str) -> Option<i128> {
     Some(number)
 }
 
-/// The units that a text has after its point, in 10^-places; digits after them are left out.
+/// The digits after the point, in units of 10^-count; further digits are dropped.
 fn places(text: &str, count: usize) -> Option<i128> {
     let mut number = 0i128;
     let mut left = count;
@@ -69,7 +69,7 @@ fn decimal(text: &str, count: usize) -> Option<i128> {
     )
 }
 
-/// A number of two digits, or of one.
+/// A number of one or two digits.
 fn small(text: &str) -> Option<i8> {
     i8::try_from(digits(text)?).ok()
 }
@@ -97,7 +97,7 @@ fn instant_of(text: &str) -> Option<i128> {
     Some(DateTime { date, time }.to_nanosecond())
 }
 
-/// The moment that a text says: `row N`, milliseconds since the trigger, or an instant.
+/// The moment that a text gives: `row N`, milliseconds since the trigger, or an instant.
 pub(crate) fn moment_of(text: &str) -> Option<Moment> {
     let text = text.trim();
     if let Some(rest) = text.strip_prefix("row") {

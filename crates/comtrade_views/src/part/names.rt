@@ -1,17 +1,17 @@
-//! Channels by their names.
+//! Channels by name.
 
 use crate::part::fault::PartFault;
 use comtrade_format::{Head, Row};
 use std::alloc::{AllocError, Allocator};
 
-/// Which channels are meant, by their places from 0.
+/// The channels that are asked for, by their indices from 0.
 #[derive(Drop)]
 pub(crate) struct Channels<A: Allocator> {
     pub(crate) analog: Vec<usize, A>,
     pub(crate) status: Vec<usize, A>,
 }
 
-/// Whether a text fits a name in which * stands for any letters; upper and lower case are the same.
+/// Whether a text matches a pattern in which * stands for any characters. Case is ignored.
 fn fits(name: &[u8], text: &[u8]) -> bool {
     let mut at = 0usize;
     let mut left = 0usize;
@@ -44,7 +44,7 @@ fn is_same(one: Option<&u8>, other: Option<&u8>) -> bool {
     }
 }
 
-/// Whether nothing but stars stands from this place on.
+/// Whether only stars are left from this index on.
 fn ends_in_stars(name: &[u8], at: usize) -> bool {
     match name.get(at..) {
         Some(rest) => rest.iter().all(|b| *b == b'*'),
@@ -52,17 +52,17 @@ fn ends_in_stars(name: &[u8], at: usize) -> bool {
     }
 }
 
-/// The place from 0 of a channel's number from 1.
+/// The index, from 0, of the channel with a number, from 1.
 fn place_of(text: &str) -> Option<usize> {
     text.parse::<usize>().ok()?.checked_sub(1)
 }
 
-/// The place of `D5`, a status channel by its number.
+/// The index of `D5`, a status channel by its number.
 fn status_place(text: &str) -> Option<usize> {
     place_of(text.strip_prefix('D').or_else(|| text.strip_prefix('d'))?)
 }
 
-/// Marks the channel of a place, where there is one.
+/// Marks the channel at an index, if there is one.
 fn mark_place(marks: &mut [bool], place: Option<usize>) -> bool {
     let Some(place) = place else {
         return false;
@@ -76,7 +76,7 @@ fn mark_place(marks: &mut [bool], place: Option<usize>) -> bool {
     }
 }
 
-/// Marks what one name means: the channels with such an id, else the channel of a number.
+/// Marks what one name selects: the channels with a matching id, else the channel with this number.
 fn mark<A: Allocator>(
     head: &Head<A>,
     analog: &mut [bool],
@@ -99,7 +99,7 @@ fn mark<A: Allocator>(
     is_found || mark_place(analog, place_of(name)) || mark_place(status, status_place(name))
 }
 
-/// The places that are marked.
+/// The indices that are marked.
 fn places_of<A: Allocator>(alloc: A, marks: &[bool]) -> Result<Vec<usize, A>, AllocError> {
     let mut places = Vec::new(alloc);
     for (i, is_marked) in marks.iter().enumerate() {
@@ -123,7 +123,7 @@ fn marks<A: Allocator>(
     Ok(marks)
 }
 
-/// Takes the marks of contacts away that keep their bit in all rows.
+/// Removes the marks of status channels whose bit is the same in all rows.
 fn unmark_still<A: Allocator>(marks: &mut [bool], rows: &[Row<A>]) {
     for (i, mark) in marks.iter_mut().enumerate() {
         let first = bit_in(rows.first(), i);
@@ -137,7 +137,8 @@ fn bit_in<A: Allocator>(row: Option<&Row<A>>, place: usize) -> Option<bool> {
     row?.bits.items().get(place).copied()
 }
 
-/// The channels that are meant: all without names; with `is_changed` only those contacts that change in these rows.
+/// The channels that are asked for: all of them without names; with `is_changed` only the status
+/// channels that change in these rows.
 pub(crate) fn channels_of<'a, A: Allocator + Copy>(
     alloc: A,
     head: &Head<A>,

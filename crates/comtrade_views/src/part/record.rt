@@ -1,4 +1,4 @@
-//! The part of a record that words ask for.
+//! The part of a record that a user asks for.
 
 use crate::part::cut::cut_of;
 use crate::part::fault::PartFault;
@@ -11,7 +11,7 @@ use dfr_channels::{AnalogChannel, Items, Side};
 use std::alloc::{Allocator, Global};
 use std::mem;
 
-/// Whether the whole record is meant, as it is.
+/// Whether the whole record is asked for, unchanged.
 pub fn is_whole(part: Part<'_>) -> bool {
     let has_words = part.from.is_some() || part.to.is_some() || part.channels.is_some();
     !(has_words || part.changed || part.primary || part.secondary)
@@ -27,7 +27,7 @@ fn side_of<'a>(part: Part<'a>) -> Result<Option<Side>, PartFault<'a>> {
     }
 }
 
-/// Turns each channel to this side.
+/// Converts each channel to this side.
 fn turn_all<A: Allocator>(channels: &mut [AnalogChannel<A>], side: Side) -> Result<(), u64> {
     let mut number = 0u64;
     for channel in channels {
@@ -62,14 +62,15 @@ fn on_side<'a, A: Allocator>(
 #[derive(Debug, Drop)]
 pub struct Cut<A: Allocator = Global> {
     pub file: File<A>,
-    /// Its first row's index, from 0, in the whole record.
+    /// The index, from 0, of its first row in the whole record.
     pub from: usize,
-    /// The index after its last row's.
+    /// The index after its last row.
     pub to: usize,
 }
 
-/// The part of a record that is meant: rows from one moment to another, numbered from 1, with their instants; channels by their names;
-/// values of one side of the transformers. Refused by the first of what is wrong: both sides, the moments, the names, no channel, a ratio.
+/// The part of a record that is asked for: the rows between two moments, numbered from 1, with
+/// their instants; channels by name; values of one side of the transformers. Refused for the first
+/// error found: both sides, the moments, the names, no channel, a ratio.
 pub fn part_of<'a, A: Allocator + Copy>(
     alloc: A,
     file: &File<A>,

@@ -1,11 +1,11 @@
-//! Rows from one moment to another.
+//! The rows between two moments.
 
 use crate::part::fault::PartFault;
 use crate::part::moment::{Moment, moment_of};
 use comtrade_format::{File, Row, clock_of};
 use std::alloc::Allocator;
 
-/// Rows by their indices from 0: from the first one on, and not from the second one on.
+/// Rows by their indices from 0: from `from` up to but without `to`.
 #[derive(Clone, Copy)]
 pub(crate) struct Rows {
     pub(crate) from: usize,
@@ -22,7 +22,7 @@ enum Bound {
     Time(i128),
 }
 
-/// The bound that a text says.
+/// The bound that a text gives.
 fn bound_of<'a, A: Allocator>(
     file: &File<A>,
     text: Option<&'a str>,
@@ -42,7 +42,7 @@ fn bound_of<'a, A: Allocator>(
     }
 }
 
-/// Whether a row is not before the first bound, and not after the second.
+/// Whether a row is neither before the first bound nor after the second.
 fn is_between(from: Bound, to: Bound, index: u64, time: Option<i128>) -> bool {
     let is_after = match (from, time) {
         (Bound::None, _) => true,
@@ -59,7 +59,7 @@ fn is_between(from: Bound, to: Bound, index: u64, time: Option<i128>) -> bool {
     is_after && is_before
 }
 
-/// The rows between both bounds, from the first of them to the last; none where there is none.
+/// The rows between both bounds, both included; None where there are none.
 fn between<A: Allocator>(
     file: &File<A>,
     rows: &[Row<A>],
@@ -91,7 +91,7 @@ fn between<A: Allocator>(
     (found, has_times)
 }
 
-/// The rows from one moment to another, both with them.
+/// The rows between two moments, both included.
 pub(crate) fn rows_between<'a, A: Allocator>(
     file: &File<A>,
     from: Option<&'a str>,

@@ -1,15 +1,15 @@
-//! Values of the other side of a transformer.
+//! Conversion of values to the other side of a transformer.
 
 use dfr_channels::{AnalogChannel, Decimal, Side};
 use std::alloc::Allocator;
 
-/// A number of a channel has fewer units than this.
+/// The upper limit of the units of a number, which has at most 15 digits.
 const DIGITS: u128 = 1_000_000_000_000_000;
 
-/// A dividend is made no longer than this.
+/// The upper limit of a dividend.
 const LONGEST: u128 = 10_000_000_000_000_000_000_000_000_000_000_000_000;
 
-/// A number as units / 10^places, and whether it is below 0.
+/// A number as units / 10^places, and whether it is negative.
 #[derive(Clone, Copy)]
 struct Number {
     is_negative: bool,
@@ -17,7 +17,7 @@ struct Number {
     places: i32,
 }
 
-/// The number with at most 15 digits: those after them are left out.
+/// The number with at most 15 digits; further digits are dropped.
 fn short(number: Number) -> Number {
     let mut short = number;
     for _ in 0..40 {
@@ -42,7 +42,8 @@ fn number_of(decimal: Decimal) -> Number {
     })
 }
 
-/// x * y / z; none where z is 0. It is exact where its quotient has at most 15 digits, else those after them are left out.
+/// x * y / z; None where z is 0. Exact where the quotient has at most 15 digits; else the further
+/// digits are dropped.
 fn ratio_of(x: Number, y: Number, z: Number) -> Option<Number> {
     if z.units == 0 {
         return None;
@@ -63,7 +64,7 @@ fn ratio_of(x: Number, y: Number, z: Number) -> Option<Number> {
     }))
 }
 
-/// The decimal, where it has few enough digits and places.
+/// The decimal, if it has few enough digits and places.
 fn decimal_of(number: Number) -> Option<Decimal> {
     let mut number = number;
     for _ in 0..40 {
@@ -85,12 +86,12 @@ fn decimal_of(number: Number) -> Option<Decimal> {
     Decimal::new(units, u8::try_from(number.places).ok()?)
 }
 
-/// A number of a channel on the other side.
+/// A number of a channel, converted to the other side.
 fn other(value: Decimal, times: Decimal, by: Decimal) -> Option<Decimal> {
     decimal_of(ratio_of(number_of(value), number_of(times), number_of(by))?)
 }
 
-/// Turns a channel's values into those of this side, by its ratio; false where that gives none.
+/// Converts a channel's values to this side by its ratio; false where the ratio does not allow it.
 pub(crate) fn turn<A: Allocator>(channel: &mut AnalogChannel<A>, side: Side) -> bool {
     if channel.side == side {
         return true;
