@@ -71,7 +71,7 @@ pub fn put_no_fault<A: Allocator + Copy>(
     put_safe(out, pair.cfg_name)?;
     put(out, ", ")?;
     put_safe(out, pair.dat_name)?;
-    put(out, ": no fault; ")?;
+    put(out, ": no errors; ")?;
     put(out, kind_name(file.head.kind))?;
     put(out, " data, ")?;
     put_count(

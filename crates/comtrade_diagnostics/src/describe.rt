@@ -103,9 +103,9 @@ fn put_wanted<A: Allocator>(
     text: &[u8],
     wanted: &str,
 ) -> Result<(), AllocError> {
-    put(out, ": ")?;
+    put(out, ": found ")?;
     put_quoted(out, text)?;
-    put(out, " stands there; wanted is ")?;
+    put(out, ", expected ")?;
     put(out, wanted)
 }
 
@@ -133,15 +133,15 @@ pub(crate) fn put_field_count<A: Allocator + Copy>(
     wanted: u64,
     names: &str,
 ) -> Result<(), AllocError> {
-    put(out, ": ")?;
+    put(out, ": found ")?;
     let count = fields_of(alloc, text)?.len();
-    put_count(out, count as u64, " field stands", " fields stand")?;
+    put_count(out, count as u64, " field", " fields")?;
     put(
         out,
         if wanted == 1 {
-            " there; wanted is "
+            ", expected only "
         } else {
-            " there; wanted are "
+            ", expected "
         },
     )?;
     put_number(out, wanted)?;
@@ -162,13 +162,13 @@ fn put_disagreement<A: Allocator + Copy>(
             put_number(out, n)
         }
         Place::Rate(_) => {
-            let wanted = "a number that isn't below that of the rate before";
-            put_field(alloc, out, text, 2, ("number of its last row", wanted))
+            let wanted = "a number not below that of the previous rate";
+            put_field(alloc, out, text, 2, ("last row at this rate", wanted))
         }
         _ => put_wanted(
             out,
             text,
-            "a total that is the sum of both counts, and isn't 0",
+            "a total that is the sum of both counts and not 0",
         ),
     }
 }
@@ -183,7 +183,7 @@ fn put_revision<A: Allocator + Copy>(
     if fields_of(alloc, text)?.len() < 3 {
         return put(
             out,
-            ": no revision stands there, as in files of 1991; wanted is 1999 as field 3",
+            ": found no revision (as in files of 1991), expected 1999 as field 3",
         );
     }
     put_field(alloc, out, text, 3, ("revision", "1999"))
@@ -198,7 +198,7 @@ fn put_end<A: Allocator>(
 ) -> Result<(), AllocError> {
     put_line(out, line, place)?;
     match place {
-        Place::After => put_wanted(out, text, "nothing"),
+        Place::After => put_wanted(out, text, "the end of the file"),
         _ => put(out, ": the file ends before this line"),
     }
 }
@@ -224,7 +224,7 @@ fn put_at_line<A: Allocator + Copy>(
         ReadFault::Instant(_) => put_wanted(
             out,
             text,
-            "a date and a time of the years 1 to 9999 without leap seconds, dd/mm/yyyy,hh:mm:ss.ssssss",
+            "a valid date and time as dd/mm/yyyy,hh:mm:ss.ssssss (years 1 to 9999, no leap second)",
         ),
         _ => put_wanted(out, text, "ASCII or BINARY"),
     }
@@ -279,7 +279,7 @@ fn put_field_there<A: Allocator + Copy>(
     put(out, name)?;
     put(out, "): ")?;
     put_quoted(out, text)?;
-    put(out, " stands there")
+    put(out, " cannot be written")
 }
 
 /// The same of a configuration file that can be read.

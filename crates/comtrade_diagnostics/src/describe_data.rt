@@ -25,9 +25,9 @@ fn put_length<A: Allocator>(
     head: &Head<A>,
     size: usize,
 ) -> Result<(), AllocError> {
-    put_count(out, size as u64, " byte stands", " bytes stand")?;
+    put_count(out, size as u64, " byte found", " bytes found")?;
     let (rows, row_size) = (rows_of(head), row_size(Counts::of(head)));
-    put_with(out, " there; wanted are ", rows.saturating_mul(row_size))?;
+    put_with(out, ", expected ", rows.saturating_mul(row_size))?;
     put(out, ": ")?;
     put_count(out, rows, " row of ", " rows of ")?;
     put_count(out, row_size, " byte", " bytes")
@@ -77,9 +77,9 @@ fn put_rows<A: Allocator>(
 ) -> Result<(), AllocError> {
     put_with(out, "line ", line)?;
     put(out, stands)?;
-    put(out, "; wanted are ")?;
+    put(out, "; expected ")?;
     put_count(out, rows, " row", " rows")?;
-    put(out, ", as the configuration file says")
+    put(out, ", as the configuration file specifies")
 }
 
 /// A fault of a data file under the head of its configuration file.
@@ -96,7 +96,7 @@ pub(crate) fn put_dat_fault<A: Allocator + Copy>(
             return put_rows(out, line, rows, ": the file ends before this line");
         }
         ReadFault::Extra(line) => {
-            return put_rows(out, line, rows, ": stands after the last row");
+            return put_rows(out, line, rows, ": found a line after the last row");
         }
         ReadFault::Fields(line) | ReadFault::Number(line, _) => line,
         _ => return put_length(out, head, dat.len()),

@@ -78,8 +78,8 @@ fn form_name(form: Form) -> &'static str {
         Form::Status => "a status channel",
         Form::Number => "a single number",
         Form::Rate => "a rate",
-        Form::Instant => "an instant",
-        Form::Type => "the type of the data file",
+        Form::Instant => "a date and time",
+        Form::Type => "a data file type",
     }
 }
 
@@ -110,11 +110,11 @@ pub(crate) fn put_other_form<A: Allocator + Copy>(
     let Some(form) = other_form(&fields_of(alloc, line_at(lines, line))?, place) else {
         return Ok(());
     };
-    put(out, "; the line looks like ")?;
+    put(out, "; this line looks like ")?;
     put(out, form_name(form))?;
-    put(out, ", and ")?;
+    put(out, ", so check ")?;
     let (line, place) = counting_line(counts, place);
     put_line(out, line, place)?;
-    put(out, " says ")?;
+    put(out, ": ")?;
     put_quoted(out, line_at(lines, line))
 }

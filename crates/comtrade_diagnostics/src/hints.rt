@@ -33,7 +33,7 @@ fn nature_of_text(text: &[u8]) -> Option<&'static str> {
     let mut before = (0u8, 0u8);
     for b in text {
         if *b == b'\n' && before == (b'\r', b'\r') {
-            return Some("lines that end in CR CR LF");
+            return Some("lines ending in CR CR LF");
         }
         before = (before.1, *b);
     }
@@ -131,7 +131,7 @@ fn put_single_words<A: Allocator + Copy>(
         Err(ImportFault::Memory) => Err(AllocError),
         Err(fault) => {
             let text = format!(in alloc; "{fault}")?;
-            put(out, "`comtrade import` doesn't read it: ")?;
+            put(out, "`comtrade import` cannot read it: ")?;
             put_safe(out, text.as_str().as_bytes())
         }
     }

@@ -33,9 +33,9 @@ fn put_text<A: Allocator + Copy>(
 ) -> Result<(), AllocError> {
     let (name, wanted) = text_field(line, field);
     put_line_of(alloc, out, cfg, line, field, name)?;
-    put(out, "; a file that is written holds ")?;
+    put(out, "; expected ")?;
     put(out, wanted)?;
-    put(out, " there")
+    put(out, " in this field")
 }
 
 /// The sample of a row and a channel, both counted from 1, of the file that a pair reads to.
@@ -56,9 +56,9 @@ fn put_sample<A: Allocator + Copy>(
     put_with(out, " (analogue channel ", channel as u64)?;
     put(out, "): ")?;
     if let Some(sample) = sample_at(alloc, pair, row, channel) {
-        put(out, "the sample ")?;
+        put(out, "sample ")?;
         put_signed(out, sample as i64)?;
-        put(out, " stands there; ")?;
+        put(out, " cannot be written; ")?;
     }
     Ok(())
 }
@@ -82,8 +82,8 @@ fn put_refused<A: Allocator + Copy>(
             put(out, ": ")?;
             put_sample(alloc, out, pair, (row, channel))?;
             let held = match kind {
-                Kind::Ascii => "ASCII data hold -99999 to 99998",
-                Kind::Binary => "BINARY data hold -32767 to 32767",
+                Kind::Ascii => "ASCII data can hold -99999 to 99998",
+                Kind::Binary => "BINARY data can hold -32767 to 32767",
             };
             put(out, held)?;
         }
@@ -92,15 +92,15 @@ fn put_refused<A: Allocator + Copy>(
             put_with(out, ": row ", row)?;
             put(
                 out,
-                ": its number or its stamp is greater than the data can hold: ",
+                ": the row number or time stamp exceeds the limit of the data type: ",
             )?;
             let most = match kind {
                 Kind::Ascii => "9999999999",
-                Kind::Binary => "4294967295 and 4294967294",
+                Kind::Binary => "4294967295 (row number), 4294967294 (time stamp)",
             };
             put(out, most)?;
         }
-        _ => put(out, "the numbers of the file don't agree")?,
+        _ => put(out, "the parts of the file do not fit each other")?,
     }
     Ok(())
 }

@@ -104,7 +104,7 @@ fn put_turned<A: Allocator>(
     let channel = doubt.channel;
     put_front(out, pair.cfg_name, ": analogue channel ", channel)?;
     put(out, ": min ")?;
-    put_range(out, file, channel, " is over max ")?;
+    put_range(out, file, channel, " is above max ")?;
     put_end(out, doubt, " such channel")
 }
 
@@ -119,31 +119,31 @@ pub fn put_remarks<A: Allocator + Copy>(
         out,
         (pair.cfg_name, ": line "),
         doubts.foreign,
-        ": a text isn't ASCII, as the standard wants it",
+        ": non-ASCII text (the standard requires ASCII)",
         " such line",
     )?;
     put_turned(out, pair, file, doubts.turned)?;
     for (doubt, words) in [
         (
             doubts.repeated,
-            ": its number isn't above that of the row before",
+            ": row number is not above that of the previous row",
         ),
         (
             doubts.falling,
-            ": its stamp is below that of the row before",
+            ": time stamp is below that of the previous row",
         ),
         (
             doubts.off,
-            ": its stamp and the rate disagree by over half an interval; the rate says the times",
+            ": time stamp and rate disagree by more than half an interval; times come from the rate",
         ),
     ] {
         put_places(out, (pair.dat_name, ": row "), doubt, words, " such row")?;
     }
-    let outside = ("): the sample ", " is outside its range, ");
+    let outside = ("): sample ", " is outside its range, ");
     put_samples(out, pair, file, doubts.outside, outside, " such sample")?;
     let flat = (
-        "): three samples or more in a row are ",
-        ", an end of the range ",
+        "): three or more consecutive samples are ",
+        ", a limit of the range ",
     );
     put_samples(out, pair, file, doubts.flat, flat, " such run")
 }

@@ -101,7 +101,7 @@ impl<'a, A: Allocator + Copy> Data<'a, '_, A> {
         if self.is_text() {
             return Ok(Some(self.text_plan()?));
         }
-        self.as_binary(is_said.then_some("ASCII is said, BINARY is there"))
+        self.as_binary(is_said.then_some("cfg has ASCII, found BINARY"))
     }
 
     /// The data where the configuration file says that they are text.
@@ -129,13 +129,13 @@ impl<'a, A: Allocator + Copy> Data<'a, '_, A> {
             return Ok(Some(self.packed(spare)?));
         }
         if self.is_text() {
-            self.tell(Key::KindOther, "binary data are said, ASCII is there")?;
+            self.tell(Key::KindOther, "cfg has a binary type, found ASCII")?;
             return Ok(Some(self.text_plan()?));
         }
         if form == Form::Binary {
             return Ok(None);
         }
-        self.as_binary(Some("values of 32 bits are said, BINARY is there"))
+        self.as_binary(Some("cfg has a 32-bit type, found BINARY"))
     }
 
     /// The data where the configuration file says that they are binary.

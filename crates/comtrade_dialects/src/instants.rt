@@ -67,11 +67,7 @@ fn order_of<A: Allocator + Copy>(
         notes.tell(Key::DatesDmy, place, &[])?;
     }
     if is_ambiguous && revision == Revision::Of1991 && asked.is_none() {
-        notes.tell(
-            Key::DatesAmbiguous,
-            place,
-            b"the month was taken to stand first",
-        )?;
+        notes.tell(Key::DatesAmbiguous, place, b"the month is read first")?;
     }
     Ok(order)
 }

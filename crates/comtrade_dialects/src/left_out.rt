@@ -21,9 +21,9 @@ pub fn tell_sections<A: Allocator + Copy>(
     if let Some((said, there)) = sections.wrong_count {
         let mut piece = Vec::new(alloc);
         put_number(&mut piece, said)?;
-        put(&mut piece, " said, ")?;
+        put(&mut piece, " given, ")?;
         put_number(&mut piece, there)?;
-        put(&mut piece, " there")?;
+        put(&mut piece, " found")?;
         notes.tell(Key::CffCount, place, &piece)?;
     }
     if sections.has_inf {

@@ -65,7 +65,7 @@ pub(crate) fn tell_lost<A: Allocator + Copy>(
                 put_number(&mut piece, gap.unsigned_abs())?;
                 put(
                     &mut piece,
-                    " missing before it; no rate is said, the stamps say the times",
+                    " missing before it; no rate is written, times come from the time stamps",
                 )?;
                 notes.tell(
                     Key::RowsLost,

@@ -39,7 +39,7 @@ pub(crate) fn range_of<A: Allocator + Copy>(
 ) -> Result<(i32, i32, Range), ImportFault> {
     let (low, high) = (shape.parts.at(8), shape.parts.at(9));
     if low.is_empty() || high.is_empty() {
-        tell_empty(notes, shape.line, "min or max: as the data need")?;
+        tell_empty(notes, shape.line, "min or max: from the data")?;
         return Ok((-32_767, 32_767, Range::Empty));
     }
     if let (Some(low), Some(high)) = (bound_of(low), bound_of(high)) {

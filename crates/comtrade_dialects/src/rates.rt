@@ -65,7 +65,7 @@ fn rate_of<A: Allocator + Copy>(
         return Err(at(row.number, Why::Rate));
     }
     if row.parts.at(1).is_empty() {
-        tell_empty(reader.notes, row.number, "last row: as there are rows")?;
+        tell_empty(reader.notes, row.number, "last row: the number of rows")?;
         return Ok((Rate { samp, endsamp: 0 }, row.number));
     }
     let endsamp = count_of(reader, row, 1)?;

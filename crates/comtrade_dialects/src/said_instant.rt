@@ -88,7 +88,7 @@ fn tell_civil<A: Allocator + Copy>(
     if civil.has_short_year {
         let mut piece = Vec::new(notes.allocator());
         put_quoted(&mut piece, text)?;
-        put(&mut piece, " is of ")?;
+        put(&mut piece, " is in ")?;
         put_number(&mut piece, u64::from(civil.year))?;
         notes.tell(Key::Years2Digits, Place::Cfg(line), &piece)?;
     }

@@ -141,7 +141,7 @@ fn beside_rates<A: Allocator + Copy>(
     if stamps_fall(track.ticks, track.timemult) {
         notes.tell(Key::StampsRestart, track.place, &[])?;
     } else {
-        notes.tell(Key::StampsAgainstRate, track.place, b"the rate was taken")?;
+        notes.tell(Key::StampsAgainstRate, track.place, b"the rate is used")?;
     }
     Ok(Found::ByRate)
 }
