@@ -1,4 +1,4 @@
-//! A fault of a data file in words.
+//! Describes an error of a data file.
 
 use crate::counts::{Counts, rows_of};
 use crate::describe::{line_at, put_field, put_field_count, put_place};
@@ -9,7 +9,7 @@ use comtrade_read::ReadFault;
 use dfr_channels::lines_of;
 use std::alloc::{AllocError, Allocator};
 
-/// How many bytes a row of a binary data file has.
+/// The number of bytes in a row of a binary data file.
 fn row_size(counts: Counts) -> u64 {
     let groups = counts.status.saturating_add(15) / 16;
     counts
@@ -19,7 +19,7 @@ fn row_size(counts: Counts) -> u64 {
         .saturating_add(8)
 }
 
-/// A binary data file of another size.
+/// Describes a binary data file of the wrong size.
 fn put_length<A: Allocator>(
     out: &mut Vec<u8, A>,
     head: &Head<A>,
@@ -33,7 +33,7 @@ fn put_length<A: Allocator>(
     put_count(out, row_size, " byte", " bytes")
 }
 
-/// A row that can't be read.
+/// Describes a row that cannot be read.
 fn put_row<A: Allocator + Copy>(
     alloc: A,
     out: &mut Vec<u8, A>,
@@ -68,7 +68,7 @@ fn put_row<A: Allocator + Copy>(
     }
 }
 
-/// The rows that a configuration file says there are.
+/// Appends the line of the error, and how many rows the configuration file specifies.
 fn put_rows<A: Allocator>(
     out: &mut Vec<u8, A>,
     line: u64,
@@ -82,7 +82,7 @@ fn put_rows<A: Allocator>(
     put(out, ", as the configuration file specifies")
 }
 
-/// A fault of a data file under the head of its configuration file.
+/// Describes an error of a data file, given the head of its configuration file.
 pub(crate) fn put_dat_fault<A: Allocator + Copy>(
     alloc: A,
     out: &mut Vec<u8, A>,

@@ -1,11 +1,12 @@
-//! What each line and field of both files is called, and what may stand there (C37.111-1999, clauses 5 and 6).
+//! The name of each line and field of both files, and what is valid there (C37.111-1999, clauses 5
+//! and 6).
 
 ghost use Rattle.comtrade_diagnostics.specs.declared.names.Place.TheVariants.{RateCount, DataType};
 ghost use Rattle.comtrade_diagnostics.specs.Places.{AreFew, IsPlace};
 
 use crate::counts::Counts;
 
-/// What a line of a configuration file is; channels and rates count from 1 of their kind.
+/// The role of a line of a configuration file. Channels and rates are counted from 1 in their kind.
 #[derive(Clone, Copy)]
 pub(crate) enum Place {
     Station,
@@ -22,7 +23,7 @@ pub(crate) enum Place {
     After,
 }
 
-/// What the line with this number is, counted from 1.
+/// The role of the line with this number, counted from 1.
 pub(crate) fn place_at(counts: Counts, line: u64) -> Place
     ensures { IsPlace counts line result }
 {
@@ -56,7 +57,7 @@ pub(crate) fn place_at(counts: Counts, line: u64) -> Place
     }
 }
 
-/// The number of the line that says how many rates there are.
+/// The number of the line with the number of rates.
 pub(crate) fn rate_count_line(counts: Counts) -> u64
     requires { AreFew counts }
     ensures { IsPlace counts result RateCount }
@@ -64,7 +65,7 @@ pub(crate) fn rate_count_line(counts: Counts) -> u64
     counts.analog + counts.status + 4
 }
 
-/// The number of the line that says the data file's type.
+/// The number of the line with the data file type.
 pub(crate) fn type_line(counts: Counts) -> u64
     requires { AreFew counts }
     ensures { IsPlace counts result DataType }
@@ -72,7 +73,7 @@ pub(crate) fn type_line(counts: Counts) -> u64
     counts.analog + counts.status + counts.rates + 7
 }
 
-/// A line's name, and whether a number follows it.
+/// The name of a line, and the number that follows the name, if any.
 pub(crate) fn place_name(place: Place) -> (&'static str, Option<u64>) {
     match place {
         Place::Station => ("station and device", None),
@@ -90,7 +91,7 @@ pub(crate) fn place_name(place: Place) -> (&'static str, Option<u64>) {
     }
 }
 
-/// The number of a line's fields, and their names.
+/// The number of fields in a line, and their names.
 pub(crate) fn fields_wanted(place: Place) -> (u64, &'static str) {
     match place {
         Place::Station => (3, "station, device, 1999"),
@@ -114,7 +115,7 @@ pub(crate) fn fields_wanted(place: Place) -> (u64, &'static str) {
     }
 }
 
-/// A field's name, and what is wanted there.
+/// The name of a field, and what is expected there.
 type Named = (&'static str, &'static str);
 
 const DECIMAL: &str =
@@ -154,7 +155,7 @@ fn count_field(field: u32) -> Named {
     }
 }
 
-/// A field of a configuration file, counted from 1, that can't be read where it is wrong.
+/// The name of a field (counted from 1) of a configuration file, and what is expected there.
 pub(crate) fn field_at(place: Place, field: u32) -> Named {
     match place {
         Place::Channels => count_field(field),
@@ -176,7 +177,7 @@ pub(crate) fn field_at(place: Place, field: u32) -> Named {
     }
 }
 
-/// What a field of a row is, and the channel that it belongs to.
+/// The name of a field of a row, what is expected there, and the channel that it belongs to.
 pub(crate) fn row_field(counts: Counts, field: u32) -> (Named, Place) {
     let field = field as u64;
     if field <= 1 {

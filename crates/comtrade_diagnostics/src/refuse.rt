@@ -1,4 +1,4 @@
-//! What a file of a kind can't hold, in words.
+//! Describes what a file of a kind cannot hold.
 
 ghost use Rattle.std.specs.Prelude.{◌≡◌, OnErr, OnOk};
 ghost use Rattle.comtrade_diagnostics.specs.Puts.{PutsLine};
@@ -12,7 +12,7 @@ use comtrade_io::{put, put_safe, put_signed, put_with};
 use comtrade_read::read;
 use std::alloc::{AllocError, Allocator};
 
-/// A text's name by its field, and what a file can hold there.
+/// The name of a text field, and what a file can hold there.
 fn text_field(line: u64, field: u32) -> (&'static str, &'static str) {
     const NAME: &str = "at most 64 printable ASCII characters";
     match (line, field) {
@@ -38,7 +38,7 @@ fn put_text<A: Allocator + Copy>(
     put(out, " in this field")
 }
 
-/// The sample of a row and a channel, both counted from 1, of the file that a pair reads to.
+/// The sample in a row and a channel (both counted from 1) of the file that a pair reads to.
 fn sample_at<A: Allocator + Copy>(alloc: A, pair: Pair<'_>, row: u64, channel: u32) -> Option<i32> {
     match read(alloc, pair.cfg, pair.dat) {
         Ok(file) => sample_in(&file, row, u64::from(channel)),
@@ -63,7 +63,7 @@ fn put_sample<A: Allocator + Copy>(
     Ok(())
 }
 
-/// What a file of this kind can't hold of a pair, by its place.
+/// Describes what a file of this kind cannot hold of a pair, and where it is.
 fn put_refused<A: Allocator + Copy>(
     alloc: A,
     out: &mut Vec<u8, A>,
@@ -105,7 +105,7 @@ fn put_refused<A: Allocator + Copy>(
     Ok(())
 }
 
-/// The line that says what a file of this kind can't hold of a pair, by its place.
+/// Appends a line on what a file of this kind cannot hold of a pair, and where it is.
 pub fn put_refusal<A: Allocator + Copy>(
     alloc: A,
     out: &mut Vec<u8, A>,
