@@ -46,8 +46,8 @@ fn put_fault_words<A: Allocator + Copy>(
     }
 }
 
-/// Appends one line on an error: the file, the line, the field, what was found and what was
-/// expected.
+/// Appends one line on an error: the file, the line, the field, what was found and what
+/// was expected.
 pub fn put_fault<A: Allocator + Copy>(
     alloc: A,
     out: &mut Vec<u8, A>,

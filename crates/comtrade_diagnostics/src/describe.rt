@@ -1,5 +1,5 @@
-//! Describes an error of a pair of files: the line, the field's name, what was found and what was
-//! expected.
+//! Describes an error of a pair of files: the line, the field's name, what was found and what
+//! was expected.
 
 ghost use Rattle.std.specs.Prelude.{◌<◌, IfOk};
 ghost use Rattle.comtrade_diagnostics.specs.Places.{AreFew};

@@ -96,8 +96,8 @@ fn counting_line(counts: Counts, place: Place) -> (u64, Place)
     }
 }
 
-/// If a line of another kind was expected, appends what the line looks like and which counts to
-/// check.
+/// If a line of another kind was expected, appends what the line looks like and which counts
+/// to check.
 pub(crate) fn put_other_form<A: Allocator + Copy>(
     alloc: A,
     out: &mut Vec<u8, A>,

@@ -53,8 +53,8 @@ fn put_piece<A: Allocator>(
     put(out, text)
 }
 
-/// Appends what the files are, given their text and their repairs. Returns whether it appended
-/// anything.
+/// Appends what the files are, given their text and their repairs. Returns whether it
+/// appended anything.
 fn put_natures<A: Allocator>(
     out: &mut Vec<u8, A>,
     text: Option<&str>,

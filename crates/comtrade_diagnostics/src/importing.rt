@@ -68,8 +68,8 @@ pub(crate) fn loose<A: Allocator + Copy>(
     finished(alloc, file, notes.into_list(), false)
 }
 
-/// Reads the pair exactly. None if it cannot be read so, needs a repair, or does not fit a file of
-/// 1999.
+/// Reads the pair exactly. None if it cannot be read so, needs a repair, or does not fit a file
+/// of 1999.
 fn exact<A: Allocator + Copy>(
     alloc: A,
     cfg: &[u8],

@@ -1,7 +1,7 @@
 //! Error messages for pairs of COMTRADE files (C37.111-1999): where the error is, what was found
-//! and what was expected. Also imports files as relays and programs write them (1991, 1999, 2013): a
-//! file of 1999 with the same contents, a note on each repair, and two texts that read back to it.
-//! The crate `comtrade_dialects` interprets the dialects.
+//! and what was expected. Also imports files as relays and programs write them (1991, 1999, 2013):
+//! a file of 1999 with the same contents, a note on each repair, and two texts that read back to
+//! it. The crate `comtrade_dialects` interprets the dialects.
 #![tactic(auto)]
 
 mod check;

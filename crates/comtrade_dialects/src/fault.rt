@@ -1,4 +1,4 @@
-//! Why a pair can't be imported.
+//! Why a pair cannot be imported.
 
 ghost use Rattle.std.specs.Prelude.{◌≡◌};
 ghost use Rattle.comtrade_dialects.specs.declared.fault.ImportFault.TheVariants.{Memory};
@@ -72,7 +72,8 @@ pub enum Why {
     Written(WriteFault),
 }
 
-/// Why a pair can't be imported, and where: the line of a file, or its row in binary data, from 1; 0 is the file as a whole.
+/// Why a pair cannot be imported, and where: the line of a file or the row of binary data, counted
+/// from 1; 0 means the whole file.
 #[derive(Clone, Copy, Debug, Error)]
 pub enum ImportFault {
     #[error("configuration file, line {0}: {1}")]
@@ -85,7 +86,7 @@ pub enum ImportFault {
     Memory,
 }
 
-/// Whatever says that memory ran out.
+/// Converts any error that means out of memory.
 impl<E: Drop> From<E> for ImportFault
 where
     NoMemory: From<E>,

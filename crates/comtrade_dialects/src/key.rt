@@ -1,6 +1,6 @@
-//! What was read otherwise than it stands: the keys, which are stable, and what each means.
+//! The kinds of repairs. Their keys are stable.
 
-/// A kind of repair, or something odd that stays.
+/// A kind of repair, or an oddity that is kept or ignored.
 #[derive(Clone, Copy, Debug, PartialEq, Eq)]
 pub enum Key {
     /// Read as revision 1991.

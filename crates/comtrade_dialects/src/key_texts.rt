@@ -1,9 +1,9 @@
-//! What the keys of repairs are called, and what they mean in words.
+//! The names of the keys of repairs, and what each key means.
 
 use crate::key::Key;
 
 impl Key {
-    /// The key's name, as the manual lists it.
+    /// The name of the key, as the manual lists it.
     pub fn name(self) -> &'static str {
         match self {
             Key::Revision1991 => "revision-1991",

@@ -1,4 +1,4 @@
-//! The range of samples that the line of an analogue channel says.
+//! The range of samples in the line of an analogue channel.
 
 use crate::analog::Shape;
 use crate::draft::Range;
@@ -20,7 +20,7 @@ fn bound_of(text: &[u8]) -> Option<i32> {
     }
 }
 
-/// A bound in another form, as a whole number where it is one that 1999 can hold.
+/// A bound in another form, as a whole number if 1999 can hold it.
 fn loose_bound(mark: u8, line: u64, text: &[u8]) -> Result<Option<i32>, ImportFault> {
     let Some(spelled) = spelled_of(text, mark == b';') else {
         return Err(at(line, Why::Number));
@@ -31,7 +31,7 @@ fn loose_bound(mark: u8, line: u64, text: &[u8]) -> Result<Option<i32>, ImportFa
     }
 }
 
-/// The least and the greatest sample, and how they are said.
+/// The min and the max, and how the line declares them.
 pub(crate) fn range_of<A: Allocator + Copy>(
     notes: &mut Notes<A>,
     mark: u8,
