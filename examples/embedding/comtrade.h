@@ -83,7 +83,7 @@ struct comtrade_fault {
 int32_t comtrade_fault_text(const struct comtrade_fault *fault, char *buffer, size_t room, size_t *needed);
 
 /* The first fault of a pair as `comtrade check` says it, as `the configuration file: line 3 (analogue channel 1), field 6 (a, the
- * multiplier): found "x", expected ..`; an empty text where it has none. A zero at its end; `needed` and NO_ROOM as above;
+ * multiplier): "x" stands there; wanted is ..`; an empty text where it has none. A zero at its end; `needed` and NO_ROOM as above;
  * NO_MEMORY. It reads the pair anew. */
 int32_t comtrade_explain(const uint8_t *cfg, size_t cfg_length, const uint8_t *dat, size_t dat_length,
                          char *buffer, size_t room, size_t *needed);
