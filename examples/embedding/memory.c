@@ -184,7 +184,7 @@ static void edges(const comtrade *r) {
 }
 
 static void words(void) {
-    static const char said[] = "the configuration file: line 2 (numbers of channels)";
+    static const char said[] = "the configuration file: line 2 (channel counts)";
     char text[300];
     size_t needed = 99, first = 0;
     while (cfg[first++] != '\n') continue;

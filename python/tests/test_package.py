@@ -68,7 +68,7 @@ def test_faults():
     with pytest.raises(dfr_comtrade.CfgFault) as found:
         dfr_comtrade.read_bytes(cfg.replace(b"0.01", b"x"), dat)
     assert (found.value.line, found.value.field) == (3, 6)
-    assert str(found.value).startswith('the configuration file: line 3 (analogue channel 1), field 6 (a, the multiplier): "x" stands there; wanted is ')
+    assert str(found.value).startswith('the configuration file: line 3 (analogue channel 1), field 6 (a, the multiplier): found "x", expected ')
     with pytest.raises(dfr_comtrade.DatFault, match="^the data file: "):
         dfr_comtrade.read_bytes(cfg, dat[:-1])
     assert dfr_comtrade.explain(cfg, dat) == ""

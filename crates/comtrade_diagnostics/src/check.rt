@@ -1,4 +1,4 @@
-//! The fault of a pair of files in words, or that it has none.
+//! Describes the first error of a pair of files, or states that the pair has none.
 
 ghost use Rattle.std.specs.Prelude.{◌≡◌, OnErr, OnOk};
 ghost use Rattle.comtrade_diagnostics.specs.Puts.{PutsLine};
@@ -13,7 +13,7 @@ use comtrade_io::{kind_name, put, put_count, put_safe};
 use comtrade_read::{Fault, Part, read_cfg};
 use std::alloc::{AllocError, Allocator};
 
-/// The bytes of two files, and what they are called.
+/// The bytes of both files, and the names to print for them.
 #[derive(Clone, Copy, Debug)]
 pub struct Pair<'a> {
     pub cfg_name: &'a [u8],
@@ -22,7 +22,7 @@ pub struct Pair<'a> {
     pub dat: &'a [u8],
 }
 
-/// A fault's words: the file, the line, the field, what stands there and what is wanted.
+/// Describes an error: the file, the line, the field, what was found and what was expected.
 fn put_fault_words<A: Allocator + Copy>(
     alloc: A,
     out: &mut Vec<u8, A>,
@@ -46,7 +46,8 @@ fn put_fault_words<A: Allocator + Copy>(
     }
 }
 
-/// The line that names a fault: the file, the line, the field, what stands there and what is wanted.
+/// Appends one line on an error: the file, the line, the field, what was found and what
+/// was expected.
 pub fn put_fault<A: Allocator + Copy>(
     alloc: A,
     out: &mut Vec<u8, A>,
@@ -61,7 +62,7 @@ pub fn put_fault<A: Allocator + Copy>(
     put_line(out, &mut line)
 }
 
-/// That a pair has no fault, and what is odd about the file that it reads to.
+/// Appends a line on a pair without errors, then a note for each kind of oddity in its file.
 pub fn put_no_fault<A: Allocator + Copy>(
     out: &mut Vec<u8, A>,
     pair: Pair<'_>,
@@ -71,7 +72,7 @@ pub fn put_no_fault<A: Allocator + Copy>(
     put_safe(out, pair.cfg_name)?;
     put(out, ", ")?;
     put_safe(out, pair.dat_name)?;
-    put(out, ": no fault; ")?;
+    put(out, ": no errors; ")?;
     put(out, kind_name(file.head.kind))?;
     put(out, " data, ")?;
     put_count(

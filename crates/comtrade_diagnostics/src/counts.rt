@@ -1,9 +1,9 @@
-//! How many lines and rows a head says there are.
+//! How many lines and rows a head declares.
 
 use comtrade_format::Head;
 use std::alloc::Allocator;
 
-/// How many lines of a kind a configuration file has.
+/// The number of lines of each kind in a configuration file.
 #[derive(Clone, Copy)]
 pub(crate) struct Counts {
     pub(crate) analog: u64,
@@ -12,7 +12,7 @@ pub(crate) struct Counts {
 }
 
 impl Counts {
-    /// The counts that a head says.
+    /// The counts of a head.
     pub(crate) fn of<A: Allocator>(head: &Head<A>) -> Counts {
         Counts {
             analog: head.analog.items().len() as u64,
@@ -22,7 +22,7 @@ impl Counts {
     }
 }
 
-/// How many rows a head says there are.
+/// The number of rows that a head declares.
 pub(crate) fn rows_of<A: Allocator>(head: &Head<A>) -> u64 {
     match head.rates.items().last() {
         Some(rate) => rate.endsamp,

@@ -1,4 +1,5 @@
-//! A fault of a pair of files in words: the line, the field's name, what stood there, what is wanted.
+//! Describes an error of a pair of files: the line, the field's name, what was found and what
+//! was expected.
 
 ghost use Rattle.std.specs.Prelude.{◌<◌, IfOk};
 ghost use Rattle.comtrade_diagnostics.specs.Places.{AreFew};
@@ -13,7 +14,7 @@ use comtrade_read::ReadFault;
 use dfr_channels::{fields_of, integer_of, lines_of, without_blank_end};
 use std::alloc::{AllocError, Allocator};
 
-/// The line with this number from 1, empty where there is none.
+/// The line with this number, counted from 1; empty if there is none.
 pub(crate) fn line_at<'a>(lines: &[&'a [u8]], line: u64) -> &'a [u8] {
     let Ok(at) = usize::try_from(line.saturating_sub(1)) else {
         return b"";
@@ -24,7 +25,7 @@ pub(crate) fn line_at<'a>(lines: &[&'a [u8]], line: u64) -> &'a [u8] {
     }
 }
 
-/// The field with this number from 1, empty where there is none.
+/// The field with this number, counted from 1; empty if there is none.
 fn field_of<'a, A: Allocator + Copy>(
     alloc: A,
     line: &'a [u8],
@@ -37,7 +38,7 @@ fn field_of<'a, A: Allocator + Copy>(
     }
 }
 
-/// A whole number below a million, 0 where the text isn't one.
+/// A whole number below a million; 0 if the text is not one.
 fn number_in(text: &[u8]) -> u64
     ensures { result < 1_000_000 }
 {
@@ -47,7 +48,7 @@ fn number_in(text: &[u8]) -> u64
     }
 }
 
-/// The number before a field's last letter.
+/// The number before the last letter of a field.
 fn lettered<A: Allocator + Copy>(alloc: A, line: &[u8], field: u32) -> Result<u64, AllocError>
     ensures { IfOk result (λ n. n < 1_000_000) }
 {
@@ -57,7 +58,7 @@ fn lettered<A: Allocator + Copy>(alloc: A, line: &[u8], field: u32) -> Result<u6
     }
 }
 
-/// How many lines of a kind the configuration file says it has, as far as it can be read.
+/// The counts that the configuration file declares, as far as they can be read.
 fn counts_in<A: Allocator + Copy>(alloc: A, lines: &[&[u8]]) -> Result<Counts, AllocError>
     ensures { IfOk result AreFew }
 {
@@ -97,19 +98,19 @@ pub(crate) fn put_line<A: Allocator>(
     put(out, ")")
 }
 
-/// What stands there, and what is wanted.
+/// Appends what was found and what was expected.
 fn put_wanted<A: Allocator>(
     out: &mut Vec<u8, A>,
     text: &[u8],
     wanted: &str,
 ) -> Result<(), AllocError> {
-    put(out, ": ")?;
+    put(out, ": found ")?;
     put_quoted(out, text)?;
-    put(out, " stands there; wanted is ")?;
+    put(out, ", expected ")?;
     put(out, wanted)
 }
 
-/// A field that can't be read.
+/// Describes a field that cannot be read.
 pub(crate) fn put_field<A: Allocator + Copy>(
     alloc: A,
     out: &mut Vec<u8, A>,
@@ -125,7 +126,7 @@ pub(crate) fn put_field<A: Allocator + Copy>(
     put_wanted(out, text, named.1)
 }
 
-/// Another number of fields than is wanted.
+/// Describes a wrong number of fields.
 pub(crate) fn put_field_count<A: Allocator + Copy>(
     alloc: A,
     out: &mut Vec<u8, A>,
@@ -133,15 +134,15 @@ pub(crate) fn put_field_count<A: Allocator + Copy>(
     wanted: u64,
     names: &str,
 ) -> Result<(), AllocError> {
-    put(out, ": ")?;
+    put(out, ": found ")?;
     let count = fields_of(alloc, text)?.len();
-    put_count(out, count as u64, " field stands", " fields stand")?;
+    put_count(out, count as u64, " field", " fields")?;
     put(
         out,
         if wanted == 1 {
-            " there; wanted is "
+            ", expected only "
         } else {
-            " there; wanted are "
+            ", expected "
         },
     )?;
     put_number(out, wanted)?;
@@ -149,7 +150,7 @@ pub(crate) fn put_field_count<A: Allocator + Copy>(
     put(out, names)
 }
 
-/// Numbers that don't agree.
+/// Describes numbers that contradict each other.
 fn put_disagreement<A: Allocator + Copy>(
     alloc: A,
     out: &mut Vec<u8, A>,
@@ -162,18 +163,18 @@ fn put_disagreement<A: Allocator + Copy>(
             put_number(out, n)
         }
         Place::Rate(_) => {
-            let wanted = "a number that isn't below that of the rate before";
-            put_field(alloc, out, text, 2, ("number of its last row", wanted))
+            let wanted = "a number not below that of the previous rate";
+            put_field(alloc, out, text, 2, ("last row at this rate", wanted))
         }
         _ => put_wanted(
             out,
             text,
-            "a total that is the sum of both counts, and isn't 0",
+            "a total that is the sum of both counts and not 0",
         ),
     }
 }
 
-/// A first line of another revision.
+/// Describes a first line of another revision.
 fn put_revision<A: Allocator + Copy>(
     alloc: A,
     out: &mut Vec<u8, A>,
@@ -183,13 +184,13 @@ fn put_revision<A: Allocator + Copy>(
     if fields_of(alloc, text)?.len() < 3 {
         return put(
             out,
-            ": no revision stands there, as in files of 1991; wanted is 1999 as field 3",
+            ": found no revision (as in files of 1991), expected 1999 as field 3",
         );
     }
     put_field(alloc, out, text, 3, ("revision", "1999"))
 }
 
-/// A line that isn't there, or one too many.
+/// Describes a missing line, or text after the last line.
 fn put_end<A: Allocator>(
     out: &mut Vec<u8, A>,
     line: u64,
@@ -198,7 +199,7 @@ fn put_end<A: Allocator>(
 ) -> Result<(), AllocError> {
     put_line(out, line, place)?;
     match place {
-        Place::After => put_wanted(out, text, "nothing"),
+        Place::After => put_wanted(out, text, "the end of the file"),
         _ => put(out, ": the file ends before this line"),
     }
 }
@@ -224,13 +225,13 @@ fn put_at_line<A: Allocator + Copy>(
         ReadFault::Instant(_) => put_wanted(
             out,
             text,
-            "a date and a time of the years 1 to 9999 without leap seconds, dd/mm/yyyy,hh:mm:ss.ssssss",
+            "a valid date and time as dd/mm/yyyy,hh:mm:ss.ssssss (years 1 to 9999, no leap second)",
         ),
         _ => put_wanted(out, text, "ASCII or BINARY"),
     }
 }
 
-/// A fault of a configuration file.
+/// Describes an error of a configuration file.
 pub(crate) fn put_cfg_fault<A: Allocator + Copy>(
     alloc: A,
     out: &mut Vec<u8, A>,
@@ -262,7 +263,8 @@ pub(crate) fn put_cfg_fault<A: Allocator + Copy>(
     put_other_form(alloc, out, lines, counts, line)
 }
 
-/// `line 3 (analogue channel 1), field 2 (id): "IA" stands there`, of the lines of a configuration file.
+/// Appends `line 3 (analogue channel 1), field 2 (id): "IA" cannot be written` for a field in the
+/// lines of a configuration file.
 fn put_field_there<A: Allocator + Copy>(
     alloc: A,
     out: &mut Vec<u8, A>,
@@ -279,10 +281,10 @@ fn put_field_there<A: Allocator + Copy>(
     put(out, name)?;
     put(out, "): ")?;
     put_quoted(out, text)?;
-    put(out, " stands there")
+    put(out, " cannot be written")
 }
 
-/// The same of a configuration file that can be read.
+/// The same for the bytes of a configuration file that can be read.
 pub(crate) fn put_line_of<A: Allocator + Copy>(
     alloc: A,
     out: &mut Vec<u8, A>,

@@ -1,4 +1,4 @@
-//! A fault of a data file in words.
+//! Describes an error of a data file.
 
 use crate::counts::{Counts, rows_of};
 use crate::describe::{line_at, put_field, put_field_count, put_place};
@@ -9,7 +9,7 @@ use comtrade_read::ReadFault;
 use dfr_channels::lines_of;
 use std::alloc::{AllocError, Allocator};
 
-/// How many bytes a row of a binary data file has.
+/// The number of bytes in a row of a binary data file.
 fn row_size(counts: Counts) -> u64 {
     let groups = counts.status.saturating_add(15) / 16;
     counts
@@ -19,21 +19,21 @@ fn row_size(counts: Counts) -> u64 {
         .saturating_add(8)
 }
 
-/// A binary data file of another size.
+/// Describes a binary data file of the wrong size.
 fn put_length<A: Allocator>(
     out: &mut Vec<u8, A>,
     head: &Head<A>,
     size: usize,
 ) -> Result<(), AllocError> {
-    put_count(out, size as u64, " byte stands", " bytes stand")?;
+    put_count(out, size as u64, " byte found", " bytes found")?;
     let (rows, row_size) = (rows_of(head), row_size(Counts::of(head)));
-    put_with(out, " there; wanted are ", rows.saturating_mul(row_size))?;
+    put_with(out, ", expected ", rows.saturating_mul(row_size))?;
     put(out, ": ")?;
     put_count(out, rows, " row of ", " rows of ")?;
     put_count(out, row_size, " byte", " bytes")
 }
 
-/// A row that can't be read.
+/// Describes a row that cannot be read.
 fn put_row<A: Allocator + Copy>(
     alloc: A,
     out: &mut Vec<u8, A>,
@@ -68,7 +68,7 @@ fn put_row<A: Allocator + Copy>(
     }
 }
 
-/// The rows that a configuration file says there are.
+/// Appends the line of the error, and how many rows the configuration file specifies.
 fn put_rows<A: Allocator>(
     out: &mut Vec<u8, A>,
     line: u64,
@@ -77,12 +77,12 @@ fn put_rows<A: Allocator>(
 ) -> Result<(), AllocError> {
     put_with(out, "line ", line)?;
     put(out, stands)?;
-    put(out, "; wanted are ")?;
+    put(out, "; expected ")?;
     put_count(out, rows, " row", " rows")?;
-    put(out, ", as the configuration file says")
+    put(out, ", as the configuration file specifies")
 }
 
-/// A fault of a data file under the head of its configuration file.
+/// Describes an error of a data file, given the head of its configuration file.
 pub(crate) fn put_dat_fault<A: Allocator + Copy>(
     alloc: A,
     out: &mut Vec<u8, A>,
@@ -96,7 +96,7 @@ pub(crate) fn put_dat_fault<A: Allocator + Copy>(
             return put_rows(out, line, rows, ": the file ends before this line");
         }
         ReadFault::Extra(line) => {
-            return put_rows(out, line, rows, ": stands after the last row");
+            return put_rows(out, line, rows, ": found a line after the last row");
         }
         ReadFault::Fields(line) | ReadFault::Number(line, _) => line,
         _ => return put_length(out, head, dat.len()),

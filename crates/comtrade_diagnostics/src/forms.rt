@@ -1,5 +1,5 @@
-//! Lines of a configuration file by their form, where a line of another kind is wanted: what stands there, and which counts say
-//! otherwise.
+//! Recognises lines of a configuration file by their form. Where a line of another kind was
+//! expected, names the kind found and the counts to check.
 
 ghost use Rattle.comtrade_diagnostics.specs.Places.{AreFew, IsPlace};
 
@@ -10,7 +10,7 @@ use comtrade_io::{put, put_quoted};
 use dfr_channels::{Decimal, fields_of};
 use std::alloc::{AllocError, Allocator};
 
-/// What a line looks like, by its fields alone.
+/// The kind of a line, judging by its fields alone.
 #[derive(Clone, Copy, PartialEq, Eq)]
 enum Form {
     Analog,
@@ -21,7 +21,7 @@ enum Form {
     Type,
 }
 
-/// The form of a line that is wanted, where no other kind's is like it.
+/// The form expected at a place, if no other kind of line has the same form.
 fn form_wanted(place: Place) -> Option<Form> {
     match place {
         Place::Analog(_) => Some(Form::Analog),
@@ -38,7 +38,7 @@ fn is_number(text: &[u8]) -> bool {
     Decimal::read(text).is_some()
 }
 
-/// The form of a line with these fields, where it has that of one kind alone.
+/// The form of a line with these fields, if only one kind of line has that form.
 fn form_of(fields: &[&[u8]]) -> Option<Form> {
     match fields {
         [text] if text.starts_with(b"ASCII") || text.starts_with(b"BINARY") => Some(Form::Type),
@@ -53,12 +53,12 @@ fn form_of(fields: &[&[u8]]) -> Option<Form> {
     }
 }
 
-/// The form of a line with these fields, where one of another form is wanted.
+/// The form of a line with these fields, if a line of another form was expected.
 fn other_form(fields: &[&[u8]], place: Place) -> Option<Form> {
     let wanted = form_wanted(place)?;
     let form = form_of(fields)?;
-    // whether counts that don't agree with the lines put it here: a frequency that looks like a rate has a decimal comma, and a rate that
-    // looks like a number has no last row
+    // whether wrong counts misplaced the line: a frequency that looks like a rate has a decimal
+    // comma, and a rate that looks like a number has no last row
     let is_misplaced = match place {
         Place::Analog(_) | Place::Status(_) => true,
         Place::Frequency | Place::TimeMultiplier => form != Form::Rate,
@@ -71,19 +71,19 @@ fn other_form(fields: &[&[u8]], place: Place) -> Option<Form> {
     }
 }
 
-/// What a line of this form looks like.
+/// What a line of this form is called in messages.
 fn form_name(form: Form) -> &'static str {
     match form {
         Form::Analog => "an analogue channel",
         Form::Status => "a status channel",
         Form::Number => "a single number",
         Form::Rate => "a rate",
-        Form::Instant => "an instant",
-        Form::Type => "the type of the data file",
+        Form::Instant => "a date and time",
+        Form::Type => "a data file type",
     }
 }
 
-/// The line whose counts say what stands here.
+/// The line whose counts decide which kind of line is expected at this place.
 fn counting_line(counts: Counts, place: Place) -> (u64, Place)
     requires { AreFew counts }
     ensures { IsPlace counts result.0 result.1 }
@@ -96,7 +96,8 @@ fn counting_line(counts: Counts, place: Place) -> (u64, Place)
     }
 }
 
-/// What a line looks like that stands where one of another kind is wanted, and the counts by which that one is wanted.
+/// If a line of another kind was expected, appends what the line looks like and which counts
+/// to check.
 pub(crate) fn put_other_form<A: Allocator + Copy>(
     alloc: A,
     out: &mut Vec<u8, A>,
@@ -110,11 +111,11 @@ pub(crate) fn put_other_form<A: Allocator + Copy>(
     let Some(form) = other_form(&fields_of(alloc, line_at(lines, line))?, place) else {
         return Ok(());
     };
-    put(out, "; the line looks like ")?;
+    put(out, "; this line looks like ")?;
     put(out, form_name(form))?;
-    put(out, ", and ")?;
+    put(out, ", so check ")?;
     let (line, place) = counting_line(counts, place);
     put_line(out, line, place)?;
-    put(out, " says ")?;
+    put(out, ": ")?;
     put_quoted(out, line_at(lines, line))
 }

@@ -1,4 +1,4 @@
-//! Which files `import` reads that the exact reader refuses, and what they are.
+//! Hints on files that the exact reader refuses: what they are, and whether `import` reads them.
 
 ghost use Rattle.std.specs.Prelude.{◌≡◌, OnErr, OnOk};
 ghost use Rattle.comtrade_diagnostics.specs.Puts.{PutsLine};
@@ -11,7 +11,7 @@ use comtrade_dialects::{Choices, ImportFault, Key, Note};
 use comtrade_io::{put, put_safe};
 use std::alloc::{AllocError, Allocator};
 
-/// What files are by a repair that they need.
+/// The nature of a file, given a repair that it needs.
 fn nature_of(key: Key) -> Option<&'static str> {
     match key {
         Key::Revision1991 => Some("a file of 1991"),
@@ -22,7 +22,7 @@ fn nature_of(key: Key) -> Option<&'static str> {
     }
 }
 
-/// What a text is by its bytes, where it isn't ASCII with lines of its own.
+/// The nature of a text, given its bytes; None for ordinary text.
 fn nature_of_text(text: &[u8]) -> Option<&'static str> {
     match text {
         [0xff, 0xfe, ..] | [0xfe, 0xff, ..] | [_, 0, _, 0, ..] | [0, _, 0, _, ..] => {
@@ -33,14 +33,14 @@ fn nature_of_text(text: &[u8]) -> Option<&'static str> {
     let mut before = (0u8, 0u8);
     for b in text {
         if *b == b'\n' && before == (b'\r', b'\r') {
-            return Some("lines that end in CR CR LF");
+            return Some("lines ending in CR CR LF");
         }
         before = (before.1, *b);
     }
     None
 }
 
-/// A piece of a list.
+/// Appends an item of a list.
 fn put_piece<A: Allocator>(
     out: &mut Vec<u8, A>,
     is_first: &mut bool,
@@ -53,7 +53,8 @@ fn put_piece<A: Allocator>(
     put(out, text)
 }
 
-/// What the files are, by their bytes and by their repairs: whether anything is put.
+/// Appends what the files are, given their text and their repairs. Returns whether it
+/// appended anything.
 fn put_natures<A: Allocator>(
     out: &mut Vec<u8, A>,
     text: Option<&str>,
@@ -71,7 +72,7 @@ fn put_natures<A: Allocator>(
     Ok(!is_first)
 }
 
-/// That `import` reads the files, with the keys of its repairs.
+/// Appends that `import` reads the files, with the keys of its repairs.
 fn put_reads<A: Allocator>(out: &mut Vec<u8, A>, notes: &[Note<A>]) -> Result<(), AllocError> {
     put(out, "`comtrade import` reads it")?;
     if notes.is_empty() {
@@ -85,7 +86,7 @@ fn put_reads<A: Allocator>(out: &mut Vec<u8, A>, notes: &[Note<A>]) -> Result<()
     put(out, ")")
 }
 
-/// The line on a pair that has a fault, where `import` reads it, or where its text is of another kind.
+/// Appends a line on a pair with an error, if `import` reads the pair or its text is unusual.
 pub fn put_hint<A: Allocator + Copy>(
     alloc: A,
     out: &mut Vec<u8, A>,
@@ -118,7 +119,7 @@ pub fn put_hint<A: Allocator + Copy>(
     put(out, "\n")
 }
 
-/// What a single file is, and that `import` reads it, or why it doesn't.
+/// Appends what a single file is, and that `import` reads it or why it cannot.
 fn put_single_words<A: Allocator + Copy>(
     alloc: A,
     out: &mut Vec<u8, A>,
@@ -131,13 +132,13 @@ fn put_single_words<A: Allocator + Copy>(
         Err(ImportFault::Memory) => Err(AllocError),
         Err(fault) => {
             let text = format!(in alloc; "{fault}")?;
-            put(out, "`comtrade import` doesn't read it: ")?;
+            put(out, "`comtrade import` cannot read it: ")?;
             put_safe(out, text.as_str().as_bytes())
         }
     }
 }
 
-/// The line on a single file: what it is, and that `import` reads it, or why it doesn't.
+/// Appends a line on a single file: what it is, and that `import` reads it or why it cannot.
 pub fn put_single<A: Allocator + Copy>(
     alloc: A,
     out: &mut Vec<u8, A>,

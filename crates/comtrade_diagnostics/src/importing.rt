@@ -1,4 +1,4 @@
-//! A pair, or a single file, as a file of 1999 that says the same.
+//! Converts a pair or a single file to a file of 1999 with the same contents.
 
 ghost use Rattle.std.specs.Prelude.{◌≡◌, [], true, false, IfOk, IfSome};
 ghost use Rattle.comtrade_read.specs.Reads.{Reads};
@@ -8,18 +8,18 @@ use comtrade_format::{File, WriteFault};
 use comtrade_read::{ReadFault, Written, read, written_of};
 use std::alloc::{Allocator, Global};
 
-/// A file of 1999, its two texts, and what was read otherwise than it stands.
+/// A file of 1999, its two texts, and notes on the repairs.
 #[derive(Drop)]
 pub struct Imported<A: Allocator = Global> {
     pub file: File<A>,
     pub cfg: Vec<u8, A>,
     pub dat: Vec<u8, A>,
     pub notes: Vec<Note<A>, A>,
-    /// The pair reads exactly to this file, and there is no note.
+    /// The pair reads exactly to this file, and there are no notes.
     pub is_exact: bool,
 }
 
-/// A file with both its texts; a fault where no file of 1999 can hold it.
+/// A file with both its texts; an error if no file of 1999 can hold it.
 fn finished<A: Allocator + Copy>(
     alloc: A,
     file: File<A>,
@@ -53,7 +53,7 @@ fn unwritten(fault: WriteFault) -> ImportFault {
     }
 }
 
-/// The pair, read with all repairs that it needs.
+/// Reads the pair with all repairs that it needs.
 pub(crate) fn loose<A: Allocator + Copy>(
     alloc: A,
     mut notes: Notes<A>,
@@ -68,7 +68,8 @@ pub(crate) fn loose<A: Allocator + Copy>(
     finished(alloc, file, notes.into_list(), false)
 }
 
-/// The pair as it reads exactly, where it is meant so and a file of 1999 can hold it.
+/// Reads the pair exactly. None if it cannot be read so, needs a repair, or does not fit a file
+/// of 1999.
 fn exact<A: Allocator + Copy>(
     alloc: A,
     cfg: &[u8],
@@ -93,8 +94,9 @@ fn exact<A: Allocator + Copy>(
     }
 }
 
-/// A pair of any revision as a file of 1999 that says the same, with each repair told. Both texts that come out read to that file. A
-/// pair that reads exactly, and is meant as it reads, comes out as it is.
+/// Converts a pair of any revision to a file of 1999 with the same contents, and notes each repair.
+/// Both resulting texts read back to that file. A pair that is already valid and unambiguous keeps
+/// its contents, without notes.
 pub fn import<A: Allocator + Copy>(
     alloc: A,
     cfg: &[u8],

@@ -1,6 +1,7 @@
-//! What is wrong with a pair of COMTRADE files of C37.111-1999, in words: where it stands, what stands there and what is wanted. And
-//! files as relays and programs really write them, of 1991, 1999 and 2013, as a file of 1999 that says the same, with each repair told, in
-//! two texts that read to it; what dialects mean stands in `comtrade_dialects`.
+//! Error messages for pairs of COMTRADE files (C37.111-1999): where the error is, what was found
+//! and what was expected. Also imports files as relays and programs write them (1991, 1999, 2013):
+//! a file of 1999 with the same contents, a note on each repair, and two texts that read back to
+//! it. The crate `comtrade_dialects` interprets the dialects.
 #![tactic(auto)]
 
 mod check;

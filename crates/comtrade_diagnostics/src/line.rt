@@ -1,4 +1,4 @@
-//! A line that is put whole or not at all.
+//! Appends a line completely or not at all.
 
 ghost use Rattle.std.specs.Prelude.{◌≡◌, OnErr, OnOk};
 ghost use Rattle.comtrade_diagnostics.specs.Puts.{PutsLine};
@@ -6,7 +6,7 @@ ghost use Rattle.comtrade_diagnostics.specs.Puts.{PutsLine};
 use comtrade_io::put;
 use std::alloc::{AllocError, Allocator};
 
-/// Appends the line, to which it adds its end; nothing where an allocation fails.
+/// Appends the line with a line end; appends nothing if an allocation fails.
 pub(crate) fn put_line<A: Allocator>(
     out: &mut Vec<u8, A>,
     line: &mut Vec<u8, A>,

@@ -1,11 +1,12 @@
-//! What each line and field of both files is called, and what may stand there (C37.111-1999, clauses 5 and 6).
+//! The name of each line and field of both files, and what is valid there (C37.111-1999, clauses 5
+//! and 6).
 
 ghost use Rattle.comtrade_diagnostics.specs.declared.names.Place.TheVariants.{RateCount, DataType};
 ghost use Rattle.comtrade_diagnostics.specs.Places.{AreFew, IsPlace};
 
 use crate::counts::Counts;
 
-/// What a line of a configuration file is; channels and rates count from 1 of their kind.
+/// The role of a line of a configuration file. Channels and rates are counted from 1 in their kind.
 #[derive(Clone, Copy)]
 pub(crate) enum Place {
     Station,
@@ -22,7 +23,7 @@ pub(crate) enum Place {
     After,
 }
 
-/// What the line with this number is, counted from 1.
+/// The role of the line with this number, counted from 1.
 pub(crate) fn place_at(counts: Counts, line: u64) -> Place
     ensures { IsPlace counts line result }
 {
@@ -56,7 +57,7 @@ pub(crate) fn place_at(counts: Counts, line: u64) -> Place
     }
 }
 
-/// The number of the line that says how many rates there are.
+/// The number of the line with the number of rates.
 pub(crate) fn rate_count_line(counts: Counts) -> u64
     requires { AreFew counts }
     ensures { IsPlace counts result RateCount }
@@ -64,7 +65,7 @@ pub(crate) fn rate_count_line(counts: Counts) -> u64
     counts.analog + counts.status + 4
 }
 
-/// The number of the line that says the data file's type.
+/// The number of the line with the data file type.
 pub(crate) fn type_line(counts: Counts) -> u64
     requires { AreFew counts }
     ensures { IsPlace counts result DataType }
@@ -72,37 +73,40 @@ pub(crate) fn type_line(counts: Counts) -> u64
     counts.analog + counts.status + counts.rates + 7
 }
 
-/// A line's name, and whether a number follows it.
+/// The name of a line, and the number that follows the name, if any.
 pub(crate) fn place_name(place: Place) -> (&'static str, Option<u64>) {
     match place {
         Place::Station => ("station and device", None),
-        Place::Channels => ("numbers of channels", None),
+        Place::Channels => ("channel counts", None),
         Place::Analog(n) => ("analogue channel ", Some(n)),
         Place::Status(n) => ("status channel ", Some(n)),
         Place::Frequency => ("line frequency", None),
         Place::RateCount => ("number of rates", None),
         Place::Rate(n) => ("rate ", Some(n)),
-        Place::First => ("instant of the first row", None),
-        Place::Trigger => ("trigger instant", None),
-        Place::DataType => ("type of the data file", None),
+        Place::First => ("time of the first row", None),
+        Place::Trigger => ("trigger time", None),
+        Place::DataType => ("data file type", None),
         Place::TimeMultiplier => ("time multiplier", None),
         Place::After => ("after the last line", None),
     }
 }
 
-/// The number of a line's fields, and their names.
+/// The number of fields in a line, and their names.
 pub(crate) fn fields_wanted(place: Place) -> (u64, &'static str) {
     match place {
         Place::Station => (3, "station, device, 1999"),
-        Place::Channels => (3, "total, analogue channels with A, status channels with D"),
+        Place::Channels => (
+            3,
+            "total, analogue channels (such as 8A), status channels (such as 4D)",
+        ),
         Place::Analog(_) => (
             13,
             "n, id, phase, component, unit, a, b, skew, min, max, primary, secondary, P or S",
         ),
         Place::Status(_) => (5, "n, id, phase, component, normal state"),
         Place::Frequency => (1, "the frequency in Hz"),
-        Place::RateCount => (1, "how many rates follow"),
-        Place::Rate(_) => (2, "scans a second, number of its last row"),
+        Place::RateCount => (1, "the number of rates"),
+        Place::Rate(_) => (2, "scans per second, last row at this rate"),
         Place::First => (2, "dd/mm/yyyy, hh:mm:ss.ssssss"),
         Place::Trigger => (2, "dd/mm/yyyy, hh:mm:ss.ssssss"),
         Place::DataType => (1, "ASCII or BINARY"),
@@ -111,13 +115,14 @@ pub(crate) fn fields_wanted(place: Place) -> (u64, &'static str) {
     }
 }
 
-/// A field's name, and what is wanted there.
+/// The name of a field, and what is expected there.
 type Named = (&'static str, &'static str);
 
-const DECIMAL: &str = "a decimal of at most 36 digits and 80 places, as 0.01 or 1.5E-3";
+const DECIMAL: &str =
+    "a decimal number such as 0.01 or 1.5E-3 (at most 36 digits and 80 decimal places)";
 
 const DECIMAL_OR_NONE: &str =
-    "a decimal of at most 36 digits and 80 places, as 0.01 or 1.5E-3, or nothing";
+    "a decimal number such as 0.01 or 1.5E-3 (at most 36 digits and 80 decimal places), or an empty field";
 
 const SAMPLE: &str = "a whole number from -99999 to 99999";
 
@@ -132,7 +137,7 @@ fn analog_field(field: u32) -> Named {
         11 => ("primary", DECIMAL_OR_NONE),
         12 => ("secondary", DECIMAL_OR_NONE),
         13 => ("side", "P or S"),
-        _ => ("text", "a text"),
+        _ => ("text", "text"),
     }
 }
 
@@ -141,35 +146,38 @@ fn count_field(field: u32) -> Named {
         1 => ("total of channels", "a whole number from 1 to 999999"),
         2 => (
             "analogue channels",
-            "a whole number to 999999 with an A, as 8A",
+            "a whole number up to 999999 followed by A, such as 8A",
         ),
         _ => (
             "status channels",
-            "a whole number to 999999 with a D, as 4D",
+            "a whole number up to 999999 followed by D, such as 4D",
         ),
     }
 }
 
-/// A field of a configuration file, counted from 1, that can't be read where it is wrong.
+/// The name of a field (counted from 1) of a configuration file, and what is expected there.
 pub(crate) fn field_at(place: Place, field: u32) -> Named {
     match place {
         Place::Channels => count_field(field),
         Place::Analog(_) => analog_field(field),
         Place::Status(_) if field == 1 => ("channel number", "a whole number"),
-        Place::Status(_) => ("normal state", "0 or 1, or nothing"),
-        Place::Frequency => ("line frequency", "a decimal, as 50, or nothing"),
+        Place::Status(_) => ("normal state", "0, 1 or an empty field"),
+        Place::Frequency => (
+            "line frequency",
+            "a decimal number such as 50, or an empty field",
+        ),
         Place::RateCount => ("number of rates", "a whole number from 0 to 999"),
-        Place::Rate(_) if field == 1 => ("scans a second", DECIMAL),
+        Place::Rate(_) if field == 1 => ("scans per second", DECIMAL),
         Place::Rate(_) => (
-            "number of its last row",
+            "last row at this rate",
             "a whole number from 0 to 9999999999",
         ),
         Place::TimeMultiplier => ("time multiplier", DECIMAL),
-        _ => ("text", "a text"),
+        _ => ("text", "text"),
     }
 }
 
-/// What a field of a row is, and the channel that it belongs to.
+/// The name of a field of a row, what is expected there, and the channel that it belongs to.
 pub(crate) fn row_field(counts: Counts, field: u32) -> (Named, Place) {
     let field = field as u64;
     if field <= 1 {
@@ -182,7 +190,7 @@ pub(crate) fn row_field(counts: Counts, field: u32) -> (Named, Place) {
         return (
             (
                 "time stamp",
-                "a whole number from 0 to 9999999999, or nothing",
+                "a whole number from 0 to 9999999999, or an empty field",
             ),
             Place::After,
         );
@@ -190,7 +198,10 @@ pub(crate) fn row_field(counts: Counts, field: u32) -> (Named, Place) {
     let channel = field.saturating_sub(2);
     if channel <= counts.analog {
         return (
-            ("sample", "a whole number from -99999 to 99999, or nothing"),
+            (
+                "sample",
+                "a whole number from -99999 to 99999, or an empty field",
+            ),
             Place::Analog(channel),
         );
     }

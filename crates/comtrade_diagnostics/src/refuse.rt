@@ -1,4 +1,4 @@
-//! What a file of a kind can't hold, in words.
+//! Describes what a file of a kind cannot hold.
 
 ghost use Rattle.std.specs.Prelude.{◌≡◌, OnErr, OnOk};
 ghost use Rattle.comtrade_diagnostics.specs.Puts.{PutsLine};
@@ -12,7 +12,7 @@ use comtrade_io::{put, put_safe, put_signed, put_with};
 use comtrade_read::read;
 use std::alloc::{AllocError, Allocator};
 
-/// A text's name by its field, and what a file can hold there.
+/// The name of a text field, and what a file can hold there.
 fn text_field(line: u64, field: u32) -> (&'static str, &'static str) {
     const NAME: &str = "at most 64 printable ASCII characters";
     match (line, field) {
@@ -33,12 +33,12 @@ fn put_text<A: Allocator + Copy>(
 ) -> Result<(), AllocError> {
     let (name, wanted) = text_field(line, field);
     put_line_of(alloc, out, cfg, line, field, name)?;
-    put(out, "; a file that is written holds ")?;
+    put(out, "; expected ")?;
     put(out, wanted)?;
-    put(out, " there")
+    put(out, " in this field")
 }
 
-/// The sample of a row and a channel, both counted from 1, of the file that a pair reads to.
+/// The sample in a row and a channel (both counted from 1) of the file that a pair reads to.
 fn sample_at<A: Allocator + Copy>(alloc: A, pair: Pair<'_>, row: u64, channel: u32) -> Option<i32> {
     match read(alloc, pair.cfg, pair.dat) {
         Ok(file) => sample_in(&file, row, u64::from(channel)),
@@ -56,14 +56,14 @@ fn put_sample<A: Allocator + Copy>(
     put_with(out, " (analogue channel ", channel as u64)?;
     put(out, "): ")?;
     if let Some(sample) = sample_at(alloc, pair, row, channel) {
-        put(out, "the sample ")?;
+        put(out, "sample ")?;
         put_signed(out, sample as i64)?;
-        put(out, " stands there; ")?;
+        put(out, " cannot be written; ")?;
     }
     Ok(())
 }
 
-/// What a file of this kind can't hold of a pair, by its place.
+/// Describes what a file of this kind cannot hold of a pair, and where it is.
 fn put_refused<A: Allocator + Copy>(
     alloc: A,
     out: &mut Vec<u8, A>,
@@ -82,8 +82,8 @@ fn put_refused<A: Allocator + Copy>(
             put(out, ": ")?;
             put_sample(alloc, out, pair, (row, channel))?;
             let held = match kind {
-                Kind::Ascii => "ASCII data hold -99999 to 99998",
-                Kind::Binary => "BINARY data hold -32767 to 32767",
+                Kind::Ascii => "ASCII data can hold -99999 to 99998",
+                Kind::Binary => "BINARY data can hold -32767 to 32767",
             };
             put(out, held)?;
         }
@@ -92,20 +92,20 @@ fn put_refused<A: Allocator + Copy>(
             put_with(out, ": row ", row)?;
             put(
                 out,
-                ": its number or its stamp is greater than the data can hold: ",
+                ": the row number or time stamp exceeds the limit of the data type: ",
             )?;
             let most = match kind {
                 Kind::Ascii => "9999999999",
-                Kind::Binary => "4294967295 and 4294967294",
+                Kind::Binary => "4294967295 (row number), 4294967294 (time stamp)",
             };
             put(out, most)?;
         }
-        _ => put(out, "the numbers of the file don't agree")?,
+        _ => put(out, "the parts of the file do not fit each other")?,
     }
     Ok(())
 }
 
-/// The line that says what a file of this kind can't hold of a pair, by its place.
+/// Appends a line on what a file of this kind cannot hold of a pair, and where it is.
 pub fn put_refusal<A: Allocator + Copy>(
     alloc: A,
     out: &mut Vec<u8, A>,

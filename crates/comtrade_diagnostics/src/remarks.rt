@@ -1,4 +1,4 @@
-//! What is odd about a pair that can be read, in words: a line for each kind, with its first place.
+//! Notes on oddities of a pair that can be read: one line for each kind, with the first place.
 
 use crate::check::Pair;
 use comtrade_dialects::{Doubt, doubts_of};
@@ -7,7 +7,7 @@ use comtrade_io::{put, put_safe, put_signed, put_with};
 use dfr_channels::Reading;
 use std::alloc::{AllocError, Allocator};
 
-/// The front of a line: the file, and the number of its first place.
+/// Appends the start of a note: the file, and the number of the first place.
 fn put_front<A: Allocator>(
     out: &mut Vec<u8, A>,
     name: &[u8],
@@ -19,14 +19,14 @@ fn put_front<A: Allocator>(
     put_with(out, place, number)
 }
 
-/// The end of a line: how many such places there are.
+/// Appends the end of a note: the number of such places.
 fn put_end<A: Allocator>(out: &mut Vec<u8, A>, doubt: Doubt, noun: &str) -> Result<(), AllocError> {
     put_with(out, "; ", doubt.count)?;
     put(out, noun)?;
     put(out, if doubt.count == 1 { "\n" } else { "s\n" })
 }
 
-/// A line on rows, or on lines of the configuration file, where there is one.
+/// Appends a note on rows or on lines of the configuration file, if there are any.
 fn put_places<A: Allocator>(
     out: &mut Vec<u8, A>,
     (name, place): (&[u8], &str),
@@ -42,7 +42,7 @@ fn put_places<A: Allocator>(
     put_end(out, doubt, noun)
 }
 
-/// The least and the greatest sample that a channel says.
+/// Appends the min and the max of a channel.
 fn put_range<A: Allocator>(
     out: &mut Vec<u8, A>,
     file: &File<A>,
@@ -60,7 +60,7 @@ fn put_range<A: Allocator>(
     }
 }
 
-/// The sample of a row and a channel, both counted from 1.
+/// The sample in a row and a channel, both counted from 1.
 pub(crate) fn sample_in<A: Allocator>(file: &File<A>, row: u64, channel: u64) -> Option<i32> {
     let row = usize::try_from(row.checked_sub(1)?).ok()?;
     let at = usize::try_from(channel.checked_sub(1)?).ok()?;
@@ -70,7 +70,8 @@ pub(crate) fn sample_in<A: Allocator>(file: &File<A>, row: u64, channel: u64) ->
     }
 }
 
-/// A line on samples at a channel's range, where there is one: the words before the sample and after it.
+/// Appends a note on samples outside or at the limits of a channel's range, if there are any, with
+/// these words before and after the sample.
 fn put_samples<A: Allocator>(
     out: &mut Vec<u8, A>,
     pair: Pair<'_>,
@@ -91,7 +92,7 @@ fn put_samples<A: Allocator>(
     put_end(out, doubt, noun)
 }
 
-/// A line on channels whose min is over their max, where there is one.
+/// Appends a note on channels whose min is above their max, if there are any.
 fn put_turned<A: Allocator>(
     out: &mut Vec<u8, A>,
     pair: Pair<'_>,
@@ -104,11 +105,12 @@ fn put_turned<A: Allocator>(
     let channel = doubt.channel;
     put_front(out, pair.cfg_name, ": analogue channel ", channel)?;
     put(out, ": min ")?;
-    put_range(out, file, channel, " is over max ")?;
+    put_range(out, file, channel, " is above max ")?;
     put_end(out, doubt, " such channel")
 }
 
-/// What is odd about a pair that reads to this file, which is no fault: a line for each kind, as `note: x.dat: row 2 ..`.
+/// Appends a note for each kind of oddity (not an error) of a pair that reads to this file, such as
+/// `note: x.dat: row 2 ..`.
 pub fn put_remarks<A: Allocator + Copy>(
     out: &mut Vec<u8, A>,
     pair: Pair<'_>,
@@ -119,31 +121,31 @@ pub fn put_remarks<A: Allocator + Copy>(
         out,
         (pair.cfg_name, ": line "),
         doubts.foreign,
-        ": a text isn't ASCII, as the standard wants it",
+        ": non-ASCII text (the standard requires ASCII)",
         " such line",
     )?;
     put_turned(out, pair, file, doubts.turned)?;
     for (doubt, words) in [
         (
             doubts.repeated,
-            ": its number isn't above that of the row before",
+            ": row number is not above that of the previous row",
         ),
         (
             doubts.falling,
-            ": its stamp is below that of the row before",
+            ": time stamp is below that of the previous row",
         ),
         (
             doubts.off,
-            ": its stamp and the rate disagree by over half an interval; the rate says the times",
+            ": time stamp and rate disagree by more than half an interval; times come from the rate",
         ),
     ] {
         put_places(out, (pair.dat_name, ": row "), doubt, words, " such row")?;
     }
-    let outside = ("): the sample ", " is outside its range, ");
+    let outside = ("): sample ", " is outside its range, ");
     put_samples(out, pair, file, doubts.outside, outside, " such sample")?;
     let flat = (
-        "): three samples or more in a row are ",
-        ", an end of the range ",
+        "): three or more consecutive samples are ",
+        ", a limit of the range ",
     );
     put_samples(out, pair, file, doubts.flat, flat, " such run")
 }

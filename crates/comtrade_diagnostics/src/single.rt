@@ -1,4 +1,4 @@
-//! A single file as a file of 1999 that says the same.
+//! Converts a single file to a file of 1999 with the same contents.
 
 ghost use Rattle.std.specs.Prelude.{IfOk};
 ghost use Rattle.comtrade_read.specs.Reads.{Reads};
@@ -9,7 +9,7 @@ use comtrade_dialects::{
 };
 use std::alloc::Allocator;
 
-/// The pair in a single file, whose text is ASCII or UTF-8.
+/// Reads the pair in a single file, whose text is ASCII or UTF-8.
 fn single<A: Allocator + Copy>(
     alloc: A,
     mut notes: Notes<A>,
@@ -23,7 +23,8 @@ fn single<A: Allocator + Copy>(
     loose(alloc, notes, sections.cfg, sections.dat, choices)
 }
 
-/// A single file as a file of 1999 that says the same, with each repair told. Both texts that come out read to that file.
+/// Converts a single file to a file of 1999 with the same contents, and notes each repair. Both
+/// resulting texts read back to that file.
 pub fn import_single<A: Allocator + Copy>(
     alloc: A,
     cff: &[u8],

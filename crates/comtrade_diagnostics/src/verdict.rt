@@ -1,4 +1,4 @@
-//! The check of a pair of files.
+//! Checks a pair of files.
 
 ghost use Rattle.std.specs.Prelude.{◌≡◌, IfOk, true, false};
 ghost use Rattle.comtrade_read.specs.Verdicts.{IsFile};
@@ -11,8 +11,8 @@ use comtrade_read::{Fault, ReadFault, read};
 use std::alloc::Allocator;
 use std::io::Write;
 
-/// Puts the first fault of a pair in words, and whether `import` reads it; or that it has none, and what is odd about it. True where it has
-/// none.
+/// Appends the first error of a pair and whether `import` reads it, or that it has none and what is
+/// odd about it. Returns true if it has none.
 fn put_verdict<A: Allocator + Copy>(
     alloc: A,
     out: &mut Vec<u8, A>,
@@ -24,7 +24,7 @@ fn put_verdict<A: Allocator + Copy>(
     match read(alloc, pair.cfg, pair.dat) {
         Ok(file) => {
             let put = put_no_fault(out, pair, &file);
-            // here, so that neither exit proves the drop of its parts
+            // dropped here, so that neither exit has to prove that its parts are dropped
             drop(file);
             put?;
             Ok(true)
@@ -38,8 +38,9 @@ fn put_verdict<A: Allocator + Copy>(
     }
 }
 
-/// Prints the first fault of a pair in words, and whether `import` reads it; or that it has none, and what is odd about it. True where it
-/// has none, and then the pair reads to a file; false where it has one, and then it reads to none.
+/// Prints the first error of a pair and whether `import` reads it, or that it has none and what is
+/// odd about it. Returns true if it has none: the pair then reads to a file. Returns false if it
+/// has one: the pair then reads to no file.
 pub fn check_over<A: Allocator + Copy, W: Write>(
     alloc: A,
     pair: Pair<'_>,

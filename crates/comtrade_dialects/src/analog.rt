@@ -10,16 +10,16 @@ use crate::range::range_of;
 use dfr_channels::{AnalogChannel, Decimal, Items, Side, integer_of};
 use std::alloc::Allocator;
 
-/// Where the fields of a line stand: those after the texts are so many to the right.
+/// The layout of a line; the fields after the texts may be shifted to the right.
 #[derive(Clone, Copy)]
 pub(crate) struct Shape<'a> {
     pub parts: Parts<'a>,
     pub line: u64,
-    /// Ten fields: no ratio and no side.
+    /// The line has ten fields, without ratio and side.
     is_short: bool,
 }
 
-/// A channel's own number, which is told where it isn't its place.
+/// Notes a channel number that differs from the channel's position.
 pub(crate) fn tell_index<A: Allocator + Copy>(
     notes: &mut Notes<A>,
     line: u64,
@@ -54,7 +54,7 @@ fn side_of<A: Allocator + Copy>(
     }
 }
 
-/// A number that may be empty and is 0 then, as the standard's reader takes it.
+/// A number that may be empty, which means 0 as in the exact reader.
 fn free_of<A: Allocator + Copy>(
     notes: &mut Notes<A>,
     mark: u8,
@@ -67,7 +67,7 @@ fn free_of<A: Allocator + Copy>(
     }
 }
 
-/// The ratio, of which an empty side is 1.
+/// The ratio; an empty side of it is 1.
 fn ratio_of<A: Allocator + Copy>(
     notes: &mut Notes<A>,
     mark: u8,
@@ -101,7 +101,7 @@ fn unit_of<A: Allocator + Copy>(
     Ok(Items::of(Vec::from_slice(notes.allocator(), b"NONE")?))
 }
 
-/// The numbers of a channel's line, and its side.
+/// The numbers and the side in a channel's line.
 #[derive(Clone, Copy)]
 struct Numbers {
     a: Decimal,
@@ -144,7 +144,7 @@ fn numbers_of<A: Allocator + Copy>(
     })
 }
 
-/// The channel that a line of so many fields says.
+/// The channel in a line with this layout.
 fn channel_of<A: Allocator + Copy>(
     notes: &mut Notes<A>,
     shape: Shape<'_>,
@@ -172,7 +172,7 @@ fn channel_of<A: Allocator + Copy>(
     })
 }
 
-/// Whether fields from one to another are numbers, or empty.
+/// Whether all fields of this range are numbers or empty.
 fn are_numbers(parts: &Parts<'_>, from: usize, to: usize) -> bool {
     for i in from..to {
         let field = parts.at(i);
@@ -183,7 +183,8 @@ fn are_numbers(parts: &Parts<'_>, from: usize, to: usize) -> bool {
     true
 }
 
-/// Whether a comma too many can stand in the text of this field: phase and unit are such, and what it parts is no number.
+/// Whether the extra comma can belong to the text of this field: phase and unit stay valid, and the
+/// part after the comma is not a number.
 fn can_join(parts: &Parts<'_>, joint: usize) -> bool {
     let joined = parts.joined(joint);
     let unit = joined.at(4);
@@ -193,7 +194,8 @@ fn can_join(parts: &Parts<'_>, joint: usize) -> bool {
         && Decimal::read(parts.at(joint.saturating_add(1))).is_none()
 }
 
-/// The fields of a line of one too many, where its comma can only stand in the id or in the component.
+/// The fields of a line with one field too many, if the extra comma can only belong to the id or
+/// the component.
 fn told_apart<'a>(parts: &Parts<'a>) -> Option<Parts<'a>> {
     let has_side = matches!(parts.at(13), [b'P' | b'p' | b'S' | b's']);
     let can_be = parts.full == 14 && has_side && are_numbers(parts, 6, 13)
@@ -205,7 +207,7 @@ fn told_apart<'a>(parts: &Parts<'a>) -> Option<Parts<'a>> {
     Some(parts.joined(joint))
 }
 
-/// The fields of a channel's line.
+/// The fields of an analogue channel's line.
 fn fields_of(row: Row<'_>) -> Result<Parts<'_>, ImportFault> {
     let parts = row.parts;
     if 10 <= parts.all && parts.full <= 13 && parts.full != 11 {
@@ -218,7 +220,7 @@ fn fields_of(row: Row<'_>) -> Result<Parts<'_>, ImportFault> {
     }
 }
 
-/// The channel that a line says; `place` is its number, and whether the file is of 1991.
+/// The channel in a line; `place` is its number, and whether the file is of 1991.
 pub(crate) fn analog_of<A: Allocator + Copy>(
     notes: &mut Notes<A>,
     mark: u8,

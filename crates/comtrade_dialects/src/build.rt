@@ -1,4 +1,4 @@
-//! A file of 1999 from what was read.
+//! Builds a file of 1999 from what was read.
 
 use crate::data::plan_of;
 use crate::draft::{Channels, Draft, Range};
@@ -15,7 +15,7 @@ use comtrade_format::{File, Head, Kind, Rate, Row};
 use dfr_channels::{Decimal, Items};
 use std::alloc::Allocator;
 
-/// What is written of a file beside its head's names and numbers.
+/// The parts of a file besides the names and numbers of its head.
 #[derive(Drop)]
 struct Body<A: Allocator> {
     rows: Vec<Row<A>, A>,
@@ -44,7 +44,7 @@ fn times_in<A: Allocator + Copy>(
     times_of(alloc, notes, draft, &track, survey.is_cut)
 }
 
-/// The rows, with the channels settled.
+/// The rows; also decides on the scale and range of each channel.
 fn body_of<A: Allocator + Copy>(
     alloc: A,
     notes: &mut Notes<A>,
@@ -74,7 +74,7 @@ fn body_of<A: Allocator + Copy>(
     })
 }
 
-/// The one rate line of a file without rates (5.3.6).
+/// Adds the single rate line of a file without rates (5.3.6).
 fn put_no_rate<A: Allocator>(rates: &mut Vec<Rate, A>, rows: u64) -> Result<(), ImportFault> {
     if let Some(samp) = Decimal::new(0, 0) {
         rates.push(Rate {
@@ -85,7 +85,7 @@ fn put_no_rate<A: Allocator>(rates: &mut Vec<Rate, A>, rows: u64) -> Result<(), 
     Ok(())
 }
 
-/// The file of a draft and its rows.
+/// The file made of a draft and its rows.
 fn joined<A: Allocator>(draft: Draft<A>, body: Body<A>, nrates: u32, kind: Kind) -> File<A> {
     let Draft {
         names,
@@ -132,7 +132,7 @@ fn bounds_of(is_text: bool) -> Bounds {
     }
 }
 
-/// Which channels have samples without a sign, and the least sample that each says.
+/// Which channels have unsigned samples, and the min of each channel.
 #[derive(Drop)]
 struct Ranges<A: Allocator> {
     unsigned: Vec<bool, A>,
@@ -162,7 +162,7 @@ fn ranges_of<A: Allocator + Copy>(
     Ok(ranges)
 }
 
-/// What the rows of data in this form are read with.
+/// The context for reading the rows of data in this form.
 fn ground_of<'a, A: Allocator>(
     draft: &Draft<A>,
     plan: Plan<'a>,
@@ -177,7 +177,7 @@ fn ground_of<'a, A: Allocator>(
     }
 }
 
-/// The file of 1999 that says the same as a configuration file and its data.
+/// The file of 1999 with the same contents as a configuration file and its data.
 pub(crate) fn file_of<A: Allocator + Copy>(
     alloc: A,
     notes: &mut Notes<A>,

@@ -1,4 +1,5 @@
-//! When rows were sampled, by the rates and by the stamps. Times are in picoseconds from the first row on.
+//! The times of rows, given the rates or the time stamps. Times are in picoseconds since the
+//! first row.
 
 use crate::exact::Exact;
 use crate::num::Num;
@@ -9,7 +10,7 @@ use std::alloc::{AllocError, Allocator};
 /// A run of rows at one rate.
 #[derive(Clone, Copy)]
 struct Run {
-    /// The row before the first of the run (0 for the first run), and when it was sampled.
+    /// The row before the first of the run (0 for the first run), and its time.
     from: u64,
     base: i128,
     end: u64,
@@ -17,7 +18,7 @@ struct Run {
     places: u32,
 }
 
-/// The instants of rows by rates.
+/// The times of rows, given the rates.
 #[derive(Drop)]
 pub(crate) struct Clock<A: Allocator> {
     runs: Vec<Run, A>,
@@ -63,7 +64,8 @@ impl<A: Allocator + Copy> Clock<A> {
 }
 
 impl<A: Allocator> Clock<A> {
-    /// When a row was sampled, counted from 0, and half the interval there. `at` is the run of an earlier row.
+    /// The time of a row (counted from 0), and half the interval there. `at` is the run of an
+    /// earlier row.
     pub(crate) fn time_of(&self, at: &mut usize, row: u64) -> Option<(i128, i128)> {
         let last = self.runs.len().saturating_sub(1);
         for _ in 0..self.runs.len() {
@@ -81,7 +83,7 @@ impl<A: Allocator> Clock<A> {
     }
 }
 
-/// The time that a stamp says, in picoseconds.
+/// The time that a stamp means, in picoseconds.
 pub(crate) fn time_of_stamp(stamp: Num, timemult: Decimal) -> Option<i128> {
     let number = Exact {
         units: i128::from(stamp.mant),
@@ -99,7 +101,7 @@ pub(crate) fn time_of_stamp(stamp: Num, timemult: Decimal) -> Option<i128> {
     }
 }
 
-/// The nearest whole number to n / part, halves away from 0.
+/// The whole number nearest to n / part; halves are rounded away from 0.
 pub(crate) fn rounded(n: i128, part: i128) -> i128 {
     let half = part.wrapping_div(2);
     let up = n.saturating_add(if n < 0 { half.wrapping_neg() } else { half });

@@ -1,4 +1,4 @@
-//! The line of counts.
+//! The line with the channel counts.
 
 use crate::fault::{ImportFault, Why};
 use crate::key::Key;
@@ -7,7 +7,7 @@ use crate::note::Place;
 use dfr_channels::{integer_of, trim};
 use std::alloc::Allocator;
 
-/// A count and its letter, and whether a blank stands within or the letter comes first.
+/// A count and its letter, and whether it contains a blank or begins with the letter.
 fn count_of(text: &[u8]) -> Option<(u64, u8, bool)> {
     let (number, letter, is_odd) = match text {
         [front @ .., last] if last.is_ascii_alphabetic() => (front, *last, false),
@@ -24,7 +24,7 @@ fn count_of(text: &[u8]) -> Option<(u64, u8, bool)> {
     ))
 }
 
-/// What the line of counts says.
+/// The counts in the line.
 #[derive(Clone, Copy)]
 struct Counts {
     total: Option<u64>,

@@ -1,4 +1,4 @@
-//! The lines of a text, one after the other.
+//! Iterates over the lines of a text.
 
 use dfr_channels::trim;
 use memchr::memchr;
@@ -7,17 +7,17 @@ use memchr::memchr;
 #[derive(Clone, Copy)]
 pub(crate) struct Line<'a> {
     pub text: &'a [u8],
-    /// From 1.
+    /// The number of the line, counted from 1.
     pub number: u64,
-    /// Blank lines stand before it.
+    /// Blank lines precede it.
     pub after_blank: bool,
     /// It ends in CR CR LF.
     pub is_doubled: bool,
-    /// A line end stands after it.
+    /// It has a line end.
     pub is_ended: bool,
 }
 
-/// What is left of a text.
+/// The rest of a text.
 #[derive(Clone, Copy)]
 pub(crate) struct Cursor<'a> {
     left: Option<&'a [u8]>,
@@ -33,7 +33,7 @@ pub(crate) fn after(text: &[u8], at: usize) -> &[u8] {
     text.get(at.wrapping_add(1)..).unwrap_or(&[])
 }
 
-/// The line without the carriage returns at its end, and how many these were.
+/// The line without the carriage returns at its end, and how many there were.
 fn without_returns(line: &[u8]) -> (&[u8], u8) {
     match line {
         [front @ .., b'\r', b'\r'] => (front, 2),
@@ -43,7 +43,7 @@ fn without_returns(line: &[u8]) -> (&[u8], u8) {
 }
 
 impl<'a> Cursor<'a> {
-    /// The lines of a text. Where it has no line feed, carriage returns alone end its lines.
+    /// The lines of a text. If it has no line feed, carriage returns end its lines.
     pub(crate) fn new(text: &'a [u8]) -> Cursor<'a> {
         let ends_alone = memchr(b'\n', text).is_none() && memchr(b'\r', text).is_some();
         Cursor {
@@ -53,7 +53,7 @@ impl<'a> Cursor<'a> {
         }
     }
 
-    /// Whether lines end in CR alone.
+    /// Whether lines end in CR only.
     pub(crate) fn ends_in_returns(&self) -> bool {
         self.end == b'\r'
     }
@@ -91,7 +91,7 @@ impl<'a> Cursor<'a> {
         None
     }
 
-    /// Goes past blank lines.
+    /// Skips blank lines.
     pub(crate) fn skip_blanks(&mut self) {
         for _ in 0..u64::MAX {
             let mut ahead = *self;
@@ -102,7 +102,7 @@ impl<'a> Cursor<'a> {
         }
     }
 
-    /// The number of the line after the last that was read.
+    /// The number of the line after the last one read.
     pub(crate) fn next_number(&self) -> u64 {
         self.line.saturating_add(1)
     }

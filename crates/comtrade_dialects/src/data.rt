@@ -1,4 +1,5 @@
-//! In which form data stand: what the configuration file says, unless the data prove another form.
+//! Decides on the form of the data: the one in the configuration file, unless the data
+//! prove another.
 
 use crate::cursor::{Cursor, after, before};
 use crate::draft::Draft;
@@ -14,7 +15,7 @@ use dfr_channels::trim;
 use memchr::memchr;
 use std::alloc::{AllocError, Allocator};
 
-/// What stands before the first byte 1A.
+/// The bytes before the first byte 1A.
 fn before_mark(dat: &[u8]) -> &[u8] {
     match memchr(0x1a, dat) {
         Some(at) => before(dat, at),
@@ -22,7 +23,7 @@ fn before_mark(dat: &[u8]) -> &[u8] {
     }
 }
 
-/// The mark between the fields of ASCII rows.
+/// The separator between the fields of ASCII rows.
 fn mark_of(text: &[u8]) -> u8 {
     let mut cursor = Cursor::new(text);
     match cursor.next_line() {
@@ -56,7 +57,7 @@ impl<'a, A: Allocator + Copy> Data<'a, '_, A> {
         self.notes.tell(key, place, piece.as_bytes())
     }
 
-    /// A plan for packed rows, with a byte 1A after them told.
+    /// A plan for binary rows; notes a byte 1A after them.
     fn packed(&mut self, look: Look<'a>) -> Result<Plan<'a>, ImportFault> {
         if look.has_mark {
             self.tell(Key::Dat1a, "")?;
@@ -84,7 +85,8 @@ impl<'a, A: Allocator + Copy> Data<'a, '_, A> {
         Ok(Plan::Text(meant, mark))
     }
 
-    /// The plan of data that prove to be BINARY, with this told of the type that is said; None of others.
+    /// The plan of data that prove to be BINARY, with a note on the declared type; None for
+    /// other data.
     fn as_binary(&mut self, said: Option<&str>) -> Result<Option<Plan<'a>>, ImportFault> {
         let short = look_as(self.bytes, Form::Binary, self.counts);
         if !short.is_proved() {
@@ -96,15 +98,15 @@ impl<'a, A: Allocator + Copy> Data<'a, '_, A> {
         Ok(Some(self.packed(short)?))
     }
 
-    /// The plan of data that are text, or that prove to be BINARY; None of others.
+    /// The plan of data that are text or prove to be BINARY; None for other data.
     fn text_or_binary(&mut self, is_said: bool) -> Result<Option<Plan<'a>>, ImportFault> {
         if self.is_text() {
             return Ok(Some(self.text_plan()?));
         }
-        self.as_binary(is_said.then_some("ASCII is said, BINARY is there"))
+        self.as_binary(is_said.then_some("cfg has ASCII, found BINARY"))
     }
 
-    /// The data where the configuration file says that they are text.
+    /// The plan of data that the configuration file declares as text.
     fn said_text(&mut self) -> Result<Plan<'a>, ImportFault> {
         if let Some(plan) = self.text_or_binary(true)? {
             return Ok(plan);
@@ -115,7 +117,7 @@ impl<'a, A: Allocator + Copy> Data<'a, '_, A> {
         self.text_plan()
     }
 
-    /// Another form that the data prove, where they aren't of the form that is said.
+    /// The plan of data that prove to have another form than declared.
     fn proved(&mut self, form: Form) -> Result<Option<Plan<'a>>, ImportFault> {
         let size = form.row_size(self.counts.k, self.counts.m);
         let big = look_at(self.bytes, form, size, true);
@@ -129,16 +131,16 @@ impl<'a, A: Allocator + Copy> Data<'a, '_, A> {
             return Ok(Some(self.packed(spare)?));
         }
         if self.is_text() {
-            self.tell(Key::KindOther, "binary data are said, ASCII is there")?;
+            self.tell(Key::KindOther, "cfg has a binary type, found ASCII")?;
             return Ok(Some(self.text_plan()?));
         }
         if form == Form::Binary {
             return Ok(None);
         }
-        self.as_binary(Some("values of 32 bits are said, BINARY is there"))
+        self.as_binary(Some("cfg has a 32-bit type, found BINARY"))
     }
 
-    /// The data where the configuration file says that they are binary.
+    /// The plan of data that the configuration file declares as binary.
     fn said_packed(&mut self, form: Form) -> Result<Plan<'a>, ImportFault> {
         let own = look_as(self.bytes, form, self.counts);
         if own.is_proved() {
@@ -159,7 +161,7 @@ impl<'a, A: Allocator + Copy> Data<'a, '_, A> {
         Ok(Plan::Packed(own.packed))
     }
 
-    /// Tells forms that 1999 doesn't have.
+    /// Notes forms that 1999 does not have.
     fn tell_form(&mut self, form: Form) -> Result<(), AllocError> {
         match form {
             Form::Binary32 => self.tell(Key::KindBinary32, ""),
@@ -169,7 +171,7 @@ impl<'a, A: Allocator + Copy> Data<'a, '_, A> {
     }
 }
 
-/// Where the rows stand, and in which form.
+/// Where the rows are, and in which form.
 pub(crate) fn plan_of<'a, A: Allocator + Copy>(
     notes: &mut Notes<A>,
     draft: &Draft<A>,

@@ -1,26 +1,26 @@
-//! Dates and times of day in the spellings that are met.
+//! Dates and times of day in the forms found in practice.
 
 use crate::text::{DIGITS, has_only, place_of};
 use dfr_channels::{numeral_of, trim};
 use jiff_core::civil::Date;
 
-/// Which of day and month stands first in the dates of a file.
+/// Which of day and month comes first in the dates of a file.
 #[derive(Clone, Copy, Debug, PartialEq, Eq)]
 pub enum Order {
     DayFirst,
     MonthFirst,
 }
 
-/// The parts of a date, not yet told which is which.
+/// The parts of a date, before the order of day and month is known.
 #[derive(Clone, Copy)]
 pub(crate) struct Civil {
     first: u32,
     second: u32,
     pub year: u32,
-    /// The year stands first, or the month is a name: there is one way to read it.
+    /// The year comes first, or the month is a name: the order is certain.
     is_fixed: bool,
     pub has_short_year: bool,
-    /// It isn't spelled as dd/mm/yyyy or mm/dd/yyyy.
+    /// It does not have the form dd/mm/yyyy or mm/dd/yyyy.
     pub is_other: bool,
 }
 
@@ -30,14 +30,14 @@ pub(crate) struct Clock {
     pub micros: i64,
     pub is_24: bool,
     pub is_leap: bool,
-    /// More than six digits of a second.
+    /// It has more than six decimal places of a second.
     pub is_long: bool,
-    /// A point without digits.
+    /// It has a point without digits.
     pub is_odd: bool,
     pub has_comma: bool,
 }
 
-/// A whole number of at most nine digits, with blanks around it.
+/// A whole number of at most nine digits; it may have blanks around it.
 fn small(text: &[u8]) -> Option<u32> {
     let digits = trim(text);
     if 9 < digits.len() {
@@ -46,7 +46,7 @@ fn small(text: &[u8]) -> Option<u32> {
     u32::try_from(numeral_of(digits)?).ok()
 }
 
-/// The months' names begin so.
+/// The first three letters of the names of months.
 const MONTHS: [&[u8]; 12] = [
     b"jan", b"feb", b"mar", b"apr", b"may", b"jun", b"jul", b"aug", b"sep", b"oct", b"nov", b"dec",
 ];
@@ -59,13 +59,13 @@ fn month_of(text: &[u8]) -> Option<u32> {
     u32::try_from(at.wrapping_add(1)).ok()
 }
 
-/// What stands before a mark, and after it.
+/// The texts before and after the first of these marks.
 fn cut_at<'a>(text: &'a [u8], marks: &[u8]) -> Option<(&'a [u8], &'a [u8])> {
     let at = place_of(text, marks)?;
     Some((text.get(..at)?, text.get(at.wrapping_add(1)..)?))
 }
 
-/// The year of two digits in its century: 70 to 99 are of the 20th.
+/// The full year of a year of two digits: 70 to 99 are in the 20th century.
 fn full_year(year: u32, digits: usize) -> u32 {
     if digits != 2 {
         return year;
@@ -129,14 +129,14 @@ fn day_number(year: u32, month: u32, day: u32) -> Option<i64> {
 }
 
 impl Civil {
-    /// All its numbers are 0.
+    /// Whether all its numbers are 0.
     pub(crate) fn is_unset(self) -> bool {
         self.first == 0
             && self.second == 0
             && (self.year == 0 || self.has_short_year && self.year == 2000)
     }
 
-    /// Days since 1970-01-01, where the date is valid in this order.
+    /// Days since 1970-01-01, if the date is valid in this order.
     pub(crate) fn day_in(self, order: Order) -> Option<i64> {
         if self.is_fixed || order == Order::DayFirst {
             day_number(self.year, self.second, self.first)
@@ -145,13 +145,13 @@ impl Civil {
         }
     }
 
-    /// Whether the date says its order by itself.
+    /// Whether the order of the date is certain.
     pub(crate) fn is_fixed(self) -> bool {
         self.is_fixed
     }
 }
 
-/// Microseconds of the digits after a point, rounded, halves up.
+/// The digits after a point in microseconds, rounded, halves up.
 fn micros_of(digits: &[u8]) -> Option<i64> {
     let mut micros = 0i64;
     for i in 0..6usize {
@@ -172,7 +172,7 @@ fn micros_of(digits: &[u8]) -> Option<i64> {
     }
 }
 
-/// A time of day, as hh:mm:ss.ssssss; the mark of UTC may stand after it.
+/// A time of day such as hh:mm:ss.ssssss, which the mark of UTC may follow.
 pub(crate) fn clock_of(text: &[u8]) -> Option<Clock> {
     let text = match text {
         [front @ .., b'Z' | b'z'] => front,
@@ -207,12 +207,12 @@ pub(crate) fn clock_of(text: &[u8]) -> Option<Clock> {
     })
 }
 
-/// The instant of a day and a time of day, in microseconds since 1970-01-01.
+/// The time of a day and a time of day, in microseconds since 1970-01-01.
 pub(crate) fn instant_of(day: i64, micros: i64) -> i64 {
     day.saturating_mul(86_400_000_000).saturating_add(micros)
 }
 
-/// Whether a line can be that of an instant: a colon stands in it, or all its fields are empty.
+/// Whether a line can be a date and time: it has a colon, or all its fields are empty.
 pub(crate) fn is_like_instant(line: &[u8], mark: u8) -> bool {
     line.contains(&b':') || line.contains(&b'/') || has_only(line, &[mark, b' ', b'\t'])
 }

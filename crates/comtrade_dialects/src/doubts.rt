@@ -1,4 +1,5 @@
-//! What is odd about a file that reads exactly: it says the same in two ways that disagree, or what can hardly be meant.
+//! Oddities of a file that reads exactly: two statements that disagree, or something
+//! hardly intended.
 
 use crate::clock::{Clock, time_of_stamp};
 use crate::num::Num;
@@ -6,7 +7,8 @@ use comtrade_format::{File, Head, Row};
 use dfr_channels::{AnalogChannel, Reading};
 use std::alloc::{AllocError, Allocator};
 
-/// The first place where something is odd, and how many places there are. Rows and channels count from 1; 0 is none.
+/// The first place of an oddity, and the number of such places. Rows and channels are counted from
+/// 1; 0 means none.
 #[derive(Clone, Copy, Debug, Default)]
 pub struct Doubt {
     pub row: u64,
@@ -14,22 +16,23 @@ pub struct Doubt {
     pub count: u64,
 }
 
-/// What is odd about a file, each kind by its first place.
+/// The oddities of a file, each kind with its first place.
 #[derive(Clone, Copy, Debug, Default)]
 pub struct Doubts {
-    /// Stamps that disagree with the rates by over half an interval, and by over what a stamp counts.
+    /// Stamps that disagree with the rates by more than half an interval and more than one
+    /// stamp unit.
     pub off: Doubt,
-    /// Stamps below that of the row before.
+    /// Stamps below that of the previous row.
     pub falling: Doubt,
-    /// Row numbers that aren't above that of the row before.
+    /// Row numbers not above that of the previous row.
     pub repeated: Doubt,
     /// Samples outside their channel's range.
     pub outside: Doubt,
-    /// Channels whose min is over their max.
+    /// Channels whose min is above their max.
     pub turned: Doubt,
-    /// Runs of three samples or more at one end of their channel's range.
+    /// Runs of three or more samples at a limit of their channel's range.
     pub flat: Doubt,
-    /// Lines of the configuration file with a text that isn't ASCII, their numbers as rows.
+    /// Lines of the configuration file with non-ASCII text; `row` is the number of the line.
     pub foreign: Doubt,
 }
 
@@ -47,7 +50,7 @@ impl Doubt {
     }
 }
 
-/// The instants of rows by the rates, where there are some.
+/// The times of rows given the rates, if there are any.
 pub(crate) fn clock_of<A: Allocator + Copy>(
     alloc: A,
     file: &File<A>,
@@ -58,12 +61,12 @@ pub(crate) fn clock_of<A: Allocator + Copy>(
     Clock::new(alloc, file.head.rates.items())
 }
 
-/// A stamp as a number of the samples' kind.
+/// A stamp as a `Num`.
 fn num_of(stamp: u64) -> Num {
     Num::of(i64::try_from(stamp).unwrap_or(i64::MAX))
 }
 
-/// Adds what is odd about numbers and stamps.
+/// Adds the oddities of row numbers and stamps.
 pub(crate) fn add_times<A: Allocator + Copy>(
     doubts: &mut Doubts,
     file: &File<A>,
@@ -102,7 +105,7 @@ pub(crate) fn add_times<A: Allocator + Copy>(
     }
 }
 
-/// Whether a sample is outside the range of its channel, in whichever order that is said.
+/// Whether a sample is outside the range of its channel, even if min and max are swapped.
 fn is_outside<A: Allocator>(value: &Reading, channel: &AnalogChannel<A>) -> bool {
     match value {
         Reading::Value(x) => {
@@ -112,7 +115,7 @@ fn is_outside<A: Allocator>(value: &Reading, channel: &AnalogChannel<A>) -> bool
     }
 }
 
-/// Whether a sample is between the ends of its channel's range, so that nothing is odd about it.
+/// Whether a sample is strictly inside the range of its channel, so that it is not odd.
 fn is_inside<A: Allocator>(value: &Reading, channel: &AnalogChannel<A>) -> bool {
     match value {
         Reading::Value(x) => channel.min < *x && *x < channel.max,
@@ -120,7 +123,7 @@ fn is_inside<A: Allocator>(value: &Reading, channel: &AnalogChannel<A>) -> bool 
     }
 }
 
-/// How many samples of a channel in a row stand at one end of its range, and at which.
+/// The number of consecutive samples of a channel at a limit of its range, and that limit.
 #[derive(Clone, Copy)]
 struct Run {
     sample: i32,
@@ -128,7 +131,7 @@ struct Run {
 }
 
 impl Run {
-    /// With the sample of one row more; whether there are three now.
+    /// Takes the sample of the next row. Returns whether there are three now.
     fn is_third<A: Allocator>(&mut self, value: &Reading, channel: &AnalogChannel<A>) -> bool {
         let at_end = match value {
             Reading::Value(x) if channel.min != channel.max => {
@@ -153,7 +156,7 @@ impl Run {
     }
 }
 
-/// Adds the samples of a row that are outside their range, and the runs that reach three samples in a row.
+/// Adds the samples of a row that are outside their range, and the runs that reach three samples.
 fn add_row<A: Allocator>(
     doubts: &mut Doubts,
     runs: &mut [Run],
@@ -178,7 +181,7 @@ fn add_row<A: Allocator>(
     }
 }
 
-/// Adds the rows whose samples are odd.
+/// Adds the oddities of samples.
 fn add_samples<A: Allocator + Copy>(
     alloc: A,
     doubts: &mut Doubts,
@@ -200,7 +203,7 @@ fn add_samples<A: Allocator + Copy>(
     Ok(())
 }
 
-/// Adds a line of the configuration file where one of its texts isn't ASCII.
+/// Adds a line of the configuration file if one of its texts is not ASCII.
 fn add_foreign(doubt: &mut Doubt, line: u64, texts: [&[u8]; 4]) {
     for text in texts {
         if text.iter().any(|b| 0x80 <= *b) {
@@ -210,7 +213,7 @@ fn add_foreign(doubt: &mut Doubt, line: u64, texts: [&[u8]; 4]) {
     }
 }
 
-/// Adds the lines of the configuration file whose texts aren't ASCII: names first, then a line for each channel.
+/// Adds the lines of the configuration file with non-ASCII texts: the names, then each channel.
 fn add_texts<A: Allocator>(doubt: &mut Doubt, head: &Head<A>) {
     add_foreign(
         doubt,
@@ -231,7 +234,7 @@ fn add_texts<A: Allocator>(doubt: &mut Doubt, head: &Head<A>) {
     }
 }
 
-/// What is odd about a file.
+/// The oddities of a file.
 pub fn doubts_of<A: Allocator + Copy>(alloc: A, file: &File<A>) -> Result<Doubts, AllocError> {
     let mut doubts = Doubts::default();
     let channels = file.head.analog.items();

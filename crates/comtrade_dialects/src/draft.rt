@@ -1,4 +1,4 @@
-//! What a configuration file says, before the data are known.
+//! The contents of a configuration file, before the data are known.
 
 use crate::kinds::Form;
 use crate::row::Counts;
@@ -14,27 +14,28 @@ pub(crate) enum Revision {
     Of2013,
 }
 
-/// How the range of a channel's samples is said.
+/// How a channel declares the range of its samples.
 #[derive(Clone, Copy, PartialEq, Eq)]
 pub(crate) enum Range {
-    /// By whole numbers that 1999 can hold.
+    /// As whole numbers that 1999 can hold.
     Said,
     /// It is empty.
     Empty,
-    /// In a form or with numbers that 1999 can't hold.
+    /// In a form or with numbers that 1999 cannot hold.
     Other,
-    /// From 0 or above to over 32,767, as of samples without a sign.
+    /// From at least 0 to more than 32,767, as for unsigned samples.
     Unsigned,
 }
 
-/// How the line of an analogue channel says its range.
+/// How the line of an analogue channel declares its range.
 #[derive(Clone, Copy)]
 pub(crate) struct Said {
     pub range: Range,
     pub line: u64,
 }
 
-/// The rates, and the last row that they name; no rate where none is usable, no row where no line is there.
+/// The rates, and the last row that they name. No rate if none is usable; no row if there is
+/// no line.
 #[derive(Drop)]
 pub(crate) struct Rates<A: Allocator> {
     pub list: Vec<Rate, A>,
@@ -45,7 +46,7 @@ pub(crate) struct Rates<A: Allocator> {
 #[derive(Drop)]
 pub(crate) struct Channels<A: Allocator> {
     pub analog: Vec<AnalogChannel<A>, A>,
-    /// Of each analogue channel.
+    /// For each analogue channel.
     pub said: Vec<Said, A>,
     pub status: Vec<StatusChannel<A>, A>,
 }
@@ -59,14 +60,14 @@ impl<A: Allocator> Channels<A> {
     }
 }
 
-/// The first line's names.
+/// The names in the first line.
 #[derive(Drop)]
 pub(crate) struct Names<A: Allocator> {
     pub station: Items<u8, A>,
     pub device: Items<u8, A>,
 }
 
-/// What the lines of a configuration file say.
+/// The contents of the lines of a configuration file.
 #[derive(Drop)]
 pub(crate) struct Draft<A: Allocator> {
     pub names: Names<A>,
@@ -75,10 +76,10 @@ pub(crate) struct Draft<A: Allocator> {
     pub rates: Rates<A>,
     pub first: i64,
     pub trigger: i64,
-    /// None where the file doesn't say the kind.
+    /// None if the file does not declare the type.
     pub form: Option<Form>,
     pub timemult: Decimal,
     pub revision: Revision,
-    /// The instants have more than six digits of a second.
+    /// The times have more than six decimal places of a second.
     pub has_nanos: bool,
 }

@@ -1,15 +1,15 @@
-//! What comes before lines: UTF-16, and the mark of UTF-8.
+//! Decodes texts: UTF-16, and the byte order mark of UTF-8.
 
 use std::alloc::{AllocError, Allocator};
 
-/// The order of the bytes of UTF-16, where a text is UTF-16.
+/// The byte order of a UTF-16 text.
 #[derive(Clone, Copy, PartialEq, Eq)]
 enum Wide {
     Little,
     Big,
 }
 
-/// Whether a text is UTF-16, by its mark or by zeros in each second of its first bytes.
+/// Whether a text is UTF-16: it has the mark, or every second one of its first bytes is zero.
 fn wide_of(text: &[u8]) -> Option<Wide> {
     match text {
         [0xff, 0xfe, ..] => Some(Wide::Little),
@@ -32,7 +32,7 @@ fn unit_of(wide: Wide, pair: &[u8]) -> u16 {
     }
 }
 
-/// A code unit as the bytes of UTF-8; halves of a pair stand as question marks.
+/// Appends a code unit in UTF-8; a surrogate becomes a question mark.
 fn put_unit<A: Allocator>(out: &mut Vec<u8, A>, unit: u16) -> Result<(), AllocError> {
     let unit = u32::from(unit);
     if unit < 0x80 {
@@ -52,7 +52,7 @@ fn put_unit<A: Allocator>(out: &mut Vec<u8, A>, unit: u16) -> Result<(), AllocEr
     Ok(())
 }
 
-/// A text of UTF-16 as UTF-8, without its mark; None where it is no UTF-16.
+/// A UTF-16 text as UTF-8, without its mark; None if it is not UTF-16.
 pub fn narrow<A: Allocator>(alloc: A, text: &[u8]) -> Result<Option<Vec<u8, A>>, AllocError> {
     let Some(wide) = wide_of(text) else {
         return Ok(None);
@@ -67,7 +67,7 @@ pub fn narrow<A: Allocator>(alloc: A, text: &[u8]) -> Result<Option<Vec<u8, A>>,
     Ok(Some(out))
 }
 
-/// A text without the mark of UTF-8, where it has one.
+/// A text without the byte order mark of UTF-8; None if it has none.
 pub(crate) fn without_mark(text: &[u8]) -> Option<&[u8]> {
     match text {
         [0xef, 0xbb, 0xbf, rest @ ..] => Some(rest),

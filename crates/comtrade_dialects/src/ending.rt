@@ -13,7 +13,7 @@ use crate::note::Place;
 use dfr_channels::{Decimal, trim};
 use std::alloc::Allocator;
 
-/// What stands where the type of the data is to stand.
+/// What was found in place of the data type.
 #[derive(Clone, Copy)]
 enum Next {
     Form(Form),
@@ -36,7 +36,7 @@ fn look_at(cursor: Cursor<'_>, mark: u8) -> Next {
     }
 }
 
-/// Goes past what stands for the type without saying it.
+/// Skips a line that holds no data type.
 fn pass(cursor: &mut Cursor<'_>, next: Next) {
     match next {
         Next::Nothing => {
@@ -46,7 +46,7 @@ fn pass(cursor: &mut Cursor<'_>, next: Next) {
     }
 }
 
-/// The form, whose line has no other field.
+/// The form, from a line that must have no other field.
 fn said_form<A: Allocator + Copy>(
     reader: &mut Reader<'_, '_, A>,
     form: Form,
@@ -59,7 +59,7 @@ fn said_form<A: Allocator + Copy>(
     }
 }
 
-/// The form of the data; none where no line says it.
+/// The form of the data; None if no line declares it.
 fn type_of<A: Allocator + Copy>(
     reader: &mut Reader<'_, '_, A>,
 ) -> Result<Option<Form>, ImportFault> {
@@ -77,7 +77,7 @@ fn type_of<A: Allocator + Copy>(
     Ok(None)
 }
 
-/// The factor of stamps: 1 where no line says it.
+/// The time multiplier: 1 if no line has it.
 fn timemult_of<A: Allocator + Copy>(
     reader: &mut Reader<'_, '_, A>,
     revision: Revision,
@@ -107,7 +107,7 @@ fn timemult_of<A: Allocator + Copy>(
     }
 }
 
-/// Time codes and time quality, which 1999 has no lines for; whatever else stands there is refused.
+/// Reads time codes and time quality, for which 1999 has no lines; refuses any other text.
 fn end_of<A: Allocator + Copy>(reader: &mut Reader<'_, '_, A>) -> Result<(), ImportFault> {
     for _ in 0..2 {
         let mut ahead = reader.cursor;
@@ -131,7 +131,7 @@ fn end_of<A: Allocator + Copy>(reader: &mut Reader<'_, '_, A>) -> Result<(), Imp
     }
 }
 
-/// What stands after the rates.
+/// The contents of the lines after the rates.
 #[derive(Clone, Copy)]
 pub(crate) struct Ending {
     pub instants: Instants,

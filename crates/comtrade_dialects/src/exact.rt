@@ -1,9 +1,9 @@
-//! Decimals that are computed with, exactly or not at all.
+//! Exact decimal arithmetic: a result is exact, or there is none.
 
 use crate::num::Num;
 use dfr_channels::Decimal;
 
-/// The number units / 10^places, which may have places below 0.
+/// The number units / 10^places; `places` may be negative.
 #[derive(Clone, Copy)]
 pub(crate) struct Exact {
     pub units: i128,
@@ -29,7 +29,7 @@ impl Exact {
         })
     }
 
-    /// The same number with so many places.
+    /// The same number with this many decimal places.
     fn with_places(self, places: i32) -> Option<Exact> {
         let more = places.checked_sub(self.places)?;
         Some(Exact {
@@ -49,7 +49,7 @@ impl Exact {
         })
     }
 
-    /// The same number without zeros at its end.
+    /// The same number without trailing zeros.
     pub(crate) fn short(self) -> Exact {
         let mut short = self;
         if short.units == 0 {
@@ -76,7 +76,7 @@ impl Exact {
         Decimal::new(short.units, u8::try_from(short.places).ok()?)
     }
 
-    /// A size of three digits that is at least this number's.
+    /// A magnitude of three digits that is at least the magnitude of this number.
     pub(crate) fn rounded_up(self) -> Exact {
         let mut near = Exact {
             units: self.units.saturating_abs(),
@@ -93,7 +93,7 @@ impl Exact {
     }
 }
 
-/// The whole number that a decimal is, if it is one.
+/// The decimal as a whole number, if it is one.
 pub(crate) fn whole_of(decimal: Decimal) -> Option<i128> {
     let short = Exact::of(decimal).short();
     if short.places < 1 {

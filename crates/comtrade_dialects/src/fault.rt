@@ -1,4 +1,4 @@
-//! Why a pair can't be imported.
+//! Why a pair cannot be imported.
 
 ghost use Rattle.std.specs.Prelude.{◌≡◌};
 ghost use Rattle.comtrade_dialects.specs.declared.fault.ImportFault.TheVariants.{Memory};
@@ -10,69 +10,70 @@ use thiserror::Error;
 /// What is wrong with a line, a row or a whole file.
 #[derive(Clone, Copy, Debug, Error)]
 pub enum Why {
-    #[error("there is nothing in it")]
+    #[error("the file is empty")]
     Empty,
-    #[error("the first line isn't station, device and year of a configuration file")]
+    #[error("expected the station, device and year of a configuration file")]
     FirstLine,
-    #[error("the year isn't 1991, 1999, 2001 or 2013")]
+    #[error("expected the year 1991, 1999, 2001 or 2013")]
     Year,
-    #[error("the counts of channels can't be read (as 5,3A,2D)")]
+    #[error("expected channel counts such as 5,3A,2D")]
     Counts,
-    #[error("the counts say more channels than there are lines")]
+    #[error("the channel counts exceed the number of lines")]
     ManyChannels,
-    #[error("no channel is counted")]
+    #[error("expected at least one channel")]
     NoChannel,
-    #[error("an analogue channel's line has another number of fields than 10 or 13")]
+    #[error("an analogue channel must have 10 or 13 fields")]
     AnalogFields,
-    #[error("a comma too many, which can't be told to be in a text or in a number")]
+    #[error("one comma too many: it is ambiguous which field it belongs to")]
     Commas,
-    #[error("a status channel's line has another number of fields than 3 or 5")]
+    #[error("a status channel must have 3 or 5 fields")]
     StatusFields,
-    #[error("a number can't be read")]
+    #[error("a field is not a valid number")]
     Number,
-    #[error("the side is neither P nor S")]
+    #[error("the side must be P or S")]
     Side,
-    #[error("a bit is neither 0 nor 1")]
+    #[error("a bit must be 0 or 1")]
     Bit,
-    #[error("a rate and its last row can't be read (as 1000,12)")]
+    #[error("expected a rate and its last row, such as 1000,12")]
     Rate,
-    #[error("over 999 rates")]
+    #[error("more than 999 rates")]
     ManyRates,
-    #[error("the last row of a rate is below the one before")]
+    #[error("the last row of a rate is below that of the previous rate")]
     RateOrder,
     #[error("the line is missing")]
     Missing,
-    #[error("it isn't a date and a time of day")]
+    #[error("expected a date and a time of day")]
     Instant,
-    #[error("the date or time of day doesn't exist")]
+    #[error("the date or time of day does not exist")]
     NoDate,
-    #[error("the data's type is none of ASCII, BINARY, BINARY32 and FLOAT32")]
+    #[error("expected the data type ASCII, BINARY, BINARY32 or FLOAT32")]
     Kind,
-    #[error("the data's type isn't said, and the data can be of two types or of none")]
+    #[error("the data type is unclear: the data could be of two types or of none")]
     NoKind,
-    #[error("something that isn't known stands after the last line")]
+    #[error("unknown text after the last line")]
     Extra,
-    #[error("a row has another number of fields than the channels give")]
+    #[error("the number of fields does not match the channel counts")]
     RowFields,
-    #[error("a value can't be read")]
+    #[error("a value is not a valid number")]
     Value,
-    #[error("the data aren't rows of the channels' size, and no other size is proved by their numbers")]
+    #[error("the data size does not match the channel counts, and the row numbers indicate no other row size")]
     Length,
-    #[error("there is no row")]
+    #[error("the data have no rows")]
     NoRow,
-    #[error("a channel's values can't be held by numbers of the configuration file")]
+    #[error("the channel needs a multiplier or offset that a configuration file cannot hold")]
     Scale,
-    #[error("it has no section CFG")]
+    #[error("the CFG section is missing")]
     NoCfg,
-    #[error("it has no section DAT")]
+    #[error("the DAT section is missing")]
     NoDat,
-    #[error("it has a section twice")]
+    #[error("a section occurs twice")]
     Twice,
-    #[error("what would be written isn't a pair of 1999")]
+    #[error("the repaired pair cannot be written as files of 1999")]
     Written(WriteFault),
 }
 
-/// Why a pair can't be imported, and where: the line of a file, or its row in binary data, from 1; 0 is the file as a whole.
+/// Why a pair cannot be imported, and where: the line of a file or the row of binary data, counted
+/// from 1; 0 means the whole file.
 #[derive(Clone, Copy, Debug, Error)]
 pub enum ImportFault {
     #[error("configuration file, line {0}: {1}")]
@@ -85,7 +86,7 @@ pub enum ImportFault {
     Memory,
 }
 
-/// Whatever says that memory ran out.
+/// Converts any error that means out of memory.
 impl<E: Drop> From<E> for ImportFault
 where
     NoMemory: From<E>,

@@ -5,14 +5,14 @@ use crate::text::has_only;
 use dfr_channels::trim;
 use memchr::memchr;
 
-/// What is left of a line.
+/// The rest of a line.
 #[derive(Clone, Copy)]
 pub(crate) struct Fields<'a> {
     left: Option<&'a [u8]>,
     mark: u8,
 }
 
-/// A field in quotation marks, and what stands after it, where one stands at the front.
+/// A field in quotation marks at the start of a text, and the rest after it; None if there is none.
 fn quoted(text: &[u8], mark: u8) -> Option<(&[u8], Option<&[u8]>)> {
     let [b'"', rest @ ..] = trim_front(text) else {
         return None;
@@ -48,7 +48,7 @@ impl<'a> Fields<'a> {
         }
     }
 
-    /// The next field, without blanks around it.
+    /// The next field, without surrounding blanks.
     pub(crate) fn next_field(&mut self) -> Option<&'a [u8]> {
         let text = self.left?;
         if let Some((inside, left)) = quoted(text, self.mark) {
@@ -67,7 +67,7 @@ impl<'a> Fields<'a> {
         }
     }
 
-    /// Whether all that is left are empty fields.
+    /// Whether all remaining fields are empty.
     pub(crate) fn is_empty_from_here(&self) -> bool {
         match self.left {
             Some(text) => has_only(text, &[self.mark, b' ', b'\t']),
@@ -81,20 +81,20 @@ impl<'a> Fields<'a> {
     }
 }
 
-/// A line's fields as a whole.
+/// All fields of a line.
 #[derive(Clone, Copy)]
 pub(crate) struct Parts<'a> {
     line: &'a [u8],
     mark: u8,
-    /// How many fields there are, the empty ones at the end too.
+    /// The number of fields, including empty ones at the end.
     pub all: usize,
-    /// How many there are up to the last that isn't empty.
+    /// The number of fields up to the last one that is not empty.
     pub full: usize,
-    /// The field with which the one after it makes one text, where there is one.
+    /// The field that forms one text with the next, if there is one.
     joint: Option<usize>,
 }
 
-/// How many fields are counted at most.
+/// The most fields that are counted.
 const MOST: usize = 64;
 
 impl<'a> Parts<'a> {
@@ -126,7 +126,7 @@ impl<'a> Parts<'a> {
         }
     }
 
-    /// The same fields, but that this one and the next are one text with a mark in it.
+    /// The same fields, but this one and the next form one text with a separator in it.
     pub(crate) fn joined(&self, joint: usize) -> Parts<'a> {
         Parts {
             line: self.line,
@@ -137,7 +137,7 @@ impl<'a> Parts<'a> {
         }
     }
 
-    /// What is left of the line after so many fields.
+    /// The rest of the line after this many fields.
     fn after_fields(&self, count: usize) -> Fields<'a> {
         let mut fields = Fields::of(self.line, self.mark);
         for _ in 0..count.min(MOST) {
@@ -148,13 +148,13 @@ impl<'a> Parts<'a> {
         fields
     }
 
-    /// Whether a blank stands after the mark after this field, as in a sentence.
+    /// Whether a blank follows the separator after this field, as in a sentence.
     pub(crate) fn has_blank_after(&self, index: usize) -> bool {
         let left = self.after_fields(index.saturating_add(1)).left;
         matches!(left, Some([b' ', ..]))
     }
 
-    /// The field of this index from 0, empty where there is none.
+    /// The field at this index from 0; empty if there is none.
     pub(crate) fn at(&self, index: usize) -> &'a [u8] {
         match self.joint {
             Some(joint) if joint == index => self.pair_at(index),
@@ -167,7 +167,7 @@ impl<'a> Parts<'a> {
         self.after_fields(index).next_field().unwrap_or(&[])
     }
 
-    /// What stands in this field and the next, with the mark between them.
+    /// The text of this field and the next, with the separator between them.
     fn pair_at(&self, index: usize) -> &'a [u8] {
         let Some(from) = self.after_fields(index).left else {
             return &[];
@@ -182,7 +182,8 @@ impl<'a> Parts<'a> {
     }
 }
 
-/// Which of two joints is meant, where each may be possible: the only one that is, else the only one with a blank after its mark.
+/// Which of two joints is meant: the only possible one, else the only one with a blank after
+/// its separator.
 pub(crate) fn joint_of(
     parts: &Parts<'_>,
     first: (usize, bool),

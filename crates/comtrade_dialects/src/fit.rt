@@ -1,4 +1,5 @@
-//! Samples as whole numbers that a file of 1999 holds, with the scale that gives them back.
+//! Converts samples to whole numbers that a file of 1999 can hold, with the scale that
+//! restores them.
 
 use crate::exact::{Exact, exact_of};
 use crate::num::{Num, size_of_float, ten_to};
@@ -8,19 +9,20 @@ use crate::span::{Bounds, Span};
 /// How the samples of a channel become whole numbers.
 #[derive(Clone, Copy)]
 pub(crate) enum Fit {
-    /// They stay as they are.
+    /// They stay unchanged.
     Same,
-    /// Less so much.
+    /// This number is subtracted.
     Shift(i64),
-    /// Times a power of ten.
+    /// They are multiplied by a power of ten.
     Tens(Scale),
-    /// The nearest of so many steps on both sides of the middle.
+    /// They are rounded to steps on both sides of the middle.
     Steps(Steps),
-    /// All are the same, which b says.
+    /// All are the same; b holds the value.
     Flat(Exact),
 }
 
-/// Steps of `unit` from `middle`, both in the scale's unit; `inverse` is 2^64 / unit, rounded down or one less.
+/// Steps of `unit` from `middle`, both in the scale's unit; `inverse` is 2^64 / unit, rounded down,
+/// or one less.
 #[derive(Clone, Copy)]
 pub(crate) struct Steps {
     pub scale: Scale,
@@ -29,7 +31,7 @@ pub(crate) struct Steps {
     inverse: u64,
 }
 
-/// The most steps to one side.
+/// The maximum number of steps on one side.
 const MOST: u64 = 32_767;
 
 /// A number as a multiple of a power of ten with at most nine digits, and that power.
@@ -70,8 +72,9 @@ fn upper(a: u64, b: u64) -> u64 {
 }
 
 impl Steps {
-    /// The number of steps that is nearest to a number in the scale's unit, halves away from 0, at most 32,767, and how far that is off: by the
-    /// inverse, which gives two too few at most, since a division for each sample takes longer than all else.
+    /// The number of steps nearest to a number in the scale's unit (halves away from 0, at most
+    /// 32,767), and the error. It multiplies by the inverse, which gives at most two too few,
+    /// because a division for each sample would take longer than everything else.
     fn nearest(self, near: i64) -> (i64, i64) {
         let from = near.saturating_sub(self.middle);
         let unit = self.unit.unsigned_abs();
@@ -101,7 +104,7 @@ impl Steps {
         (count, i64::try_from(off).unwrap_or(i64::MAX))
     }
 
-    /// The same for a float, where 64 bits are enough for it.
+    /// The same for a float, if 64 bits are enough.
     fn of_float(self, bits: u32) -> Option<(i64, i64)> {
         let (size, two) = size_of_float(bits)?;
         let near = self.scale.near_in_64(u64::from(size), two)?;
@@ -114,7 +117,7 @@ impl Steps {
     }
 }
 
-/// The power of ten that makes all samples whole numbers within the bounds.
+/// The power of ten that turns all samples into whole numbers within the bounds.
 fn tens_of(span: &Span, bounds: Bounds) -> Option<Scale> {
     if span.need < -40 || 30 < span.need {
         return None;
@@ -129,7 +132,7 @@ fn tens_of(span: &Span, bounds: Bounds) -> Option<Scale> {
     }
 }
 
-/// The value of samples that are all the same, where it can be told exactly.
+/// The value of samples that are all the same, if it can be held exactly.
 fn flat_of(span: &Span) -> Option<Exact> {
     if span.low != span.high {
         return None;
@@ -143,7 +146,7 @@ fn flat_of(span: &Span) -> Option<Exact> {
     exact_of(span.first?)
 }
 
-/// How samples without a sign become such with one.
+/// The shift that turns unsigned samples into signed ones.
 fn shift_of(span: &Span) -> Option<i64> {
     let part = ten_to(span.scale.shift)?;
     let (low, high) = (span.low.checked_div(part)?, span.high.checked_div(part)?);
@@ -153,7 +156,7 @@ fn shift_of(span: &Span) -> Option<i64> {
     if high <= 65_534 { Some(32_767) } else { None }
 }
 
-/// How the samples of a channel become whole numbers. `is_unsigned` where they have no sign.
+/// How the samples of a channel become whole numbers. `is_unsigned` if they have no sign.
 pub(crate) fn fit_of(span: &Span, bounds: Bounds, is_unsigned: bool) -> Fit {
     if span.fits {
         return Fit::Same;
@@ -173,7 +176,7 @@ pub(crate) fn fit_of(span: &Span, bounds: Bounds, is_unsigned: bool) -> Fit {
 }
 
 impl Fit {
-    /// The whole number that a sample becomes, and how far it is off in the scale's unit.
+    /// The whole number that a sample becomes, and the error in the scale's unit.
     pub(crate) fn whole_of(&self, num: Num) -> (i64, i64) {
         match self {
             Fit::Same => (num.whole().unwrap_or(0), 0),
@@ -184,7 +187,7 @@ impl Fit {
         }
     }
 
-    /// The same for a float, where it is told the short way: steps, in 64 bits.
+    /// The same for a float, if the short way (steps, in 64 bits) is possible.
     pub(crate) fn whole_of_float(&self, bits: u32) -> Option<(i64, i64)> {
         match self {
             Fit::Steps(steps) => steps.of_float(bits),
@@ -200,7 +203,7 @@ impl Fit {
         matches!(self, Fit::Same)
     }
 
-    /// The factor and the offset that give the values back.
+    /// The multiplier and the offset that restore the values.
     pub(crate) fn scaled(&self, a: Exact, b: Exact) -> Option<(Exact, Exact)> {
         match self {
             Fit::Same => Some((a, b)),

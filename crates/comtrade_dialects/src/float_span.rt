@@ -1,20 +1,21 @@
-//! What the floats of a channel have in common. Most samples say nothing new, which their bits alone show.
+//! Summarises the floats of a channel. The bits alone show that most samples change nothing.
 
 use crate::num::num_of_float;
 use crate::span::{Bounds, Span};
 
-/// The floats of a channel so far.
+/// A summary of the floats of a channel so far.
 #[derive(Clone, Copy)]
 pub(crate) struct FloatSpan {
-    /// The places of the least and of the greatest.
+    /// The order keys of the least and of the greatest.
     least: i32,
     most: i32,
-    /// All are multiples of 2^step; the greatest number while a power of ten may divide them all.
+    /// All are multiples of 2^step; the greatest such number while a power of ten may divide
+    /// them all.
     step: i32,
     span: Span,
 }
 
-/// A number by which floats compare as they do: the bits without the sign, which turns it.
+/// A number that compares as the floats do: the bits without the sign, negated if the sign is set.
 fn place_of(bits: u32) -> i32 {
     let size = i32::try_from(bits & 0x7fff_ffff).unwrap_or(i32::MAX);
     if bits.wrapping_shr(31) == 1 {
@@ -24,7 +25,7 @@ fn place_of(bits: u32) -> i32 {
     }
 }
 
-/// The greatest n for which a float is a multiple of 2^n; 0 is one of each.
+/// The greatest n for which a float is a multiple of 2^n; 0 is a multiple of every power.
 fn step_of(bits: u32) -> i32 {
     let exponent = bits.wrapping_shr(23) & 0xff;
     let fraction = bits & 0x7f_ffff;
@@ -50,7 +51,8 @@ impl FloatSpan {
         }
     }
 
-    /// Takes a sample into account: one between the others that is a multiple of the same power of two changes nothing.
+    /// Adds a sample. One between the others that is a multiple of the same power of two
+    /// changes nothing.
     pub(crate) fn add(&mut self, bits: u32, bounds: Bounds) {
         let place = place_of(bits);
         if self.least <= place && place <= self.most && self.step <= step_of(bits) {
@@ -67,7 +69,7 @@ impl FloatSpan {
         }
     }
 
-    /// What the samples have in common.
+    /// The summary of the samples.
     pub(crate) fn settled(&self) -> Span {
         let mut span = self.span;
         span.settle();

@@ -1,4 +1,4 @@
-//! A configuration file, line by line.
+//! Reads a configuration file line by line.
 
 use crate::analog::analog_of;
 use crate::counts::counts_of;
@@ -16,7 +16,7 @@ use crate::status::status_of;
 use dfr_channels::Decimal;
 use std::alloc::Allocator;
 
-/// What the first line says of the revision.
+/// The revision in the first line.
 #[derive(Clone, Copy, PartialEq, Eq)]
 enum Year {
     Absent,
@@ -38,7 +38,7 @@ fn year_of(row: Row<'_>) -> Result<Year, ImportFault> {
     }
 }
 
-/// The mark between fields: a comma, or a semicolon where the first line has no comma.
+/// The separator between fields: a comma, or a semicolon if the first line has no comma.
 fn mark_of(cursor: Cursor<'_>) -> u8 {
     let mut ahead = cursor;
     match ahead.next_line() {
@@ -47,7 +47,7 @@ fn mark_of(cursor: Cursor<'_>) -> u8 {
     }
 }
 
-/// The revision: what the year says, else what the number of fields of the first channel's line says.
+/// The revision: from the year, else from the number of fields in the line of the first channel.
 fn revision_of<A: Allocator + Copy>(
     reader: &mut Reader<'_, '_, A>,
     year: Year,
@@ -126,7 +126,7 @@ fn frequency_of<A: Allocator + Copy>(
     )
 }
 
-/// The first line's names, with its year and its number.
+/// The names in the first line, with the year and the number of the line.
 fn names_of<A: Allocator + Copy>(
     reader: &mut Reader<'_, '_, A>,
 ) -> Result<(Names<A>, Year, u64), ImportFault> {
@@ -142,7 +142,7 @@ fn names_of<A: Allocator + Copy>(
     Ok((Names { station, device }, year, row.number))
 }
 
-/// What the lines after the first say of a file of these names.
+/// Reads the lines after the first, in a file with these names.
 fn draft_after<A: Allocator + Copy>(
     reader: &mut Reader<'_, '_, A>,
     names: Names<A>,
@@ -170,7 +170,7 @@ fn draft_after<A: Allocator + Copy>(
     })
 }
 
-/// What the lines of a configuration file of so many bytes say.
+/// Reads the lines of a configuration file of this many bytes.
 fn draft_in<A: Allocator + Copy>(
     reader: &mut Reader<'_, '_, A>,
     bytes: u64,
@@ -180,7 +180,7 @@ fn draft_in<A: Allocator + Copy>(
     draft_after(reader, names, (year, line, bytes), asked)
 }
 
-/// What a configuration file says, with its repairs told.
+/// Reads a configuration file and notes its repairs.
 pub(crate) fn draft_of<A: Allocator + Copy>(
     alloc: A,
     notes: &mut Notes<A>,

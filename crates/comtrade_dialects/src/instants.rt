@@ -1,4 +1,4 @@
-//! The lines of the first row's instant and of the trigger's.
+//! The lines with the times of the first row and of the trigger.
 
 use crate::dates::{Order, instant_of};
 use crate::draft::Revision;
@@ -9,7 +9,7 @@ use crate::note::{Notes, Place};
 use crate::said_instant::{Said, said_of};
 use std::alloc::Allocator;
 
-/// Both instants, in microseconds since 1970-01-01.
+/// Both times, in microseconds since 1970-01-01.
 #[derive(Clone, Copy)]
 pub(crate) struct Instants {
     pub first: i64,
@@ -28,7 +28,8 @@ fn both_fit(said: (Said, Said), order: Order) -> bool {
     said.0.fits(order) && said.1.fits(order)
 }
 
-/// The one order of both dates: what was asked for, else the revision's, unless only the other gives valid dates.
+/// The order of day and month in both dates: the one requested, else that of the revision, unless
+/// only the other gives valid dates.
 fn order_of<A: Allocator + Copy>(
     notes: &mut Notes<A>,
     said: (Said, Said),
@@ -67,11 +68,7 @@ fn order_of<A: Allocator + Copy>(
         notes.tell(Key::DatesDmy, place, &[])?;
     }
     if is_ambiguous && revision == Revision::Of1991 && asked.is_none() {
-        notes.tell(
-            Key::DatesAmbiguous,
-            place,
-            b"the month was taken to stand first",
-        )?;
+        notes.tell(Key::DatesAmbiguous, place, b"the month is read first")?;
     }
     Ok(order)
 }
@@ -80,7 +77,7 @@ fn day_of(said: Said, order: Order) -> Option<i64> {
     said.date()?.day_in(order)
 }
 
-/// The instants of both lines in one order.
+/// The times in both lines, read in one order.
 fn settled<A: Allocator + Copy>(
     notes: &mut Notes<A>,
     first: Said,
@@ -113,7 +110,7 @@ fn settled<A: Allocator + Copy>(
     })
 }
 
-/// The instants of the first row and of the trigger.
+/// The times of the first row and of the trigger.
 pub(crate) fn instants_of<A: Allocator + Copy>(
     reader: &mut Reader<'_, '_, A>,
     revision: Revision,

@@ -9,7 +9,8 @@ use crate::stamps::Track;
 use dfr_channels::Decimal;
 use std::alloc::Allocator;
 
-/// The stamps that the rates give, in whole microseconds; none at all where one is over what the form holds.
+/// The stamps given by the rates, in whole microseconds; none at all if one exceeds the limit of
+/// the form.
 pub(crate) fn stamps_by_rate<A: Allocator + Copy>(
     alloc: A,
     track: &Track<'_>,
@@ -34,7 +35,7 @@ pub(crate) fn stamps_by_rate<A: Allocator + Copy>(
     Ok(list)
 }
 
-/// The time from which stamps are counted: the first, or the least where one is before it.
+/// The time from which stamps are counted: the least stamp.
 fn start_of(track: &Track<'_>) -> i128 {
     let mut start: Option<i128> = None;
     for tick in track.ticks {
@@ -49,7 +50,7 @@ fn start_of(track: &Track<'_>) -> i128 {
     start.unwrap_or(0)
 }
 
-/// What a whole stamp counts, in picoseconds; a microsecond where stamps with a point would lose more.
+/// The unit of whole stamps in picoseconds; a microsecond if stamps with a point would lose more.
 fn unit_of(track: &Track<'_>) -> (i128, Decimal) {
     let unit = time_of_stamp(Num::of(1), track.timemult).unwrap_or(0);
     let micro = 1_000_000i128;
@@ -59,7 +60,7 @@ fn unit_of(track: &Track<'_>) -> (i128, Decimal) {
     }
 }
 
-/// The stamps that stay, from 0 on, and their factor.
+/// The stamps that are kept, counted from 0, and their time multiplier.
 pub(crate) fn kept<A: Allocator + Copy>(
     alloc: A,
     notes: &mut Notes<A>,

@@ -1,67 +1,67 @@
-//! What was read otherwise than it stands: the keys, which are stable, and what each means.
+//! The kinds of repairs. Their keys are stable.
 
-/// A kind of repair, or something odd that stays.
+/// A kind of repair, or an oddity that is kept or ignored.
 #[derive(Clone, Copy, Debug, PartialEq, Eq)]
 pub enum Key {
-    /// Read as 1991.
+    /// Read as revision 1991.
     Revision1991,
-    /// Read as 2013.
+    /// Read as revision 2013.
     Revision2013,
-    /// No year in line 1, but the lines are those of 1999: read as 1999.
+    /// No year in line 1, but the lines have the 1999 form; read as revision 1999.
     RevisionAbsent,
-    /// A year of a known form (2001): read as 1999.
+    /// Another known year (2001); read as revision 1999.
     RevisionOther,
-    /// 1991 has no ratio and no side: P, 1:1.
+    /// 1991 has no ratio and no side; P and 1:1 are used.
     SidesAbsent,
-    /// No side is said: P.
+    /// The side is missing; P is used.
     SideEmpty,
-    /// The month stands first in the dates.
+    /// Dates have the month first.
     DatesMdy,
-    /// The day stands first in the dates of a file of 1991.
+    /// Dates of a 1991 file have the day first.
     DatesDmy,
-    /// Both orders are lawful dates; which was taken.
+    /// Dates are valid in both orders; which order is used.
     DatesAmbiguous,
-    /// Dates with other marks or in another order than dd/mm/yyyy.
+    /// Dates with other separators or another order than dd/mm/yyyy.
     DateForm,
-    /// Years of two digits; which century was taken.
+    /// Two-digit years; which year is used.
     Years2Digits,
-    /// 24:00:00 became 00:00:00 of the next day.
+    /// 24:00:00 was changed to 00:00:00 of the next day.
     Time24,
-    /// Second 60 became second 0 of the next minute.
+    /// Second 60 was changed to second 0 of the next minute.
     LeapSecond,
-    /// More than six digits of a second were rounded.
+    /// Seconds with more than six decimal places were rounded.
     FractionLong,
-    /// A point without digits after the seconds.
+    /// A decimal point without digits after the seconds.
     FractionForm,
-    /// An instant that is empty or zeros became 01/01/1970.
+    /// An empty or zero date was changed to 01/01/1970.
     InstantUnset,
-    /// No instant of trigger: that of the first row.
+    /// No trigger time; the time of the first row is used.
     TriggerUnset,
-    /// The trigger lies before the first row (stays).
+    /// The trigger is before the first row (kept).
     TriggerBeforeFirst,
-    /// No timemult: 1.
+    /// No timemult; 1 is used.
     NoTimemult,
     /// Time codes and time quality were left out.
     Lines2013Dropped,
     /// Status lines without phase and component.
     Status3Fields,
-    /// An empty number; what was taken for it.
+    /// An empty number; which value is used.
     NumberEmpty,
-    /// Counts in another order, or with spaces.
+    /// Channel counts in another order or with spaces.
     CountsForm,
-    /// The total isn't the sum of both counts; the sum was taken.
+    /// The total is not the sum of both counts; the sum is used.
     CountsTotal,
-    /// Channels were numbered anew, in the order of their lines.
+    /// Channels were renumbered in the order of their lines.
     IndexOrder,
     /// Min and max were swapped.
     RangeSwapped,
-    /// Min and max that 1999 can't hold were set anew.
+    /// Min and max that 1999 cannot hold were replaced.
     RangeForm,
-    /// A channel's factor is 0 (stays).
+    /// A channel's multiplier is 0 (kept).
     AZero,
-    /// Fortran exponents.
+    /// Fortran exponents (1.5D-3).
     ExponentD,
-    /// Commas for decimal points.
+    /// Decimal commas.
     DecimalComma,
     /// Semicolons between fields.
     SeparatorSemicolon,
@@ -69,87 +69,87 @@ pub enum Key {
     TrailingCommas,
     /// Blank lines were left out.
     BlankLines,
-    /// Lines end in CR alone.
+    /// Lines end in CR only.
     LineEndsCr,
     /// Lines end in CR CR LF.
     LineEndsCrcr,
-    /// A mark of UTF-8 before the first line was left out.
+    /// The UTF-8 byte order mark was left out.
     Bom,
     /// The file is UTF-16.
     Utf16,
-    /// 1A and what follows in the cfg was left out.
+    /// The byte 1A in the cfg and everything after it were left out.
     Cfg1a,
-    /// Letters outside ASCII were spelled in ASCII.
+    /// Non-ASCII characters were spelled in ASCII.
     TextsNotAscii,
     /// Texts were shortened.
     TextLong,
-    /// A phase of over two letters was left out.
+    /// A phase of more than two characters was left out.
     PhaseLong,
-    /// A channel without unit: NONE.
+    /// A channel has no unit; NONE is used.
     UnitEmpty,
-    /// A comma within a text was replaced.
+    /// A comma in a text was replaced.
     TextComma,
     /// No rate line after nrates 0.
     RateLineAbsent,
-    /// A rate of 0: nrates 0, the stamps say the times.
+    /// A rate of 0; nrates becomes 0, and times come from the time stamps.
     RateZero,
-    /// Fewer rows than endsamp: endsamp was lowered.
+    /// Fewer rows than endsamp; endsamp was lowered.
     RowsFewer,
-    /// More rows than endsamp: endsamp was raised.
+    /// More rows than endsamp; endsamp was raised.
     RowsMore,
-    /// Row numbers and stamps jump: rows are missing; how many, where, and what was made of it.
+    /// Row numbers and time stamps jump: rows are missing; how many, where, and what was done.
     RowsLost,
     /// An incomplete last row was left out.
     RowCut,
-    /// Rows were numbered anew.
+    /// Rows were renumbered.
     SampleNumbers,
-    /// Stamps begin again: times are by the rate.
+    /// Time stamps restart; times come from the rate.
     StampsRestart,
-    /// Stamps contradict the rate; which was taken.
+    /// Time stamps contradict the rate; which is used.
     StampsAgainstRate,
-    /// Stamps with a point were rounded.
+    /// Time stamps with decimals were rounded.
     StampsDecimal,
-    /// Stamps were shifted so that the first is 0.
+    /// Time stamps were shifted so that the first is 0.
     StampsShifted,
-    /// Stamps are nanoseconds.
+    /// Time stamps are in nanoseconds.
     StampsNs,
-    /// No stamps: times are by the rate.
+    /// No time stamps; times come from the rate.
     StampsAbsent,
-    /// Neither stamps nor a rate: the rows have no times.
+    /// Neither time stamps nor a rate: the rows have no times.
     TimesUnknown,
-    /// Samples with a point became whole numbers, a was fitted.
+    /// Samples with decimals became whole numbers; a was adjusted.
     ValuesDecimal,
-    /// Samples over 16 bits (BINARY) or five digits (ASCII) were scaled, a was fitted.
+    /// Samples over 16 bits (BINARY) or five digits (ASCII) were scaled; a was adjusted.
     ValuesWide,
-    /// Samples are unsigned: b was moved.
+    /// Samples are unsigned; b was adjusted.
     ValuesUnsigned,
-    /// Values aren't held exactly: the greatest error, by channel.
+    /// Values are not held exactly; the greatest error of each channel.
     ValuesRounded,
-    /// Missing values had another mark than the standard's.
+    /// Missing values had a mark other than that of the standard.
     MissingMarks,
     /// BINARY32 data.
     KindBinary32,
     /// FLOAT32 data.
     KindFloat32,
-    /// The data aren't of the kind that the cfg says.
+    /// The data are not of the type given in the cfg.
     KindOther,
-    /// The cfg doesn't say the kind of the data.
+    /// The cfg does not give the data type.
     KindAbsent,
-    /// A 1A after BINARY data was left out.
+    /// A byte 1A after BINARY data was left out.
     Dat1a,
-    /// What follows the 1A of ASCII data was left out.
+    /// Everything after the byte 1A of ASCII data was left out.
     DatAfterEnd,
-    /// BINARY rows have a word more than the counts give.
+    /// Binary rows are two bytes longer than the channel counts give.
     RowSize,
-    /// Bits without a channel are set in status words (stays).
+    /// Unused bits are set in status words (ignored).
     StatusSpareBits,
-    /// The BINARY data have their most significant byte first.
+    /// The binary data have the most significant byte first.
     BigEndian,
-    /// A single file was taken apart.
+    /// A single file was split into its sections.
     Cff,
-    /// Separators in another spelling than 2013's.
+    /// Section separators are not spelled as in 2013.
     CffForm,
-    /// The count of bytes of the DAT section isn't what is there.
+    /// The byte count of the DAT section is wrong.
     CffCount,
     /// The INF section was left out.
     InfDropped,

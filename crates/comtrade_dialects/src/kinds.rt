@@ -1,6 +1,6 @@
 //! The forms of data files.
 
-/// The form of a data file: that of 1999 or 2013.
+/// The form of a data file in 1999 or 2013.
 #[derive(Clone, Copy, PartialEq, Eq)]
 pub(crate) enum Form {
     Ascii,
@@ -9,7 +9,7 @@ pub(crate) enum Form {
     Float32,
 }
 
-/// The words that name them, in any case of letters.
+/// Their names, in upper or lower case.
 const NAMES: [(&[u8], Form); 4] = [
     (b"ascii", Form::Ascii),
     (b"binary", Form::Binary),
@@ -17,7 +17,7 @@ const NAMES: [(&[u8], Form); 4] = [
     (b"float32", Form::Float32),
 ];
 
-/// The form that a word names.
+/// The form with this name.
 pub(crate) fn form_of(text: &[u8]) -> Option<Form> {
     for (name, form) in NAMES {
         if text.eq_ignore_ascii_case(name) {
@@ -46,7 +46,7 @@ impl Form {
             .saturating_add(8)
     }
 
-    /// What a file of this form is written as.
+    /// Whether the data are text.
     pub(crate) fn is_text(self) -> bool {
         self == Form::Ascii
     }

@@ -1,4 +1,4 @@
-//! What a single file has beside its pair.
+//! The sections of a single file besides its pair.
 
 use crate::fault::ImportFault;
 use crate::key::Key;
@@ -7,7 +7,7 @@ use crate::sections::Sections;
 use crate::text::{put, put_number};
 use std::alloc::Allocator;
 
-/// Tells what was left out of a single file.
+/// Notes what was left out of a single file.
 pub fn tell_sections<A: Allocator + Copy>(
     alloc: A,
     notes: &mut Notes<A>,
@@ -21,9 +21,9 @@ pub fn tell_sections<A: Allocator + Copy>(
     if let Some((said, there)) = sections.wrong_count {
         let mut piece = Vec::new(alloc);
         put_number(&mut piece, said)?;
-        put(&mut piece, " said, ")?;
+        put(&mut piece, " given, ")?;
         put_number(&mut piece, there)?;
-        put(&mut piece, " there")?;
+        put(&mut piece, " found")?;
         notes.tell(Key::CffCount, place, &piece)?;
     }
     if sections.has_inf {

@@ -1,5 +1,5 @@
-//! COMTRADE files as relays and programs really write them, of 1991, 1999 and 2013: the file of 1999 that says the same, with each
-//! repair told.
+//! Reads COMTRADE files as relays and programs write them (1991, 1999 and 2013): a file of 1999
+//! with the same contents, and a note on each repair.
 #![tactic(auto)]
 
 mod analog;

@@ -1,4 +1,4 @@
-//! What all lines of a configuration file have in common.
+//! Reads what all lines of a configuration file have in common.
 
 use crate::cursor::{Cursor, Line};
 use crate::fault::{ImportFault, Why};
@@ -11,7 +11,7 @@ use crate::text::{put, put_number};
 use dfr_channels::{Decimal, Items};
 use std::alloc::{AllocError, Allocator};
 
-/// The lines that are left, the mark between their fields, and the notes so far.
+/// The remaining lines, the separator between their fields, and the notes so far.
 #[derive(Drop)]
 pub(crate) struct Reader<'a, 'n, A: Allocator> {
     pub alloc: A,
@@ -32,7 +32,7 @@ pub(crate) fn at(line: u64, why: Why) -> ImportFault {
     ImportFault::Cfg(line, why)
 }
 
-/// Tells the oddities of a line as a whole.
+/// Notes the oddities of a line as a whole.
 pub(crate) fn tell_line<A: Allocator + Copy>(
     notes: &mut Notes<A>,
     line: Line<'_>,
@@ -47,7 +47,7 @@ pub(crate) fn tell_line<A: Allocator + Copy>(
     Ok(())
 }
 
-/// The next line, with its oddities told; no empty fields stand at its end that are over `wanted`.
+/// The next line. Notes its oddities, such as empty fields at its end beyond `wanted`.
 pub(crate) fn next_row<'a, A: Allocator + Copy>(
     cursor: &mut Cursor<'a>,
     mark: u8,
@@ -70,7 +70,7 @@ pub(crate) fn next_row<'a, A: Allocator + Copy>(
     })
 }
 
-/// The decimal that a text spells, with the oddities of its spelling told.
+/// The decimal in a text. Notes the oddities of its form.
 pub(crate) fn decimal_of<A: Allocator + Copy>(
     notes: &mut Notes<A>,
     mark: u8,
@@ -95,7 +95,7 @@ pub(crate) fn decimal_of<A: Allocator + Copy>(
     }
 }
 
-/// The decimal of a text in which a comma stands for the point, or a D for the exponent's mark.
+/// The decimal in a text that may have a comma for the point or a D for the exponent's E.
 fn decimal_in<A: Allocator + Copy>(alloc: A, text: &[u8]) -> Result<Option<Decimal>, AllocError> {
     let mut plain = Vec::new(alloc);
     for b in text {
@@ -108,7 +108,7 @@ fn decimal_in<A: Allocator + Copy>(alloc: A, text: &[u8]) -> Result<Option<Decim
     Ok(Decimal::read(&plain))
 }
 
-/// The decimal that a text spells, or what is taken for an empty one, which is told.
+/// The decimal in a text, or the value used for an empty one, with a note.
 pub(crate) fn decimal_or<A: Allocator + Copy>(
     notes: &mut Notes<A>,
     mark: u8,
@@ -134,7 +134,7 @@ pub(crate) fn tell_empty<A: Allocator + Copy>(
     notes.tell(Key::NumberEmpty, Place::Cfg(line), what.as_bytes())
 }
 
-/// A text of at most so many bytes; a longer one is cut, with this number after it where there is one.
+/// A text of at most this many bytes. A longer one is cut; the number, if any, is appended to it.
 pub(crate) fn text_of<A: Allocator + Copy>(
     notes: &mut Notes<A>,
     line: u64,
@@ -166,7 +166,7 @@ pub(crate) fn text_of<A: Allocator + Copy>(
     Ok(Items::of(short))
 }
 
-/// A phase: of more than two bytes it is left out.
+/// A phase; one of more than two bytes is left out.
 pub(crate) fn phase_of<A: Allocator + Copy>(
     notes: &mut Notes<A>,
     line: u64,

@@ -1,23 +1,23 @@
-//! What bytes prove of the form in which their rows stand.
+//! What bytes prove about the form of their rows.
 
 use crate::cursor::before;
 use crate::kinds::Form;
 use crate::packed_row::number_at;
 use crate::row::{Counts, Packed};
 
-/// What data prove of a form.
+/// What data prove about a form.
 #[derive(Clone, Copy)]
 pub(crate) struct Look<'a> {
     pub packed: Packed<'a>,
     /// The data are whole rows.
     pub is_whole: bool,
-    /// A byte 1A stands after whole rows.
+    /// A byte 1A follows the whole rows.
     pub has_mark: bool,
-    /// The numbers of the rows go on by one.
+    /// The row numbers increase by one.
     pub runs: bool,
 }
 
-/// Whether the numbers of all rows go on by one, from 0 or 1 where there is one row.
+/// Whether the row numbers increase by one; a single row must be numbered 0 or 1.
 fn runs(bytes: &[u8], size: usize, is_big: bool) -> bool {
     let first = number_at(bytes, 0, is_big);
     let mut wanted = first;
@@ -56,7 +56,7 @@ impl Look<'_> {
     }
 }
 
-/// What data prove of a form whose rows have the size that it gives them.
+/// What data prove about a form whose rows have the usual size.
 pub(crate) fn look_as(dat: &[u8], form: Form, counts: Counts) -> Look<'_> {
     look_at(dat, form, form.row_size(counts.k, counts.m), false)
 }

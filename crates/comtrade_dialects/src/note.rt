@@ -1,10 +1,10 @@
-//! Notes: what was read otherwise than it stands, once a key, in the order in which the files are read.
+//! Notes on repairs: one for each key, in the order in which the files are read.
 
 use crate::key::Key;
 use crate::text::{put, put_number, put_quoted};
 use std::alloc::{AllocError, Allocator, Global};
 
-/// Where something stands.
+/// Where something is.
 #[derive(Clone, Copy)]
 pub enum Place {
     /// A line of the configuration file.
@@ -17,7 +17,7 @@ pub enum Place {
     Whole(&'static str),
 }
 
-/// A kind of repair that was made: its key, how often, and where and what, as text.
+/// A kind of repair that was made: its key, how often, and as text where and what.
 #[derive(Debug, Drop)]
 pub struct Note<A: Allocator = Global> {
     key: Key,
@@ -25,7 +25,7 @@ pub struct Note<A: Allocator = Global> {
     details: Vec<u8, A>,
 }
 
-/// How many bytes of details are kept.
+/// The number of bytes of details that are kept.
 const DETAILS: usize = 2_000;
 
 fn put_place<A: Allocator>(out: &mut Vec<u8, A>, place: Place) -> Result<(), AllocError> {
@@ -52,17 +52,17 @@ impl<A: Allocator> Note<A> {
         self.key
     }
 
-    /// How many repairs of the kind were made.
+    /// The number of repairs of this kind.
     pub fn count(&self) -> u64 {
         self.count
     }
 
-    /// Where they were made, and what stood there.
+    /// Where they were made, and what was there before.
     pub fn details(&self) -> &[u8] {
         self.details.as_slice()
     }
 
-    /// The place and the piece go to the details, where there is room.
+    /// Adds the place and the piece to the details, if there is room.
     fn add(&mut self, place: Place, piece: &[u8]) -> Result<(), AllocError> {
         self.count = self.count.saturating_add(1);
         if DETAILS < self.details.len() {
@@ -81,7 +81,7 @@ impl<A: Allocator> Note<A> {
 }
 
 impl<A: Allocator> Note<A> {
-    /// The note as a line without its end: `KEY: words: places`.
+    /// Appends the note as a line without its end: `KEY: words (places)`.
     pub fn put_line(&self, out: &mut Vec<u8, A>) -> Result<(), AllocError> {
         put(out, self.key.name())?;
         put(out, ": ")?;
@@ -97,7 +97,7 @@ impl<A: Allocator> Note<A> {
     }
 }
 
-/// The notes so far, each key at most once.
+/// The notes so far; each key occurs at most once.
 #[derive(Drop)]
 pub struct Notes<A: Allocator> {
     list: Vec<Note<A>, A>,
@@ -115,7 +115,7 @@ impl<A: Allocator + Copy> Notes<A> {
         *self.list.allocator()
     }
 
-    /// The notes, in the order in which their keys came.
+    /// The notes, in the order in which their keys first occurred.
     pub fn into_list(self) -> Vec<Note<A>, A> {
         self.list
     }
@@ -129,7 +129,7 @@ impl<A: Allocator + Copy> Notes<A> {
         false
     }
 
-    /// Tells a repair, with what stood there.
+    /// Notes a repair, with what was there before.
     pub fn tell(&mut self, key: Key, place: Place, piece: &[u8]) -> Result<(), AllocError> {
         for note in self.list.iter_mut() {
             if note.key == key {
@@ -146,7 +146,7 @@ impl<A: Allocator + Copy> Notes<A> {
         Ok(())
     }
 
-    /// Tells a repair of a text, which is quoted.
+    /// Notes a repair of a text, which is quoted.
     pub(crate) fn tell_text(
         &mut self,
         key: Key,

@@ -1,4 +1,4 @@
-//! Numbers as samples spell them: decimals in text, and binary floats.
+//! Numbers as samples give them: decimals in text, and binary floats.
 
 use dfr_channels::numeral_of;
 
@@ -10,15 +10,15 @@ pub(crate) struct Num {
     pub two: i32,
 }
 
-/// A number, and how it was spelled.
+/// A number, and how it was written.
 #[derive(Clone, Copy)]
 pub(crate) struct Spelled {
     pub num: Num,
-    /// A point or an exponent stands in it.
+    /// It has a point or an exponent.
     pub is_pointed: bool,
-    /// Its exponent's mark is D.
+    /// Its exponent is marked by D.
     pub is_fortran: bool,
-    /// A comma stands for its point.
+    /// It has a comma for the point.
     pub has_comma: bool,
 }
 
@@ -58,7 +58,7 @@ impl Num {
         }
     }
 
-    /// The whole number that it is, if it is one.
+    /// The number as a whole number, if it is one.
     pub(crate) fn whole(self) -> Option<i64> {
         if self.mant == 0 {
             return Some(0);
@@ -82,7 +82,7 @@ impl Num {
         }
     }
 
-    /// The greatest n, also below 0, for which the number over 10^n is whole.
+    /// The greatest n, possibly negative, for which the number divided by 10^n is whole.
     pub(crate) fn zeros(self) -> i32 {
         if self.two == 0 {
             return self.ten.saturating_add(zeros_of(self.mant));
@@ -90,7 +90,7 @@ impl Num {
         self.two.min(0)
     }
 
-    /// A whole number n with the number's size below 10^n.
+    /// A whole number n such that the magnitude of the number is below 10^n.
     pub(crate) fn order(self) -> i32 {
         if self.two == 0 {
             return digits_of(self.mant.unsigned_abs()).saturating_add(self.ten);
@@ -101,14 +101,15 @@ impl Num {
             .saturating_add(1)
     }
 
-    /// The least n for which the number's size is below 2^n, where it is no multiple of a power of ten.
+    /// The least n for which the magnitude is below 2^n, for a number that is no multiple of a
+    /// power of ten.
     fn twos(self) -> i32 {
         let bits = 64u32.saturating_sub(self.mant.unsigned_abs().leading_zeros());
         i32::try_from(bits).unwrap_or(0).saturating_add(self.two)
     }
 
-    /// A whole number by which numbers compare as they do, where none is a multiple of a power of ten: above the bits of its size stands
-    /// for which power of two it is below.
+    /// A whole number that compares as the numbers do, if none is a multiple of a power of ten: the
+    /// exponent of the power of two above it, followed by the bits of its magnitude.
     pub(crate) fn place(self) -> i128 {
         if self.mant == 0 {
             return 0;
@@ -125,7 +126,7 @@ impl Num {
     }
 }
 
-/// How many zeros end a number in decimal; 0 ends in very many.
+/// The number of trailing zeros in decimal; for 0 it is very large.
 fn zeros_of(mant: i64) -> i32 {
     if mant == 0 {
         return 9_999;
@@ -142,7 +143,7 @@ fn zeros_of(mant: i64) -> i32 {
     zeros
 }
 
-/// How many decimal digits a number has.
+/// The number of decimal digits.
 fn digits_of(size: u64) -> i32 {
     let mut left = size;
     let mut digits = 0i32;
@@ -156,7 +157,8 @@ fn digits_of(size: u64) -> i32 {
     digits
 }
 
-/// The size of a float of 32 bits, as a number of at most 24 bits and a power of two; none for infinities and what is no number.
+/// The magnitude of a 32-bit float, as a number of at most 24 bits and a power of two; None for
+/// infinities and NaN.
 pub(crate) fn size_of_float(bits: u32) -> Option<(u32, i32)> {
     let exponent = bits.wrapping_shr(23) & 0xff;
     let fraction = bits & 0x7f_ffff;
@@ -170,7 +172,7 @@ pub(crate) fn size_of_float(bits: u32) -> Option<(u32, i32)> {
     }
 }
 
-/// The number that the bits of a float say, where they say one.
+/// The number with these bits as a float, if they are a number.
 pub(crate) fn num_of_float(bits: u32) -> Option<Num> {
     let (mant, two) = size_of_float(bits)?;
     if mant == 0 {
@@ -190,7 +192,7 @@ pub(crate) fn num_of_float(bits: u32) -> Option<Num> {
     Some(Num { mant, ten: 0, two })
 }
 
-/// The digits of a decimal, read from the left: at most eighteen that count.
+/// The digits of a decimal, read from the left; at most eighteen are significant.
 #[derive(Clone, Copy)]
 struct Digits {
     mant: i64,
@@ -224,7 +226,7 @@ impl Digits {
     }
 }
 
-/// Whether a text begins with a minus, and what stands after its sign.
+/// Whether a text begins with a minus, and the rest after its sign.
 fn without_sign(text: &[u8]) -> (bool, &[u8]) {
     match text {
         [b'-', rest @ ..] => (true, rest),
@@ -233,14 +235,14 @@ fn without_sign(text: &[u8]) -> (bool, &[u8]) {
     }
 }
 
-/// The exponent that a text spells, at most 9,999 in size.
+/// The exponent in a text, of magnitude at most 9,999.
 fn exponent_of(text: &[u8]) -> Option<i32> {
     let (is_minus, digits) = without_sign(text);
     let size = i32::try_from(numeral_of(digits)?.min(9_999)).ok()?;
     Some(if is_minus { size.wrapping_neg() } else { size })
 }
 
-/// The number that a text spells; a comma may stand for the point where that is let.
+/// The number in a text; with `lets_comma`, a comma may replace the point.
 pub(crate) fn spelled_of(text: &[u8], lets_comma: bool) -> Option<Spelled> {
     let (is_minus, body) = without_sign(text);
     let mut digits = Digits {

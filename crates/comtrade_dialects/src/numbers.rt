@@ -1,4 +1,4 @@
-//! The numbers of rows, and the rates of as many rows as there are.
+//! The numbers of rows, and the rates for the rows that exist.
 
 use crate::draft::Draft;
 use crate::fault::ImportFault;
@@ -16,7 +16,7 @@ pub(crate) struct Tick {
     pub stamp: Option<Num>,
 }
 
-/// How numbers go on.
+/// How row numbers continue.
 #[derive(Clone, Copy, PartialEq, Eq)]
 pub(crate) enum Run {
     /// 1, 2, 3 and so on.
@@ -51,7 +51,7 @@ pub(crate) fn run_of(ticks: &[Tick]) -> Run {
     }
 }
 
-/// Where rows are lost, as text: how many, and after which numbers.
+/// Notes where rows are lost, and how many.
 pub(crate) fn tell_lost<A: Allocator + Copy>(
     notes: &mut Notes<A>,
     ticks: &[Tick],
@@ -65,7 +65,7 @@ pub(crate) fn tell_lost<A: Allocator + Copy>(
                 put_number(&mut piece, gap.unsigned_abs())?;
                 put(
                     &mut piece,
-                    " missing before it; no rate is said, the stamps say the times",
+                    " missing before it; no rate is written, times come from the time stamps",
                 )?;
                 notes.tell(
                     Key::RowsLost,
@@ -79,7 +79,7 @@ pub(crate) fn tell_lost<A: Allocator + Copy>(
     Ok(())
 }
 
-/// Tells the first row whose number isn't its place.
+/// Notes the first row whose number differs from its position.
 pub(crate) fn tell_numbers<A: Allocator + Copy>(
     notes: &mut Notes<A>,
     ticks: &[Tick],
@@ -104,7 +104,7 @@ pub(crate) fn tell_numbers<A: Allocator + Copy>(
     Ok(())
 }
 
-/// The rates for so many rows; the last row that they name is told where it is another.
+/// The rates for this many rows. Notes a different last row in the configuration file.
 pub(crate) fn rates_for<A: Allocator + Copy>(
     alloc: A,
     notes: &mut Notes<A>,

@@ -27,7 +27,7 @@ pub(crate) fn number_at(bytes: &[u8], at: usize, is_big: bool) -> u32 {
     long_at(bytes, at, is_big)
 }
 
-/// A value of binary data; `is_unsigned` where it has no sign.
+/// A value of binary data; `is_unsigned` if it has no sign.
 fn value_at(row: &[u8], at: usize, packed: Packed<'_>, is_unsigned: bool) -> Option<Num> {
     match packed.form {
         Form::Float32 => num_of_float(long_at(row, at, packed.is_big)),
@@ -71,7 +71,7 @@ fn signed_word(bits: u16) -> i64 {
 }
 
 impl<A: Allocator> Cells<A> {
-    /// The bits of a row's words, and whether one is set that no channel has.
+    /// Reads the status bits of a row, and records whether an unused bit is set.
     fn read_bits(&mut self, row: &[u8], from: usize, is_big: bool, m: usize) -> Result<(), Stop> {
         let words = m.saturating_add(15).wrapping_div(16);
         for w in 0..words {
@@ -89,7 +89,7 @@ impl<A: Allocator> Cells<A> {
         Ok(())
     }
 
-    /// A row's number and stamp, with no value and no bit.
+    /// Reads the number and the stamp of a row, and clears values and bits.
     fn read_front(&mut self, row: &[u8], is_big: bool) {
         self.values.clear();
         self.bits.clear();
@@ -104,16 +104,16 @@ impl<A: Allocator> Cells<A> {
     }
 }
 
-/// Where the values of a row begin.
+/// The offset of the values in a row.
 const VALUES: usize = 8;
 
-/// The bits of the float of a channel, from 0.
+/// The bits of a channel's float; channels are counted from 0.
 pub(crate) fn float_at(row: &[u8], channel: usize, packed: Packed<'_>) -> u32 {
     let at = VALUES.saturating_add(channel.saturating_mul(4));
     long_at(row, at, packed.is_big)
 }
 
-/// A row of floats but its values, which `float_at` tells.
+/// Reads a row of floats without its values, which `float_at` returns.
 pub(crate) fn read_float_row<A: Allocator>(
     cells: &mut Cells<A>,
     row: &[u8],
@@ -125,7 +125,7 @@ pub(crate) fn read_float_row<A: Allocator>(
     cells.read_bits(row, from, packed.is_big, counts.m)
 }
 
-/// A row of binary data. Values of the channels that `unsigned` names have no sign.
+/// Reads a row of binary data. The values of channels marked in `unsigned` have no sign.
 pub(crate) fn read_packed<A: Allocator>(
     cells: &mut Cells<A>,
     row: &[u8],

@@ -1,4 +1,4 @@
-//! The file that a pair says, with all repairs that it needs.
+//! Reads a pair as a file, with all repairs that it needs.
 
 use crate::build::file_of;
 use crate::cursor::before;
@@ -14,14 +14,14 @@ use comtrade_format::File;
 use memchr::memchr;
 use std::alloc::Allocator;
 
-/// What is asked for where a file can be read in two ways.
+/// Choices for a file that can be read in two ways.
 #[derive(Clone, Copy, Debug, Default)]
 pub struct Choices {
-    /// The order of day and month in dates, in place of the one that the revision and the dates say.
+    /// The order of day and month in dates, which overrides that of the revision and the dates.
     pub dates: Option<Order>,
 }
 
-/// What stands before the first byte 1A of a configuration file, without empty lines at its end.
+/// The text before the first byte 1A of a configuration file, without empty lines at its end.
 fn before_end<'a, A: Allocator + Copy>(
     notes: &mut Notes<A>,
     text: &'a [u8],
@@ -41,7 +41,7 @@ fn before_end<'a, A: Allocator + Copy>(
     Ok(meant)
 }
 
-/// A text without the mark of UTF-8, told where it has one.
+/// A text without the byte order mark of UTF-8, which is noted.
 pub fn unmarked<'a, A: Allocator + Copy>(
     notes: &mut Notes<A>,
     name: &'static str,
@@ -56,7 +56,7 @@ pub fn unmarked<'a, A: Allocator + Copy>(
     }
 }
 
-/// A file's text in ASCII or UTF-8, of which `narrowed` has that of UTF-16.
+/// The text of a file in ASCII or UTF-8; `narrowed` is the converted text of a UTF-16 file.
 fn text_in<'a, A: Allocator + Copy>(
     notes: &mut Notes<A>,
     name: &'static str,
@@ -72,7 +72,7 @@ fn text_in<'a, A: Allocator + Copy>(
     }
 }
 
-/// What a configuration file says.
+/// Reads a configuration file.
 fn cfg_of<A: Allocator + Copy>(
     alloc: A,
     notes: &mut Notes<A>,
@@ -85,7 +85,7 @@ fn cfg_of<A: Allocator + Copy>(
     draft_of(alloc, notes, text, choices.dates)
 }
 
-/// The file of data that are said to be text.
+/// Reads a file whose data are declared as text.
 fn file_of_text<A: Allocator + Copy>(
     alloc: A,
     notes: &mut Notes<A>,
@@ -97,7 +97,7 @@ fn file_of_text<A: Allocator + Copy>(
     file_of(alloc, notes, draft, text)
 }
 
-/// The file that a pair says, with all repairs that it needs, each told.
+/// Reads a pair as a file, with all repairs that it needs, and notes each.
 pub fn repaired<A: Allocator + Copy>(
     alloc: A,
     notes: &mut Notes<A>,

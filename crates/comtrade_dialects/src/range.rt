@@ -1,4 +1,4 @@
-//! The range of samples that the line of an analogue channel says.
+//! The range of samples in the line of an analogue channel.
 
 use crate::analog::Shape;
 use crate::draft::Range;
@@ -20,7 +20,7 @@ fn bound_of(text: &[u8]) -> Option<i32> {
     }
 }
 
-/// A bound in another form, as a whole number where it is one that 1999 can hold.
+/// A bound in another form, as a whole number if 1999 can hold it.
 fn loose_bound(mark: u8, line: u64, text: &[u8]) -> Result<Option<i32>, ImportFault> {
     let Some(spelled) = spelled_of(text, mark == b';') else {
         return Err(at(line, Why::Number));
@@ -31,7 +31,7 @@ fn loose_bound(mark: u8, line: u64, text: &[u8]) -> Result<Option<i32>, ImportFa
     }
 }
 
-/// The least and the greatest sample, and how they are said.
+/// The min and the max, and how the line declares them.
 pub(crate) fn range_of<A: Allocator + Copy>(
     notes: &mut Notes<A>,
     mark: u8,
@@ -39,7 +39,7 @@ pub(crate) fn range_of<A: Allocator + Copy>(
 ) -> Result<(i32, i32, Range), ImportFault> {
     let (low, high) = (shape.parts.at(8), shape.parts.at(9));
     if low.is_empty() || high.is_empty() {
-        tell_empty(notes, shape.line, "min or max: as the data need")?;
+        tell_empty(notes, shape.line, "min or max: from the data")?;
         return Ok((-32_767, 32_767, Range::Empty));
     }
     if let (Some(low), Some(high)) = (bound_of(low), bound_of(high)) {

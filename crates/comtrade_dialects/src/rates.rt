@@ -13,7 +13,7 @@ use comtrade_format::Rate;
 use dfr_channels::Decimal;
 use std::alloc::Allocator;
 
-/// A whole number from 0 on.
+/// A whole number of at least 0.
 fn count_of<A: Allocator + Copy>(
     reader: &mut Reader<'_, '_, A>,
     row: Row<'_>,
@@ -65,14 +65,14 @@ fn rate_of<A: Allocator + Copy>(
         return Err(at(row.number, Why::Rate));
     }
     if row.parts.at(1).is_empty() {
-        tell_empty(reader.notes, row.number, "last row: as there are rows")?;
+        tell_empty(reader.notes, row.number, "last row: the number of rows")?;
         return Ok((Rate { samp, endsamp: 0 }, row.number));
     }
     let endsamp = count_of(reader, row, 1)?;
     Ok((Rate { samp, endsamp }, row.number))
 }
 
-/// Whether the next line is that of a rate.
+/// Whether the next line is a rate line.
 fn has_rate_line(cursor: Cursor<'_>, mark: u8) -> bool {
     let mut ahead = cursor;
     let Some(line) = ahead.next_line() else {
@@ -84,7 +84,7 @@ fn has_rate_line(cursor: Cursor<'_>, mark: u8) -> bool {
     Decimal::read(Parts::of(line.text, mark).at(0)).is_some()
 }
 
-/// The rates of so many lines.
+/// The rates in this many lines.
 fn rates_in<A: Allocator + Copy>(
     reader: &mut Reader<'_, '_, A>,
     count: u64,
@@ -118,7 +118,7 @@ fn rates_in<A: Allocator + Copy>(
     })
 }
 
-/// The lines from the number of rates to the last rate.
+/// Reads the lines from the number of rates to the last rate.
 pub(crate) fn rates_of<A: Allocator + Copy>(
     reader: &mut Reader<'_, '_, A>,
 ) -> Result<Rates<A>, ImportFault> {

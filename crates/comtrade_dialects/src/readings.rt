@@ -19,7 +19,7 @@ fn reading_of(made: &mut Made, num: Option<Num>) -> Reading {
     reading_at(made, whole)
 }
 
-/// The reading of a whole number that is so far off.
+/// The reading of a whole number, given its error.
 fn reading_at(made: &mut Made, (n, off): (i64, i64)) -> Reading {
     made.worst = made.worst.max(off);
     match i32::try_from(n) {
@@ -64,7 +64,7 @@ fn readings_of_floats<A: Allocator + Copy>(
     Ok(values)
 }
 
-/// The readings of the next row, whose bits are in the cells then.
+/// The readings of the next row; its bits are left in the cells.
 fn next_readings<'a, A: Allocator + Copy>(
     alloc: A,
     ground: Ground<'a>,

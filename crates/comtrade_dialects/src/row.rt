@@ -1,4 +1,4 @@
-//! Rows of data, one after the other, whatever their form.
+//! Iterates over rows of data of any form.
 
 use crate::cursor::{Cursor, Line};
 use crate::fault::Why;
@@ -9,17 +9,17 @@ use crate::text_row::read_line;
 use dfr_channels::Memory;
 use std::alloc::Allocator;
 
-/// Rows of binary data: whole rows alone.
+/// Rows of binary data: only whole rows.
 #[derive(Clone, Copy)]
 pub(crate) struct Packed<'a> {
     pub bytes: &'a [u8],
     pub form: Form,
     pub is_big: bool,
-    /// The bytes of a row.
+    /// The number of bytes in a row.
     pub size: usize,
 }
 
-/// Where rows stand, and in which form.
+/// Where the rows are, and in which form.
 #[derive(Clone, Copy)]
 pub(crate) enum Plan<'a> {
     Text(&'a [u8], u8),
@@ -42,7 +42,7 @@ pub(crate) struct Counts {
     pub m: usize,
 }
 
-/// What is odd about a row.
+/// The oddities of a row.
 #[derive(Clone, Copy, Default)]
 pub(crate) struct Odd {
     pub has_points: bool,
@@ -56,7 +56,7 @@ pub(crate) struct Odd {
     pub is_doubled: bool,
 }
 
-/// A row's values and bits, in room that is used again for each.
+/// The values and bits of a row, in buffers that are reused for each row.
 #[derive(Drop)]
 pub(crate) struct Cells<A: Allocator> {
     pub number: i64,
@@ -78,14 +78,14 @@ impl<A: Allocator + Copy> Cells<A> {
     }
 }
 
-/// Why a row can't be read.
+/// Why a row cannot be read.
 #[derive(Clone, Copy)]
 pub(crate) enum Stop {
     Memory,
     Why(Why),
 }
 
-/// Whatever says that memory ran out.
+/// Converts any error that means out of memory.
 impl<E: Drop> From<E> for Stop
 where
     Memory: From<E>,
@@ -95,7 +95,7 @@ where
     }
 }
 
-/// The rows that are left.
+/// The remaining rows.
 #[derive(Clone, Copy)]
 pub(crate) struct Rows<'a> {
     plan: Plan<'a>,
@@ -103,12 +103,12 @@ pub(crate) struct Rows<'a> {
     index: usize,
 }
 
-/// How a step over the rows ended.
+/// The result of a step over the rows.
 #[derive(Clone, Copy)]
 pub(crate) enum Step {
     Row(u64),
     End,
-    /// The last row isn't whole.
+    /// The last row is incomplete.
     Cut(u64),
 }
 

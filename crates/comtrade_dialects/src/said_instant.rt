@@ -1,4 +1,4 @@
-//! A line of an instant, before the order of its date is known.
+//! Reads a line with a date and time, before the order of day and month is known.
 
 use crate::cursor::Cursor;
 use crate::dates::{Civil, Clock, Order, civil_of, clock_of, is_like_instant};
@@ -10,7 +10,7 @@ use crate::text::{place_of, put, put_number, put_quoted};
 use dfr_channels::trim;
 use std::alloc::Allocator;
 
-/// A line of an instant; no date or time of day where none stands there.
+/// A line with a date and time; either is None if it is missing.
 #[derive(Clone, Copy)]
 pub(crate) struct Said {
     civil: Option<Civil>,
@@ -18,7 +18,8 @@ pub(crate) struct Said {
     pub line: u64,
 }
 
-/// The texts of date and time of day of a line. They may stand in one field, with a blank between them.
+/// The texts of the date and the time of day in a line. They may share one field, with a blank
+/// between them.
 fn texts_of<'a>(row: Row<'a>, mark: u8) -> (&'a [u8], &'a [u8], bool) {
     let field = row.parts.at(0);
     if 1 < row.parts.full || field.is_empty() || mark == 0 {
@@ -39,7 +40,7 @@ fn texts_of<'a>(row: Row<'a>, mark: u8) -> (&'a [u8], &'a [u8], bool) {
     }
 }
 
-/// What stands after the first mark of a line.
+/// The text after the first separator of a line.
 fn rest_after(line: &[u8], mark: u8) -> &[u8] {
     match place_of(line, &[mark]) {
         Some(at) => trim(line.get(at.wrapping_add(1)..).unwrap_or(&[])),
@@ -88,21 +89,21 @@ fn tell_civil<A: Allocator + Copy>(
     if civil.has_short_year {
         let mut piece = Vec::new(notes.allocator());
         put_quoted(&mut piece, text)?;
-        put(&mut piece, " is of ")?;
+        put(&mut piece, " is in ")?;
         put_number(&mut piece, u64::from(civil.year))?;
         notes.tell(Key::Years2Digits, Place::Cfg(line), &piece)?;
     }
     Ok(())
 }
 
-/// Whether the next line can be that of an instant; none where there is no line.
+/// Whether the next line can be a date and time; None if there is no line.
 fn is_next(cursor: Cursor<'_>, mark: u8) -> Option<bool> {
     let mut ahead = cursor;
     let line = ahead.next_line()?;
     Some(is_like_instant(line.text, mark))
 }
 
-/// The date and the time of day of a line, with their oddities told.
+/// Reads the date and the time of day in a line, and notes their oddities.
 fn said_in<A: Allocator + Copy>(
     notes: &mut Notes<A>,
     row: Row<'_>,
@@ -130,13 +131,13 @@ fn said_in<A: Allocator + Copy>(
     Ok(Said { civil, clock, line })
 }
 
-/// The next line, which is that of an instant.
+/// Reads the next line, which is a date and time.
 fn said_there<A: Allocator + Copy>(reader: &mut Reader<'_, '_, A>) -> Result<Said, ImportFault> {
     let row = next_row(&mut reader.cursor, reader.mark, reader.notes, 2)?;
     said_in(reader.notes, row, reader.mark)
 }
 
-/// The next line, where it is that of an instant.
+/// Reads the next line, if it is a date and time.
 pub(crate) fn said_of<A: Allocator + Copy>(
     reader: &mut Reader<'_, '_, A>,
 ) -> Result<Said, ImportFault> {
@@ -158,7 +159,7 @@ pub(crate) fn said_of<A: Allocator + Copy>(
 }
 
 impl Said {
-    /// The date, where one is set.
+    /// The date, if one is set.
     pub(crate) fn date(self) -> Option<Civil> {
         match self.civil {
             Some(civil) if !civil.is_unset() => Some(civil),
@@ -188,7 +189,7 @@ impl Said {
         }
     }
 
-    /// Whether a date is set that doesn't say its order by itself.
+    /// Whether a date is set whose order is not certain.
     pub(crate) fn is_open(self) -> bool {
         match self.date() {
             Some(civil) => !civil.is_fixed(),
@@ -196,7 +197,7 @@ impl Said {
         }
     }
 
-    /// Whether both orders say the same.
+    /// Whether both orders give the same date.
     pub(crate) fn is_same_in_both(self) -> bool {
         match self.date() {
             Some(civil) => civil.day_in(Order::DayFirst) == civil.day_in(Order::MonthFirst),

@@ -2,16 +2,16 @@
 
 use crate::num::{Num, ten_to};
 
-/// Multiples of 10^-shift; `fives` is 5^shift where shift is from 0 to 44.
+/// Multiples of 10^-shift; `fives` is 5^shift for a shift from 0 to 44.
 #[derive(Clone, Copy)]
 pub(crate) struct Scale {
     pub shift: i32,
     fives: u128,
-    /// The same where it has at most 39 bits; else 0.
+    /// The same if it has at most 39 bits; else 0.
     short: u64,
 }
 
-/// The greatest shift: of a float's 24 bits and 5^44 the product still has 127 bits.
+/// The greatest shift: the product of a float's 24 bits and 5^44 has at most 127 bits.
 const MOST: i32 = 44;
 
 impl Scale {
@@ -29,7 +29,7 @@ impl Scale {
         }
     }
 
-    /// The nearest multiple to a number whose order is at most 18 - shift.
+    /// The multiple nearest to a number whose order is at most 18 - shift.
     pub(crate) fn nearest(self, num: Num) -> i64 {
         if num.two == 0 {
             return decimal_at(num, self.shift);
@@ -46,7 +46,7 @@ impl Scale {
         }
     }
 
-    /// The nearest to size * 2^two.
+    /// The multiple nearest to size * 2^two.
     fn near(self, size: u64, two: i32) -> i64 {
         let size = u128::from(size);
         let near = if self.shift < 0 {
@@ -60,7 +60,7 @@ impl Scale {
         i64::try_from(near).unwrap_or(i64::MAX)
     }
 
-    /// The same, where 64 bits are enough for it.
+    /// The same, if 64 bits are enough.
     pub(crate) fn near_in_64(self, size: u64, two: i32) -> Option<i64> {
         if self.short == 0 || self.shift < 0 || 0x100_0000 <= size {
             return None;
@@ -75,7 +75,7 @@ impl Scale {
     }
 }
 
-/// A size of at most 63 bits over 2^n, rounded.
+/// A magnitude of at most 63 bits divided by 2^n, rounded.
 fn over_power(size: u64, n: u32) -> Option<i64> {
     if 62 < n {
         return None;
@@ -84,7 +84,7 @@ fn over_power(size: u64, n: u32) -> Option<i64> {
     i64::try_from(size.wrapping_add(half).wrapping_shr(n)).ok()
 }
 
-/// A size times 2^n, where that has at most 63 bits.
+/// A magnitude times 2^n, if the product has at most 63 bits.
 fn times_power(size: u64, n: u32) -> Option<i64> {
     if size.leading_zeros() <= n {
         return None;
@@ -100,7 +100,7 @@ fn power_of_two(n: i32) -> u128 {
     }
 }
 
-/// A size over 10^n, rounded.
+/// A magnitude divided by 10^n, rounded.
 fn tenth(size: u128, n: u32) -> u128 {
     match 10u128.checked_pow(n) {
         Some(part) => size
@@ -111,7 +111,7 @@ fn tenth(size: u128, n: u32) -> u128 {
     }
 }
 
-/// A size times 2^n, rounded.
+/// A magnitude times 2^n, rounded.
 fn shifted(size: u128, n: i32) -> u128 {
     if 0 <= n {
         return size.saturating_mul(power_of_two(n));
@@ -142,7 +142,7 @@ fn decimal_at(num: Num, shift: i32) -> i64 {
     }
 }
 
-/// The nearest whole number to n / part, halves away from 0.
+/// The whole number nearest to n / part; halves are rounded away from 0.
 pub(crate) fn over(n: i64, part: i64) -> i64 {
     let half = part.wrapping_div(2);
     let up = n.saturating_add(if n < 0 { half.wrapping_neg() } else { half });

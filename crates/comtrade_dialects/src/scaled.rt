@@ -1,4 +1,4 @@
-//! How the samples of each channel are written, and what is told of it.
+//! Decides how the samples of each channel are written, and notes the changes.
 
 use crate::draft::{Range, Said};
 use crate::exact::Exact;
@@ -18,14 +18,14 @@ use std::alloc::Allocator;
 #[derive(Clone, Copy)]
 pub(crate) struct Made {
     pub fit: Fit,
-    /// The factor before.
+    /// The original multiplier.
     factor: Decimal,
-    /// How far the worst sample is off, in units of 10^-shift.
+    /// The greatest error of a sample, in units of 10^-shift.
     pub worst: i64,
     shift: i32,
 }
 
-/// The least and the greatest of the whole numbers that the samples become.
+/// The range of the whole numbers that the samples become.
 fn range_for(fit: &Fit, is_text: bool) -> (i32, i32) {
     if is_text && !fit.is_rounded() {
         (-99_999, 99_998)
@@ -34,7 +34,7 @@ fn range_for(fit: &Fit, is_text: bool) -> (i32, i32) {
     }
 }
 
-/// The range of samples that stay, where it can't.
+/// Sets the range of a channel whose samples stay unchanged, if its own range is unusable.
 fn set_same<A: Allocator + Copy>(
     notes: &mut Notes<A>,
     channel: &mut AnalogChannel<A>,
@@ -55,7 +55,7 @@ fn set_same<A: Allocator + Copy>(
     Ok(())
 }
 
-/// The range and the scale of a channel whose samples become others.
+/// Sets the range and the scale of a channel whose samples change.
 fn set_other<A: Allocator + Copy>(
     channel: &mut AnalogChannel<A>,
     said: Said,
@@ -86,7 +86,7 @@ fn set_other<A: Allocator + Copy>(
     Ok(())
 }
 
-/// Settles a channel: its range, its scale, and how its samples become whole numbers.
+/// Decides on a channel: its range, its scale, and how its samples become whole numbers.
 fn made_of<A: Allocator + Copy>(
     notes: &mut Notes<A>,
     channel: &mut AnalogChannel<A>,
@@ -110,7 +110,7 @@ fn made_of<A: Allocator + Copy>(
     Ok(made)
 }
 
-/// Tells what becomes of the samples.
+/// Notes how the samples change.
 fn tell_samples<A: Allocator + Copy>(
     notes: &mut Notes<A>,
     form: Option<Form>,
@@ -135,7 +135,7 @@ fn tell_samples<A: Allocator + Copy>(
     Ok(())
 }
 
-/// Settles all channels.
+/// Decides on all channels.
 pub(crate) fn settle_channels<A: Allocator + Copy>(
     alloc: A,
     notes: &mut Notes<A>,
@@ -157,7 +157,7 @@ pub(crate) fn settle_channels<A: Allocator + Copy>(
     Ok(list)
 }
 
-/// The greatest error of a channel, in its unit.
+/// Notes the greatest error of a channel, in its unit.
 fn tell_error<A: Allocator + Copy>(
     notes: &mut Notes<A>,
     channel: &AnalogChannel<A>,
@@ -184,7 +184,7 @@ fn tell_error<A: Allocator + Copy>(
     Ok(())
 }
 
-/// Tells the errors of the channels whose values aren't held exactly.
+/// Notes the errors of the channels whose values are rounded.
 pub(crate) fn tell_errors<A: Allocator + Copy>(
     notes: &mut Notes<A>,
     channels: &[AnalogChannel<A>],

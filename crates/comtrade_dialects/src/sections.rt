@@ -1,4 +1,4 @@
-//! A single file (.cff) of 2013, cut into its sections (IEC 60255-24:2013, 10).
+//! Splits a single file (.cff) of 2013 into its sections (IEC 60255-24:2013, 10).
 
 use crate::cursor::{after, before};
 use crate::fault::{ImportFault, Why};
@@ -15,17 +15,17 @@ enum Section {
     Hdr,
     /// Data as text.
     Text,
-    /// Data in bytes, with their count where it is said.
+    /// Binary data, with the byte count if it is given.
     Bytes(Option<u64>),
 }
 
-/// The line before a section.
+/// The separator line before a section.
 #[derive(Clone, Copy)]
 struct Separator<'a> {
     section: Section,
-    /// What stands after the line.
+    /// The text after the line.
     rest: &'a [u8],
-    /// It is spelled as the standard spells it.
+    /// It has the standard form.
     is_usual: bool,
 }
 
@@ -34,19 +34,19 @@ struct Separator<'a> {
 pub struct Sections<'a> {
     pub cfg: &'a [u8],
     pub dat: &'a [u8],
-    /// A section INF or HDR has text.
+    /// An INF section has text; `has_hdr` is the same for HDR.
     pub has_inf: bool,
     pub has_hdr: bool,
-    /// A separator is spelled otherwise than the standard spells it.
+    /// A separator does not have the standard form.
     pub has_odd_separator: bool,
-    /// The count of bytes isn't what is there: said, and there.
+    /// The byte count given and the one found, if they differ.
     pub wrong_count: Option<(u64, u64)>,
 }
 
-/// How many bytes of a line are looked at.
+/// The number of bytes of a line that are examined.
 const LONGEST: usize = 120;
 
-/// The next word, and what stands after it.
+/// The next word, and the rest after it.
 fn word_of(text: &[u8]) -> (&[u8], &[u8]) {
     let text = trim(text);
     let end = place_of(text, b" \t:");
@@ -56,7 +56,7 @@ fn word_of(text: &[u8]) -> (&[u8], &[u8]) {
     }
 }
 
-/// Without a colon at the front.
+/// The text without a leading colon.
 fn after_colon(text: &[u8]) -> &[u8] {
     match text {
         [b':', rest @ ..] => trim(rest),
@@ -76,7 +76,7 @@ fn without_dashes(line: &[u8]) -> &[u8] {
     trim(line.get(front..end).unwrap_or(&[]))
 }
 
-/// The section of data that a kind and a count name.
+/// The data section with this type and byte count.
 fn data_section(text: &[u8]) -> Option<Section> {
     let (kind, left) = word_of(after_colon(text));
     if kind.is_empty() || form_of(kind)?.is_text() {
@@ -90,7 +90,7 @@ fn data_section(text: &[u8]) -> Option<Section> {
     Some(Section::Bytes(Some(u64::try_from(integer_of(digits)?).ok()?)))
 }
 
-/// The section that a line between dashes names.
+/// The section named by the text between the dashes of a line.
 fn section_of(inner: &[u8]) -> Option<Section> {
     let (file, rest) = word_of(inner);
     let (kind, rest) = word_of(rest);
@@ -123,7 +123,7 @@ fn has_lowercase(text: &[u8]) -> bool {
     false
 }
 
-/// Whether a line is spelled as the standard spells it.
+/// Whether a line has the standard form.
 fn is_usual(line: &[u8], section: Section) -> bool {
     let front = b"--- file type: ";
     let is_framed = line.starts_with(front) && line.ends_with(b" ---");
@@ -132,7 +132,7 @@ fn is_usual(line: &[u8], section: Section) -> bool {
     is_framed && names_kind && section != Section::Bytes(None) && !has_lowercase(body)
 }
 
-/// The separator at the front of a text.
+/// The separator at the start of a text.
 fn separator_at(text: &[u8]) -> Option<Separator<'_>> {
     if !text.starts_with(b"--") {
         return None;
@@ -155,7 +155,7 @@ fn separator_at(text: &[u8]) -> Option<Separator<'_>> {
     })
 }
 
-/// Where the next separator stands: at the front of a line, or anywhere where `is_anywhere`.
+/// The position of the next separator: at the start of a line, or anywhere if `is_anywhere`.
 fn next_place(text: &[u8], is_anywhere: bool) -> usize {
     let mut before = b'\n';
     for (i, b) in text.iter().enumerate() {
@@ -168,7 +168,8 @@ fn next_place(text: &[u8], is_anywhere: bool) -> usize {
     text.len()
 }
 
-/// Whether bytes end here: nothing, line ends or 1A are left, or a separator stands here.
+/// Whether the bytes of a section end here: after an optional line end, nothing, only 1A, or a
+/// separator follows.
 fn ends_here(text: &[u8]) -> bool {
     let rest = match text {
         [b'\r', b'\n', rest @ ..] => rest,
@@ -178,7 +179,7 @@ fn ends_here(text: &[u8]) -> bool {
     rest.is_empty() || rest == b"\x1a".as_slice() || separator_at(rest).is_some()
 }
 
-/// How many bytes a section takes, and whether its count is wrong.
+/// The length of a section in bytes, and whether its byte count is wrong.
 fn length_of(separator: Separator<'_>) -> (usize, Option<(u64, u64)>) {
     let text = separator.rest;
     let Section::Bytes(said) = separator.section else {
@@ -234,7 +235,7 @@ fn add<'a>(found: &mut Found<'a>, separator: Separator<'a>) -> Result<&'a [u8], 
     Ok(separator.rest.get(length..).unwrap_or(&[]))
 }
 
-/// The sections of a single file. A fault where it has no CFG, no DAT, or one of them twice.
+/// Splits a single file into its sections. It is an error if CFG or DAT is missing or occurs twice.
 pub fn cut(cff: &[u8]) -> Result<Sections<'_>, ImportFault> {
     let mut found = Found {
         sections: Sections {

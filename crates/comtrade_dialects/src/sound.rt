@@ -1,4 +1,4 @@
-//! Whether a file that reads exactly is also meant as it reads.
+//! Decides whether a file that reads exactly is also meant that way.
 
 use crate::cursor::after;
 use crate::doubts::{Doubts, add_times, clock_of};
@@ -30,7 +30,8 @@ fn is_head_sound<A: Allocator>(head: &Head<A>) -> bool {
     head.first <= head.trigger
 }
 
-/// Whether all rows are numbered from 1 on and have stamps from 0 on, which aren't all the same where no rate says the times.
+/// Whether all rows are numbered from 1 and have stamps from 0; without rates, the stamps must not
+/// all be the same.
 fn are_rows_sound<A: Allocator>(rows: &[Row<A>], has_clock: bool) -> bool {
     let mut number = 0u64;
     let mut last = 0u64;
@@ -47,7 +48,7 @@ fn are_rows_sound<A: Allocator>(rows: &[Row<A>], has_clock: bool) -> bool {
     has_clock || 0 < last || number < 2
 }
 
-/// Whether numbers and stamps of all rows are meant as they stand.
+/// Whether the numbers and stamps of all rows are plausible.
 fn are_times_sound<A: Allocator + Copy>(alloc: A, file: &File<A>) -> Result<bool, AllocError> {
     let clock = clock_of(alloc, file)?;
     if file.head.nrates != 0 && clock.is_none() {
@@ -61,7 +62,7 @@ fn are_times_sound<A: Allocator + Copy>(alloc: A, file: &File<A>) -> Result<bool
     Ok(doubts.off.is_none() && doubts.falling.is_none())
 }
 
-/// Whether an empty field stands in ASCII rows, or something after their end.
+/// Whether ASCII rows have an empty field, or text after their end.
 fn has_odd_text(dat: &[u8]) -> bool {
     let mut before = b'\n';
     for (i, b) in dat.iter().enumerate() {
@@ -81,7 +82,7 @@ fn has_odd_text(dat: &[u8]) -> bool {
     before == b','
 }
 
-/// Whether BINARY's mark of a missing value stands in a row among values that can't be so low.
+/// Whether a row has BINARY's mark of a missing value in a channel whose values cannot be so low.
 fn has_mark_in<A: Allocator>(row: &Row<A>, channels: &[AnalogChannel<A>]) -> bool {
     for (value, channel) in row.values.items().iter().zip(channels.iter()) {
         if let Reading::Value(x) = value {
@@ -103,7 +104,7 @@ fn has_foreign_mark<A: Allocator>(file: &File<A>) -> bool {
     false
 }
 
-/// Whether a bit is set that no channel has, in rows of this size.
+/// Whether an unused bit is set, in rows of this size.
 fn has_spare_bits(dat: &[u8], k: usize, m: usize) -> bool {
     let left = m.wrapping_rem(16);
     let size = 8usize
@@ -131,7 +132,7 @@ fn are_data_sound<A: Allocator>(file: &File<A>, dat: &[u8]) -> bool {
     }
 }
 
-/// Whether a file that reads exactly is meant as it reads, and has nothing that is told.
+/// Whether a file that reads exactly is meant that way, so that no repair is needed.
 pub fn is_sound<A: Allocator + Copy>(
     alloc: A,
     file: &File<A>,

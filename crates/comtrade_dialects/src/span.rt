@@ -1,26 +1,26 @@
-//! What the samples of a channel have in common.
+//! Summarises the samples of a channel.
 
 use crate::num::Num;
 use crate::scale::Scale;
 
-/// The least and the greatest whole number that a form of data holds.
+/// The least and the greatest whole number that a form of data can hold.
 #[derive(Clone, Copy)]
 pub(crate) struct Bounds {
     pub low: i64,
     pub high: i64,
 }
 
-/// A sample, and its place among others.
+/// A sample, and its order key.
 #[derive(Clone, Copy)]
 struct End {
     num: Num,
     place: i128,
 }
 
-/// The samples of a channel so far.
+/// A summary of the samples of a channel so far.
 #[derive(Clone, Copy)]
 pub(crate) struct Span {
-    /// The first sample, where there is one.
+    /// The first sample, if there is one.
     pub first: Option<Num>,
     /// The least and the greatest sample, while none is a multiple of a power of ten.
     ends: Option<(End, End)>,
@@ -33,7 +33,7 @@ pub(crate) struct Span {
     pub most: i64,
     /// All are below 10^order.
     pub order: i32,
-    /// The least n for which all times 10^n are whole.
+    /// The least n for which all samples times 10^n are whole.
     pub need: i32,
     /// The least and the greatest as multiples of the scale's unit.
     pub low: i64,
@@ -70,7 +70,7 @@ impl Span {
         }
     }
 
-    /// Takes a sample into account.
+    /// Adds a sample.
     pub(crate) fn add(&mut self, num: Num, bounds: Bounds) {
         if self.first.is_none() {
             self.first = Some(num);
@@ -99,7 +99,8 @@ impl Span {
         }
     }
 
-    /// The scale at which eighteen digits are told apart, and where the ends are at it, if they are known.
+    /// Sets the scale that distinguishes eighteen digits, and the ends in this scale, if they
+    /// are known.
     pub(crate) fn settle(&mut self) {
         self.scale = Scale::new(18i32.saturating_sub(self.order).max(-60));
         if self.is_binary {
@@ -110,12 +111,12 @@ impl Span {
         }
     }
 
-    /// Whether the least and the greatest still have to be found among the samples.
+    /// Whether the least and the greatest sample are still to be found.
     pub(crate) fn is_open(&self) -> bool {
         !self.fits && !self.is_binary
     }
 
-    /// Takes a sample's place between the others into account.
+    /// Extends the least and the greatest by a sample.
     pub(crate) fn widen(&mut self, num: Num) {
         let near = self.scale.nearest(num);
         self.low = self.low.min(near);

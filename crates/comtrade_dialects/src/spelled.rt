@@ -1,9 +1,9 @@
-//! Texts as a file of 1999 holds them: printable ASCII without commas, of few bytes.
+//! Converts texts to what a file of 1999 can hold: short printable ASCII without commas.
 
 use dfr_channels::trim;
 use std::alloc::{AllocError, Allocator};
 
-/// How a character outside printable ASCII is spelled; one question mark for what has no spelling.
+/// The ASCII spelling of a character outside printable ASCII; a question mark if there is none.
 fn spelling(code: u32) -> &'static str {
     match code {
         0xe4 => "ae",
@@ -73,7 +73,7 @@ fn spelling_further(code: u32) -> &'static str {
 #[derive(Drop)]
 pub(crate) struct Plain<A: Allocator> {
     pub bytes: Vec<u8, A>,
-    /// Letters outside printable ASCII were spelled.
+    /// Characters outside printable ASCII were replaced.
     pub is_spelled: bool,
     /// A comma was replaced.
     pub had_comma: bool,
@@ -95,7 +95,7 @@ impl<A: Allocator> Plain<A> {
     }
 }
 
-/// A text in ASCII, from UTF-8 or else from Latin-1.
+/// A text in ASCII, converted from UTF-8, or from Latin-1 if it is not UTF-8.
 pub(crate) fn plain_of<A: Allocator>(alloc: A, text: &[u8]) -> Result<Plain<A>, AllocError> {
     let mut plain = Plain {
         bytes: Vec::new(alloc),

@@ -1,4 +1,4 @@
-//! Numbers and stamps of all rows, and what becomes of them.
+//! Decides what becomes of the numbers and time stamps of all rows.
 
 use crate::clock::{Clock, rounded, time_of_stamp};
 use crate::draft::{Draft, Revision};
@@ -12,7 +12,7 @@ use comtrade_format::Rate;
 use dfr_channels::Decimal;
 use std::alloc::Allocator;
 
-/// What is written of times: the stamps, their factor, and the rates.
+/// The times that are written: the stamps, their multiplier, and the rates.
 #[derive(Drop)]
 pub(crate) struct Times<A: Allocator> {
     pub stamps: Vec<Option<u64>, A>,
@@ -20,26 +20,27 @@ pub(crate) struct Times<A: Allocator> {
     pub rates: Vec<Rate, A>,
 }
 
-/// All rows, as they were read.
+/// The numbers and stamps of all rows, as they were read.
 #[derive(Clone, Copy)]
 pub(crate) struct Track<'a> {
     pub ticks: &'a [Tick],
     pub timemult: Decimal,
-    /// The greatest stamp that the form of the data holds.
+    /// The greatest stamp that the form of the data can hold.
     pub most: i128,
-    /// A stamp has a point.
+    /// Whether a stamp has a point.
     pub is_pointed: bool,
     pub place: Place,
 }
 
-/// By what a stamp is divided, and which rows' times it is compared with.
+/// By what a stamp is divided, and with the times of which rows it is compared.
 #[derive(Clone, Copy)]
 struct Sight {
     part: i128,
     by_number: bool,
 }
 
-/// Whether all stamps agree with the rates within half an interval, or what a stamp counts where that is more.
+/// Whether all stamps agree with the rates within half an interval, or within one stamp unit if
+/// that is more.
 fn agrees<A: Allocator + Copy>(track: &Track<'_>, clock: &Clock<A>, sight: Sight) -> bool {
     let Some(first) = track.ticks.first() else {
         return true;
@@ -105,18 +106,18 @@ fn are_same(ticks: &[Tick]) -> bool {
     1 < ticks.len()
 }
 
-/// What the stamps are found to be.
+/// What the stamps turn out to be.
 #[derive(Clone, Copy, PartialEq, Eq)]
 enum Found {
-    /// There is none.
+    /// There are none.
     None,
-    /// They stay, but for a shift and for rounding; divided by so much.
+    /// They are kept except for a shift and rounding, and divided by this number.
     Kept(i128),
-    /// The rates say the times.
+    /// The times come from the rates.
     ByRate,
 }
 
-/// What becomes of stamps beside rates.
+/// Decides on stamps if there are rates.
 fn beside_rates<A: Allocator + Copy>(
     notes: &mut Notes<A>,
     track: &Track<'_>,
@@ -141,7 +142,7 @@ fn beside_rates<A: Allocator + Copy>(
     if stamps_fall(track.ticks, track.timemult) {
         notes.tell(Key::StampsRestart, track.place, &[])?;
     } else {
-        notes.tell(Key::StampsAgainstRate, track.place, b"the rate was taken")?;
+        notes.tell(Key::StampsAgainstRate, track.place, b"the rate is used")?;
     }
     Ok(Found::ByRate)
 }
@@ -192,7 +193,7 @@ fn found_of<A: Allocator + Copy>(
     }
 }
 
-/// Whether rows are lost: the numbers have gaps, and the stamps have them too.
+/// Whether rows are lost: the numbers have gaps, and so do the stamps.
 fn are_lost<A: Allocator + Copy>(track: &Track<'_>, clock: &Clock<A>) -> bool {
     let plain = Sight {
         part: 1,
@@ -205,7 +206,7 @@ fn are_lost<A: Allocator + Copy>(track: &Track<'_>, clock: &Clock<A>) -> bool {
     agrees(track, clock, numbered) && !agrees(track, clock, plain)
 }
 
-/// What is written of times. `is_cut` where an incomplete row was left out.
+/// The times that are written. `is_cut` if an incomplete row was left out.
 pub(crate) fn times_of<A: Allocator + Copy>(
     alloc: A,
     notes: &mut Notes<A>,
@@ -242,7 +243,7 @@ pub(crate) fn times_of<A: Allocator + Copy>(
     })
 }
 
-/// The stamps that are written, and their factor.
+/// The stamps that are written, and their multiplier.
 fn settled<A: Allocator + Copy>(
     alloc: A,
     notes: &mut Notes<A>,

@@ -9,7 +9,7 @@ use crate::note::{Notes, Place};
 use dfr_channels::{StatusChannel, bit_of, free_bit_of};
 use std::alloc::Allocator;
 
-/// Where the fields of a line stand.
+/// The layout of a line.
 #[derive(Clone, Copy, PartialEq, Eq)]
 enum Shape {
     /// Number, id, phase, component, normal.
@@ -36,7 +36,8 @@ fn shape_of(parts: Parts<'_>) -> Option<Shape> {
     }
 }
 
-/// The fields of a line, where a comma too many can only stand in the id or in the component.
+/// The fields of a line with one field too many, if the extra comma can only belong to the id or
+/// the component.
 fn told_apart<'a>(parts: &Parts<'a>) -> Option<Parts<'a>> {
     if parts.full == 4 && parts.all == 4 && bit_of(parts.at(3)).is_some() && 2 < parts.at(2).len() {
         return Some(parts.joined(1));
@@ -50,7 +51,7 @@ fn told_apart<'a>(parts: &Parts<'a>) -> Option<Parts<'a>> {
     Some(parts.joined(joint))
 }
 
-/// The channel that a line says.
+/// The channel in a line.
 pub(crate) fn status_of<A: Allocator + Copy>(
     notes: &mut Notes<A>,
     row: Row<'_>,

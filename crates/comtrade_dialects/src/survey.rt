@@ -1,4 +1,4 @@
-//! Looks over all rows before they are written: numbers, stamps and spans of samples.
+//! Surveys all rows before they are written: numbers, stamps and spans of samples.
 
 use crate::fault::{ImportFault, Why};
 use crate::float_span::FloatSpan;
@@ -12,7 +12,7 @@ use crate::row::{Cells, Counts, Packed, Plan, Rows, Step, Stop};
 use crate::span::{Bounds, Span};
 use std::alloc::Allocator;
 
-/// What a first look over the rows found.
+/// What the first pass over the rows found.
 #[derive(Drop)]
 pub(crate) struct Survey<A: Allocator> {
     pub ticks: Vec<Tick, A>,
@@ -22,15 +22,15 @@ pub(crate) struct Survey<A: Allocator> {
     pub is_cut: bool,
 }
 
-/// What the rows are read with.
+/// The context for reading rows.
 #[derive(Clone, Copy)]
 pub(crate) struct Ground<'a> {
     pub plan: Plan<'a>,
     pub counts: Counts,
     pub bounds: Bounds,
     pub unsigned: &'a [bool],
-    /// The least sample that each channel says; -32,768 is no sample where it says more. The least number where
-    /// it says none that 1999 can hold; else 999,999 is no sample.
+    /// The min of each channel; if it is above -32,768, then -32,768 is not a sample. The least
+    /// number if the channel declares no min that 1999 can hold; otherwise 999,999 is not a sample.
     pub lows: &'a [i64],
 }
 
@@ -87,8 +87,9 @@ fn tell_row<A: Allocator + Copy>(
     Ok(())
 }
 
-/// BINARY's mark of a missing value in ASCII data, where the channel says that no sample is so low; or
-/// nines through all six characters of a value, where it says that none is so high.
+/// Whether a value is a foreign mark of a missing value: BINARY's mark in ASCII data, if the
+/// channel's range excludes it, or nines in all six characters of a value, if the range
+/// excludes them.
 fn is_foreign_mark(ground: Ground<'_>, channel: usize, num: Num) -> bool {
     let Some(low) = ground.lows.get(channel) else {
         return false;
@@ -100,7 +101,7 @@ fn is_foreign_mark(ground: Ground<'_>, channel: usize, num: Num) -> bool {
     }
 }
 
-/// The next row, with values that stand for missing ones as such.
+/// The next row; marks of missing values are replaced by missing values.
 pub(crate) fn next_cells<A: Allocator + Copy>(
     ground: Ground<'_>,
     rows: &mut Rows<'_>,
@@ -145,7 +146,7 @@ fn add_row<A: Allocator + Copy>(
     Ok(())
 }
 
-/// The next row of floats but its values, which are handed out as they stand in the data.
+/// The next row of floats without its values, which are read from the bytes of the data.
 pub(crate) fn next_floats<'a, A: Allocator + Copy>(
     ground: Ground<'_>,
     packed: Packed<'a>,
@@ -161,7 +162,7 @@ pub(crate) fn next_floats<'a, A: Allocator + Copy>(
     }
 }
 
-/// The spans of the channels of a file of floats before its first row.
+/// The initial spans of the channels of a file of floats.
 fn float_spans<A: Allocator>(alloc: A, count: usize) -> Result<Vec<FloatSpan, A>, ImportFault> {
     let mut spans = Vec::new(alloc);
     for _ in 0..count {
@@ -170,7 +171,7 @@ fn float_spans<A: Allocator>(alloc: A, count: usize) -> Result<Vec<FloatSpan, A>
     Ok(spans)
 }
 
-/// A first look over rows of floats, whose spans are read off their bits.
+/// The first pass over rows of floats; their spans come from their bits.
 fn look_at_floats<A: Allocator + Copy>(
     alloc: A,
     notes: &mut Notes<A>,
@@ -197,7 +198,7 @@ fn look_at_floats<A: Allocator + Copy>(
     Ok(())
 }
 
-/// A first look over other rows.
+/// The first pass over other rows.
 fn look_at_rows<A: Allocator + Copy>(
     alloc: A,
     notes: &mut Notes<A>,
@@ -226,7 +227,7 @@ fn look_at_rows<A: Allocator + Copy>(
     widen_all(ground, survey, &mut cells)
 }
 
-/// A first look over all rows.
+/// The first pass over all rows.
 pub(crate) fn survey_of<A: Allocator + Copy>(
     alloc: A,
     notes: &mut Notes<A>,
@@ -258,7 +259,8 @@ fn any_open(spans: &[Span]) -> bool {
     false
 }
 
-/// A second look, at the channels that don't fit as they are and whose least and greatest sample it has to find.
+/// The second pass: finds the least and the greatest sample of the channels that do not fit as
+/// they are.
 fn widen_all<A: Allocator + Copy>(
     ground: Ground<'_>,
     survey: &mut Survey<A>,

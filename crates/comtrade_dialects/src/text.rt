@@ -21,7 +21,7 @@ pub(crate) fn has_only(text: &[u8], bytes: &[u8]) -> bool {
     true
 }
 
-/// A text without the lines at its end that have no byte but blanks, zeros and the mark between fields.
+/// A text without the lines at its end that contain only blanks, zeros and separators.
 pub(crate) fn without_empty_end(text: &[u8], mark: u8) -> &[u8] {
     let mut end = 0usize;
     let mut is_empty = true;
@@ -46,7 +46,7 @@ pub(crate) fn without_empty_end(text: &[u8], mark: u8) -> &[u8] {
     }
 }
 
-/// Where the first of these bytes stands.
+/// The position of the first of these bytes.
 pub(crate) fn place_of(text: &[u8], bytes: &[u8]) -> Option<usize> {
     for (i, b) in text.iter().enumerate() {
         if bytes.contains(b) {
@@ -59,10 +59,10 @@ pub(crate) fn place_of(text: &[u8], bytes: &[u8]) -> Option<usize> {
 /// The digits.
 pub(crate) const DIGITS: &[u8] = b"0123456789";
 
-/// How many bytes of a text are quoted.
+/// The number of bytes of a text that are quoted.
 const QUOTED: usize = 80;
 
-/// A text in quotation marks; what isn't printable ASCII stands as a question mark.
+/// Appends a text in quotation marks; bytes outside printable ASCII become question marks.
 pub(crate) fn put_quoted<A: Allocator>(
     out: &mut Vec<u8, A>,
     text: &[u8],

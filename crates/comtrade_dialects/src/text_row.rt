@@ -1,4 +1,4 @@
-//! A row of ASCII data.
+//! Reads a row of ASCII data.
 
 use crate::fault::Why;
 use crate::field::Fields;
@@ -8,7 +8,7 @@ use crate::text::has_only;
 use dfr_channels::bit_of;
 use std::alloc::Allocator;
 
-/// Texts that stand for a missing value.
+/// Whether a text marks a missing value.
 fn is_mark(text: &[u8]) -> bool {
     let body = match text {
         [b'-' | b'+', rest @ ..] => rest,
@@ -56,7 +56,7 @@ fn push_value<A: Allocator>(
     }
 }
 
-/// Number and stamp of a row.
+/// Reads the number and the stamp of a row.
 fn read_front<A: Allocator>(
     cells: &mut Cells<A>,
     fields: &mut Fields<'_>,
@@ -87,7 +87,7 @@ fn read_front<A: Allocator>(
     Ok(())
 }
 
-/// A row of ASCII data.
+/// Reads a row of ASCII data.
 pub(crate) fn read_line<A: Allocator>(
     cells: &mut Cells<A>,
     line: &[u8],
