@@ -15,7 +15,7 @@ use std::io;
 use std::io::Write;
 use std::rt::Files;
 
-/// What falls together in both records; none where the text says neither.
+/// How two records are aligned; None if the text names neither way.
 fn by_of(text: Option<&str>) -> Option<By> {
     match text.unwrap_or("instant") {
         "instant" => Some(By::Instant),
@@ -24,7 +24,7 @@ fn by_of(text: Option<&str>) -> Option<By> {
     }
 }
 
-/// What is asked of the second record: the rows and channels are those of the first.
+/// What is asked of the second record: the rows and channels of the first decide.
 fn part_beside<'a>(part: Part<'a>) -> Part<'a> {
     Part {
         from: None,
@@ -35,7 +35,7 @@ fn part_beside<'a>(part: Part<'a>) -> Part<'a> {
     }
 }
 
-/// The file of a record that was read; none where it has none, which is said.
+/// The file of a record; None if it cannot be read, which is printed.
 fn file_in<R: Eprint + AllocGlobal, A: Allocator + Copy>(
     rt: &R,
     lists: A,
@@ -56,7 +56,7 @@ fn file_in<R: Eprint + AllocGlobal, A: Allocator + Copy>(
     }
 }
 
-/// The file of a record that was read, whose bytes are given up.
+/// The file of a record; the bytes of its files are released.
 fn file_from<R: Eprint + AllocGlobal, A: Allocator + Copy>(
     rt: &R,
     lists: A,
@@ -67,7 +67,7 @@ fn file_from<R: Eprint + AllocGlobal, A: Allocator + Copy>(
     file_in(rt, lists, name, part, pair_of(&inputs))
 }
 
-/// The record of a name; none where it can't be read or has no such part, which is said.
+/// The record with this name; None if it cannot be read or has no such part, which is printed.
 fn record_of<R: Files + Input + Eprint + AllocGlobal + Clone + Drop, A: Allocator + Copy>(
     rt: &R,
     lists: A,
@@ -93,7 +93,7 @@ fn record_of<R: Files + Input + Eprint + AllocGlobal + Clone + Drop, A: Allocato
     Ok(taken)
 }
 
-/// Prints the picture of two records; false where they can't be compared, which is put to `said`.
+/// Prints the picture of two records; false if they cannot be compared, with the reason in `said`.
 fn put_compared<A: Allocator + Copy, W: Write>(
     alloc: A,
     one: &Taken<A>,
@@ -121,7 +121,7 @@ fn put_compared<A: Allocator + Copy, W: Write>(
     }
 }
 
-/// Draws two records; false where that is refused, which is said.
+/// Draws two records; false if that is refused, which is printed.
 fn draw<R: Print + Eprint, A: Allocator + Copy>(
     rt: &R,
     lists: A,
@@ -135,7 +135,7 @@ fn draw<R: Print + Eprint, A: Allocator + Copy>(
     Ok(is_drawn)
 }
 
-/// Reads the second record and draws both; false where that is refused, which is said.
+/// Reads the second record and draws both; false if that is refused, which is printed.
 fn draw_beside<R: Files + Input + Print + Eprint + AllocGlobal + Clone + Drop, A: Allocator + Copy>(
     rt: &R,
     lists: A,
@@ -150,7 +150,7 @@ fn draw_beside<R: Files + Input + Print + Eprint + AllocGlobal + Clone + Drop, A
     }
 }
 
-/// Reads two records and draws them; false where that is refused, which is said.
+/// Reads two records and draws them; false if that is refused, which is printed.
 fn draw_both<R: Files + Input + Print + Eprint + AllocGlobal + Clone + Drop, A: Allocator + Copy>(
     rt: &R,
     lists: A,
@@ -164,7 +164,7 @@ fn draw_both<R: Files + Input + Print + Eprint + AllocGlobal + Clone + Drop, A: 
     }
 }
 
-/// Draws two records, whose lists are given up together.
+/// Draws two records. The memory of their lists is released in one step.
 fn compare<R: Files + Input + Print + Eprint + AllocGlobal + Clone + Drop>(
     rt: &R,
     is_watched: bool,
@@ -181,7 +181,7 @@ fn compare<R: Files + Input + Print + Eprint + AllocGlobal + Clone + Drop>(
     draw_both(rt, &lists, is_watched, asked, options)
 }
 
-/// Reads two records, and prints the picture of both.
+/// Reads two records and prints the picture of both.
 pub(crate) fn run_compare<R: Files + Input + Print + Eprint + AllocGlobal + Clone + Drop>(
     rt: &R,
     is_watched: bool,

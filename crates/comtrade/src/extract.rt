@@ -1,4 +1,4 @@
-//! Cutting the records out of what a replay printed.
+//! Cuts the records out of what a replay printed.
 
 use crate::write::write_named;
 use crate::{complain, out_of_memory, read_named, say};
@@ -6,7 +6,7 @@ use comtrade_io::{Next, Printed, ToolFault, fault_of, next_record, put_safe};
 use std::fs;
 use std::rt::Files;
 
-/// Writes the pair of a record that was printed, and says so.
+/// Writes the pair of a printed record, and prints the names of its files.
 fn write_record<R: Files + Print + Eprint + AllocGlobal>(
     rt: &R,
     folder: &str,
@@ -23,7 +23,7 @@ fn write_record<R: Files + Print + Eprint + AllocGlobal>(
     status
 }
 
-/// Says what no replay prints, or the fault that ended one.
+/// Prints a line that no replay prints, or the error that ended the replay.
 fn refuse_line<R: Eprint + AllocGlobal>(rt: &R, what: &str, line: &[u8]) {
     let mut text = Vec::new(rt.alloc());
     if put_safe(&mut text, line).is_err() {
@@ -35,7 +35,7 @@ fn refuse_line<R: Eprint + AllocGlobal>(rt: &R, what: &str, line: &[u8]) {
     let _ = eprintln!(rt; "");
 }
 
-/// Says how many records were written before the cutting stopped.
+/// Prints how many records were written before the error.
 fn stop<R: Eprint>(rt: &R, written: u64) -> u8 {
     let _ = match written {
         0 => eprintln!(rt; "comtrade: no record was written"),
@@ -45,7 +45,7 @@ fn stop<R: Eprint>(rt: &R, written: u64) -> u8 {
     1
 }
 
-/// Cuts what a replay printed into its records, as far as it can be cut.
+/// Cuts what a replay printed into its records, up to the first error.
 fn extract_all<R: Files + Print + Eprint + AllocGlobal>(
     rt: &R,
     folder: &str,

@@ -1,4 +1,4 @@
-//! The partner of a file: a pair by one name.
+//! Finds the other file of a pair.
 
 use crate::{out_of_memory, say};
 use comtrade_io::{Names, put_safe};
@@ -6,14 +6,14 @@ use std::alloc::{AllocError, Global};
 use std::fs;
 use std::rt::Files;
 
-/// What the files of a record are called; of a single file one name.
+/// The names of a record's files; a single file has only one.
 #[derive(Drop)]
 pub(crate) struct Pairing {
     pub(crate) cfg: String,
     pub(crate) dat: Option<String>,
 }
 
-/// Which file of a record.
+/// The kind of a file, by its ending.
 #[derive(Clone, Copy, PartialEq, Eq)]
 enum Ending {
     Cfg,
@@ -32,7 +32,7 @@ impl Ending {
     }
 }
 
-/// The name without its last four bytes, where these are the ending in any case of letters.
+/// The name without its last four bytes, if these are the ending in upper or lower case.
 fn without_ending(name: &str, ending: Ending) -> Option<&str> {
     let at = name.len().checked_sub(4)?;
     let front = name.get(..at)?;
@@ -44,7 +44,8 @@ fn without_ending(name: &str, ending: Ending) -> Option<&str> {
     }
 }
 
-/// Which file of a record a name is, and what all are called; a name of none is what all are called.
+/// The kind of a file and the name that the files of its record share. A name without an ending is
+/// that shared name.
 fn stem_of(name: &str) -> (Option<Ending>, &str) {
     if let Some(stem) = without_ending(name, Ending::Cfg) {
         return (Some(Ending::Cfg), stem);
@@ -58,7 +59,7 @@ fn stem_of(name: &str) -> (Option<Ending>, &str) {
     }
 }
 
-/// The folder of a name, with its slash, and what stands after it.
+/// The folder of a name, with its slash, and the rest.
 pub(crate) fn folder_of(name: &str) -> (&str, &str) {
     match name.rsplit_once('/') {
         Some((folder, file)) => match name.get(..folder.len().saturating_add(1)) {
@@ -69,7 +70,7 @@ pub(crate) fn folder_of(name: &str) -> (&str, &str) {
     }
 }
 
-/// How well a file of a folder fits as the one with this stem and ending: best 0, none where it doesn't.
+/// How well a file of a folder fits this stem and ending: 0 is best, None if it does not fit.
 fn rank_of(file: &str, stem: &str, ending: Ending) -> Option<u8> {
     let front = without_ending(file, ending)?;
     let is_same = front == stem;
@@ -86,7 +87,7 @@ fn rank_of(file: &str, stem: &str, ending: Ending) -> Option<u8> {
     }
 }
 
-/// Whether a file fits better than the best before it: by its rank, then by its name.
+/// Whether a file fits better than the best so far: by its rank, then by its name.
 fn is_better(rank: u8, name: &str, best: &Option<(u8, String)>) -> bool {
     match best {
         Some((other, file)) => rank < *other || rank == *other && name < file.as_str(),
@@ -128,7 +129,7 @@ fn joined(alloc: Global, folder: &str, file: &str) -> Result<String, AllocError>
     Ok(path)
 }
 
-/// The name itself where it has this ending, else the file that fits best.
+/// The name itself if it has this ending, else the file that fits best.
 fn file_for<R: Files + AllocGlobal + Clone + Drop>(
     rt: &R,
     name: &str,
@@ -142,7 +143,7 @@ fn file_for<R: Files + AllocGlobal + Clone + Drop>(
     found_in(rt, folder, stem, ending)
 }
 
-/// Says that a partner isn't there, and what was looked for.
+/// Prints that the other file is missing, and what was looked for.
 fn refuse_partner<R: Eprint + AllocGlobal>(rt: &R, name: &str, ending: Ending) -> Option<Pairing> {
     let (_, whole) = stem_of(name);
     let (folder, stem) = folder_of(whole);
@@ -166,7 +167,7 @@ fn refuse_partner<R: Eprint + AllocGlobal>(rt: &R, name: &str, ending: Ending) -
     None
 }
 
-/// The single file of a name that is its own, or that has no ending; standard input is one.
+/// The single file for a name that ends in .cff or has no ending; standard input is a single file.
 fn found_single<R: Files + AllocGlobal + Clone + Drop>(
     rt: &R,
     name: &str,
@@ -182,7 +183,7 @@ fn found_single<R: Files + AllocGlobal + Clone + Drop>(
     }
 }
 
-/// The files of a record by one name; none where one isn't there, which is said.
+/// The files of a record by one name; None if one is missing, which is printed.
 fn found_pair<R: Files + Eprint + AllocGlobal + Clone + Drop>(
     rt: &R,
     name: &str,
@@ -206,7 +207,7 @@ fn found_pair<R: Files + Eprint + AllocGlobal + Clone + Drop>(
     }
 }
 
-/// What both files are called; none where the partner of the one isn't there, which is said.
+/// The names of both files; None if one is missing, which is printed.
 pub(crate) fn pairing_of<R: Files + Eprint + AllocGlobal + Clone + Drop>(
     rt: &R,
     names: Names<'_>,

@@ -1,5 +1,5 @@
-//! The record that names name: its files, and the `File` that they read to. What the exact reader refuses is read as `import` reads it,
-//! and the repairs are told.
+//! Reads the record that the arguments name: its files, and the `File` that they hold. What the exact
+//! reader refuses is read as `import` reads it, and the repairs are printed.
 
 use crate::find::{Pairing, pairing_of};
 use crate::{complain, out_of_memory, read_named, say};
@@ -13,29 +13,29 @@ use comtrade_views::{Encoding, spell_in_utf8};
 use std::alloc::{AllocError, Allocator};
 use std::rt::Files;
 
-/// What the files of a record are called, and their bytes; a single file has no data beside it.
+/// The names of a record's files and their bytes; a single file has no separate data.
 #[derive(Drop)]
 pub(crate) struct Inputs {
     names: Pairing,
     pub(crate) cfg: Vec<u8>,
     pub(crate) dat: Vec<u8>,
-    /// The repairs of a single file that was made a pair, a line each.
+    /// The repairs of a single file that became a pair, one line each.
     pub(crate) said: Vec<u8>,
 }
 
 impl Inputs {
-    /// Whether both files of the record are one.
+    /// Whether the record is a single file.
     pub(crate) fn is_single(&self) -> bool {
         self.names.dat.is_none()
     }
 }
 
-/// What a file is called in messages.
+/// The name of a file in messages.
 fn shown(name: &str) -> &str {
     if name == "-" { "standard input" } else { name }
 }
 
-/// What the record is called in messages.
+/// The name of the record in messages.
 pub(crate) fn name_of(inputs: &Inputs) -> &str {
     shown(inputs.names.cfg.as_str())
 }
@@ -53,7 +53,7 @@ pub(crate) fn pair_of(inputs: &Inputs) -> Pair<'_> {
     }
 }
 
-/// Reads a file; none where that was refused, which is said.
+/// Reads a file; None if that fails, which is printed.
 fn read_input<R: Files + Input + Eprint + AllocGlobal>(rt: &R, name: &str) -> Option<Vec<u8>> {
     match read_named(rt, name) {
         Ok(bytes) => Some(bytes),
@@ -64,7 +64,7 @@ fn read_input<R: Files + Input + Eprint + AllocGlobal>(rt: &R, name: &str) -> Op
     }
 }
 
-/// Reads the files of a record; none where that was refused, which is said.
+/// Reads the files of a record; None if that fails, which is printed.
 pub(crate) fn read_inputs<R: Files + Input + Eprint + AllocGlobal + Clone + Drop>(
     rt: &R,
     names: Names<'_>,
@@ -83,7 +83,7 @@ pub(crate) fn read_inputs<R: Files + Input + Eprint + AllocGlobal + Clone + Drop
     })
 }
 
-/// The repairs, a line each.
+/// The repairs, one line each.
 pub(crate) fn put_notes<A: Allocator>(
     out: &mut Vec<u8, A>,
     notes: &[Note<A>],
@@ -95,7 +95,7 @@ pub(crate) fn put_notes<A: Allocator>(
     Ok(())
 }
 
-/// Why files can't be imported, as a line.
+/// Why files cannot be imported, as a line.
 fn put_import_fault<A: Allocator + Copy>(
     out: &mut Vec<u8, A>,
     name: &[u8],
@@ -109,7 +109,7 @@ fn put_import_fault<A: Allocator + Copy>(
     put(out, "\n")
 }
 
-/// Says why files can't be imported.
+/// Prints why files cannot be imported.
 pub(crate) fn refuse_import<R: Eprint + AllocGlobal>(rt: &R, name: &str, fault: ImportFault) -> u8 {
     if let ImportFault::Memory = fault {
         return out_of_memory(rt);
@@ -122,7 +122,7 @@ pub(crate) fn refuse_import<R: Eprint + AllocGlobal>(rt: &R, name: &str, fault: 
     1
 }
 
-/// The repairs, a line each; none where an allocation failed, which is said.
+/// The repairs, one line each; None if an allocation failed, which is printed.
 fn notes_of<R: Eprint + AllocGlobal>(rt: &R, notes: &[Note]) -> Option<Vec<u8>> {
     let mut said = Vec::new(rt.alloc());
     if put_notes(&mut said, notes).is_err() {
@@ -143,7 +143,8 @@ fn as_pair<R: Eprint + AllocGlobal>(rt: &R, inputs: Inputs, imported: Imported) 
     })
 }
 
-/// Reads a record as a pair: of a single file the pair that says the same; none where that was refused, which is said.
+/// Reads a record as a pair. A single file becomes the equivalent pair. None if that fails, which is
+/// printed.
 pub(crate) fn read_pair<R: Files + Input + Eprint + AllocGlobal + Clone + Drop>(
     rt: &R,
     names: Names<'_>,
@@ -166,13 +167,13 @@ pub(crate) fn read_pair<R: Files + Input + Eprint + AllocGlobal + Clone + Drop>(
     }
 }
 
-/// Whether a fault is that of the first line, by which files of other years and other texts are refused.
+/// Whether an error is in the first line, where files of other editions are refused.
 fn is_first(part: Part, fault: ReadFault) -> bool {
     part == Part::Cfg && matches!(fault, ReadFault::Revision | ReadFault::Fields(1))
 }
 
-/// The file that a pair reads to as `import` reads it, where the exact reader found a fault. What is said of it is put to `said`: each
-/// repair, a line each, or of None why it can't be read.
+/// The file of a pair that the exact reader refused, as `import` reads it. `said` gets each repair,
+/// one line each, or for None why the pair cannot be read.
 fn imported_in<A: Allocator + Copy>(
     alloc: A,
     pair: Pair<'_>,
@@ -194,8 +195,8 @@ fn imported_in<A: Allocator + Copy>(
     Ok(None)
 }
 
-/// The file that a pair reads to: exactly, or where the exact reader refuses it, as `imported_in`; with `is_strict` None then, and the fault is
-/// put to `said`.
+/// The file of a pair: exact, or as `imported_in` reads it if the exact reader refuses it. With
+/// `is_strict` None then, with the error in `said`.
 fn file_in<A: Allocator + Copy>(
     alloc: A,
     pair: Pair<'_>,
@@ -214,10 +215,11 @@ fn file_in<A: Allocator + Copy>(
     imported_in(alloc, pair, found, said)
 }
 
-/// Why texts aren't spelled so.
+/// The error for an unknown encoding.
 pub(crate) const NO_ENCODING: &str = "comtrade: --encoding expects utf-8 or latin1\n";
 
-/// The file that a pair reads to, as `file_in`, with its texts in UTF-8; None also where no encoding is called so, which is put to `said`.
+/// The file of a pair, as `file_in`, with its texts in UTF-8; None also for an unknown encoding, with
+/// the error in `said`.
 pub(crate) fn file_spelled<A: Allocator + Copy>(
     alloc: A,
     pair: Pair<'_>,

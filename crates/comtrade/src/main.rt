@@ -37,24 +37,24 @@ use std::{fs, io};
 /// The most bytes of a file that is read: 512 MiB.
 const LIMIT: usize = 536_870_912;
 
-/// A pair of so many bytes may last over a second.
+/// Reading a pair of this size may take over a second.
 const LONG: usize = 32_000_000;
 
-/// Bytes on standard error.
+/// Prints bytes on standard error.
 pub(crate) fn say<R: Eprint>(rt: &R, bytes: &[u8]) {
     if let Ok(text) = str::from_utf8(bytes) {
         let _ = eprint!(rt; "{text}");
     }
 }
 
-/// That an allocation failed, on standard error: a text that doesn't allocate.
+/// Prints on standard error that an allocation failed; this does not allocate.
 pub(crate) fn out_of_memory<R: Eprint>(rt: &R) -> u8 {
     let _ = eprintln!(rt; "comtrade: out of memory");
     1
 }
 
-/// `comtrade: `, a name, and what is wrong with it, on standard error; or that an allocation failed. A reader that has gone
-/// away is no fault.
+/// Prints `comtrade: `, a name and its error on standard error. A reader that has gone away is no
+/// error.
 pub(crate) fn complain<R: Eprint + AllocGlobal>(rt: &R, name: &str, fault: ToolFault) -> u8 {
     match fault {
         ToolFault::Closed => return 0,
@@ -79,7 +79,7 @@ pub(crate) fn is_folder<R: Files>(rt: &R, name: &str) -> bool {
     }
 }
 
-/// All bytes of a file, or of standard input where it is named `-`.
+/// All bytes of a file, or of standard input if it is named `-`.
 pub(crate) fn read_named<R: Files + Input + AllocGlobal>(
     rt: &R,
     name: &str,
@@ -96,7 +96,7 @@ pub(crate) fn read_named<R: Files + Input + AllocGlobal>(
     }
 }
 
-/// Prints bytes.
+/// Prints bytes on standard output.
 pub(crate) fn print_bytes<R: Print + Eprint + AllocGlobal>(rt: &R, bytes: &[u8]) -> u8 {
     match write_out(&mut io::writer(rt), bytes) {
         Ok(()) => 0,
@@ -104,7 +104,7 @@ pub(crate) fn print_bytes<R: Print + Eprint + AllocGlobal>(rt: &R, bytes: &[u8])
     }
 }
 
-/// Prints what is asked of a pair. Its verdict is the status of a check, whoever reads what is printed.
+/// Prints what is asked of a pair. The status of `check` is its verdict, even if nobody reads the text.
 fn print_view<R: Print + Eprint + AllocGlobal>(
     rt: &R,
     view: View,
@@ -132,7 +132,7 @@ fn print_view<R: Print + Eprint + AllocGlobal>(
     }
 }
 
-/// Says that the second file is a configuration file, where the first one isn't.
+/// Prints that the files are swapped, if the second one is the configuration file.
 fn note_swapped<R: Eprint + AllocGlobal>(rt: &R, pair: Pair<'_>) {
     if read_cfg(rt.alloc(), pair.dat).is_ok() && read_cfg(rt.alloc(), pair.cfg).is_err() {
         let _ = eprintln!(rt;
@@ -141,7 +141,7 @@ fn note_swapped<R: Eprint + AllocGlobal>(rt: &R, pair: Pair<'_>) {
     }
 }
 
-/// The status of a check of which nobody reads the text.
+/// The status of a check whose text nobody reads.
 fn verdict<R: Eprint + AllocGlobal>(rt: &R, pair: Pair<'_>) -> u8 {
     match verdict_of(rt.alloc(), pair.cfg, pair.dat) {
         Ok(None) => 0,
@@ -150,7 +150,7 @@ fn verdict<R: Eprint + AllocGlobal>(rt: &R, pair: Pair<'_>) -> u8 {
     }
 }
 
-/// Says how much there is to do, where it may last over a second and someone sees it.
+/// Prints how much there is to read, if that may take over a second and someone watches.
 pub(crate) fn note_size<R: Eprint>(rt: &R, is_watched: bool, inputs: &Inputs) {
     let bytes = inputs.cfg.len().saturating_add(inputs.dat.len());
     if is_watched && LONG <= bytes {
@@ -159,7 +159,7 @@ pub(crate) fn note_size<R: Eprint>(rt: &R, is_watched: bool, inputs: &Inputs) {
     }
 }
 
-/// Says that a single file is no pair, and whether `import` reads it.
+/// Prints that a single file is no pair, and whether `import` reads it.
 fn check_single<R: Print + Eprint + AllocGlobal>(rt: &R, inputs: &Inputs) -> u8 {
     let mut out = Vec::new(rt.alloc());
     match put_single(rt.alloc(), &mut out, pair_of(inputs)) {
@@ -211,7 +211,7 @@ fn run<R: Files + Input + Print + Eprint + AllocGlobal + Clone + Drop>(
     }
 }
 
-/// Does what the words ask for; `is_watched` where standard error is a terminal.
+/// Runs the command of the arguments; `is_watched` if standard error is a terminal.
 fn answer<R: Files + Input + Print + Eprint + AllocGlobal + Clone + Drop>(
     rt: &R,
     is_watched: bool,

@@ -9,7 +9,8 @@ use std::io::Write;
 
 const TWICE: &str = "comtrade: --at cannot be combined with --from or --to\n";
 
-/// What of a part is measured: its last whole cycle with `--at`, its whole cycles in a window, else the courses of currents.
+/// What is measured of a part: its last whole cycle with `--at`, its whole cycles in a window, else the
+/// fault inceptions of currents.
 fn measuring_of<'a>(part: Part<'a>, cursor: Cursor<'a>) -> Measuring<'a> {
     if cursor.at.is_some() {
         return Measuring::LastCycle(cursor.reference);
@@ -21,7 +22,8 @@ fn measuring_of<'a>(part: Part<'a>, cursor: Cursor<'a>) -> Measuring<'a> {
     }
 }
 
-/// The part that is measured, which ends with the moment where one is said; none where a window is said beside it, which is put to `said`.
+/// The part that is measured; with `--at` it ends at that moment. None if a window is given as well,
+/// with the error in `said`.
 pub(crate) fn measured_part<'a, A: Allocator>(
     viewed: Viewed<'a>,
     said: &mut Vec<u8, A>,
@@ -40,7 +42,8 @@ pub(crate) fn measured_part<'a, A: Allocator>(
     }))
 }
 
-/// Prints what is measured in a record or the part of it that is asked for; false where that is refused, which is put to `said`.
+/// Prints what is measured in a record, or in the part that is asked for; false if that is refused,
+/// with the error in `said`.
 pub(crate) fn measure_over<A: Allocator + Copy, W: Write>(
     room: Room<A>,
     viewed: Viewed<'_>,

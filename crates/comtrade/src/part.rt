@@ -5,7 +5,8 @@ use comtrade_io::{Part, ToolFault, put, put_safe};
 use comtrade_views::{Cut, PartFault, is_whole, part_of, times_since_trigger};
 use std::alloc::{AllocError, Allocator};
 
-/// A record or a part of it, when its rows were taken, in nanoseconds since its trigger, and how many rows of the record stand before them.
+/// A record or a part of it, the times of its rows (nanoseconds since its trigger), and the number of
+/// rows before the part.
 #[derive(Drop)]
 pub(crate) struct Taken<A: Allocator> {
     pub(crate) file: File<A>,
@@ -13,7 +14,7 @@ pub(crate) struct Taken<A: Allocator> {
     pub(crate) before: usize,
 }
 
-/// Puts why a record has no such part; an allocation that failed is the fault of the tool.
+/// Puts why a record has no such part. A failed allocation is an error of the tool.
 pub(crate) fn put_part_fault<A: Allocator + Copy>(
     said: &mut Vec<u8, A>,
     fault: PartFault<'_>,
@@ -28,7 +29,7 @@ pub(crate) fn put_part_fault<A: Allocator + Copy>(
     Ok(())
 }
 
-/// What was cut, with its times among those of all rows.
+/// The part, with its times among those of all rows.
 fn timed<A: Allocator>(
     alloc: A,
     cut: Cut<A>,
@@ -42,7 +43,7 @@ fn timed<A: Allocator>(
     })
 }
 
-/// The part of a file whose rows were taken at these times; none where it has none, which is put to `said`.
+/// The part of a file whose rows have these times; None if it is refused, with the error in `said`.
 fn cut_of<A: Allocator + Copy>(
     alloc: A,
     file: &File<A>,
@@ -59,7 +60,7 @@ fn cut_of<A: Allocator + Copy>(
     }
 }
 
-/// The part of a file that is asked for; none where it has none, which is put to `said`.
+/// The part of a file that is asked for; None if it is refused, with the error in `said`.
 pub(crate) fn taken_of<A: Allocator + Copy>(
     alloc: A,
     file: File<A>,

@@ -1,4 +1,4 @@
-//! The commands over many pairs.
+//! The commands over many records.
 
 use crate::load::{Inputs, NO_ENCODING, file_spelled, pair_of, read_pair};
 use crate::{complain, is_folder, print_bytes, say};
@@ -13,7 +13,7 @@ use std::alloc::{AllocError, Global};
 use std::fs;
 use std::rt::Files;
 
-/// Whether a name is that of a configuration file, or of a single file.
+/// Whether a name is that of a configuration file or a single file.
 fn is_cfg(name: &str) -> bool {
     match name.len().checked_sub(4) {
         Some(at) => match name.get(at..) {
@@ -27,7 +27,7 @@ fn is_cfg(name: &str) -> bool {
     }
 }
 
-/// The configuration files and single files of a folder, in the order of their names.
+/// The configuration files and single files of a folder, sorted by name.
 fn cfgs_of<R: Files + AllocGlobal + Clone + Drop>(
     rt: &R,
     folder: &str,
@@ -58,7 +58,7 @@ fn path_in<R: AllocGlobal>(rt: &R, folder: &str, file: &str) -> Result<String, A
     Ok(path)
 }
 
-/// The pairs that names mean: of a folder those in it.
+/// The records that the names mean: for a folder, those in it.
 fn pairs_of<R: Files + Eprint + AllocGlobal + Clone + Drop>(
     rt: &R,
     names: &[&str],
@@ -90,11 +90,11 @@ struct Found {
     records: Vec<Summary>,
     events: Vec<Event>,
     names: Vec<String>,
-    /// Whether each pair could be read.
+    /// Whether each record could be read.
     is_sound: bool,
 }
 
-/// Says what was repaired of a record: lines, each after its name.
+/// Prints the repairs of a record: lines, each after its name.
 pub(crate) fn say_repairs<R: Eprint + AllocGlobal>(
     rt: &R,
     name: &str,
@@ -111,7 +111,7 @@ pub(crate) fn say_repairs<R: Eprint + AllocGlobal>(
     Ok(())
 }
 
-/// Adds a record that was read.
+/// Adds a record.
 fn add_file(
     alloc: Global,
     survey: Survey,
@@ -132,14 +132,14 @@ fn add_file(
     Ok(())
 }
 
-/// What is asked of each record, and how its texts are spelled.
+/// What is asked of each record, and the encoding of its texts.
 #[derive(Clone, Copy)]
 struct Asked<'a> {
     survey: Survey,
     encoding: Option<&'a str>,
 }
 
-/// Adds one pair that was read, and says what is odd about one that is listed and has no fault.
+/// Adds one record that was read, and prints what is doubtful about a listed one without an error.
 fn add_pair<R: AllocGlobal + Eprint>(
     rt: &R,
     asked: Asked<'_>,
@@ -172,7 +172,7 @@ fn add_pair<R: AllocGlobal + Eprint>(
     Ok(())
 }
 
-/// Reads each pair, one after the other.
+/// Reads the records, one after the other.
 fn add_pairs<R: Files + Input + Eprint + AllocGlobal + Clone + Drop>(
     rt: &R,
     asked: Asked<'_>,
@@ -238,7 +238,7 @@ fn survey_pairs<R: Files + Input + Eprint + AllocGlobal + Clone + Drop>(
     Ok((text, found.is_sound))
 }
 
-/// Prints what is in the pairs that words name: status 1 where one can't be read.
+/// Prints what is in the named records. The status is 1 if one cannot be read.
 pub(crate) fn run_survey<R: Files + Input + Print + Eprint + AllocGlobal + Clone + Drop>(
     rt: &R,
     survey: Survey,

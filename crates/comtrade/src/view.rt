@@ -1,4 +1,4 @@
-//! What is said of a pair of files.
+//! What is printed of a pair of files.
 
 use crate::load::file_spelled;
 use crate::measure::{measure_over, measured_part};
@@ -18,7 +18,7 @@ comtrade: --separator expects tab or one character that is not a letter, digit, 
 pub(crate) const NO_SIZE: &str =
     "comtrade: --width and --height expect a whole number of pixels from 1 to 100000\n";
 
-/// Where texts lie, and where the lists of a file do, which are given up together.
+/// Where texts are allocated, and where the lists of a file are, which are released in one step.
 #[derive(Clone, Copy)]
 pub(crate) struct Room<A: Allocator> {
     pub(crate) texts: Global,
@@ -33,7 +33,7 @@ struct Look {
     json: bool,
 }
 
-/// A number of pixels; none where the text isn't one.
+/// A number of pixels; None if the text is not one.
 fn pixels_of(text: &str) -> Option<u32> {
     match text.parse::<u32>() {
         Ok(pixels) if 1 <= pixels && pixels <= 100_000 => Some(pixels),
@@ -41,7 +41,7 @@ fn pixels_of(text: &str) -> Option<u32> {
     }
 }
 
-/// Whether a size that was asked for is one.
+/// Whether a given size is valid.
 fn is_size(text: Option<&str>) -> bool {
     match text {
         Some(text) => pixels_of(text).is_some(),
@@ -49,7 +49,7 @@ fn is_size(text: Option<&str>) -> bool {
     }
 }
 
-/// How a picture is drawn; none where a size isn't one.
+/// How a picture is drawn; None if a size is not valid.
 pub(crate) fn options_of(picture: Picture<'_>) -> Option<PlotOptions> {
     if !is_size(picture.width) || !is_size(picture.height) {
         return None;
@@ -62,7 +62,7 @@ pub(crate) fn options_of(picture: Picture<'_>) -> Option<PlotOptions> {
     })
 }
 
-/// Prints what is asked of a file, whose rows were taken at these times, in nanoseconds since the trigger.
+/// Prints what is asked of a file whose rows have these times, in nanoseconds since the trigger.
 fn put_view<A: Allocator + Copy, W: Write>(
     room: Room<A>,
     view: View,
@@ -97,7 +97,7 @@ fn check<A: Allocator + Copy, W: Write>(
     Ok(is_sound)
 }
 
-/// A verdict as an object of JSON.
+/// A verdict as a JSON object.
 fn verdict_json(alloc: Global, is_sound: bool, text: &[u8]) -> Result<Vec<u8>, AllocError> {
     let mut out = Vec::new(alloc);
     put(
@@ -121,7 +121,8 @@ fn verdict_json(alloc: Global, is_sound: bool, text: &[u8]) -> Result<Vec<u8>, A
     Ok(out)
 }
 
-/// How it is spelled and drawn; None where a separator or a size isn't one, which is put to `said`.
+/// How values are spelled and pictures drawn; None if a separator or size is not valid, with the error
+/// in `said`.
 fn look_of<A: Allocator>(
     viewed: Viewed<'_>,
     said: &mut Vec<u8, A>,
@@ -141,7 +142,7 @@ fn look_of<A: Allocator>(
     }))
 }
 
-/// The part that is asked for; none where it can't be measured, which is put to `said`.
+/// The part that is asked for; None if it cannot be measured, with the error in `said`.
 fn part_in<'a, A: Allocator>(
     view: View,
     viewed: Viewed<'a>,
@@ -154,7 +155,7 @@ fn part_in<'a, A: Allocator>(
     }
 }
 
-/// Prints what is asked of what was taken of a file; false where it can't be measured, which is put to `said`.
+/// Prints what is asked of a part; false if it cannot be measured, with the error in `said`.
 fn view_taken<A: Allocator + Copy, W: Write>(
     room: Room<A>,
     view: View,
@@ -171,7 +172,7 @@ fn view_taken<A: Allocator + Copy, W: Write>(
     Ok(true)
 }
 
-/// Prints what is asked of this part of a file; false where it has none, which is put to `said`.
+/// Prints what is asked of a part; false if it is refused, with the error in `said`.
 fn view_part<A: Allocator + Copy, W: Write>(
     room: Room<A>,
     view: View,
@@ -188,7 +189,7 @@ fn view_part<A: Allocator + Copy, W: Write>(
     }
 }
 
-/// Prints what is asked of the part of a file that is asked for; false where it has none, which is put to `said`.
+/// Prints what is asked of the part that is asked for; false if it is refused, with the error in `said`.
 fn view_file<A: Allocator + Copy, W: Write>(
     room: Room<A>,
     view: View,
@@ -204,9 +205,9 @@ fn view_file<A: Allocator + Copy, W: Write>(
     }
 }
 
-/// Prints what is asked of a part of a pair: false where the pair has a fault, or no such part. The fault's line is what `Check` prints;
-/// the others put it to `said` and print nothing. The repairs of a pair that isn't read exactly are put to `said`, too, and of a pair that
-/// is shown and has no fault what is odd about it.
+/// Prints what is asked of a part of a pair; false if the pair has an error, or no such part. `Check`
+/// prints the error; the other commands put it to `said` and print nothing. `said` also gets the
+/// repairs of a pair that the exact reader refuses, and what is doubtful about a pair that is shown.
 pub(crate) fn view_over<A: Allocator + Copy, W: Write>(
     room: Room<A>,
     view: View,

@@ -1,4 +1,4 @@
-//! The words after the program's name, and why they ask for nothing.
+//! The arguments, and usage errors.
 
 use crate::{out_of_memory, say};
 use comtrade_io::{put, put_safe};
@@ -17,7 +17,7 @@ fn safe_lines<A: Allocator>(alloc: A, text: &str) -> Result<Vec<u8, A>, AllocErr
     Ok(safe)
 }
 
-/// Says why words ask for nothing.
+/// Prints a usage error.
 pub(crate) fn refuse_words<R: Eprint + AllocGlobal>(rt: &R, text: &str) -> u8 {
     match safe_lines(rt.alloc(), text) {
         Ok(lines) => {
@@ -28,7 +28,7 @@ pub(crate) fn refuse_words<R: Eprint + AllocGlobal>(rt: &R, text: &str) -> u8 {
     }
 }
 
-/// Whether a word is a number below 0.
+/// Whether an argument is a number below 0.
 fn is_negative(word: &str) -> bool {
     match word.as_bytes() {
         [b'-', b, ..] => b.is_ascii_digit() || *b == b'.',
@@ -52,8 +52,8 @@ fn join(words: &mut [String], value: &str) -> Result<(), AllocError> {
     }
 }
 
-/// The words after the program's name. A number below 0 after an option that takes a moment is joined to it, since it would be taken for
-/// an option itself.
+/// The arguments. A negative number after an option that takes a moment is joined to the option, since
+/// it would be read as an option itself.
 pub(crate) fn words_of<R: Env + AllocGlobal>(rt: &R) -> io::Result<Vec<String>> {
     let mut rest: Vec<String> = Vec::new(rt.alloc());
     let mut is_moment = false;
@@ -69,7 +69,7 @@ pub(crate) fn words_of<R: Env + AllocGlobal>(rt: &R) -> io::Result<Vec<String>> 
     Ok(rest)
 }
 
-/// Says why there are no words.
+/// Prints why the arguments cannot be read.
 pub(crate) fn refuse_start<R: Eprint>(rt: &R, kind: ErrorKind) -> u8 {
     if kind == ErrorKind::OutOfMemory {
         return out_of_memory(rt);

@@ -1,4 +1,4 @@
-//! Writing pairs of files that are not there yet.
+//! Writes pairs of files that do not exist yet.
 
 use crate::load::{Inputs, file_spelled, pair_of, read_pair};
 use crate::part::put_part_fault;
@@ -15,7 +15,7 @@ use std::fs::File;
 use std::io::Write;
 use std::rt::Files;
 
-/// Takes away a file of a pair that can't be written whole, and says so, or that it stays.
+/// Removes a file of a pair that could not be written whole, and prints that, or that it is left.
 fn take_back<R: Files + Eprint + AllocGlobal>(rt: &R, name: &str) {
     let end = match fs::remove_file(rt, name) {
         Ok(()) => ToolFault::Removed,
@@ -24,7 +24,7 @@ fn take_back<R: Files + Eprint + AllocGlobal>(rt: &R, name: &str) {
     complain(rt, name, end);
 }
 
-/// Writes a file that isn't there yet; where that fails, it says why, and takes away what it began.
+/// Writes a file that does not exist yet. On an error it prints why, and removes what it began.
 fn write_new<R: Files + Eprint + AllocGlobal>(rt: &R, name: &str, bytes: &[u8]) -> bool {
     let mut file = match File::create_new(rt, name) {
         Ok(file) => file,
@@ -41,7 +41,7 @@ fn write_new<R: Files + Eprint + AllocGlobal>(rt: &R, name: &str, bytes: &[u8]) 
     true
 }
 
-/// Writes the files of this name with `.cfg` and `.dat`, or none of them: what becomes of each is said.
+/// Writes the files of this name with `.cfg` and `.dat`, or neither; what happens to each is printed.
 pub(crate) fn write_named<R: Files + Eprint + AllocGlobal>(
     rt: &R,
     name: &str,
@@ -64,7 +64,7 @@ pub(crate) fn write_named<R: Files + Eprint + AllocGlobal>(
     0
 }
 
-/// Says why a pair isn't converted.
+/// Prints why a pair cannot be converted.
 fn refuse_pair<R: Eprint + AllocGlobal>(
     rt: &R,
     kind: Kind,
@@ -85,7 +85,7 @@ fn refuse_pair<R: Eprint + AllocGlobal>(
     }
 }
 
-/// Says why a part of a record isn't written.
+/// Prints why a part of a record cannot be written.
 fn refuse_part<R: Eprint + AllocGlobal>(rt: &R, fault: PartFault<'_>) -> u8 {
     if fault == PartFault::Memory {
         return out_of_memory(rt);
@@ -100,7 +100,7 @@ fn refuse_part<R: Eprint + AllocGlobal>(rt: &R, fault: PartFault<'_>) -> u8 {
     }
 }
 
-/// Writes a record under a name: what is written reads back to it.
+/// Writes a record under a name. What is written reads back to the record.
 fn write_record<R: Files + Eprint + AllocGlobal>(rt: &R, name: &str, file: &Record) -> u8 {
     match written_of(rt.alloc(), file) {
         Ok(made) => write_named(rt, name, &made.cfg, &made.dat),
@@ -112,7 +112,7 @@ fn write_record<R: Files + Eprint + AllocGlobal>(rt: &R, name: &str, file: &Reco
     }
 }
 
-/// Writes a part of a record, with data of this kind.
+/// Writes a part of a record with this data format.
 fn write_part<R: Files + Eprint + AllocGlobal>(rt: &R, asked: Converted<'_>, file: &Record) -> u8 {
     match part_of(rt.alloc(), file, asked.part) {
         Ok(mut cut) => {
@@ -123,7 +123,7 @@ fn write_part<R: Files + Eprint + AllocGlobal>(rt: &R, asked: Converted<'_>, fil
     }
 }
 
-/// Converts a part of a pair, or a pair that isn't read exactly.
+/// Converts a part of a pair, or a pair that the exact reader refuses.
 fn convert_part<R: Files + Eprint + AllocGlobal>(
     rt: &R,
     asked: Converted<'_>,
@@ -150,7 +150,7 @@ fn convert_whole<R: Files + Eprint + AllocGlobal>(
     asked: Converted<'_>,
     inputs: &Inputs,
 ) -> u8 {
-    let lists = Bump::new(rt.alloc()); // the rows and both texts are given up together
+    let lists = Bump::new(rt.alloc()); // the rows and both texts are released in one step
     match converted(&lists, &inputs.cfg, &inputs.dat, asked.kind) {
         Ok(made) => write_named(rt, asked.name, &made.cfg, &made.dat),
         Err(ConvertFault::Read(_)) => convert_part(rt, asked, inputs),
@@ -158,7 +158,7 @@ fn convert_whole<R: Files + Eprint + AllocGlobal>(
     }
 }
 
-/// The name without .cfg or .dat at its end, in any case of letters.
+/// The name without .cfg or .dat at its end, in upper or lower case.
 fn without_ending(name: &str) -> Option<&str> {
     let at = name.len().checked_sub(4)?;
     let ending = name.get(at..)?;
@@ -169,7 +169,7 @@ fn without_ending(name: &str) -> Option<&str> {
     }
 }
 
-/// Whether files can be called so with .cfg and .dat; where they can't, it says why.
+/// Whether files can have this name with .cfg and .dat; if not, it prints why.
 pub(crate) fn is_name<R: Eprint + AllocGlobal>(rt: &R, name: &str) -> bool {
     if name.is_empty() || name.ends_with('/') {
         let _ = eprintln!(rt; "error: the name of the new pair is empty");
