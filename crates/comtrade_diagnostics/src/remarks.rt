@@ -2,7 +2,7 @@
 
 use crate::check::Pair;
 use comtrade_dialects::{Doubt, doubts_of};
-use comtrade_format::File;
+use comtrade_format::{Border, File, border_of};
 use comtrade_io::{put, put_safe, put_signed, put_with};
 use dfr_channels::Reading;
 use std::alloc::{AllocError, Allocator};
@@ -108,6 +108,25 @@ fn put_turned<A: Allocator>(
     put_end(out, doubt, " such channel")
 }
 
+/// A line on a file whose stamps put the first row of each later rate after an interval of that rate.
+fn put_border<A: Allocator>(
+    out: &mut Vec<u8, A>,
+    pair: Pair<'_>,
+    file: &File<A>,
+) -> Result<(), AllocError> {
+    match border_of(file) {
+        Border::Old => Ok(()),
+        Border::New => {
+            put(out, "note: ")?;
+            put_safe(out, pair.dat_name)?;
+            put(
+                out,
+                ": the stamps put the first row of each later rate one interval of the new rate after the row before; times follow them\n",
+            )
+        }
+    }
+}
+
 /// What is odd about a pair that reads to this file, which is no fault: a line for each kind, as `note: x.dat: row 2 ..`.
 pub fn put_remarks<A: Allocator + Copy>(
     out: &mut Vec<u8, A>,
@@ -139,6 +158,7 @@ pub fn put_remarks<A: Allocator + Copy>(
     ] {
         put_places(out, (pair.dat_name, ": row "), doubt, words, " such row")?;
     }
+    put_border(out, pair, file)?;
     let outside = ("): the sample ", " is outside its range, ");
     put_samples(out, pair, file, doubts.outside, outside, " such sample")?;
     let flat = (

@@ -1,5 +1,5 @@
 -- One row more in a search for the border of two rates.
-use Rattle.std.proofs.Common.{◌≡◌, ℕ, ◌+◌, suc, Bool, ◌&&◌, ◌||◌, Option, refl, add-one}
+use Rattle.std.proofs.Common.{◌≡◌, ℕ, ◌+◌, Bool, ◌&&◌, ◌||◌, Option, refl, add-one}
 use Rattle.comtrade_format.specs.Borders.{each, some_of, before}
 
 pub before-next : (value : ℕ → Option ℕ) (row : ℕ) → before value (row + 1) ≡ value row

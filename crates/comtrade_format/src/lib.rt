@@ -31,5 +31,5 @@ pub use packed::{packed_bits, packed_values};
 pub use values::{
     AlignedScale, Border, BorderSearch, Clock, Cycle, CycleFault, LONGEST_VALUE, Scale,
     aligned_scale_of, border_of, civil_of, clock_in, clock_of, clock_with, cycle_of, exact_value,
-    nearest_f64, scale_of, search_of, without_zeros, write_shortened,
+    nearest_f64, scale_of, search_in, search_of, without_zeros, write_shortened,
 };

@@ -12,7 +12,7 @@ mod places;
 mod scale;
 
 pub use aligned::{AlignedScale, LONGEST_VALUE, aligned_scale_of, write_shortened};
-pub use border::{Border, BorderSearch, border_of, search_of};
+pub use border::{Border, BorderSearch, border_of, search_in, search_of};
 pub use civil::civil_of;
 pub use clock::{Clock, clock_in, clock_of, clock_with};
 pub use cycle::{Cycle, CycleFault, cycle_of};

@@ -1,14 +1,14 @@
 //! Finds which rate gives the interval between the last row of one rate and the first row of the
 //! next.
 
-ghost use Rattle.std.specs.Prelude.{◌≡◌, ◌+◌, ◌≤◌, ◌==◌, ◌||◌, ℕ, Option};
+ghost use Rattle.std.specs.Prelude.{◌≡◌, ◌+◌, ◌≤◌, ◌==◌, ◌&&◌, ◌||◌, not, nat_lt, ℕ, Option, length};
 ghost use Rattle.comtrade_format.specs.Parts.{HeadParts};
 ghost use Rattle.comtrade_format.specs.Borders as Borders;
 ghost use Rattle.comtrade_format.specs.Times as Times;
 
 use crate::file::{File, Head, Rate};
 use crate::parts::{head_of, rows_of};
-use crate::values::clock::{nanos_of_stamp, rates_decide, span_of};
+use crate::values::clock::{are_rates, nanos_of_stamp, span_of};
 use dfr_channels::Decimal;
 use std::alloc::Allocator;
 
@@ -117,11 +117,18 @@ fn differ(old: Option<u128>, own: Option<u128>) -> bool
     }
 }
 
-/// Whether there are several rates, all above 0.
+/// Whether there are several rates, all above 0, and the file counts them.
+fn can_have_borders(rates: &[Rate], are_counted: bool) -> bool
+    ensures { result ≡ (nat_lt 1 (length rates.now) && (are_counted && Times.are_rates rates.now)) }
+{
+    1 < rates.len() && are_counted && are_rates(rates)
+}
+
+/// Whether there are several rates, all above 0, in a file with this head.
 fn has_borders<A: Allocator>(head: &Head<A>) -> bool
     ensures { result ≡ Borders.has_borders head.now }
 {
-    1 < head.rates.items().len() && rates_decide(head)
+    can_have_borders(head.rates.items(), head.nrates != 0)
 }
 
 /// A search through the rows of a file for what their stamps show about the borders between rates.
@@ -139,19 +146,29 @@ pub struct BorderSearch<'a> {
     changes: bool,
 }
 
-/// The search before the first row of the file with this head.
-pub fn search_of<A: Allocator>(head: &Head<A>) -> BorderSearch<'_>
-    ensures { (stamps : ℕ → Option ℕ) → Borders.Seen head.now stamps 0 result }
+/// The search before the first row of a file with these rates and this factor of its stamps.
+/// `are_counted` is false if the file's number of rates is 0.
+pub fn search_in(rates: &[Rate], are_counted: bool, timemult: Decimal) -> BorderSearch<'_>
+    ensures { (head : HeadParts) (stamps : ℕ → Option ℕ) → rates.now ≡ head.rates
+        → are_counted ≡ not (head.nrates == 0) → timemult ≡ head.timemult
+        → Borders.Seen head stamps 0 result }
 {
     BorderSearch {
-        left: head.rates.items(),
-        timemult: head.timemult,
-        has_borders: has_borders(head),
+        left: rates,
+        timemult,
+        has_borders: can_have_borders(rates, are_counted),
         interval: None,
         time: None,
         fits: true,
         changes: false,
     }
+}
+
+/// The search before the first row of the file with this head.
+pub fn search_of<A: Allocator>(head: &Head<A>) -> BorderSearch<'_>
+    ensures { (stamps : ℕ → Option ℕ) → Borders.Seen head.now stamps 0 result }
+{
+    search_in(head.rates.items(), head.nrates != 0, head.timemult)
 }
 
 impl<'a> BorderSearch<'a> {

@@ -106,7 +106,7 @@ fn is_rate(rate: &Rate) -> bool
 }
 
 /// Whether every rate is above 0.
-fn are_rates(rates: &[Rate]) -> bool
+pub(crate) fn are_rates(rates: &[Rate]) -> bool
     ensures { result ≡ Times.are_rates rates.now }
 {
     for rate in rates {
@@ -193,7 +193,7 @@ pub struct Clock<'a> {
 }
 
 /// Whether the rates give the times of all rows.
-pub(crate) fn rates_decide<A: Allocator>(head: &Head<A>) -> bool
+fn rates_decide<A: Allocator>(head: &Head<A>) -> bool
     ensures { result ≡ Times.rates_decide head.now }
 {
     head.nrates != 0 && are_rates(head.rates.items())

@@ -1,5 +1,4 @@
-use Rattle.std.proofs.Common.{◌≡◌, ◌+◌, ◌≤◌, ◌==◌, ◌&&◌, ◌||◌, ◌∙◌, ℕ, Option, Bool, sym, ap, arith}
-use Rattle.comtrade_format.specs.Parts.{HeadParts}
+use Rattle.std.proofs.Common.{◌≡◌, ◌==◌, ◌&&◌, ◌||◌, ◌∙◌, ℕ, Option, sym, ap, arith}
 use Rattle.comtrade_format.specs.Borders as Borders
 use Rattle.comtrade_format.specs.Borders.{interval_at, one_row, stamped, before, follows, differ, fits, changes}
 use Rattle.comtrade_format.proofs.Borders.{before-next, each-next, some_of-next}
