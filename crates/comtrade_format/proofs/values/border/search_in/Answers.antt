@@ -1,4 +1,4 @@
-use Rattle.std.proofs.Common.{◌≡◌, ◌<◌, ◌&&◌, ◌∙◌, Bool, List, length, refl, ap, nat_lt}
+use Rattle.std.proofs.Common.{◌&&◌, ◌∙◌, List, length, refl, ap, nat_lt}
 use Rattle.comtrade_format.specs.Borders.{rate_at}
 use Rattle.comtrade_format.specs.Times.{are_rates}
 use Rattle.comtrade_format.specs.declared.file.Rate.{Rate}
