@@ -1,7 +1,9 @@
 -- When the rows of a table were taken, as numbers of 64 bits.
-use Rattle.std.specs.Prelude.{ℕ, ◌+◌, ℤ, pos, negsuc, nat_lt, if◌then◌else◌, Option, Some, None, List, [], ◌∷◌}
+use Rattle.std.specs.Prelude.{ℕ, ◌+◌, ℤ, pos, negsuc, nat_lt, if◌then◌else◌, Option, Some, None, option_and_then, List, [], ◌∷◌, length, slice_get}
 use Rattle.comtrade_format.specs.Parts.{HeadParts}
-use Rattle.comtrade_format.specs.Times.{time_of}
+use Rattle.comtrade_format.specs.Borders.{border}
+use Rattle.comtrade_format.specs.Times.{time_with}
+use Rattle.comtrade_format.specs.declared.values.border.Border.{Border}
 use Rattle.comtrade_c.specs.Writing.{stamp_in}
 
 -- nanoseconds; -2^63 stands for a time that isn't there, or has more than 63 bits
@@ -14,6 +16,14 @@ abbrev pub times_by : (ℕ → Option ℕ → Option ℕ) → ℕ → List ℕ �
 times_by taken row [] = []
 times_by taken row (stamp ∷ more) = time_in (taken row (stamp_in stamp)) ∷ times_by taken (row + 1) more
 
--- the rows of a head from the first one on: by its rates where it says them and none is 0, else by their stamps
+-- the stamp of a row, by its index
+abbrev pub stamp_at : List ℕ → ℕ → Option ℕ
+stamp_at stamps row = option_and_then stamp_in (slice_get stamps row)
+
+-- the border that the stamps of all rows show
+abbrev pub border_in : HeadParts → List ℕ → Border
+border_in h stamps = border h (length stamps) (stamp_at stamps)
+
+-- the rows of a head from the first one on: by its rates where it says them and none is 0, with the border that the stamps show; else by their stamps
 abbrev pub times_in : HeadParts → List ℕ → List ℤ
-times_in h stamps = times_by (time_of h) 0 stamps
+times_in h stamps = times_by (time_with (border_in h stamps) h) 0 stamps

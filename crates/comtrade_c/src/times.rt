@@ -7,7 +7,7 @@ ghost use Rattle.comtrade_c.specs.Times as spec;
 
 use crate::answer::{CFG_FAULT, DONE, Fault, NO_ROOM, head_of};
 use crate::write::stamp_of;
-use comtrade_format::{Head, clock_of};
+use comtrade_format::{Border, Head, clock_with, search_of};
 use std::alloc::{Allocator, Global};
 
 /// The time of a row that has none, or whose time needs more than 63 bits.
@@ -22,12 +22,26 @@ fn time_in(nanos: Option<u128>) -> i64
     }
 }
 
+/// Which rate gives the interval across the borders of rates, by the stamps of all rows.
+fn border_in<A: Allocator>(head: &Head<A>, stamps: &[u64]) -> Border
+    ensures { result ≡ spec.border_in head.now stamps.now }
+{
+    if head.rates.items().len() < 2 {
+        return Border::Old;
+    }
+    let mut search = search_of(head);
+    for (k, stamp) in stamps.iter().enumerate() {
+        search = search.after(k as u64, stamp_of(*stamp));
+    }
+    search.border()
+}
+
 /// Computes the time of each row, starting with the first row of the file.
 fn put_times<A: Allocator>(head: &Head<A>, stamps: &[u64], times: &mut [i64])
     requires { length times.old ≡ length stamps.now }
     ensures { times.new ≡ spec.times_in head.now stamps.now }
 {
-    let mut clock = clock_of(head);
+    let mut clock = clock_with(head, border_in(head, stamps));
     for (k, stamp) in stamps.iter().enumerate() {
         // a clock that starts some rows earlier is as fast
         if k % 256 == 0 {

@@ -2,7 +2,7 @@
 
 use crate::check::Pair;
 use comtrade_dialects::{Doubt, doubts_of};
-use comtrade_format::File;
+use comtrade_format::{Border, File, border_of};
 use comtrade_io::{put, put_safe, put_signed, put_with};
 use dfr_channels::Reading;
 use std::alloc::{AllocError, Allocator};
@@ -109,6 +109,26 @@ fn put_turned<A: Allocator>(
     put_end(out, doubt, " such channel")
 }
 
+/// Appends a note if the stamps put the first row of each later rate one interval of that rate after
+/// the row before.
+fn put_border<A: Allocator>(
+    out: &mut Vec<u8, A>,
+    pair: Pair<'_>,
+    file: &File<A>,
+) -> Result<(), AllocError> {
+    match border_of(file) {
+        Border::Old => Ok(()),
+        Border::New => {
+            put(out, "note: ")?;
+            put_safe(out, pair.dat_name)?;
+            put(
+                out,
+                ": the stamps put the first row of each later rate one interval of the new rate after the row before; times follow them\n",
+            )
+        }
+    }
+}
+
 /// Appends a note for each kind of oddity (not an error) of a pair that reads to this file, such as
 /// `note: x.dat: row 2 ..`.
 pub fn put_remarks<A: Allocator + Copy>(
@@ -141,6 +161,7 @@ pub fn put_remarks<A: Allocator + Copy>(
     ] {
         put_places(out, (pair.dat_name, ": row "), doubt, words, " such row")?;
     }
+    put_border(out, pair, file)?;
     let outside = ("): sample ", " is outside its range, ");
     put_samples(out, pair, file, doubts.outside, outside, " such sample")?;
     let flat = (

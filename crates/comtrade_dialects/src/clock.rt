@@ -3,14 +3,14 @@
 
 use crate::exact::Exact;
 use crate::num::Num;
-use comtrade_format::Rate;
+use comtrade_format::{Border, Rate};
 use dfr_channels::Decimal;
 use std::alloc::{AllocError, Allocator};
 
 /// A run of rows at one rate.
 #[derive(Clone, Copy)]
 struct Run {
-    /// The row before the first of the run (0 for the first run), and its time.
+    /// The row from which the rows of the run are counted, and its time.
     from: u64,
     base: i128,
     end: u64,
@@ -36,7 +36,12 @@ impl Run {
 }
 
 impl<A: Allocator + Copy> Clock<A> {
-    pub(crate) fn new(alloc: A, rates: &[Rate]) -> Result<Option<Clock<A>>, AllocError> {
+    /// The clock of these rates, if this rate gives the interval across each border.
+    pub(crate) fn new(
+        alloc: A,
+        rates: &[Rate],
+        border: Border,
+    ) -> Result<Option<Clock<A>>, AllocError> {
         let mut runs: Vec<Run, A> = Vec::new(alloc);
         let mut from = 0u64;
         let mut base = 0i128;
@@ -48,7 +53,10 @@ impl<A: Allocator + Copy> Clock<A> {
                 units: rate.samp.units(),
                 places: u32::from(rate.samp.places()),
             };
-            from = rate.endsamp.saturating_sub(1);
+            from = match border {
+                Border::Old => rate.endsamp,
+                Border::New => rate.endsamp.saturating_sub(1),
+            };
             match run.time_of(from) {
                 Some(time) if 0 < run.units => base = time,
                 _ => return Ok(None),

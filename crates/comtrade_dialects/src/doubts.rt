@@ -3,7 +3,7 @@
 
 use crate::clock::{Clock, time_of_stamp};
 use crate::num::Num;
-use comtrade_format::{File, Head, Row};
+use comtrade_format::{File, Head, Row, border_of};
 use dfr_channels::{AnalogChannel, Reading};
 use std::alloc::{AllocError, Allocator};
 
@@ -58,7 +58,7 @@ pub(crate) fn clock_of<A: Allocator + Copy>(
     if file.head.nrates == 0 {
         return Ok(None);
     }
-    Clock::new(alloc, file.head.rates.items())
+    Clock::new(alloc, file.head.rates.items(), border_of(file))
 }
 
 /// A stamp as a `Num`.

@@ -36,7 +36,7 @@ pub(crate) fn stamps_by_rate<A: Allocator + Copy>(
 }
 
 /// The time from which stamps are counted: the least stamp.
-fn start_of(track: &Track<'_>) -> i128 {
+pub(crate) fn start_of(track: &Track<'_>) -> i128 {
     let mut start: Option<i128> = None;
     for tick in track.ticks {
         if let Some(stamp) = tick.stamp {

@@ -3,12 +3,12 @@
 use crate::clock::{Clock, rounded, time_of_stamp};
 use crate::draft::{Draft, Revision};
 use crate::fault::ImportFault;
-use crate::kept_stamps::{kept, stamps_by_rate};
+use crate::kept_stamps::{kept, stamps_by_rate, start_of};
 use crate::key::Key;
 use crate::note::{Notes, Place};
 use crate::num::Num;
 use crate::numbers::{Run, Tick, rates_for, run_of, tell_lost, tell_numbers};
-use comtrade_format::Rate;
+use comtrade_format::{Border, Rate, search_in};
 use dfr_channels::Decimal;
 use std::alloc::Allocator;
 
@@ -206,6 +206,38 @@ fn are_lost<A: Allocator + Copy>(track: &Track<'_>, clock: &Clock<A>) -> bool {
     agrees(track, clock, numbered) && !agrees(track, clock, plain)
 }
 
+/// Which rate gives the interval across each border, by the stamps divided by so much.
+fn border_by(track: &Track<'_>, rates: &[Rate], part: i128) -> Border {
+    let Some(pico) = Decimal::new(1, 6) else {
+        return Border::Old;
+    };
+    let start = start_of(track);
+    let mut search = search_in(rates, true, pico);
+    for (i, tick) in track.ticks.iter().enumerate() {
+        let time = match tick.stamp {
+            Some(stamp) => time_of_stamp(stamp, track.timemult),
+            None => None,
+        };
+        let stamp = match time {
+            Some(time) => u64::try_from(rounded(time.saturating_sub(start), part)).ok(),
+            None => None,
+        };
+        search = search.after(i as u64, stamp);
+    }
+    search.border()
+}
+
+/// Which rate gives the interval across each border, by stamps that may be in nanoseconds.
+fn border_in(track: &Track<'_>, rates: &[Rate]) -> Border {
+    if rates.len() < 2 {
+        return Border::Old;
+    }
+    match border_by(track, rates, 1) {
+        Border::Old => border_by(track, rates, 1_000),
+        Border::New => Border::New,
+    }
+}
+
 /// The times that are written. `is_cut` if an incomplete row was left out.
 pub(crate) fn times_of<A: Allocator + Copy>(
     alloc: A,
@@ -215,11 +247,12 @@ pub(crate) fn times_of<A: Allocator + Copy>(
     is_cut: bool,
 ) -> Result<Times<A>, ImportFault> {
     let run = run_of(track.ticks);
-    let said = Clock::new(alloc, &draft.rates.list)?;
-    let is_lost = match &said {
-        Some(clock) => run == Run::Gaps && are_lost(track, clock),
-        None => false,
-    };
+    let mut is_lost = false;
+    for border in [Border::Old, Border::New] {
+        if let Some(clock) = Clock::new(alloc, &draft.rates.list, border)? {
+            is_lost = is_lost || run == Run::Gaps && are_lost(track, &clock);
+        }
+    }
     if is_lost {
         tell_lost(notes, track.ticks)?;
         let (stamps, timemult) = kept(alloc, notes, track, 1)?;
@@ -233,7 +266,7 @@ pub(crate) fn times_of<A: Allocator + Copy>(
         tell_numbers(notes, track.ticks)?;
     }
     let rates = rates_for(alloc, notes, draft, track.ticks.len() as u64, is_cut)?;
-    let clock = Clock::new(alloc, &rates)?;
+    let clock = Clock::new(alloc, &rates, border_in(track, &rates))?;
     let found = found_of(notes, track, draft, clock.as_ref())?;
     let (stamps, timemult) = settled(alloc, notes, track, clock.as_ref(), found)?;
     Ok(Times {

@@ -16,3 +16,4 @@ pub mod PackedGroups
 pub mod ValuePlaces
 pub mod PointedValues
 pub mod ValueParts
+pub mod Borders

@@ -10,6 +10,7 @@ pub mod Refusals
 pub mod Data
 pub mod Floats
 pub mod Times
+pub mod Borders
 pub mod Values
 pub mod Packed
 pub mod Places

@@ -5,6 +5,8 @@ use Rattle.std.specs.Int.RustNames.{int_lt}
 use Rattle.dfr_channels.specs.Spelling.{Number}
 use Rattle.comtrade_format.specs.Parts.{HeadParts}
 use Rattle.comtrade_format.specs.declared.file.Rate.{Rate}
+use Rattle.comtrade_format.specs.declared.values.border.Border.{Border}
+use Rattle.comtrade_format.specs.declared.values.border.Border.TheVariants.{Old, New}
 use Rattle.comtrade_format.specs.declared.values.clock.Clock.{Clock}
 use Rattle.comtrade_format.specs.declared.values.clock.Paces.{Paces}
 
@@ -39,12 +41,18 @@ stamp_time timemult stamp = option_and_then (λ units. if nat_lt 38 timemult.pla
 abbrev pub together : Option ℕ → Option ℕ → Option ℕ
 together x y = option_and_then (λ m. option_and_then (λ n. short (m + n)) y) x
 
+-- the row from which the rows of the next rate are counted: the first of them, an interval of the old rate after the last of that
+-- rate, or that last row, so that the interval between both is the new rate's
+abbrev pub counted_from : Border → ℕ → ℕ
+counted_from Old endsamp = endsamp
+counted_from New endsamp = endsamp - 1
+
 -- a row, by the rates that the rows from this one on have, the first of which was taken then: the rows before it, rate by rate
-abbrev pub since : List Rate → Option ℕ → ℕ → ℕ → Option ℕ
-since [] begun from row = None
-since (rate ∷ more) begun from row =
+abbrev pub since : Border → List Rate → Option ℕ → ℕ → ℕ → Option ℕ
+since border [] begun from row = None
+since border (rate ∷ more) begun from row =
     if nat_lt row rate.endsamp then together begun (span rate.samp (row - from))
-    else since more (together begun (span rate.samp (rate.endsamp - from))) rate.endsamp row
+    else since border more (together begun (span rate.samp (counted_from border rate.endsamp - from))) (counted_from border rate.endsamp) row
 
 -- a rate says when its rows were taken
 abbrev pub is_rate : Rate → Bool
@@ -54,14 +62,22 @@ abbrev pub are_rates : List Rate → Bool
 are_rates [] = true
 are_rates (rate ∷ more) = is_rate rate && are_rates more
 
--- a row with a stamp or without one: by the rates where the file says them and none is 0, else by its stamp
-abbrev pub time_of : HeadParts → ℕ → Option ℕ → Option ℕ
-time_of head row stamp = if not (head.nrates == 0) && are_rates head.rates then since head.rates (Some 0) 0 row
+-- the rates give the times: the file has some and none is 0
+abbrev pub rates_decide : HeadParts → Bool
+rates_decide head = not (head.nrates == 0) && are_rates head.rates
+
+-- a row with a stamp or without one: by the rates where they decide, else by its stamp
+abbrev pub time_with : Border → HeadParts → ℕ → Option ℕ → Option ℕ
+time_with border head row stamp = if rates_decide head then since border head.rates (Some 0) 0 row
     else option_and_then (stamp_time head.timemult) stamp
+
+-- the same where the old rate gives the interval to the first row of the next
+abbrev pub time_of : HeadParts → ℕ → Option ℕ → Option ℕ
+time_of head row stamp = time_with Old head row stamp
 
 -- the same, by the rates that are left, and by a clock
 abbrev pub since_by : Paces → ℕ → Option ℕ
-since_by paces row = since paces.rates.now paces.begun paces.from row
+since_by paces row = since paces.border paces.rates.now paces.begun paces.from row
 
 abbrev pub time_by : Clock → ℕ → Option ℕ → Option ℕ
 time_by clock row stamp = if clock.has_rates then since_by clock.paces row else option_and_then (stamp_time clock.timemult) stamp
@@ -69,9 +85,10 @@ time_by clock row stamp = if clock.has_rates then since_by clock.paces row else 
 -- the rates after the first one
 abbrev pub after : Paces → Rate → Bor (List Rate) → Paces
 after paces rate more = record {
+  border = paces.border;
   rates = more;
-  begun = together paces.begun (span rate.samp (rate.endsamp - paces.from));
-  from = rate.endsamp;
+  begun = together paces.begun (span rate.samp (counted_from paces.border rate.endsamp - paces.from));
+  from = counted_from paces.border rate.endsamp;
 }
 
 -- the first rate is the row's, or there is none

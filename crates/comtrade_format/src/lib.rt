@@ -29,6 +29,7 @@ pub use file::{File, Head, Kind, Rate, Row};
 pub use output::write_all_of;
 pub use packed::{packed_bits, packed_values};
 pub use values::{
-    AlignedScale, Clock, Cycle, CycleFault, LONGEST_VALUE, Scale, aligned_scale_of, civil_of,
-    clock_of, cycle_of, exact_value, nearest_f64, scale_of, without_zeros, write_shortened,
+    AlignedScale, Border, BorderSearch, Clock, Cycle, CycleFault, LONGEST_VALUE, Scale,
+    aligned_scale_of, border_of, civil_of, clock_in, clock_of, clock_with, cycle_of, exact_value,
+    nearest_f64, scale_of, search_in, search_of, without_zeros, write_shortened,
 };

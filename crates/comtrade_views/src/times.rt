@@ -1,6 +1,6 @@
 //! When each row was taken.
 
-use comtrade_format::{File, clock_of};
+use comtrade_format::{File, clock_in};
 use comtrade_io::ToolFault;
 use std::alloc::Allocator;
 
@@ -11,7 +11,7 @@ pub(crate) fn times_of<A: Allocator + Copy>(
     file: &File<A>,
 ) -> Result<Vec<Option<i64>, A>, ToolFault> {
     let mut times = Vec::with_capacity(alloc, file.rows.items().len())?;
-    let mut clock = clock_of(&file.head);
+    let mut clock = clock_in(file);
     for (i, row) in file.rows.items().iter().enumerate() {
         clock = clock.at(i as u64);
         times.push(match clock.nanos(i as u64, row.stamp) {

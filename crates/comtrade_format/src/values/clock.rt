@@ -1,9 +1,12 @@
 //! Computes when the rows of a data file were sampled.
 
 ghost use Rattle.std.specs.Prelude.{◌≡◌, ◌<◌, ◌≤◌, ◌*◌, ◌^◌, ℕ, Option, length, IfSome};
+ghost use Rattle.comtrade_format.specs.Borders as Borders;
 ghost use Rattle.comtrade_format.specs.Times as Times;
 
-use crate::file::{Head, Rate};
+use crate::file::{File, Head, Rate};
+use crate::parts::head_of;
+use crate::values::border::{Border, border_of};
 use dfr_channels::Decimal;
 use std::alloc::Allocator;
 
@@ -63,7 +66,7 @@ fn quotient(x: u128, y: u128) -> Option<u128>
 
 /// How long `rows` rows take at a rate, in nanoseconds, rounded down. None if the rate isn't above
 /// 0 or has more than 29 places, or if the computation exceeds 128 bits.
-fn span_of(rate: Decimal, rows: u64) -> Option<u128>
+pub(crate) fn span_of(rate: Decimal, rows: u64) -> Option<u128>
     ensures { result ≡ Times.span rate rows }
 {
     let units = size_of(rate)?;
@@ -77,7 +80,7 @@ fn span_of(rate: Decimal, rows: u64) -> Option<u128>
 /// The time of a stamp in nanoseconds, rounded down; the stamp times `timemult` is in
 /// microseconds. None if `timemult` is negative or has more than 38 places, or if the computation
 /// exceeds 128 bits.
-fn nanos_of_stamp(timemult: Decimal, stamp: u64) -> Option<u128>
+pub(crate) fn nanos_of_stamp(timemult: Decimal, stamp: u64) -> Option<u128>
     ensures { result ≡ Times.stamp_time timemult stamp }
 {
     let units = size_of(timemult)?;
@@ -103,7 +106,7 @@ fn is_rate(rate: &Rate) -> bool
 }
 
 /// Whether every rate is above 0.
-fn are_rates(rates: &[Rate]) -> bool
+pub(crate) fn are_rates(rates: &[Rate]) -> bool
     ensures { result ≡ Times.are_rates rates.now }
 {
     for rate in rates {
@@ -117,22 +120,35 @@ fn are_rates(rates: &[Rate]) -> bool
 /// The rates of a file, from that of some row on.
 #[derive(Clone, Copy, Debug)]
 struct Paces<'a> {
+    border: Border,
     rates: &'a [Rate],
     /// The time of row `from`, in nanoseconds since the first row.
     begun: Option<u128>,
-    /// The number of rows of the earlier rates.
+    /// The row from which the rows of the first of these rates are counted.
     from: u64,
+}
+
+/// The row from which the rows of the next rate are counted.
+fn counted_from(border: Border, endsamp: u64) -> u64
+    ensures { result ≡ Times.counted_from border endsamp }
+{
+    match border {
+        Border::Old => endsamp,
+        Border::New => endsamp.saturating_sub(1),
+    }
 }
 
 /// The rates after the first one.
 fn next<'a>(paces: Paces<'a>, rate: &Rate, more: &'a [Rate]) -> Paces<'a>
     ensures { result ≡ Times.after paces.entry rate.now more.entry }
 {
-    let rows = rate.endsamp.saturating_sub(paces.from);
+    let from = counted_from(paces.border, rate.endsamp);
+    let rows = from.saturating_sub(paces.from);
     Paces {
+        border: paces.border,
         rates: more,
         begun: together(paces.begun, span_of(rate.samp, rows)),
-        from: rate.endsamp,
+        from,
     }
 }
 
@@ -176,20 +192,42 @@ pub struct Clock<'a> {
     timemult: Decimal,
 }
 
-/// The clock of the file with this head.
-pub fn clock_of<A: Allocator>(head: &Head<A>) -> Clock<'_>
-    ensures { (row : ℕ) (stamp : Option ℕ) → Times.time_by result row stamp ≡ Times.time_of head.now row stamp }
+/// Whether the rates give the times of all rows.
+fn rates_decide<A: Allocator>(head: &Head<A>) -> bool
+    ensures { result ≡ Times.rates_decide head.now }
 {
-    let rates = head.rates.items();
+    head.nrates != 0 && are_rates(head.rates.items())
+}
+
+/// The clock of the file with this head, if this rate gives the interval across each border.
+pub fn clock_with<A: Allocator>(head: &Head<A>, border: Border) -> Clock<'_>
+    ensures { (row : ℕ) (stamp : Option ℕ)
+        → Times.time_by result row stamp ≡ Times.time_with border head.now row stamp }
+{
     Clock {
         paces: Paces {
-            rates,
+            border,
+            rates: head.rates.items(),
             begun: Some(0),
             from: 0,
         },
-        has_rates: head.nrates != 0 && are_rates(rates),
+        has_rates: rates_decide(head),
         timemult: head.timemult,
     }
+}
+
+/// The clock of the file with this head, if the old rate gives the interval across each border.
+pub fn clock_of<A: Allocator>(head: &Head<A>) -> Clock<'_>
+    ensures { (row : ℕ) (stamp : Option ℕ) → Times.time_by result row stamp ≡ Times.time_of head.now row stamp }
+{
+    clock_with(head, Border::Old)
+}
+
+/// The clock of a file. Its stamps show which rate gives the interval across each border.
+pub fn clock_in<A: Allocator>(file: &File<A>) -> Clock<'_>
+    ensures { (row : ℕ) (stamp : Option ℕ) → Times.time_by result row stamp ≡ Borders.time_in file.now row stamp }
+{
+    clock_with(head_of(file), border_of(file))
 }
 
 impl<'a> Clock<'a> {

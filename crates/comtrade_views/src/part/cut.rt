@@ -2,7 +2,7 @@
 
 use crate::part::names::Channels;
 use crate::part::rows::Rows;
-use comtrade_format::{File, Head, Rate, Row, clock_of};
+use comtrade_format::{File, Head, Rate, Row, clock_in};
 use dfr_channels::{AnalogChannel, Items, Memory, StatusChannel, TryClone};
 use std::alloc::Allocator;
 
@@ -81,14 +81,14 @@ fn cut_rates<A: Allocator + Copy>(
 }
 
 /// The instant of the first of the rows, to the nearest microsecond.
-fn first_instant<A: Allocator>(head: &Head<A>, rows: &[Row<A>], from: usize) -> i64 {
-    let stamp = match rows.get(from) {
+fn first_instant<A: Allocator>(file: &File<A>, from: usize) -> i64 {
+    let stamp = match file.rows.items().get(from) {
         Some(row) => row.stamp,
         None => None,
     };
-    let nanos = clock_of(head).nanos(from as u64, stamp).unwrap_or(0);
+    let nanos = clock_in(file).nanos(from as u64, stamp).unwrap_or(0);
     let micros = i64::try_from(nanos.saturating_add(500) / 1000).unwrap_or(i64::MAX);
-    head.first.saturating_add(micros)
+    file.head.first.saturating_add(micros)
 }
 
 /// The head of the part.
@@ -117,7 +117,7 @@ fn cut_head<A: Allocator + Copy>(
         line_freq: head.line_freq,
         nrates,
         rates,
-        first: first_instant(head, file.rows.items(), rows.from),
+        first: first_instant(file, rows.from),
         trigger: head.trigger,
         kind: head.kind,
         timemult: head.timemult,

@@ -2,7 +2,7 @@
 
 use crate::part::fault::PartFault;
 use crate::part::moment::{Moment, moment_of};
-use comtrade_format::{File, Row, clock_of};
+use comtrade_format::{File, Row, clock_in};
 use std::alloc::Allocator;
 
 /// Rows by their indices from 0: from `from` up to but without `to`.
@@ -66,7 +66,7 @@ fn between<A: Allocator>(
     from: Bound,
     to: Bound,
 ) -> (Option<Rows>, bool) {
-    let mut clock = clock_of(&file.head);
+    let mut clock = clock_in(file);
     let mut found: Option<Rows> = None;
     let mut has_times = false;
     for (i, row) in rows.iter().enumerate() {
