@@ -1,11 +1,10 @@
-# twenty pairs after a storm, as the manual walks through them: which record, what happened in order, where currents left their course,
-# phasors at a moment, a part of it for the report, a table for a spreadsheet. Skipped where python3 isn't there, which makes the pairs
+# twenty pairs after a storm, as docs/comtrade.md walks through them: which record, what happened in order, fault inception, phasors at a
+# moment, a part of it for the report, a table for a spreadsheet. Skipped without python3, which makes the pairs
 command -v python3 > /dev/null || { cat comtrade-walk/out; exit 0; }
 exec 2>&1
 folder=$(mktemp -d)
 trap 'rm -r "$folder"' EXIT
-mkdir "$folder/storm"
-python3 files/twenty.py "$folder/storm"
+python3 ../examples/storm/make.py "$folder/storm"
 cd "$folder"
 "$comtrade" list storm
 "$comtrade" events storm/storm12
