@@ -31,13 +31,17 @@ def wrapped(words, indent, width=100):
         lines[-1] += (" " if lines[-1] else "") + word
     return ("\n" + indent).join(lines)
 
+def kinds_of(top, parts):
+    """All kinds of arguments that a program completes."""
+    return {kind for part in parts or [top] for _, kind in part.places} | ({"commands"} if parts else set())
+
 # bash
 
 BASH = r"""# Completion of NAME for bash. MADE
 _NAME() {
     local cur=${COMP_WORDS[COMP_CWORD]} first=FIRST place=0 more='' only='' option='' flags='' valued=''
     local -a places=()
-    local i word pattern
+    local i word
     COMPREPLY=()
     [ "$cur" != = ] || cur=''
 CASES
@@ -49,7 +53,7 @@ CASES
             only=yes
         elif [[ " $valued " == *" $word "* ]]; then
             option=$word i=$((i + 1))
-            [ "${COMP_WORDS[i]}" != = ] || i=$((i + 1))
+            [ "${COMP_WORDS[i]-}" != = ] || i=$((i + 1))
         fi
     done
     [ "$i" -gt "$COMP_CWORD" ] || option=''
@@ -63,23 +67,7 @@ VALUES
         word=$flags
     else
         case ${places[place]:-$more} in
-        commands) word='COMMANDS' ;;
-        folders)
-            compopt -o filenames 2> /dev/null
-            mapfile -t COMPREPLY < <(compgen -d -- "$cur")
-            return
-            ;;
-        records) # if there are none, bash offers all files
-            compopt -o filenames 2> /dev/null
-            mapfile -t COMPREPLY < <(
-                compgen -d -- "$cur"
-                for pattern in '*.[cC][fF][gG]' '*.[dD][aA][tT]' '*.[cC][fF][fF]'; do
-                    compgen -f -X "!$pattern" -- "$cur"
-                done
-            )
-            return
-            ;;
-        files) return ;;
+BRANCHES
         *) compopt +o default 2> /dev/null; return ;;
         esac
     fi
@@ -88,9 +76,29 @@ VALUES
 complete -o default -F _NAME NAME
 """
 
+BRANCHES = {
+    "commands": "commands) word='COMMANDS' ;;",
+    "folders": """folders)
+            compopt -o filenames 2> /dev/null
+            mapfile -t COMPREPLY < <(compgen -d -- "$cur")
+            return
+            ;;""",
+    "records": """records) # if there are none, bash offers all files
+            compopt -o filenames 2> /dev/null
+            mapfile -t COMPREPLY < <(
+                compgen -d -- "$cur"
+                for pattern in '*.[cC][fF][gG]' '*.[dD][aA][tT]' '*.[cC][fF][fF]'; do
+                    compgen -f -X "!$pattern" -- "$cur"
+                done
+            )
+            return
+            ;;""",
+    "files": "files) return ;;",
+}
+
 def bash_part(part, indent):
     lines = [f"flags='{wrapped(part.flags, indent + ' ' * 7)}'"] if part.flags else []
-    lines += [f"valued='{wrapped(part.valued, indent + ' ' * 8)}'"] if part.valued else []
+    lines += [f"valued='{' '.join(part.valued)}'"] if part.valued else []
     lines += [f"places=({' '.join(kind for _, kind in part.places)})"] if part.places else []
     lines += [f"more={part.more}"] if part.more else []
     return "".join(f"{indent}{line}\n" for line in lines) or f"{indent}:\n"
@@ -111,9 +119,11 @@ def bash(top, parts):
             elif option.value == "PATH":
                 values[option.flags[-1]] = "return"
     lines = "\n".join(f"        {flag}) {text} ;;" for flag, text in values.items())
-    filled = {"NAME": top.name, "MADE": MADE, "FIRST": "2" if parts else "1", "CASES": cases, "VALUES": lines,
-              "COMMANDS": " ".join(p.name for p in parts)}
-    return re.sub(r"\b(NAME|MADE|FIRST|CASES|VALUES|COMMANDS)\b|_NAME", lambda m: filled.get(m[0]) or f"_{top.name}", BASH)
+    used = kinds_of(top, parts)
+    branches = "\n".join(" " * 8 + text for kind, text in BRANCHES.items() if kind in used)
+    filled = {"NAME": top.name, "_NAME": f"_{top.name}", "MADE": MADE, "FIRST": "2" if parts else "1", "CASES": cases,
+              "VALUES": lines, "BRANCHES": branches.replace("COMMANDS", " ".join(p.name for p in parts))}
+    return re.sub(r"\b(_?NAME|MADE|FIRST|CASES|VALUES|BRANCHES)\b", lambda m: filled[m[0]], BASH)
 
 # zsh
 
@@ -143,7 +153,8 @@ def zsh_call(part, name, indent):
 def zsh(top, parts):
     name = top.name
     text = f"#compdef {name}\n# Completion of {name} for zsh. {MADE}\n\n"
-    text += f"_{name}_records() {{\n    _files \"$@\" -g '(#i)*.(cfg|dat|cff)'\n}}\n\n"
+    if "records" in kinds_of(top, parts):
+        text += f"_{name}_records() {{\n    _files \"$@\" -g '(#i)*.(cfg|dat|cff)'\n}}\n\n"
     if not parts:
         return text + f"_{name}() {{\n{zsh_call(top, name, '    ')}}}\n\n_{name} \"$@\"\n"
     text += f"_{name}_commands() {{\n    local -a commands=(\n"
@@ -157,8 +168,8 @@ def zsh(top, parts):
 
 # fish
 
-FISH = r"""# Completion of NAME for fish. MADE
-
+FISH = {
+    "commands": r"""
 # whether the line has one of these commands; without any, whether it has none
 function __NAME_has
     set -l words (commandline -opc)
@@ -168,7 +179,8 @@ function __NAME_has
         not set -q argv[1]
     end
 end
-
+""",
+    "places": r"""
 # whether so many arguments come before the word
 function __NAME_at
     set -l words (commandline -opc)
@@ -182,9 +194,10 @@ function __NAME_at
         end
         set -e words[1]
     end
-    test $place = $argv[1]
+    contains $place $argv
 end
-
+""",
+    "records": r"""
 # the records and folders, or all files if there are none
 function __NAME_records
     set -l found (__fish_complete_path (commandline -ct))
@@ -195,36 +208,41 @@ function __NAME_records
         printf '%s\n' $found
     end
 end
-
-complete -c NAME -f
-"""
+""",
+}
 
 def fish_text(text):
     return "'" + text.replace("\\", "\\\\").replace("'", "\\'") + "'"
 
 def fish(top, parts):
     name = top.name
-    valued = list(dict.fromkeys(flag for p in parts or [top] for flag in p.valued))
-    filled = {"NAME": name, "MADE": MADE, "FIRST": "1..2" if parts else "1", "VALUED": wrapped(valued, " " * 12, 10**6)}
-    text = re.sub(r"(?<=__)NAME|\b(NAME|MADE|FIRST|VALUED)\b", lambda m: filled[m[0]], FISH)
+    used, each = kinds_of(top, parts) | {"places"}, parts or [top]
+    valued = " ".join(dict.fromkeys(flag for p in each for flag in p.valued))
+    filled = {"NAME": name, "FIRST": "1..2" if parts else "1", "VALUED": valued}
+    text = f"# Completion of {name} for fish. {MADE}\n" + "".join(body for kind, body in FISH.items() if kind in used)
+    text = re.sub(r"(?<=__)NAME|\b(FIRST|VALUED)\b", lambda m: filled[m[0]], text) + f"\ncomplete -c {name} -f\n"
     offers = {"records": f"-a '(__{name}_records)'", "folders": "-a '(__fish_complete_directories (commandline -ct))'", "files": "-F"}
     offers["commands"] = f"-a {fish_text(' '.join(p.name for p in parts))}"
     for part in parts:
         text += f"complete -c {name} -n __{name}_has -a {part.name} -d {fish_text(part.about)}\n"
-    users = {}
-    for part in [top] + parts:
+    options, arguments = {}, {}
+    for part in [top, *parts]:
         for option, words in part.options:
-            users.setdefault((option, tuple(words)), []).append(part.name if part is not top else "")
-    for (option, words), names in users.items():
+            options.setdefault((option, tuple(words)), []).append("" if part is top else part.name)
+    for part in each:
+        for kind in dict.fromkeys(kind for _, kind in part.places):
+            places = " ".join(str(n) for n, (_, k) in enumerate(part.places) if k == kind)
+            many = part.more == kind
+            arguments.setdefault((kind, "" if many else f"__{name}_at {places}"), []).append(part.name)
+    for (option, words), names in options.items():
         line = f"complete -c {name}"
-        line += f" -n {fish_text(' '.join([f'__{name}_has', *filter(None, names)]))}" if parts and names != ["", *(p.name for p in parts)] else ""
+        everywhere = not parts or names[0] == "" != names[-1]
+        line += "" if everywhere else f" -n {fish_text(' '.join([f'__{name}_has', *filter(None, names)]))}"
         line += "".join(f" -l {flag[2:]}" if flag.startswith("--") else f" -s {flag[1:]}" for flag in option.flags)
         line += " -r -F" if option.value == "PATH" else " -x" if option.value else ""
         line += f" -a {fish_text(' '.join(words))}" if words else ""
         text += line + f" -d {fish_text(option.text)}\n"
-    for part in parts or [top]:
-        has = f"__{name}_has {part.name}; and " if parts else ""
-        for number, (_, kind) in enumerate(part.places):
-            many = part.more and number == len(part.places) - 1
-            text += f"complete -c {name} -n {fish_text(has[:-6] if many else has + f'__{name}_at {number}')} {offers[kind]}\n"
+    for (kind, at), names in arguments.items():
+        when = "; and ".join(filter(None, [f"__{name}_has {' '.join(names)}" if parts else "", at]))
+        text += f"complete -c {name} -n {fish_text(when)} {offers[kind]}\n"
     return text
