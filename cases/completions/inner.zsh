@@ -1,20 +1,20 @@
-# Makes an interactive zsh print, in place of listing them, what a completion adds.
+# Makes an interactive zsh write what a completion adds into the file $OFFERED.
+fpath=($COMPLETIONS $fpath)
 autoload -Uz compinit
 compinit -u -D
-bindkey '^I' complete-word
 zstyle ':completion:*' completer _complete
-begin() { print -n '\1BEGIN\n' }
-end() { print -n '\1END\n' }
-compprefuncs=(begin)
-comppostfuncs=(end)
+offer() {
+    zle complete-word
+    print DONE >> $OFFERED
+}
+zle -N offer
+bindkey '^I' offer
 compadd() {
     local -a hits
-    if [[ " ${@[1,(i)(-|--)]} " == *' -'[OAD]' '* ]]; then
-        builtin compadd "$@"
-        return
+    if [[ " $* " != *' -'[OAD]' '* ]]; then
+        builtin compadd -O hits "$@"
+        (( $#hits )) && print -rl -- $hits >> $OFFERED
     fi
-    builtin compadd -A hits "$@"
-    (( $#hits )) && print -rl -- $hits
     builtin compadd "$@"
 }
-print READY
+print READY >> $OFFERED

@@ -1,10 +1,24 @@
-# Prints what zsh offers for the last word of a line: zsh -f offered.zsh FOLDER LINE, with the completions in FOLDER.
-zmodload zsh/zpty
+# zsh -f offered.zsh FOLDER LINE..: for each line what zsh offers for its last word, sorted, with the completions in FOLDER.
+# An interactive zsh on a terminal of its own writes into a file what it offers.
+zmodload zsh/zpty zsh/zselect
+export OFFERED=$(mktemp) COMPLETIONS=$1
+await() {
+    local turn text
+    for turn in {1..1000}; do
+        [[ $(tail -n 1 $OFFERED) == $1 ]] && return
+        zpty -rt z text # (a terminal that isn't read is full after a while)
+        zselect -t 1
+    done
+    print "$1 didn't come"
+}
 zpty z zsh -f -i
-zpty -w z "PS1= PS2= fpath=(${(q)1} \$fpath); cd ${(q)PWD}; stty -echo; source ${(q)0:h}/inner.zsh"
-zpty -r -m z line '*READY*' || exit 1
-zpty -w -n z "$2"$'\t'
-zpty -r -m z text $'*\1BEGIN*\1END*' || exit 1
-text=${text#*$'\1BEGIN'} text=${text%%$'\1END'*}
-print -rn -- "${text//$'\r'/}" | sed '/^$/d'
+zpty -w z "PS1= PS2=; source ${(q)0:A:h}/inner.zsh"
+await READY
+for line in "${@[2,-1]}"; do
+    : > $OFFERED
+    zpty -w -n z $'\C-u'"$line"$'\t'
+    await DONE
+    sed '$d' $OFFERED | LC_ALL=C sort -u | paste -sd '|' | sed 's/|/ | /g'
+done
 zpty -d z
+rm -f $OFFERED

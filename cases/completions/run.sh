@@ -21,7 +21,6 @@ offered_by_fish() {
     HOME=$folder/home fish --no-config -c 'source $argv[1]/(string split " " -- $argv[2])[1].fish; complete -C $argv[2]' \
         "$here" "$1" | cut -f 1 | sed 's|/$||; s/\\ / /g'
 }
-offered_by_zsh() { HOME=$folder/home zsh -f "$cases/offered.zsh" "$here" "$1" | sed 's|/$||'; }
 offered() { "offered_by_$1" "$2" | LC_ALL=C sort | paste -sd '|' | sed 's/|/ | /g'; }
 
 lines=(
@@ -47,13 +46,21 @@ bash -c '. "$1/comtrade.bash"; COMP_WORDS=(comtrade convert --kind = b) COMP_CWO
     COMP_WORDS=(comtrade convert --kind = ascii r) COMP_CWORD=5; _comtrade; echo "--kind=ascii r: ${COMPREPLY[*]}"' - "$here"
 
 mapfile -t wanted < "$folder/bash"
-for shell in fish zsh; do
-    if ! command -v $shell > "$folder/said"; then
-        skipped "no $shell"
-        continue
-    fi
+# compare SHELL: what it offers, line by line on standard input, with what bash does
+compare() {
+    mapfile -t got
     for ((i = 0; i < ${#lines[@]}; i++)); do
-        got=$(offered $shell "${lines[i]}")
-        [ "$got" = "${wanted[i]}" ] || echo "$shell: ${lines[i]}: $got"
+        [ -n "${wanted[i]}" ] || [[ ${got[i]} != -* ]] || continue # zsh offers options where no argument is left
+        [ "${got[i]}" = "${wanted[i]}" ] || echo "$1: ${lines[i]}: ${got[i]}"
     done
-done
+}
+if command -v fish > "$folder/said"; then
+    for line in "${lines[@]}"; do offered fish "$line"; done | compare fish
+else
+    skipped "no fish"
+fi
+if command -v zsh > "$folder/said"; then
+    HOME=$folder/home zsh -f "$cases/offered.zsh" "$here" "${lines[@]}" | sed 's/\\ / /g' | compare zsh
+else
+    skipped "no zsh"
+fi

@@ -51,7 +51,7 @@ complete -c comtrade -n __comtrade_has -a convert -d 'Write the same record, or 
 complete -c comtrade -n __comtrade_has -a import -d 'Read files of 1991, 1999 or 2013 as relays write them, and write a valid pair of 1999'
 complete -c comtrade -n __comtrade_has -a extract -d 'Cut what `dfr replay` printed (standard input) into DIR/recN.cfg and DIR/recN.dat'
 complete -c comtrade -n __comtrade_has -a help -d 'Print this message or the help of the given subcommand(s)'
-complete -c comtrade -n '__comtrade_has show check csv plot page list events compare measure convert import extract' -s h -l help -d 'Print help'
+complete -c comtrade -s h -l help -d 'Print help'
 complete -c comtrade -n '__comtrade_has' -s V -l version -d 'Print version'
 complete -c comtrade -n '__comtrade_has show csv plot page compare measure convert' -l from -x -d 'Start: ms since the trigger (-20), an instant (2024-07-01T10:30:00.35), or row N'
 complete -c comtrade -n '__comtrade_has show csv plot page compare measure convert' -l to -x -d 'End, in the same forms'
