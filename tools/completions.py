@@ -10,7 +10,8 @@ class Part:
 
     def __init__(self, command, keys):
         self.name, self.about = command.name, command.about
-        self.options = [(o, o.choices or (keys if o.value == "KEY" else WORDS.get(o.value, ()))) for o in command.options]
+        values = {"KEY": keys, **WORDS}
+        self.options = [(o, o.choices or values.get(o.value, ())) for o in command.options]
         self.flags = [flag for o in command.options for flag in o.flags]
         self.valued = [o.flags[-1] for o in command.options if o.value]
         self.places = [(a.name, KINDS.get(a.name, "records")) for a in command.arguments]
@@ -108,7 +109,8 @@ def bash(top, parts):
     if parts:
         whole = Part.__new__(Part)
         whole.__dict__.update(top.__dict__, places=[("COMMAND", "commands")])
-        cases = "    [ \"$COMP_CWORD\" -gt 1 ] && word=${COMP_WORDS[1]} || word='' first=1\n    case $word in\n    '')\n"
+        cases = "    [ \"$COMP_CWORD\" -gt 1 ] && word=${COMP_WORDS[1]} || word='' first=1\n"
+        cases += "    case $word in\n    '')\n"
         cases += bash_part(whole, " " * 8) + "        ;;\n"
         cases += "".join(f"    {p.name})\n{bash_part(p, ' ' * 8)}        ;;\n" for p in parts) + "    esac"
     values = {}
@@ -121,8 +123,8 @@ def bash(top, parts):
     lines = "\n".join(f"        {flag}) {text} ;;" for flag, text in values.items())
     used = kinds_of(top, parts)
     branches = "\n".join(" " * 8 + text for kind, text in BRANCHES.items() if kind in used)
-    filled = {"NAME": top.name, "_NAME": f"_{top.name}", "MADE": MADE, "FIRST": "2" if parts else "1", "CASES": cases,
-              "VALUES": lines, "BRANCHES": branches.replace("COMMANDS", " ".join(p.name for p in parts))}
+    filled = {"NAME": top.name, "_NAME": f"_{top.name}", "MADE": MADE, "FIRST": "2" if parts else "1",
+              "CASES": cases, "VALUES": lines, "BRANCHES": branches.replace("COMMANDS", " ".join(p.name for p in parts))}
     return re.sub(r"\b(_?NAME|MADE|FIRST|CASES|VALUES|BRANCHES)\b", lambda m: filled[m[0]], BASH)
 
 # zsh
@@ -131,7 +133,7 @@ def quoted(text):
     return "'" + text.replace("'", "'\\''") + "'"
 
 def zsh_action(kind, name):
-    return {"records": f"_{name}_records", "folders": "_files -/", "files": "_files", "commands": f"_{name}_commands"}[kind]
+    return {"folders": "_files -/", "files": "_files"}.get(kind, f"_{name}_{kind}")
 
 def zsh_specs(part, name):
     """The words of _arguments."""
@@ -148,7 +150,8 @@ def zsh_specs(part, name):
 
 def zsh_call(part, name, indent):
     specs = list(zsh_specs(part, name))
-    return indent + "_arguments -S" + "".join(f" \\\n{indent}    {spec}" for spec in specs) + "\n" if specs else f"{indent}:\n"
+    lines = "".join(f" \\\n{indent}    {spec}" for spec in specs)
+    return f"{indent}_arguments -S{lines}\n" if specs else f"{indent}:\n"
 
 def zsh(top, parts):
     name = top.name
@@ -159,7 +162,8 @@ def zsh(top, parts):
         return text + f"_{name}() {{\n{zsh_call(top, name, '    ')}}}\n\n_{name} \"$@\"\n"
     text += f"_{name}_commands() {{\n    local -a commands=(\n"
     text += "".join(f"        {quoted(p.name + ':' + p.about.replace(':', chr(92) + ':'))}\n" for p in parts)
-    text += f"    )\n    _describe command commands\n}}\n\n_{name}() {{\n    local curcontext=$curcontext state line\n"
+    text += "    )\n    _describe command commands\n}\n\n"
+    text += f"_{name}() {{\n    local curcontext=$curcontext state line\n"
     specs = list(zsh_specs(top, name)) + [quoted(f"1:command:_{name}_commands"), quoted("*::argument:->arguments")]
     text += "    _arguments -C -S" + "".join(f" \\\n        {spec}" for spec in specs) + " && return\n"
     text += "    [[ $state == arguments ]] || return\n    case $words[1] in\n"
@@ -219,10 +223,12 @@ def fish(top, parts):
     used, each = kinds_of(top, parts) | {"places"}, parts or [top]
     valued = " ".join(dict.fromkeys(flag for p in each for flag in p.valued))
     filled = {"NAME": name, "FIRST": "1..2" if parts else "1", "VALUED": valued}
-    text = f"# Completion of {name} for fish. {MADE}\n" + "".join(body for kind, body in FISH.items() if kind in used)
+    text = f"# Completion of {name} for fish. {MADE}\n"
+    text += "".join(body for kind, body in FISH.items() if kind in used)
     text = re.sub(r"(?<=__)NAME|\b(FIRST|VALUED)\b", lambda m: filled[m[0]], text) + f"\ncomplete -c {name} -f\n"
-    offers = {"records": f"-a '(__{name}_records)'", "folders": "-a '(__fish_complete_directories (commandline -ct))'", "files": "-F"}
-    offers["commands"] = f"-a {fish_text(' '.join(p.name for p in parts))}"
+    offers = {"commands": f"-a {fish_text(' '.join(p.name for p in parts))}", "files": "-F",
+              "records": f"-a '(__{name}_records)'",
+              "folders": "-a '(__fish_complete_directories (commandline -ct))'"}
     for part in parts:
         text += f"complete -c {name} -n __{name}_has -a {part.name} -d {fish_text(part.about)}\n"
     options, arguments = {}, {}

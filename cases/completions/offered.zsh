@@ -1,5 +1,5 @@
-# zsh -f offered.zsh FOLDER LINE..: for each line what zsh offers for its last word, sorted, with the completions in FOLDER.
-# An interactive zsh on a terminal of its own writes into a file what it offers.
+# zsh -f offered.zsh FOLDER LINE..: prints for each line what zsh offers for its last word, sorted.
+# FOLDER has the completions. An interactive zsh, on a terminal of its own, writes its offers to a file.
 zmodload zsh/zpty zsh/zselect
 export OFFERED=$(mktemp) COMPLETIONS=$1
 await() {

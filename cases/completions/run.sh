@@ -1,5 +1,5 @@
-# what bash, zsh and fish offer after a line. bash's answers are printed; what another shell that is here offers
-# otherwise is printed too
+# What bash, fish and zsh offer for the last word of a line. The offers of bash are printed, and those
+# of fish and zsh where they differ.
 folder=$(mktemp -d)
 trap 'rm -rf "$folder"' EXIT
 skipped() { echo "skipped: $*" >&2; }
@@ -25,11 +25,13 @@ offered() { "offered_by_$1" "$2" | LC_ALL=C sort | paste -sd '|' | sed 's/|/ | /
 
 lines=(
     'comtrade ' 'comtrade sho' 'comtrade -' 'comtrade help comp'
-    'comtrade show ' 'comtrade show rec1.c' 'comtrade show r' 'comtrade show rec1.cfg ' 'comtrade show rec1.cfg rec1.dat '
+    'comtrade show ' 'comtrade show rec1.c' 'comtrade show r' 'comtrade show rec1.cfg '
+    'comtrade show rec1.cfg rec1.dat '
     'comtrade show --from -20 --c' 'comtrade show --from -20 r' 'comtrade show --encoding ' 'comtrade show --kind '
     'comtrade list sub ' 'comtrade list sub rec1.cfg r' 'comtrade events --j'
     'comtrade convert --kind ' 'comtrade convert --kind b' 'comtrade convert --kind ascii rec1.cfg ' 'comtrade convert -'
-    'comtrade plot --width ' 'comtrade compare --by ' 'comtrade compare rec1.cfg r' 'comtrade import --dates ' 'comtrade import --refuse values-'
+    'comtrade plot --width ' 'comtrade compare --by ' 'comtrade compare rec1.cfg r'
+    'comtrade import --dates ' 'comtrade import --refuse values-'
     'comtrade import --refuse bom --refuse utf' 'comtrade extract ' 'comtrade extract sub '
     'dfr ' 'dfr live --kind ' 'dfr live --kind ascii notes.txt ' 'dfr read ' 'dfr read rec1.cfg '
     'dfrd --kind ' 'dfrd --start ' 'dfrd --ke' 'dfrd --keep ' 'dfrd notes.txt ' 'dfrd --raw --kind ascii notes.txt s'

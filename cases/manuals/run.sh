@@ -1,5 +1,5 @@
-# man pages and completions are what the programs' help gives: all are made anew and compared. A page is made without a
-# warning, and has no line over 80 columns. To make them again: tools/manuals --write
+# The committed man pages and completions are those that the programs' help gives. A page causes no
+# warning and has no line over 80 columns. After a change of the help, run tools/manuals --write.
 folder=$(mktemp -d)
 trap 'rm -rf "$folder"' EXIT
 skipped() { echo "skipped: $*" >&2; }

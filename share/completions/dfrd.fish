@@ -17,14 +17,14 @@ function __dfrd_at
 end
 
 complete -c dfrd -f
-complete -c dfrd -l kind -x -a 'ascii binary' -d 'The data format to write'
-complete -c dfrd -l raw -d 'Scans come as frames'
-complete -c dfrd -l start -x -a 'now' -d 'The instant of the first scan: now, or microseconds since 1970-01-01 00:00:00'
-complete -c dfrd -l orders -r -F -d 'A FIFO, or a file that grows, with lines `trigger` and `rules ..` of an operator'
+complete -c dfrd -l kind -x -a 'ascii binary' -d 'The form of the data files; ascii if not given'
+complete -c dfrd -l raw -d 'Read scans as frames of bytes, not as lines'
+complete -c dfrd -l start -x -a 'now' -d 'The time of the first scan: now (default) or microseconds since 1970-01-01 00:00:00 UTC'
+complete -c dfrd -l orders -r -F -d 'Read an operator\'s orders (`trigger`, `rules ..`) from a FIFO or a growing file'
 complete -c dfrd -l keep -x -d 'Keep at most N records; delete the oldest'
-complete -c dfrd -l keep-bytes -x -d 'Keep at most BYTES bytes of records; delete the oldest'
+complete -c dfrd -l keep-bytes -x -d 'Keep at most this many bytes of records; delete the oldest'
 complete -c dfrd -l check -d 'Check SETUP and DIR, then exit'
-complete -c dfrd -l quiet -d 'No line each minute'
+complete -c dfrd -l quiet -d 'Do not print a line each minute'
 complete -c dfrd -s h -l help -d 'Print help'
 complete -c dfrd -s V -l version -d 'Print version'
 complete -c dfrd -n '__dfrd_at 0' -F
