@@ -1,28 +1,49 @@
-# programs, pages and completions below a folder: what is there, that the programs run, what is completed; words that ask for nothing
+# install: what is put below a folder, that it runs, DESTDIR, uninstalling, and usage errors
 exec 2>&1
 folder=$(mktemp -d)
-trap 'rm -r "$folder"' EXIT
-../install "$folder/place" | sed "s|$folder|FOLDER|"
-(cd "$folder/place" && find . -type f | LC_ALL=C sort)
-"$folder/place/bin/comtrade" --version
-grep -A 1 '^\.SH NAME' "$folder/place/share/man/man1/comtrade.1"
-completed() {
-    bash -c '
-        . "$1/place/share/bash-completion/completions/comtrade"
-        shift
-        COMP_WORDS=(comtrade "$@")
-        COMP_CWORD=$#
-        _comtrade
-        echo ${COMPREPLY[@]}' - "$folder" "$@"
-}
-completed sho
-completed conv
-completed comp
-completed compare --b
-completed measure --r
-completed imp
-completed import --da
-completed csv --s
-completed show --from --c
-../install
+trap 'rm -rf "$folder"' EXIT
+unset DESTDIR
+shown() { sed "s|$folder|FOLDER|"; }
+
+../install "$folder/place" | shown
+(cd "$folder/place" && find . -type f ! -name 'LICENSE-*' | LC_ALL=C sort)
+for licence in ../LICENSE-*; do
+    [ ! -f "$licence" ] || cmp "$licence" "$folder/place/share/doc/comtrade/${licence##*/}"
+done
+for program in dfr dfrd comtrade; do
+    cmp ../crates/$program/out/$program "$folder/place/bin/$program"
+    cmp ../docs/man/$program.1 "$folder/place/share/man/man1/$program.1"
+done
+"$folder/place/bin/comtrade" --version | cut -d' ' -f1
+
+echo "== a file of somebody else stays, and its folder"
+echo mine > "$folder/place/bin/mine"
+../install "$folder/place" > "$folder/said" # again, over what is there
+../install --uninstall "$folder/place" | shown
+(cd "$folder/place" && find . | LC_ALL=C sort)
+
+echo "== a folder that was there stays, one that was made goes"
+mkdir -p "$folder/kept/bin"
+here=$PWD
+(cd "$folder" && "$here/../install" kept && "$here/../install" --uninstall kept) | shown
+find "$folder/kept" | shown
+../install "$folder/made" > "$folder/said" && ../install --uninstall "$folder/made" | shown
+[ ! -e "$folder/made" ] && echo "gone"
+
+echo "== DESTDIR"
+DESTDIR=$folder/stage ../install /usr/local
+[ -x "$folder/stage/usr/local/bin/dfrd" ] && echo "staged"
+DESTDIR=$folder/stage ../install --uninstall /usr/local
+find "$folder/stage" -type f
+
+echo "== usage"
+../install --help
 echo "status $?"
+cd "$folder" || exit 1
+for words in "" "--hlep" "a b" "--uninstall" "--uninstall --help"; do
+    # shellcheck disable=SC2086
+    "$here/../install" $words > said
+    echo "status $?"
+done 2>&1 | grep -v '^ \|^$\|^[Im]\|^and'
+"$here/../install" --uninstall "$folder/nowhere" 2>&1 | shown
+find . -type d | LC_ALL=C sort

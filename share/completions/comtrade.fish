@@ -1,0 +1,81 @@
+# Completion of comtrade for fish. Made by tools/manuals; do not edit.
+
+# whether the line has one of these commands; without any, whether it has none
+function __comtrade_has
+    set -l words (commandline -opc)
+    if set -q words[2]
+        contains -- $words[2] $argv
+    else
+        not set -q argv[1]
+    end
+end
+
+# whether so many arguments come before the word
+function __comtrade_at
+    set -l words (commandline -opc)
+    set -e words[1..2]
+    set -l place 0
+    while set -q words[1]
+        if contains -- $words[1] --from --to --channels --encoding --separator --decimal --width --height --by --at --reference --kind --dates --refuse
+            set -e words[1]
+        else if not string match -q -- '-*' $words[1]
+            set place (math $place + 1)
+        end
+        set -e words[1]
+    end
+    contains $place $argv
+end
+
+# the records and folders, or all files if there are none
+function __comtrade_records
+    set -l found (__fish_complete_path (commandline -ct))
+    set -l records (string match -ri -- '^.*(?:\.cfg|\.dat|\.cff|/)(?:\t.*)?$' $found)
+    if set -q records[1]
+        printf '%s\n' $records
+    else
+        printf '%s\n' $found
+    end
+end
+
+complete -c comtrade -f
+complete -c comtrade -n __comtrade_has -a show -d 'Print what a record holds: names, times, channels, extremes, changes, gaps'
+complete -c comtrade -n __comtrade_has -a check -d 'Print the first error of a pair of 1999, or that it has none'
+complete -c comtrade -n __comtrade_has -a csv -d 'Print the rows as CSV: times, values a*x + b, status channels'
+complete -c comtrade -n __comtrade_has -a plot -d 'Draw the record as an SVG picture'
+complete -c comtrade -n __comtrade_has -a page -d 'Print a self-contained HTML page that shows the record in a browser'
+complete -c comtrade -n __comtrade_has -a list -d 'Print one line per record, sorted by trigger time'
+complete -c comtrade -n __comtrade_has -a events -d 'Print triggers, gaps and changes of status channels, in order of time'
+complete -c comtrade -n __comtrade_has -a compare -d 'Overlay two records in one SVG picture, and print how far same-named channels differ'
+complete -c comtrade -n __comtrade_has -a measure -d 'Print fault inceptions; at a moment or in a window rms, phasors, harmonics, sequences'
+complete -c comtrade -n __comtrade_has -a convert -d 'Write the same record, or a part of it, as a pair with this data format'
+complete -c comtrade -n __comtrade_has -a import -d 'Read files of 1991, 1999 or 2013 as relays write them, and write a valid pair of 1999'
+complete -c comtrade -n __comtrade_has -a extract -d 'Cut what `dfr replay` printed (standard input) into DIR/recN.cfg and DIR/recN.dat'
+complete -c comtrade -n __comtrade_has -a help -d 'Print this message or the help of the given subcommand(s)'
+complete -c comtrade -s h -l help -d 'Print help'
+complete -c comtrade -n '__comtrade_has' -s V -l version -d 'Print version'
+complete -c comtrade -n '__comtrade_has show csv plot page compare measure convert' -l from -x -d 'Start: ms since the trigger (-20), an instant (2024-07-01T10:30:00.35), or row N'
+complete -c comtrade -n '__comtrade_has show csv plot page compare measure convert' -l to -x -d 'End, in the same forms'
+complete -c comtrade -n '__comtrade_has show csv plot page compare measure convert' -l channels -x -d 'Only these, joined by commas: ids (with * as wildcard), 3 (analogue), D5 (status)'
+complete -c comtrade -n '__comtrade_has show csv plot page compare measure convert' -l changed -d 'Only the status channels that change'
+complete -c comtrade -n '__comtrade_has show csv plot page compare measure convert' -l primary -d 'Values of the primary side'
+complete -c comtrade -n '__comtrade_has show csv plot page compare measure convert' -l secondary -d 'Values of the secondary side'
+complete -c comtrade -n '__comtrade_has show csv plot page compare measure convert' -l strict -d 'Accept only files of 1999 as the standard spells them; repair nothing'
+complete -c comtrade -n '__comtrade_has show csv plot page list events compare measure convert' -l encoding -x -a 'utf-8 latin1' -d 'The encoding of names that are not ASCII'
+complete -c comtrade -n '__comtrade_has show check list events measure' -l json -d 'Print JSON, in one line'
+complete -c comtrade -n '__comtrade_has csv' -l separator -x -d 'Cell separator, such as \';\' or tab'
+complete -c comtrade -n '__comtrade_has csv' -l decimal -x -d 'Decimal separator: . or ,'
+complete -c comtrade -n '__comtrade_has plot compare' -l whole -d 'Draw all of a long record, not only the part around the trigger'
+complete -c comtrade -n '__comtrade_has plot compare' -l all -d 'Draw every status channel, also those that do not change'
+complete -c comtrade -n '__comtrade_has plot compare' -l width -x -d 'Width in pixels'
+complete -c comtrade -n '__comtrade_has plot compare' -l height -x -d 'Height in pixels'
+complete -c comtrade -n '__comtrade_has compare' -l by -x -a 'instant trigger' -d 'Align the records by instant (default) or trigger'
+complete -c comtrade -n '__comtrade_has measure' -l at -x -d 'Measure the last whole cycle ending at MOMENT (same forms as --from)'
+complete -c comtrade -n '__comtrade_has measure' -l reference -x -d 'The channel that angles refer to, by id or number'
+complete -c comtrade -n '__comtrade_has convert' -l kind -x -a 'ascii binary' -d 'The data format to write'
+complete -c comtrade -n '__comtrade_has import' -l dates -x -a 'mdy dmy' -d 'Order of month and day in the dates'
+complete -c comtrade -n '__comtrade_has import' -l refuse -x -a 'revision-1991 revision-2013 revision-absent revision-other sides-absent side-empty dates-mdy dates-dmy dates-ambiguous date-form years-2-digits time-24 leap-second fraction-long fraction-form instant-unset trigger-unset trigger-before-first no-timemult lines-2013-dropped status-3-fields number-empty counts-form counts-total index-order range-swapped range-form a-zero exponent-d decimal-comma separator-semicolon trailing-commas blank-lines line-ends-cr line-ends-crcr bom utf-16 cfg-1a texts-not-ascii text-long phase-long unit-empty text-comma rate-line-absent rate-zero rows-fewer rows-more rows-lost row-cut sample-numbers stamps-restart stamps-against-rate stamps-decimal stamps-shifted stamps-ns stamps-absent times-unknown values-decimal values-wide values-unsigned values-rounded missing-marks kind-binary32 kind-float32 kind-other kind-absent dat-1a dat-after-end row-size status-spare-bits big-endian cff cff-form cff-count inf-dropped hdr-dropped' -d 'Write nothing if this repair is needed; may be given several times'
+complete -c comtrade -n '__comtrade_has show check csv plot page compare measure; and __comtrade_at 0 1' -a '(__comtrade_records)'
+complete -c comtrade -n '__comtrade_has list events' -a '(__comtrade_records)'
+complete -c comtrade -n '__comtrade_has convert import; and __comtrade_at 0 1 2' -a '(__comtrade_records)'
+complete -c comtrade -n '__comtrade_has extract; and __comtrade_at 0' -a '(__fish_complete_directories (commandline -ct))'
+complete -c comtrade -n '__comtrade_has help; and __comtrade_at 0' -a 'show check csv plot page list events compare measure convert import extract help'

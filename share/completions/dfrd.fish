@@ -1,0 +1,31 @@
+# Completion of dfrd for fish. Made by tools/manuals; do not edit.
+
+# whether so many arguments come before the word
+function __dfrd_at
+    set -l words (commandline -opc)
+    set -e words[1]
+    set -l place 0
+    while set -q words[1]
+        if contains -- $words[1] --kind --start --orders --keep --keep-bytes
+            set -e words[1]
+        else if not string match -q -- '-*' $words[1]
+            set place (math $place + 1)
+        end
+        set -e words[1]
+    end
+    contains $place $argv
+end
+
+complete -c dfrd -f
+complete -c dfrd -l kind -x -a 'ascii binary' -d 'The form of the data files; ascii if not given'
+complete -c dfrd -l raw -d 'Read scans as frames of bytes, not as lines'
+complete -c dfrd -l start -x -a 'now' -d 'The time of the first scan: now (default) or microseconds since 1970-01-01 00:00:00 UTC'
+complete -c dfrd -l orders -r -F -d 'Read an operator\'s orders (`trigger`, `rules ..`) from a FIFO or a growing file'
+complete -c dfrd -l keep -x -d 'Keep at most N records; delete the oldest'
+complete -c dfrd -l keep-bytes -x -d 'Keep at most this many bytes of records; delete the oldest'
+complete -c dfrd -l check -d 'Check SETUP and DIR, then exit'
+complete -c dfrd -l quiet -d 'Do not print a line each minute'
+complete -c dfrd -s h -l help -d 'Print help'
+complete -c dfrd -s V -l version -d 'Print version'
+complete -c dfrd -n '__dfrd_at 0' -F
+complete -c dfrd -n '__dfrd_at 1' -a '(__fish_complete_directories (commandline -ct))'
