@@ -157,8 +157,8 @@ def save_pair(names: Tuple[str, str], cfg: bytes, dat: bytes, overwrite: bool) -
         for kept, old in reversed(aside):
             if os.path.lexists(kept):
                 _place(kept, old)
-        if isinstance(error, OSError):
-            error.filename, error.filename2 = name, None  # not the temporary one
+        if isinstance(error, OSError) and error.errno is not None:
+            raise OSError(error.errno, error.strerror, name) from None  # not the temporary name
         raise
     finally:
         for made in temporary[:2]:

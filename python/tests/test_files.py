@@ -54,7 +54,7 @@ def test_a_new_pair_in_another_folder(here):
     assert sorted(os.listdir("a.b")) == ["x.cfg", "x.dat"]
     with pytest.raises(FileNotFoundError) as found:
         save(os.path.join("none", "x"))
-    assert found.value.filename == os.path.join("none", "x.dat")
+    assert str(found.value) == f"[Errno 2] No such file or directory: {os.path.join('none', 'x.dat')!r}"
 
 
 @pytest.mark.parametrize("there", [("x.cfg",), ("x.dat",), ("x.cfg", "x.dat")])
