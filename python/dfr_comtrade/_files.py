@@ -132,7 +132,8 @@ def _write(made: str, data: bytes, name: str) -> None:
 
 def save_pair(names: Tuple[str, str], cfg: bytes, dat: bytes, overwrite: bool) -> None:
     """Writes both files under temporary names in their folder, then gives them their names, the data file first. So a configuration file is
-    there only once its data file is complete. If anything fails, the folder is as it was before."""
+    there only once its data file is complete. Old files are moved aside before, so old and new never form a pair. If anything fails, the new
+    files are removed and the old ones put back."""
     folder = os.path.dirname(names[0])
     temporary = [os.path.join(folder, f".dfr-{secrets.token_hex(8)}.tmp") for _ in range(4)]
     placed: List[str] = []

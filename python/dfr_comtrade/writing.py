@@ -129,8 +129,8 @@ def write(
     "x", "x.cfg" and "x.DAT" all mean x.cfg and x.dat. `record` is either a record that has been read, or a list of Analog (then `status` is
     a list of Status). Keyword arguments are those of `write_bytes`; they take precedence over the record.
 
-    If one of both files exists, FileExistsError names it and nothing changes; `overwrite=True` replaces both. If the call fails, the folder
-    is as it was before. Raises the exceptions of `write_bytes`, and OSError."""
+    If one of both files exists, FileExistsError names it and nothing changes; `overwrite=True` replaces both. If writing fails, the new
+    files are removed and the old ones put back. Raises the exceptions of `write_bytes`, and OSError."""
     names = _files.new_pair(path, overwrite)
     analog: Sequence[Any]
     if isinstance(record, Record):
