@@ -84,11 +84,8 @@ def import_hint(cfg: bytes) -> str:
         return f"a single file (.cff); {IMPORT}"
     fields = [field.strip() for field in line.replace(b";", b",").split(b",")]
     year = fields[2] if len(fields) > 2 else b""
-    if year in (b"1991", b"2001", b"2013"):
-        return f"a file of {year.decode()}; {IMPORT}"
-    if not year and len(fields) in (2, 3):
-        return f"no revision year, as in files of 1991; {IMPORT}"
-    return ""
+    is_older = not year and len(fields) in (2, 3)  # a file of 1991 has no year
+    return IMPORT if is_older or year in (b"1991", b"2001", b"2013") else ""
 
 
 def new_pair(path: Name, overwrite: bool) -> Tuple[str, str]:

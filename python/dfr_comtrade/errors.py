@@ -57,7 +57,7 @@ def need_read(answer: int, fault: c.Fault, cfg: bytes, dat: bytes) -> None:
     """Raises unless the pair was read; a fault with its full explanation, and what to do about a file of another revision."""
     if answer in (c.CFG_FAULT, c.DAT_FAULT):
         hint = _files.import_hint(cfg) if answer == c.CFG_FAULT else ""
-        raise _KINDS[answer][0](explain(cfg, dat) + (f" ({hint})" if hint else ""), fault.kind, fault.place, fault.field)
+        raise _KINDS[answer][0](explain(cfg, dat) + (f"; {hint}" if hint else ""), fault.kind, fault.place, fault.field)
     need(answer)
 
 

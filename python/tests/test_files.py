@@ -213,14 +213,22 @@ def test_a_missing_folder(here):
         files.pair_of(os.path.join("none", "a"))
 
 
-@pytest.mark.parametrize("first, hint", [
-    (b"S,D,1999", ""), (b"", ""), (b"S", ""), (b"S,D,1998", ""), (b"S;D;1999", ""), (b"S,D,1999,x", ""),
-    (b"S,D", "no revision year, as in files of 1991"), (b"S,D,\r", "no revision year, as in files of 1991"), (b"S,D,1991", "a file of 1991"),
-    (b"S,D,2001\r", "a file of 2001"), (b"S, D, 2013 ", "a file of 2013"), (b"\xef\xbb\xbfS;D;2013", "a file of 2013"),
-    (b"--- file type: CFG ---", "a single file (.cff)"),
-])
-def test_hints(first, hint):
-    assert files.import_hint(first + b"\n1,1A,0D\n") == (hint and hint + "; run: comtrade import FILE NAME first")
+IMPORT = "run: comtrade import FILE NAME first"
+
+
+@pytest.mark.parametrize("first", [b"S,D,1999", b"S,D,1999\r", b"", b"S", b"S,D,1998", b"S;D;1999", b"S,D,1999,x"])
+def test_no_hint(first):
+    assert files.import_hint(first + b"\n1,1A,0D\n") == ""
+
+
+@pytest.mark.parametrize("first", [b"S,D", b"S,D,\r", b"S,D,1991", b"S,D,2001\r", b"S, D, 2013 ", b"\xef\xbb\xbfS;D;2013"])
+def test_hints(first):
+    assert files.import_hint(first + b"\n1,1A,0D\n") == IMPORT
+
+
+def test_hint_of_a_single_file():
+    assert files.import_hint(b"--- file type: CFG ---\r\nS,D,2013\r\n") == "a single file (.cff); " + IMPORT
+    assert files.single_text("x.cff") == "x.cff: a single file (.cff); " + IMPORT
 
 
 def test_hints_of_relays():
@@ -228,5 +236,4 @@ def test_hints_of_relays():
     if not relays.is_dir():
         pytest.skip("not in the repository")
     hints = {name: files.import_hint((relays / name).read_bytes()) for name in ("RELAY91.CFG", "merging.cfg", "single.cff", "returns.cfg")}
-    assert [hint.partition(";")[0] for hint in hints.values()] == ["no revision year, as in files of 1991", "a file of 2013", "a single file (.cff)", ""]
-    assert files.single_text("single.cff") == "single.cff: a single file (.cff); run: comtrade import FILE NAME first"
+    assert list(hints.values()) == [IMPORT, IMPORT, "a single file (.cff); " + IMPORT, ""]
