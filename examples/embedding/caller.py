@@ -35,7 +35,7 @@ def main(cfg, dat, new_cfg, new_dat):
         print(f"row {row}: {int(rec.times_ns[row])} ns:" + "".join(f" {v:.6f}" if v == v else " -" for v in values) + " /"
               + "".join(f" {ch.bits[row]}" for ch in rec.status))
     made = Path(new_cfg)
-    dfr_comtrade.write(made, rec)
+    dfr_comtrade.write(made, rec, overwrite=True)
     made.with_suffix(".dat").replace(new_dat)
 
 

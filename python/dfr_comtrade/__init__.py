@@ -12,11 +12,10 @@ A record is a pair of files, here fault.cfg and fault.dat:
 Files of 1991 or 2013 and .cff files are not read: convert them first with `comtrade import`.
 """
 import ctypes
-import os
 from pathlib import Path
-from typing import Optional, Union
+from typing import Optional
 
-from . import _library as c
+from . import _files, _library as c
 from ._library import NO_SAMPLE, NO_STAMP, NO_TIME
 from .errors import CfgFault, ComtradeError, DatFault, WriteFault, explain, need_read
 from .record import AnalogChannel, Channels, Rate, Record, StatusChannel
@@ -28,8 +27,6 @@ __all__ = [
     "Status", "StatusChannel", "WriteFault", "explain", "read", "read_bytes", "write", "write_bytes",
 ]
 
-_Path = Union[str, "os.PathLike[str]"]
-
 
 def read_bytes(cfg: bytes, dat: bytes) -> Record:
     """Reads a record from the bytes of its configuration file and its data file. Raises CfgFault, DatFault, MemoryError."""
@@ -38,15 +35,13 @@ def read_bytes(cfg: bytes, dat: bytes) -> Record:
     return Record(at)
 
 
-def _data_of(cfg: Path) -> Path:
-    """The data file with the same name as a configuration file: .dat or .DAT, first the one in the same case of letters."""
-    endings = (".DAT", ".dat") if cfg.suffix.isupper() else (".dat", ".DAT")
-    found = [cfg.with_suffix(ending) for ending in endings]
-    return next((path for path in found if path.exists()), found[0])
-
-
-def read(cfg: _Path, dat: Optional[_Path] = None) -> Record:
-    """Reads a record from its configuration file and its data file. Without `dat`, the data file has the same name, with the ending .dat or
-    .DAT. Raises OSError, CfgFault, DatFault, MemoryError."""
-    path = Path(cfg)
-    return read_bytes(path.read_bytes(), Path(dat if dat is not None else _data_of(path)).read_bytes())
+def read(cfg: _files.Name, dat: Optional[_files.Name] = None) -> Record:
+    """Reads a record from its two files. With one name, this is the name of either file, or the name that they share without .cfg and .dat.
+    The other file is in the same folder; its name may differ in upper and lower case. With two names, exactly these files are read. Raises
+    OSError (FileNotFoundError says what was looked for), CfgFault (also for a single file, .cff), DatFault, MemoryError."""
+    if dat is not None:
+        return read_bytes(Path(cfg).read_bytes(), Path(dat).read_bytes())
+    found, data = _files.pair_of(cfg)
+    if data is None:
+        raise CfgFault(_files.single_text(found))
+    return read_bytes(Path(found).read_bytes(), Path(data).read_bytes())

@@ -2,7 +2,7 @@
 import ctypes
 import os
 
-from . import _library as c
+from . import _files, _library as c
 
 
 class ComtradeError(Exception):
@@ -22,7 +22,7 @@ class ComtradeError(Exception):
 
 
 class CfgFault(ComtradeError):
-    """The configuration file has an error."""
+    """The configuration file has an error, or is of another revision, or both files are one (.cff)."""
 
 
 class DatFault(ComtradeError):
@@ -54,9 +54,10 @@ def explain(cfg: bytes, dat: bytes) -> str:
 
 
 def need_read(answer: int, fault: c.Fault, cfg: bytes, dat: bytes) -> None:
-    """Raises unless the pair was read; a fault with its full explanation."""
+    """Raises unless the pair was read; a fault with its full explanation, and what to do about a file of another revision."""
     if answer in (c.CFG_FAULT, c.DAT_FAULT):
-        raise _KINDS[answer][0](explain(cfg, dat), fault.kind, fault.place, fault.field)
+        hint = _files.import_hint(cfg) if answer == c.CFG_FAULT else ""
+        raise _KINDS[answer][0](explain(cfg, dat) + (f"; {hint}" if hint else ""), fault.kind, fault.place, fault.field)
     need(answer)
 
 

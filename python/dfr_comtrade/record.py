@@ -266,6 +266,18 @@ class Record:
 
     # Names that other Python readers use.
 
+    to_dataframe = to_pandas
+
+    @property
+    def rev_year(self) -> str:
+        """The revision of the standard: always 1999."""
+        return "1999"
+
+    @property
+    def channels_count(self) -> int:
+        """The number of analogue and status channels."""
+        return len(self.analog) + len(self.status)
+
     @property
     def station_name(self) -> str:
         return self.station

@@ -2,12 +2,10 @@
 import array
 import ctypes
 import datetime
-import os
 from dataclasses import dataclass
-from pathlib import Path
 from typing import Any, Optional, Sequence, Tuple, Union
 
-from . import _library as c
+from . import _files, _library as c
 from .errors import need
 from .record import Record, numpy
 
@@ -124,10 +122,16 @@ def _written(setup: c.Setup) -> Tuple[bytes, bytes]:
         c.library.comtrade_free(dat)
 
 
-def write(path: Union[str, "os.PathLike[str]"], record: Union[Record, Sequence[Any]], status: Sequence[Any] = (), **setup: Any) -> None:
-    """Writes a configuration file, `path` with the ending .cfg, and the data file with the same name. `record` is either a record that has
-    been read, or a list of Analog (then `status` is a list of Status). Keyword arguments are those of `write_bytes`; they take precedence
-    over the record. Raises the exceptions of `write_bytes`, and OSError."""
+def write(
+    path: _files.Name, record: Union[Record, Sequence[Any]], status: Sequence[Any] = (), *, overwrite: bool = False, **setup: Any
+) -> None:
+    """Writes a record as `path` with the endings .cfg and .dat. `path` may already have one of them, in upper or lower case; other dots stay:
+    "x", "x.cfg" and "x.DAT" all mean x.cfg and x.dat. `record` is either a record that has been read, or a list of Analog (then `status` is
+    a list of Status). Keyword arguments are those of `write_bytes`; they take precedence over the record.
+
+    If one of both files exists, FileExistsError names it and nothing changes; `overwrite=True` replaces both. If writing fails, the new
+    files are removed and the old ones put back. Raises the exceptions of `write_bytes`, and OSError."""
+    names = _files.new_pair(path, overwrite)
     analog: Sequence[Any]
     if isinstance(record, Record):
         known = {
@@ -138,5 +142,4 @@ def write(path: Union[str, "os.PathLike[str]"], record: Union[Record, Sequence[A
     else:
         analog = record
     cfg, dat = write_bytes(analog, status, **setup)
-    Path(path).with_suffix(".cfg").write_bytes(cfg)
-    Path(path).with_suffix(".dat").write_bytes(dat)
+    _files.save_pair(names, cfg, dat, overwrite)

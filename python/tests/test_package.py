@@ -31,6 +31,7 @@ def test_names_of_other_readers(plain):
     assert (plain.station_name, plain.rec_dev_id) == ("Northfield 110 kV", "Example")
     assert plain.analog_channel_ids == ["UA", "IA", "IB"] and plain.status_channel_ids == ["Breaker open"]
     assert (plain.analog_count, plain.status_count, plain.total_samples, plain.frequency, plain.ft) == (3, 1, 50, 50.0, "BINARY")
+    assert (plain.rev_year, plain.channels_count) == ("1999", 4) and dfr_comtrade.Record.to_dataframe is dfr_comtrade.Record.to_pandas
     assert plain.start_timestamp == FIRST and plain.trigger_timestamp == plain.trigger and plain.trigger_time == 0.02
     assert list(plain.time) == list(plain.times) and plain.analog[0][5] == plain.analog["UA"].values[5]
 
@@ -46,11 +47,44 @@ def test_write_from_arrays(tmp_path):
     ia = dfr_comtrade.Analog("IA", [1, 2, dfr_comtrade.NO_SAMPLE], unit="A", a=0.1)
     trip = dfr_comtrade.Status("Trip", [0, 1, 1])
     for binary in (True, False):
-        dfr_comtrade.write(tmp_path / "x.cfg", [ia], [trip], first=FIRST, station="S", line_freq=60.0, stamps=[0, 500, 1000], binary=binary)
+        words = {"first": FIRST, "station": "S", "line_freq": 60.0, "stamps": [0, 500, 1000], "binary": binary}
+        dfr_comtrade.write(tmp_path / "x.cfg", [ia], [trip], overwrite=not binary, **words)
         rec = dfr_comtrade.read(tmp_path / "x.cfg")
         assert list(rec.analog["IA"].samples) == [1, 2, dfr_comtrade.NO_SAMPLE] and list(rec.status["Trip"].bits) == [0, 1, 1]
         assert rec.analog["IA"].a == 0.1 and rec.line_freq == 60.0 and rec.station == "S" and rec.binary == binary
         assert rec.nrates == 0 and list(rec.times_ns) == [0, 500_000, 1_000_000] and list(rec.stamps) == [0, 500, 1000]
+
+
+def test_names_with_dots(plain, tmp_path):
+    name = "20240701T103000.350625-1"
+    dfr_comtrade.write(tmp_path / name, plain)
+    assert sorted(path.name for path in tmp_path.iterdir()) == [name + ".cfg", name + ".dat"]
+    assert len(dfr_comtrade.read(tmp_path / name)) == len(dfr_comtrade.read(tmp_path / (name + ".dat"))) == 50
+
+
+def test_nothing_is_overwritten(plain, tmp_path):
+    (tmp_path / "x.dat").write_bytes(b"")
+    with pytest.raises(FileExistsError) as found:
+        dfr_comtrade.write(tmp_path / "x.CFG", plain)
+    assert found.value.filename == str(tmp_path / "x.dat") and [path.stat().st_size for path in tmp_path.iterdir()] == [0]
+    with pytest.raises(dfr_comtrade.WriteFault):
+        dfr_comtrade.write(tmp_path / "x", plain, station="a,b", overwrite=True)
+    assert [path.stat().st_size for path in tmp_path.iterdir()] == [0]
+    dfr_comtrade.write(tmp_path / "x", plain, overwrite=True)
+    assert len(dfr_comtrade.read(tmp_path / "X")) == 50
+
+
+def test_files_to_import_first(tmp_path):
+    cfg, dat = (PAIRS / "plain.cfg").read_bytes(), (PAIRS / "plain.dat").read_bytes()
+    first, rest = cfg.split(b"\n", 1)
+    for year in (b"", b",1991", b",2013"):
+        with pytest.raises(dfr_comtrade.CfgFault, match="run: comtrade import FILE NAME first") as found:
+            dfr_comtrade.read_bytes(first.rstrip().rsplit(b",", 1)[0] + year + b"\r\n" + rest, dat)
+        assert found.value.line == 1
+    (tmp_path / "x.cff").write_bytes(b"--- file type: CFG ---\r\n" + cfg)
+    for name in ("x", "x.cff"):
+        with pytest.raises(dfr_comtrade.CfgFault, match="single file .*; run: comtrade import FILE NAME first"):
+            dfr_comtrade.read(tmp_path / name)
 
 
 @pytest.mark.parametrize("number", [0.1, 1e-5, 1 / 3, -123456.789, 5e-324, 1e30, 0.0])
