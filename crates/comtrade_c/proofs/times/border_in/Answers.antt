@@ -20,3 +20,6 @@ returns g c =
     let all : c.loop-k.k ≡ length stamps = omega arith in
     c.border.ensures c.args.head.now (stamp_at stamps) c.loop-k.k c.loop-k.invariant
     ∙ ap (λ n. border c.args.head.now n (stamp_at stamps)) all
+
+pub loop-k-init : goal.loop-k-init
+loop-k-init g c = c.search_of-search.ensures (stamp_at c.args.stamps.now)
