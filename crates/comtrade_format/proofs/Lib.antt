@@ -17,3 +17,4 @@ pub mod ValuePlaces
 pub mod PointedValues
 pub mod ValueParts
 pub mod Borders
+pub mod Cycles

@@ -11,6 +11,7 @@ pub mod Data
 pub mod Floats
 pub mod Times
 pub mod Borders
+pub mod Cycles
 pub mod Values
 pub mod Packed
 pub mod Places

@@ -1,6 +1,8 @@
 //! How many rows a cycle of the line frequency has.
 
-ghost use Rattle.std.specs.Prelude.{◌≡◌, ◌+◌, ◌-◌, ◌*◌, ◌/◌, ◌<◌, ◌≤◌, IfOk};
+ghost use Rattle.std.specs.Prelude.{◌≡◌, ◌+◌, ◌-◌, ◌*◌, ◌/◌, ◌^◌, ◌<◌, ◌≤◌, ◌≤ℤ◌, pos, IfOk, IfSome, unsigned_abs};
+ghost use Rattle.std.specs.Int.{IsGcd};
+ghost use Rattle.comtrade_format.specs.Cycles.{Lasts};
 
 use dfr_channels::Decimal;
 use std::num::nearest_u64_to_f64;
@@ -27,13 +29,12 @@ pub struct Cycle {
 }
 
 /// The greatest common divisor. Numbers of 128 bits take at most 185 steps.
-fn common(x: u128, y: u128) -> u128 {
+fn common(x: u128, y: u128) -> u128
+    ensures { IsGcd x y result }
+{
     let mut greater = x;
     let mut less = y;
-    for _ in 0..200 {
-        if less == 0 {
-            break;
-        }
+    while less != 0 {
         let rest = greater % less;
         greater = less;
         less = rest;
@@ -41,18 +42,34 @@ fn common(x: u128, y: u128) -> u128 {
     greater
 }
 
-/// The number's size times 10^zeros, if it fits in 128 bits.
-fn with_zeros(number: i128, zeros: u8) -> Option<u128> {
-    let mut long = number.unsigned_abs();
-    for _ in 0..zeros {
+/// The number times 10^zeros, if it fits in 128 bits.
+fn with_zeros(number: u128, zeros: u8) -> Option<u128>
+    ensures { IfSome result (λ n. n ≡ number * 10 ^ zeros) }
+{
+    let mut long = number;
+    for i in 0..zeros {
         long = long.checked_mul(10)?;
     }
     Some(long)
 }
 
+/// The number's size in units of the last place that either number has, if it fits in 128 bits.
+fn size_beside(number: Decimal, other: Decimal) -> Option<u128>
+    ensures { IfSome result (λ n. n ≡ unsigned_abs number.units * 10 ^ (other.places - number.places)) }
+{
+    let zeros = other.places().saturating_sub(number.places());
+    with_zeros(number.units().unsigned_abs(), zeros)
+}
+
 /// The quotient in lowest terms, if both of its numbers fit in 64 bits.
-fn reduced(cycles: u128, rows: u128) -> Option<Cycle> {
-    let divisor = common(cycles, rows).max(1);
+fn reduced(cycles: u128, rows: u128) -> Option<Cycle>
+    requires { 0 < cycles }
+    ensures { IfSome result (λ cycle. cycle.cycles * rows ≡ cycle.rows * cycles) }
+{
+    let divisor = common(cycles, rows);
+    if divisor == 0 {
+        return None;
+    }
     Some(Cycle {
         cycles: u64::try_from(cycles / divisor).ok()?,
         rows: u64::try_from(rows / divisor).ok()?,
@@ -60,22 +77,24 @@ fn reduced(cycles: u128, rows: u128) -> Option<Cycle> {
 }
 
 /// Rows per second over cycles per second.
-fn quotient_of(frequency: Decimal, rate: Decimal) -> Option<Cycle> {
-    let cycles = with_zeros(
-        frequency.units(),
-        rate.places().saturating_sub(frequency.places()),
-    )?;
-    let rows = with_zeros(
-        rate.units(),
-        frequency.places().saturating_sub(rate.places()),
-    )?;
+fn quotient_of(frequency: Decimal, rate: Decimal) -> Option<Cycle>
+    ensures { IfSome result (λ cycle. Lasts frequency rate cycle.cycles cycle.rows) }
+{
+    let cycles = size_beside(frequency, rate)?;
+    let rows = size_beside(rate, frequency)?;
+    if cycles == 0 {
+        return None;
+    }
     reduced(cycles, rows)
 }
 
 /// The cycle of a line frequency in Hz at a rate in scans per second (C37.111-1999, 5.3.5, 5.3.6).
 /// Errors, in this order: `NoFrequency`, `NoRate`, `Digits`, `Slow`.
 pub fn cycle_of(frequency: Decimal, rate: Decimal) -> Result<Cycle, CycleFault>
-    ensures { IfOk result (λ cycle. (0 < cycle.cycles) × (3 * cycle.cycles ≤ cycle.rows)) }
+    ensures exact { IfOk result (λ cycle. Lasts frequency rate cycle.cycles cycle.rows) }
+    ensures slow { IfOk result (λ cycle. (0 < cycle.cycles) × (3 * cycle.cycles ≤ cycle.rows)) }
+    ensures no_frequency { result ≡ Err CycleFault.NoFrequency → frequency.units ≤ℤ pos 0 }
+    ensures no_rate { result ≡ Err CycleFault.NoRate → rate.units ≤ℤ pos 0 }
 {
     if frequency.units() <= 0 {
         return Err(CycleFault::NoFrequency);
