@@ -1,13 +1,10 @@
-use Rattle.std.proofs.Common.{◌≡◌, ◌∙◌, length, sym, ap, arith}
-use Rattle.std.specs.Prelude.{option_and_then}
+use Rattle.std.proofs.Common.{◌≡◌, ◌+◌, ◌<◌, ◌∙◌, ℕ, Option, Some, List, length, refl, sym, ap, arith, get_or}
+use Rattle.std.specs.Prelude.{option_and_then, slice_get}
 use Rattle.std.proofs.lemmas.Option.{slice_get-get_or}
-use Rattle.comtrade_format.specs.Borders.{border}
+use Rattle.comtrade_format.specs.Borders.{Seen, border}
 use Rattle.comtrade_c.specs.Writing.{stamp_in}
 use Rattle.comtrade_c.specs.Times.{stamp_at}
 use Rattle.comtrade_c.proofs.times.border_in.Goals as goal
-
-pub loop-k-init : goal.loop-k-init
-loop-k-init g c = c.search_of-search.ensures (stamp_at c.args.stamps.now)
 
 pub loop-k-preserved : goal.loop-k-preserved
 loop-k-preserved g c =
@@ -23,3 +20,6 @@ returns g c =
     let all : c.loop-k.k ≡ length stamps = omega arith in
     c.border.ensures c.args.head.now (stamp_at stamps) c.loop-k.k c.loop-k.invariant
     ∙ ap (λ n. border c.args.head.now n (stamp_at stamps)) all
+
+pub loop-k-init : goal.loop-k-init
+loop-k-init g c = c.search_of-search.ensures (stamp_at c.args.stamps.now)
