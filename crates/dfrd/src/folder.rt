@@ -1,13 +1,20 @@
 //! The folder of records. While `dfrd` runs, a `.cfg` appears only after its `.dat`: a program that
 //! sees a `.cfg` finds a whole pair.
 
-use dfr_station::{Key, Store, Stored, Trouble, put_key, surplus_bytes};
+ghost use Rattle.std.specs.Prelude.{◌+◌, ◌<◌, ◌↔◌, IsTrue};
+
+use crate::outcome::{Reason, complain, reason_of};
+use crate::pair::{Paths, Removal, is_free, paths_of, remove_pair, sync_folder, write_pair};
+use crate::place::Place;
+use dfr_station::{Key, Store, Stored, Trouble, surplus_bytes};
 use std::alloc::{AllocError, Global};
-use std::fs::{File, OpenFile};
-use std::io::{ErrorKind, Write};
+use std::fs::File;
 use std::rt::Files;
-use std::{fs, io};
+use std::sync::{Arc, Wait};
 use thiserror::Error;
+
+/// Bytes that a pair may need beyond its own: the rest of its last blocks, and room for its names.
+const BLOCKS: u64 = 65_536;
 
 /// How many pairs the folder keeps.
 #[derive(Clone, Copy)]
@@ -20,11 +27,11 @@ pub enum Keep {
     Bytes(u64),
 }
 
-/// A store of records that is opened by its path.
+/// A store of records in a folder.
 pub trait Records: Store {
     /// Opens the store. Finishes or removes what an interrupted recording left. Notes the existing
     /// pairs, unless all are kept.
-    fn open(&mut self, path: &str, keep: Keep) -> Result<(), FolderFault>;
+    fn open(&mut self, place: Arc<Place, Global>, keep: Keep) -> Result<(), FolderFault>;
 }
 
 /// Why a folder can't be used for records.
@@ -42,8 +49,8 @@ pub enum FolderFault {
     /// An allocation failed.
     #[error("out of memory")]
     Memory,
-    /// Any other error while the folder was opened, listed or tidied up.
-    #[error("the folder cannot be read or tidied up")]
+    /// Any other error while the folder was opened or listed.
+    #[error("the folder cannot be read")]
     Other,
 }
 
@@ -53,11 +60,22 @@ pub enum FolderFault {
 #[derive(Drop)]
 pub struct Folder<'a, R> {
     pub(crate) rt: &'a R,
-    pub(crate) path: String,
+    /// The folder and its lock; None before it is opened.
+    pub(crate) place: Option<Arc<Place, Global>>,
+    /// How often the lock had been taken anew when the pairs were found.
+    pub(crate) turn: u64,
     pub(crate) keep: Keep,
     pub(crate) pairs: Vec<(Key, u64)>,
-    /// While it is open, no other `dfrd` can use the folder.
-    pub(crate) lock: Option<File>,
+    /// The pairs that can't be removed, and are reported.
+    pub(crate) stuck: Vec<Key>,
+    /// A record whose pair has its names, and the pair's name, while the folder isn't synced.
+    unsynced: Option<(Key, Key)>,
+    /// The record for which old pairs were given up last, and how many bytes they had.
+    given: Option<(Key, u64)>,
+    /// How many pairs were removed since the last record.
+    removed: u64,
+    /// Why the last record could not be stored.
+    reported: Option<Reason>,
 }
 
 impl<'a, R: AllocGlobal> Folder<'a, R> {
@@ -65,151 +83,49 @@ impl<'a, R: AllocGlobal> Folder<'a, R> {
     pub fn new(rt: &'a R) -> Folder<'a, R> {
         Folder {
             rt,
-            path: String::new(rt.alloc()),
+            place: None,
+            turn: 0,
             keep: Keep::All,
             pairs: Vec::new(rt.alloc()),
-            lock: None,
+            stuck: Vec::new(rt.alloc()),
+            unsynced: None,
+            given: None,
+            removed: 0,
+            reported: None,
         }
     }
 }
 
-/// The trouble to report for an error of the system.
-fn trouble_of(error: &io::Error) -> Trouble {
-    match error.kind() {
-        ErrorKind::StorageFull | ErrorKind::QuotaExceeded | ErrorKind::FileTooLarge => {
-            Trouble::Full
-        }
-        ErrorKind::NotFound | ErrorKind::NotADirectory => Trouble::Gone,
-        ErrorKind::PermissionDenied | ErrorKind::ReadOnlyFilesystem => Trouble::Denied,
-        ErrorKind::OutOfMemory => Trouble::Memory,
-        _ => Trouble::Other,
+/// The trouble to report for this reason.
+fn trouble_of(reason: Reason) -> Trouble {
+    match reason {
+        Reason::Full | Reason::Large => Trouble::Full,
+        Reason::Gone => Trouble::Gone,
+        Reason::Denied | Reason::ReadOnly | Reason::Taken => Trouble::Denied,
+        Reason::Memory => Trouble::Memory,
+        Reason::Folder | Reason::Other => Trouble::Other,
     }
 }
 
-/// The path of one file of a pair: the folder, the pair's name and an ending.
-fn path_of(alloc: Global, folder: &str, key: Key, ending: &str) -> Result<String, AllocError> {
-    let mut name = Vec::new(alloc);
-    put_key(&mut name, key)?;
-    let mut path = String::from_str(alloc, folder)?;
-    path.push_str("/")?;
-    if let Ok(name) = str::from_utf8(&name) {
-        path.push_str(name)?;
+/// Whether to give up one more old pair for a record of `size` bytes, after pairs of `given` bytes
+/// were given up for it: a full disk that stays full costs no more pairs than the record needs.
+fn is_short(size: u64, given: u64) -> bool
+    requires { size < 9223372036854775808 }
+    ensures { IsTrue result ↔ (given < size + 65536) }
+{
+    given < size + BLOCKS
+}
+
+/// The sizes of the pairs, in bytes.
+fn sizes_of(alloc: Global, pairs: &[(Key, u64)]) -> Result<Vec<u64>, AllocError> {
+    let mut sizes = Vec::new(alloc);
+    for (_, size) in pairs {
+        sizes.push(*size)?;
     }
-    path.push_str(ending)?;
-    Ok(path)
+    Ok(sizes)
 }
 
-/// The paths of a pair's files under their final names, and while they are written or removed.
-#[derive(Drop)]
-pub(crate) struct Paths {
-    pub(crate) cfg: String,
-    pub(crate) dat: String,
-    cfg_part: String,
-    pub(crate) dat_part: String,
-    /// The configuration file while the pair is removed.
-    gone: String,
-}
-
-/// The paths of the pair with this name.
-pub(crate) fn paths_of(alloc: Global, folder: &str, key: Key) -> Result<Paths, AllocError> {
-    Ok(Paths {
-        cfg: path_of(alloc, folder, key, ".cfg")?,
-        dat: path_of(alloc, folder, key, ".dat")?,
-        cfg_part: path_of(alloc, folder, key, ".cfg.part")?,
-        dat_part: path_of(alloc, folder, key, ".dat.part")?,
-        gone: path_of(alloc, folder, key, ".cfg.gone")?,
-    })
-}
-
-/// Whether no file, folder or link has this path.
-pub(crate) fn is_free<R: Files>(rt: &R, path: &str) -> io::Result<bool> {
-    match fs::symlink_metadata(rt, path) {
-        Ok(_) => Ok(false),
-        Err(error) => {
-            if error.kind() == ErrorKind::NotFound {
-                Ok(true)
-            } else {
-                Err(error)
-            }
-        }
-    }
-}
-
-/// Writes a file and syncs it.
-fn write_synced<R: Files>(rt: &R, path: &str, bytes: &[u8]) -> io::Result<()> {
-    let mut file = File::create(rt, path)?;
-    file.write_all(bytes)?;
-    file.sync_all()
-}
-
-/// Syncs the folder, so that the new names are on the disk. An error is ignored.
-fn sync_folder<R: Files>(rt: &R, path: &str) {
-    if let Ok(folder) = File::open(rt, path) {
-        let _ = folder.sync_all();
-    }
-}
-
-/// Gives the configuration file its final name.
-pub(crate) fn name_config<R: Files>(rt: &R, paths: &Paths) -> io::Result<()> {
-    fs::rename(rt, paths.cfg_part.as_str(), paths.cfg.as_str())
-}
-
-/// Writes both files under their `.part` names and renames them, the data file first. If the
-/// configuration file can't be renamed, the data file is removed.
-fn write_pair<R: Files>(rt: &R, paths: &Paths, cfg: &[u8], dat: &[u8]) -> io::Result<()> {
-    write_synced(rt, paths.dat_part.as_str(), dat)?;
-    write_synced(rt, paths.cfg_part.as_str(), cfg)?;
-    fs::rename(rt, paths.dat_part.as_str(), paths.dat.as_str())?;
-    let named = name_config(rt, paths);
-    if named.is_err() {
-        let _ = fs::remove_file(rt, paths.dat.as_str());
-    }
-    named
-}
-
-/// Removes a pair. Its configuration file is renamed to `.cfg.gone` first, so no `.cfg` is ever
-/// without its data.
-fn remove_pair<R: Files>(rt: &R, paths: &Paths) -> io::Result<()> {
-    fs::rename(rt, paths.cfg.as_str(), paths.gone.as_str())?;
-    finish_removal(rt, paths)
-}
-
-/// Removes the rest of a pair whose configuration file has been renamed to `.cfg.gone`.
-pub(crate) fn finish_removal<R: Files>(rt: &R, paths: &Paths) -> io::Result<()> {
-    if !is_free(rt, paths.dat.as_str())? {
-        fs::remove_file(rt, paths.dat.as_str())?;
-    }
-    fs::remove_file(rt, paths.gone.as_str())
-}
-
-/// Whether neither file of a pair exists.
-fn both_free<R: Files>(rt: &R, paths: &Paths) -> io::Result<bool> {
-    Ok(is_free(rt, paths.cfg.as_str())? && is_free(rt, paths.dat.as_str())?)
-}
-
-/// Removes the `.part` files of a pair, if they exist.
-pub(crate) fn take_back<R: Files>(rt: &R, paths: &Paths) {
-    let _ = fs::remove_file(rt, paths.cfg_part.as_str());
-    let _ = fs::remove_file(rt, paths.dat_part.as_str());
-}
-
-impl<R: Files + AllocGlobal> Folder<'_, R> {
-    /// The first name for this record that no pair has yet, and its paths.
-    fn free_paths(&self, key: Key) -> Result<(Key, Paths), Trouble> {
-        for copy in 1..u64::MAX {
-            let key = Key { copy, ..key };
-            let Ok(paths) = paths_of(self.rt.alloc(), self.path.as_str(), key) else {
-                return Err(Trouble::Memory);
-            };
-            match both_free(self.rt, &paths) {
-                Ok(true) => return Ok((key, paths)),
-                Ok(false) => {}
-                Err(error) => return Err(trouble_of(&error)),
-            }
-        }
-        Err(Trouble::Other)
-    }
-
+impl<R: Files<File = File> + Eprint + AllocGlobal> Folder<'_, R> {
     /// How many of the oldest pairs have to be removed; 0 if an allocation failed.
     fn surplus(&self) -> usize {
         match self.keep {
@@ -226,62 +142,196 @@ impl<R: Files + AllocGlobal> Folder<'_, R> {
         }
     }
 
-    /// Removes the oldest pair, and drops it from the list. Returns whether it still existed, or
-    /// None if there is no pair or it can't be removed.
-    fn remove_oldest(&mut self) -> Option<bool> {
-        let (key, _) = *self.pairs.first()?;
-        let was_there = removed(self.rt, self.path.as_str(), key)?;
-        self.pairs.remove(0);
-        Some(was_there)
+    /// Removes a pair. If it can't be removed, it is reported once.
+    fn removal_of(&mut self, path: &str, key: Key) -> Removal {
+        let Ok(paths) = paths_of(self.rt.alloc(), path, key) else {
+            return Removal::Stuck;
+        };
+        let is_known = self.stuck.contains(&key);
+        let removal = remove_pair(self.rt, path, &paths, is_known);
+        if removal == Removal::Stuck && !is_known {
+            let _ = self.stuck.push(key);
+        }
+        removal
     }
 
-    /// Removes the oldest pairs if there are too many. Returns how many were removed.
-    pub fn remove_surplus(&mut self) -> u64 {
-        let mut count = 0u64;
-        for _ in 0..self.surplus() {
-            match self.remove_oldest() {
-                Some(true) => count = count.saturating_add(1),
-                Some(false) => {}
-                None => break,
+    /// Removes the oldest pair that can be removed, from the index `from` on, but never the newest
+    /// one, and drops it from the list. Returns its index and its size, or None if there is none.
+    fn remove_next(&mut self, path: &str, from: usize) -> Option<(usize, u64)> {
+        let newest = self.pairs.len().saturating_sub(1);
+        for at in from..newest {
+            let (key, size) = *self.pairs.get(at)?;
+            let removal = self.removal_of(path, key);
+            if removal != Removal::Stuck && at < self.pairs.len() {
+                self.pairs.remove(at);
+                if removal == Removal::Done {
+                    self.removed = self.removed.saturating_add(1);
+                }
+                return Some((at, size));
             }
         }
-        count
+        None
     }
-}
 
-/// Removes a pair. Returns false if it no longer exists, and None if it can't be removed.
-fn removed<R: Files + AllocGlobal>(rt: &R, folder: &str, key: Key) -> Option<bool> {
-    let Ok(paths) = paths_of(rt.alloc(), folder, key) else {
-        return None;
-    };
-    match remove_pair(rt, &paths) {
-        Ok(()) => Some(true),
-        Err(error) => (error.kind() == ErrorKind::NotFound).then_some(false),
-    }
-}
-
-/// The sizes of the pairs, in bytes.
-fn sizes_of(alloc: Global, pairs: &[(Key, u64)]) -> Result<Vec<u64>, AllocError> {
-    let mut sizes = Vec::new(alloc);
-    for (_, size) in pairs {
-        sizes.push(*size)?;
-    }
-    Ok(sizes)
-}
-
-impl<R: Files + AllocGlobal> Store for Folder<'_, R> {
-    fn put(&mut self, key: Key, cfg: &[u8], dat: &[u8]) -> Result<Stored, Trouble> {
-        let (key, paths) = self.free_paths(key)?;
-        if let Err(error) = write_pair(self.rt, &paths, cfg, dat) {
-            take_back(self.rt, &paths);
-            return Err(trouble_of(&error));
+    /// Removes the oldest pairs if there are too many. Those that can't be removed are left out.
+    pub(crate) fn remove_surplus(&mut self, path: &str) {
+        let mut from = 0;
+        for _ in 0..u64::MAX {
+            let surplus = self.surplus();
+            if surplus == 0 {
+                return;
+            }
+            for _ in 0..surplus {
+                match self.remove_next(path, from) {
+                    Some((at, _)) => from = at,
+                    None => return,
+                }
+            }
         }
-        sync_folder(self.rt, self.path.as_str());
+    }
+
+    /// Gives up the oldest pair for a record of `size` bytes that the disk has no room for. Returns
+    /// false if no pair is to be given up, or none can be removed.
+    fn give_up(&mut self, path: &str, record: Key, size: u64) -> bool {
+        let before = self.given;
+        let given = match before {
+            Some((key, given)) if key == record => given,
+            _ => 0,
+        };
+        if matches!(self.keep, Keep::All) || !is_short(size.min(u64::MAX / 4), given) {
+            return false;
+        }
+        match self.remove_next(path, 0) {
+            Some((_, freed)) => {
+                self.given = Some((record, given.saturating_add(freed)));
+                true
+            }
+            None => false,
+        }
+    }
+
+    /// The first name for this record that no pair has yet, and its paths.
+    fn free_paths(&self, path: &str, key: Key) -> Result<(Key, Paths), Reason> {
+        for copy in 1..u64::MAX {
+            let key = Key { copy, ..key };
+            let Ok(paths) = paths_of(self.rt.alloc(), path, key) else {
+                return Err(Reason::Memory);
+            };
+            match is_free(self.rt, &paths) {
+                Ok(true) => return Ok((key, paths)),
+                Ok(false) => {}
+                Err(error) => return Err(reason_of(&error)),
+            }
+        }
+        Err(Reason::Other)
+    }
+
+    /// Writes a record's pair. While the disk is full, gives up old pairs, if not all are kept.
+    fn write(
+        &mut self,
+        path: &str,
+        record: Key,
+        paths: &Paths,
+        (cfg, dat): (&[u8], &[u8]),
+    ) -> Result<(), Reason> {
+        let size = (cfg.len() as u64).saturating_add(dat.len() as u64);
+        for _ in 0..u64::MAX {
+            let Err(error) = write_pair(self.rt, path, paths, cfg, dat) else {
+                return Ok(());
+            };
+            let reason = reason_of(&error);
+            if reason != Reason::Full || !self.give_up(path, record, size) {
+                return Err(reason);
+            }
+        }
+        Err(Reason::Full)
+    }
+
+    /// Writes a record's pair, unless it is written and only the folder isn't synced. Returns its
+    /// name. It is only on the disk for good once the folder is synced.
+    fn named(&mut self, path: &str, record: Key, cfg: &[u8], dat: &[u8]) -> Result<Key, Reason> {
+        let unsynced = self.unsynced;
+        if let Some((key, name)) = unsynced
+            && key == record
+        {
+            return Ok(name);
+        }
+        let (name, paths) = self.free_paths(path, record)?;
+        self.write(path, record, &paths, (cfg, dat))?;
+        self.unsynced = Some((record, name));
         if !matches!(self.keep, Keep::All) {
             let size = (cfg.len() as u64).saturating_add(dat.len() as u64);
-            let _ = self.pairs.push((key, size));
+            let _ = self.pairs.push((name, size));
         }
-        let removed = self.remove_surplus();
+        Ok(name)
+    }
+
+    /// Stores a record's pair in the folder with this path, which is locked.
+    fn stored(
+        &mut self,
+        path: &str,
+        record: Key,
+        cfg: &[u8],
+        dat: &[u8],
+    ) -> Result<Stored, Reason> {
+        let key = self.named(path, record, cfg, dat)?;
+        if let Err(error) = sync_folder(self.rt, path) {
+            return Err(reason_of(&error));
+        }
+        self.unsynced = None;
+        self.remove_surplus(path);
+        let removed = self.removed;
+        self.removed = 0;
         Ok(Stored { key, removed })
+    }
+}
+
+impl<R: Files<File = File> + Eprint + AllocGlobal + Clone + Drop + Wait> Folder<'_, R> {
+    /// Makes sure that the folder is the locked one. If another has its name now, takes the lock of
+    /// that one and finds its pairs.
+    fn settle(&mut self, place: &Place) -> Result<(), Reason> {
+        let turn = place.held(self.rt)?;
+        if turn != self.turn {
+            self.unsynced = None;
+            self.find_pairs(place.path.as_str())?;
+            self.turn = turn;
+        }
+        Ok(())
+    }
+
+    /// Stores a record's pair.
+    fn put_in(
+        &mut self,
+        place: &Place,
+        key: Key,
+        cfg: &[u8],
+        dat: &[u8],
+    ) -> Result<Stored, Reason> {
+        self.settle(place)?;
+        self.stored(place.path.as_str(), key, cfg, dat)
+    }
+}
+
+impl<R: Files<File = File> + Eprint + AllocGlobal + Clone + Drop + Wait> Store for Folder<'_, R> {
+    fn put(&mut self, key: Key, cfg: &[u8], dat: &[u8]) -> Result<Stored, Trouble> {
+        let Some(place) = self.place.take() else {
+            return Err(Trouble::Gone);
+        };
+        let stored = self.put_in(&place, key, cfg, dat);
+        let answer = match stored {
+            Ok(stored) => {
+                self.reported = None;
+                Ok(stored)
+            }
+            Err(reason) => {
+                if self.reported != Some(reason) {
+                    self.reported = Some(reason);
+                    let _ = complain(self.rt, place.path.as_str(), reason);
+                }
+                Err(trouble_of(reason))
+            }
+        };
+        self.place = Some(place);
+        answer
     }
 }

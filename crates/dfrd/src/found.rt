@@ -1,14 +1,16 @@
 //! What is in the folder when recording begins: the pairs of earlier recordings, and files that an
 //! interrupted recording left.
 
-use crate::folder::{
-    Folder, FolderFault, Keep, Paths, Records, finish_removal, is_free, name_config, paths_of,
-    take_back,
-};
+use crate::folder::{Folder, FolderFault, Keep, Records};
+use crate::outcome::{Reason, reason_of};
+use crate::pair::{paths_of, recover, sync_folder};
+use crate::place::{Place, fault_of};
 use dfr_station::{Key, key_in};
-use std::fs::{File, OpenOptions, TryLockError};
+use std::alloc::Global;
+use std::fs::{File, OpenOptions};
 use std::io::ErrorKind;
 use std::rt::Files;
+use std::sync::{Arc, Wait};
 use std::{fs, io};
 
 /// What the name of one of our files ends in.
@@ -47,24 +49,31 @@ fn size_of<R: Files>(rt: &R, path: &str) -> u64 {
     }
 }
 
-/// Finishes writing a pair that was interrupted between the two renames: gives its configuration
-/// file the final name. Otherwise removes the `.part` files.
-fn end_writing<R: Files>(rt: &R, paths: &Paths) -> io::Result<()> {
-    if !is_free(rt, paths.dat.as_str())?
-        && is_free(rt, paths.cfg.as_str())?
-        && is_free(rt, paths.dat_part.as_str())?
+/// Tests whether a file can be created in the folder: creates one and removes it. An earlier one
+/// that was left by a kill is removed first.
+fn probe<R: Files + AllocGlobal>(rt: &R, folder: &str) -> io::Result<()> {
+    let mut path = String::from_str(rt.alloc(), folder)?;
+    path.push_str("/.dfrd.part")?;
+    if let Err(error) = fs::remove_file(rt, path.as_str())
+        && error.kind() != ErrorKind::NotFound
     {
-        return name_config(rt, paths);
+        return Err(error);
     }
-    take_back(rt, paths);
-    Ok(())
+    match OpenOptions::new()
+        .write(true)
+        .create_new(true)
+        .open(rt, path.as_str())
+    {
+        Ok(_) => fs::remove_file(rt, path.as_str()),
+        Err(error) => Err(error),
+    }
 }
 
-impl<R: Files + AllocGlobal + Clone + Drop> Folder<'_, R> {
+impl<R: Files<File = File> + Eprint + AllocGlobal + Clone + Drop> Folder<'_, R> {
     /// Our files in the folder, but for the `.dat` files.
-    fn found(&self) -> io::Result<Vec<(Key, Ending)>> {
+    fn found(&self, path: &str) -> io::Result<Vec<(Key, Ending)>> {
         let mut found = Vec::new(self.rt.alloc());
-        for entry in fs::read_dir(self.rt, self.path.as_str())? {
+        for entry in fs::read_dir(self.rt, path)? {
             let Ok(entry) = entry else {
                 continue;
             };
@@ -75,30 +84,36 @@ impl<R: Files + AllocGlobal + Clone + Drop> Folder<'_, R> {
         Ok(found)
     }
 
-    /// Finishes or removes what an interrupted recording left.
-    fn tidy(&self, found: &[(Key, Ending)]) -> io::Result<()> {
+    /// Finishes or removes what an interrupted recording left. What can't be tidied up is reported
+    /// and left.
+    fn tidy(&mut self, path: &str, found: &[(Key, Ending)]) -> io::Result<()> {
+        let mut is_changed = false;
         for (key, ending) in found {
-            let paths = paths_of(self.rt.alloc(), self.path.as_str(), *key)?;
-            match ending {
-                Ending::Config => {}
-                Ending::Part => end_writing(self.rt, &paths)?,
-                Ending::Gone => finish_removal(self.rt, &paths)?,
+            if *ending != Ending::Config {
+                is_changed = true;
+                let paths = paths_of(self.rt.alloc(), path, *key)?;
+                if !recover(self.rt, &paths) {
+                    self.stuck.push(*key)?;
+                }
             }
+        }
+        if is_changed {
+            let _ = sync_folder(self.rt, path);
         }
         Ok(())
     }
 
     /// Finishes or removes what an interrupted recording left. Then notes the existing pairs,
     /// unless all are kept.
-    fn find_pairs(&mut self) -> io::Result<()> {
-        let found = self.found()?;
-        self.tidy(&found)?;
+    fn look_through(&mut self, path: &str) -> io::Result<()> {
+        let found = self.found(path)?;
+        self.tidy(path, &found)?;
         if let Keep::All = self.keep {
             return Ok(());
         }
-        for (key, ending) in self.found()? {
+        for (key, ending) in self.found(path)? {
             if ending == Ending::Config {
-                let size = self.size_of_pair(key)?;
+                let size = self.size_of_pair(path, key)?;
                 self.pairs.push((key, size))?;
             }
         }
@@ -106,23 +121,19 @@ impl<R: Files + AllocGlobal + Clone + Drop> Folder<'_, R> {
         Ok(())
     }
 
-    /// Tests whether a file can be created in the folder: creates one and removes it.
-    fn probe(&self) -> io::Result<()> {
-        let mut path = String::from_str(self.rt.alloc(), self.path.as_str())?;
-        path.push_str("/.dfrd.part")?;
-        match OpenOptions::new()
-            .write(true)
-            .create_new(true)
-            .open(self.rt, path.as_str())
-        {
-            Ok(_) => fs::remove_file(self.rt, path.as_str()),
-            Err(error) => Err(error),
+    /// Forgets the pairs of another folder, and looks through this one.
+    pub(crate) fn find_pairs(&mut self, path: &str) -> Result<(), Reason> {
+        self.pairs.clear();
+        self.stuck.clear();
+        match self.look_through(path) {
+            Ok(()) => Ok(()),
+            Err(error) => Err(reason_of(&error)),
         }
     }
 
     /// The size of both files of a pair, in bytes.
-    fn size_of_pair(&self, key: Key) -> io::Result<u64> {
-        let paths = paths_of(self.rt.alloc(), self.path.as_str(), key)?;
+    fn size_of_pair(&self, path: &str, key: Key) -> io::Result<u64> {
+        let paths = paths_of(self.rt.alloc(), path, key)?;
         Ok(size_of(self.rt, paths.cfg.as_str()).saturating_add(size_of(
             self.rt,
             paths.dat.as_str(),
@@ -130,45 +141,25 @@ impl<R: Files + AllocGlobal + Clone + Drop> Folder<'_, R> {
     }
 }
 
-/// Why the folder can't be used, from an error of the system.
-fn fault_of(error: &io::Error) -> FolderFault {
-    match error.kind() {
-        ErrorKind::NotFound | ErrorKind::NotADirectory => FolderFault::Gone,
-        ErrorKind::PermissionDenied | ErrorKind::ReadOnlyFilesystem => FolderFault::Denied,
-        ErrorKind::OutOfMemory => FolderFault::Memory,
-        _ => FolderFault::Other,
-    }
+/// Whether an error shows that nothing can be written. A full disk is not refused: it may have room
+/// when the first record comes.
+fn is_denied(error: &io::Error) -> bool {
+    matches!(reason_of(error), Reason::Denied | Reason::ReadOnly)
 }
 
-/// Opens the folder and locks it. On a file system without locks it is open but not locked.
-fn locked<R: Files<File = File>>(rt: &R, path: &str) -> Result<File, FolderFault> {
-    let folder = match File::open(rt, path) {
-        Ok(folder) => folder,
-        Err(error) => return Err(fault_of(&error)),
-    };
-    match folder.try_lock() {
-        Err(TryLockError::WouldBlock) => Err(FolderFault::Taken),
-        Ok(()) | Err(TryLockError::Error(_)) => Ok(folder),
-    }
-}
-
-impl<R: Files<File = File> + AllocGlobal + Clone + Drop> Records for Folder<'_, R> {
-    fn open(&mut self, path: &str, keep: Keep) -> Result<(), FolderFault> {
-        self.lock = Some(locked(self.rt, path)?);
-        let Ok(path) = String::from_str(self.rt.alloc(), path) else {
-            return Err(FolderFault::Memory);
-        };
-        self.path = path;
+impl<R: Files<File = File> + Eprint + AllocGlobal + Clone + Drop + Wait> Records for Folder<'_, R> {
+    fn open(&mut self, place: Arc<Place, Global>, keep: Keep) -> Result<(), FolderFault> {
         self.keep = keep;
-        // a full disk is not refused: it may have room when the first record comes
-        if let Err(error) = self.probe()
-            && fault_of(&error) == FolderFault::Denied
+        if let Err(error) = probe(self.rt, place.path.as_str())
+            && is_denied(&error)
         {
             return Err(FolderFault::Denied);
         }
-        match self.find_pairs() {
+        let found = self.find_pairs(place.path.as_str());
+        self.place = Some(place);
+        match found {
             Ok(()) => Ok(()),
-            Err(error) => Err(fault_of(&error)),
+            Err(reason) => Err(fault_of(reason)),
         }
     }
 }

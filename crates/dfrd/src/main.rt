@@ -7,25 +7,26 @@ mod operator;
 mod options;
 mod outcome;
 mod output;
+mod pair;
+mod place;
 mod record;
 mod words;
 
 use crate::folder::{Folder, Records};
-use crate::operator::{WAITING, follow, open_orders};
+use crate::operator::{Follower, WAITING, Waker, follower_of, open_orders};
 use crate::outcome::{complain, out_of_memory};
-use crate::output::Lines;
-use crate::record::{keep_of, plan_of, record};
-use crate::words::{Answer, answer_of};
+use crate::output::{lines_of, write_lines};
+use crate::place::{Place, watch};
+use crate::record::{Plan, keep_of, plan_of, record};
+use crate::words::{Answer, Asked, answer_of};
 use comtrade_io::{ToolFault, fault_of, put, put_safe};
-use dfr_station::Printer;
 use rtrb::{Consumer, RingBuffer};
-use std::alloc::AllocError;
-use std::io::{ErrorKind, Read};
+use std::alloc::{AllocError, Global};
+use std::fs::File;
+use std::io::ErrorKind;
 use std::process::ExitCode;
 use std::rt::{Env, Files};
-use std::sync::Wait;
-use std::thread::Threads;
-use std::time::Clock;
+use std::sync::Arc;
 use std::{env, io, thread};
 
 /// Prints a usage error in printable characters. Returns the exit status.
@@ -77,80 +78,94 @@ fn print_text<R: Print>(rt: &R, text: &str) -> u8 {
     }
 }
 
-/// Starts the thread that reads the operator's file and puts the bytes into a queue. The thread
-/// ends with the program. Returns the consumer of the queue, or the exit status if the thread can't
-/// be started.
-fn followed<
-    R: Files + Eprint + AllocGlobal + Clone + Drop + Threads + Wait + Clock + Send + 'static,
->(rt: &R, path: &str) -> Result<Consumer<u8>, u8>
-where
-    R::File: Send + 'static,
-{
-    let mut file = match open_orders(rt, path) {
-        Ok(file) => file,
+/// The operator's file, and what follows it and wakes who follows it. None if that isn't possible;
+/// then the reason is printed.
+fn followed<R: Files<File = File> + Eprint + AllocGlobal>(
+    rt: &R,
+    path: &str,
+) -> Option<(Consumer<u8>, Follower, Waker)> {
+    let orders = match open_orders(rt, path, true) {
+        Ok(orders) => orders,
         Err(error) => {
-            return Err(complain(rt, path, fault_of(error.kind(), ToolFault::Input)));
+            complain(rt, path, fault_of(error.kind(), ToolFault::Input));
+            return None;
         }
     };
-    let Ok((mut bytes, operator)) = RingBuffer::new(rt.alloc(), WAITING) else {
-        return Err(out_of_memory(rt));
+    let Ok((bytes, operator)) = RingBuffer::new(rt.alloc(), WAITING) else {
+        out_of_memory(rt);
+        return None;
     };
-    let Ok(clock) = rt.clone() else {
-        return Err(out_of_memory(rt));
+    let Ok((follower, waker)) = follower_of(rt.alloc(), path, orders, bytes) else {
+        out_of_memory(rt);
+        return None;
     };
-    match thread::spawn(rt, move || follow(&clock, &mut file, &mut bytes)) {
-        Ok(_) => Ok(operator),
-        Err(_) => Err(out_of_memory(rt)),
-    }
+    Some((operator, follower, waker))
 }
 
-/// Runs the program with these arguments. Returns the exit status.
-fn run<
-    I: Read + Send,
-    K: Records + Send,
-    P: Printer + Send,
-    R: Files
-        + Print
-        + Eprint
-        + AllocGlobal
-        + Clone
-        + Drop
-        + Threads
-        + Wait
-        + Clock
-        + Send
-        + Sync
-        + 'static,
->(rt: &R, words: &[String], input: &mut I, records: &mut K, printer: &mut P) -> u8
-where
-    R::File: Send + 'static,
-{
-    let Ok(texts) = texts_of(rt, words) else {
-        return out_of_memory(rt);
-    };
-    let asked = match answer_of(rt.alloc(), &texts) {
+/// A recording that may begin.
+#[derive(Drop)]
+struct Ready<'a> {
+    asked: Asked<'a>,
+    plan: Plan,
+    place: Arc<Place, Global>,
+    operator: Option<Consumer<u8>>,
+    following: Option<(Follower, Waker)>,
+}
+
+/// Checks and opens what these arguments name. Returns the exit status if nothing is to be recorded.
+fn made_ready<'a, K: Records, R: Files<File = File> + Print + Eprint + AllocGlobal>(
+    rt: &R,
+    texts: &'a [&'a str],
+    records: &mut K,
+) -> Result<Ready<'a>, u8> {
+    let asked = match answer_of(rt.alloc(), texts) {
         Ok(Answer::Do(asked)) => asked,
-        Ok(Answer::Print(text)) => return print_text(rt, text.as_str()),
-        Ok(Answer::Refuse(text)) => return refuse_words(rt, text.as_str()),
-        Err(_) => return out_of_memory(rt),
+        Ok(Answer::Print(text)) => return Err(print_text(rt, text.as_str())),
+        Ok(Answer::Refuse(text)) => return Err(refuse_words(rt, text.as_str())),
+        Err(_) => return Err(out_of_memory(rt)),
     };
     let Some(plan) = plan_of(rt, &asked) else {
-        return 1;
+        return Err(1);
     };
-    if let Err(fault) = records.open(asked.folder, keep_of(&asked)) {
-        return complain(rt, asked.folder, fault);
+    let place = match Place::open(rt, asked.folder) {
+        Ok(place) => place,
+        Err(fault) => return Err(complain(rt, asked.folder, fault)),
+    };
+    let Ok(other) = Arc::try_clone(&place) else {
+        return Err(out_of_memory(rt));
+    };
+    if let Err(fault) = records.open(other, keep_of(&asked)) {
+        return Err(complain(rt, asked.folder, fault));
     }
     if asked.is_check {
-        return 0;
+        return Err(0);
     }
-    let operator = match asked.orders {
-        Some(path) => match followed(rt, path) {
-            Ok(operator) => Some(operator),
-            Err(status) => return status,
-        },
-        None => None,
+    let mut ready = Ready {
+        asked,
+        plan,
+        place,
+        operator: None,
+        following: None,
     };
-    record(rt, &asked, &plan, operator, input, records, printer)
+    if let Some(path) = asked.orders {
+        let Some((operator, follower, waker)) = followed(rt, path) else {
+            return Err(1);
+        };
+        ready.operator = Some(operator);
+        ready.following = Some((follower, waker));
+    }
+    Ok(ready)
+}
+
+/// A copy of the runtime for a thread that is not waited for: it ends with the program.
+fn copy_of<R: Eprint + Clone>(rt: &R) -> Option<R> {
+    match rt.clone() {
+        Ok(copy) => Some(copy),
+        Err(_) => {
+            out_of_memory(rt);
+            None
+        }
+    }
 }
 
 fn main(rt: HostRuntime) -> ExitCode {
@@ -158,10 +173,54 @@ fn main(rt: HostRuntime) -> ExitCode {
         Ok(words) => words,
         Err(error) => return ExitCode::from(refuse_start(&rt, error.kind())),
     };
-    let mut folder = Folder::new(&rt);
-    let mut lines = Lines {
-        rt: &rt,
-        is_closed: false,
+    let Ok(texts) = texts_of(&rt, &words) else {
+        return ExitCode::from(out_of_memory(&rt));
     };
-    ExitCode::from(run(&rt, &words, &mut rt.reader(), &mut folder, &mut lines))
+    let mut folder = Folder::new(&rt);
+    let ready = match made_ready(&rt, &texts, &mut folder) {
+        Ok(ready) => ready,
+        Err(status) => return ExitCode::from(status),
+    };
+    let Ready {
+        asked,
+        plan,
+        place,
+        operator,
+        following,
+    } = ready;
+    let Ok((mut lines, mut waiting, progress)) = lines_of(&rt) else {
+        return ExitCode::from(out_of_memory(&rt));
+    };
+    let (Some(one), Some(two), Some(three), Some(four)) = (
+        copy_of(&rt),
+        copy_of(&rt),
+        copy_of(&rt),
+        copy_of(&rt),
+    ) else {
+        return ExitCode::from(1);
+    };
+    let mut started = thread::spawn(
+        &rt,
+        move || write_lines(&one, &mut waiting, &progress),
+    ).is_ok();
+    started = started && thread::spawn(&rt, move || watch(&two, &place)).is_ok();
+    if let Some((mut follower, waker)) = following {
+        started = started && thread::spawn(&rt, move || follower.follow(&three)).is_ok();
+        started = started && thread::spawn(&rt, move || waker.wake(&four)).is_ok();
+    }
+    if !started {
+        return ExitCode::from(out_of_memory(&rt));
+    }
+    let mut input = rt.reader();
+    let status = record(
+        &rt,
+        &asked,
+        &plan,
+        operator,
+        &mut input,
+        &mut folder,
+        &mut lines,
+    );
+    lines.finish();
+    ExitCode::from(status)
 }

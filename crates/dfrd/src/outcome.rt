@@ -2,6 +2,69 @@
 
 use comtrade_io::put_safe;
 use std::fmt::Display;
+use std::io;
+use std::io::ErrorKind;
+use thiserror::Error;
+
+/// Why the system doesn't do something with a file or a folder.
+#[derive(Clone, Copy, Debug, PartialEq, Eq, Error)]
+pub enum Reason {
+    /// No file or folder has this name, or a file stands in a folder's place.
+    #[error("no such file or folder")]
+    Gone,
+    /// The system denies access.
+    #[error("no permission")]
+    Denied,
+    /// Nothing can be written on this file system.
+    #[error("a read-only file system")]
+    ReadOnly,
+    /// The disk is full, or a quota is used up.
+    #[error("no space left")]
+    Full,
+    /// A limit on the size of a file.
+    #[error("above the limit on the size of a file")]
+    Large,
+    /// A folder stands in a file's place.
+    #[error("is a folder")]
+    Folder,
+    /// Another `dfrd` has locked the folder.
+    #[error("in use by another dfrd")]
+    Taken,
+    /// An allocation failed.
+    #[error("out of memory")]
+    Memory,
+    /// Any other error.
+    #[error("an error of the system")]
+    Other,
+}
+
+/// The reason that an error of the system names.
+pub(crate) fn reason_of(error: &io::Error) -> Reason {
+    match error.kind() {
+        ErrorKind::NotFound | ErrorKind::NotADirectory => Reason::Gone,
+        ErrorKind::PermissionDenied => Reason::Denied,
+        ErrorKind::ReadOnlyFilesystem => Reason::ReadOnly,
+        ErrorKind::StorageFull | ErrorKind::QuotaExceeded => Reason::Full,
+        ErrorKind::FileTooLarge => Reason::Large,
+        ErrorKind::IsADirectory => Reason::Folder,
+        ErrorKind::OutOfMemory => Reason::Memory,
+        _ => Reason::Other,
+    }
+}
+
+/// What can't be done with a file, and why.
+#[derive(Clone, Copy, Debug, PartialEq, Eq, Error)]
+pub(crate) enum FileFault {
+    /// A file of a pair that is removed.
+    #[error("cannot be removed: {0}")]
+    Removed(Reason),
+    /// A file that an interrupted recording left.
+    #[error("cannot be tidied up: {0}")]
+    Tidied(Reason),
+    /// The operator's file.
+    #[error("cannot be read: {0}")]
+    Read(Reason),
+}
 
 /// Prints that an allocation failed, without allocating. Returns the exit status, 1.
 pub(crate) fn out_of_memory<R: Eprint>(rt: &R) -> u8 {

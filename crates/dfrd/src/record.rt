@@ -21,6 +21,12 @@ use std::time::Clock;
 /// The greatest size of a set-up file: 512 MiB.
 const LIMIT: usize = 536_870_912;
 
+/// How many scans may wait for the trigger thread, with those that left the ring.
+const LANE: u64 = 65_568;
+
+/// The bytes of what doesn't depend on the set-up: queues of events and of lines.
+const FIXED: u64 = 4_000_000;
+
 /// A set-up that was checked.
 #[derive(Drop)]
 pub(crate) struct Plan {
@@ -45,7 +51,31 @@ fn frame_of(recorder: &Recorder<Global>) -> usize {
     frame_len(layout.analog().len(), layout.status().len())
 }
 
-/// Prints what would be recorded: channels, rate, rules, size of a frame, and limits.
+/// The most bytes of memory that these scans need while they are recorded, in megabytes, rounded up:
+/// those of the ring, of the open record, of the records that wait, of the one that is written with
+/// its two files, and those that wait for the trigger thread. A scan of k analogue channels and m
+/// status channels takes at most 8 k + m + 112 bytes, a row of its files 7 k + 2 m + 24.
+fn megabytes_of(analog: usize, status: usize, pre: u32, longest: u32, shelf: u32) -> u64 {
+    let (k, m) = (analog as u64, status as u64);
+    let scan = k.saturating_mul(8).saturating_add(m).saturating_add(112);
+    let row = k
+        .saturating_mul(7)
+        .saturating_add(m.saturating_mul(2))
+        .saturating_add(24);
+    let records = (shelf as u64)
+        .saturating_add(2)
+        .saturating_mul(longest as u64);
+    let scans = records.saturating_add(pre as u64).saturating_add(LANE);
+    let files = row.saturating_mul(longest as u64).saturating_mul(2);
+    let bytes = scans
+        .saturating_mul(scan)
+        .saturating_add(files)
+        .saturating_add(FIXED);
+    bytes / 1_000_000 + 1
+}
+
+/// Prints what would be recorded: channels, rate, rules, size of a frame, limits, and the most memory
+/// that this needs.
 pub(crate) fn print_judged<R: Print>(rt: &R, recorder: &Recorder<Global>) {
     let layout = recorder.layout();
     let limits = recorder.limits();
@@ -58,8 +88,10 @@ pub(crate) fn print_judged<R: Print>(rt: &R, recorder: &Recorder<Global>) {
     let longest = limits.longest();
     let shelf = limits.shelf();
     let frame = frame_of(recorder);
+    let memory = megabytes_of(analog, status, pre, longest, shelf);
     let _ = println!(rt; "analog {analog} status {status} rate {rate} rules {rules} frame {frame}");
     let _ = println!(rt; "pre {pre} post {post} longest {longest} shelf {shelf}");
+    let _ = println!(rt; "memory {memory} MB at most");
 }
 
 /// Reads and checks the set-up. With `--check`, prints what would be recorded. If the set-up is
