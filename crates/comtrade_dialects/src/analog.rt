@@ -121,7 +121,10 @@ fn numbers_of<A: Allocator + Copy>(
     shape: Shape<'_>,
 ) -> Result<Numbers, ImportFault> {
     let (parts, line) = (shape.parts, shape.line);
-    let a = decimal_or(notes, mark, line, parts.at(5), ("a: 1", 1))?;
+    if parts.at(5).is_empty() {
+        return Err(at(line, Why::NoFactor));
+    }
+    let a = decimal_of(notes, mark, line, parts.at(5))?;
     if a.units() == 0 {
         notes.tell(Key::AZero, Place::Cfg(line), &[])?;
     }
@@ -220,13 +223,14 @@ fn fields_of(row: Row<'_>) -> Result<Parts<'_>, ImportFault> {
     }
 }
 
-/// The channel in a line; `place` is its number, and whether the file is of 1991.
-pub(crate) fn analog_of<A: Allocator + Copy>(
+/// The channel in a line, and its id as it is there; `place` is its number, and whether the file is
+/// of 1991.
+pub(crate) fn analog_of<'a, A: Allocator + Copy>(
     notes: &mut Notes<A>,
     mark: u8,
-    row: Row<'_>,
+    row: Row<'a>,
     place: (u64, bool),
-) -> Result<(AnalogChannel<A>, Said), ImportFault> {
+) -> Result<(AnalogChannel<A>, Said, &'a [u8]), ImportFault> {
     let (number, is_old) = place;
     let parts = fields_of(row)?;
     let is_short = parts.all == 10 || is_old && parts.full <= 10;
@@ -244,5 +248,6 @@ pub(crate) fn analog_of<A: Allocator + Copy>(
         range: numbers.range,
         line: row.number,
     };
-    Ok((channel_of(notes, shape, number, numbers)?, said))
+    let channel = channel_of(notes, shape, number, numbers)?;
+    Ok((channel, said, parts.at(1)))
 }

@@ -4,6 +4,7 @@ use crate::data::plan_of;
 use crate::draft::{Channels, Draft, Range};
 use crate::fault::ImportFault;
 use crate::kinds::Form;
+use crate::marks::marks_of;
 use crate::note::{Notes, Place};
 use crate::readings::rows_of;
 use crate::row::Plan;
@@ -11,6 +12,7 @@ use crate::scaled::{settle_channels, tell_errors};
 use crate::span::Bounds;
 use crate::stamps::{Times, Track, times_of};
 use crate::survey::{Ground, Survey, survey_of};
+use crate::wraps::undo_wraps;
 use comtrade_format::{File, Head, Kind, Rate, Row};
 use dfr_channels::{Decimal, Items};
 use std::alloc::Allocator;
@@ -51,7 +53,10 @@ fn body_of<A: Allocator + Copy>(
     draft: &mut Draft<A>,
     ground: Ground<'_>,
 ) -> Result<Body<A>, ImportFault> {
-    let survey = survey_of(alloc, notes, ground)?;
+    let mut survey = survey_of(alloc, notes, ground)?;
+    if draft.rates.list.is_empty() {
+        undo_wraps(notes, &mut survey.ticks, draft.timemult)?;
+    }
     let times = times_in(alloc, notes, draft, &survey, ground.is_text())?;
     let form = draft.form;
     let Channels {
@@ -132,21 +137,25 @@ fn bounds_of(is_text: bool) -> Bounds {
     }
 }
 
-/// Which channels have unsigned samples, and the min of each channel.
+/// Which channels have unsigned samples, the min of each channel, and in which 99,999 marks a
+/// missing value.
 #[derive(Drop)]
 struct Ranges<A: Allocator> {
     unsigned: Vec<bool, A>,
     lows: Vec<i64, A>,
+    marks: Vec<bool, A>,
 }
 
 fn ranges_of<A: Allocator + Copy>(
     alloc: A,
     draft: &Draft<A>,
-    is_short: bool,
+    plan: Plan<'_>,
 ) -> Result<Ranges<A>, ImportFault> {
+    let is_short = plan.form() == Form::Binary;
     let mut ranges = Ranges {
         unsigned: Vec::new(alloc),
         lows: Vec::new(alloc),
+        marks: marks_of(alloc, plan, draft.channels.counts(), draft.revision)?,
     };
     for (channel, said) in draft.channels.analog.iter().zip(draft.channels.said.iter()) {
         let low = match said.range {
@@ -174,6 +183,7 @@ fn ground_of<'a, A: Allocator>(
         bounds: bounds_of(plan.form().is_text()),
         unsigned: &ranges.unsigned,
         lows: &ranges.lows,
+        marks: &ranges.marks,
     }
 }
 
@@ -185,7 +195,7 @@ pub(crate) fn file_of<A: Allocator + Copy>(
     dat: &[u8],
 ) -> Result<File<A>, ImportFault> {
     let plan = plan_of(notes, &draft, dat)?;
-    let ranges = ranges_of(alloc, &draft, plan.form() == Form::Binary)?;
+    let ranges = ranges_of(alloc, &draft, plan)?;
     let ground = ground_of(&draft, plan, &ranges);
     let mut body = body_of(alloc, notes, &mut draft, ground)?;
     let nrates = u32::try_from(body.rates.len()).unwrap_or(u32::MAX);

@@ -6,7 +6,7 @@ use crate::draft::Draft;
 use crate::fault::{ImportFault, Why};
 use crate::key::Key;
 use crate::kinds::Form;
-use crate::look::{Look, look_as, look_at};
+use crate::look::{Look, follow, look_as, look_at};
 use crate::note::{Notes, Place};
 use crate::row::{Cells, Counts, Plan};
 use crate::text::{has_only, without_empty_end};
@@ -32,11 +32,12 @@ fn mark_of(text: &[u8]) -> u8 {
     }
 }
 
-/// A data file, how many channels its rows have, and the notes so far.
+/// A data file, how many channels its rows have, how many rows are declared, and the notes so far.
 #[derive(Drop)]
 struct Data<'a, 'n, A: Allocator> {
     bytes: &'a [u8],
     counts: Counts,
+    last: Option<u64>,
     notes: &'n mut Notes<A>,
 }
 
@@ -117,6 +118,38 @@ impl<'a, A: Allocator + Copy> Data<'a, '_, A> {
         self.text_plan()
     }
 
+    /// Refuses data declared as BINARY whose rows prove to have samples of 32 bits. With one
+    /// analogue channel they may also be 16 bits and two spare bytes.
+    fn refuse_wide(&self) -> Result<(), ImportFault> {
+        let size = Form::Binary32.row_size(self.counts.k, self.counts.m);
+        for is_big in [false, true] {
+            if look_at(self.bytes, Form::Binary32, size, is_big).is_proved() {
+                let why = if self.counts.k == 1 {
+                    Why::WideOrSpare
+                } else {
+                    Why::Wide
+                };
+                return Err(ImportFault::Whole(why));
+            }
+        }
+        Ok(())
+    }
+
+    /// The plan of whole rows whose numbers do not increase by one. Refused if the numbers follow
+    /// no other pattern and there are more or fewer rows than declared.
+    fn unproved(&mut self, own: Look<'a>) -> Result<Plan<'a>, ImportFault> {
+        let rows = own.packed.bytes.len().checked_div(own.packed.size);
+        let is_said = match (rows, self.last) {
+            (Some(rows), Some(last)) => rows as u64 == last,
+            _ => false,
+        };
+        if is_said || follow(own.packed, self.last.unwrap_or(0)) {
+            self.packed(own)
+        } else {
+            Err(ImportFault::Whole(Why::NoPattern))
+        }
+    }
+
     /// The plan of data that prove to have another form than declared.
     fn proved(&mut self, form: Form) -> Result<Option<Plan<'a>>, ImportFault> {
         let size = form.row_size(self.counts.k, self.counts.m);
@@ -124,6 +157,9 @@ impl<'a, A: Allocator + Copy> Data<'a, '_, A> {
         if big.is_proved() {
             self.tell(Key::BigEndian, "")?;
             return Ok(Some(self.packed(big)?));
+        }
+        if form == Form::Binary && self.counts.k != 0 {
+            self.refuse_wide()?;
         }
         let spare = look_at(self.bytes, form, size.saturating_add(2), false);
         if spare.is_proved() {
@@ -150,7 +186,7 @@ impl<'a, A: Allocator + Copy> Data<'a, '_, A> {
             return Ok(plan);
         }
         if own.is_whole {
-            return self.packed(own);
+            return self.unproved(own);
         }
         if !own.runs {
             return Err(ImportFault::Whole(Why::Length));
@@ -183,6 +219,7 @@ pub(crate) fn plan_of<'a, A: Allocator + Copy>(
     let mut dat = Data {
         bytes,
         counts: draft.channels.counts(),
+        last: draft.rates.last,
         notes,
     };
     match draft.form {

@@ -35,6 +35,8 @@ pub(crate) struct Clock {
     /// It has a point without digits.
     pub is_odd: bool,
     pub has_comma: bool,
+    /// A colon precedes its decimal places.
+    pub has_colon: bool,
 }
 
 /// A whole number of at most nine digits; it may have blanks around it.
@@ -204,6 +206,7 @@ pub(crate) fn clock_of(text: &[u8]) -> Option<Clock> {
         is_long: 6 < digits.len(),
         is_odd: has_point && digits.is_empty(),
         has_comma: rest.contains(&b','),
+        has_colon: rest.contains(&b':'),
     })
 }
 

@@ -28,8 +28,12 @@ pub enum Why {
     Commas,
     #[error("a status channel must have 3 or 5 fields")]
     StatusFields,
+    #[error("the fourth field may be the component or the normal state")]
+    Normal,
     #[error("a field is not a valid number")]
     Number,
+    #[error("the multiplier a is missing")]
+    NoFactor,
     #[error("the side must be P or S")]
     Side,
     #[error("a bit must be 0 or 1")]
@@ -50,6 +54,10 @@ pub enum Why {
     Kind,
     #[error("the data type is unclear: the data could be of two types or of none")]
     NoKind,
+    #[error("the data type is unclear: the rows fit BINARY32 and FLOAT32, but not BINARY")]
+    Wide,
+    #[error("the data type is unclear: the rows fit BINARY with two spare bytes, BINARY32 and FLOAT32")]
+    WideOrSpare,
     #[error("unknown text after the last line")]
     Extra,
     #[error("the number of fields does not match the channel counts")]
@@ -58,6 +66,10 @@ pub enum Why {
     Value,
     #[error("the data size does not match the channel counts, and the row numbers indicate no other row size")]
     Length,
+    #[error("the row numbers follow no pattern, and the number of rows is not endsamp")]
+    NoPattern,
+    #[error("the time stamp is below an earlier one, and there is no rate")]
+    StampBack,
     #[error("the data have no rows")]
     NoRow,
     #[error("the channel needs a multiplier or offset that a configuration file cannot hold")]

@@ -8,6 +8,7 @@ use crate::draft::{Channels, Draft, Names, Revision};
 use crate::ending::ending_of;
 use crate::fault::{ImportFault, Why};
 use crate::field::{Parts, joint_of};
+use crate::ids::Ids;
 use crate::key::Key;
 use crate::lines::{Reader, Row, at, decimal_or, next_row, text_of};
 use crate::note::{Notes, Place};
@@ -94,17 +95,26 @@ fn channels_of<A: Allocator + Copy>(
         said: Vec::new(reader.alloc),
         status: Vec::new(reader.alloc),
     };
+    let mut ids = Ids::new(reader.alloc);
     let wanted = if is_old { 10 } else { 13 };
     for i in 0..counts.0 {
         let row = next_row(&mut reader.cursor, reader.mark, reader.notes, wanted)?;
-        let place = (i.saturating_add(1), is_old);
-        let (channel, said) = analog_of(reader.notes, reader.mark, row, place)?;
+        let number = i.saturating_add(1);
+        let (mut channel, said, text) = analog_of(
+            reader.notes,
+            reader.mark,
+            row,
+            (number, is_old),
+        )?;
+        ids.set_apart(reader.notes, &mut channel.id, text, (row.number, number))?;
         channels.analog.push(channel)?;
         channels.said.push(said)?;
     }
     for i in 0..counts.1 {
         let row = next_row(&mut reader.cursor, reader.mark, reader.notes, 5)?;
-        let channel = status_of(reader.notes, row, i.saturating_add(1), is_old)?;
+        let number = i.saturating_add(1);
+        let (mut channel, text) = status_of(reader.notes, row, number, is_old)?;
+        ids.set_apart(reader.notes, &mut channel.id, text, (row.number, number))?;
         channels.status.push(channel)?;
     }
     Ok(channels)

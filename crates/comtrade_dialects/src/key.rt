@@ -33,6 +33,8 @@ pub enum Key {
     FractionLong,
     /// A decimal point without digits after the seconds.
     FractionForm,
+    /// A colon instead of a decimal point before the fraction of a second.
+    FractionColon,
     /// An empty or zero date was changed to 01/01/1970.
     InstantUnset,
     /// No trigger time; the time of the first row is used.
@@ -45,12 +47,16 @@ pub enum Key {
     Lines2013Dropped,
     /// Status lines without phase and component.
     Status3Fields,
+    /// Status lines without component; the last field is the normal state.
+    Status4Fields,
     /// An empty number; which value is used.
     NumberEmpty,
     /// Channel counts in another order or with spaces.
     CountsForm,
     /// The total is not the sum of both counts; the sum is used.
     CountsTotal,
+    /// The number of rates or a last row is not written as a whole number.
+    RatesForm,
     /// Channels were renumbered in the order of their lines.
     IndexOrder,
     /// Min and max were swapped.
@@ -89,6 +95,10 @@ pub enum Key {
     UnitEmpty,
     /// A comma in a text was replaced.
     TextComma,
+    /// NUL bytes at the ends of texts were left out.
+    TextNul,
+    /// Different ids would become equal; a number was appended.
+    IdsAlike,
     /// No rate line after nrates 0.
     RateLineAbsent,
     /// A rate of 0; nrates becomes 0, and times come from the time stamps.
@@ -111,6 +121,8 @@ pub enum Key {
     StampsDecimal,
     /// Time stamps were shifted so that the first is 0.
     StampsShifted,
+    /// Time stamps overflowed at 2^32; the later ones were raised.
+    StampsWrapped,
     /// Time stamps are in nanoseconds.
     StampsNs,
     /// No time stamps; times come from the rate.
@@ -170,7 +182,7 @@ impl Key {
 }
 
 /// All keys.
-static ALL: [Key; 76] = [
+static ALL: [Key; 82] = [
     Key::Revision1991,
     Key::Revision2013,
     Key::RevisionAbsent,
@@ -186,15 +198,18 @@ static ALL: [Key; 76] = [
     Key::LeapSecond,
     Key::FractionLong,
     Key::FractionForm,
+    Key::FractionColon,
     Key::InstantUnset,
     Key::TriggerUnset,
     Key::TriggerBeforeFirst,
     Key::NoTimemult,
     Key::Lines2013Dropped,
     Key::Status3Fields,
+    Key::Status4Fields,
     Key::NumberEmpty,
     Key::CountsForm,
     Key::CountsTotal,
+    Key::RatesForm,
     Key::IndexOrder,
     Key::RangeSwapped,
     Key::RangeForm,
@@ -214,6 +229,8 @@ static ALL: [Key; 76] = [
     Key::PhaseLong,
     Key::UnitEmpty,
     Key::TextComma,
+    Key::TextNul,
+    Key::IdsAlike,
     Key::RateLineAbsent,
     Key::RateZero,
     Key::RowsFewer,
@@ -225,6 +242,7 @@ static ALL: [Key; 76] = [
     Key::StampsAgainstRate,
     Key::StampsDecimal,
     Key::StampsShifted,
+    Key::StampsWrapped,
     Key::StampsNs,
     Key::StampsAbsent,
     Key::TimesUnknown,

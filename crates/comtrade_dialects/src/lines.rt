@@ -7,7 +7,7 @@ use crate::key::Key;
 use crate::note::{Notes, Place};
 use crate::num::spelled_of;
 use crate::spelled::{cut_to, plain_of};
-use crate::text::{put, put_number};
+use crate::text::{put, put_number, without_nuls};
 use dfr_channels::{Decimal, Items};
 use std::alloc::{AllocError, Allocator};
 
@@ -134,6 +134,19 @@ pub(crate) fn tell_empty<A: Allocator + Copy>(
     notes.tell(Key::NumberEmpty, Place::Cfg(line), what.as_bytes())
 }
 
+/// A text without the NUL bytes at its end, which are noted.
+fn unpadded<'a, A: Allocator + Copy>(
+    notes: &mut Notes<A>,
+    line: u64,
+    text: &'a [u8],
+) -> Result<&'a [u8], AllocError> {
+    let inner = without_nuls(text);
+    if inner.len() < text.len() {
+        notes.tell_text(Key::TextNul, Place::Cfg(line), inner)?;
+    }
+    Ok(inner)
+}
+
 /// A text of at most this many bytes. A longer one is cut; the number, if any, is appended to it.
 pub(crate) fn text_of<A: Allocator + Copy>(
     notes: &mut Notes<A>,
@@ -143,6 +156,7 @@ pub(crate) fn text_of<A: Allocator + Copy>(
     number: Option<u64>,
 ) -> Result<Items<u8, A>, ImportFault> {
     let alloc = notes.allocator();
+    let text = unpadded(notes, line, text)?;
     let plain = plain_of(alloc, text)?;
     let place = Place::Cfg(line);
     if plain.is_spelled {
@@ -173,6 +187,7 @@ pub(crate) fn phase_of<A: Allocator + Copy>(
     text: &[u8],
 ) -> Result<Items<u8, A>, ImportFault> {
     let alloc = notes.allocator();
+    let text = unpadded(notes, line, text)?;
     let plain = plain_of(alloc, text)?;
     let whole = cut_to(&plain.bytes, plain.bytes.len());
     if 2 < whole.len() {

@@ -60,3 +60,31 @@ impl Look<'_> {
 pub(crate) fn look_as(dat: &[u8], form: Form, counts: Counts) -> Look<'_> {
     look_at(dat, form, form.row_size(counts.k, counts.m), false)
 }
+
+/// The greatest gap between row numbers that is taken for lost rows, unless the file declares more
+/// rows.
+const GAP: u64 = 65_536;
+
+/// Whether the row numbers follow a pattern: each is the same as the previous one or above it by no
+/// more than a plausible gap, or numbering restarts at 0 or 1. All the same is a pattern only if
+/// that is 0 or 1. `rows` is the declared number of rows.
+pub(crate) fn follow(packed: Packed<'_>, rows: u64) -> bool {
+    let gap = GAP.max(rows);
+    let mut before: Option<u64> = None;
+    let mut rises = false;
+    for row in packed.bytes.chunks_exact(packed.size.max(8)) {
+        let number = u64::from(number_at(row, 0, packed.is_big));
+        if let Some(before) = before {
+            let follows = before <= number && number <= before.saturating_add(gap);
+            if 1 < number && !follows {
+                return false;
+            }
+            rises = rises || before < number;
+        }
+        before = Some(number);
+    }
+    match before {
+        Some(number) => rises || number < 2,
+        None => false,
+    }
+}

@@ -10,7 +10,7 @@ use crate::key::Key;
 use crate::lines::{Reader, Row, at, decimal_of, decimal_or, next_row, tell_empty};
 use crate::note::Place;
 use comtrade_format::Rate;
-use dfr_channels::Decimal;
+use dfr_channels::{Decimal, integer_of};
 use std::alloc::Allocator;
 
 /// A whole number of at least 0.
@@ -21,6 +21,11 @@ fn count_of<A: Allocator + Copy>(
 ) -> Result<u64, ImportFault> {
     let text = row.parts.at(index);
     let number = decimal_of(reader.notes, reader.mark, row.number, text)?;
+    if integer_of(text).is_none() {
+        reader
+            .notes
+            .tell_text(Key::RatesForm, Place::Cfg(row.number), text)?;
+    }
     match whole_of(number) {
         Some(n) if 0 <= n => Ok(u64::try_from(n).unwrap_or(u64::MAX)),
         _ => Err(at(row.number, Why::Number)),

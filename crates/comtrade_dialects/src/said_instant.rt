@@ -67,6 +67,9 @@ fn tell_clock<A: Allocator + Copy>(
     if clock.is_odd {
         notes.tell_text(Key::FractionForm, place, text)?;
     }
+    if clock.has_colon {
+        notes.tell_text(Key::FractionColon, place, text)?;
+    }
     if clock.has_comma {
         notes.tell_text(Key::DecimalComma, place, text)?;
     }

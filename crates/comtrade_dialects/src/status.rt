@@ -10,29 +10,46 @@ use dfr_channels::{StatusChannel, bit_of, free_bit_of};
 use std::alloc::Allocator;
 
 /// The layout of a line.
-#[derive(Clone, Copy, PartialEq, Eq)]
+#[derive(Clone, Copy)]
 enum Shape {
     /// Number, id, phase, component, normal.
     Full,
+    /// Number, id, phase, normal.
+    NoComponent,
     /// Number, id, normal.
     Short,
 }
 
-fn shape_of(parts: Parts<'_>) -> Option<Shape> {
-    if parts.full == 5 || parts.all == 5 || parts.full == 4 {
-        return Some(Shape::Full);
+/// The layout of a line whose last field that is not empty is the fourth.
+fn shape_of_four(parts: Parts<'_>) -> Result<Shape, Why> {
+    if bit_of(parts.at(3)).is_none() || parts.all == 5 {
+        return Ok(Shape::Full);
+    }
+    if parts.all == 4 {
+        Ok(Shape::NoComponent)
+    } else {
+        Err(Why::Normal)
+    }
+}
+
+fn shape_of(parts: Parts<'_>) -> Result<Shape, Why> {
+    if parts.full == 4 {
+        return shape_of_four(parts);
+    }
+    if parts.full == 5 || parts.all == 5 {
+        return Ok(Shape::Full);
     }
     if 5 < parts.full || parts.all < 3 {
-        return None;
+        return Err(Why::StatusFields);
     }
     let third = parts.at(2);
     if parts.all == 3 || bit_of(third).is_some() {
-        return Some(Shape::Short);
+        return Ok(Shape::Short);
     }
     if 5 < parts.all {
-        Some(Shape::Full)
+        Ok(Shape::Full)
     } else {
-        None
+        Err(Why::StatusFields)
     }
 }
 
@@ -51,39 +68,54 @@ fn told_apart<'a>(parts: &Parts<'a>) -> Option<Parts<'a>> {
     Some(parts.joined(joint))
 }
 
-/// The channel in a line.
-pub(crate) fn status_of<A: Allocator + Copy>(
+/// The phase, the component and the normal state in a line. Notes a layout without some of them.
+fn rest_of<'a, A: Allocator + Copy>(
     notes: &mut Notes<A>,
-    row: Row<'_>,
+    parts: Parts<'a>,
+    line: u64,
+    is_old: bool,
+) -> Result<(&'a [u8], &'a [u8], &'a [u8]), ImportFault> {
+    let shape = match shape_of(parts) {
+        Ok(shape) => shape,
+        Err(why) => return Err(at(line, why)),
+    };
+    match shape {
+        Shape::Full => Ok((parts.at(2), parts.at(3), parts.at(4))),
+        Shape::NoComponent => {
+            notes.tell(Key::Status4Fields, Place::Cfg(line), &[])?;
+            Ok((parts.at(2), &[], parts.at(3)))
+        }
+        Shape::Short => {
+            if !is_old {
+                notes.tell(Key::Status3Fields, Place::Cfg(line), &[])?;
+            }
+            Ok((&[], &[], parts.at(2)))
+        }
+    }
+}
+
+/// The channel in a line, and its id as it is there.
+pub(crate) fn status_of<'a, A: Allocator + Copy>(
+    notes: &mut Notes<A>,
+    row: Row<'a>,
     number: u64,
     is_old: bool,
-) -> Result<StatusChannel<A>, ImportFault> {
+) -> Result<(StatusChannel<A>, &'a [u8]), ImportFault> {
     let line = row.number;
     let parts = told_apart(&row.parts).unwrap_or(row.parts);
-    let Some(shape) = shape_of(parts) else {
-        return Err(at(line, Why::StatusFields));
-    };
+    let (phase, component, normal) = rest_of(notes, parts, line, is_old)?;
     tell_index(notes, line, parts.at(0), number)?;
     let id = text_of(notes, line, parts.at(1), 64, Some(number))?;
-    let is_full = shape == Shape::Full;
-    if !is_full && !is_old {
-        notes.tell(Key::Status3Fields, Place::Cfg(line), &[])?;
-    }
-    let empty: &[u8] = &[];
-    let (phase, component, normal) = if is_full {
-        (parts.at(2), parts.at(3), parts.at(4))
-    } else {
-        (empty, empty, parts.at(2))
-    };
     let phase = phase_of(notes, line, phase)?;
     let component = text_of(notes, line, component, 64, None)?;
-    match free_bit_of(normal) {
-        Some(normal) => Ok(StatusChannel {
-            id,
-            phase,
-            component,
-            normal,
-        }),
-        None => Err(at(line, Why::Bit)),
-    }
+    let Some(normal) = free_bit_of(normal) else {
+        return Err(at(line, Why::Bit));
+    };
+    let channel = StatusChannel {
+        id,
+        phase,
+        component,
+        normal,
+    };
+    Ok((channel, parts.at(1)))
 }

@@ -5,7 +5,6 @@ use crate::float_span::FloatSpan;
 use crate::key::Key;
 use crate::kinds::Form;
 use crate::note::{Notes, Place};
-use crate::num::Num;
 use crate::numbers::Tick;
 use crate::packed_row::{float_at, read_float_row};
 use crate::row::{Cells, Counts, Packed, Plan, Rows, Step, Stop};
@@ -32,6 +31,8 @@ pub(crate) struct Ground<'a> {
     /// The min of each channel; if it is above -32,768, then -32,768 is not a sample. The least
     /// number if the channel declares no min that 1999 can hold; otherwise 999,999 is not a sample.
     pub lows: &'a [i64],
+    /// Whether 99,999 marks a missing value in the text of each channel.
+    pub marks: &'a [bool],
 }
 
 impl<'a> Ground<'a> {
@@ -90,15 +91,23 @@ fn tell_row<A: Allocator + Copy>(
 /// Whether a value is a foreign mark of a missing value: BINARY's mark in ASCII data, if the
 /// channel's range excludes it, or nines in all six characters of a value, if the range
 /// excludes them.
-fn is_foreign_mark(ground: Ground<'_>, channel: usize, num: Num) -> bool {
+fn is_foreign_mark(ground: Ground<'_>, channel: usize, whole: Option<i64>) -> bool {
     let Some(low) = ground.lows.get(channel) else {
         return false;
     };
-    match num.whole() {
+    match whole {
         Some(-32_768) => -32_768 < *low,
         Some(999_999) => *low != i64::MIN,
         _ => false,
     }
+}
+
+/// The mark of a missing value in ASCII data (clause 6).
+const MISSING: i64 = 99_999;
+
+/// Whether a value is the mark of a missing value in this channel.
+fn is_own_mark(ground: Ground<'_>, channel: usize, whole: Option<i64>) -> bool {
+    whole == Some(MISSING) && ground.marks.get(channel).copied() == Some(true)
 }
 
 /// The next row; marks of missing values are replaced by missing values.
@@ -117,9 +126,11 @@ pub(crate) fn next_cells<A: Allocator + Copy>(
     let mut has_mark = false;
     for (i, value) in cells.values.iter_mut().enumerate() {
         if let Some(num) = *value {
-            if is_foreign_mark(ground, i, num) {
+            let whole = num.whole();
+            let is_foreign = is_foreign_mark(ground, i, whole);
+            if is_foreign || is_own_mark(ground, i, whole) {
                 *value = None;
-                has_mark = true;
+                has_mark = has_mark || is_foreign;
             }
         }
     }

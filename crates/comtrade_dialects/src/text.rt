@@ -46,6 +46,15 @@ pub(crate) fn without_empty_end(text: &[u8], mark: u8) -> &[u8] {
     }
 }
 
+/// A text without the NUL bytes at its end.
+pub(crate) fn without_nuls(text: &[u8]) -> &[u8] {
+    let mut inner = text;
+    while let [rest @ .., 0] = inner {
+        inner = rest;
+    }
+    inner
+}
+
 /// The position of the first of these bytes.
 pub(crate) fn place_of(text: &[u8], bytes: &[u8]) -> Option<usize> {
     for (i, b) in text.iter().enumerate() {

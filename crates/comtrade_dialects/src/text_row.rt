@@ -28,9 +28,6 @@ fn is_mark(text: &[u8]) -> bool {
         || body.starts_with(b"1.#")
 }
 
-/// The mark of a missing value in ASCII data (clause 6).
-const MISSING: i64 = 99_999;
-
 fn push_value<A: Allocator>(
     cells: &mut Cells<A>,
     text: &[u8],
@@ -41,10 +38,7 @@ fn push_value<A: Allocator>(
             cells.odd.has_points = cells.odd.has_points || spelled.is_pointed;
             cells.odd.has_fortran = cells.odd.has_fortran || spelled.is_fortran;
             cells.odd.has_commas = cells.odd.has_commas || spelled.has_comma;
-            let is_missing = spelled.num.whole() == Some(MISSING);
-            cells
-                .values
-                .push(if is_missing { None } else { Some(spelled.num) })?;
+            cells.values.push(Some(spelled.num))?;
             Ok(())
         }
         None if is_mark(text) => {
