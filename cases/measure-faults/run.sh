@@ -11,7 +11,6 @@ said() {
     echo "status $?"
 }
 said twice
-said --json twice
 said missing
 said units
 said rates

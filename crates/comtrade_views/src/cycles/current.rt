@@ -167,7 +167,8 @@ impl<A: Allocator> Current<A> {
 
     /// Whether it departs in a row from its waveform. The value differs from that of one cycle before,
     /// and by more than the waveform turns from cycle to cycle where the frequency is not nominal:
-    /// the difference is not that of the cycle before.
+    /// the difference is not that of the cycle before; half as large again, where that is not
+    /// known.
     fn departs(
         &self,
         place: &Place<'_, A>,
@@ -185,7 +186,7 @@ impl<A: Allocator> Current<A> {
         let twice = length.twice_earlier(self.value(place.twice_near), self.value(place.twice_far));
         match twice {
             Some(twice) => self.bound < (now - earlier - (earlier - twice)).abs(),
-            None => true,
+            None => self.bound * 1.5 < (now - earlier).abs(),
         }
     }
 
