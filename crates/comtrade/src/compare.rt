@@ -1,5 +1,6 @@
 //! `comtrade compare`: two records in one picture.
 
+use crate::around::rms_of;
 use crate::load::{Inputs, file_spelled, pair_of, read_pair};
 use crate::part::{Taken, taken_of};
 use crate::survey::say_repairs;
@@ -102,13 +103,17 @@ fn put_compared<A: Allocator + Copy, W: Write>(
     w: &mut W,
     said: &mut Vec<u8, A>,
 ) -> Result<bool, ToolFault> {
+    let rms = rms_of(alloc, &one.file, &one.times)?;
+    let other_rms = rms_of(alloc, &other.file, &other.times)?;
     let first = Timed {
         file: &one.file,
         times: &one.times,
+        rms: &rms,
     };
     let second = Timed {
         file: &other.file,
         times: &other.times,
+        rms: &other_rms,
     };
     match compare_over(alloc, first, second, options, w)? {
         None => Ok(true),

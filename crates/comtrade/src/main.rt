@@ -2,6 +2,7 @@
 //! to the libraries. Each command prints its errors on standard error and returns the exit status.
 #![tactic(auto)]
 
+mod around;
 mod compare;
 mod extract;
 mod find;

@@ -2,8 +2,11 @@
 
 use crate::part::Taken;
 use crate::view::Room;
+use comtrade_format::File;
 use comtrade_io::{Cursor, Part, ToolFault, Viewed, put, write_out};
-use comtrade_views::{MeasureFault, Measuring, Shown, measure_text};
+use comtrade_views::{
+    MeasureFault, Measuring, Shown, measure_text, put_outside, times_since_trigger,
+};
 use std::alloc::Allocator;
 use std::io::Write;
 
@@ -40,6 +43,20 @@ pub(crate) fn measured_part<'a, A: Allocator>(
         to: Some(at),
         ..part
     }))
+}
+
+/// Whether the moment is outside the record or in its first cycle, with the error in `said`.
+pub(crate) fn is_outside<A: Allocator + Copy>(
+    alloc: A,
+    file: &File<A>,
+    cursor: Cursor<'_>,
+    said: &mut Vec<u8, A>,
+) -> Result<bool, ToolFault> {
+    let Some(at) = cursor.at else {
+        return Ok(false);
+    };
+    let times = times_since_trigger(alloc, file)?;
+    Ok(put_outside(said, file, &times, at)?)
 }
 
 /// Prints what is measured in a record, or in the part that is asked for; false if that is refused,

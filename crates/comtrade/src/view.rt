@@ -1,12 +1,13 @@
 //! What is printed of a pair of files.
 
+use crate::around::rms_of;
 use crate::load::file_spelled;
-use crate::measure::{measure_over, measured_part};
+use crate::measure::{is_outside, measure_over, measured_part};
 use crate::part::{Taken, taken_of};
 use comtrade_diagnostics::{Pair, check_over, put_remarks};
 use comtrade_format::File;
 use comtrade_io::{Part, Picture, ToolFault, View, Viewed, put, write_out};
-use comtrade_plot::{PlotOptions, Timed, page_over, plot_over};
+use comtrade_plot::{PlotOptions, Rms, Timed, page_over, plot_over};
 use comtrade_views::{Spelling, csv_over, put_text, show_json, show_over};
 use std::alloc::{AllocError, Allocator, Global};
 use std::io::Write;
@@ -73,8 +74,15 @@ fn put_view<A: Allocator + Copy, W: Write>(
 ) -> Result<(), ToolFault> {
     match view {
         View::Csv => csv_over(room.lists, file, times, look.spelling, w),
-        View::Plot => plot_over(room.lists, Timed { file, times }, look.options, w),
-        View::Page => page_over(room.lists, Timed { file, times }, w),
+        View::Plot => {
+            let list = rms_of(room.lists, file, times)?;
+            let rms = list.as_slice();
+            plot_over(room.lists, Timed { file, times, rms }, look.options, w)
+        }
+        View::Page => {
+            let rms: &[Rms] = &[];
+            page_over(room.lists, Timed { file, times, rms }, w)
+        }
         _ if look.json => write_out(w, &show_json(room.texts, room.lists, file, times)?),
         _ => show_over(room.lists, file, times, w),
     }
@@ -200,6 +208,9 @@ fn view_file<A: Allocator + Copy, W: Write>(
     said: &mut Vec<u8, A>,
 ) -> Result<bool, ToolFault> {
     match part_in(view, viewed, said)? {
+        Some(_) if view == View::Measure && is_outside(room.lists, &file, viewed.cursor, said)? => {
+            Ok(false)
+        }
         Some(part) => view_part(room, view, viewed, look, file, part, w, said),
         None => Ok(false),
     }

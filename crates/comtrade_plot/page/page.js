@@ -174,29 +174,71 @@ const timeText = (time, span = Math.abs(time)) => {
   return Number((time / unit.size).toFixed(3)).toString().replace("-", "\u2212") + " " + unit.name;
 };
 
-/** The rows of the cycle that ends at a row; null where the record has no whole one there. */
-function cycleTo(row) {
-  if (!cycle || !head.isTimed) return null;
-  const from = rowAt(times[row] - cycle + 1);
-  return times[row] - cycle < times[0] - cycle / 100 || row - from < 3 ? null : [from, row + 1];
+/** The rows of each rate: from where to where, the rows of a cycle (`length`), and the whole ones of these (`count`). */
+const stretches = head.rates.map(([rate, to], i) => {
+  const length = rate / head.hertz;
+  return { from: i ? head.rates[i - 1][1] : 0, to, length, count: Math.floor(length + 1e-9), fit: undefined };
+});
+
+/** The least squares over a cycle's rows, as in `comtrade measure`: in each row a 1, and the cosine and sine of each order below half the rows
+    of a cycle, at most 25; and the matrix of their products as a lower triangle times its transpose. Null where there is no single solution. */
+function fitOf({ length, count }) {
+  const side = 2 * Math.min(25, Math.floor((count - 1) / 2)) + 1, cells = [];
+  const terms = Array.from({ length: count }, (_, row) => Float64Array.from({ length: side }, (_, i) => {
+    const angle = (2 * Math.PI * row * Math.ceil(i / 2)) / length;
+    return i % 2 ? Math.cos(angle) : i ? Math.sin(angle) : 1;
+  }));
+  for (let i = 0; i < side; i++) {
+    cells.push(new Float64Array(side));
+    for (const list of terms) for (let k = 0; k <= i; k++) cells[i][k] += list[i] * list[k];
+  }
+  for (let k = 0; k < side; k++)
+    for (let i = k; i < side; i++) {
+      let rest = cells[i][k];
+      for (let n = 0; n < k; n++) rest -= cells[i][n] * cells[k][n];
+      if (i === k && !(rest > cells[k][k] * 1e-10)) return null;
+      cells[i][k] = i === k ? Math.sqrt(rest) : rest / cells[k][k];
+    }
+  return { terms, cells, side };
 }
 
-/** The rms value of the cycle that ends at a row, and the rms value and angle of its fundamental. */
-function cycleValues(channel, row) {
-  const span = cycleTo(row);
-  if (!span) return null;
-  let squares = 0, real = 0, imaginary = 0, count = 0;
-  for (let i = span[0]; i < span[1]; i++) {
-    const value = valueAt(channel, i);
-    if (value === null) return null;
-    const angle = (2 * Math.PI * (times[i] - times[row])) / cycle;
-    squares += value * value;
-    real += value * Math.cos(angle);
-    imaginary -= value * Math.sin(angle);
-    count++;
+/** The parts of a signal whose products with the terms have these sums. */
+function solve({ cells, side }, sums) {
+  const parts = Float64Array.from(sums);
+  for (let i = 0; i < side; i++) {
+    for (let n = 0; n < i; n++) parts[i] -= cells[i][n] * parts[n];
+    parts[i] /= cells[i][i];
   }
-  const size = (Math.SQRT2 / count) * Math.hypot(real, imaginary);
-  return { rms: Math.sqrt(squares / count), size, angle: (Math.atan2(imaginary, real) * 180) / Math.PI };
+  for (let i = side - 1; i >= 0; i--) {
+    for (let n = i + 1; n < side; n++) parts[i] -= cells[n][i] * parts[n];
+    parts[i] /= cells[i][i];
+  }
+  return parts;
+}
+
+/** The rms value of the last whole cycle that ends at a row and has one rate, and the rms value and angle of its fundamental, with the channel's
+    skew; null where there is no such cycle, or a reading is missing. */
+function cycleValues(channel, row) {
+  const stretch = head.hertz > 0 ? stretches.find(({ to }) => row < to) : undefined;
+  if (!stretch || stretch.count < 3 || row + 1 - stretch.count < stretch.from) return null;
+  if (stretch.fit === undefined) stretch.fit = fitOf(stretch);
+  const { fit, count } = stretch;
+  if (!fit) return null;
+  const sums = new Float64Array(fit.side);
+  let squares = 0, peak = 0;
+  for (let i = 0; i < count; i++) {
+    const value = valueAt(channel, row + 1 - count + i), terms = fit.terms[i];
+    if (value === null) return null;
+    for (let k = 0; k < fit.side; k++) sums[k] += value * terms[k];
+    squares += value * value;
+    peak = Math.max(peak, Math.abs(value));
+  }
+  const parts = solve(fit, sums);
+  let square = parts[0] ** 2 + Math.max(0, sums.reduce((rest, sum, i) => rest - sum * parts[i], squares)) / count;
+  for (let k = 1; k < fit.side; k++) square += parts[k] ** 2 / 2;
+  const size = Math.hypot(parts[1], parts[2]) / Math.SQRT2;
+  const angle = (Math.atan2(-parts[2], parts[1]) * 180) / Math.PI - channel.skew * 1e-6 * head.hertz * 360;
+  return { rms: Math.sqrt(square), size, angle, hasAngle: peak * 1e-9 < size };
 }
 
 // The picture
@@ -450,11 +492,13 @@ function buildTables() {
   }
 }
 
-/** The reference angle: that of the first channel shown. */
+/** The reference angle: that of the first channel shown that has one. */
 function reference(row) {
-  const first = channels.find((channel) => channel.isOn);
-  const found = first && cycleValues(first, row);
-  return found ? found.angle : 0;
+  for (const channel of channels) {
+    const found = channel.isOn ? cycleValues(channel, row) : null;
+    if (found && found.hasAngle) return found.angle;
+  }
+  return 0;
 }
 
 function fillTables() {
@@ -462,10 +506,10 @@ function fillTables() {
   for (const channel of channels) {
     const one = valueAt(channel, a), other = valueAt(channel, b);
     const found = cycleValues(channel, state.cursors[state.active]);
-    const angle = found ? (((found.angle - zero + 540) % 360) + 360) % 360 - 180 : 0;
+    const hasAngle = found && found.hasAngle, angle = hasAngle ? (((found.angle - zero + 540) % 360) + 360) % 360 - 180 : 0;
     const words = [quantity(one, channel.unit), quantity(other, channel.unit),
       one === null || other === null ? "" : quantity(other - one, channel.unit), found ? quantity(found.rms, channel.unit) : "",
-      found ? quantity(found.size, channel.unit) + " \u2220 " + digits(Math.round(angle * 10) / 10) + "\u00b0" : ""];
+      hasAngle ? quantity(found.size, channel.unit) + " \u2220 " + digits(Math.round(angle * 10) / 10) + "\u00b0" : ""];
     channel.cells.forEach((cell, i) => { cell.textContent = words[i]; });
     channel.name.style.color = colours()[channel.hue];
   }

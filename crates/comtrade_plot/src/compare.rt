@@ -101,7 +101,7 @@ fn put_scales<A: Allocator>(sheet: &mut Sheet<A>, beside: &Beside<'_, A>, places
         LEFT,
         places.times.saturating_add(420),
         " class=\"f\" font-size=\"10.5\" fill=\"#55595f\"",
-        "peak, A \u{2212} B: of what is drawn; rms: of the last cycle before A's trigger \u{2192} of the first cycle after it",
+        "peak, A \u{2212} B: of what is drawn; rms: of the cycle that ends one cycle before the fault inception (else the trigger) \u{2192} of the first whole cycle after it",
     );
 }
 

@@ -5,13 +5,13 @@ use crate::groups::hue_in;
 use crate::layers::Layer;
 use crate::phases::Hue;
 use crate::plan::Frame;
-use crate::survey::Survey;
+use crate::survey::{Rms, Survey};
 use comtrade_format::{File, Scale};
 use dfr_channels::{AnalogChannel, StatusChannel};
 use std::alloc::Allocator;
 
 /// What is drawn: a file; the scales of samples; the number of each channel's panel; the survey of
-/// the drawn rows; the times that are drawn; the position of each row; the gaps; whether times are
+/// the drawn rows; the rms values of channels; the times that are drawn; the position of each row; the gaps; whether times are
 /// known; when the trigger was; which record of the picture it is.
 #[derive(Drop)]
 pub(crate) struct Chart<'a, A: Allocator> {
@@ -20,6 +20,7 @@ pub(crate) struct Chart<'a, A: Allocator> {
     pub(crate) scales: &'a [Scale],
     pub(crate) panels: &'a [usize],
     pub(crate) surveys: &'a [Survey],
+    pub(crate) rms: &'a [Rms],
     pub(crate) frame: Frame,
     pub(crate) places: &'a [Option<u32>],
     pub(crate) gaps: &'a [Gap],

@@ -6,7 +6,7 @@ use crate::phases::Hue;
 use crate::plan::RIGHT;
 use crate::quantity::put_quantity;
 use crate::sheet::Sheet;
-use crate::survey::Survey;
+use crate::survey::{Rms, Survey};
 use crate::units::unit_of;
 use comtrade_format::Scale;
 use std::alloc::Allocator;
@@ -72,19 +72,29 @@ pub(crate) fn peak_of(survey: Survey, scale: Scale) -> Option<f64> {
     Some(if high.abs() < low.abs() { low } else { high })
 }
 
-/// The rms values of a current or voltage around the trigger, where they are known.
-fn put_rms<A: Allocator>(sheet: &mut Sheet<A>, survey: Survey, unit: &[u8]) {
+/// The rms values of a current or voltage before and after the fault inception, where they are known.
+fn put_rms<A: Allocator>(sheet: &mut Sheet<A>, rms: Rms, unit: &[u8]) {
     let base = unit_of(unit).base;
     if base != b"A".as_slice() && base != b"V".as_slice() {
         return;
     }
-    if let Some(before) = survey.before.rms() {
-        sheet.text(", rms ");
-        put_quantity(sheet, before, unit);
-        sheet.text(" \u{2192} ");
-        match survey.after.rms() {
-            Some(after) => put_quantity(sheet, after, unit),
-            None => sheet.text("?"),
+    match (rms.before, rms.after) {
+        (None, None) => {}
+        (Some(before), None) => {
+            sheet.text(", rms ");
+            put_quantity(sheet, before, unit);
+            sheet.text(" before");
+        }
+        (None, Some(after)) => {
+            sheet.text(", rms ");
+            put_quantity(sheet, after, unit);
+            sheet.text(" after");
+        }
+        (Some(before), Some(after)) => {
+            sheet.text(", rms ");
+            put_quantity(sheet, before, unit);
+            sheet.text(" \u{2192} ");
+            put_quantity(sheet, after, unit);
         }
     }
 }
@@ -126,7 +136,9 @@ pub(crate) fn put_legend<A: Allocator + Copy>(
             let unit = channel.unit.items();
             numbers.text("peak ");
             put_quantity(&mut numbers, peak, unit);
-            put_rms(&mut numbers, *survey, unit);
+            if let Some(rms) = chart.rms.get(at) {
+                put_rms(&mut numbers, *rms, unit);
+            }
         }
         None => numbers.text("no readings"),
     }

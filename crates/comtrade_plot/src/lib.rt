@@ -39,3 +39,4 @@ pub use compare::{By, CompareOptions, Refusal, compare_over};
 pub use page::page_over;
 pub use plot::{PlotOptions, plot_over};
 pub use record::Timed;
+pub use survey::Rms;

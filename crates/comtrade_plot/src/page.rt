@@ -9,7 +9,7 @@ use crate::script_text::script;
 use crate::sheet::Sheet;
 use crate::style_text::style;
 use crate::survey::Survey;
-use comtrade_format::{File, Row};
+use comtrade_format::{File, Head, Row};
 use comtrade_io::ToolFault;
 use dfr_channels::{AnalogChannel, Side, StatusChannel};
 use std::alloc::{AllocError, Allocator};
@@ -24,8 +24,8 @@ const BODY: &str =
 <details><summary>Keys</summary><p>Zoom: wheel, pinch, + and &minus;. Move: drag, Page Up, Page Down, Home, End. \
 Click sets cursor A, Shift and click cursor B; cursors can be dragged. A or B chooses the active cursor; the arrow keys move it by one row, \
 with Shift by ten. 0 shows the whole record, T the part around the trigger. P switches between values as in the file, primary and secondary. \
-Tab and Space show or hide channels. rms and phasor are of the cycle that ends at the active cursor; \
-angles are relative to the first channel shown.</p></details>\n\
+Tab and Space show or hide channels. rms and phasor are of the cycle that ends at the active cursor, as in comtrade measure --at; \
+angles are relative to the first channel shown that has one.</p></details>\n\
 </header>\n<main><div><canvas id=\"picture\" tabindex=\"0\" role=\"img\" aria-label=\"waveforms and status channels\"></canvas></div>\n\
 <aside><table><thead><tr><th></th><th>channel</th><th>A</th><th>B</th><th>B&minus;A</th><th>rms</th><th>phasor</th></tr></thead>\
 <tbody id=\"channels\"></tbody></table></aside></main>\n";
@@ -69,6 +69,7 @@ fn put_analog<A: Allocator>(
     for (name, number) in [
         (",\"a\":", channel.a),
         (",\"b\":", channel.b),
+        (",\"skew\":", channel.skew),
         (",\"primary\":", channel.primary),
         (",\"secondary\":", channel.secondary),
     ] {
@@ -112,6 +113,21 @@ fn put_statuses<A: Allocator>(sheet: &mut Sheet<A>, channels: &[StatusChannel<A>
     sheet.text("]");
 }
 
+/// The rates, each with its last row; none where stamps alone give the times of rows.
+fn put_rates<A: Allocator>(sheet: &mut Sheet<A>, head: &Head<A>) {
+    sheet.text(",\"rates\":[");
+    if head.nrates != 0 {
+        for (i, rate) in head.rates.items().iter().enumerate() {
+            sheet.text(if i == 0 { "[" } else { ",[" });
+            sheet.decimal(rate.samp);
+            sheet.text(",");
+            sheet.number(rate.endsamp);
+            sheet.text("]");
+        }
+    }
+    sheet.text("]");
+}
+
 /// The record's head as JSON.
 fn put_json<A: Allocator>(
     sheet: &mut Sheet<A>,
@@ -124,6 +140,7 @@ fn put_json<A: Allocator>(
     sheet.number(file.rows.items().len() as u64);
     sheet.text(",\"hertz\":");
     sheet.decimal(file.head.line_freq);
+    put_rates(sheet, &file.head);
     put_flag(sheet, "isTimed", record.is_timed);
     if choice.is_part {
         sheet.text(",\"from\":");

@@ -58,12 +58,12 @@ fn put_scales<A: Allocator>(sheet: &mut Sheet<A>, chart: &Chart<'_, A>, places: 
     put_times(sheet, chart, places.end.saturating_add(170));
     put_times_name(sheet, chart, places.end.saturating_add(170));
     put_cycles(sheet, chart, places.end.saturating_add(240));
-    if chart.cycle.is_some() {
+    if !chart.rms.is_empty() {
         sheet.label(
             LEFT,
             places.end.saturating_add(580),
             " class=\"f\" font-size=\"10.5\" fill=\"#55595f\"",
-            "peak: of what is drawn; rms: of the last cycle before the trigger \u{2192} of the first cycle after it",
+            "peak: of what is drawn; rms: of the cycle that ends one cycle before the fault inception (else the trigger) \u{2192} of the first whole cycle after it",
         );
     }
 }

@@ -7,7 +7,7 @@ use crate::layers::Layer;
 use crate::layout::Chart;
 use crate::plan::{Frame, window_of};
 use crate::rows::{kept_times, last_change, numbers_of, places_of, whole_frame};
-use crate::survey::{Survey, add_cycles, drop_partial, surveys_of};
+use crate::survey::{Rms, Survey, surveys_of};
 use comtrade_format::{File, Scale, nearest_f64, scale_of};
 use comtrade_io::ToolFault;
 use dfr_channels::AnalogChannel;
@@ -29,22 +29,25 @@ fn scales_of<A: Allocator + Copy>(
     Ok(scales)
 }
 
-/// A record, and when its rows were taken, in nanoseconds since its trigger.
+/// A record; when its rows were taken, in nanoseconds since its trigger; the rms values of its
+/// analogue channels, in their order, as far as they are known.
 #[derive(Clone, Copy)]
 pub struct Timed<'a, A: Allocator> {
     pub file: &'a File<A>,
     pub times: &'a [Option<i64>],
+    pub rms: &'a [Rms],
 }
 
 /// What is known of a file whichever part of it is drawn: when its rows were taken, including and
 /// excluding lost ones, in nanoseconds since the trigger, or their numbers where the file has no
-/// times; the scales of samples; the length of a cycle of the line frequency, if there is one; when
-/// the trigger was; and which record of the picture it is.
+/// times; the scales of samples; the rms values of channels; the length of a cycle of the line
+/// frequency, if there is one; when the trigger was; and which record of the picture it is.
 #[derive(Drop)]
 pub(crate) struct Record<A: Allocator> {
     pub(crate) times: Vec<Option<i64>, A>,
     pub(crate) kept: Vec<Option<i64>, A>,
     pub(crate) scales: Vec<Scale, A>,
+    pub(crate) rms: Vec<Rms, A>,
     pub(crate) cycle: Option<i64>,
     pub(crate) is_timed: bool,
     pub(crate) trigger: i64,
@@ -74,6 +77,7 @@ pub(crate) fn record_of<A: Allocator + Copy>(
         times,
         kept,
         scales,
+        rms: Vec::from_slice(alloc, timed.rms)?,
         cycle,
         is_timed,
         trigger: 0,
@@ -138,41 +142,13 @@ pub(crate) struct Part<A: Allocator> {
     gaps: Vec<Gap, A>,
 }
 
-/// The length of a cycle, where the record has a whole one before the trigger and one after it, to
-/// within a twentieth.
-fn whole_cycle<A: Allocator>(record: &Record<A>) -> Option<i64> {
-    let cycle = record.cycle?;
-    let whole = whole_frame(&record.kept)?;
-    let most = cycle.saturating_sub(cycle / 20);
-    if whole.from <= most.saturating_neg() && most <= whole.to {
-        Some(cycle)
-    } else {
-        None
-    }
-}
-
-/// The survey of the rows of a frame, with the cycles around the trigger.
-fn surveys_in<A: Allocator + Copy>(
-    alloc: A,
-    file: &File<A>,
-    record: &Record<A>,
-    frame: Frame,
-) -> Result<Vec<Survey, A>, ToolFault> {
-    let mut surveys = surveys_of(alloc, file, &record.kept, frame)?;
-    if let Some(cycle) = whole_cycle(record) {
-        add_cycles(&mut surveys, &record.scales, file, &record.kept, cycle);
-        drop_partial(&mut surveys, &record.times, cycle);
-    }
-    Ok(surveys)
-}
-
 pub(crate) fn part_of<A: Allocator + Copy>(
     alloc: A,
     file: &File<A>,
     record: &Record<A>,
     frame: Frame,
 ) -> Result<Part<A>, ToolFault> {
-    let surveys = surveys_in(alloc, file, record, frame)?;
+    let surveys = surveys_of(alloc, file, &record.kept, frame)?;
     let panels = panels_of(alloc, file.head.analog.items(), &surveys, &record.scales)?;
     part_with(alloc, record, frame, surveys, panels)
 }
@@ -185,7 +161,7 @@ pub(crate) fn part_in<A: Allocator + Copy>(
     frame: Frame,
     panels: Vec<usize, A>,
 ) -> Result<Part<A>, ToolFault> {
-    let surveys = surveys_in(alloc, file, record, frame)?;
+    let surveys = surveys_of(alloc, file, &record.kept, frame)?;
     part_with(alloc, record, frame, surveys, panels)
 }
 
@@ -239,6 +215,7 @@ pub(crate) fn chart_of<'a, A: Allocator>(
         scales: &record.scales,
         panels: &part.panels,
         surveys: &part.surveys,
+        rms: &record.rms,
         frame: part.frame,
         places: &part.places,
         gaps: &part.gaps,

@@ -4,6 +4,7 @@ use crate::cycles::{
     MeasureFault, Measured, Window, last_cycle, measures_of, phasor_in, reference_in, whole_cycles,
 };
 use crate::measure_json::put_measures_json;
+use crate::measure_note::put_note;
 use crate::measure_record::put_record;
 use crate::measure_tables::{Found, put_channels, put_order_table};
 use crate::sequence_table::put_sequences;
@@ -63,8 +64,8 @@ fn put_reference<A: Allocator>(
     }
 }
 
-/// What was measured over whole cycles: its rows, the reference's index, and the tables of
-/// channels, harmonics and sequence components.
+/// What was measured over whole cycles: its rows, the reference's index, the tables of channels,
+/// harmonics and sequence components, and the note on residuals.
 #[derive(Drop)]
 pub(crate) struct Measures<A: Allocator> {
     pub(crate) window: Window,
@@ -72,6 +73,7 @@ pub(crate) struct Measures<A: Allocator> {
     pub(crate) channels: Vec<u8, A>,
     pub(crate) orders: Vec<u8, A>,
     pub(crate) sequences: Vec<u8, A>,
+    pub(crate) note: Vec<u8, A>,
 }
 
 /// The tables of what was measured of channels.
@@ -82,6 +84,7 @@ fn put_tables<A: Allocator + Copy>(
 ) -> Result<(), AllocError> {
     put_channels(&mut made.channels, found)?;
     put_order_table(&mut made.orders, found)?;
+    put_note(&mut made.note, found)?;
     put_sequences(alloc, &mut made.sequences, found)
 }
 
@@ -110,6 +113,7 @@ fn measures_with<A: Allocator + Copy>(
         channels: Vec::new(alloc),
         orders: Vec::new(alloc),
         sequences: Vec::new(alloc),
+        note: Vec::new(alloc),
     };
     put_tables(alloc, &mut made, &found)?;
     Ok(made)
@@ -133,6 +137,7 @@ fn put_measures<A: Allocator>(
     put_with(out, "\nharmonics from 2 to ", orders)?;
     put(out, " of at least 0.1 % of the magnitude, in %\n")?;
     put_table(out, &measures.orders)?;
+    put(out, str::from_utf8(&measures.note).unwrap_or(""))?;
     let lines = measures.sequences.iter().filter(|b| **b == b'\n').count();
     if lines <= 1 {
         return put(

@@ -6,7 +6,7 @@ use crate::shown::Shown;
 use comtrade_io::{put, put_number, put_with};
 use std::alloc::{AllocError, Allocator, Global};
 
-const CHANNELS: &str = "n# id phase unit rms# magnitude# angle# dc# peak# peak_ms#";
+const CHANNELS: &str = "n# id phase unit rms# magnitude# angle# dc# peak# peak_ms# residual#";
 
 const ORDERS: &str = "n# id phase unit orders#";
 

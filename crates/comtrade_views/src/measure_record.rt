@@ -1,28 +1,21 @@
-//! The fault inception of each current of a record, as text or JSON.
+//! The fault inceptions of each current of a record, as text or JSON.
 
-use crate::cycles::{Course, MeasureFault, Outcome, Window, courses_of, whole_record};
+use crate::cycles::{Course, Followed, MeasureFault, Window, courses_of, spans_of};
 use crate::float::put_places;
 use crate::json::put_rows_json;
 use crate::measure_tables::put_float_cell;
 use crate::show::put_row_time;
-use crate::shown::{Shown, put_channel, put_cycle};
+use crate::shown::{Shown, put_channel, put_cycle_of};
 use crate::table::{end_cell, end_row, put_number_cell, put_table};
 use comtrade_format::{File, nearest_f64};
-use comtrade_io::put;
+use comtrade_io::{put, put_with};
 use std::alloc::{AllocError, Allocator, Global};
-use std::num::nearest_u64_to_f64;
-
-/// The duration of this many rows in milliseconds, from the cycles of the line frequency.
-fn millis_of(window: Window, frequency: f64, rows: u64) -> f64 {
-    let cycles = nearest_u64_to_f64(window.cycle.cycles) / nearest_u64_to_f64(window.cycle.rows);
-    nearest_u64_to_f64(rows) * cycles / frequency * 1000.0
-}
 
 /// The cells of a fault inception: when and where it is, and the current before and after it.
 fn put_course<A: Allocator>(
     table: &mut Vec<u8, A>,
     course: Course,
-    above: f64,
+    frequency: f64,
     shown: Shown<'_>,
 ) -> Result<(), AllocError> {
     put_row_time(table, shown.clock(), course.row)?;
@@ -30,9 +23,25 @@ fn put_course<A: Allocator>(
     put_number_cell(table, shown.number(course.row))?;
     put_float_cell(table, course.before, shown.digits(course.greatest))?;
     put_float_cell(table, course.greatest, shown.digits(0.0))?;
-    put_places(table, above, 3)?;
+    put_places(table, course.above / frequency * 1000.0, 3)?;
     end_cell(table)?;
     end_row(table)
+}
+
+/// The cells of a current without an inception, up to the end of the row.
+fn put_no_course<A: Allocator>(
+    table: &mut Vec<u8, A>,
+    current: &Followed<A>,
+) -> Result<(), AllocError> {
+    put(table, "-\x1F-\x1F-\x1F-\x1F")?;
+    if !current.is_known {
+        return put(table, "readings are missing\x1F\n");
+    }
+    put(table, "no inception found")?;
+    if current.missing != 0 {
+        put_with(table, "; missing readings: ", current.missing)?;
+    }
+    put(table, "\x1F\n")
 }
 
 /// The table of all currents, below a line of column names; returns the number of currents.
@@ -40,7 +49,7 @@ fn put_courses<A: Allocator + Copy>(
     alloc: A,
     table: &mut Vec<u8, A>,
     file: &File<A>,
-    window: Window,
+    spans: &[Window],
     shown: Shown<'_>,
 ) -> Result<u64, MeasureFault> {
     put(
@@ -48,19 +57,18 @@ fn put_courses<A: Allocator + Copy>(
         "n\x1Fid\x1Fphase\x1Funit\x1Fleft at ms\x1Frow\x1Frms before\x1Fgreatest rms\x1Fms above twice that before\x1F\n",
     )?;
     let frequency = nearest_f64(alloc, file.head.line_freq)?;
-    let followed = courses_of(alloc, file, window)?;
+    let followed = courses_of(alloc, file, spans)?;
     for current in followed.iter() {
         let Some(channel) = file.head.analog.items().get(current.place) else {
             break;
         };
-        put_channel(table, current.place, channel)?;
-        match current.outcome {
-            Outcome::Leaves(course) => {
-                let above = millis_of(window, frequency, course.rows_above);
-                put_course(table, course, above, shown)?
-            }
-            Outcome::Stays => put(table, "-\x1F-\x1F-\x1F-\x1Fno inception found\x1F\n")?,
-            Outcome::Unknown => put(table, "-\x1F-\x1F-\x1F-\x1Freadings are missing\x1F\n")?,
+        for course in current.courses.iter() {
+            put_channel(table, current.place, channel)?;
+            put_course(table, *course, frequency, shown)?;
+        }
+        if current.courses.is_empty() {
+            put_channel(table, current.place, channel)?;
+            put_no_course(table, current)?;
         }
     }
     Ok(followed.len() as u64)
@@ -68,8 +76,25 @@ fn put_courses<A: Allocator + Copy>(
 
 const COURSES: &str = "n# id phase unit left_ms# left_row# rms_before# rms_greatest# above_ms#";
 
-/// Where each current of a record first departs from its earlier waveform, as text or as a JSON
-/// object.
+/// What the table of currents shows, and the rows per cycle of each rate.
+fn put_caption<A: Allocator>(out: &mut Vec<u8, A>, spans: &[Window]) -> Result<(), AllocError> {
+    put(
+        out,
+        "fault inception: where each current departs from its earlier waveform; ",
+    )?;
+    let mut is_first = true;
+    for span in spans {
+        put(out, if is_first { "" } else { ", " })?;
+        put_cycle_of(out, *span)?;
+        is_first = false;
+    }
+    put(
+        out,
+        " rows a cycle\nms above: while the rms of the last cycle is above, so up to one cycle longer than the current is\n",
+    )
+}
+
+/// Where each current of a record departs from its earlier waveform, as text or as a JSON object.
 pub(crate) fn put_record<A: Allocator + Copy>(
     alloc: Global,
     lists: A,
@@ -77,9 +102,9 @@ pub(crate) fn put_record<A: Allocator + Copy>(
     file: &File<A>,
     shown: Shown<'_>,
 ) -> Result<(), MeasureFault> {
-    let window = whole_record(file)?;
+    let spans = spans_of(lists, file, 8)?;
     let mut table = Vec::new(lists);
-    let count = put_courses(lists, &mut table, file, window, shown)?;
+    let count = put_courses(lists, &mut table, file, &spans, shown)?;
     if shown.json {
         put_rows_json(alloc, out, "{\"currents\":", COURSES, &table)?;
         put(out, "}\n")?;
@@ -87,11 +112,7 @@ pub(crate) fn put_record<A: Allocator + Copy>(
         let none = "no current channels: no channel has the unit A, with or without a prefix\n";
         put(out, none)?;
     } else {
-        put(
-            out,
-            "fault inception: where each current first departs from its earlier waveform; ",
-        )?;
-        put_cycle(out, window)?;
+        put_caption(out, &spans)?;
         put_table(out, &table)?;
     }
     Ok(())

@@ -70,6 +70,9 @@ fn put_measured<A: Allocator>(
     put_float_cell(table, measured.peak, digits)?;
     put_row_time(table, shown.clock(), measured.peak_row)?;
     end_cell(table)?;
+    if shown.json {
+        put_float_cell(table, measured.residual, digits)?;
+    }
     end_row(table)
 }
 

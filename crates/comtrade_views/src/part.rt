@@ -6,10 +6,12 @@ mod encoding;
 mod fault;
 mod moment;
 mod names;
+mod reach;
 mod record;
 mod rows;
 mod side;
 
 pub use encoding::{Encoding, spell_in_utf8};
 pub use fault::PartFault;
+pub(crate) use reach::{Reach, reach_of};
 pub use record::{Cut, is_whole, part_of};

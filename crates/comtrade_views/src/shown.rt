@@ -44,7 +44,7 @@ impl<'a> Shown<'a> {
 }
 
 /// The rows per cycle, to six digits.
-pub(crate) fn put_cycle<A: Allocator>(
+pub(crate) fn put_cycle_of<A: Allocator>(
     out: &mut Vec<u8, A>,
     window: Window,
 ) -> Result<(), AllocError> {
@@ -53,7 +53,15 @@ pub(crate) fn put_cycle<A: Allocator>(
         out,
         rows / nearest_u64_to_f64(window.cycle.cycles),
         Digits::Six(0.0),
-    )?;
+    )
+}
+
+/// The rows per cycle, as the end of a line.
+pub(crate) fn put_cycle<A: Allocator>(
+    out: &mut Vec<u8, A>,
+    window: Window,
+) -> Result<(), AllocError> {
+    put_cycle_of(out, window)?;
     put(out, " rows a cycle\n")
 }
 

@@ -25,6 +25,10 @@ pub struct Measured<A: Allocator = Global> {
     /// The value farthest from 0 (the first one, if several are equal), and the index of its row.
     pub peak: f64,
     pub peak_row: usize,
+    /// The rms value of what dc and the orders leave of the signal, and the size of a step of the
+    /// samples.
+    pub residual: f64,
+    pub step: f64,
     /// The rms values of the orders 1, 2, .., at most 25 and less than half the rows of a cycle.
     pub orders: Vec<f64, A>,
 }
@@ -54,6 +58,7 @@ struct Totals<A: Allocator> {
     squares: f64,
     peak: f64,
     peak_row: usize,
+    step: f64,
 }
 
 /// The totals of a channel's rows; None where a reading is missing.
@@ -70,6 +75,7 @@ fn totals_of<A: Allocator + Copy>(
         squares: 0.0,
         peak: 0.0,
         peak_row: window.from,
+        step: scale.a.abs(),
     };
     let mut turning = Turning::new(window.cycle);
     for (i, row) in rows.iter().enumerate() {
@@ -111,7 +117,8 @@ fn measured_of<A: Allocator + Copy>(
     for (i, sum) in totals.sums.iter().enumerate() {
         rest -= sum * at(&parts, i);
     }
-    let mut square = dc * dc + rest.max(0.0) / nearest_usize_to_f64(rows);
+    let residual = rest.max(0.0) / nearest_usize_to_f64(rows);
+    let mut square = dc * dc + residual;
     let mut orders = Vec::new(alloc);
     for order in 1..=parts.len() / 2 {
         let size = phasor_at(&parts, order).magnitude();
@@ -124,6 +131,8 @@ fn measured_of<A: Allocator + Copy>(
         dc,
         peak: totals.peak,
         peak_row: totals.peak_row,
+        residual: residual.sqrt(),
+        step: totals.step,
         orders,
     })
 }

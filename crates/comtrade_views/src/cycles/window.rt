@@ -102,15 +102,56 @@ pub fn whole_cycles<A: Allocator>(file: &File<A>) -> Result<Window, MeasureFault
     window_of(cycle, 0, rows, u128::MAX, false)
 }
 
-/// All rows of a file, to look for the fault inception. `Coarse`: there are fewer than 8 rows per
-/// cycle. Other errors are those of `whole_cycles`.
-pub fn whole_record<A: Allocator>(file: &File<A>) -> Result<Window, MeasureFault> {
-    let window = whole_cycles(file)?;
-    if window.cycle.rows_in(1) < 8 {
+/// The rows of one rate, of which a cycle has at least this many. `Coarse`: it has fewer. Other
+/// errors are those of `last_cycle`.
+fn span_of(
+    frequency: Decimal,
+    rate: Decimal,
+    from: usize,
+    to: usize,
+    least: u128,
+) -> Result<Window, MeasureFault> {
+    let cycle = cycle_of(frequency, rate)?;
+    let window = window_of(cycle, from, to, u128::MAX, false)?;
+    if cycle.rows_in(1) < least {
         return Err(MeasureFault::Coarse);
     }
-    Ok(Window {
-        to: file.rows.items().len(),
-        ..window
-    })
+    Ok(Window { to, ..window })
+}
+
+/// The rows of each rate, where they are at least a cycle and a cycle has at least this many. If no
+/// rate has such rows, the error is that of the first one.
+pub fn spans_of<A: Allocator + Copy>(
+    alloc: A,
+    file: &File<A>,
+    least: u128,
+) -> Result<Vec<Window, A>, MeasureFault> {
+    let count = file.rows.items().len();
+    last_stretch(&file.head, count)?;
+    let mut spans = Vec::new(alloc);
+    let mut refused: Option<MeasureFault> = None;
+    let mut from = 0usize;
+    for rate in file.head.rates.items() {
+        let to = match usize::try_from(rate.endsamp) {
+            Ok(to) => to.min(count),
+            Err(_) => count,
+        };
+        match span_of(file.head.line_freq, rate.samp, from, to, least) {
+            Ok(span) => spans.push(span)?,
+            Err(fault) if refused.is_none() => refused = Some(fault),
+            Err(_) => {}
+        }
+        from = to;
+    }
+    match refused {
+        Some(fault) if spans.is_empty() => Err(fault),
+        _ => Ok(spans),
+    }
+}
+
+/// The index after the last row of a file's first whole cycle, if its first rate has one.
+pub fn first_cycle_end<A: Allocator>(file: &File<A>) -> Option<usize> {
+    let rate = file.head.rates.items().first()?;
+    let cycle = cycle_of(file.head.line_freq, rate.samp).ok()?;
+    usize::try_from(cycle.rows_in(1)).ok()
 }

@@ -1,0 +1,164 @@
+//! The rms values of channels before and after a fault inception.
+
+use crate::cycles::course::courses_of;
+use crate::cycles::fault::MeasureFault;
+use crate::cycles::fit::measures_of;
+use crate::cycles::window::{Window, spans_of};
+use comtrade_format::File;
+use std::alloc::Allocator;
+
+/// The rms values of a channel before and after a fault inception, where they are known.
+#[derive(Clone, Copy, Debug)]
+pub struct Around {
+    pub before: Option<f64>,
+    pub after: Option<f64>,
+}
+
+/// How many cycles after an inception are tried, until each channel has one with all its readings.
+const TRIED: u64 = 5;
+
+/// The least rows of a cycle in which an inception is looked for.
+const LEAST: u128 = 8;
+
+/// The cycle that ends before a row.
+fn cycle_to(spans: &[Window], end: usize) -> Option<Window> {
+    for span in spans {
+        if span.from < end && end <= span.to {
+            let rows = usize::try_from(span.cycle.rows_in(1)).ok()?;
+            let from = end.checked_sub(rows)?;
+            return if span.from <= from {
+                Some(Window {
+                    from,
+                    to: end,
+                    cycles: 1,
+                    cycle: span.cycle,
+                })
+            } else {
+                None
+            };
+        }
+    }
+    None
+}
+
+/// The cycle that begins some cycles after a row.
+fn cycle_from(spans: &[Window], row: usize, cycles: u64) -> Option<Window> {
+    for span in spans {
+        if span.from <= row && row < span.to {
+            let skipped = usize::try_from(span.cycle.rows_in(cycles)).ok()?;
+            let rows = usize::try_from(span.cycle.rows_in(1)).ok()?;
+            return cycle_to(spans, row.checked_add(skipped)?.checked_add(rows)?);
+        }
+    }
+    None
+}
+
+/// The index of the first row in which a current departs from its waveform, if one does.
+fn inception_in<A: Allocator + Copy>(
+    alloc: A,
+    file: &File<A>,
+) -> Result<Option<usize>, MeasureFault> {
+    let spans = match spans_of(alloc, file, LEAST) {
+        Ok(spans) => spans,
+        Err(MeasureFault::Memory(error)) => return Err(MeasureFault::Memory(error)),
+        Err(_) => return Ok(None),
+    };
+    let mut row: Option<usize> = None;
+    for current in courses_of(alloc, file, &spans)?.iter() {
+        if let Some(course) = current.courses.first() {
+            row = Some(match row {
+                Some(row) => row.min(course.row),
+                None => course.row,
+            });
+        }
+    }
+    Ok(row)
+}
+
+/// The index of the first row that was not taken before the trigger.
+fn trigger_in(times: &[Option<i64>]) -> Option<usize> {
+    times
+        .iter()
+        .position(|time| matches!(*time, Some(time) if 0 <= time))
+}
+
+/// Takes the rms values of a cycle as those before or after, of the channels that have none yet.
+fn fill<A: Allocator + Copy>(
+    alloc: A,
+    file: &File<A>,
+    window: Option<Window>,
+    is_before: bool,
+    list: &mut [Around],
+) -> Result<(), MeasureFault> {
+    let Some(window) = window else {
+        return Ok(());
+    };
+    let measures = match measures_of(alloc, file, window) {
+        Ok(measures) => measures,
+        Err(MeasureFault::Slow) => return Ok(()),
+        Err(fault) => return Err(fault),
+    };
+    for (around, measured) in list.iter_mut().zip(measures.iter()) {
+        if let Some(measured) = measured {
+            if is_before && around.before.is_none() {
+                around.before = Some(measured.rms);
+            }
+            if !is_before && around.after.is_none() {
+                around.after = Some(measured.rms);
+            }
+        }
+    }
+    Ok(())
+}
+
+/// The rms values of a file's channels around a row: of the cycle that ends one cycle before it, or
+/// just before it where there is no other; of the first cycle from it on with all readings.
+fn rms_at<A: Allocator + Copy>(
+    alloc: A,
+    file: &File<A>,
+    spans: &[Window],
+    row: usize,
+    list: &mut [Around],
+) -> Result<(), MeasureFault> {
+    let last = cycle_to(spans, row);
+    if let Some(last) = last {
+        fill(alloc, file, cycle_to(spans, last.from), true, list)?;
+    }
+    fill(alloc, file, last, true, list)?;
+    for cycles in 0..TRIED {
+        if list.iter().any(|around| around.after.is_none()) {
+            fill(alloc, file, cycle_from(spans, row, cycles), false, list)?;
+        }
+    }
+    Ok(())
+}
+
+/// The rms values of a file's channels before and after the first fault inception of a current; else
+/// before and after the trigger, by the times of rows since it. None is known where no rate gives
+/// cycles.
+pub fn rms_around<A: Allocator + Copy>(
+    alloc: A,
+    file: &File<A>,
+    times: &[Option<i64>],
+) -> Result<Vec<Around, A>, MeasureFault> {
+    let mut list = Vec::new(alloc);
+    let spans = match spans_of(alloc, file, 3) {
+        Ok(spans) => spans,
+        Err(MeasureFault::Memory(error)) => return Err(MeasureFault::Memory(error)),
+        Err(_) => return Ok(list),
+    };
+    let row = match inception_in(alloc, file)? {
+        Some(row) => Some(row),
+        None => trigger_in(times),
+    };
+    for _ in file.head.analog.items() {
+        list.push(Around {
+            before: None,
+            after: None,
+        })?;
+    }
+    if let Some(row) = row {
+        rms_at(alloc, file, &spans, row, &mut list)?;
+    }
+    Ok(list)
+}
