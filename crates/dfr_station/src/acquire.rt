@@ -11,7 +11,9 @@ use dfr_live::{LossFault, Session, Source};
 use rtrb::Producer;
 use std::alloc::{Allocator, Global};
 use std::io::Read;
+use std::sync::Wait;
 use std::sync::atomic::Ordering;
+use std::time::Clock;
 
 /// The state of the acquisition.
 #[derive(Drop)]
@@ -24,10 +26,13 @@ pub(crate) struct Acquisition<'x, N: Session<A>, I, A: Allocator = Global> {
     /// The input buffer. Up to `held` it has what came before the recorder was made.
     pub(crate) buffer: Vec<u8, A>,
     pub(crate) held: usize,
+    /// When that came, in microseconds since 1970-01-01 00:00:00 UTC.
+    pub(crate) at: i64,
 }
 
 /// Reads the input until it ends.
-fn take_in<N: Session<A>, A: Allocator + Copy, I: Read>(
+fn take_in<N: Session<A>, A: Allocator + Copy, I: Read, R: Wait + Clock>(
+    rt: &R,
     alloc: A,
     signals: &Signals,
     layout: &Layout<A>,
@@ -35,13 +40,14 @@ fn take_in<N: Session<A>, A: Allocator + Copy, I: Read>(
 ) -> Result<(), LossFault> {
     match task.form {
         Input::Frames => take_frames(
+            rt,
             alloc,
             signals,
             layout,
             &mut task.source,
             &mut *task.input,
             &mut task.buffer,
-            task.held,
+            (task.held, task.at),
             &mut task.scans,
         ),
         Input::Lines => {
@@ -54,26 +60,28 @@ fn take_in<N: Session<A>, A: Allocator + Copy, I: Read>(
                 lines: 0,
             };
             take_lines(
+                rt,
                 signals,
                 &mut lane,
                 &mut *task.input,
                 &mut task.buffer,
-                task.held,
+                (task.held, task.at),
             )
         }
     }
 }
 
 /// Reads the input until it ends, then signals its end to the other threads.
-pub(crate) fn acquire<N: Session<A>, A: Allocator + Copy, I: Read>(
+pub(crate) fn acquire<N: Session<A>, A: Allocator + Copy, I: Read, R: Wait + Clock>(
+    rt: &R,
     alloc: A,
     signals: &Signals,
     layout: &Layout<A>,
     task: &mut Acquisition<'_, N, I, A>,
 ) {
-    if take_in(alloc, signals, layout, task).is_err() {
+    if take_in(rt, alloc, signals, layout, task).is_err() {
         signals.failed.store(true, Ordering::SeqCst);
     }
-    task.scans.publish(signals, true);
+    task.scans.publish(signals);
     signals.acquired.store(true, Ordering::SeqCst);
 }

@@ -11,14 +11,13 @@ use crate::signals::Signals;
 use crate::station::{Input, Printer, Store};
 use crate::tasks::Tasks;
 use crate::teller::{Teller, Waiting, telling_of};
-use crate::telling::{Telling, minute};
+use crate::telling::Telling;
 use comtrade_write::Kind;
 use dfr_live::{Session, Shared, Source, Token};
 use rtrb::{Consumer, Producer, RingBuffer};
 use std::alloc::{AllocError, Allocator};
 use std::io::Read;
 use std::sync::Mutex;
-use std::time::Clock;
 
 /// The most orders of the input that may wait.
 const ORDERS: usize = 1_024;
@@ -72,9 +71,7 @@ pub(crate) fn tasks_of<
     I: Read,
     K: Store,
     P: Printer,
-    R: Clock,
 >(
-    rt: &R,
     alloc: A,
     how: How<A>,
     queues: Queues<A>,
@@ -105,11 +102,12 @@ pub(crate) fn tasks_of<
         acquisition: Mutex::new(Acquisition {
             input,
             source,
-            scans: Scans::new(scans, rate),
+            scans: Scans::new(scans),
             orders: orders.0,
             form: how.form,
             buffer: how.first.buffer,
             held: how.first.held,
+            at: how.first.at,
         }),
         trigger: Mutex::new(Trigger {
             alloc,
@@ -130,7 +128,7 @@ pub(crate) fn tasks_of<
             triggers: events.1,
             exports: events.2,
             minutes: how.minutes,
-            minute: minute(rt),
+            watch: how.first.watch,
         }),
     }
 }

@@ -2,12 +2,17 @@
 
 use crate::event::Event;
 use crate::intake::{frame_len, give_frames};
+use crate::reading::{Given, read_some};
 use crate::scans::Scans;
 use crate::signals::Signals;
+use crate::telling::now;
 use dfr_channels::Layout;
 use dfr_live::{LossFault, Session, Source};
 use std::alloc::Allocator;
 use std::io::Read;
+use std::sync::Wait;
+use std::sync::atomic::Ordering;
+use std::time::Clock;
 
 /// Moves the bytes after the first `done` of `held` bytes to the front. Returns how many there are.
 pub(crate) fn moved_up(buffer: &mut [u8], done: usize, held: usize) -> usize {
@@ -38,38 +43,43 @@ fn give_whole<N: Session<A>, A: Allocator + Copy>(
     Ok(moved_up(buffer, count * size, held))
 }
 
-/// Gives the scan of each frame that comes until the input ends. The buffer already has
-/// `held` bytes.
-pub(crate) fn take_frames<N: Session<A>, A: Allocator + Copy, I: Read>(
+/// Gives the scan of each frame that comes until the input ends. The buffer already has `held`
+/// bytes, which came with a read at `at`.
+pub(crate) fn take_frames<N: Session<A>, A: Allocator + Copy, I: Read, R: Wait + Clock>(
+    rt: &R,
     alloc: A,
     signals: &Signals,
     layout: &Layout<A>,
     source: &mut Source<N, A>,
     input: &mut I,
     buffer: &mut [u8],
-    held: usize,
+    (held, at): (usize, i64),
     scans: &mut Scans<A>,
 ) -> Result<(), LossFault> {
     let mut held = held;
+    let mut at = at;
     for _ in 0..u64::MAX {
         held = give_whole(alloc, layout, source, buffer, held, scans)?;
-        scans.publish(signals, false);
+        scans.publish_clock(signals, layout, at);
+        scans.publish(signals);
         let Some(room) = buffer.get_mut(held..) else {
             return Ok(());
         };
-        match input.read(room) {
-            Ok(0) => {
+        match read_some(rt, input, room) {
+            Given::End => {
                 if held > 0 {
                     scans.teller.tell(Event::Cut(held as u64));
                 }
                 return Ok(());
             }
-            Ok(count) => held = held.saturating_add(count),
-            Err(_) => {
+            Given::Bytes(count) => held = held.saturating_add(count),
+            Given::Broken => {
                 scans.teller.tell(Event::Broken);
+                signals.broken.store(true, Ordering::SeqCst);
                 return Ok(());
             }
         }
+        at = now(rt);
     }
     Ok(())
 }

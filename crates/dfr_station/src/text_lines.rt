@@ -2,11 +2,13 @@
 
 use crate::event::{Event, Skipped};
 use crate::intake::{
-    Came, HEAD_LEN, HEAD_LINES, Tally, Why, commands_of, give, is_scan_line, lose,
+    HEAD_LEN, HEAD_LINES, Tally, Why, commands_of, give, is_damaged, is_scan_line, lose,
 };
 use crate::orders::{Placed, skipped_of};
+use crate::reading::{Given, read_some};
 use crate::scans::Scans;
 use crate::signals::Signals;
+use crate::telling::now;
 use crate::text_buffer::{
     feeds_in, kept_after, line_at, line_end, piece_end, whole_end, with_head,
 };
@@ -17,6 +19,9 @@ use memchr::memchr;
 use rtrb::Producer;
 use std::alloc::{Allocator, Global};
 use std::io::Read;
+use std::sync::Wait;
+use std::sync::atomic::Ordering;
+use std::time::Clock;
 
 /// What the lines of the input are applied to.
 #[derive(Drop)]
@@ -98,7 +103,9 @@ impl<N: Session<A>, A: Allocator + Copy> Lane<'_, N, A> {
         Ok(())
     }
 
-    /// Handles a line that can't be read: a scan line is a lost scan, any other line is skipped.
+    /// Handles a line that can't be read: a scan line is a lost scan, any other line is skipped. A
+    /// damaged line after the first scan is skipped and a lost scan, so that later scans keep their
+    /// instants.
     fn refuse(&mut self, text: &[u8], why: Skipped) -> Result<(), LossFault> {
         self.lines = self.lines.saturating_add(1);
         if is_scan_line(text) {
@@ -110,6 +117,9 @@ impl<N: Session<A>, A: Allocator + Copy> Lane<'_, N, A> {
             return self.lose(why);
         }
         self.skip(self.lines, why);
+        if self.scans.came() > 0 && is_damaged(text) {
+            return self.lose(Why::Unread);
+        }
         Ok(())
     }
 
@@ -243,35 +253,40 @@ fn take_whole<N: Session<A>, A: Allocator + Copy>(
 }
 
 /// Carries out each line that comes until the input ends. The buffer has room for the shortest
-/// set-up at its front; up to `held` it has the bytes that have already come.
-pub(crate) fn take_lines<N: Session<A>, A: Allocator + Copy, I: Read>(
+/// set-up at its front; up to `held` it has the bytes that came with a read at `at`.
+pub(crate) fn take_lines<N: Session<A>, A: Allocator + Copy, I: Read, R: Wait + Clock>(
+    rt: &R,
     signals: &Signals,
     lane: &mut Lane<'_, N, A>,
     input: &mut I,
     buffer: &mut [u8],
-    held: usize,
+    (held, at): (usize, i64),
 ) -> Result<(), LossFault> {
     let mut held = held;
+    let mut at = at;
     let mut reading = Reading::Lines;
     for _ in 0..u64::MAX {
         held = take_whole(lane, buffer, held, &mut reading)?;
-        lane.scans.publish(signals, false);
+        lane.scans.publish_clock(signals, lane.layout, at);
+        lane.scans.publish(signals);
         let Some(room) = buffer.get_mut(held..) else {
             return Ok(());
         };
-        match input.read(room) {
-            Ok(0) => {
+        match read_some(rt, input, room) {
+            Given::End => {
                 if reading == Reading::Lines {
                     lane.carry_lines(buffer, HEAD_LEN, held)?;
                 }
                 return Ok(());
             }
-            Ok(count) => held = held.saturating_add(count),
-            Err(_) => {
+            Given::Bytes(count) => held = held.saturating_add(count),
+            Given::Broken => {
                 lane.scans.teller.tell(Event::Broken);
+                signals.broken.store(true, Ordering::SeqCst);
                 return Ok(());
             }
         }
+        at = now(rt);
     }
     Ok(())
 }
