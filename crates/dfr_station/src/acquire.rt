@@ -1,5 +1,6 @@
 //! The acquisition: it waits only for the input, never for another thread.
 
+use crate::filler::Filler;
 use crate::frames::take_frames;
 use crate::orders::Placed;
 use crate::scans::Scans;
@@ -23,6 +24,7 @@ pub(crate) struct Acquisition<'x, N: Session<A>, I, A: Allocator = Global> {
     pub(crate) scans: Scans<A>,
     pub(crate) orders: Producer<Placed<A>, A>,
     pub(crate) form: Input,
+    pub(crate) filler: Filler<A>,
     /// The input buffer. Up to `held` it has what came before the recorder was made.
     pub(crate) buffer: Vec<u8, A>,
     pub(crate) held: usize,
@@ -49,6 +51,7 @@ fn take_in<N: Session<A>, A: Allocator + Copy, I: Read, R: Wait + Clock>(
             &mut task.buffer,
             (task.held, task.at),
             &mut task.scans,
+            &mut task.filler,
         ),
         Input::Lines => {
             let mut lane = Lane {
@@ -56,6 +59,7 @@ fn take_in<N: Session<A>, A: Allocator + Copy, I: Read, R: Wait + Clock>(
                 layout,
                 source: &mut task.source,
                 scans: &mut task.scans,
+                filler: &mut task.filler,
                 orders: &mut task.orders,
                 lines: 0,
             };

@@ -3,6 +3,7 @@
 use crate::acquire::Acquisition;
 use crate::event::Event;
 use crate::export::Exports;
+use crate::filler::Filler;
 use crate::first::First;
 use crate::operator::Operator;
 use crate::orders::{Placed, Trigger};
@@ -51,6 +52,7 @@ pub(crate) struct How<A: Allocator> {
     pub(crate) minutes: bool,
     pub(crate) operator: Option<Consumer<u8, A>>,
     pub(crate) first: First<A>,
+    pub(crate) filler: Filler<A>,
 }
 
 /// The operator's lines, if there is an operator.
@@ -88,6 +90,22 @@ pub(crate) fn tasks_of<
         events,
         orders,
     } = queues;
+    let How {
+        form,
+        kind,
+        minutes,
+        operator,
+        first: came,
+        filler,
+    } = how;
+    let First {
+        buffer,
+        held,
+        at,
+        scans: _,
+        watch,
+        is_all: _,
+    } = came;
     let layout = shared.opening().layout();
     let rate = layout.rate();
     scans.tell(Event::Started {
@@ -104,31 +122,32 @@ pub(crate) fn tasks_of<
             source,
             scans: Scans::new(scans),
             orders: orders.0,
-            form: how.form,
-            buffer: how.first.buffer,
-            held: how.first.held,
-            at: how.first.at,
+            form,
+            filler,
+            buffer,
+            held,
+            at,
         }),
         trigger: Mutex::new(Trigger {
             alloc,
             token: first,
             orders: orders.1,
             next: None,
-            operator: operator_of(alloc, how.operator),
+            operator: operator_of(alloc, operator),
             teller: triggers,
             shelf,
             is_full: false,
             missed: 0,
             told: 0,
         }),
-        exports: Mutex::new(Exports::new(store, second, exports, how.kind)),
+        exports: Mutex::new(Exports::new(store, second, exports, kind)),
         telling: Mutex::new(Telling {
             printer,
             scans: events.0,
             triggers: events.1,
             exports: events.2,
-            minutes: how.minutes,
-            watch: how.first.watch,
+            minutes,
+            watch,
         }),
     }
 }

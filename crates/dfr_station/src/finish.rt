@@ -6,7 +6,7 @@ ghost use Rattle.dfr_recorder.specs.Own.{is_own};
 use crate::event::Event;
 use crate::export::{LAST_TRIES, RETRY, hand_over};
 use crate::intake::{Counts, Recorded};
-use crate::run::{LINE, ended_event, print_one};
+use crate::run::{ended_event, print_one};
 use crate::station::{Printer, Store, Stored};
 use comtrade_write::Kind;
 use dfr_channels::Layout;
@@ -108,30 +108,50 @@ fn written<A: Allocator + Copy, K: Store, P: Printer, R: Wait + Clock>(
     }
 }
 
-/// Closes the record that is open, if there is one, and writes it. Then prints the event of the end.
-/// Returns the counts with this record.
-pub fn finish<A: Allocator + Copy, K: Store, P: Printer, R: Wait + Clock>(
+/// Closes the record that is open, if there is one, and writes it. Returns the counts with this
+/// record.
+fn with_open<A: Allocator + Copy, K: Store, P: Printer, R: Wait + Clock>(
     rt: &R,
     alloc: A,
     kind: Kind,
-    recorded: Recorded<A>,
+    recorder: &mut Recorder<A>,
+    counts: Counts,
     store: &mut K,
     printer: &mut P,
+    text: &mut Vec<u8, A>,
 ) -> Counts {
-    let Recorded { ended, mut counts } = recorded;
-    let mut recorder = ended.recorder;
-    let mut text = Vec::new(alloc);
-    if recorder.is_recording() {
-        if is_closed(&mut recorder) && let Some(taken) = recorder.take() {
-            let layout = recorder.layout();
-            counts = written(
-                rt, alloc, layout, kind, &taken, counts, store, printer, &mut text,
-            );
-        } else {
-            counts.unwritten = counts.unwritten.saturating_add(1);
-            print_one(rt, &mut text, printer, Event::Unfinished);
-        }
+    if !recorder.is_recording() {
+        return counts;
     }
+    if is_closed(recorder)
+        && let Some(taken) = recorder.take()
+    {
+        let layout = recorder.layout();
+        return written(
+            rt, alloc, layout, kind, &taken, counts, store, printer, text,
+        );
+    }
+    print_one(rt, text, printer, Event::Unfinished);
+    Counts {
+        unwritten: counts.unwritten.saturating_add(1),
+        ..counts
+    }
+}
+
+/// Closes the record that was open when the input ended, if there was one, and writes it. Then
+/// prints the event of the end. What is left has the recorder and the counts after that.
+pub fn finish_station<A: Allocator + Copy, K: Store, P: Printer, R: Wait + Clock>(
+    rt: &R,
+    alloc: A,
+    kind: Kind,
+    left: &mut Recorded<A>,
+    store: &mut K,
+    printer: &mut P,
+) {
+    let mut text = Vec::new(alloc);
+    let counts = left.counts;
+    let recorder = &mut left.ended.recorder;
+    let counts = with_open(rt, alloc, kind, recorder, counts, store, printer, &mut text);
     print_one(rt, &mut text, printer, ended_event(counts));
-    counts
+    left.counts = counts;
 }

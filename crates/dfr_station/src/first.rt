@@ -16,7 +16,7 @@ use std::io::Read;
 use std::sync::atomic::{AtomicBool, Ordering};
 use std::sync::{Mutex, Wait};
 use std::thread;
-use std::thread::Threads;
+use std::thread::{Scope, Threads};
 use std::time::{Clock, Duration};
 
 /// The most bytes read at once, and the greatest length of a line.
@@ -89,35 +89,65 @@ fn scans_in_lines(text: &[u8]) -> u64 {
 /// How many scans have come whole. `frame` is the size of a frame in bytes.
 fn scans_in(form: Input, frame: usize, bytes: &[u8]) -> u64 {
     match form {
-        Input::Frames => { if frame == 0 { 0 } else { (bytes.len() / frame) as u64 } }
+        Input::Frames => {
+            if frame == 0 {
+                0
+            } else {
+                (bytes.len() / frame) as u64
+            }
+        }
         Input::Lines => scans_in_lines(bytes),
     }
 }
 
-/// Reads until all of the first scan has come or the input ends, or the buffer is half full.
-fn read_scan<A: Allocator, I: Read, R: Wait + Clock>(
+/// What the thread works on that reads.
+#[derive(Drop)]
+struct Reading<'x, I, A: Allocator> {
+    input: &'x mut I,
+    first: First<A>,
+}
+
+/// The bytes that have come.
+fn bytes_of<A: Allocator>(first: &First<A>, form: Input) -> &[u8] {
+    let bytes = first.buffer.as_slice();
+    bytes.get(head_of(form)..first.held).unwrap_or(&[])
+}
+
+/// Reads once. Returns whether there is more to read: the first scan has not come whole, the input
+/// has not ended, and less than half of the buffer is full.
+fn read_on<A: Allocator, I: Read, R: Wait + Clock>(
     rt: &R,
-    input: &mut I,
     form: Input,
     frame: usize,
+    input: &mut I,
     first: &mut First<A>,
-) {
-    let from = first.held;
-    for _ in 0..ROOM {
-        let Some(room) = first.buffer.as_mut_slice().get_mut(first.held..) else {
-            return;
-        };
-        match read_some(rt, input, room) {
-            Given::End | Given::Broken => {
-                first.is_all = true;
-                return;
-            }
-            Given::Bytes(count) => first.held = first.held.saturating_add(count),
+) -> bool {
+    let held = first.held;
+    let Some(room) = first.buffer.as_mut_slice().get_mut(held..) else {
+        return false;
+    };
+    match read_some(rt, input, room) {
+        Given::End | Given::Broken => {
+            first.is_all = true;
+            return false;
         }
-        first.at = now(rt);
-        let bytes = first.buffer.as_slice().get(from..first.held).unwrap_or(&[]);
-        first.scans = scans_in(form, frame, bytes);
-        if first.scans > 0 || bytes.len() >= ROOM / 2 {
+        Given::Bytes(count) => first.held = held.saturating_add(count),
+    }
+    first.at = now(rt);
+    let scans = scans_in(form, frame, bytes_of(first, form));
+    first.scans = scans;
+    scans == 0 && first.held < ROOM / 2
+}
+
+/// Reads until all of the first scan has come or the input ends, or half of the buffer is full.
+fn read_scan<A: Allocator, I: Read, R: Wait + Clock>(
+    rt: &R,
+    form: Input,
+    frame: usize,
+    task: &mut Reading<'_, I, A>,
+) {
+    for _ in 0..ROOM {
+        if !read_on(rt, form, frame, &mut *task.input, &mut task.first) {
             return;
         }
     }
@@ -157,15 +187,19 @@ impl<P: Printer, A: Allocator> Before<'_, P, A> {
     }
 }
 
+/// The state of both threads. The state of one thread has a lock that this thread holds throughout.
+#[derive(Drop)]
+struct Both<'x, 'y, I, P, A: Allocator> {
+    has_come: AtomicBool,
+    reading: Mutex<Reading<'x, I, A>>,
+    before: Mutex<Before<'y, P, A>>,
+}
+
 /// Prints the lines that are due, until the first scan has come.
-fn report<P: Printer, A: Allocator, R: Wait + Clock>(
-    rt: &R,
-    has_come: &AtomicBool,
-    before: &Mutex<Before<'_, P, A>>,
-) {
-    let mut held = before.lock(rt);
+fn report<P: Printer, A: Allocator, I, R: Wait + Clock>(rt: &R, both: &Both<'_, '_, I, P, A>) {
+    let mut held = both.before.lock(rt);
     for _ in rt.forever() {
-        if has_come.load(Ordering::SeqCst) {
+        if both.has_come.load(Ordering::SeqCst) {
             return;
         }
         held.print(rt);
@@ -173,19 +207,56 @@ fn report<P: Printer, A: Allocator, R: Wait + Clock>(
     }
 }
 
-/// An empty buffer, with the time of this instant.
-fn begun<A: Allocator>(
-    alloc: A,
-    clock: &impl Clock,
+/// Reads the first scan in this thread.
+fn run_reading<A: Allocator, I: Read, P, R: Wait + Clock>(
+    rt: &R,
     form: Input,
-) -> Result<First<A>, AllocError> {
-    let held = match form {
+    frame: usize,
+    both: &Both<'_, '_, I, P, A>,
+) {
+    let mut held = both.reading.lock(rt);
+    read_scan(rt, form, frame, &mut *held);
+}
+
+/// Starts the thread that reports. Returns false if it can't be started.
+fn start<'s, E, A: Allocator + Send + Sync>(
+    scope: &Scope<'s, E>,
+    rt: &'s (impl Threads + Wait + Clock + Sync),
+    both: &'s Both<'_, '_, impl Read + Send, impl Printer + Send, A>,
+) -> bool {
+    scope.spawn(move || report(rt, both)).is_ok()
+}
+
+/// Reads the first scan while the other thread reports. Returns false if that can't be started.
+fn read_reporting<A: Allocator + Send + Sync>(
+    rt: &(impl Threads + Wait + Clock + Sync),
+    form: Input,
+    frame: usize,
+    both: &Both<'_, '_, impl Read + Send, impl Printer + Send, A>,
+) -> bool {
+    thread::scope(thread::scope_env(), rt, |scope| {
+        let started = start(scope, rt, both);
+        if started {
+            run_reading(rt, form, frame, both);
+        }
+        both.has_come.store(true, Ordering::SeqCst);
+        started
+    })
+}
+
+/// Where the bytes of the input begin in the buffer.
+fn head_of(form: Input) -> usize {
+    match form {
         Input::Frames => 0,
         Input::Lines => HEAD_LEN,
-    };
+    }
+}
+
+/// An empty buffer, with the time of this instant.
+fn begun<A: Allocator>(alloc: A, clock: &impl Clock, form: Input) -> Result<First<A>, AllocError> {
     Ok(First {
         buffer: vec![in alloc; 0u8; ROOM + HEAD_LEN]?,
-        held,
+        held: head_of(form),
         at: now(clock),
         scans: 0,
         watch: Watch::new(millis(clock)),
@@ -208,30 +279,34 @@ pub fn read_first<
     (form, frame, minutes): (Input, usize, bool),
 ) -> Result<First<A>, AllocError> {
     let first = begun(alloc, rt, form)?;
-    let before = Mutex::new(Before {
-        printer,
-        text: Vec::with_capacity(alloc, LINES)?,
-        watch: first.watch,
-        minutes,
-    });
-    let reading = Mutex::new((input, first));
-    let has_come = AtomicBool::new(false);
-    let (shared, come) = (&before, &has_come);
-    let started = thread::scope(thread::scope_env(), rt, |scope| {
-        let started = scope.spawn(move || report(rt, come, shared)).is_ok();
-        if started {
-            let mut held = reading.lock(rt);
-            let (input, first) = &mut *held;
-            read_scan(rt, &mut **input, form, frame, first);
-        }
-        come.store(true, Ordering::SeqCst);
-        started
-    });
-    let (_, first) = reading.into_inner();
-    let Before { watch, .. } = before.into_inner();
+    let text = Vec::with_capacity(alloc, LINES)?;
+    let watch = first.watch;
+    let both = Both {
+        has_come: AtomicBool::new(false),
+        reading: Mutex::new(Reading { input, first }),
+        before: Mutex::new(Before {
+            printer,
+            text,
+            watch,
+            minutes,
+        }),
+    };
+    let started = read_reporting(rt, form, frame, &both);
+    let Both {
+        has_come: _,
+        reading,
+        before,
+    } = both;
+    let Reading {
+        input: _,
+        mut first,
+    } = reading.into_inner();
+    let before = before.into_inner();
+    first.watch = before.watch;
+    drop(before);
     if !started {
         drop(first);
         return Err(AllocError);
     }
-    Ok(First { watch, ..first })
+    Ok(first)
 }

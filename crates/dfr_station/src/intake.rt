@@ -9,7 +9,8 @@ mod keep;
 mod lines;
 
 pub use ended::{Counts, Recorded, RunFault, ended_of};
-pub use feed::{Came, Tally, Why, give, give_frames, lose};
+pub(crate) use feed::why_of;
+pub use feed::{Came, Tally, Why, give, give_frames, give_missing, lose};
 pub use frame::{frame_len, scan_of_frame};
 pub use keep::surplus_bytes;
 pub use lines::{HEAD, HEAD_LEN, HEAD_LINES, commands_of, is_damaged, is_scan_line};

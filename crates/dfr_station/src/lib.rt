@@ -7,6 +7,7 @@ mod acquire;
 mod begin;
 mod event;
 mod export;
+mod filler;
 mod finish;
 mod first;
 mod frames;
@@ -31,11 +32,11 @@ mod text_lines;
 mod watch;
 
 pub use event::{Asked, Event, Replied, Skipped, Trouble};
-pub use finish::finish;
+pub use finish::finish_station;
 pub use first::{First, read_first};
 pub use intake::{
     Came, Counts, Recorded, RunFault, Tally, Why, commands_of, frame_len, give, give_frames,
-    is_damaged, is_scan_line, lose, scan_of_frame, surplus_bytes,
+    give_missing, is_damaged, is_scan_line, lose, scan_of_frame, surplus_bytes,
 };
 pub use key::{Key, key_at, key_in, put_key};
 pub use prepared::{SetupRefusal, recorder_of};

@@ -1,5 +1,7 @@
 //! The lines of events: the instant of printing, what happened, and its numbers with their names.
 
+ghost use Rattle.std.specs.Prelude.{◌≡◌, ◌+◌, ◌/◌, unsigned_abs};
+
 use crate::event::{Asked, Event, Replied, Skipped, Trouble};
 use crate::intake::Why;
 use crate::key::{put_key, put_padded};
@@ -43,7 +45,7 @@ fn put_instant<A: Allocator>(out: &mut Vec<u8, A>, instant: i64) -> Result<(), A
 
 /// The size of a number of microseconds in milliseconds, to the nearest.
 fn rounded_millis(micros: i64) -> u64
-    ensures { result ≡ (abs micros + 500) / 1_000 }
+    ensures { result ≡ (unsigned_abs micros + 500) / 1_000 }
 {
     (micros.unsigned_abs() + 500) / 1_000
 }

@@ -21,11 +21,7 @@ pub(crate) enum Given {
 
 /// Reads bytes into the room, at least one unless the input has ended. A read that a signal
 /// interrupted is repeated at once; one that would block is repeated after a nap.
-pub(crate) fn read_some<I: Read, R: Wait + Clock>(
-    rt: &R,
-    input: &mut I,
-    room: &mut [u8],
-) -> Given {
+pub(crate) fn read_some<I: Read, R: Wait + Clock>(rt: &R, input: &mut I, room: &mut [u8]) -> Given {
     for _ in rt.forever() {
         match input.read(room) {
             Ok(0) => return Given::End,

@@ -8,6 +8,7 @@ ghost use Rattle.dfr_station.specs.Runs.{Leaves};
 use crate::acquire::Acquisition;
 use crate::begin::{How, queues_in, tasks_of};
 use crate::event::Event;
+use crate::filler::Filler;
 use crate::first::First;
 use crate::intake::{Counts, Recorded, RunFault, ended_of};
 use crate::orders::Trigger;
@@ -29,7 +30,7 @@ use std::time::Clock;
 const LANE: usize = 65_536;
 
 /// The greatest length of an event's line, in bytes.
-pub(crate) const LINE: usize = 512;
+const LINE: usize = 512;
 
 /// Records the input until it ends, in four threads:
 ///
@@ -39,7 +40,7 @@ pub(crate) const LINE: usize = 512;
 /// - The last thread prints the events.
 ///
 /// The steps of all threads form one list, with the answers that a recorder in one thread gives:
-/// see `Ended::one_list`. `finish` writes the record that is open at the end.
+/// see `Ended::one_list`. `finish_station` writes the record that is open at the end.
 pub fn run_station<
     A: Allocator + Copy + Send + Sync,
     I: Read + Send,
@@ -62,6 +63,11 @@ pub fn run_station<
         drop(first);
         return Err(RunFault::Memory);
     };
+    let Ok(filler) = Filler::new(alloc, station.recorder.layout()) else {
+        drop(station);
+        drop(first);
+        return Err(RunFault::Memory);
+    };
     let Station {
         recorder,
         input: form,
@@ -75,6 +81,7 @@ pub fn run_station<
         minutes,
         operator,
         first,
+        filler,
     };
     match open(alloc, recorder, LANE, 2) {
         Ok(opened) => {
@@ -203,10 +210,12 @@ fn source_of<N: Session<A>, A: Allocator, I>(
         scans,
         orders,
         form: _,
+        filler,
         buffer,
         held: _,
         at: _,
     } = acquisition;
+    drop(filler);
     drop(scans);
     drop(orders);
     drop(buffer);

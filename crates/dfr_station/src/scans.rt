@@ -15,6 +15,8 @@ pub(crate) struct Scans<A: Allocator = Global> {
     pub(crate) teller: Teller<A>,
     came: u64,
     lost: u64,
+    /// The place of the newest scan that was offered.
+    offered: Option<u64>,
     /// Lost scans that have not been reported yet.
     losses: Option<Losses>,
 }
@@ -25,6 +27,7 @@ impl<A: Allocator> Scans<A> {
             teller,
             came: 0,
             lost: 0,
+            offered: None,
             losses: None,
         }
     }
@@ -37,6 +40,11 @@ impl<A: Allocator> Scans<A> {
     /// How many of them were lost.
     pub(crate) fn lost(&self) -> u64 {
         self.lost
+    }
+
+    /// The place of the newest scan that was offered.
+    pub(crate) fn offered(&self) -> Option<u64> {
+        self.offered
     }
 
     /// Publishes how much the wall clock is ahead of the time of the newest scan, which came with a
@@ -72,15 +80,18 @@ impl<A: Allocator> Scans<A> {
 
 impl<A: Allocator> Tally for Scans<A> {
     fn count(&mut self, came: Came) {
-        if let Came::Lost(why) = came {
-            self.lost = self.lost.saturating_add(1);
-            let one = Losses {
-                first: self.came,
-                last: self.came,
-                count: 1,
-                why,
-            };
-            self.losses = Some(joined(self.losses, one));
+        match came {
+            Came::Offered => self.offered = Some(self.came),
+            Came::Lost(why) => {
+                self.lost = self.lost.saturating_add(1);
+                let one = Losses {
+                    first: self.came,
+                    last: self.came,
+                    count: 1,
+                    why,
+                };
+                self.losses = Some(joined(self.losses, one));
+            }
         }
         self.came = self.came.saturating_add(1);
     }

@@ -1,8 +1,10 @@
 //! Reads lines, which come in pieces of any size.
 
 use crate::event::{Event, Skipped};
+use crate::filler::{Filler, is_due};
 use crate::intake::{
-    HEAD_LEN, HEAD_LINES, Tally, Why, commands_of, give, is_damaged, is_scan_line, lose,
+    Came, HEAD_LEN, HEAD_LINES, Tally, Why, commands_of, give, is_damaged, is_scan_line, lose,
+    why_of,
 };
 use crate::orders::{Placed, skipped_of};
 use crate::reading::{Given, read_some};
@@ -30,6 +32,7 @@ pub(crate) struct Lane<'a, N: Session<A>, A: Allocator = Global> {
     pub(crate) layout: &'a Layout<A>,
     pub(crate) source: &'a mut Source<N, A>,
     pub(crate) scans: &'a mut Scans<A>,
+    pub(crate) filler: &'a mut Filler<A>,
     pub(crate) orders: &'a mut Producer<Placed<A>, A>,
     /// How many lines were processed.
     pub(crate) lines: u64,
@@ -43,13 +46,26 @@ impl<N: Session<A>, A: Allocator + Copy> Lane<'_, N, A> {
 
     /// Gives a scan to the recorder and counts it.
     fn give(&mut self, scan: Scan<A>) -> Result<(), LossFault> {
+        if is_due(self.source)
+            && let Err(fault) = self.layout.check(&scan)
+        {
+            return self.lose(why_of(fault));
+        }
+        self.filler.note(scan.status());
         let came = give(self.layout, self.source, scan)?;
+        if came == Came::Offered {
+            self.filler.keep();
+        }
         self.scans.count(came);
         Ok(())
     }
 
-    /// Counts a lost scan.
+    /// Counts a lost scan, whose place is filled if that is due.
     fn lose(&mut self, why: Why) -> Result<(), LossFault> {
+        if self.filler.fill(self.alloc, self.layout, self.source) {
+            self.scans.count(Came::Lost(why));
+            return Ok(());
+        }
         let came = lose(self.source, why)?;
         self.scans.count(came);
         Ok(())

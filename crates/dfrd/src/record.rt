@@ -6,7 +6,7 @@ use crate::words::Asked;
 use comtrade_io::{ToolFault, fault_of, read_up_to};
 use dfr_recorder::Recorder;
 use dfr_station::{
-    Printer, Station, Store, finish, frame_len, read_first, recorder_of, run_station,
+    Printer, Station, Store, finish_station, frame_len, read_first, recorder_of, run_station,
 };
 use rtrb::Consumer;
 use std::alloc::Global;
@@ -135,9 +135,9 @@ pub(crate) fn record<
                 operator,
             };
             match run_station(rt, rt.alloc(), station, first, input, store, printer) {
-                Ok(recorded) => {
-                    let counts = finish(rt, rt.alloc(), asked.kind, recorded, store, printer);
-                    u8::from(!counts.is_whole())
+                Ok(mut left) => {
+                    finish_station(rt, rt.alloc(), asked.kind, &mut left, store, printer);
+                    u8::from(!left.counts.is_whole())
                 }
                 Err(fault) => complain(rt, "recording", fault),
             }

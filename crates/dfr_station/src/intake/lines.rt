@@ -73,7 +73,11 @@ fn first_word(line: &[u8]) -> &[u8] {
 /// Whether a line is probably a scan line that was damaged: it is neither blank nor a comment, and
 /// its first word is none of the script language.
 pub fn is_damaged(line: &[u8]) -> bool {
-    if line.starts_with(b"#") || line.iter().all(|b| matches!(*b, b' ' | b'\t' | b'\r' | b'\n')) {
+    if line.starts_with(b"#")
+        || line
+            .iter()
+            .all(|b| matches!(*b, b' ' | b'\t' | b'\r' | b'\n'))
+    {
         return false;
     }
     let word = first_word(line);
