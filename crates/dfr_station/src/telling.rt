@@ -49,8 +49,8 @@ impl<P: Printer, A: Allocator + Copy> Telling<'_, P, A> {
     /// Makes the lines of the input's silence and of each minute, if they are due.
     fn put_watch(&mut self, turn: Turn, signals: &Signals) {
         let came = signals.came.load(Ordering::SeqCst);
-        if !turn.is_end
-            && let Some(event) = self.watch.silence(came, turn.millis)
+        if let Some(event) = self.watch.silence(came, turn.millis)
+            && (!turn.is_end || event == Event::Heard)
         {
             put_line(&mut self.exports.text, turn.at, event);
         }
