@@ -1,5 +1,5 @@
-# every scan keeps its place: lines of scans that can't be read, have another shape or a value out of range are lost; what else
-# can't be read is skipped with its line
+# every scan keeps its place: lines of scans that can't be read, have another shape or a value out of range are lost, and so is a line
+# with an unknown word; what else can't be read is skipped with its line
 . files/dfrd.bash
 printf 'station S\ndevice D\nanalog A,,,A,1,0,0,-100,100,1,1,P\nstatus S,,,0\nfreq 50\nrate 1000\nlimits 9,1,11,1\n' > "$work/setup"
 "$dfrd" --quiet --start 0 "$work/setup" "$folder" <<'END' | told

@@ -3,6 +3,7 @@
 use crate::acquire::Acquisition;
 use crate::event::Event;
 use crate::export::Exports;
+use crate::filler::Filler;
 use crate::first::First;
 use crate::operator::Operator;
 use crate::orders::{Placed, Trigger};
@@ -11,14 +12,13 @@ use crate::signals::Signals;
 use crate::station::{Input, Printer, Store};
 use crate::tasks::Tasks;
 use crate::teller::{Teller, Waiting, telling_of};
-use crate::telling::{Telling, minute};
+use crate::telling::Telling;
 use comtrade_write::Kind;
 use dfr_live::{Session, Shared, Source, Token};
 use rtrb::{Consumer, Producer, RingBuffer};
 use std::alloc::{AllocError, Allocator};
 use std::io::Read;
 use std::sync::Mutex;
-use std::time::Clock;
 
 /// The most orders of the input that may wait.
 const ORDERS: usize = 1_024;
@@ -52,6 +52,7 @@ pub(crate) struct How<A: Allocator> {
     pub(crate) minutes: bool,
     pub(crate) operator: Option<Consumer<u8, A>>,
     pub(crate) first: First<A>,
+    pub(crate) filler: Filler<A>,
 }
 
 /// The operator's lines, if there is an operator.
@@ -72,9 +73,7 @@ pub(crate) fn tasks_of<
     I: Read,
     K: Store,
     P: Printer,
-    R: Clock,
 >(
-    rt: &R,
     alloc: A,
     how: How<A>,
     queues: Queues<A>,
@@ -91,6 +90,22 @@ pub(crate) fn tasks_of<
         events,
         orders,
     } = queues;
+    let How {
+        form,
+        kind,
+        minutes,
+        operator,
+        first: came,
+        filler,
+    } = how;
+    let First {
+        buffer,
+        held,
+        at,
+        scans: _,
+        watch,
+        is_all: _,
+    } = came;
     let layout = shared.opening().layout();
     let rate = layout.rate();
     scans.tell(Event::Started {
@@ -105,32 +120,34 @@ pub(crate) fn tasks_of<
         acquisition: Mutex::new(Acquisition {
             input,
             source,
-            scans: Scans::new(scans, rate),
+            scans: Scans::new(scans),
             orders: orders.0,
-            form: how.form,
-            buffer: how.first.buffer,
-            held: how.first.held,
+            form,
+            filler,
+            buffer,
+            held,
+            at,
         }),
         trigger: Mutex::new(Trigger {
             alloc,
             token: first,
             orders: orders.1,
             next: None,
-            operator: operator_of(alloc, how.operator),
+            operator: operator_of(alloc, operator),
             teller: triggers,
             shelf,
             is_full: false,
             missed: 0,
             told: 0,
         }),
-        exports: Mutex::new(Exports::new(store, second, exports, how.kind)),
+        exports: Mutex::new(Exports::new(store, second, exports, kind)),
         telling: Mutex::new(Telling {
             printer,
             scans: events.0,
             triggers: events.1,
             exports: events.2,
-            minutes: how.minutes,
-            minute: minute(rt),
+            minutes,
+            watch,
         }),
     }
 }

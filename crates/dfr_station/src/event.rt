@@ -88,10 +88,13 @@ pub enum Event {
         at: u64,
         reply: Replied,
     },
-    /// A record's pair was stored under this name.
+    /// A record's pair was stored under this name. `clock` is as in `Minute`. The record was closed
+    /// with lost scans after the input ended, if `is_cut`.
     Record {
         extent: Extent,
         key: Key,
+        clock: Option<i64>,
+        is_cut: bool,
     },
     /// A record was given up, since the store did not take it before the end.
     Unwritten(Extent),
@@ -107,7 +110,7 @@ pub enum Event {
     Over,
     /// So many of the oldest pairs were removed.
     Removed(u64),
-    /// A record was open when the input ended. It is not written.
+    /// A record was open when the input ended, and can't be closed. It is not written.
     Unfinished,
     /// The input ended within a frame, of which so many bytes came.
     Cut(u64),
@@ -117,14 +120,20 @@ pub enum Event {
     Memory,
     /// So many events were not reported, since the queue was full.
     Missed(u64),
+    /// No scan has come for so many seconds.
+    Silent(u64),
+    /// Scans come again.
+    Heard,
     /// The counts of each minute: scans, lost scans among them, records written, records that wait,
-    /// and scans at which a rule fired while the shelf was full.
+    /// and scans at which a rule fired while the shelf was full. When the newest scan was read, the
+    /// wall clock was `clock` microseconds ahead of its time; None before the first scan.
     Minute {
         scans: u64,
         lost: u64,
         records: u64,
         waiting: u64,
         missed: u64,
+        clock: Option<i64>,
     },
     /// Recording ended: scans, lost scans among them, records written, and `left`, the scans for
     /// which no step was made.

@@ -24,10 +24,10 @@ use std::time::{Clock, Duration};
 const NAP: u64 = 10;
 
 /// How long it waits before it tries a record again, in milliseconds.
-const RETRY: u64 = 1_000;
+pub(crate) const RETRY: u64 = 1_000;
 
 /// The most times a record is tried after the input has ended.
-const LAST_TRIES: u32 = 10;
+pub(crate) const LAST_TRIES: u32 = 10;
 
 /// What the export thread works on.
 #[derive(Drop)]
@@ -99,7 +99,7 @@ fn pair_and_key<A: Allocator + Copy>(
 }
 
 /// Makes a record's pair and hands it to the store, once.
-fn hand_over<K: Store, A: Allocator + Copy>(
+pub(crate) fn hand_over<K: Store, A: Allocator + Copy>(
     alloc: A,
     layout: &Layout<A>,
     kind: Kind,
@@ -142,6 +142,8 @@ impl<K: Store, A: Allocator + Copy> Exports<'_, K, A> {
                 self.teller.tell(Event::Record {
                     extent,
                     key: stored.key,
+                    clock: signals.clock(),
+                    is_cut: false,
                 });
                 if stored.removed > 0 {
                     self.teller.tell(Event::Removed(stored.removed));

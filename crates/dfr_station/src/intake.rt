@@ -8,8 +8,9 @@ mod frame;
 mod keep;
 mod lines;
 
-pub use ended::{Recorded, RunFault, ended_of};
-pub use feed::{Came, Tally, Why, give, give_frames, lose};
+pub use ended::{Counts, Recorded, RunFault, ended_of};
+pub(crate) use feed::why_of;
+pub use feed::{Came, Tally, Why, give, give_frames, give_missing, lose};
 pub use frame::{frame_len, scan_of_frame};
 pub use keep::surplus_bytes;
-pub use lines::{HEAD, HEAD_LEN, HEAD_LINES, commands_of, is_scan_line};
+pub use lines::{HEAD, HEAD_LEN, HEAD_LINES, commands_of, is_damaged, is_scan_line};

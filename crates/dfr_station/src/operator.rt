@@ -13,7 +13,7 @@ use std::sync::Wait;
 /// The greatest length of an operator's line, in bytes.
 const LONGEST: usize = 4_096;
 
-/// The most bytes read in one turn.
+/// The most bytes read in one turn: as many as the operator's queue has.
 const TURN: usize = 65_536;
 
 /// The queue of an operator's bytes, and the line that is being read.
@@ -35,10 +35,11 @@ impl<A: Allocator> Operator<A> {
         }
     }
 
-    /// Reads up to the end of a line. Returns whether that line is too long, or None if its end was
-    /// not found in this turn.
-    fn next_line(&mut self) -> Option<bool> {
+    /// Reads up to the end of a line, but no more bytes than `left`, which it counts down. Returns
+    /// whether that line is too long, or None if its end was not found.
+    fn next_line(&mut self, left: &mut usize) -> Option<bool> {
         for _ in 0..TURN {
+            *left = left.checked_sub(1)?;
             match self.bytes.pop() {
                 Ok(b'\n') => {
                     let is_long = self.is_long;
@@ -114,12 +115,16 @@ impl<A: Allocator + Copy> Trigger<A> {
         }
     }
 
-    /// Carries out the next line of the operator, if all of it has come.
+    /// Carries out the lines of the operator that have come whole.
     pub(crate) fn hear_operator<N: Session<A>>(&mut self, rt: &impl Wait, shared: &Shared<N, A>) {
         let Some(mut operator) = self.operator.take() else {
             return;
         };
-        if let Some(is_long) = operator.next_line() {
+        let mut left = TURN;
+        for _ in 0..TURN {
+            let Some(is_long) = operator.next_line(&mut left) else {
+                break;
+            };
             if is_long {
                 self.teller.tell(Event::Order(Skipped::Long));
             } else {

@@ -1,5 +1,7 @@
 //! The lines of events: the instant of printing, what happened, and its numbers with their names.
 
+ghost use Rattle.std.specs.Prelude.{◌≡◌, ◌+◌, ◌/◌, unsigned_abs};
+
 use crate::event::{Asked, Event, Replied, Skipped, Trouble};
 use crate::intake::Why;
 use crate::key::{put_key, put_padded};
@@ -39,6 +41,13 @@ fn put_instant<A: Allocator>(out: &mut Vec<u8, A>, instant: i64) -> Result<(), A
     put_two(out, ":", civil.time.second)?;
     put(out, ".")?;
     put_padded(out, (civil.time.subsec_nanosecond / 1000) as u64, 6)
+}
+
+/// The size of a number of microseconds in milliseconds, to the nearest.
+fn rounded_millis(micros: i64) -> u64
+    ensures { result ≡ (unsigned_abs micros + 500) / 1_000 }
+{
+    (micros.unsigned_abs() + 500) / 1_000
 }
 
 fn skipped_word(why: Skipped) -> &'static str {
@@ -161,17 +170,40 @@ fn put_losses<A: Allocator>(
     put_why(out, why)
 }
 
+/// Appends the offset of the wall clock, in seconds with a sign and three decimal places.
+fn put_clock<A: Allocator>(out: &mut Vec<u8, A>, clock: Option<i64>) -> Result<(), AllocError> {
+    let Some(clock) = clock else {
+        return Ok(());
+    };
+    let millis = rounded_millis(clock);
+    put(
+        out,
+        if clock < 0 && millis > 0 {
+            " clock -"
+        } else {
+            " clock +"
+        },
+    )?;
+    put_padded(out, millis / 1_000, 1)?;
+    put(out, ".")?;
+    put_padded(out, millis % 1_000, 3)
+}
+
 fn put_record<A: Allocator>(
     out: &mut Vec<u8, A>,
     extent: Extent,
     key: crate::key::Key,
+    clock: Option<i64>,
+    is_cut: bool,
 ) -> Result<(), AllocError> {
     put_extent(out, "record ", extent)?;
     put(out, " ")?;
     put_key(out, key)?;
     put(out, ".cfg ")?;
     put_key(out, key)?;
-    put(out, ".dat")
+    put(out, ".dat")?;
+    put_clock(out, clock)?;
+    put(out, if is_cut { " cut" } else { "" })
 }
 
 fn put_what<A: Allocator>(out: &mut Vec<u8, A>, event: Event) -> Result<(), AllocError> {
@@ -197,7 +229,12 @@ fn put_what<A: Allocator>(out: &mut Vec<u8, A>, event: Event) -> Result<(), Allo
             put(out, skipped_word(why))
         }
         Event::Reply { asked, at, reply } => put_reply(out, asked, at, reply),
-        Event::Record { extent, key } => put_record(out, extent, key),
+        Event::Record {
+            extent,
+            key,
+            clock,
+            is_cut,
+        } => put_record(out, extent, key, clock, is_cut),
         Event::Unwritten(extent) => put_extent(out, "unwritten ", extent),
         Event::ShelfFull(waiting) => put_with(out, "shelf full ", waiting as u64),
         Event::ShelfFree => put(out, "shelf free"),
@@ -212,6 +249,8 @@ fn put_what<A: Allocator>(out: &mut Vec<u8, A>, event: Event) -> Result<(), Allo
         Event::Cut(bytes) => put_with(out, "cut frame ", bytes),
         Event::Broken => put(out, "input broken"),
         Event::Memory => put(out, "memory"),
+        Event::Silent(seconds) => put_with(out, "silent ", seconds),
+        Event::Heard => put(out, "silent over"),
         Event::Missed(count) => put_with(out, "missed lines ", count),
         Event::Minute {
             scans,
@@ -219,10 +258,12 @@ fn put_what<A: Allocator>(out: &mut Vec<u8, A>, event: Event) -> Result<(), Allo
             records,
             waiting,
             missed,
+            clock,
         } => {
             put_counts(out, "minute scans ", scans, lost, records)?;
             put_with(out, " waiting ", waiting)?;
-            put_with(out, " missed ", missed)
+            put_with(out, " missed ", missed)?;
+            put_clock(out, clock)
         }
         Event::Ended {
             scans,

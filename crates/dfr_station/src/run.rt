@@ -8,9 +8,11 @@ ghost use Rattle.dfr_station.specs.Runs.{Leaves};
 use crate::acquire::Acquisition;
 use crate::begin::{How, queues_in, tasks_of};
 use crate::event::Event;
+use crate::filler::Filler;
 use crate::first::First;
-use crate::intake::{Recorded, RunFault, ended_of};
+use crate::intake::{Counts, Recorded, RunFault, ended_of};
 use crate::orders::Trigger;
+use crate::signals::Signals;
 use crate::station::{Printer, Station, Store};
 use crate::tasks::{Tasks, in_threads};
 use crate::teller::put_line;
@@ -38,7 +40,7 @@ const LINE: usize = 512;
 /// - The last thread prints the events.
 ///
 /// The steps of all threads form one list, with the answers that a recorder in one thread gives:
-/// see `Ended::one_list`.
+/// see `Ended::one_list`. `finish_station` writes the record that is open at the end.
 pub fn run_station<
     A: Allocator + Copy + Send + Sync,
     I: Read + Send,
@@ -61,6 +63,11 @@ pub fn run_station<
         drop(first);
         return Err(RunFault::Memory);
     };
+    let Ok(filler) = Filler::new(alloc, station.recorder.layout()) else {
+        drop(station);
+        drop(first);
+        return Err(RunFault::Memory);
+    };
     let Station {
         recorder,
         input: form,
@@ -74,15 +81,13 @@ pub fn run_station<
         minutes,
         operator,
         first,
+        filler,
     };
     match open(alloc, recorder, LANE, 2) {
         Ok(opened) => {
             let left = run_named::<Brand, A>(
                 rt, alloc, opened, how, input, store, printer, &mut text,
             )?;
-            if left.ended.recorder.is_recording() {
-                print_one(rt, &mut text, printer, Event::Unfinished);
-            }
             Ok(left)
         }
         Err((fault, recorder)) => {
@@ -122,79 +127,99 @@ fn run_named<N: Session<A> + Send + Sync, A: Allocator + Copy + Send + Sync>(
         unreachable!()
     };
     let tasks = tasks_of(
-        rt, alloc, how, queues, shared, source, first, second, input, store, printer,
+        alloc, how, queues, shared, source, first, second, input, store, printer,
     );
     let started = in_threads(rt, &tasks);
-    let (shared, source, first, second, unwritten) = taken_apart(rt, tasks, started, text)?;
+    let (shared, source, first, second, counts) = taken_apart(rt, tasks, started, text)?;
     tokens.push_reserved(first);
     tokens.push_reserved(second);
-    ended_of(alloc, shared.unlock(), source, tokens, unwritten)
+    ended_of(alloc, shared.unlock(), source, tokens, counts)
 }
 
-/// Takes the state apart after all threads have ended, and prints the event of the end. Returns the
-/// shared recorder, the source, the tokens of the trigger thread and the export thread, and how
-/// many records could not be written.
+/// Takes the state apart after all threads have ended. Returns the shared recorder, the source, the
+/// tokens of the trigger thread and the export thread, and the counts. If a thread couldn't
+/// continue, prints the event of the end.
 fn taken_apart<N: Session<A>, A: Allocator + Copy, I, K, P: Printer, R: Clock>(
     rt: &R,
     tasks: Tasks<'_, '_, '_, N, I, K, P, A>,
     started: bool,
     text: &mut Vec<u8, A>,
-) -> Result<(Shared<N, A>, Source<N, A>, Token<A>, Token<A>, u64), RunFault> {
+) -> Result<(Shared<N, A>, Source<N, A>, Token<A>, Token<A>, Counts), RunFault> {
     if !started {
         drop(tasks);
         return Err(RunFault::Thread);
     }
-    let failed = tasks.signals.failed.load(Ordering::SeqCst);
-    let records = tasks.signals.records.load(Ordering::SeqCst);
     let Tasks {
         alloc: _,
-        signals: _,
+        signals,
         shared,
         acquisition,
         trigger,
         exports,
         telling,
     } = tasks;
-    let (source, scans, lost) = source_of(acquisition.into_inner());
+    let source = source_of(acquisition.into_inner());
     let first = trigger_token(trigger.into_inner());
     let (second, unwritten) = exports.into_inner().into_token();
-    let ended = Event::Ended {
-        scans,
-        lost,
-        records,
-        left: scans.saturating_sub(first.pumped()),
-    };
+    let counts = counts_of(&signals, first.pumped(), unwritten);
     let telling = telling.into_inner();
-    print_one(rt, text, &mut *telling.printer, ended);
-    drop(telling);
-    if failed {
+    if signals.failed.load(Ordering::SeqCst) {
+        print_one(rt, text, &mut *telling.printer, ended_event(counts));
+        drop(telling);
         drop(shared);
         drop(source);
         drop(first);
         drop(second);
         return Err(RunFault::Counter);
     }
-    Ok((shared, source, first, second, unwritten))
+    drop(telling);
+    Ok((shared, source, first, second, counts))
 }
 
-/// The source, how many scans came, and how many of them were lost.
+/// The counts after all threads have ended, if so many steps were made.
+fn counts_of(signals: &Signals, steps: u64, unwritten: u64) -> Counts {
+    let scans = signals.came.load(Ordering::SeqCst);
+    Counts {
+        scans,
+        lost: signals.lost.load(Ordering::SeqCst),
+        left: scans.saturating_sub(steps),
+        records: signals.records.load(Ordering::SeqCst),
+        unwritten,
+        clock: signals.clock(),
+        is_broken: signals.broken.load(Ordering::SeqCst),
+    }
+}
+
+/// The event of the end.
+pub(crate) fn ended_event(counts: Counts) -> Event {
+    Event::Ended {
+        scans: counts.scans,
+        lost: counts.lost,
+        records: counts.records,
+        left: counts.left,
+    }
+}
+
+/// The source.
 fn source_of<N: Session<A>, A: Allocator, I>(
     acquisition: Acquisition<'_, N, I, A>,
-) -> (Source<N, A>, u64, u64) {
+) -> Source<N, A> {
     let Acquisition {
         input: _,
         source,
         scans,
         orders,
         form: _,
+        filler,
         buffer,
         held: _,
+        at: _,
     } = acquisition;
-    let (came, lost) = (scans.came(), scans.lost());
+    drop(filler);
     drop(scans);
     drop(orders);
     drop(buffer);
-    (source, came, lost)
+    source
 }
 
 /// The trigger thread's token.
@@ -219,7 +244,7 @@ fn trigger_token<A: Allocator>(trigger: Trigger<A>) -> Token<A> {
 }
 
 /// Prints an event. The text has room for its line.
-fn print_one<A: Allocator, P: Printer>(
+pub(crate) fn print_one<A: Allocator, P: Printer>(
     clock: &impl Clock,
     text: &mut Vec<u8, A>,
     printer: &mut P,

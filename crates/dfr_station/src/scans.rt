@@ -1,43 +1,34 @@
 //! Counts the scans that came, and reports lost ones.
 
 use crate::event::Event;
-use crate::intake::{Came, Tally, Why};
+use crate::intake::{Came, Tally};
+use crate::losses::{Losses, joined};
 use crate::signals::Signals;
 use crate::teller::Teller;
+use dfr_channels::Layout;
 use std::alloc::{Allocator, Global};
 use std::sync::atomic::Ordering;
 
-/// Lost scans that have not been reported yet.
-#[derive(Clone, Copy)]
-struct Losses {
-    first: u64,
-    last: u64,
-    count: u64,
-    why: Why,
-}
-
-/// Counts scans and reports lost ones: the first at once, those of the next second of
-/// scans together.
+/// Counts scans, and reports lost ones with each read.
 #[derive(Drop)]
 pub(crate) struct Scans<A: Allocator = Global> {
     pub(crate) teller: Teller<A>,
-    rate: u64,
     came: u64,
     lost: u64,
+    /// The place of the newest scan that was offered.
+    offered: Option<u64>,
+    /// Lost scans that have not been reported yet.
     losses: Option<Losses>,
-    /// Losses are reported once this many scans have come.
-    quiet: u64,
 }
 
 impl<A: Allocator> Scans<A> {
-    pub(crate) fn new(teller: Teller<A>, rate: u32) -> Scans<A> {
+    pub(crate) fn new(teller: Teller<A>) -> Scans<A> {
         Scans {
             teller,
-            rate: rate as u64,
             came: 0,
             lost: 0,
+            offered: None,
             losses: None,
-            quiet: 0,
         }
     }
 
@@ -51,21 +42,37 @@ impl<A: Allocator> Scans<A> {
         self.lost
     }
 
-    /// Reports losses that are due, or all of them at the end. Then publishes the counts to the
-    /// other threads.
-    pub(crate) fn publish(&mut self, signals: &Signals, is_end: bool) {
-        if let Some(losses) = self.losses {
-            if is_end || self.quiet <= self.came {
-                self.teller.tell(Event::Lost {
-                    first: losses.first,
-                    last: losses.last,
-                    count: losses.count,
-                    why: losses.why,
-                });
-                self.losses = None;
-                self.quiet = self.came.saturating_add(self.rate);
-            }
+    /// The place of the newest scan that was offered.
+    pub(crate) fn offered(&self) -> Option<u64> {
+        self.offered
+    }
+
+    /// Publishes how much the wall clock is ahead of the time of the newest scan, which came with a
+    /// read at `at`, in microseconds since 1970-01-01 00:00:00 UTC.
+    pub(crate) fn publish_clock(&self, signals: &Signals, layout: &Layout<A>, at: i64) {
+        let Some(newest) = self.came.checked_sub(1) else {
+            return;
+        };
+        if let Some(instant) = layout.instant(newest)
+            && let Some(offset) = at.checked_sub(instant)
+        {
+            signals.clock.store(offset, Ordering::SeqCst);
         }
+    }
+
+    /// Reports the losses, unless there is no room for the event: then they are reported with the
+    /// next ones.
+    fn tell_losses(&mut self) {
+        if let Some(losses) = self.losses
+            && self.teller.offer(losses.event())
+        {
+            self.losses = None;
+        }
+    }
+
+    /// Reports the losses, and publishes the counts to the other threads.
+    pub(crate) fn publish(&mut self, signals: &Signals) {
+        self.tell_losses();
         signals.lost.store(self.lost, Ordering::SeqCst);
         signals.came.store(self.came, Ordering::SeqCst);
     }
@@ -73,22 +80,18 @@ impl<A: Allocator> Scans<A> {
 
 impl<A: Allocator> Tally for Scans<A> {
     fn count(&mut self, came: Came) {
-        if let Came::Lost(why) = came {
-            self.lost = self.lost.saturating_add(1);
-            let place = self.came;
-            self.losses = match self.losses {
-                None => Some(Losses {
-                    first: place,
-                    last: place,
+        match came {
+            Came::Offered => self.offered = Some(self.came),
+            Came::Lost(why) => {
+                self.lost = self.lost.saturating_add(1);
+                let one = Losses {
+                    first: self.came,
+                    last: self.came,
                     count: 1,
                     why,
-                }),
-                Some(losses) => Some(Losses {
-                    last: place,
-                    count: losses.count.saturating_add(1),
-                    ..losses
-                }),
-            };
+                };
+                self.losses = Some(joined(self.losses, one));
+            }
         }
         self.came = self.came.saturating_add(1);
     }

@@ -28,12 +28,13 @@ pub(crate) struct Tasks<'x, 'y, 'z, N: Session<A>, I, K, P, A: Allocator = Globa
 }
 
 /// Runs the acquisition until the input ends.
-fn run_acquisition<N: Session<A>, A: Allocator + Copy, I: Read, K, P>(
-    rt: &impl Wait,
+fn run_acquisition<N: Session<A>, A: Allocator + Copy, I: Read, K, P, R: Wait + Clock>(
+    rt: &R,
     tasks: &Tasks<'_, '_, '_, N, I, K, P, A>,
 ) {
     let mut held = tasks.acquisition.lock(rt);
     acquire(
+        rt,
         tasks.alloc,
         &tasks.signals,
         tasks.shared.opening().layout(),

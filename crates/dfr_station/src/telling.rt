@@ -3,7 +3,8 @@
 use crate::event::Event;
 use crate::signals::Signals;
 use crate::station::Printer;
-use crate::teller::{Waiting, put_line};
+use crate::teller::{Turn, Waiting, put_line};
+use crate::watch::{Watch, millis};
 use std::alloc::{Allocator, Global};
 use std::sync::Wait;
 use std::sync::atomic::Ordering;
@@ -21,8 +22,7 @@ pub(crate) struct Telling<'x, P, A: Allocator = Global> {
     pub(crate) triggers: Waiting<A>,
     pub(crate) exports: Waiting<A>,
     pub(crate) minutes: bool,
-    /// The minute of the last such line, or of the start, on the monotonic clock.
-    pub(crate) minute: u64,
+    pub(crate) watch: Watch,
 }
 
 /// The current instant in microseconds since 1970-01-01 00:00:00 UTC; 0 if the clock can't be read.
@@ -33,46 +33,44 @@ pub fn now(clock: &impl Clock) -> i64 {
     }
 }
 
-/// The minutes on the monotonic clock; 0 if it can't be read.
-pub(crate) fn minute(clock: &impl Clock) -> u64 {
-    match clock.monotonic() {
-        Ok(time) => time.as_secs() / 60,
-        Err(_) => 0,
-    }
-}
-
 /// The event with the current counts.
-fn standing(signals: &Signals) -> Event {
+pub(crate) fn standing(signals: &Signals) -> Event {
     Event::Minute {
         scans: signals.came.load(Ordering::SeqCst),
         lost: signals.lost.load(Ordering::SeqCst),
         records: signals.records.load(Ordering::SeqCst),
         waiting: signals.waiting.load(Ordering::SeqCst),
         missed: signals.missed.load(Ordering::SeqCst),
+        clock: signals.clock(),
     }
 }
 
 impl<P: Printer, A: Allocator + Copy> Telling<'_, P, A> {
-    /// Whether the line of each minute is due. If so, its minute is noted.
-    fn is_due(&mut self, clock: &impl Clock) -> bool {
-        let minute = minute(clock);
-        let is_due = self.minutes && self.minute < minute;
-        if is_due {
-            self.minute = minute;
+    /// Makes the lines of the input's silence and of each minute, if they are due.
+    fn put_watch(&mut self, turn: Turn, signals: &Signals) {
+        let came = signals.came.load(Ordering::SeqCst);
+        if let Some(event) = self.watch.silence(came, turn.millis)
+            && (!turn.is_end || event == Event::Heard)
+        {
+            put_line(&mut self.exports.text, turn.at, event);
         }
-        is_due
+        if self.watch.is_minute(turn.millis) && self.minutes {
+            put_line(&mut self.exports.text, turn.at, standing(signals));
+        }
     }
 
     /// Prints the waiting events. Returns whether there were any. The queues are emptied in the
     /// reverse of the order of printing, so that a record is never printed before its trigger.
     fn print(&mut self, clock: &impl Clock, signals: &Signals) -> bool {
-        let at = now(clock);
-        let exports = self.exports.fill(at);
-        let triggers = self.triggers.fill(at);
-        let scans = self.scans.fill(at);
-        if self.is_due(clock) {
-            put_line(&mut self.exports.text, at, standing(signals));
-        }
+        let turn = Turn {
+            at: now(clock),
+            millis: millis(clock),
+            is_end: signals.acquired.load(Ordering::SeqCst),
+        };
+        let exports = self.exports.fill(turn);
+        let triggers = self.triggers.fill(turn);
+        let scans = self.scans.fill(turn);
+        self.put_watch(turn, signals);
         print_lines(self.printer, &self.scans.text);
         print_lines(self.printer, &self.triggers.text);
         print_lines(self.printer, &self.exports.text);
@@ -81,7 +79,7 @@ impl<P: Printer, A: Allocator + Copy> Telling<'_, P, A> {
 }
 
 /// Prints lines, if there are any.
-fn print_lines<P: Printer>(printer: &mut P, text: &[u8]) {
+pub(crate) fn print_lines<P: Printer>(printer: &mut P, text: &[u8]) {
     if !text.is_empty() {
         printer.print(text);
     }

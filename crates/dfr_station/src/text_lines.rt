@@ -1,12 +1,16 @@
 //! Reads lines, which come in pieces of any size.
 
 use crate::event::{Event, Skipped};
+use crate::filler::{Filler, is_due};
 use crate::intake::{
-    Came, HEAD_LEN, HEAD_LINES, Tally, Why, commands_of, give, is_scan_line, lose,
+    Came, HEAD_LEN, HEAD_LINES, Tally, Why, commands_of, give, is_damaged, is_scan_line, lose,
+    why_of,
 };
 use crate::orders::{Placed, skipped_of};
+use crate::reading::{Given, read_some};
 use crate::scans::Scans;
 use crate::signals::Signals;
+use crate::telling::now;
 use crate::text_buffer::{
     feeds_in, kept_after, line_at, line_end, piece_end, whole_end, with_head,
 };
@@ -17,6 +21,9 @@ use memchr::memchr;
 use rtrb::Producer;
 use std::alloc::{Allocator, Global};
 use std::io::Read;
+use std::sync::Wait;
+use std::sync::atomic::Ordering;
+use std::time::Clock;
 
 /// What the lines of the input are applied to.
 #[derive(Drop)]
@@ -25,6 +32,7 @@ pub(crate) struct Lane<'a, N: Session<A>, A: Allocator = Global> {
     pub(crate) layout: &'a Layout<A>,
     pub(crate) source: &'a mut Source<N, A>,
     pub(crate) scans: &'a mut Scans<A>,
+    pub(crate) filler: &'a mut Filler<A>,
     pub(crate) orders: &'a mut Producer<Placed<A>, A>,
     /// How many lines were processed.
     pub(crate) lines: u64,
@@ -38,13 +46,26 @@ impl<N: Session<A>, A: Allocator + Copy> Lane<'_, N, A> {
 
     /// Gives a scan to the recorder and counts it.
     fn give(&mut self, scan: Scan<A>) -> Result<(), LossFault> {
+        if is_due(self.source)
+            && let Err(fault) = self.layout.check(&scan)
+        {
+            return self.lose(why_of(fault));
+        }
+        self.filler.note(scan.status());
         let came = give(self.layout, self.source, scan)?;
+        if came == Came::Offered {
+            self.filler.keep();
+        }
         self.scans.count(came);
         Ok(())
     }
 
-    /// Counts a lost scan.
+    /// Counts a lost scan, whose place is filled if that is due.
     fn lose(&mut self, why: Why) -> Result<(), LossFault> {
+        if self.filler.fill(self.alloc, self.layout, self.source) {
+            self.scans.count(Came::Lost(why));
+            return Ok(());
+        }
         let came = lose(self.source, why)?;
         self.scans.count(came);
         Ok(())
@@ -98,7 +119,9 @@ impl<N: Session<A>, A: Allocator + Copy> Lane<'_, N, A> {
         Ok(())
     }
 
-    /// Handles a line that can't be read: a scan line is a lost scan, any other line is skipped.
+    /// Handles a line that can't be read: a scan line is a lost scan, any other line is skipped. A
+    /// damaged line after the first scan is skipped and a lost scan, so that later scans keep their
+    /// instants.
     fn refuse(&mut self, text: &[u8], why: Skipped) -> Result<(), LossFault> {
         self.lines = self.lines.saturating_add(1);
         if is_scan_line(text) {
@@ -110,6 +133,9 @@ impl<N: Session<A>, A: Allocator + Copy> Lane<'_, N, A> {
             return self.lose(why);
         }
         self.skip(self.lines, why);
+        if self.scans.came() > 0 && is_damaged(text) {
+            return self.lose(Why::Unread);
+        }
         Ok(())
     }
 
@@ -243,35 +269,40 @@ fn take_whole<N: Session<A>, A: Allocator + Copy>(
 }
 
 /// Carries out each line that comes until the input ends. The buffer has room for the shortest
-/// set-up at its front; up to `held` it has the bytes that have already come.
-pub(crate) fn take_lines<N: Session<A>, A: Allocator + Copy, I: Read>(
+/// set-up at its front; up to `held` it has the bytes that came with a read at `at`.
+pub(crate) fn take_lines<N: Session<A>, A: Allocator + Copy, I: Read, R: Wait + Clock>(
+    rt: &R,
     signals: &Signals,
     lane: &mut Lane<'_, N, A>,
     input: &mut I,
     buffer: &mut [u8],
-    held: usize,
+    (held, at): (usize, i64),
 ) -> Result<(), LossFault> {
     let mut held = held;
+    let mut at = at;
     let mut reading = Reading::Lines;
     for _ in 0..u64::MAX {
         held = take_whole(lane, buffer, held, &mut reading)?;
-        lane.scans.publish(signals, false);
+        lane.scans.publish_clock(signals, lane.layout, at);
+        lane.scans.publish(signals);
         let Some(room) = buffer.get_mut(held..) else {
             return Ok(());
         };
-        match input.read(room) {
-            Ok(0) => {
+        match read_some(rt, input, room) {
+            Given::End => {
                 if reading == Reading::Lines {
                     lane.carry_lines(buffer, HEAD_LEN, held)?;
                 }
                 return Ok(());
             }
-            Ok(count) => held = held.saturating_add(count),
-            Err(_) => {
+            Given::Bytes(count) => held = held.saturating_add(count),
+            Given::Broken => {
                 lane.scans.teller.tell(Event::Broken);
+                signals.broken.store(true, Ordering::SeqCst);
                 return Ok(());
             }
         }
+        at = now(rt);
     }
     Ok(())
 }

@@ -6,8 +6,7 @@ use crate::words::Asked;
 use comtrade_io::{ToolFault, fault_of, read_up_to};
 use dfr_recorder::Recorder;
 use dfr_station::{
-    Printer, Recorded, RunFault, Station, Store, frame_len, now, read_first, recorder_of,
-    run_station,
+    Printer, Station, Store, finish_station, frame_len, read_first, recorder_of, run_station,
 };
 use rtrb::Consumer;
 use std::alloc::Global;
@@ -34,6 +33,8 @@ pub(crate) struct Plan {
     pub(crate) setup: Vec<u8>,
     /// The size of a frame in bytes.
     pub(crate) frame: usize,
+    /// The scans per second.
+    pub(crate) rate: u32,
 }
 
 /// Reads the set-up file.
@@ -113,7 +114,8 @@ pub(crate) fn plan_of<R: Files + Print + Eprint + AllocGlobal>(
                 print_judged(rt, &recorder);
             }
             let frame = frame_of(&recorder);
-            Some(Plan { setup, frame })
+            let rate = recorder.layout().rate();
+            Some(Plan { setup, frame, rate })
         }
         Err(refusal) => {
             complain(rt, asked.setup, refusal);
@@ -131,16 +133,8 @@ pub(crate) fn keep_of(asked: &Asked<'_>) -> Keep {
     }
 }
 
-/// The exit status of a recording: 1 if a finished record could not be written. Prints the error if
-/// the recording failed.
-fn status_of<R: Eprint + AllocGlobal>(rt: &R, left: Result<Recorded, RunFault>) -> u8 {
-    match left {
-        Ok(recorded) => { if recorded.unwritten > 0 { 1 } else { 0 } }
-        Err(fault) => complain(rt, "recording", fault),
-    }
-}
-
-/// Records until the input ends. Returns the exit status.
+/// Records until the input ends. Returns the exit status: 1 if no scan came, the input couldn't be
+/// read, a record could not be written, or the recording failed.
 pub(crate) fn record<
     I: Read + Send,
     K: Store + Send,
@@ -155,13 +149,13 @@ pub(crate) fn record<
     store: &mut K,
     printer: &mut P,
 ) -> u8 {
-    let Ok(first) = read_first(rt.alloc(), input, asked.input, plan.frame) else {
+    let how = (asked.input, plan.frame, !asked.is_quiet);
+    let Ok(first) = read_first(rt, rt.alloc(), input, printer, how) else {
         return out_of_memory(rt);
     };
-    // the first scan has just come
     let start = match asked.start {
         Some(start) => start,
-        None => now(rt),
+        None => first.start(plan.rate),
     };
     match recorder_of(rt.alloc(), &plan.setup, start) {
         Ok(recorder) => {
@@ -172,8 +166,13 @@ pub(crate) fn record<
                 minutes: !asked.is_quiet,
                 operator,
             };
-            let left = run_station(rt, rt.alloc(), station, first, input, store, printer);
-            status_of(rt, left)
+            match run_station(rt, rt.alloc(), station, first, input, store, printer) {
+                Ok(mut left) => {
+                    finish_station(rt, rt.alloc(), asked.kind, &mut left, store, printer);
+                    u8::from(!left.counts.is_whole())
+                }
+                Err(fault) => complain(rt, "recording", fault),
+            }
         }
         Err(refusal) => complain(rt, asked.setup, refusal),
     }

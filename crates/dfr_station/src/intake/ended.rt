@@ -27,11 +27,42 @@ pub enum RunFault {
     Counter,
 }
 
-/// What a recording leaves at its end, and how many finished records its store did not take.
+/// What came and what was written until the input ended.
+#[derive(Clone, Copy, Debug, PartialEq, Eq, Drop)]
+pub struct Counts {
+    /// Scans that came.
+    pub scans: u64,
+    /// Lost scans among them.
+    pub lost: u64,
+    /// Scans for which no step was made.
+    pub left: u64,
+    /// Records that the store took.
+    pub records: u64,
+    /// Records that were given up.
+    pub unwritten: u64,
+    /// How many microseconds the wall clock was ahead of the time of the newest scan when that scan
+    /// was read. None without a scan.
+    pub clock: Option<i64>,
+    /// The input couldn't be read to its end.
+    pub is_broken: bool,
+}
+
+impl Counts {
+    ghost use Rattle.std.specs.Prelude.{◌≡◌, ◌&&◌, ◌==◌, ◌<◌, not, nat_lt};
+
+    /// Whether scans came, the input was read to its end, and no record was given up.
+    pub fn is_whole(self) -> bool
+        ensures { result ≡ (nat_lt 0 self.scans && (not self.is_broken && (self.unwritten == 0))) }
+    {
+        self.scans > 0 && !self.is_broken && self.unwritten == 0
+    }
+}
+
+/// What a recording leaves at its end.
 #[derive(Drop)]
 pub struct Recorded<A: Allocator = Global> {
     pub ended: Ended<A>,
-    pub unwritten: u64,
+    pub counts: Counts,
 }
 
 /// Ends the recording.
@@ -40,14 +71,14 @@ pub fn ended_of<N: Session<A>, A: Allocator + Copy>(
     inner: Inner<N, A>,
     source: Source<N, A>,
     tokens: Vec<Token<A>, A>,
-    unwritten: u64,
+    counts: Counts,
 ) -> Result<Recorded<A>, RunFault>
     requires seats { N.seats ≡ 2 }
     ensures { IfOk result (λ left. Leaves N.opening left.ended) }
 {
     let _ = inner.opening();
     match end(alloc, inner, source, tokens) {
-        Ok(ended) => Ok(Recorded { ended, unwritten }),
+        Ok(ended) => Ok(Recorded { ended, counts }),
         Err((fault, _, _, _)) => Err(RunFault::End(fault)),
     }
 }

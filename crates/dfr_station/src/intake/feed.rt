@@ -1,13 +1,14 @@
 //! Offers the scans that come to the recorder. A scan that can't be offered is lost, so that all
 //! later scans keep their instants.
 
-ghost use Rattle.std.specs.Prelude.{◌≡◌, ◌≤◌, ◌*◌, ◌+◌, length, IfErr, MatchResult};
+ghost use Rattle.std.specs.Prelude.{◌≡◌, ◌≤◌, ◌*◌, ◌+◌, length, replicate, IfOk, MatchBool, MatchResult};
+ghost use Rattle.dfr_channels.specs.declared.scan.Reading.TheVariants as reading;
 ghost use Rattle.dfr_station.specs.Frames as frames;
 ghost use Rattle.dfr_station.specs.Feeding as spec;
-ghost use Rattle.dfr_live.specs.Station.{after_loss};
+ghost use Rattle.dfr_live.specs.Station.{after_loss, after_offer};
 
 use crate::intake::frame::{frame_len, scan_of_frame};
-use dfr_channels::{Layout, Scan, ScanFault};
+use dfr_channels::{Layout, Memory, Reading, Scan, ScanFault};
 use dfr_live::{LossFault, Session, Source};
 use std::alloc::Allocator;
 
@@ -72,6 +73,47 @@ pub fn give<N: Session<A>, A: Allocator>(
         Ok(()) => Ok(Came::Offered),
         Err(_) => lose(source, Why::Full),
     }
+}
+
+/// Why a scan is lost that doesn't fit the layout.
+pub(crate) fn why_of(fault: ScanFault) -> Why {
+    match fault {
+        ScanFault::Shape => Why::Shape,
+        ScanFault::Range(i) => Why::Range(i),
+    }
+}
+
+/// A scan without readings, with these bits.
+fn missing_scan<A: Allocator + Copy>(
+    alloc: A,
+    analog: usize,
+    bits: &[bool],
+) -> Result<Scan<A>, Memory>
+    ensures { IfOk result (λ scan. scan
+        ≡ record { analog = replicate analog reading.Missing; status = bits.now }) }
+{
+    let readings = vec![in alloc; Reading::Missing; analog]?;
+    let bits = Vec::from_slice(alloc, bits)?;
+    Ok(Scan::new(readings, bits))
+}
+
+/// Offers a scan without readings, with these bits, in the place of a lost one. Returns false, and
+/// changes nothing, if the bits don't fit the layout, the queue is full or an allocation fails.
+pub fn give_missing<N: Session<A>, A: Allocator + Copy>(
+    alloc: A,
+    layout: &Layout<A>,
+    source: &mut Source<N, A>,
+    bits: &[bool],
+) -> bool
+    ensures { MatchBool result
+        (source.new ≡ after_offer source.old
+        record { analog = replicate (length layout.now.analog) reading.Missing; status = bits.now })
+        (source.new ≡ source.old) }
+{
+    let Ok(scan) = missing_scan(alloc, layout.analog().len(), bits) else {
+        return false;
+    };
+    layout.check(&scan).is_ok() && source.offer(scan).is_ok()
 }
 
 /// Counts the scans that came, in order.

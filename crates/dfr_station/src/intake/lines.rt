@@ -55,3 +55,31 @@ pub fn is_scan_line(line: &[u8]) -> bool {
         [first, ..] => *first <= b' ',
     }
 }
+
+/// The words of the script language with which no scan line begins.
+const WORDS: [&[u8]; 12] = [
+    b"trigger", b"rules", b"take", b"go", b"station", b"device", b"analog", b"status", b"freq",
+    b"rate", b"start", b"limits",
+];
+
+/// The first word of a line, up to its first blank or control character.
+fn first_word(line: &[u8]) -> &[u8] {
+    match line.iter().position(|b| *b <= b' ') {
+        Some(end) => line.get(..end).unwrap_or(line),
+        None => line,
+    }
+}
+
+/// Whether a line is probably a scan line that was damaged: it is neither blank nor a comment, and
+/// its first word is none of the script language.
+pub fn is_damaged(line: &[u8]) -> bool {
+    if line.starts_with(b"#")
+        || line
+            .iter()
+            .all(|b| matches!(*b, b' ' | b'\t' | b'\r' | b'\n'))
+    {
+        return false;
+    }
+    let word = first_word(line);
+    !is_scan_line(line) && !WORDS.iter().any(|known| *known == word)
+}

@@ -40,7 +40,7 @@ fn is_right(kept: &Kept, was_refused: bool) -> bool {
 /// A run that ended, or that was refused an allocation and says so.
 fn is_said<A: Allocator>(left: Result<Recorded<A>, RunFault>, seen: &Seen) -> bool {
     match left {
-        Ok(left) => left.unwritten == 0 && is_told(&seen.told, b" end scans 8 lost "),
+        Ok(left) => left.counts.unwritten == 0 && is_told(&seen.told, b" end scans 8 lost "),
         Err(fault) => {
             fault == RunFault::Memory
                 || fault == RunFault::Open(OpenFault::Memory)

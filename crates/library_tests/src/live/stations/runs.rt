@@ -16,7 +16,7 @@ pub const FRAMES: &[u8] = &[
 
 /// The same as lines, with lines that can't be read in place of the values out of range.
 pub const LINES: &[u8] =
-    b"scan 5/1\nscan x/0\n\nscan */0\nstep\nscan -200/1\nlost 1\n# none\nscan 101/0\nscan 7/1\nscan 8/0";
+    b"scan 5/1\nscan x/0\n\nscan */0\ntake\nscan -200/1\nlost 1\n# none\nscan 101/0\nscan 7/1\nscan 8/0";
 
 /// The record of the level at place 5: a lost scan has the bits of the one before.
 const ROWS: &[u8] =

@@ -4,8 +4,8 @@ use crate::streams::Pieces;
 use comtrade_write::Kind;
 use dfr_recorder::Recorder;
 use dfr_station::{
-    First, Input, Key, Printer, Recorded, RunFault, Station, Store, Stored, Trouble, read_first,
-    recorder_of, run_station,
+    First, Input, Key, Printer, Recorded, RunFault, Station, Store, Stored, Trouble,
+    finish_station, read_first, recorder_of, run_station,
 };
 use std::alloc::{Allocator, Global};
 use std::sync::Wait;
@@ -103,12 +103,14 @@ fn station_of<A: Allocator>(recorder: Recorder<A>, form: Input) -> Station<A> {
 }
 
 /// What came up to the first scan, and the recorder; None where there is no memory for them.
-fn begun<A: Allocator + Copy>(
+fn begun<A: Allocator + Copy + Send + Sync, R: Threads + Wait + Clock + Sync>(
+    rt: &R,
     alloc: A,
     form: Input,
     input: &mut Pieces<'_>,
+    told: &mut Told,
 ) -> Option<(First<A>, Recorder<A>)> {
-    match read_first(alloc, input, form, FRAME) {
+    match read_first(rt, alloc, input, told, (form, FRAME, false)) {
         Ok(first) => match recorder_of(alloc, SETUP, 0) {
             Ok(recorder) => Some((first, recorder)),
             Err(_) => None,
@@ -125,16 +127,25 @@ pub fn recorded<A: Allocator + Copy + Send + Sync, R: Threads + Wait + Clock + S
     input: &mut Pieces<'_>,
     seen: &mut Seen,
 ) -> Result<Recorded<A>, RunFault> {
-    match begun(alloc, form, input) {
-        Some((first, recorder)) => run_station(
-            rt,
-            alloc,
-            station_of(recorder, form),
-            first,
-            input,
-            &mut seen.kept,
-            &mut seen.told,
-        ),
-        None => Err(RunFault::Memory),
-    }
+    let Some((first, recorder)) = begun(rt, alloc, form, input, &mut seen.told) else {
+        return Err(RunFault::Memory);
+    };
+    let mut left = run_station(
+        rt,
+        alloc,
+        station_of(recorder, form),
+        first,
+        input,
+        &mut seen.kept,
+        &mut seen.told,
+    )?;
+    finish_station(
+        rt,
+        alloc,
+        Kind::Ascii,
+        &mut left,
+        &mut seen.kept,
+        &mut seen.told,
+    );
+    Ok(left)
 }

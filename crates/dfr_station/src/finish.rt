@@ -1,0 +1,157 @@
+//! The record that is open when the input ends: it is closed with lost scans, and written.
+
+ghost use Rattle.std.specs.Prelude.{◌≡◌, IsTrue, is_some, not};
+ghost use Rattle.dfr_recorder.specs.Own.{is_own};
+
+use crate::event::Event;
+use crate::export::{LAST_TRIES, RETRY, hand_over};
+use crate::intake::{Counts, Recorded};
+use crate::run::{ended_event, print_one};
+use crate::station::{Printer, Store, Stored};
+use comtrade_write::Kind;
+use dfr_channels::Layout;
+use dfr_recorder::{Record, Recorder};
+use std::alloc::Allocator;
+use std::sync::Wait;
+use std::thread;
+use std::time::{Clock, Duration};
+
+/// Makes lost scans until no record is open. Returns false if one is still open: an allocation
+/// failed, or the scans would be after the year 9999.
+fn is_closed<A: Allocator + Copy>(recorder: &mut Recorder<A>) -> bool
+    ensures { result ≡ not (is_some recorder.new.recording) }
+{
+    for _ in 0..recorder.limits().longest() {
+        if !recorder.is_recording() || recorder.lost().is_err() {
+            break;
+        }
+    }
+    !recorder.is_recording()
+}
+
+/// Hands a record's pair to the store, again each second, a few times. Reports what the store
+/// answers. None if it did not take the pair.
+fn stored<A: Allocator + Copy, K: Store, P: Printer, R: Wait + Clock>(
+    rt: &R,
+    alloc: A,
+    layout: &Layout<A>,
+    kind: Kind,
+    taken: &Record<A>,
+    store: &mut K,
+    printer: &mut P,
+    text: &mut Vec<u8, A>,
+) -> Option<Stored>
+    requires { IsTrue (is_own layout.now taken.now) }
+{
+    let mut is_in_trouble = false;
+    for tries in 0..LAST_TRIES {
+        if tries > 0 {
+            thread::sleep(rt, Duration::from_millis(RETRY));
+        }
+        match hand_over(alloc, layout, kind, taken, store) {
+            Ok(stored) => {
+                if is_in_trouble {
+                    print_one(rt, text, printer, Event::Over);
+                }
+                return Some(stored);
+            }
+            Err(trouble) => {
+                if !is_in_trouble {
+                    print_one(rt, text, printer, Event::Trouble(trouble));
+                }
+                is_in_trouble = true;
+            }
+        }
+    }
+    None
+}
+
+/// Writes a record that was closed after the input had ended. Returns the counts with this record.
+fn written<A: Allocator + Copy, K: Store, P: Printer, R: Wait + Clock>(
+    rt: &R,
+    alloc: A,
+    layout: &Layout<A>,
+    kind: Kind,
+    taken: &Record<A>,
+    counts: Counts,
+    store: &mut K,
+    printer: &mut P,
+    text: &mut Vec<u8, A>,
+) -> Counts
+    requires { IsTrue (is_own layout.now taken.now) }
+{
+    let extent = taken.extent();
+    match stored(rt, alloc, layout, kind, taken, store, printer, text) {
+        Some(stored) => {
+            let record = Event::Record {
+                extent,
+                key: stored.key,
+                clock: counts.clock,
+                is_cut: true,
+            };
+            print_one(rt, text, printer, record);
+            if stored.removed > 0 {
+                print_one(rt, text, printer, Event::Removed(stored.removed));
+            }
+            Counts {
+                records: counts.records.saturating_add(1),
+                ..counts
+            }
+        }
+        None => {
+            print_one(rt, text, printer, Event::Unwritten(extent));
+            Counts {
+                unwritten: counts.unwritten.saturating_add(1),
+                ..counts
+            }
+        }
+    }
+}
+
+/// Closes the record that is open, if there is one, and writes it. Returns the counts with this
+/// record.
+fn with_open<A: Allocator + Copy, K: Store, P: Printer, R: Wait + Clock>(
+    rt: &R,
+    alloc: A,
+    kind: Kind,
+    recorder: &mut Recorder<A>,
+    counts: Counts,
+    store: &mut K,
+    printer: &mut P,
+    text: &mut Vec<u8, A>,
+) -> Counts {
+    if !recorder.is_recording() {
+        return counts;
+    }
+    if is_closed(recorder)
+        && let Some(taken) = recorder.take()
+    {
+        let layout = recorder.layout();
+        return written(
+            rt, alloc, layout, kind, &taken, counts, store, printer, text,
+        );
+    }
+    print_one(rt, text, printer, Event::Unfinished);
+    Counts {
+        unwritten: counts.unwritten.saturating_add(1),
+        ..counts
+    }
+}
+
+/// Closes the record that was open when the input ended, if there was one, and writes it. Then
+/// prints the event of the end. What is left has the recorder and the counts after that.
+pub fn finish_station<A: Allocator + Copy, K: Store, P: Printer, R: Wait + Clock>(
+    rt: &R,
+    alloc: A,
+    kind: Kind,
+    left: &mut Recorded<A>,
+    store: &mut K,
+    printer: &mut P,
+) {
+    let mut text = Vec::new(alloc);
+    let counts = left.counts;
+    let recorder = &mut left.ended.recorder;
+    let counts = with_open(rt, alloc, kind, recorder, counts, store, printer, &mut text);
+    print_one(rt, &mut text, printer, ended_event(counts));
+    left.counts = counts;
+}
