@@ -26,7 +26,8 @@ const NAP: u64 = 10;
 /// How long it waits before it tries a record again, in milliseconds.
 pub(crate) const RETRY: u64 = 1_000;
 
-/// The most times a record is tried after the input has ended.
+/// The most times pairs are tried after the input has ended, for all records together. Each record
+/// that is left then is tried once. A second lies between two tries, so this takes ten seconds.
 pub(crate) const LAST_TRIES: u32 = 10;
 
 /// What the export thread works on.
@@ -36,8 +37,10 @@ pub(crate) struct Exports<'x, K, A: Allocator = Global> {
     token: Token<A>,
     teller: Teller<A>,
     kind: Kind,
-    /// The store did not take the last pair.
-    is_in_trouble: bool,
+    /// Why the store did not take the last pair.
+    trouble: Option<Trouble>,
+    /// How often a pair was tried in vain since the input has ended.
+    last_tries: u32,
     /// How many records were given up.
     unwritten: u64,
 }
@@ -54,7 +57,8 @@ impl<'x, K, A: Allocator> Exports<'x, K, A> {
             token,
             teller,
             kind,
-            is_in_trouble: false,
+            trouble: None,
+            last_tries: 0,
             unwritten: 0,
         }
     }
@@ -114,7 +118,7 @@ pub(crate) fn hand_over<K: Store, A: Allocator + Copy>(
     }
 }
 
-/// Whether to give up a record that the store didn't take: the input has ended, and the record was
+/// Whether to give up a record that the store didn't take: the input has ended, and pairs were
 /// tried often enough since then.
 fn is_last(signals: &Signals, tries: &mut u32) -> bool {
     if !signals.acquired.load(Ordering::SeqCst) {
@@ -134,8 +138,8 @@ impl<K: Store, A: Allocator + Copy> Exports<'_, K, A> {
     ) -> bool {
         match answer {
             Ok(stored) => {
-                if self.is_in_trouble {
-                    self.is_in_trouble = false;
+                if self.trouble.is_some() {
+                    self.trouble = None;
                     self.teller.tell(Event::Over);
                 }
                 signals.records.fetch_add(1, Ordering::SeqCst);
@@ -151,8 +155,8 @@ impl<K: Store, A: Allocator + Copy> Exports<'_, K, A> {
                 true
             }
             Err(trouble) => {
-                if !self.is_in_trouble {
-                    self.is_in_trouble = true;
+                if self.trouble != Some(trouble) {
+                    self.trouble = Some(trouble);
                     self.teller.tell(Event::Trouble(trouble));
                 }
                 false
@@ -161,7 +165,7 @@ impl<K: Store, A: Allocator + Copy> Exports<'_, K, A> {
     }
 
     /// Hands a record's pair to the store, again each second until the store takes it. After the
-    /// input has ended, gives up after a few tries.
+    /// input has ended, gives up after a few tries in all.
     fn put_record<R: Wait + Clock>(
         &mut self,
         rt: &R,
@@ -172,13 +176,12 @@ impl<K: Store, A: Allocator + Copy> Exports<'_, K, A> {
     )
         requires { IsTrue (is_own layout.now taken.now) }
     {
-        let mut tries = 0u32;
         for _ in rt.forever() {
             let answer = hand_over(alloc, layout, self.kind, taken, &mut *self.store);
             if self.answered(signals, taken.extent(), answer) {
                 return;
             }
-            if is_last(signals, &mut tries) {
+            if is_last(signals, &mut self.last_tries) {
                 self.unwritten = self.unwritten.saturating_add(1);
                 self.teller.tell(Event::Unwritten(taken.extent()));
                 return;
