@@ -109,6 +109,7 @@ fn print_view<R: Print + Eprint + AllocGlobal>(
     rt: &R,
     view: View,
     viewed: Viewed<'_>,
+    is_imported: bool,
     pair: Pair<'_>,
 ) -> u8 {
     let lists = Bump::new(rt.alloc());
@@ -117,7 +118,8 @@ fn print_view<R: Print + Eprint + AllocGlobal>(
         texts: rt.alloc(),
         lists: &lists,
     };
-    match view_over(room, view, viewed, pair, &mut io::writer(rt), &mut said) {
+    let mut w = io::writer(rt);
+    match view_over(room, view, viewed, is_imported, pair, &mut w, &mut said) {
         Ok(true) => {
             say(rt, &said);
             0
@@ -188,7 +190,7 @@ fn run_view<R: Files + Input + Print + Eprint + AllocGlobal + Clone + Drop>(
         Some(inputs) => {
             say(rt, &inputs.said);
             note_size(rt, is_watched, &inputs);
-            print_view(rt, view, viewed, pair_of(&inputs))
+            print_view(rt, view, viewed, inputs.is_single(), pair_of(&inputs))
         }
         None => 1,
     }
