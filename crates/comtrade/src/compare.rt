@@ -1,6 +1,7 @@
 //! `comtrade compare`: two records in one picture.
 
-use crate::load::{Inputs, Reading, file_spelled, pair_of, read_pair};
+use crate::content::{Reading, file_spelled};
+use crate::load::{Inputs, pair_of, read_pair};
 use crate::part::{Taken, taken_of};
 use crate::survey::say_repairs;
 use crate::view::{NO_SIZE, options_of};

@@ -1,7 +1,8 @@
 //! Finds the other file of a pair.
 
-use crate::{complain, is_folder, out_of_memory, say};
-use comtrade_io::{Names, ToolFault, fault_of, put_safe};
+use crate::folder::{is_file, refuse_folder};
+use crate::{is_folder, out_of_memory, say};
+use comtrade_io::{Names, put_safe};
 use std::alloc::{AllocError, Global};
 use std::fs;
 use std::rt::Files;
@@ -176,35 +177,6 @@ fn refuse_partner<R: Eprint + AllocGlobal>(rt: &R, name: &str, ending: Ending) -
     say(rt, &place);
     let _ = eprintln!(rt; "");
     None
-}
-
-/// Prints that a name is that of a folder, and how to look at it.
-fn refuse_folder<R: Eprint + AllocGlobal>(rt: &R, name: &str) {
-    let mut text = Vec::new(rt.alloc());
-    if put_safe(&mut text, name.as_bytes()).is_err() {
-        out_of_memory(rt);
-        return;
-    }
-    let _ = eprint!(rt; "comtrade: ");
-    say(rt, &text);
-    let _ = eprint!(rt; ": is a folder: use comtrade list ");
-    say(rt, &text);
-    let _ = eprintln!(rt; "");
-}
-
-/// Whether there is a file with this name; if not, it prints why.
-fn is_file<R: Files + Eprint + AllocGlobal>(rt: &R, name: &str) -> bool {
-    match fs::metadata(rt, name) {
-        Ok(data) if data.is_dir() => {
-            refuse_folder(rt, name);
-            false
-        }
-        Ok(_) => true,
-        Err(error) => {
-            complain(rt, name, fault_of(error.kind(), ToolFault::Input));
-            false
-        }
-    }
 }
 
 /// The single file for a name that ends in .cff or has no ending.

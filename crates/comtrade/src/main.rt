@@ -3,8 +3,10 @@
 #![tactic(auto)]
 
 mod compare;
+mod content;
 mod extract;
 mod find;
+mod folder;
 mod import;
 mod load;
 mod measure;

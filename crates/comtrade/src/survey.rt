@@ -1,109 +1,17 @@
 //! The commands over many records.
 
-use crate::load::{Inputs, NO_ENCODING, Reading, file_spelled, pair_of, read_pair};
-use crate::words::put_escaped;
-use crate::{LIMIT, complain, is_folder, print_bytes, say};
+use crate::content::{NO_ENCODING, Reading, file_spelled};
+use crate::folder::{Pairs, pairs_of};
+use crate::load::{Inputs, pair_of, read_pair};
+use crate::{complain, print_bytes, say};
 use comtrade_format::File;
-use comtrade_io::{Names, Survey, ToolFault, fault_of, put, put_safe, read_up_to};
+use comtrade_io::{Names, Survey, ToolFault, put, put_safe};
 use comtrade_views::{
     Encoding, Event, Summary, add_events, fault_summary, put_events, put_events_json,
     put_summaries, put_summaries_json, sort_events, sort_summaries, summary_of,
 };
-use std::alloc::{AllocError, Global};
-use std::fs;
+use std::alloc::Global;
 use std::rt::Files;
-
-/// Whether a name is that of a configuration file or a single file.
-fn is_cfg(name: &[u8]) -> bool {
-    match name {
-        [_, .., dot, a, b, c] => {
-            let ending = [*dot, *a, *b, *c];
-            ending.eq_ignore_ascii_case(b".cfg") || ending.eq_ignore_ascii_case(b".cff")
-        }
-        _ => false,
-    }
-}
-
-/// The records that the names mean.
-#[derive(Drop)]
-struct Pairs {
-    names: Vec<String>,
-    /// The names, as printable characters, that are not UTF-8, so that the files cannot be opened.
-    odd: Vec<Vec<u8>>,
-}
-
-/// A name in a folder that is not UTF-8, as printable characters.
-fn odd_name<R: AllocGlobal>(rt: &R, folder: &str, name: &[u8]) -> Result<Vec<u8>, AllocError> {
-    let mut text = Vec::new(rt.alloc());
-    put_safe(&mut text, path_in(rt, folder, "")?.as_bytes())?;
-    put_escaped(&mut text, name)?;
-    Ok(text)
-}
-
-/// The names in a folder, each ended by a NUL.
-fn entries_of<R: Files + AllocGlobal>(rt: &R, folder: &str) -> Result<Vec<u8>, ToolFault> {
-    let place = path_in(rt, folder, "")?;
-    match rt.open_dir(place.as_str()) {
-        Ok(mut names) => read_up_to(rt.alloc(), &mut names, LIMIT),
-        Err(error) => Err(fault_of(error.kind(), ToolFault::Input)),
-    }
-}
-
-/// Adds the configuration files and single files of a folder, sorted by name.
-fn add_folder<R: Files + AllocGlobal>(
-    rt: &R,
-    folder: &str,
-    pairs: &mut Pairs,
-) -> Result<(), ToolFault> {
-    let entries = entries_of(rt, folder)?;
-    let (mut names, mut odd) = (Vec::new(rt.alloc()), Vec::new(rt.alloc()));
-    for name in entries.split(|b| *b == 0) {
-        if !is_cfg(name) {
-            continue;
-        }
-        match str::from_utf8(name) {
-            Ok(name) => names.push(path_in(rt, folder, name)?)?,
-            Err(_) => odd.push(odd_name(rt, folder, name)?)?,
-        }
-    }
-    names.sort()?;
-    odd.sort()?;
-    for name in names {
-        pairs.names.push(name)?;
-    }
-    for name in odd {
-        pairs.odd.push(name)?;
-    }
-    Ok(())
-}
-
-fn path_in<R: AllocGlobal>(rt: &R, folder: &str, file: &str) -> Result<String, AllocError> {
-    let mut path = String::from_str(rt.alloc(), folder)?;
-    if !folder.ends_with('/') {
-        path.push_str("/")?;
-    }
-    path.push_str(file)?;
-    Ok(path)
-}
-
-/// The records that the names mean: for a folder, those in it.
-fn pairs_of<R: Files + Eprint + AllocGlobal>(rt: &R, names: &[&str]) -> Result<Pairs, ToolFault> {
-    let mut pairs = Pairs {
-        names: Vec::new(rt.alloc()),
-        odd: Vec::new(rt.alloc()),
-    };
-    for name in names {
-        if !is_folder(rt, name) {
-            pairs.names.push(String::from_str(rt.alloc(), name)?)?;
-            continue;
-        }
-        if let Err(fault) = add_folder(rt, name, &mut pairs) {
-            complain(rt, name, fault);
-            return Err(fault);
-        }
-    }
-    Ok(pairs)
-}
 
 /// What was found so far.
 #[derive(Drop)]

@@ -1,6 +1,6 @@
 //! What is printed of a pair of files.
 
-use crate::load::{Reading, file_spelled};
+use crate::content::{Reading, file_spelled};
 use crate::measure::{measure_over, measured_part};
 use crate::part::{Taken, taken_of};
 use comtrade_diagnostics::{Pair, check_over};

@@ -1,6 +1,7 @@
 //! Writes pairs of files that do not exist yet.
 
-use crate::load::{Inputs, Loaded, Origin, Reading, file_spelled, pair_of, read_pair};
+use crate::content::{Loaded, Origin, Reading, file_spelled};
+use crate::load::{Inputs, pair_of, read_pair};
 use crate::part::put_part_fault;
 use crate::{complain, note_size, out_of_memory, say};
 use bumpalo::Bump;
