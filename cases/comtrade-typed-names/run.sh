@@ -24,3 +24,4 @@ for verb in show csv plot page measure events list; do
 done
 "$comtrade" compare rec1 nosuch.cfg
 "$comtrade" convert --kind ascii nosuch.cfg new
+echo "status $?"
