@@ -27,6 +27,6 @@ said convert --kind binary --encoding latin1 "$folder/latin" "$folder/new"
 "$comtrade" plot --encoding latin1 "$folder/latin" | grep -o '>[^<]*\(ö\|ß\)[^<]*<'
 # a page
 "$comtrade" page "$folder/utf8" | grep -o '"[^"]*\(ü\|ö\|Ω\)[^"]*"'
-"$comtrade" page "$folder/latin" | grep -o '"[^"]*\\u00\(f6\|df\|fc\)[^"]*"'
+"$comtrade" page "$folder/latin" | grep -o '"[^"]*\\u005cx\(f6\|df\|fc\)[^"]*"'
 "$comtrade" page "$folder/utf8" | grep -c "$(printf '\xe2\x80\xae')"
 true

@@ -21,7 +21,7 @@ checked "$folder/c.d"
 for name in alone none a.txt; do
     "$comtrade" check "$folder/$name" 2>&1 | sed "s|$folder/|FOLDER/|g"
 done
-"$comtrade" show -
+"$comtrade" show - -
 echo "status $?"
 # convert by one name, and names that new files can't have
 "$comtrade" convert --kind binary "$folder/a" "$folder/new" && cmp "$folder/new.dat" files/binary.dat && echo converted

@@ -1,7 +1,8 @@
 //! `comtrade compare`: two records in one picture.
 
 use crate::around::rms_of;
-use crate::load::{Inputs, file_spelled, pair_of, read_pair};
+use crate::content::{Reading, file_spelled};
+use crate::load::{Inputs, pair_of, read_pair};
 use crate::part::{Taken, taken_of};
 use crate::survey::say_repairs;
 use crate::view::{NO_SIZE, options_of};
@@ -41,14 +42,14 @@ fn file_in<R: Eprint + AllocGlobal, A: Allocator + Copy>(
     rt: &R,
     lists: A,
     name: &str,
-    part: Part<'_>,
+    reading: Reading<'_>,
     pair: Pair<'_>,
 ) -> Result<Option<File<A>>, ToolFault> {
     let mut said = Vec::new(lists);
-    match file_spelled(lists, pair, part.strict, part.encoding, &mut said)? {
-        Some(file) => {
+    match file_spelled(lists, pair, reading, &mut said)? {
+        Some(loaded) => {
             say_repairs(rt, name, &said)?;
-            Ok(Some(file))
+            Ok(Some(loaded.file))
         }
         None => {
             say(rt, &said);
@@ -65,7 +66,8 @@ fn file_from<R: Eprint + AllocGlobal, A: Allocator + Copy>(
     part: Part<'_>,
     inputs: Inputs,
 ) -> Result<Option<File<A>>, ToolFault> {
-    file_in(rt, lists, name, part, pair_of(&inputs))
+    let reading = Reading::to_show(inputs.is_single(), part, false);
+    file_in(rt, lists, name, reading, pair_of(&inputs))
 }
 
 /// The record with this name; None if it cannot be read or has no such part, which is printed.

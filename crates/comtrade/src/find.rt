@@ -1,6 +1,7 @@
 //! Finds the other file of a pair.
 
-use crate::{out_of_memory, say};
+use crate::folder::{is_file, refuse_folder};
+use crate::{is_folder, out_of_memory, say};
 use comtrade_io::{Names, put_safe};
 use std::alloc::{AllocError, Global};
 use std::fs;
@@ -20,7 +21,20 @@ enum Ending {
     Dat,
     /// Both in a single file.
     Cff,
+    /// A description of a pair.
+    Hdr,
+    /// Further information on a pair.
+    Inf,
 }
+
+/// All kinds of files.
+const ENDINGS: [Ending; 5] = [
+    Ending::Cfg,
+    Ending::Cff,
+    Ending::Dat,
+    Ending::Hdr,
+    Ending::Inf,
+];
 
 impl Ending {
     fn text(self) -> &'static str {
@@ -28,6 +42,8 @@ impl Ending {
             Ending::Cfg => ".cfg",
             Ending::Dat => ".dat",
             Ending::Cff => ".cff",
+            Ending::Hdr => ".hdr",
+            Ending::Inf => ".inf",
         }
     }
 }
@@ -47,16 +63,12 @@ fn without_ending(name: &str, ending: Ending) -> Option<&str> {
 /// The kind of a file and the name that the files of its record share. A name without an ending is
 /// that shared name.
 fn stem_of(name: &str) -> (Option<Ending>, &str) {
-    if let Some(stem) = without_ending(name, Ending::Cfg) {
-        return (Some(Ending::Cfg), stem);
+    for ending in ENDINGS {
+        if let Some(stem) = without_ending(name, ending) {
+            return (Some(ending), stem);
+        }
     }
-    if let Some(stem) = without_ending(name, Ending::Cff) {
-        return (Some(Ending::Cff), stem);
-    }
-    match without_ending(name, Ending::Dat) {
-        Some(stem) => (Some(Ending::Dat), stem),
-        None => (None, name),
-    }
+    (None, name)
 }
 
 /// The folder of a name, with its slash, and the rest.
@@ -167,43 +179,72 @@ fn refuse_partner<R: Eprint + AllocGlobal>(rt: &R, name: &str, ending: Ending) -
     None
 }
 
-/// The single file for a name that ends in .cff or has no ending; standard input is a single file.
+/// The single file for a name that ends in .cff or has no ending.
 fn found_single<R: Files + AllocGlobal + Clone + Drop>(
     rt: &R,
     name: &str,
 ) -> Result<Option<Pairing>, AllocError> {
-    let found = match stem_of(name).0 {
-        None if name == "-" => Some(String::from_str(rt.alloc(), name)?),
-        None | Some(Ending::Cff) => file_for(rt, name, Ending::Cff)?,
-        _ => None,
-    };
-    match found {
+    match file_for(rt, name, Ending::Cff)? {
         Some(cfg) => Ok(Some(Pairing { cfg, dat: None })),
         None => Ok(None),
     }
 }
 
-/// The files of a record by one name; None if one is missing, which is printed.
-fn found_pair<R: Files + Eprint + AllocGlobal + Clone + Drop>(
+/// The files of a record by a name without an ending; None if one is missing, which is printed.
+fn found_by_stem<R: Files + Eprint + AllocGlobal + Clone + Drop>(
     rt: &R,
     name: &str,
 ) -> Result<Option<Pairing>, AllocError> {
-    if stem_of(name).0 == Some(Ending::Cff) {
-        return found_single(rt, name);
+    if let Some(cfg) = file_for(rt, name, Ending::Cfg)? {
+        return found_data(rt, name, cfg);
     }
-    let Some(cfg) = file_for(rt, name, Ending::Cfg)? else {
-        let single = found_single(rt, name)?;
-        return Ok(match single {
-            Some(single) => Some(single),
-            None => refuse_partner(rt, name, Ending::Cfg),
-        });
-    };
+    if let Some(single) = found_single(rt, name)? {
+        return Ok(Some(single));
+    }
+    if is_folder(rt, name) {
+        refuse_folder(rt, name);
+        return Ok(None);
+    }
+    Ok(refuse_partner(rt, name, Ending::Cfg))
+}
+
+/// The files of a record with this configuration file; None if there are no data, which is printed.
+fn found_data<R: Files + Eprint + AllocGlobal + Clone + Drop>(
+    rt: &R,
+    name: &str,
+    cfg: String,
+) -> Result<Option<Pairing>, AllocError> {
     match file_for(rt, name, Ending::Dat)? {
         Some(dat) => Ok(Some(Pairing {
             cfg,
             dat: Some(dat),
         })),
         None => Ok(refuse_partner(rt, name, Ending::Dat)),
+    }
+}
+
+/// The files of a record by one name; None if one is missing, which is printed. Standard input is a
+/// single file.
+fn found_pair<R: Files + Eprint + AllocGlobal + Clone + Drop>(
+    rt: &R,
+    name: &str,
+) -> Result<Option<Pairing>, AllocError> {
+    if name == "-" {
+        let cfg = String::from_str(rt.alloc(), name)?;
+        return Ok(Some(Pairing { cfg, dat: None }));
+    }
+    let Some(ending) = stem_of(name).0 else {
+        return found_by_stem(rt, name);
+    };
+    if !is_file(rt, name) {
+        return Ok(None);
+    }
+    if ending == Ending::Cff {
+        return found_single(rt, name);
+    }
+    match file_for(rt, name, Ending::Cfg)? {
+        Some(cfg) => found_data(rt, name, cfg),
+        None => Ok(refuse_partner(rt, name, Ending::Cfg)),
     }
 }
 

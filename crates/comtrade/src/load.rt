@@ -1,15 +1,9 @@
-//! Reads the record that the arguments name: its files, and the `File` that they hold. What the exact
-//! reader refuses is read as `import` reads it, and the repairs are printed.
+//! Reads the files of the record that the arguments name.
 
 use crate::find::{Pairing, pairing_of};
 use crate::{complain, out_of_memory, read_named, say};
-use comtrade_diagnostics::{
-    Choices, ImportFault, Imported, Note, Pair, import, import_single, put_fault,
-};
-use comtrade_format::File;
+use comtrade_diagnostics::{Choices, ImportFault, Imported, Note, Pair, import_single};
 use comtrade_io::{Names, ToolFault, put, put_safe};
-use comtrade_read::{Fault, Part, ReadFault, read};
-use comtrade_views::{Encoding, spell_in_utf8};
 use std::alloc::{AllocError, Allocator};
 use std::rt::Files;
 
@@ -96,7 +90,7 @@ pub(crate) fn put_notes<A: Allocator>(
 }
 
 /// Why files cannot be imported, as a line.
-fn put_import_fault<A: Allocator + Copy>(
+pub(crate) fn put_import_fault<A: Allocator + Copy>(
     out: &mut Vec<u8, A>,
     name: &[u8],
     fault: ImportFault,
@@ -165,75 +159,4 @@ pub(crate) fn read_pair<R: Files + Input + Eprint + AllocGlobal + Clone + Drop>(
             None
         }
     }
-}
-
-/// Whether an error is in the first line, where files of other editions are refused.
-fn is_first(part: Part, fault: ReadFault) -> bool {
-    part == Part::Cfg && matches!(fault, ReadFault::Revision | ReadFault::Fields(1))
-}
-
-/// The file of a pair that the exact reader refused, as `import` reads it. `said` gets each repair,
-/// one line each, or for None why the pair cannot be read.
-fn imported_in<A: Allocator + Copy>(
-    alloc: A,
-    pair: Pair<'_>,
-    found: Fault,
-    said: &mut Vec<u8, A>,
-) -> Result<Option<File<A>>, ToolFault> {
-    match import(alloc, pair.cfg, pair.dat, Choices::default()) {
-        Ok(Imported { file, notes, .. }) => {
-            put_notes(said, &notes)?;
-            return Ok(Some(file));
-        }
-        Err(ImportFault::Memory) => return Err(ToolFault::Memory),
-        Err(fault)
-            if is_first(found.part, found.fault) && !matches!(fault, ImportFault::Cfg(1, _)) => {
-            put_import_fault(said, pair.cfg_name, fault)?;
-        }
-        Err(_) => put_fault(alloc, said, pair, found)?,
-    }
-    Ok(None)
-}
-
-/// The file of a pair: exact, or as `imported_in` reads it if the exact reader refuses it. With
-/// `is_strict` None then, with the error in `said`.
-fn file_in<A: Allocator + Copy>(
-    alloc: A,
-    pair: Pair<'_>,
-    is_strict: bool,
-    said: &mut Vec<u8, A>,
-) -> Result<Option<File<A>>, ToolFault> {
-    let found = match read(alloc, pair.cfg, pair.dat) {
-        Ok(file) => return Ok(Some(file)),
-        Err((_, ReadFault::Memory)) => return Err(ToolFault::Memory),
-        Err((part, fault)) => Fault { part, fault },
-    };
-    if is_strict {
-        put_fault(alloc, said, pair, found)?;
-        return Ok(None);
-    }
-    imported_in(alloc, pair, found, said)
-}
-
-/// The error for an unknown encoding.
-pub(crate) const NO_ENCODING: &str = "comtrade: --encoding expects utf-8 or latin1\n";
-
-/// The file of a pair, as `file_in`, with its texts in UTF-8; None also for an unknown encoding, with
-/// the error in `said`.
-pub(crate) fn file_spelled<A: Allocator + Copy>(
-    alloc: A,
-    pair: Pair<'_>,
-    is_strict: bool,
-    encoding: Option<&str>,
-    said: &mut Vec<u8, A>,
-) -> Result<Option<File<A>>, ToolFault> {
-    let Some(encoding) = Encoding::named(encoding) else {
-        put(said, NO_ENCODING)?;
-        return Ok(None);
-    };
-    let mut found = file_in(alloc, pair, is_strict, said)?;
-    if let Some(file) = &mut found {
-        spell_in_utf8(alloc, file, encoding)?;
-    }
-    Ok(found)
 }

@@ -4,8 +4,10 @@
 
 mod around;
 mod compare;
+mod content;
 mod extract;
 mod find;
+mod folder;
 mod import;
 mod load;
 mod measure;
@@ -110,6 +112,7 @@ fn print_view<R: Print + Eprint + AllocGlobal>(
     rt: &R,
     view: View,
     viewed: Viewed<'_>,
+    is_imported: bool,
     pair: Pair<'_>,
 ) -> u8 {
     let lists = Bump::new(rt.alloc());
@@ -118,7 +121,8 @@ fn print_view<R: Print + Eprint + AllocGlobal>(
         texts: rt.alloc(),
         lists: &lists,
     };
-    match view_over(room, view, viewed, pair, &mut io::writer(rt), &mut said) {
+    let mut w = io::writer(rt);
+    match view_over(room, view, viewed, is_imported, pair, &mut w, &mut said) {
         Ok(true) => {
             say(rt, &said);
             0
@@ -189,7 +193,7 @@ fn run_view<R: Files + Input + Print + Eprint + AllocGlobal + Clone + Drop>(
         Some(inputs) => {
             say(rt, &inputs.said);
             note_size(rt, is_watched, &inputs);
-            print_view(rt, view, viewed, pair_of(&inputs))
+            print_view(rt, view, viewed, inputs.is_single(), pair_of(&inputs))
         }
         None => 1,
     }

@@ -1,88 +1,17 @@
 //! The commands over many records.
 
-use crate::load::{Inputs, NO_ENCODING, file_spelled, pair_of, read_pair};
-use crate::{complain, is_folder, print_bytes, say};
-use comtrade_diagnostics::put_remarks;
+use crate::content::{NO_ENCODING, Reading, file_spelled};
+use crate::folder::{Pairs, pairs_of};
+use crate::load::{Inputs, pair_of, read_pair};
+use crate::{complain, print_bytes, say};
 use comtrade_format::File;
-use comtrade_io::{Names, Survey, ToolFault, fault_of, put, put_safe};
+use comtrade_io::{Names, Survey, ToolFault, put, put_safe};
 use comtrade_views::{
     Encoding, Event, Summary, add_events, fault_summary, put_events, put_events_json,
     put_summaries, put_summaries_json, sort_events, sort_summaries, summary_of,
 };
-use std::alloc::{AllocError, Global};
-use std::fs;
+use std::alloc::Global;
 use std::rt::Files;
-
-/// Whether a name is that of a configuration file or a single file.
-fn is_cfg(name: &str) -> bool {
-    match name.len().checked_sub(4) {
-        Some(at) => match name.get(at..) {
-            Some(ending) => {
-                0 < at
-                    && (ending.eq_ignore_ascii_case(".cfg") || ending.eq_ignore_ascii_case(".cff"))
-            }
-            None => false,
-        },
-        None => false,
-    }
-}
-
-/// The configuration files and single files of a folder, sorted by name.
-fn cfgs_of<R: Files + AllocGlobal + Clone + Drop>(
-    rt: &R,
-    folder: &str,
-) -> Result<Vec<String>, ToolFault> {
-    let entries = match fs::read_dir(rt, folder) {
-        Ok(entries) => entries,
-        Err(error) => return Err(fault_of(error.kind(), ToolFault::Input)),
-    };
-    let mut names = Vec::new(rt.alloc());
-    for entry in entries {
-        let Ok(entry) = entry else {
-            continue;
-        };
-        if is_cfg(entry.file_name()) {
-            names.push(path_in(rt, folder, entry.file_name())?)?;
-        }
-    }
-    names.sort()?;
-    Ok(names)
-}
-
-fn path_in<R: AllocGlobal>(rt: &R, folder: &str, file: &str) -> Result<String, AllocError> {
-    let mut path = String::from_str(rt.alloc(), folder)?;
-    if !folder.ends_with('/') {
-        path.push_str("/")?;
-    }
-    path.push_str(file)?;
-    Ok(path)
-}
-
-/// The records that the names mean: for a folder, those in it.
-fn pairs_of<R: Files + Eprint + AllocGlobal + Clone + Drop>(
-    rt: &R,
-    names: &[&str],
-) -> Result<Vec<String>, ToolFault> {
-    let mut pairs = Vec::new(rt.alloc());
-    for name in names {
-        if !is_folder(rt, name) {
-            pairs.push(String::from_str(rt.alloc(), name)?)?;
-            continue;
-        }
-        match cfgs_of(rt, name) {
-            Ok(found) => {
-                for pair in found {
-                    pairs.push(pair)?;
-                }
-            }
-            Err(fault) => {
-                complain(rt, name, fault);
-                return Err(fault);
-            }
-        }
-    }
-    Ok(pairs)
-}
 
 /// What was found so far.
 #[derive(Drop)]
@@ -132,6 +61,22 @@ fn add_file(
     Ok(())
 }
 
+/// Adds a record that cannot be read; for events, why is printed.
+fn add_fault<R: Eprint + AllocGlobal>(
+    rt: &R,
+    survey: Survey,
+    found: &mut Found,
+    said: Vec<u8>,
+    name: &[u8],
+) -> Result<(), ToolFault> {
+    found.is_sound = false;
+    match survey {
+        Survey::List => found.records.push(fault_summary(rt.alloc(), said, name)?)?,
+        Survey::Events => say(rt, &said),
+    }
+    Ok(())
+}
+
 /// What is asked of each record, and the encoding of its texts.
 #[derive(Clone, Copy)]
 struct Asked<'a> {
@@ -151,23 +96,31 @@ fn add_pair<R: AllocGlobal + Eprint>(
     let mut said = Vec::new(alloc);
     say_repairs(rt, name, &inputs.said)?;
     let survey = asked.survey;
-    match file_spelled(alloc, pair_of(inputs), false, asked.encoding, &mut said)? {
-        Some(file) => {
-            if survey == Survey::List && said.is_empty() {
-                put_remarks(&mut said, pair_of(inputs), &file)?;
-            }
+    let reading = Reading::to_list(inputs.is_single(), asked.encoding, survey == Survey::List);
+    match file_spelled(alloc, pair_of(inputs), reading, &mut said)? {
+        Some(loaded) => {
             say_repairs(rt, name, &said)?;
-            add_file(alloc, survey, found, &file, name)?;
+            add_file(alloc, survey, found, &loaded.file, name)?;
         }
-        None => {
-            found.is_sound = false;
-            match survey {
-                Survey::List => found
-                    .records
-                    .push(fault_summary(alloc, said, name.as_bytes())?)?,
-                Survey::Events => say(rt, &said),
-            }
-        }
+        None => add_fault(rt, survey, found, said, name.as_bytes())?,
+    }
+    Ok(())
+}
+
+/// Adds the names that are not UTF-8.
+fn add_odd<R: Eprint + AllocGlobal>(
+    rt: &R,
+    survey: Survey,
+    found: &mut Found,
+    names: &[Vec<u8>],
+) -> Result<(), ToolFault> {
+    for name in names {
+        let mut text = Vec::from_slice(rt.alloc(), name)?;
+        put(
+            &mut text,
+            ": cannot be opened, because its name is not valid UTF-8\n",
+        )?;
+        add_fault(rt, survey, found, text, name)?;
     }
     Ok(())
 }
@@ -225,7 +178,7 @@ fn survey_pairs<R: Files + Input + Eprint + AllocGlobal + Clone + Drop>(
     rt: &R,
     asked: Asked<'_>,
     json: bool,
-    pairs: &[String],
+    pairs: &Pairs,
 ) -> Result<(Vec<u8>, bool), ToolFault> {
     let mut found = Found {
         records: Vec::new(rt.alloc()),
@@ -233,8 +186,12 @@ fn survey_pairs<R: Files + Input + Eprint + AllocGlobal + Clone + Drop>(
         names: Vec::new(rt.alloc()),
         is_sound: true,
     };
-    add_pairs(rt, asked, &mut found, pairs)?;
-    let text = text_of(rt, asked.survey, json, &mut found)?;
+    add_odd(rt, asked.survey, &mut found, &pairs.odd)?;
+    add_pairs(rt, asked, &mut found, &pairs.names)?;
+    let mut text = text_of(rt, asked.survey, json, &mut found)?;
+    if pairs.names.is_empty() && pairs.odd.is_empty() && !json {
+        put(&mut text, "0 pairs\n")?;
+    }
     Ok((text, found.is_sound))
 }
 

@@ -1,10 +1,10 @@
 //! What is printed of a pair of files.
 
 use crate::around::rms_of;
-use crate::load::file_spelled;
+use crate::content::{Reading, file_spelled};
 use crate::measure::{is_outside, measure_over, measured_part};
 use crate::part::{Taken, taken_of};
-use comtrade_diagnostics::{Pair, check_over, put_remarks};
+use comtrade_diagnostics::{Pair, check_over};
 use comtrade_format::File;
 use comtrade_io::{Part, Picture, ToolFault, View, Viewed, put, write_out};
 use comtrade_plot::{PlotOptions, Rms, Timed, page_over, plot_over};
@@ -218,11 +218,13 @@ fn view_file<A: Allocator + Copy, W: Write>(
 
 /// Prints what is asked of a part of a pair; false if the pair has an error, or no such part. `Check`
 /// prints the error; the other commands put it to `said` and print nothing. `said` also gets the
-/// repairs of a pair that the exact reader refuses, and what is doubtful about a pair that is shown.
+/// repairs of a pair, and what is doubtful about one that is shown and reads exactly. `is_imported` if
+/// the pair was a single file.
 pub(crate) fn view_over<A: Allocator + Copy, W: Write>(
     room: Room<A>,
     view: View,
     viewed: Viewed<'_>,
+    is_imported: bool,
     pair: Pair<'_>,
     w: &mut W,
     said: &mut Vec<u8, A>,
@@ -233,16 +235,9 @@ pub(crate) fn view_over<A: Allocator + Copy, W: Write>(
     let Some(look) = look_of(viewed, said)? else {
         return Ok(false);
     };
-    let part = viewed.part;
-    let found = file_spelled(room.lists, pair, part.strict, part.encoding, said)?;
-    if let Some(file) = &found
-        && view == View::Show
-        && said.is_empty()
-    {
-        put_remarks(said, pair, file)?;
-    }
-    match found {
-        Some(file) => view_file(room, view, viewed, look, file, w, said),
+    let reading = Reading::to_show(is_imported, viewed.part, view == View::Show);
+    match file_spelled(room.lists, pair, reading, said)? {
+        Some(loaded) => view_file(room, view, viewed, look, loaded.file, w, said),
         None => Ok(false),
     }
 }

@@ -1,8 +1,9 @@
 //! The arguments, and usage errors.
 
 use crate::{out_of_memory, say};
-use comtrade_io::{put, put_safe};
+use comtrade_io::{put, put_number, put_safe};
 use std::alloc::{AllocError, Allocator};
+use std::env::FillError;
 use std::io::ErrorKind;
 use std::rt::Env;
 use std::{env, io};
@@ -15,6 +16,18 @@ fn safe_lines<A: Allocator>(alloc: A, text: &str) -> Result<Vec<u8, A>, AllocErr
         put(&mut safe, "\n")?;
     }
     Ok(safe)
+}
+
+/// A name that is not UTF-8: its bytes from 80 (hexadecimal) on as `\xNN`, so that no part of it is
+/// taken for UTF-8.
+pub(crate) fn put_escaped<A: Allocator>(
+    out: &mut Vec<u8, A>,
+    name: &[u8],
+) -> Result<(), AllocError> {
+    for b in name {
+        put_safe(out, &[*b])?;
+    }
+    Ok(())
 }
 
 /// Prints a usage error.
@@ -69,11 +82,37 @@ pub(crate) fn words_of<R: Env + AllocGlobal>(rt: &R) -> io::Result<Vec<String>> 
     Ok(rest)
 }
 
+/// The most bytes of an argument that is printed.
+const SHOWN: usize = 4096;
+
+/// Appends the number and the bytes of the first argument that is not valid UTF-8.
+fn put_invalid<R: Env + AllocGlobal>(rt: &R, out: &mut Vec<u8>) -> Result<(), AllocError> {
+    let mut buffer = [0u8; SHOWN];
+    for number in 1..usize::MAX {
+        let word = match rt.arg(number, &mut buffer) {
+            Ok(length) => buffer.get(..length).unwrap_or(&[]),
+            Err(FillError::NotPresent) => break,
+            Err(FillError::TooLong) => continue,
+        };
+        if str::from_utf8(word).is_err() {
+            put(out, " ")?;
+            put_number(out, number as u64)?;
+            put(out, " (")?;
+            put_escaped(out, word)?;
+            return put(out, ")");
+        }
+    }
+    Ok(())
+}
+
 /// Prints why the arguments cannot be read.
-pub(crate) fn refuse_start<R: Eprint>(rt: &R, kind: ErrorKind) -> u8 {
-    if kind == ErrorKind::OutOfMemory {
+pub(crate) fn refuse_start<R: Env + Eprint + AllocGlobal>(rt: &R, kind: ErrorKind) -> u8 {
+    let mut text = Vec::new(rt.alloc());
+    if kind == ErrorKind::OutOfMemory || put_invalid(rt, &mut text).is_err() {
         return out_of_memory(rt);
     }
-    let _ = eprintln!(rt; "comtrade: an argument is not valid UTF-8");
+    let _ = eprint!(rt; "error: argument");
+    say(rt, &text);
+    let _ = eprintln!(rt; " is not valid UTF-8");
     2
 }

@@ -1,15 +1,16 @@
 //! Writes pairs of files that do not exist yet.
 
-use crate::load::{Inputs, file_spelled, pair_of, read_pair};
+use crate::content::{Loaded, Origin, Reading, file_spelled};
+use crate::load::{Inputs, pair_of, read_pair};
 use crate::part::put_part_fault;
 use crate::{complain, note_size, out_of_memory, say};
 use bumpalo::Bump;
 use comtrade_diagnostics::{Pair, put_refusal};
 use comtrade_format::{File as Record, Kind, WriteFault};
 use comtrade_io::{Converted, ToolFault, fault_of, put_safe, write_out};
-use comtrade_read::{ConvertFault, converted, written_of};
+use comtrade_read::written_of;
 use comtrade_views::{PartFault, is_whole, part_of};
-use std::alloc::AllocError;
+use std::alloc::Allocator;
 use std::fs;
 use std::fs::File;
 use std::io::Write;
@@ -69,14 +70,10 @@ fn refuse_pair<R: Eprint + AllocGlobal>(
     rt: &R,
     kind: Kind,
     pair: Pair<'_>,
-    fault: ConvertFault,
+    fault: WriteFault,
 ) -> u8 {
     let mut said = Vec::new(rt.alloc());
-    let put = match fault {
-        ConvertFault::Write(fault) => put_refusal(rt.alloc(), &mut said, pair, kind, fault),
-        _ => Err(AllocError),
-    };
-    match put {
+    match put_refusal(rt.alloc(), &mut said, pair, kind, fault) {
         Ok(()) => {
             say(rt, &said);
             1
@@ -123,24 +120,59 @@ fn write_part<R: Files + Eprint + AllocGlobal>(rt: &R, asked: Converted<'_>, fil
     }
 }
 
-/// Converts a part of a pair, or a pair that the exact reader refuses.
+/// The file of a pair; None if it cannot be read. The repairs or the error are printed.
+fn file_of<R: Eprint + AllocGlobal, A: Allocator + Copy>(
+    rt: &R,
+    lists: A,
+    asked: Converted<'_>,
+    inputs: &Inputs,
+) -> Option<Loaded<A>> {
+    let mut said = Vec::new(lists);
+    let reading = Reading::to_write(inputs.is_single(), asked.part);
+    match file_spelled(lists, pair_of(inputs), reading, &mut said) {
+        Ok(found) => {
+            say(rt, &said);
+            found
+        }
+        Err(_) => {
+            out_of_memory(rt);
+            None
+        }
+    }
+}
+
+/// Converts a part of a pair.
 fn convert_part<R: Files + Eprint + AllocGlobal>(
     rt: &R,
     asked: Converted<'_>,
     inputs: &Inputs,
 ) -> u8 {
-    let mut said = Vec::new(rt.alloc());
-    let (pair, part) = (pair_of(inputs), asked.part);
-    match file_spelled(rt.alloc(), pair, part.strict, part.encoding, &mut said) {
-        Ok(Some(file)) => {
-            say(rt, &said);
-            write_part(rt, asked, &file)
+    match file_of(rt, rt.alloc(), asked, inputs) {
+        Some(loaded) => write_part(rt, asked, &loaded.file),
+        None => 1,
+    }
+}
+
+/// Writes a file of a pair with another data format.
+fn write_whole<R: Files + Eprint + AllocGlobal, A: Allocator + Copy>(
+    rt: &R,
+    lists: A,
+    asked: Converted<'_>,
+    inputs: &Inputs,
+    loaded: Loaded<A>,
+) -> u8 {
+    let Loaded { mut file, origin } = loaded;
+    file.head.kind = asked.kind;
+    match written_of(lists, &file) {
+        Ok(made) => write_named(rt, asked.name, &made.cfg, &made.dat),
+        Err(WriteFault::Memory) => out_of_memory(rt),
+        Err(fault) if origin == Origin::Literal => {
+            refuse_pair(rt, asked.kind, pair_of(inputs), fault)
         }
-        Ok(None) => {
-            say(rt, &said);
+        Err(fault) => {
+            let _ = eprintln!(rt; "comtrade: nothing was written: {fault}");
             1
         }
-        Err(_) => out_of_memory(rt),
     }
 }
 
@@ -151,10 +183,9 @@ fn convert_whole<R: Files + Eprint + AllocGlobal>(
     inputs: &Inputs,
 ) -> u8 {
     let lists = Bump::new(rt.alloc()); // the rows and both texts are released in one step
-    match converted(&lists, &inputs.cfg, &inputs.dat, asked.kind) {
-        Ok(made) => write_named(rt, asked.name, &made.cfg, &made.dat),
-        Err(ConvertFault::Read(_)) => convert_part(rt, asked, inputs),
-        Err(fault) => refuse_pair(rt, asked.kind, pair_of(inputs), fault),
+    match file_of(rt, &lists, asked, inputs) {
+        Some(loaded) => write_whole(rt, &lists, asked, inputs, loaded),
+        None => 1,
     }
 }
 

@@ -1,5 +1,5 @@
 -- What the words after the program's name ask for.
-use Rattle.std.specs.Prelude.{◌≡◌, ◌≢◌, ◌↔◌, ◌⊎◌, ℕ, Bool, true, false, List, [], Option, Some, None, codes, map, option_map, unwrap_or, IsSomeAnd}
+use Rattle.std.specs.Prelude.{◌≡◌, ◌≢◌, ◌↔◌, ◌⊎◌, ℕ, Bool, true, false, List, [], Option, Some, None, codes, map, option_map, unwrap_or, IfSome}
 use Rattle.std.specs.Borrow.{Bor}
 use Rattle.clap.specs.Words.{Kinds, IsAmong, Row, Text, all_of, fault_of, first_of, subcommand_of}
 use Rattle.clap.specs.declared.error.kind.ErrorKind.{ErrorKind}
@@ -31,9 +31,9 @@ IsOption rows id text = option_map (λ s. s.now) text ≡ first_of id rows
 abbrev pub IsFlag : List Row → Text → Bool → Type 0
 IsFlag rows id set = (set ≡ true) ↔ (first_of id rows ≡ Some (codes "true"))
 
--- standard input is one of two files at most, and no partner is found by its name
+-- standard input is one of two files at most
 abbrev pub IsNamed : Text → Option Text → Type 0
-IsNamed file dat = file ≡ codes "-" → IsSomeAnd dat (λ other. other ≢ codes "-")
+IsNamed file dat = file ≡ codes "-" → IfSome dat (λ other. other ≢ codes "-")
 
 -- what the files of a pair are called, by the words that were given for FILE and DAT
 pub record AreNames (rows : List Row) (names : Names) : Type 0 where

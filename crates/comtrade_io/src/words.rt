@@ -6,8 +6,8 @@ ghost use Rattle.comtrade_io.specs.Verbs.{data_name, pair_name};
 
 use comtrade_format::Kind;
 
-/// What the files of a pair are called. Without a name for the data file its partner is looked for. One of both may be `-`, which is
-/// standard input; then the other has a name.
+/// The names of a record's files. Without a name for the data file, the program looks for it. One of
+/// both may be `-` (standard input); alone, `-` is a single file.
 #[derive(Clone, Copy, Debug)]
 pub struct Names<'a> {
     pub file: &'a str,

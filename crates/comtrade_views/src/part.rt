@@ -11,7 +11,7 @@ mod record;
 mod rows;
 mod side;
 
-pub use encoding::{Encoding, spell_in_utf8};
+pub use encoding::{Encoding, spell_for_views, spell_in_utf8};
 pub use fault::PartFault;
 pub(crate) use reach::{Reach, reach_of};
 pub use record::{Cut, is_whole, part_of};

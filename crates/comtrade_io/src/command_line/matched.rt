@@ -42,7 +42,7 @@ pub(crate) fn texts_of<'a>(
     }
 }
 
-/// The names, unless standard input is to be found by a name that it doesn't have, or to be read twice.
+/// The names, unless standard input would be read twice.
 pub(crate) fn named<'a>(file: &'a str, dat: Option<&'a str>) -> Option<Names<'a>>
     ensures { MatchOption result (IsNamed file.entry.now (option_map (λ s. s.now) dat.entry) → ⊥)
         (λ names. (names.file ≡ file.entry) × (names.dat ≡ dat.entry)
@@ -52,8 +52,8 @@ pub(crate) fn named<'a>(file: &'a str, dat: Option<&'a str>) -> Option<Names<'a>
         return Some(Names { file, dat });
     }
     match dat {
-        Some(other) if other != "-" => Some(Names { file, dat }),
-        _ => None,
+        Some(other) if other == "-" => None,
+        _ => Some(Names { file, dat }),
     }
 }
 

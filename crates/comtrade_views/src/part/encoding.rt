@@ -1,4 +1,4 @@
-//! Texts in Latin-1 (ISO 8859-1) as UTF-8.
+//! Texts in Latin-1 (ISO 8859-1) as UTF-8, and texts of no known encoding as they are shown.
 
 use comtrade_format::File;
 use dfr_channels::{AnalogChannel, Items, StatusChannel};
@@ -29,56 +29,126 @@ impl Encoding {
     }
 }
 
-/// Converts a text from Latin-1 to UTF-8: a byte from 80 (hexadecimal) on becomes two.
-fn turn<A: Allocator>(alloc: A, text: &mut Items<u8, A>) -> Result<(), AllocError> {
+/// How texts are changed.
+#[derive(Clone, Copy, PartialEq, Eq)]
+enum Change {
+    /// From Latin-1 to UTF-8.
+    FromLatin1,
+    /// To what is shown of them.
+    Shown,
+}
+
+/// The text in UTF-8 of a text in Latin-1: a byte from 80 (hexadecimal) on becomes two.
+fn from_latin1<A: Allocator>(alloc: A, text: &[u8]) -> Result<Vec<u8, A>, AllocError> {
     let mut made = Vec::new(alloc);
-    for b in text.items() {
+    for b in text {
         if *b < 0x80 {
             made.push(*b)?;
         } else {
             made.extend_from_slice(&[0xC0 | *b >> 6, 0x80 | *b & 0x3F])?;
         }
     }
+    Ok(made)
+}
+
+/// A text without the NULs at its end.
+fn without_padding(text: &[u8]) -> &[u8] {
+    let mut rest = text;
+    for _ in 0..text.len() {
+        match rest {
+            [front @ .., 0] => rest = front,
+            _ => break,
+        }
+    }
+    rest
+}
+
+/// A hexadecimal digit.
+fn hex_digit(n: u8) -> u8 {
+    match b"0123456789abcdef".get(usize::from(n)) {
+        Some(digit) => *digit,
+        None => b'?',
+    }
+}
+
+/// What is shown of a text: itself without padding. If it is not UTF-8, each byte from 80
+/// (hexadecimal) on becomes `\xNN`, so that no part of it is taken for UTF-8.
+fn shown<A: Allocator>(alloc: A, text: &[u8]) -> Result<Vec<u8, A>, AllocError> {
+    let text = without_padding(text);
+    let mut made = Vec::new(alloc);
+    if str::from_utf8(text).is_ok() {
+        made.extend_from_slice(text)?;
+        return Ok(made);
+    }
+    for b in text {
+        if *b < 0x80 {
+            made.push(*b)?;
+        } else {
+            made.extend_from_slice(&[b'\\', b'x', hex_digit(*b >> 4), hex_digit(*b & 0xF)])?;
+        }
+    }
+    Ok(made)
+}
+
+/// Changes a text.
+fn turn<A: Allocator>(alloc: A, text: &mut Items<u8, A>, change: Change) -> Result<(), AllocError> {
+    let made = match change {
+        Change::FromLatin1 => from_latin1(alloc, text.items())?,
+        Change::Shown => shown(alloc, text.items())?,
+    };
     *text = Items::of(made);
     Ok(())
 }
 
-/// A channel with its texts converted to UTF-8.
+/// A channel with texts that can be changed.
 trait Named<A: Allocator>: Drop {
-    fn turn_texts(&mut self, alloc: A) -> Result<(), AllocError>;
+    fn turn_texts(&mut self, alloc: A, change: Change) -> Result<(), AllocError>;
 }
 
 impl<A: Allocator + Copy> Named<A> for AnalogChannel<A> {
-    fn turn_texts(&mut self, alloc: A) -> Result<(), AllocError> {
-        turn(alloc, &mut self.id)?;
-        turn(alloc, &mut self.phase)?;
-        turn(alloc, &mut self.component)?;
-        turn(alloc, &mut self.unit)
+    fn turn_texts(&mut self, alloc: A, change: Change) -> Result<(), AllocError> {
+        turn(alloc, &mut self.id, change)?;
+        turn(alloc, &mut self.phase, change)?;
+        turn(alloc, &mut self.component, change)?;
+        turn(alloc, &mut self.unit, change)
     }
 }
 
 impl<A: Allocator + Copy> Named<A> for StatusChannel<A> {
-    fn turn_texts(&mut self, alloc: A) -> Result<(), AllocError> {
-        turn(alloc, &mut self.id)?;
-        turn(alloc, &mut self.phase)?;
-        turn(alloc, &mut self.component)
+    fn turn_texts(&mut self, alloc: A, change: Change) -> Result<(), AllocError> {
+        turn(alloc, &mut self.id, change)?;
+        turn(alloc, &mut self.phase, change)?;
+        turn(alloc, &mut self.component, change)
     }
 }
 
-/// Converts the texts of channels to UTF-8.
+/// Changes the texts of channels.
 fn turn_all<T: Named<A>, A: Allocator + Copy>(
     alloc: A,
     list: &mut Items<T, A>,
+    change: Change,
 ) -> Result<(), AllocError> {
     let mut channels = mem::replace(list, Items::of(Vec::new(alloc))).into_vec();
     let mut turned = Ok(());
     for channel in channels.iter_mut() {
         if turned.is_ok() {
-            turned = channel.turn_texts(alloc);
+            turned = channel.turn_texts(alloc, change);
         }
     }
     *list = Items::of(channels);
     turned
+}
+
+/// Changes the texts of a file.
+fn turn_file<A: Allocator + Copy>(
+    alloc: A,
+    file: &mut File<A>,
+    change: Change,
+) -> Result<(), AllocError> {
+    turn(alloc, &mut file.head.station, change)?;
+    turn(alloc, &mut file.head.device, change)?;
+    turn_all(alloc, &mut file.head.analog, change)?;
+    turn_all(alloc, &mut file.head.status, change)
 }
 
 /// Converts the texts of a file, which have this encoding, to UTF-8.
@@ -90,8 +160,14 @@ pub fn spell_in_utf8<A: Allocator + Copy>(
     if encoding == Encoding::Utf8 {
         return Ok(());
     }
-    turn(alloc, &mut file.head.station)?;
-    turn(alloc, &mut file.head.device)?;
-    turn_all(alloc, &mut file.head.analog)?;
-    turn_all(alloc, &mut file.head.status)
+    turn_file(alloc, file, Change::FromLatin1)
+}
+
+/// Converts the texts of a file to what is shown of them: without the NULs at their ends, and with
+/// each byte from 80 (hexadecimal) on as `\xNN` in a text that is not UTF-8.
+pub fn spell_for_views<A: Allocator + Copy>(
+    alloc: A,
+    file: &mut File<A>,
+) -> Result<(), AllocError> {
+    turn_file(alloc, file, Change::Shown)
 }

@@ -1,0 +1,129 @@
+//! Reads what a pair means that reads exactly, but whose own signs show that it means something else.
+
+use crate::check::Pair;
+use comtrade_dialects::{Choices, ImportFault, Key, Note, Notes, is_sound, repaired};
+use comtrade_format::{File, Head};
+use dfr_channels::{AnalogChannel, Items, StatusChannel};
+use std::alloc::{AllocError, Allocator};
+use std::mem;
+
+/// Whose texts a repaired file has.
+#[derive(Clone, Copy, Debug, PartialEq, Eq)]
+pub enum Texts {
+    /// Those of the pair, byte for byte.
+    Literal,
+    /// Those that `import` writes, in ASCII.
+    Imported,
+}
+
+/// What a pair means that reads exactly.
+#[derive(Drop)]
+pub enum Intended<A: Allocator> {
+    /// What it reads as.
+    Literal(File<A>),
+    /// The file that `import` makes of it, and notes on the repairs.
+    Repaired(File<A>, Vec<Note<A>, A>),
+    /// Unknown: what it reads as, and why `import` cannot read it.
+    Unclear(File<A>, ImportFault),
+}
+
+/// Whether a repair is one of texts.
+fn is_of_texts(key: Key) -> bool {
+    matches!(
+        key,
+        Key::TextsNotAscii | Key::TextLong | Key::PhaseLong | Key::UnitEmpty | Key::TextComma
+    )
+}
+
+/// The notes without those on texts.
+fn without_texts<A: Allocator + Copy>(
+    alloc: A,
+    notes: Vec<Note<A>, A>,
+) -> Result<Vec<Note<A>, A>, AllocError> {
+    let mut kept = Vec::new(alloc);
+    for note in notes {
+        if !is_of_texts(note.key()) {
+            kept.push(note)?;
+        }
+    }
+    Ok(kept)
+}
+
+/// Gives analogue channels the texts of others.
+fn rename_analog<A: Allocator + Copy>(
+    alloc: A,
+    list: &mut Items<AnalogChannel<A>, A>,
+    others: Items<AnalogChannel<A>, A>,
+) {
+    let mut channels = mem::replace(list, Items::of(Vec::new(alloc))).into_vec();
+    for (channel, other) in channels.iter_mut().zip(others.into_vec()) {
+        channel.id = other.id;
+        channel.phase = other.phase;
+        channel.component = other.component;
+        channel.unit = other.unit;
+    }
+    *list = Items::of(channels);
+}
+
+/// Gives status channels the texts of others.
+fn rename_status<A: Allocator + Copy>(
+    alloc: A,
+    list: &mut Items<StatusChannel<A>, A>,
+    others: Items<StatusChannel<A>, A>,
+) {
+    let mut channels = mem::replace(list, Items::of(Vec::new(alloc))).into_vec();
+    for (channel, other) in channels.iter_mut().zip(others.into_vec()) {
+        channel.id = other.id;
+        channel.phase = other.phase;
+        channel.component = other.component;
+    }
+    *list = Items::of(channels);
+}
+
+/// Gives a file the texts of a head with as many channels.
+fn rename<A: Allocator + Copy>(alloc: A, file: &mut File<A>, literal: Head<A>) {
+    file.head.station = literal.station;
+    file.head.device = literal.device;
+    rename_analog(alloc, &mut file.head.analog, literal.analog);
+    rename_status(alloc, &mut file.head.status, literal.status);
+}
+
+/// Whether both heads have the same numbers of channels.
+fn are_alike<A: Allocator>(one: &Head<A>, other: &Head<A>) -> bool {
+    one.analog.items().len() == other.analog.items().len()
+        && one.status.items().len() == other.status.items().len()
+}
+
+/// The repaired file of a pair with this head.
+fn repaired_as<A: Allocator + Copy>(
+    alloc: A,
+    mut file: File<A>,
+    notes: Vec<Note<A>, A>,
+    literal: Head<A>,
+    texts: Texts,
+) -> Result<Intended<A>, AllocError> {
+    if texts == Texts::Imported || !are_alike(&file.head, &literal) {
+        return Ok(Intended::Repaired(file, notes));
+    }
+    rename(alloc, &mut file, literal);
+    Ok(Intended::Repaired(file, without_texts(alloc, notes)?))
+}
+
+/// What a pair means that reads exactly to this file: the same, unless a sign in the pair shows
+/// otherwise, such as samples in the other byte order. It is then repaired as `import` repairs it.
+pub fn intended_of<A: Allocator + Copy>(
+    alloc: A,
+    pair: Pair<'_>,
+    file: File<A>,
+    texts: Texts,
+) -> Result<Intended<A>, AllocError> {
+    if is_sound(alloc, &file, pair.dat)? {
+        return Ok(Intended::Literal(file));
+    }
+    let mut notes = Notes::new(alloc);
+    match repaired(alloc, &mut notes, pair.cfg, pair.dat, Choices::default()) {
+        Ok(meant) => repaired_as(alloc, meant, notes.into_list(), file.head, texts),
+        Err(ImportFault::Memory) => Err(AllocError),
+        Err(fault) => Ok(Intended::Unclear(file, fault)),
+    }
+}
