@@ -192,7 +192,7 @@ fn answer_to<'a>(alloc: Global, matches: &ArgMatches<'a>) -> Result<Answer<'a>, 
         Some(asked) => Ok(Answer::Do(asked)),
         None => Ok(Answer::Refuse(String::from_str(
             alloc,
-            "error: only one of FILE and DAT can be - (standard input), and the other needs a name\n",
+            "error: FILE and DAT cannot both be - (standard input)\n",
         )?)),
     }
 }
