@@ -2,7 +2,7 @@
 
 use crate::check::Pair;
 use comtrade_dialects::{Choices, ImportFault, Key, Note, Notes, is_sound, repaired};
-use comtrade_format::{File, Head};
+use comtrade_format::{File, Head, Rate, Row};
 use dfr_channels::{AnalogChannel, Items, StatusChannel};
 use std::alloc::{AllocError, Allocator};
 use std::mem;
@@ -94,18 +94,82 @@ fn are_alike<A: Allocator>(one: &Head<A>, other: &Head<A>) -> bool {
         && one.status.items().len() == other.status.items().len()
 }
 
-/// The repaired file of a pair with this head.
+/// Whether two channels give the same values.
+fn is_same_channel<A: Allocator>(one: &AnalogChannel<A>, other: &AnalogChannel<A>) -> bool {
+    one.a == other.a
+        && one.b == other.b
+        && one.skew == other.skew
+        && one.min == other.min
+        && one.max == other.max
+        && one.primary == other.primary
+        && one.secondary == other.secondary
+        && one.side == other.side
+}
+
+/// Whether two rates give the same times.
+fn is_same_rate(one: &Rate, other: &Rate) -> bool {
+    one.samp == other.samp && one.endsamp == other.endsamp
+}
+
+/// Whether two heads give the same values and times.
+fn is_same_head<A: Allocator>(one: &Head<A>, other: &Head<A>) -> bool {
+    let channels = one.analog.items().iter().zip(other.analog.items().iter());
+    for (channel, same) in channels {
+        if !is_same_channel(channel, same) {
+            return false;
+        }
+    }
+    for (rate, same) in one.rates.items().iter().zip(other.rates.items().iter()) {
+        if !is_same_rate(rate, same) {
+            return false;
+        }
+    }
+    are_alike(one, other)
+        && one.rates.items().len() == other.rates.items().len()
+        && one.nrates == other.nrates
+        && one.first == other.first
+        && one.trigger == other.trigger
+        && one.timemult == other.timemult
+}
+
+/// Whether two rows have the same content. `has_rates` if the first one needs no stamp.
+fn is_same_row<A: Allocator>(one: &Row<A>, other: &Row<A>, has_rates: bool) -> bool {
+    one.number == other.number
+        && one.values == other.values
+        && one.bits == other.bits
+        && (one.stamp == other.stamp || has_rates && one.stamp.is_none())
+}
+
+/// Whether a repair changed no value and no time, such as one of a row without a stamp at a rate.
+fn is_same<A: Allocator>(one: &File<A>, other: &File<A>) -> bool {
+    if one.rows.items().len() != other.rows.items().len() || !is_same_head(&one.head, &other.head) {
+        return false;
+    }
+    let has_rates = one.head.nrates != 0;
+    for (row, same) in one.rows.items().iter().zip(other.rows.items().iter()) {
+        if !is_same_row(row, same, has_rates) {
+            return false;
+        }
+    }
+    true
+}
+
+/// The repaired file of a pair that reads to `literal`. That file itself if they have the same
+/// values and times.
 fn repaired_as<A: Allocator + Copy>(
     alloc: A,
     mut file: File<A>,
     notes: Vec<Note<A>, A>,
-    literal: Head<A>,
+    literal: File<A>,
     texts: Texts,
 ) -> Result<Intended<A>, AllocError> {
-    if texts == Texts::Imported || !are_alike(&file.head, &literal) {
+    if texts == Texts::Literal && is_same(&literal, &file) {
+        return Ok(Intended::Literal(literal));
+    }
+    if texts == Texts::Imported || !are_alike(&file.head, &literal.head) {
         return Ok(Intended::Repaired(file, notes));
     }
-    rename(alloc, &mut file, literal);
+    rename(alloc, &mut file, literal.head);
     Ok(Intended::Repaired(file, without_texts(alloc, notes)?))
 }
 
@@ -122,7 +186,7 @@ pub fn intended_of<A: Allocator + Copy>(
     }
     let mut notes = Notes::new(alloc);
     match repaired(alloc, &mut notes, pair.cfg, pair.dat, Choices::default()) {
-        Ok(meant) => repaired_as(alloc, meant, notes.into_list(), file.head, texts),
+        Ok(meant) => repaired_as(alloc, meant, notes.into_list(), file, texts),
         Err(ImportFault::Memory) => Err(AllocError),
         Err(fault) => Ok(Intended::Unclear(file, fault)),
     }
