@@ -49,8 +49,11 @@ pub(crate) fn without_empty_end(text: &[u8], mark: u8) -> &[u8] {
 /// A text without the NUL bytes at its end.
 pub(crate) fn without_nuls(text: &[u8]) -> &[u8] {
     let mut inner = text;
-    while let [rest @ .., 0] = inner {
-        inner = rest;
+    for _ in 0..text.len() {
+        match inner {
+            [rest @ .., 0] => inner = rest,
+            _ => return inner,
+        }
     }
     inner
 }

@@ -97,6 +97,24 @@ fn missing_scan<A: Allocator + Copy>(
     Ok(Scan::new(readings, bits))
 }
 
+/// Offers a scan. Returns false, and changes nothing, if it doesn't fit the layout or the queue is
+/// full.
+fn offers<N: Session<A>, A: Allocator>(
+    layout: &Layout<A>,
+    source: &mut Source<N, A>,
+    scan: Scan<A>,
+) -> bool
+    ensures { MatchBool result (source.new ≡ after_offer source.old scan) (source.new ≡ source.old) }
+{
+    if layout.check(&scan).is_err() {
+        return false;
+    }
+    match source.offer(scan) {
+        Ok(()) => true,
+        Err(_) => false,
+    }
+}
+
 /// Offers a scan without readings, with these bits, in the place of a lost one. Returns false, and
 /// changes nothing, if the bits don't fit the layout, the queue is full or an allocation fails.
 pub fn give_missing<N: Session<A>, A: Allocator + Copy>(
@@ -110,10 +128,10 @@ pub fn give_missing<N: Session<A>, A: Allocator + Copy>(
         record { analog = replicate (length layout.now.analog) reading.Missing; status = bits.now })
         (source.new ≡ source.old) }
 {
-    let Ok(scan) = missing_scan(alloc, layout.analog().len(), bits) else {
-        return false;
-    };
-    layout.check(&scan).is_ok() && source.offer(scan).is_ok()
+    match missing_scan(alloc, layout.analog().len(), bits) {
+        Ok(scan) => offers(layout, source, scan),
+        Err(_) => false,
+    }
 }
 
 /// Counts the scans that came, in order.
