@@ -42,6 +42,25 @@ fn look_over<A: Allocator>(
     }
 }
 
+/// Begins each current anew, at a change of rate.
+fn restart_all<A: Allocator>(currents: &mut [Current<A>]) {
+    for current in currents.iter_mut() {
+        current.restart();
+    }
+}
+
+/// Follows the currents to one more row.
+fn follow_row<A: Allocator>(
+    currents: &mut [Current<A>],
+    place: &Place<'_, A>,
+    length: Length,
+) -> Result<(), MeasureFault> {
+    for current in currents.iter_mut() {
+        current.follow(place, length)?;
+    }
+    Ok(())
+}
+
 /// Follows the currents over the rows of one rate.
 fn follow_over<A: Allocator>(
     currents: &mut [Current<A>],
@@ -52,14 +71,10 @@ fn follow_over<A: Allocator>(
     let Some(rows) = rows.get(span.from..span.to) else {
         return Ok(());
     };
-    for current in currents.iter_mut() {
-        current.restart();
-    }
+    restart_all(currents);
     for (row, now) in rows.iter().enumerate() {
         let place = Place::new(rows, row, now, length, span.from);
-        for current in currents.iter_mut() {
-            current.follow(&place, length)?;
-        }
+        follow_row(currents, &place, length)?;
     }
     Ok(())
 }
