@@ -102,13 +102,14 @@ _comtrade() {
         --dates) word='mdy dmy' ;;
         --refuse) word='revision-1991 revision-2013 revision-absent revision-other sides-absent side-empty
             dates-mdy dates-dmy dates-ambiguous date-form years-2-digits time-24 leap-second
-            fraction-long fraction-form instant-unset trigger-unset trigger-before-first no-timemult
-            lines-2013-dropped status-3-fields number-empty counts-form counts-total index-order
-            range-swapped range-form a-zero exponent-d decimal-comma separator-semicolon
-            trailing-commas blank-lines line-ends-cr line-ends-crcr bom utf-16 cfg-1a
-            texts-not-ascii text-long phase-long unit-empty text-comma rate-line-absent rate-zero
-            rows-fewer rows-more rows-lost row-cut sample-numbers stamps-restart stamps-against-rate
-            stamps-decimal stamps-shifted stamps-ns stamps-absent times-unknown values-decimal
+            fraction-long fraction-form fraction-colon instant-unset trigger-unset
+            trigger-before-first no-timemult lines-2013-dropped status-3-fields status-4-fields
+            number-empty counts-form counts-total rates-form index-order range-swapped range-form
+            a-zero exponent-d decimal-comma separator-semicolon trailing-commas blank-lines
+            line-ends-cr line-ends-crcr bom utf-16 cfg-1a texts-not-ascii text-long phase-long
+            unit-empty text-comma text-nul ids-alike rate-line-absent rate-zero rows-fewer rows-more
+            rows-lost row-cut sample-numbers stamps-restart stamps-against-rate stamps-decimal
+            stamps-shifted stamps-wrapped stamps-ns stamps-absent times-unknown values-decimal
             values-wide values-unsigned values-rounded missing-marks kind-binary32 kind-float32
             kind-other kind-absent dat-1a dat-after-end row-size status-spare-bits big-endian cff
             cff-form cff-count inf-dropped hdr-dropped' ;;
