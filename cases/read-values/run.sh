@@ -1,10 +1,10 @@
-# what a pair reads to, written again by `comtrade convert`: a channel's numbers, rows in other spellings, files cut at their ends; and
+# what a pair reads to, written again by `comtrade convert --strict`: a channel's numbers, rows in other spellings, files cut at their ends; and
 # rows that begin well
 folder=$(mktemp -d)
 trap 'rm -r "$folder"' EXIT
 again() {
     rm -f "$folder"/again.*
-    "$comtrade" convert --kind ascii "$1" "$2" "$folder/again" || echo "status $?"
+    "$comtrade" convert --strict --kind ascii "$1" "$2" "$folder/again" || echo "status $?"
 }
 line() { sed -n "$2p" "$folder/again.$1" | tr -d '\r'; }
 same() { cmp "$folder/again.cfg" files/first.cfg && cmp "$folder/again.dat" files/first.dat && echo same; }
