@@ -197,6 +197,21 @@ fn view_part<A: Allocator + Copy, W: Write>(
     }
 }
 
+/// Whether a measurement is asked for at a moment that the record does not have, with the error in
+/// `said`.
+fn is_off<A: Allocator + Copy>(
+    room: Room<A>,
+    view: View,
+    viewed: Viewed<'_>,
+    file: &File<A>,
+    said: &mut Vec<u8, A>,
+) -> Result<bool, ToolFault> {
+    if view != View::Measure {
+        return Ok(false);
+    }
+    is_outside(room.lists, file, viewed.cursor, said)
+}
+
 /// Prints what is asked of the part that is asked for; false if it is refused, with the error in `said`.
 fn view_file<A: Allocator + Copy, W: Write>(
     room: Room<A>,
@@ -207,10 +222,10 @@ fn view_file<A: Allocator + Copy, W: Write>(
     w: &mut W,
     said: &mut Vec<u8, A>,
 ) -> Result<bool, ToolFault> {
+    if is_off(room, view, viewed, &file, said)? {
+        return Ok(false);
+    }
     match part_in(view, viewed, said)? {
-        Some(_) if view == View::Measure && is_outside(room.lists, &file, viewed.cursor, said)? => {
-            Ok(false)
-        }
         Some(part) => view_part(room, view, viewed, look, file, part, w, said),
         None => Ok(false),
     }

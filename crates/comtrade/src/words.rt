@@ -85,21 +85,40 @@ pub(crate) fn words_of<R: Env + AllocGlobal>(rt: &R) -> io::Result<Vec<String>> 
 /// The most bytes of an argument that is printed.
 const SHOWN: usize = 4096;
 
+/// The first bytes of a buffer.
+fn front(buffer: &[u8], length: usize) -> &[u8] {
+    match buffer.get(..length) {
+        Some(front) => front,
+        None => buffer,
+    }
+}
+
+/// Whether the first bytes of a buffer are not valid UTF-8.
+fn is_invalid(buffer: &[u8], length: usize) -> bool {
+    str::from_utf8(front(buffer, length)).is_err()
+}
+
+/// Appends the number and the bytes of an argument.
+fn put_argument(out: &mut Vec<u8>, number: usize, bytes: &[u8]) -> Result<(), AllocError> {
+    put(out, " ")?;
+    put_number(out, number as u64)?;
+    put(out, " (")?;
+    put_escaped(out, bytes)?;
+    put(out, ")")
+}
+
 /// Appends the number and the bytes of the first argument that is not valid UTF-8.
 fn put_invalid<R: Env + AllocGlobal>(rt: &R, out: &mut Vec<u8>) -> Result<(), AllocError> {
     let mut buffer = [0u8; SHOWN];
     for number in 1..usize::MAX {
-        let word = match rt.arg(number, &mut buffer) {
-            Ok(length) => buffer.get(..length).unwrap_or(&[]),
-            Err(FillError::NotPresent) => break,
-            Err(FillError::TooLong) => continue,
-        };
-        if str::from_utf8(word).is_err() {
-            put(out, " ")?;
-            put_number(out, number as u64)?;
-            put(out, " (")?;
-            put_escaped(out, word)?;
-            return put(out, ")");
+        match rt.arg(number, &mut buffer) {
+            Ok(length) => {
+                if is_invalid(&buffer, length) {
+                    return put_argument(out, number, front(&buffer, length));
+                }
+            }
+            Err(FillError::NotPresent) => return Ok(()),
+            Err(FillError::TooLong) => {}
         }
     }
     Ok(())
