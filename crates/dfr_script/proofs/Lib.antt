@@ -1,5 +1,6 @@
 pub mod Bare
 pub mod CutFields
+pub mod Drafting
 pub mod FirstByte
 pub mod FirstFault
 pub mod PlainBits

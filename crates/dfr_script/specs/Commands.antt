@@ -1,8 +1,8 @@
 -- The commands that stand after `go`.
 use Rattle.std.specs.Prelude.{ℕ, ◌==◌, if◌then◌else◌, List, ◌++◌, length, Option, Some, None, option_to_list, Result, Ok, Err, codes}
 use Rattle.std.specs.Str.{bytes_eq}
-use Rattle.dfr_script.specs.declared.fault.Word.{Word}
-use Rattle.dfr_script.specs.declared.fault.Word.TheVariants as fault
+use Rattle.dfr_script.specs.declared.fault.LineFault.{LineFault}
+use Rattle.dfr_script.specs.declared.fault.LineFault.TheVariants as fault
 use Rattle.dfr_script.specs.declared.command.Command.{Command}
 use Rattle.dfr_script.specs.declared.command.Command.TheVariants as command
 use Rattle.dfr_script.specs.declared.command.Verb.{Verb}
@@ -32,10 +32,10 @@ verb w =
     else None
 
 -- nothing stands after the word
-abbrev pub bare : {X : Type 0} → X → List ℕ → Result X Word
+abbrev pub bare : {X : Type 0} → X → List ℕ → Result X LineFault
 bare x rest = if length rest == 0 then Ok x else Err fault.Word
 
-abbrev pub verb_says : ℕ → Option Verb → List ℕ → Result CommandParts Word
+abbrev pub verb_says : ℕ → Option Verb → List ℕ → Result CommandParts LineFault
 verb_says n None rest = Err fault.Word
 verb_says n (Some verbs.Scan) rest = and_then (scan rest) (λ scan. Ok (Scan scan))
 verb_says n (Some verbs.Lost) rest = bare Lost rest
@@ -44,11 +44,11 @@ verb_says n (Some verbs.Take) rest = bare Take rest
 verb_says n (Some verbs.Rules) rest = and_then (rules rest) (λ list. Ok (Rules n list))
 
 -- the command of line n after `go`, where it isn't skipped
-unfoldable pub command_line : ℕ → List ℕ → Result (Option CommandParts) Word
+unfoldable pub command_line : ℕ → List ℕ → Result (Option CommandParts) LineFault
 command_line n line =
     if is_silent line then Ok None
     else and_then (verb_says n (verb (word line)) (rest line)) (λ command. Ok (Some command))
 
 -- the commands with that of line n
-abbrev pub with_command : List CommandParts → ℕ → List ℕ → Result (List CommandParts) Word
+abbrev pub with_command : List CommandParts → ℕ → List ℕ → Result (List CommandParts) LineFault
 with_command cs n line = and_then (command_line n line) (λ command. Ok (cs ++ option_to_list command))

@@ -12,3 +12,4 @@ pub mod Parts
 pub mod Drafts
 pub mod Commands
 pub mod Scripts
+pub mod Recorders

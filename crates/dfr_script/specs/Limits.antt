@@ -3,13 +3,13 @@ use Rattle.std.specs.Prelude.{ℕ, Bool, true, false, ◌==◌, if◌then◌else
 use Rattle.std.specs.Str.{bytes_eq}
 use Rattle.dfr_channels.specs.Lines.{field, fields}
 use Rattle.dfr_channels.specs.LineFields.{many, need}
-use Rattle.dfr_script.specs.declared.fault.Word.{Word}
-use Rattle.dfr_script.specs.declared.fault.Word.TheVariants as fault
+use Rattle.dfr_script.specs.declared.fault.LineFault.{LineFault}
+use Rattle.dfr_script.specs.declared.fault.LineFault.TheVariants as fault
 use Rattle.dfr_script.specs.declared.limit_line.LimitNumbers.{LimitNumbers}
 use Rattle.dfr_script.specs.Fields.{natural}
 
 -- the first four fields, with this choice
-abbrev pub numbers : Bool → List (List ℕ) → Result LimitNumbers Word
+abbrev pub numbers : Bool → List (List ℕ) → Result LimitNumbers LineFault
 numbers unshared fs =
     need (natural (field fs 0)) fault.Number (λ pre.
     need (natural (field fs 1)) fault.Number (λ post.
@@ -22,11 +22,11 @@ abbrev pub chooses : List (List ℕ) → Bool
 chooses fs = bytes_eq (field fs 4) (codes "unshared")
 
 -- four fields, or five
-abbrev pub limits_fields : List (List ℕ) → Result LimitNumbers Word
+abbrev pub limits_fields : List (List ℕ) → Result LimitNumbers LineFault
 limits_fields fs =
     if length fs == 5 then (if chooses fs then numbers true fs else Err fault.Number)
     else many 4 fault.Fields fs (numbers false fs)
 
 -- the rest of a line `limits`
-abbrev pub limits_line : List ℕ → Result LimitNumbers Word
+abbrev pub limits_line : List ℕ → Result LimitNumbers LineFault
 limits_line rest = limits_fields (fields rest)

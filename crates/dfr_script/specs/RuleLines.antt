@@ -5,8 +5,8 @@ use Rattle.std.specs.Str.{bytes_eq}
 use Rattle.dfr_channels.specs.Lines.{field}
 use Rattle.dfr_channels.specs.declared.rule.Rule.{Rule}
 use Rattle.dfr_channels.specs.declared.rule.Rule.TheVariants.{Level, Edge}
-use Rattle.dfr_script.specs.declared.fault.Word.{Word}
-use Rattle.dfr_script.specs.declared.fault.Word.TheVariants as fault
+use Rattle.dfr_script.specs.declared.fault.LineFault.{LineFault}
+use Rattle.dfr_script.specs.declared.fault.LineFault.TheVariants as fault
 use Rattle.dfr_script.specs.Words.{is_blank}
 use Rattle.dfr_script.specs.Fields.{small, natural, all_said}
 
@@ -57,11 +57,11 @@ rule ws =
 abbrev pub all_shaped : List (List ℕ) → Bool
 all_shaped ps = list_all (λ p. has_shape (words p)) ps
 
-abbrev pub rule_list : List (List ℕ) → Result (List Rule) Word
+abbrev pub rule_list : List (List ℕ) → Result (List Rule) LineFault
 rule_list ps = all_said (λ p. rule (words p)) ps
 
 -- the rest of a line `rules`: nothing, or rules separated by `;`, every count of words tested before any word is read
-unfoldable pub rules : List ℕ → Result (List Rule) Word
+unfoldable pub rules : List ℕ → Result (List Rule) LineFault
 rules rest =
     if length rest == 0 then Ok []
     else if all_shaped (parts rest) then rule_list (parts rest)

@@ -7,8 +7,8 @@ use Rattle.dfr_channels.specs.Lines as lines
 use Rattle.dfr_channels.specs.Parts.{ScanParts}
 use Rattle.dfr_channels.specs.declared.scan.Reading.{Reading}
 use Rattle.dfr_channels.specs.declared.scan.Reading.TheVariants.{Value, Missing}
-use Rattle.dfr_script.specs.declared.fault.Word.{Word}
-use Rattle.dfr_script.specs.declared.fault.Word.TheVariants as fault
+use Rattle.dfr_script.specs.declared.fault.LineFault.{LineFault}
+use Rattle.dfr_script.specs.declared.fault.LineFault.TheVariants as fault
 use Rattle.dfr_channels.specs.Fields.{bit}
 use Rattle.dfr_script.specs.Faults.{and_then}
 use Rattle.dfr_script.specs.Fields.{small, all_said}
@@ -41,11 +41,11 @@ unfoldable pub part_fields : List ℕ → List (List ℕ)
 part_fields part = if length (trimmed part) == 0 then [] else fields part
 
 -- what the fields of a part say
-abbrev pub part : {X : Type 0} → (List ℕ → Option X) → List ℕ → Result (List X) Word
+abbrev pub part : {X : Type 0} → (List ℕ → Option X) → List ℕ → Result (List X) LineFault
 part read text = all_said read (part_fields text)
 
 -- the rest of a line `scan`: readings, a slash, bits
-unfoldable pub scan : List ℕ → Result ScanParts Word
+unfoldable pub scan : List ℕ → Result ScanParts LineFault
 scan rest =
     if has_one_slash rest
     then and_then (part reading (before_first is_slash rest)) (λ readings.

@@ -5,7 +5,7 @@ ghost use Rattle.dfr_script.specs.Faults.{Is};
 ghost use Rattle.dfr_script.specs.Channels as spec;
 ghost use Rattle.dfr_channels.specs.Lines.{texts, field};
 
-use crate::fault::{LineRefusal, Word};
+use crate::fault::{LineFault, LineRefusal};
 use crate::fields::{free_bit_at, free_scale_at, scale_at, side_at, small_at, text_at};
 use dfr_channels::{AnalogChannel, Decimal, Side, StatusChannel, fields_of};
 use std::alloc::Allocator;
@@ -43,7 +43,7 @@ fn scaling_in(fields: &[&[u8]]) -> Result<Scaling, LineRefusal>
     ensures many { IfOk result (λ _. length fields.now ≡ 12) }
 {
     if fields.len() != 12 {
-        return Err(LineRefusal::Fault(Word::Fields));
+        return Err(LineRefusal::Fault(LineFault::Fields));
     }
     let a = scale_at(fields, 4)?;
     let b = free_scale_at(fields, 5)?;
@@ -124,7 +124,7 @@ fn status_in<A: Allocator + Copy>(
     ensures { Is (λ x. x) (spec.status_fields (texts fields.now)) result }
 {
     if fields.len() != 4 {
-        return Err(LineRefusal::Fault(Word::Fields));
+        return Err(LineRefusal::Fault(LineFault::Fields));
     }
     let normal = free_bit_at(fields, 3)?;
     let id = text_at(alloc, fields, 0)?;

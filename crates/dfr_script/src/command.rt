@@ -1,14 +1,15 @@
 //! Reads the commands after `go`.
 
-ghost use Rattle.std.specs.Prelude.{◌≡◌, Some, option_map, codes};
+ghost use Rattle.std.specs.Prelude.{◌≡◌, true, Ok, None, Some, option_map, codes};
 ghost use Rattle.std.specs.Str.{bytes_eq};
 ghost use Rattle.dfr_script.specs.Faults.{Is};
+ghost use Rattle.dfr_script.specs.Words as words;
 ghost use Rattle.dfr_script.specs.Commands as spec;
 
-use crate::fault::{LineRefusal, Word};
+use crate::fault::{LineFault, LineRefusal};
 use crate::line::{cut, is_silent, is_word};
 use crate::rule_line::rules_of;
-use crate::scan_line::{Size, scan_of};
+use crate::scan_line::{ScanSize, scan_of};
 use dfr_channels::{Rule, Scan};
 use std::alloc::{Allocator, Global};
 
@@ -71,7 +72,7 @@ fn bare(rest: &[u8]) -> Result<(), LineRefusal>
     if rest.is_empty() {
         Ok(())
     } else {
-        Err(LineRefusal::Fault(Word::Word))
+        Err(LineRefusal::Fault(LineFault::Word))
     }
 }
 
@@ -81,7 +82,7 @@ fn command_in<A: Allocator + Copy>(
     line: u64,
     verb: Verb,
     rest: &[u8],
-    size: Size,
+    size: ScanSize,
 ) -> Result<Command<A>, LineRefusal>
     ensures { Is spec.parts_of (spec.verb_says line (Some verb) rest.now) result }
 {
@@ -109,22 +110,26 @@ fn command_in<A: Allocator + Copy>(
     }
 }
 
-/// Reads the command of line number `line`; None if the line is skipped.
+/// Reads a line after `go`: its command, or None if the line is blank or a comment. `line` is its
+/// number, from 1, which the command of a `rules` line keeps. `text` is the line without its end.
+/// The fault is the first in the order word, fields, number. `Memory`: an allocation failed; a blank
+/// line or a comment needs none.
 #[tactic(auto, unfolding(crate::specs::Commands::command_line))]
-pub(crate) fn command_of<A: Allocator + Copy>(
+pub fn command_of_line<A: Allocator + Copy>(
     alloc: A,
     line: u64,
     text: &[u8],
-    size: Size,
+    size: ScanSize,
 ) -> Result<Option<Command<A>>, LineRefusal>
-    ensures { Is (option_map spec.parts_of) (spec.command_line line text.now) result }
+    ensures says { Is (option_map spec.parts_of) (spec.command_line line text.now) result }
+    ensures silent { words.is_silent text.now ≡ true → result ≡ Ok None }
 {
     if is_silent(text) {
         return Ok(None);
     }
     let (word, rest) = cut(text);
     let Some(verb) = verb_of(word) else {
-        return Err(LineRefusal::Fault(Word::Word));
+        return Err(LineRefusal::Fault(LineFault::Word));
     };
     let command = command_in(alloc, line, verb, rest, size)?;
     Ok(Some(command))

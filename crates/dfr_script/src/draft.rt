@@ -5,18 +5,20 @@ ghost use Rattle.dfr_script.specs.Faults.{Is};
 ghost use Rattle.dfr_script.specs.Fields as fields;
 
 use crate::channel_line::{analog_of, status_of};
-use crate::fault::{LineRefusal, Word};
+use crate::fault::{LineFault, LineRefusal};
 use crate::fields::{instant_of, natural_of, needed, text_of};
 use crate::limit_line::{LimitNumbers, limits_of};
 use crate::rule_line::rules_of;
-use crate::script::Script;
+use crate::set_up::RecorderSetup;
 use crate::setting::Setting;
 use dfr_channels::{AnalogChannel, Decimal, Items, Rule, Setup, StatusChannel};
-use std::alloc::Allocator;
+use std::alloc::{Allocator, Global};
 use std::marker::Model;
 
-#[derive(Drop)]
-pub(crate) struct Draft<A: Allocator> {
+/// The lines of a set-up that were read so far. [`setting_of_line`](crate::setting_of_line) adds a
+/// line, and [`Draft::finish`] gives the set-up.
+#[derive(Drop, Debug)]
+pub struct Draft<A: Allocator = Global> {
     station: Option<Items<u8, A>>,
     device: Option<Items<u8, A>>,
     analog: Vec<AnalogChannel<A>, A>,
@@ -24,6 +26,8 @@ pub(crate) struct Draft<A: Allocator> {
     line_freq: Option<Decimal>,
     rate: Option<u32>,
     start: Option<i64>,
+    /// The start was given before any line; `start` lines are skipped.
+    dated: bool,
     limits: Option<LimitNumbers>,
     rules: Option<Vec<Rule, A>>,
 }
@@ -42,6 +46,7 @@ impl<A: Allocator> Model for Draft<A> {
       line_freq = d.line_freq;
       rate = d.rate;
       start = d.start;
+      dated = d.dated;
       limits = d.limits;
       rules = option_map (λ v. v.items) d.rules;
     } };
@@ -63,7 +68,7 @@ fn single<T: Drop>(rest: &[u8], read: Option<T>) -> Result<T, LineRefusal>
     ensures { Is (λ x. x) (fields.single rest.now read) result }
 {
     if rest.contains(&b',') {
-        return Err(LineRefusal::Fault(Word::Fields));
+        return Err(LineRefusal::Fault(LineFault::Fields));
     }
     needed(read)
 }
@@ -74,7 +79,8 @@ impl<A: Allocator + Copy> Draft<A> {
     ghost use Rattle.dfr_script.specs.Faults.{Is};
     ghost use Rattle.dfr_script.specs.Drafts as spec;
 
-    pub(crate) fn new(alloc: A) -> Draft<A>
+    /// A draft without lines.
+    pub fn new(alloc: A) -> Draft<A>
         ensures { result ≡ spec.empty }
     {
         Draft {
@@ -85,8 +91,32 @@ impl<A: Allocator + Copy> Draft<A> {
             line_freq: None,
             rate: None,
             start: None,
+            dated: false,
             limits: None,
             rules: None,
+        }
+    }
+
+    /// A draft without lines, whose set-up gets this start, in microseconds since 1970-01-01
+    /// 00:00:00 UTC. Its `start` lines are skipped, whatever follows the word.
+    pub fn dated(alloc: A, start: i64) -> Draft<A>
+        ensures { result ≡ spec.dated start }
+    {
+        Draft {
+            start: Some(start),
+            dated: true,
+            ..Draft::new(alloc)
+        }
+    }
+
+    /// Whether lines of the setting are skipped.
+    #[tactic(auto, unfolding(crate::specs::Drafts::skips))]
+    fn skips(&self, setting: Setting) -> bool
+        ensures { result ≡ spec.skips self.now setting }
+    {
+        match setting {
+            Setting::Start => self.dated,
+            _ => false,
         }
     }
 
@@ -154,23 +184,27 @@ impl<A: Allocator + Copy> Draft<A> {
         Ok(())
     }
 
-    /// Adds a line. A setting given twice has the fault `Word`. A fault leaves the draft unchanged.
+    /// Adds a line. A setting given twice has the fault `Word`. An error leaves the draft unchanged.
     #[tactic(auto, unfolding(crate::specs::Drafts::add))]
     pub(crate) fn add(&mut self, alloc: A, setting: Setting, rest: &[u8]) -> Result<(), LineRefusal>
         ensures says { Is (λ _. self.new) (spec.add self.old setting rest.now) result }
         ensures kept { IfErr result (λ _. self.new ≡ self.old) }
     {
+        if self.skips(setting) {
+            return Ok(());
+        }
         if self.has(setting) {
-            return Err(LineRefusal::Fault(Word::Word));
+            return Err(LineRefusal::Fault(LineFault::Word));
         }
         self.put(alloc, setting, rest)
     }
 
-    /// The script of the lines that were read, without commands; None if a line is missing.
+    /// The set-up of the lines that were read. None if a line is missing: each set-up has the
+    /// lines `station`, `device`, `freq`, `rate`, `start` and `limits`.
     #[tactic(auto, unfolding(crate::specs::Drafts::whole))]
-    pub(crate) fn finish(self, alloc: A) -> Option<Script<A>>
+    pub fn finish(self, alloc: A) -> Option<RecorderSetup<A>>
         ensures { MatchOption result (spec.whole self ≡ Err word.Setup)
-            (λ script. spec.whole self ≡ Ok script) }
+            (λ set_up. spec.whole self ≡ Ok set_up) }
     {
         let Draft {
             station,
@@ -180,6 +214,7 @@ impl<A: Allocator + Copy> Draft<A> {
             line_freq,
             rate,
             start,
+            dated: _,
             limits,
             rules,
         } = self;
@@ -199,11 +234,10 @@ impl<A: Allocator + Copy> Draft<A> {
             rate,
             start,
         };
-        Some(Script {
+        Some(RecorderSetup {
             setup,
             limits,
             rules,
-            commands: Vec::new(alloc),
         })
     }
 }

@@ -7,7 +7,7 @@ ghost use Rattle.dfr_channels.specs.Fields as shared;
 ghost use Rattle.dfr_script.specs.Fields as spec;
 ghost use Rattle.dfr_script.specs.Faults.{Field, OnlyMemory};
 
-use crate::fault::{LineRefusal, Word};
+use crate::fault::{LineFault, LineRefusal};
 use dfr_channels::{Decimal, Items, Side, free_bit_of, free_scale_of, integer_of, side_of};
 use std::alloc::Allocator;
 
@@ -17,7 +17,7 @@ pub(crate) fn needed<T>(read: Option<T>) -> Result<T, LineRefusal>
 {
     match read {
         Some(value) => Ok(value),
-        None => Err(LineRefusal::Fault(Word::Number)),
+        None => Err(LineRefusal::Fault(LineFault::Number)),
     }
 }
 

@@ -1,12 +1,12 @@
 //! Reads a `limits` line: its numbers, and the word `unshared` if it is there.
 
 ghost use Rattle.std.specs.Prelude.{◌≡◌, if◌then◌else◌, length, Ok, Err};
-ghost use Rattle.dfr_script.specs.declared.fault.Word.TheVariants as word;
+ghost use Rattle.dfr_script.specs.declared.fault.LineFault.TheVariants as line_fault;
 ghost use Rattle.dfr_script.specs.Faults.{Is};
 ghost use Rattle.dfr_script.specs.Limits as spec;
 ghost use Rattle.dfr_channels.specs.Lines.{texts};
 
-use crate::fault::{LineRefusal, Word};
+use crate::fault::{LineFault, LineRefusal};
 use crate::fields::natural_at;
 use crate::line::is_word;
 use dfr_channels::fields_of;
@@ -31,12 +31,12 @@ pub struct LimitNumbers {
 /// Checks that the fifth of five fields is `unshared`; else the fault `Number`.
 fn chosen(fields: &[&[u8]]) -> Result<(), LineRefusal>
     requires { length fields.now ≡ 5 }
-    ensures { Is (λ x. x) (if spec.chooses (texts fields.now) then Ok tt else Err word.Number) result }
+    ensures { Is (λ x. x) (if spec.chooses (texts fields.now) then Ok tt else Err line_fault.Number) result }
 {
     if is_word(fields[4], "unshared") {
         Ok(())
     } else {
-        Err(LineRefusal::Fault(Word::Number))
+        Err(LineRefusal::Fault(LineFault::Number))
     }
 }
 
@@ -48,7 +48,7 @@ fn limits_in(fields: &[&[u8]]) -> Result<LimitNumbers, LineRefusal>
     if unshared {
         chosen(fields)?;
     } else if fields.len() != 4 {
-        return Err(LineRefusal::Fault(Word::Fields));
+        return Err(LineRefusal::Fault(LineFault::Fields));
     }
     let pre = natural_at(fields, 0)?;
     let post = natural_at(fields, 1)?;

@@ -1,12 +1,12 @@
 //! Reads the trigger rules of a line.
 
 ghost use Rattle.std.specs.Prelude.{◌≡◌, if◌then◌else◌, IfOk, length, Ok, Err};
-ghost use Rattle.dfr_script.specs.declared.fault.Word.TheVariants as word;
+ghost use Rattle.dfr_script.specs.declared.fault.LineFault.TheVariants as line_fault;
 ghost use Rattle.dfr_script.specs.Faults.{Is};
 ghost use Rattle.dfr_script.specs.RuleLines as spec;
 ghost use Rattle.dfr_channels.specs.Lines.{texts};
 
-use crate::fault::{LineRefusal, Word};
+use crate::fault::{LineFault, LineRefusal};
 use crate::fields::{natural_of, needed, small_of};
 use crate::line::{is_blank, is_word};
 use dfr_channels::Rule;
@@ -119,12 +119,12 @@ fn rule_of<A: Allocator>(alloc: A, part: &[u8]) -> Result<Option<Rule>, AllocErr
 
 /// Checks that each rule has as many words as it needs; else the fault `Fields`.
 fn shapes_of<A: Allocator + Copy>(alloc: A, parts: &[&[u8]]) -> Result<(), LineRefusal>
-    ensures { Is (λ x. x) (if spec.all_shaped (texts parts.now) then Ok tt else Err word.Fields) result }
+    ensures { Is (λ x. x) (if spec.all_shaped (texts parts.now) then Ok tt else Err line_fault.Fields) result }
 {
     for part in parts {
         let shaped = is_shaped(alloc, part)?;
         if !shaped {
-            return Err(LineRefusal::Fault(Word::Fields));
+            return Err(LineRefusal::Fault(LineFault::Fields));
         }
     }
     Ok(())

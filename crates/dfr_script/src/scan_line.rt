@@ -8,7 +8,7 @@ ghost use Rattle.dfr_script.specs.Fields.{reads_all};
 ghost use Rattle.dfr_script.specs.PlainBits.{ReadsBits};
 ghost use Rattle.dfr_script.specs.ScanLines as spec;
 
-use crate::fault::{LineRefusal, Word};
+use crate::fault::{LineFault, LineRefusal};
 use crate::fields::{needed, small_of};
 use crate::line::{is_bare, is_word};
 use crate::plain::plain_field;
@@ -17,11 +17,14 @@ use dfr_channels::{Reading, Scan, bit_of, trim};
 use memchr::memchr;
 use std::alloc::Allocator;
 
-/// How many readings and bits the set-up's scans have. The lists of a line get room for so many.
-#[derive(Clone, Copy)]
-pub(crate) struct Size {
-    pub(crate) analog: usize,
-    pub(crate) status: usize,
+/// How many readings and bits the set-up's scans have. The lists of a line get room for so many; a
+/// line with other numbers of them can be read too.
+#[derive(Clone, Copy, Debug, PartialEq, Eq)]
+pub struct ScanSize {
+    /// The readings of a scan.
+    pub analog: usize,
+    /// The bits of a scan.
+    pub status: usize,
 }
 
 fn place_of_slash(rest: &[u8]) -> Option<usize>
@@ -158,18 +161,18 @@ fn has_slash<A: Allocator>(part: &[u8], plain: &Option<Vec<bool, A>>) -> bool
 pub(crate) fn scan_of<A: Allocator + Copy>(
     alloc: A,
     rest: &[u8],
-    size: Size,
+    size: ScanSize,
 ) -> Result<Scan<A>, LineRefusal>
     ensures { Is (λ x. x) (spec.scan rest.now) result }
 {
     let Some(at) = place_of_slash(rest) else {
-        return Err(LineRefusal::Fault(Word::Fields));
+        return Err(LineRefusal::Fault(LineFault::Fields));
     };
     let front = &rest[..at];
     let back = &rest[at + 1..];
     let plain = plain_bits(alloc, back)?;
     if has_slash(back, &plain) {
-        return Err(LineRefusal::Fault(Word::Fields));
+        return Err(LineRefusal::Fault(LineFault::Fields));
     }
     let readings = readings_of(alloc, front, size.analog)?;
     let bits = bits_of(alloc, back, plain, size.status)?;

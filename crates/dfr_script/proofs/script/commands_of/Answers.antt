@@ -28,7 +28,7 @@ pub returns-in-Err : goal.returns-in-Err
 returns-in-Err g c =
     let before = c.loop-line.invariant in
     let next = next_of c.args.lines c.loop-line.count c.in-Some.line.now c.next.new.self (sym before.left ∙ c.in-Some.ensures.steps) in
-    rw c.at_place.ensures (commands_refuse c.args.from c.args.lines c.loop-line.count (map parts_of c.loop-line.list.items) _ (length c.args.lines) before.made (rw next.is c.in-Err.ensures) next.within)
+    rw c.refused_at.ensures (commands_refuse c.args.from c.args.lines c.loop-line.count (map parts_of c.loop-line.list.items) _ (length c.args.lines) before.made (rw next.is c.in-Err.ensures) next.within)
 
 pub returns : goal.returns
 returns g c =
