@@ -1,139 +1,32 @@
 -- Orders at their places, and records handed on, one after the other.
 use Rattle.std.proofs.Common.{◌≡◌, ◌⊎◌, inl, inr, ℕ, ◌≤◌, true≢false, Bool, true, false, Option, Some, None, Result, Ok, Err, List, [], ◌∷◌, ◌++◌, map, refl, sym, ◌∙◌, ap, subst, arith, append_assoc}
-use Rattle.std.specs.Prelude.{min, max, IfOk, IfErr, IsErrAnd}
-use Rattle.dfr_live.specs.declared.report.LiveFault.{LiveFault}
+use Rattle.std.specs.Prelude.{min, max, All, IfOk, IfErr, IfSome, IsErrAnd}
 use Rattle.std.proofs.lemmas.List.{map-append, append-nil}
-use Rattle.std.proofs.lemmas.List.Elements.{All-cons, All-nil}
-use Rattle.dfr_live.specs.Parts.{CallParts, EntryParts}
-use Rattle.dfr_live.specs.Seen.{TokenParts}
-use Rattle.dfr_live.specs.Calls.{with_entry}
-use Rattle.dfr_live.specs.Station.{PumpsOn, PumpsOut}
-use Rattle.dfr_live.specs.declared.station.Order.{Order}
-use Rattle.dfr_live.specs.Devices.{Came, FilesParts, calls_made, call_at, call_in, in_order, extents_taken, extent_taken, IsTaken, MadeOne, MadeAll, GotOne, GotNone, GotOn, GotAll, GotFront}
+use Rattle.std.proofs.lemmas.List.Elements.{All-append, All-cons, All-nil}
+use Rattle.dfr_channels.specs.declared.memory.Memory.{Memory as Want}
+use Rattle.dfr_channels.specs.Parts.{SetupParts}
 use Rattle.dfr_recorder.specs.Parts.{RecordParts}
+use Rattle.dfr_recorder.specs.declared.record.Extent.{Extent}
+use Rattle.dfr_live.specs.declared.devices.Short.{Short}
+use Rattle.dfr_live.specs.declared.devices.Short.TheVariants as short
 use Rattle.dfr_recorder.specs.History.{Opening}
 use Rattle.comtrade_format.specs.declared.file.Kind.{Kind}
-
--- the greatest place of orders
-abbrev pub reached : ℕ → List (ℕ × CallParts) → ℕ
-reached before [] = before
-reached before (o ∷ os) = reached (max before o.0) os
-
-reached-more : (before p : ℕ) (c : CallParts) (os : List (ℕ × CallParts)) → reached before (os ++ (p, c) ∷ []) ≡ max (reached before os) p
-reached-more before p c [] = refl
-reached-more before p c (o ∷ os) = reached-more (max before o.0) p c os
-
-calls-more : (steps before p : ℕ) (c : CallParts) (os : List (ℕ × CallParts))
-    → calls_made steps before (os ++ (p, c) ∷ []) ≡ calls_made steps before os ++ (min (max (reached before os) p) steps, c) ∷ []
-calls-more steps before p c [] = refl
-calls-more steps before p c (o ∷ os) =
-    ap (λ (l : List (ℕ × CallParts)). (min (max before o.0) steps, o.1) ∷ l) (calls-more steps (max before o.0) p c os)
-
--- after these orders: the token pumped to the greatest place, unless no scan came any more, and its calls are theirs,
--- however many steps the run makes in the end
-abbrev pub Ordered : List (ℕ × CallParts) → Bool → TokenParts → Type 0
-Ordered os x t =
-    (x ≡ false → t.pumped ≡ reached 0 os) × (t.pumped ≤ reached 0 os)
-    × ((steps : ℕ) → t.pumped ≤ steps → (x ≡ true → steps ≡ t.pumped) → map call_at t.made ≡ calls_made steps 0 os)
-
--- a call that was made stands last
-one-more : (os : List (ℕ × CallParts)) (p steps : ℕ) (c : CallParts) (e : EntryParts) (u v : TokenParts)
-    → map call_at u.made ≡ calls_made steps 0 os → u.pumped ≡ min (max (reached 0 os) p) steps → v ≡ with_entry u e
-    → e.at ≡ u.pumped → e.call ≡ c → map call_at v.made ≡ calls_made steps 0 (os ++ (p, c) ∷ [])
-one-more os p steps c e u v before here more at is =
-    let place : e.at ≡ min (max (reached 0 os) p) steps = at ∙ here in
-    let same : call_at e ≡ (min (max (reached 0 os) p) steps, c) = rw (place, is) refl in
-    ap (λ (t : TokenParts). map call_at t.made) more
-    ∙ map-append call_at u.made (e ∷ [])
-    ∙ ap (λ (l : List (ℕ × CallParts)). l ++ call_at e ∷ []) before
-    ∙ ap (λ (x : ℕ × CallParts). calls_made steps 0 os ++ x ∷ []) same
-    ∙ sym (calls-more steps 0 p c os)
-
-pub ordered-one : (os : List (ℕ × CallParts)) (p : ℕ) (c : CallParts) (x y : Bool) (t u v : TokenParts) (e : EntryParts)
-    → Ordered os x t → PumpsOn p x t y u → v ≡ with_entry u e → e.at ≡ u.pumped → e.call ≡ c → Ordered (os ++ (p, c) ∷ []) y v
-ordered-one os p c true y t u v e h q more at is =
-    let pumped : u.pumped ≡ t.pumped = ap (λ (z : TokenParts). z.pumped) q.1 in
-    let made : map call_at u.made ≡ map call_at t.made = ap (λ (z : TokenParts). map call_at z.made) q.1 in
-    let end : v.pumped ≡ u.pumped = ap (λ (z : TokenParts). z.pumped) more in
-    let most = reached-more 0 p c os in (
-      λ (none : y ≡ false). absurd (true≢false (sym q.0 ∙ none)),
-      omega (arith, end, pumped, h.1, most),
-      λ (steps : ℕ) (le : v.pumped ≤ steps) (last : y ≡ true → steps ≡ v.pumped).
-          let all : steps ≡ v.pumped = last q.0 in
-          let before = h.2 steps (omega (arith, all, end, pumped)) (λ (_ : true ≡ true). omega (arith, all, end, pumped)) in
-          one-more os p steps c e u v (made ∙ before) (omega (arith, all, end, pumped, h.1)) more at is,
-    )
-ordered-one os p c false true t u v e h q more at is =
-    let made : map call_at u.made ≡ map call_at t.made = ap (λ (z : TokenParts). map call_at z.made) q.0 in
-    let end : v.pumped ≡ u.pumped = ap (λ (z : TokenParts). z.pumped) more in
-    let there : t.pumped ≡ reached 0 os = h.0 refl in
-    let most = reached-more 0 p c os in
-    let least : t.pumped ≤ u.pumped = q.1 in
-    let under : u.pumped ≤ max t.pumped p = q.2 in (
-      λ (none : true ≡ false). absurd (true≢false none),
-      omega (arith, end, under, there, most),
-      λ (steps : ℕ) (le : v.pumped ≤ steps) (last : true ≡ true → steps ≡ v.pumped).
-          let all : steps ≡ v.pumped = last refl in
-          let before = h.2 steps (omega (arith, all, end, least)) (λ (no : false ≡ true). absurd (true≢false (sym no))) in
-          one-more os p steps c e u v (made ∙ before) (omega (arith, all, end, under, there)) more at is,
-    )
-ordered-one os p c false false t u v e h q more at is =
-    let pumped : u.pumped ≡ max t.pumped p = ap (λ (z : TokenParts). z.pumped) q in
-    let made : map call_at u.made ≡ map call_at t.made = ap (λ (z : TokenParts). map call_at z.made) q in
-    let end : v.pumped ≡ u.pumped = ap (λ (z : TokenParts). z.pumped) more in
-    let there : t.pumped ≡ reached 0 os = h.0 refl in
-    let most = reached-more 0 p c os in (
-      λ (_ : false ≡ false). omega (arith, end, pumped, there, most),
-      omega (arith, end, pumped, there, most),
-      λ (steps : ℕ) (le : v.pumped ≤ steps) (last : false ≡ true → steps ≡ v.pumped).
-          let before = h.2 steps (omega (arith, end, pumped, le)) (λ (no : false ≡ true). absurd (true≢false (sym no))) in
-          one-more os p steps c e u v (made ∙ before) (omega (arith, end, pumped, there, le)) more at is,
-    )
-
--- in the end the calls are those of all orders
-pub ordered-all : (os : List (ℕ × CallParts)) (x : Bool) (t u : TokenParts)
-    → Ordered os x t → PumpsOut x t u → map call_at u.made ≡ calls_made u.pumped 0 os
-ordered-all os true t u h q =
-    let pumped : u.pumped ≡ t.pumped = ap (λ (z : TokenParts). z.pumped) q in
-    let made : map call_at u.made ≡ map call_at t.made = ap (λ (z : TokenParts). map call_at z.made) q in
-    made ∙ h.2 u.pumped (omega (arith, pumped)) (λ (_ : true ≡ true). pumped)
-ordered-all os false t u h q =
-    let made : map call_at u.made ≡ map call_at t.made = ap (λ (z : TokenParts). map call_at z.made) q.0 in
-    made ∙ h.2 u.pumped q.1 (λ (no : false ≡ true). absurd (true≢false (sym no)))
-
--- the extents of one more entry stand last
-pub extents-more : (es : List EntryParts) (e : EntryParts) → extents_taken (es ++ e ∷ []) ≡ extents_taken es ++ extent_taken e.reply
-extents-more [] e = append-nil (extent_taken e.reply)
-extents-more (x ∷ es) e =
-    ap (λ l. extent_taken x.reply ++ l) (extents-more es e)
-    ∙ sym (append_assoc (extent_taken x.reply) (extents_taken es) (extent_taken e.reply))
-
--- ---- one after the other, from the beginning on
-
--- the orders that were handed out so far were made
-abbrev pub MadeSoFar : {A O : Type 0} → (O → Option (ℕ × Order A) → O → Type 0) → O → O → Bool → TokenParts → Type 0
-MadeSoFar {A} {O} Hands f g x t =
-    (os : List (ℕ × Order A)) × Came (λ (s : O) (o : ℕ × Order A) (u : O). Hands s (Some o) u) f os g × Ordered (in_order os) x t
-
-pub made_first : {A O : Type 0} (Hands : O → Option (ℕ × Order A) → O → Type 0) (f : O) (t : TokenParts)
-    → t.made ≡ [] → t.pumped ≡ 0 → MadeSoFar Hands f f false t
-made_first Hands f t none zero =
-    ([], refl, (λ (_ : false ≡ false). zero, omega (arith, zero), λ (steps : ℕ) (le : t.pumped ≤ steps) (last : false ≡ true → steps ≡ t.pumped). ap (map call_at) none))
-
-pub made_more : {A O : Type 0} (Hands : O → Option (ℕ × Order A) → O → Type 0) (f g h : O) (x y : Bool) (t v : TokenParts)
-    → MadeSoFar Hands f g x t → MadeOne Hands g x t h y v → MadeSoFar Hands f h y v
-made_more Hands f g h x y t v far one =
-    let u : TokenParts = one.2 in (
-      (one.0, one.1) ∷ far.0,
-      (g, far.1, one.3),
-      ordered-one (in_order far.0) one.0 (call_in one.1) x y t u v one.5.0 far.2 one.4 one.5.1 one.5.2 one.5.3,
-    )
-
-pub made_last : {A O : Type 0} (Hands : O → Option (ℕ × Order A) → O → Type 0) (f g h : O) (x : Bool) (t u v : TokenParts)
-    → MadeSoFar Hands f g x t → Hands g None h → u ≡ t → PumpsOut x u v → MadeAll Hands f v.made v.pumped h
-made_last Hands f g h x t u v far last same out =
-    let here : PumpsOut x t v = subst (λ (z : TokenParts). PumpsOut x z v) same out in
-    (far.0, g, far.1, last, ordered-all (in_order far.0) x t v far.2 here)
+use Rattle.dfr_live.specs.declared.entry.Reply.{Reply}
+use Rattle.dfr_live.specs.declared.outcome.OpenFault.{OpenFault}
+use Rattle.dfr_live.specs.declared.report.LiveFault.{LiveFault}
+use Rattle.dfr_live.specs.declared.report.LiveFault.TheVariants as fault
+use Rattle.dfr_live.specs.declared.station.Order.{Order}
+use Rattle.dfr_live.specs.declared.export.Taken.{Taken}
+use Rattle.dfr_live.specs.declared.export.Taken.TheVariants as taken
+use Rattle.dfr_live.specs.declared.entry.Reply.TheVariants as replied
+use Rattle.dfr_live.specs.Parts.{CallParts, EntryParts}
+use Rattle.dfr_live.specs.Parts as call
+use Rattle.dfr_live.specs.Weave.{extent_of}
+use Rattle.dfr_live.specs.Seen.{TokenParts}
+use Rattle.dfr_live.specs.Calls.{with_entry, NotesTake}
+use Rattle.dfr_live.specs.Station.{PumpsOn, PumpsOut}
+use Rattle.dfr_live.specs.Devices.{GivesOf, LosesOf, AsksOf, HearsOf, PutsOf, LacksOf, Came, Noted, noted, noted_of, call_in, Turn, Waits, Makes, Desked, new_desk, TookTurn, AsksDone, MadeAll, IsMade, Waited, MadeOne, Handed, extents_taken, extent_taken, extents_of, IsTaken, HandedOn, HandsTaken, Got, GotAll, GotNoMore, GotFront, GotOne, GotNone, GotOn, SinkFailed, IsTake, is_again, FilesParts, files_of, PutsOnce, Tried, HandsRecord}
+use Rattle.dfr_live.specs.Causes.{PutFails, ExportFails, AcquisitionFails, TriggerFails, RunFails, HasCause, IsEnd}
 
 -- a token that pumped on keeps its seat
 pub seat_kept : (x : Bool) (t u : TokenParts) → PumpsOut x t u → u.seat ≡ t.seat
@@ -145,51 +38,297 @@ seat_on p true y t u q = ap (λ (z : TokenParts). z.seat) q.1
 seat_on p false true t u q = ap (λ (z : TokenParts). z.seat) q.0
 seat_on p false false t u q = ap (λ (z : TokenParts). z.seat) q
 
-pub seat_made : {A O : Type 0} (Hands : O → Option (ℕ × Order A) → O → Type 0) (g h : O) (x y : Bool) (t v : TokenParts)
-    → MadeOne Hands g x t h y v → v.seat ≡ t.seat
-seat_made Hands g h x y t v one = ap (λ (z : TokenParts). z.seat) one.5.1 ∙ seat_on one.0 x y t one.2 one.4
+-- ---- the orders of a desk
+
+module _ {A O : Type 0} (Asks : AsksOf A O) (Hears : HearsOf O) where
+  -- a desk with what its token made
+  abbrev pub desked : O → TokenParts → Desked O
+  desked g t = record { desk = g; pumped = t.pumped; notes = map noted t.made }
+
+  -- so far: however many steps the run makes in the end, if no scan comes any more they are those made now
+  abbrev pub MadeSoFar : O → O → Bool → TokenParts → Type 0
+  MadeSoFar f g x t =
+      (steps : ℕ) → t.pumped ≤ steps → (x ≡ true → steps ≡ t.pumped)
+      → (turns : List (Turn A)) × Came (TookTurn Asks Hears steps) (new_desk f) turns (desked g t)
+
+  pub made_first : (f : O) (t : TokenParts) → t.made ≡ [] → t.pumped ≡ 0 → MadeSoFar f f false t
+  made_first f t none zero = λ steps le last. ([], rw (none, zero) refl)
+
+  -- what an order that was made adds to the notes
+  notes-more : (o : Order A) (t u v : TokenParts) (reply : Option Reply)
+      → u.made ≡ t.made → IsMade o u reply v → (v.pumped ≡ u.pumped) × (map noted v.made ≡ map noted t.made ++ noted_of u.pumped o reply)
+  notes-more o t u v (Some reply) same (e, is, at, call, answer) =
+      let here : noted e ≡ (u.pumped, call_in o, reply) = rw (at, call, answer) refl in (
+        ap (λ (z : TokenParts). z.pumped) is,
+        ap (λ (z : TokenParts). map noted z.made) is
+            ∙ map-append noted u.made (e ∷ [])
+            ∙ ap (λ (l : List EntryParts). map noted l ++ noted e ∷ []) same
+            ∙ ap (λ (n : Noted). map noted t.made ++ n ∷ []) here,
+      )
+  notes-more o t u v None same is = (
+    ap (λ (z : TokenParts). z.pumped) is,
+    ap (λ (z : TokenParts). map noted z.made) is ∙ ap (map noted) same ∙ sym (append-nil (map noted t.made)),
+  )
+
+  pub made_more : (f g h : O) (x y : Bool) (t v : TokenParts)
+      → MadeSoFar f g x t → MadeOne Asks Hears g x t h y v → MadeSoFar f h y v
+  made_more f g h true y t v far (standing, place, o, reply, m, u, same, asked, pumps, is, hears) =
+      let made = notes-more o t u v reply (ap (λ (z : TokenParts). z.made) pumps.1) is in
+      let still : u.pumped ≡ t.pumped = ap (λ (z : TokenParts). z.pumped) pumps.1 in
+      λ steps le last.
+      let all : steps ≡ v.pumped = last pumps.0 in
+      let before = far steps (omega (arith, all, made.0, still)) (λ on. omega (arith, all, made.0, still)) in (
+        Makes standing place o reply ∷ before.0,
+        (desked g t, before.1, (m, same, asked, rw made.0 hears, omega (arith, all, made.0, still), rw made.0 made.1)),
+      )
+  made_more f g h false true t v far (standing, place, o, reply, m, u, same, asked, pumps, is, hears) =
+      let made = notes-more o t u v reply (ap (λ (z : TokenParts). z.made) pumps.0) is in
+      let least : t.pumped ≤ u.pumped = pumps.1 in
+      let most : u.pumped ≤ max t.pumped place = pumps.2 in
+      λ steps le last.
+      let all : steps ≡ v.pumped = last refl in
+      let before = far steps (omega (arith, all, made.0, least)) (λ no. absurd (true≢false (sym no))) in (
+        Makes standing place o reply ∷ before.0,
+        (desked g t, before.1, (m, same, asked, rw made.0 hears, omega (arith, all, made.0, most), rw made.0 made.1)),
+      )
+  made_more f g h false false t v far (standing, place, o, reply, m, u, same, asked, pumps, is, hears) =
+      let made = notes-more o t u v reply (ap (λ (z : TokenParts). z.made) pumps) is in
+      let there : u.pumped ≡ max t.pumped place = ap (λ (z : TokenParts). z.pumped) pumps in
+      λ steps le last.
+      let before = far steps (omega (arith, le, made.0, there)) (λ no. absurd (true≢false (sym no))) in (
+        Makes standing place o reply ∷ before.0,
+        (desked g t, before.1, (m, same, asked, rw made.0 hears, omega (arith, le, made.0, there), rw made.0 made.1)),
+      )
+
+  pub made_waited : (f g h : O) (x : Bool) (t u : TokenParts)
+      → MadeSoFar f g x t → Waited Asks g t h u → (x ≡ true → u ≡ t) → MadeSoFar f h x u
+  made_waited f g h x t u far (standing, free, same, asked, on, least, most) still =
+      λ steps le last.
+      let before = far steps (omega (arith, le, least)) (λ (all : x ≡ true). last all ∙ ap (λ (z : TokenParts). z.pumped) (still all)) in (
+        Waits standing free ∷ before.0,
+        (desked g t, before.1, (same, asked, least, most, ap (λ (z : TokenParts). map noted z.made) on)),
+      )
+
+  pub made_last : (f g h : O) (x : Bool) (t v : TokenParts)
+      → MadeSoFar f g x t → AsksDone Asks g h → PumpsOut x t v → MadeAll Asks Hears f v.made v.pumped h
+  made_last f g h true t v far done out =
+      let pumped : v.pumped ≡ t.pumped = ap (λ (z : TokenParts). z.pumped) out in
+      let all = far v.pumped (omega (arith, pumped)) (λ on. pumped) in
+      record { turns = all.0; last = desked g t; came = all.1; done = done; notes = ap (λ (z : TokenParts). map noted z.made) out }
+  made_last f g h false t v far done out =
+      let all = far v.pumped out.1 (λ no. absurd (true≢false (sym no))) in
+      record { turns = all.0; last = desked g t; came = all.1; done = done; notes = ap (λ (z : TokenParts). map noted z.made) out.0 }
+
+  pub made_end : (f g h : O) (x y : Bool) (t u v : TokenParts)
+      → MadeSoFar f g x t → AsksDone Asks g h → y ≡ x → u ≡ t → PumpsOut y u v → MadeAll Asks Hears f v.made v.pumped h
+  made_end f g h x y t u v far done same token out =
+      made_last f g h x t v far done
+      (subst (λ (b : Bool). PumpsOut b t v) same (subst (λ (z : TokenParts). PumpsOut y z v) token out))
+
+  pub seat_made : (g h : O) (x y : Bool) (t v : TokenParts) → MadeOne Asks Hears g x t h y v → v.seat ≡ t.seat
+  seat_made g h x y t v (standing, place, o, Some reply, m, u, same, asked, pumps, is, hears) =
+      ap (λ (z : TokenParts). z.seat) is.1 ∙ seat_on place x y t u pumps
+  seat_made g h x y t v (standing, place, o, None, m, u, same, asked, pumps, is, hears) =
+      ap (λ (z : TokenParts). z.seat) is ∙ seat_on place x y t u pumps
+
+-- the entry of a take
+abbrev pub entry : TokenParts → ℕ → Option RecordParts → EntryParts
+entry t at r = record { caller = t.seat; at = at; call = call.Take; reply = replied.Take (extent_of r) }
+
+abbrev nothing-in : Result Taken LiveFault → Bool
+nothing-in (Ok taken.One) = false
+nothing-in (Ok taken.Nothing) = true
+nothing-in (Ok taken.Again) = false
+nothing-in (Ok taken.Stopped) = false
+nothing-in (Err why) = false
+
+abbrev Asked : Type 0
+Asked = Result Taken LiveFault
+
+err-is-none : (why : LiveFault) → (came : Asked) → came ≡ Err why → came ≡ Ok taken.Nothing → ⊥
+err-is-none why came e h = true≢false (sym (ap nothing-in h) ∙ ap nothing-in e)
+
+one-is-some : (c : Taken) (came : Asked) → came ≡ Ok c → c ≡ taken.One → came ≡ Ok taken.Nothing → ⊥
+one-is-some c came e is h = true≢false (sym (ap nothing-in h) ∙ ap nothing-in e ∙ ap (λ (x : Taken). nothing-in (Ok x)) is)
+
+again-is-none : (c : Taken) (came : Asked) → came ≡ Ok c → is_again c ≡ true → came ≡ Ok taken.Nothing → ⊥
+again-is-none taken.One came e a h = true≢false (sym a)
+again-is-none taken.Nothing came e a h = true≢false (sym a)
+again-is-none taken.Again came e a h = true≢false (sym (ap nothing-in h) ∙ ap nothing-in e)
+again-is-none taken.Stopped came e a h = true≢false (sym (ap nothing-in h) ∙ ap nothing-in e)
+
+abbrev is-memory : LiveFault → Bool
+is-memory (fault.Feed code) = false
+is-memory (fault.Sink code) = false
+is-memory fault.Turns = false
+is-memory fault.Counter = false
+is-memory fault.Memory = true
+is-memory (fault.Open why) = false
+is-memory (fault.End why) = false
+
+not-memory : (why : LiveFault) → why ≡ fault.Memory → is-memory why ≡ false → ⊥
+not-memory why h other = true≢false (sym (ap is-memory h) ∙ other)
 
 -- ---- records handed on
 
-pub got_first : {S : Type 0} (Puts : S → FilesParts → Result (Unit {0}) ℕ → S → Type 0) (o : Opening) (kind : Kind) (f : S) (t : TokenParts)
-    → t.made ≡ [] → GotAll Puts o kind f t.made f
-got_first Puts o kind f t none = ([], (All-nil (IsTaken o), refl), sym (ap extents_taken none))
+-- the extents of one more entry stand last
+pub extents-more : (es : List EntryParts) (e : EntryParts) → extents_taken (es ++ e ∷ []) ≡ extents_taken es ++ extent_taken e.reply
+extents-more [] e = append-nil (extent_taken e.reply)
+extents-more (x ∷ es) e =
+    ap (λ l. extent_taken x.reply ++ l) (extents-more es e)
+    ∙ sym (append_assoc (extent_taken x.reply) (extents_taken es) (extent_taken e.reply))
 
-pub got_more : {S : Type 0} (Puts : S → FilesParts → Result (Unit {0}) ℕ → S → Type 0) (o : Opening) (kind : Kind) (f g h : S) (t u : TokenParts)
-    → GotAll Puts o kind f t.made g → GotOne Puts o kind g t h u → GotAll Puts o kind f u.made h
-got_more Puts o kind f g h t u far one =
-    let r : RecordParts = one.0 in
-    let e : EntryParts = one.1 in
-    let extents : extents_taken u.made ≡ extents_taken t.made ++ r.extent ∷ [] =
-    ap (λ (z : TokenParts). extents_taken z.made) one.4 ∙ extents-more t.made e ∙ ap (λ l. extents_taken t.made ++ l) one.5 in (
-      r ∷ far.0,
-      (All-cons (IsTaken o) r far.0 one.2 far.1.0, (g, far.1.1, one.3)),
-      ap (λ l. l ++ r.extent ∷ []) far.2 ∙ sym extents,
-    )
+-- one more take
+takes-more : (t u : TokenParts) (e : EntryParts) → u ≡ with_entry t e → IsTake e → All IsTake t.made → All IsTake u.made
+takes-more t u e is one all =
+    subst (λ (z : TokenParts). All IsTake z.made) (sym is) (All-append IsTake t.made (e ∷ []) all (All-cons IsTake e [] one (All-nil IsTake)))
 
-pub got_none : {S : Type 0} (Puts : S → FilesParts → Result (Unit {0}) ℕ → S → Type 0) (o : Opening) (kind : Kind) (f g h : S) (t u : TokenParts)
-    → GotAll Puts o kind f t.made g → GotNone g t h u → GotAll Puts o kind f u.made h
-got_none {S} Puts o kind f g h t u far none =
-    let e : EntryParts = none.0 in
-    let extents : extents_taken u.made ≡ extents_taken t.made =
-    ap (λ (z : TokenParts). extents_taken z.made) none.2 ∙ extents-more t.made e ∙ ap (λ l. extents_taken t.made ++ l) none.3 ∙ append-nil (extents_taken t.made) in
-    subst (λ (s : S). GotAll Puts o kind f u.made s) (sym none.1) (far.0, far.1, far.2 ∙ sym extents)
+-- the files of a record that was tried so often
+module _ {K : Type 0} (Puts : PutsOf K) (Lacks : LacksOf K) (layout : SetupParts) (kind : Kind) where
+  pub tried_more : (f m g : K) (here e : Extent) (what : Short) (tries : List (Unit {0}))
+      → Tried Lacks e f tries m → Lacks m here what g → here ≡ e → what ≡ short.Again → (more : List (Unit {0})) × Tried Lacks e f more g
+  tried_more f m g here e what tries far lacks same again = (tt ∷ tries, (m, far, rw (sym same, sym again) lacks))
 
-pub got_on : {S : Type 0} (Puts : S → FilesParts → Result (Unit {0}) ℕ → S → Type 0) (o : Opening) (kind : Kind) (g h : S) (t u : TokenParts) (r : Result Bool LiveFault)
-    → (r ≡ Ok true → GotOne Puts o kind g t h u) → (r ≡ Ok false → GotNone g t h u) → IfOk r (λ on. GotOn Puts o kind g t h u)
-got_on {S} Puts o kind g h t u (Ok true) one none =
-    let p = one refl in
-    (ap (λ (z : TokenParts). z.seat) p.4, ap (λ (z : TokenParts). z.pumped) p.4, λ (f : S) (far : GotAll Puts o kind f t.made g). got_more Puts o kind f g h t u far p)
-got_on {S} Puts o kind g h t u (Ok false) one none =
-    let p = none refl in
-    (ap (λ (z : TokenParts). z.seat) p.2, ap (λ (z : TokenParts). z.pumped) p.2, λ (f : S) (far : GotAll Puts o kind f t.made g). got_none Puts o kind f g h t u far p)
-got_on Puts o kind g h t u (Err f) one none = tt
+  pub tried_put : (f m g : K) (r : RecordParts) (tries : List (Unit {0})) (files : FilesParts) (came : Result (Unit {0}) LiveFault)
+      → Tried Lacks r.extent f tries m → PutsOnce Puts m files came g → files ≡ files_of layout kind r
+      → HandsRecord Puts Lacks layout kind f r came g
+  tried_put f m g r tries files (Ok done) far put same = (true, (tries, m, far, rw (sym same) put))
+  tried_put f m g r tries files (Err (fault.Sink code)) far put same = (tries, m, far, rw (sym same) put)
+  tried_put f m g r tries files (Err (fault.Feed code)) far put same = absurd put
+  tried_put f m g r tries files (Err fault.Turns) far put same = absurd put
+  tried_put f m g r tries files (Err fault.Counter) far put same = absurd put
+  tried_put f m g r tries files (Err fault.Memory) far put same = absurd put
+  tried_put f m g r tries files (Err (fault.Open why)) far put same = absurd put
+  tried_put f m g r tries files (Err (fault.End why)) far put same = absurd put
 
--- ---- what the sink has where a run stops
+-- no call is a take
+pub no_takes : (made : List EntryParts) → made ≡ [] → All IsTake made
+no_takes made none = subst (λ (es : List EntryParts). All IsTake es) (sym none) (All-nil IsTake)
 
-pub front_of_all : {S : Type 0} (Puts : S → FilesParts → Result (Unit {0}) ℕ → S → Type 0) (o : Opening) (kind : Kind) (f g : S) (es : List EntryParts)
-    → GotAll Puts o kind f es g → GotFront Puts o kind f g
-front_of_all Puts o kind f g es all = (all.0, g, all.1, inl refl)
+module _ {K : Type 0} (Puts : PutsOf K) (Lacks : LacksOf K) (o : Opening) (kind : Kind) where
+  abbrev Fit : Handed → Type 0
+  Fit x = IsTaken o x.0
+
+  pub got_first : (f : K) (t : TokenParts) → t.made ≡ [] → GotAll Puts Lacks o kind f t.made f
+  got_first f t none = ([], (All-nil Fit, refl), sym (ap extents_taken none))
+
+  got-more : (f g h : K) (t u : TokenParts)
+      → GotAll Puts Lacks o kind f t.made g → GotOne Puts Lacks o kind g t h u → GotAll Puts Lacks o kind f u.made h
+  got-more f g h t u far one =
+      let x : Handed = one.0 in
+      let e : EntryParts = one.1 in
+      let extents : extents_taken u.made ≡ extents_taken t.made ++ x.0.extent ∷ [] =
+      ap (λ (z : TokenParts). extents_taken z.made) one.4 ∙ extents-more t.made e ∙ ap (λ l. extents_taken t.made ++ l) one.6 in (
+        x ∷ far.0,
+        (All-cons Fit x far.0 one.2 far.1.0, (g, far.1.1, one.3)),
+        ap (λ l. l ++ x.0.extent ∷ []) far.2 ∙ sym extents,
+      )
+
+  got-none : (f g h : K) (t u : TokenParts)
+      → GotAll Puts Lacks o kind f t.made g → GotNone g t h u → GotAll Puts Lacks o kind f u.made h
+  got-none f g h t u far none =
+      let e : EntryParts = none.0 in
+      let extents : extents_taken u.made ≡ extents_taken t.made =
+      ap (λ (z : TokenParts). extents_taken z.made) none.2 ∙ extents-more t.made e ∙ ap (λ (r : Reply). extents_taken t.made ++ extent_taken r) none.4 ∙ append-nil (extents_taken t.made) in
+      subst (λ (s : K). GotAll Puts Lacks o kind f u.made s) (sym none.1) (far.0, far.1, far.2 ∙ sym extents)
+
+  on-one : (g h : K) (t u : TokenParts) → GotOne Puts Lacks o kind g t h u → GotOn Puts Lacks o kind g t h u
+  on-one g h t u one = (
+    ap (λ (z : TokenParts). z.seat) one.4,
+    ap (λ (z : TokenParts). z.pumped) one.4,
+    (λ (f : K) (far : GotAll Puts Lacks o kind f t.made g). got-more f g h t u far one),
+    takes-more t u one.1 one.4 one.5,
+  )
+
+  on-none : (g h : K) (t u : TokenParts) → GotNone g t h u → GotOn Puts Lacks o kind g t h u
+  on-none g h t u none = (
+    ap (λ (z : TokenParts). z.seat) none.2,
+    ap (λ (z : TokenParts). z.pumped) none.2,
+    (λ (f : K) (far : GotAll Puts Lacks o kind f t.made g). got-none f g h t u far none),
+    takes-more t u none.0 none.2 none.3,
+  )
+
+  pub on-still : (g h : K) (t u : TokenParts) → u ≡ t → h ≡ g → GotOn Puts Lacks o kind g t h u
+  on-still g h t u same kept = (
+    ap (λ (z : TokenParts). z.seat) same,
+    ap (λ (z : TokenParts). z.pumped) same,
+    (λ (f : K) (far : GotAll Puts Lacks o kind f t.made g). rw (same, kept) far),
+    (λ (all : All IsTake t.made). subst (λ (z : TokenParts). All IsTake z.made) (sym same) all),
+  )
+
+  pub on-on : (g h i : K) (t u v : TokenParts)
+      → GotOn Puts Lacks o kind g t h u → GotOn Puts Lacks o kind h u i v → GotOn Puts Lacks o kind g t i v
+  on-on g h i t u v one two = (
+    two.0 ∙ one.0,
+    two.1 ∙ one.1,
+    (λ (f : K) (far : GotAll Puts Lacks o kind f t.made g). two.2 f (one.2 f far)),
+    (λ (all : All IsTake t.made). two.3 (one.3 all)),
+  )
+
+  -- what was taken, and what handing it on came to
+  handed_on-own : (f g : K) (t u : TokenParts) (r : Result (Option RecordParts) Want) (came : Result Taken LiveFault)
+      → NotesTake o t r u → HandsTaken Puts Lacks o.layout kind f r came g → IfOk came (λ c. GotOn Puts Lacks o kind f t g u)
+  handed_on-own f g t u (Ok (Some r)) (Ok c) notes hands =
+      on-one f g t u ((r, hands.1.0), entry t notes.0.0 (Some r), (notes.2, notes.1), hands.1.1, notes.0.1, refl, refl)
+  handed_on-own f g t u (Ok None) (Ok c) notes hands = on-none f g t u (entry t notes.0.0 None, hands.1, notes.0.1, refl, refl)
+  handed_on-own f g t u (Err refused) (Ok c) notes hands = on-still f g t u notes hands.1
+  handed_on-own f g t u r (Err why) notes hands = tt
+
+  handed_none-own : (f g : K) (t u : TokenParts) (r : Result (Option RecordParts) Want) (came : Result Taken LiveFault)
+      → NotesTake o t r u → HandsTaken Puts Lacks o.layout kind f r came g → came ≡ Ok taken.Nothing → GotNone f t g u
+  handed_none-own f g t u (Ok (Some r)) (Ok c) notes hands is = absurd (one-is-some c (Ok c) refl hands.0 is)
+  handed_none-own f g t u (Ok (Some r)) (Err why) notes hands is = absurd (err-is-none why (Err why) refl is)
+  handed_none-own f g t u (Ok None) came notes hands is = (entry t notes.0.0 None, hands.1, notes.0.1, refl, refl)
+  handed_none-own f g t u (Err refused) (Ok c) notes hands is = absurd (again-is-none c (Ok c) refl hands.0 is)
+  handed_none-own f g t u (Err refused) (Err why) notes hands is = absurd (err-is-none why (Err why) refl is)
+
+  handed_fails-own : (f g : K) (t u : TokenParts) (r : Result (Option RecordParts) Want) (came : Result Taken LiveFault)
+      → NotesTake o t r u → HandsTaken Puts Lacks o.layout kind f r came g → IfErr came (λ why. PutFails Puts Lacks o kind f why g)
+  handed_fails-own f g t u (Ok (Some r)) (Err why) notes hands = inr (r, (notes.2, notes.1), hands)
+  handed_fails-own f g t u (Ok None) (Err why) notes hands = absurd (err-is-none why (Err why) refl hands.0)
+  handed_fails-own f g t u (Err refused) (Err why) notes hands = inl hands
+  handed_fails-own f g t u r (Ok c) notes hands = tt
+
+  -- so with the layout of the opening
+  pub handed_on : (l : SetupParts) (f g : K) (t u : TokenParts) (r : Result (Option RecordParts) Want) (came : Result Taken LiveFault)
+      → l ≡ o.layout → NotesTake o t r u → HandsTaken Puts Lacks l kind f r came g → IfOk came (λ c. GotOn Puts Lacks o kind f t g u)
+  handed_on l f g t u r came same notes hands =
+      handed_on-own f g t u r came notes (subst (λ (x : SetupParts). HandsTaken Puts Lacks x kind f r came g) same hands)
+
+  pub handed_none : (l : SetupParts) (f g : K) (t u : TokenParts) (r : Result (Option RecordParts) Want) (came : Result Taken LiveFault)
+      → l ≡ o.layout → NotesTake o t r u → HandsTaken Puts Lacks l kind f r came g → came ≡ Ok taken.Nothing → GotNone f t g u
+  handed_none l f g t u r came same notes hands =
+      handed_none-own f g t u r came notes (subst (λ (x : SetupParts). HandsTaken Puts Lacks x kind f r came g) same hands)
+
+  pub handed_fails : (l : SetupParts) (f g : K) (t u : TokenParts) (r : Result (Option RecordParts) Want) (came : Result Taken LiveFault)
+      → l ≡ o.layout → NotesTake o t r u → HandsTaken Puts Lacks l kind f r came g → IfErr came (λ why. PutFails Puts Lacks o kind f why g)
+  handed_fails l f g t u r came same notes hands =
+      handed_fails-own f g t u r came notes (subst (λ (x : SetupParts). HandsTaken Puts Lacks x kind f r came g) same hands)
+
+  -- ---- what the outlet has where a run stops
+
+  pub front_of_all : (f g : K) (es : List EntryParts) → GotAll Puts Lacks o kind f es g → GotFront Puts Lacks o kind f g
+  front_of_all f g es all = (all.0, g, all.1, inl refl)
+
+  pub front_fails : (f g h : K) (es : List EntryParts) (why : LiveFault)
+      → GotAll Puts Lacks o kind f es g → PutFails Puts Lacks o kind g why h → GotFront Puts Lacks o kind f h
+  front_fails f g h es why all (inl none) = (all.0, g, all.1, inl none.1)
+  front_fails f g h es why all (inr stopped) = (all.0, g, all.1, inr (stopped.0, why, stopped.1, stopped.2))
+
+  pub export_fails : (f g h : K) (es : List EntryParts) (why : LiveFault)
+      → GotAll Puts Lacks o kind f es g → PutFails Puts Lacks o kind g why h → ExportFails Puts Lacks o kind f why h
+  export_fails f g h es (fault.Sink code) all (inr stopped) = (all.0, g, stopped.0, all.1, stopped.1, stopped.2)
+  export_fails f g h es (fault.Sink code) all (inl none) = absurd (not-memory (fault.Sink code) none.0 refl)
+  export_fails f g h es (fault.Feed code) all (inr stopped) = stopped.2
+  export_fails f g h es (fault.Feed code) all (inl none) = absurd (not-memory (fault.Feed code) none.0 refl)
+  export_fails f g h es fault.Turns all stopped = tt
+  export_fails f g h es fault.Memory all stopped = tt
+  export_fails f g h es fault.Counter all (inr stopped) = stopped.2
+  export_fails f g h es fault.Counter all (inl none) = absurd (not-memory fault.Counter none.0 refl)
+  export_fails f g h es (fault.Open why) all (inr stopped) = stopped.2
+  export_fails f g h es (fault.Open why) all (inl none) = absurd (not-memory (fault.Open why) none.0 refl)
+  export_fails f g h es (fault.End why) all (inr stopped) = stopped.2
+  export_fails f g h es (fault.End why) all (inl none) = absurd (not-memory (fault.End why) none.0 refl)
 
 -- a fault that comes after it leaves it so
 pub or_front : {R E : Type 0} {Front : Type 0} (came : Result R E) (IsOther : E → Type 0) → Front → IfErr came (λ e. IsOther e ⊎ Front)
@@ -200,3 +339,124 @@ or_front (Err e) IsOther front = inr front
 pub handed_up : {R E : Type 0} (came : Result R E) (e : E) (P : E → Type 0) → IsErrAnd came (λ f. f ≡ e) → P e → IfErr came P
 handed_up (Ok done) e P same h = tt
 handed_up (Err f) e P same h = subst P (sym same) h
+
+-- what is known of a token that came back
+pub if_known : {T E : Type 0} (came : Result (Option T) E) (P Q : T → Type 0)
+    → ((t : T) → P t → Q t) → IfOk came (λ known. IfSome known P) → IfOk came (λ known. IfSome known Q)
+if_known (Ok (Some t)) P Q on h = on t h
+if_known (Ok None) P Q on h = tt
+if_known (Err e) P Q on h = tt
+
+-- what is known of what is there
+pub some_has : {X : Type 0} (P : X → Type 0) (o : Option X) (x : X) → o ≡ Some x → IfSome o P → P x
+some_has {X} P o x is h = subst (λ (z : Option X). IfSome z P) is h
+
+pub ok_some_has : {T E : Type 0} (P : T → Type 0) (came : Result (Option T) E) (t : T) → came ≡ Ok (Some t)
+    → IfOk came (λ known. IfSome known P) → P t
+ok_some_has {T} {E} P came t is h = subst (λ (z : Result (Option T) E). IfOk z (λ known. IfSome known P)) is h
+
+pub err_has : {T : Type 0} (P : LiveFault → Type 0) (came : Result T LiveFault) (why : LiveFault) → came ≡ Err why → IfErr came P → P why
+err_has {T} P came why is h = subst (λ (z : Result T LiveFault). IfErr z P) is h
+
+-- ---- why a run failed
+
+abbrev done_well : Result (Unit {0}) LiveFault
+done_well = Ok tt
+
+abbrev is-err : Result (Unit {0}) LiveFault → Bool
+is-err (Ok done) = false
+is-err (Err why) = true
+
+ok-is-err : (why : LiveFault) → done_well ≡ Err why → ⊥
+ok-is-err why h = true≢false (sym (ap is-err h))
+
+module _ {A F K : Type 0} (Gives : GivesOf A F) (Loses : LosesOf F) (Puts : PutsOf K) (Lacks : LacksOf K) (o : Opening) (kind : Kind)
+    (f : F) (k : K) (g : F) (l : K) where
+  abbrev pub Fails : LiveFault → Type 0
+  Fails why = RunFails Gives Loses Puts Lacks o kind f k g l why
+
+  pub by-export : (why : LiveFault) → ExportFails Puts Lacks o kind k why l → Fails why
+  by-export (fault.Feed code) h = absurd h
+  by-export (fault.Sink code) h = h
+  by-export fault.Turns h = tt
+  by-export fault.Counter h = tt
+  by-export fault.Memory h = tt
+  by-export (fault.Open why) h = absurd h
+  by-export (fault.End why) h = tt
+
+  by-acquisition : (why : LiveFault) → AcquisitionFails Gives Loses f why g → Fails why
+  by-acquisition (fault.Feed code) h = h
+  by-acquisition (fault.Sink code) h = absurd h
+  by-acquisition fault.Turns h = tt
+  by-acquisition fault.Counter h = tt
+  by-acquisition fault.Memory h = tt
+  by-acquisition (fault.Open why) h = absurd h
+  by-acquisition (fault.End why) h = tt
+
+  by-trigger : (why : LiveFault) → TriggerFails why → Fails why
+  by-trigger (fault.Feed code) h = absurd h
+  by-trigger (fault.Sink code) h = absurd h
+  by-trigger fault.Turns h = tt
+  by-trigger fault.Counter h = tt
+  by-trigger fault.Memory h = tt
+  by-trigger (fault.Open why) h = absurd h
+  by-trigger (fault.End why) h = tt
+
+  pub by-end : {R : Type 0} (came : Result R LiveFault) → IfErr came IsEnd → IfErr came Fails
+  by-end (Ok r) h = tt
+  by-end (Err (fault.Feed code)) h = absurd h
+  by-end (Err (fault.Sink code)) h = absurd h
+  by-end (Err fault.Turns) h = absurd h
+  by-end (Err fault.Counter) h = absurd h
+  by-end (Err fault.Memory) h = absurd h
+  by-end (Err (fault.Open why)) h = absurd h
+  by-end (Err (fault.End why)) h = tt
+
+  -- of a run whose threads were all started
+  pub one_failed : {T S U : Type 0} (came : Result (Unit {0}) LiveFault) (a : Result T LiveFault) (b : Result S LiveFault) (e : Result U LiveFault)
+      → IfErr came (λ why. (a ≡ Err why) ⊎ ((b ≡ Err why) ⊎ (e ≡ Err why)))
+      → IfErr a (λ why. AcquisitionFails Gives Loses f why g) → IfErr b (λ why. TriggerFails why) → IfErr e (λ why. ExportFails Puts Lacks o kind k why l)
+      → IfErr came Fails
+  one_failed (Ok done) a b e which x y z = tt
+  one_failed (Err why) a b e (inl is) x y z = by-acquisition why (err_has (λ (w : LiveFault). AcquisitionFails Gives Loses f w g) a why is x)
+  one_failed (Err why) a b e (inr (inl is)) x y z = by-trigger why (err_has (λ (w : LiveFault). TriggerFails w) b why is y)
+  one_failed (Err why) a b e (inr (inr is)) x y z = by-export why (err_has (λ (w : LiveFault). ExportFails Puts Lacks o kind k w l) e why is z)
+
+  -- of a run of which a thread was not started, after the acquisition
+  pub trigger_not_started : {T U : Type 0} (came a' e' : Result (Unit {0}) LiveFault) (a : Result T LiveFault) (e : Result U LiveFault)
+      → IfErr came (λ why. (why ≡ fault.Memory) ⊎ ((a' ≡ Err why) ⊎ (e' ≡ Err why)))
+      → IfErr a' (λ why. a ≡ Err why) → IfErr e' (λ why. e ≡ Err why)
+      → IfErr a (λ why. AcquisitionFails Gives Loses f why g) → IfErr e (λ why. ExportFails Puts Lacks o kind k why l)
+      → IfErr came Fails
+  trigger_not_started (Ok done) a' e' a e which i j x z = tt
+  trigger_not_started (Err why) a' e' a e (inl is) i j x z = rw is tt
+  trigger_not_started (Err why) a' e' a e (inr (inl is)) i j x z =
+      by-acquisition why (err_has (λ (w : LiveFault). AcquisitionFails Gives Loses f w g) a why (err_has (λ (w : LiveFault). a ≡ Err w) a' why is i) x)
+  trigger_not_started (Err why) a' e' a e (inr (inr is)) i j x z =
+      by-export why (err_has (λ (w : LiveFault). ExportFails Puts Lacks o kind k w l) e why (err_has (λ (w : LiveFault). e ≡ Err w) e' why is j) z)
+
+  -- before it
+  pub acquisition_not_started : {U : Type 0} (came e' : Result (Unit {0}) LiveFault) (e : Result U LiveFault)
+      → IfErr came (λ why. (why ≡ fault.Memory) ⊎ ((done_well ≡ Err why) ⊎ (e' ≡ Err why)))
+      → IfErr e' (λ why. e ≡ Err why) → IfErr e (λ why. ExportFails Puts Lacks o kind k why l)
+      → IfErr came Fails
+  acquisition_not_started (Ok done) e' e which j z = tt
+  acquisition_not_started (Err why) e' e (inl is) j z = rw is tt
+  acquisition_not_started (Err why) e' e (inr (inl is)) j z = absurd (ok-is-err why is)
+  acquisition_not_started (Err why) e' e (inr (inr is)) j z =
+      by-export why (err_has (λ (w : LiveFault). ExportFails Puts Lacks o kind k w l) e why (err_has (λ (w : LiveFault). e ≡ Err w) e' why is j) z)
+
+-- a run over the opening of its recorder
+pub has_cause : {A F O K : Type 0} (Gives : GivesOf A F) (Loses : LosesOf F) (Puts : PutsOf K) (Lacks : LacksOf K) (o o' : Opening) (kind : Kind)
+    (refused : Option OpenFault) (old new : F × O × K) {R : Type 0} (came : Result R LiveFault)
+    → o ≡ o' → IfErr came (RunFails Gives Loses Puts Lacks o kind old.0 old.2 new.0 new.2)
+    → IfErr came (HasCause Gives Loses Puts Lacks o' kind refused old new)
+has_cause Gives Loses Puts Lacks o o' kind refused old new (Ok r) same h = tt
+has_cause Gives Loses Puts Lacks o o' kind refused old new (Err (fault.Feed code)) same h = h
+has_cause {K = K} Gives Loses Puts Lacks o o' kind refused old new (Err (fault.Sink code)) same h =
+    subst (λ (x : Opening). SinkFailed Puts Lacks x kind old.2 code new.2) same h
+has_cause Gives Loses Puts Lacks o o' kind refused old new (Err fault.Turns) same h = tt
+has_cause Gives Loses Puts Lacks o o' kind refused old new (Err fault.Counter) same h = tt
+has_cause Gives Loses Puts Lacks o o' kind refused old new (Err fault.Memory) same h = tt
+has_cause Gives Loses Puts Lacks o o' kind refused old new (Err (fault.Open why)) same h = absurd h
+has_cause Gives Loses Puts Lacks o o' kind refused old new (Err (fault.End why)) same h = tt

@@ -1,28 +1,31 @@
--- A run from the feed to the files, put together.
-use Rattle.std.proofs.Common.{◌≡◌, ℕ, List, [], ◌∷◌, Option, Result, sym, ◌∙◌, ap, subst, arith}
-use Rattle.std.specs.Prelude.{All, IfOk, Ok, Err, filter, sum_by}
+-- A run from the intake to the files, put together.
+use Rattle.std.proofs.Common.{◌≡◌, ℕ, List, [], ◌∷◌, Option, Result, sym, ◌∙◌, ap, subst, arith, length-append}
+use Rattle.std.specs.Prelude.{All, IfOk, Ok, Err, filter, length, sum_by}
 use Rattle.std.proofs.lemmas.List.Elements.{All-head, All-tail}
 use Rattle.dfr_recorder.specs.History.{Opening}
+use Rattle.dfr_recorder.specs.Kept.{Kept}
 use Rattle.comtrade_format.specs.declared.file.Kind.{Kind}
 use Rattle.dfr_live.specs.declared.report.LiveReport.{LiveReport}
 use Rattle.dfr_live.specs.declared.report.LiveFault.{LiveFault}
-use Rattle.dfr_live.specs.declared.station.Fed.{Fed}
-use Rattle.dfr_live.specs.declared.station.Order.{Order}
 use Rattle.dfr_live.specs.Parts.{EntryParts}
-use Rattle.dfr_live.specs.Seen.{SourceParts, TokenParts}
+use Rattle.dfr_live.specs.Weave.{steps_of}
+use Rattle.dfr_live.specs.Seen.{InnerParts, SourceParts, TokenParts}
 use Rattle.dfr_live.specs.Ends.{is_by, IsNoted}
-use Rattle.dfr_live.specs.Devices.{FilesParts, taken_in, GaveAll, MadeAll, GotAll}
+use Rattle.dfr_live.specs.Devices.{GivesOf, LosesOf, AsksOf, HearsOf, PutsOf, LacksOf, taken_in, GaveAll, MadeAll, GotAll, IsTake}
 use Rattle.dfr_live.specs.Report.{Reports, Recorded}
 use Rattle.dfr_live.proofs.Woven.{one-list}
+use Rattle.dfr_live.proofs.TakingIn.{no_items}
 
-module _ {A F O K : Type 0} (Gives : F → Result (Fed A) ℕ → F → Type 0) (Hands : O → Option (ℕ × Order A) → O → Type 0)
-    (Puts : K → FilesParts → Result (Unit {0}) ℕ → K → Type 0) (o : Opening) (kind : Kind) (old new : F × O × K)
-    (source : SourceParts) (first second : TokenParts) where
-  recorded : (r : LiveReport A) (reports : Reports o r) → reports.source ≡ source → reports.tokens ≡ first ∷ second ∷ []
+module _ {A F O K : Type 0} (Gives : GivesOf A F) (Loses : LosesOf F) (Asks : AsksOf A O) (Hears : HearsOf O)
+    (Puts : PutsOf K) (Lacks : LacksOf K) (o : Opening) (kind : Kind) (old new : F × O × K)
+    (inner : InnerParts) (source : SourceParts) (first second : TokenParts) where
+  recorded : (r : LiveReport A) (reports : Reports o r) → reports.inner ≡ inner → reports.source ≡ source → reports.tokens ≡ first ∷ second ∷ []
       → first.seat ≡ 0 → second.seat ≡ 1 → second.pumped ≡ 0
-      → GaveAll Gives old.0 (taken_in source) new.0 → MadeAll Hands old.1 first.made first.pumped new.1
-      → GotAll Puts o kind old.2 second.made new.2 → Recorded Gives Hands Puts o kind old new r
-  recorded r reports s t zero one none gave made got =
+      → GaveAll Gives Loses old.0 (taken_in source) new.0 → length (steps_of source.offered) ≡ first.pumped
+      → MadeAll Asks Hears old.1 first.made first.pumped new.1
+      → All IsTake second.made → GotAll Puts Lacks o kind old.2 second.made new.2 → inner.recorder.shelf ≡ []
+      → Recorded Gives Loses Asks Hears Puts Lacks o kind old new r
+  recorded r reports i s t zero one none gave given made takes got empty =
       let log : List EntryParts = reports.inner.log in
       let noted : All (IsNoted log) (first ∷ second ∷ []) = subst (λ (l : List TokenParts). All (IsNoted log) l) t reports.ends.5.0 in
       let same : r.ended.log.items ≡ log = reports.ends.1 in
@@ -33,20 +36,29 @@ module _ {A F O K : Type 0} (Gives : F → Result (Fed A) ℕ → F → Type 0) 
       ∙ ap (λ (k : ℕ). filter (is_by k) log) one ∙ ap (filter (is_by 1)) (sym same) in
       let sum = ap (sum_by (λ (x : TokenParts). x.pumped)) (sym t) ∙ reports.ends.5.2 in
       let steps : first.pumped ≡ r.stepped = omega (arith, sum, none, reports.stepped) in
+      let line = length-append reports.inner.stepped (steps_of r.ended.left.items) in
+      let whole = ap length reports.ends.0 in
+      let offered = ap (λ (x : SourceParts). length (steps_of x.offered)) s in
       record {
         report = reports;
         one = one-list reports.inner reports.source reports.tokens r.ended reports.ends;
-        fed = subst (λ (x : SourceParts). GaveAll Gives old.0 (taken_in x) new.0) (sym s) gave;
+        fed = subst (λ (x : SourceParts). GaveAll Gives Loses old.0 (taken_in x) new.0) (sym s) gave;
+        none_left = no_items r.ended.left.items (omega (arith, line, whole, offered, given, steps, reports.stepped));
         ordered =
-            subst (λ (es : List EntryParts). MadeAll Hands old.1 es r.stepped new.1) mine
-            (subst (λ (n : ℕ). MadeAll Hands old.1 first.made n new.1) steps made);
-        handed_on = subst (λ (es : List EntryParts). GotAll Puts o kind old.2 es new.2) theirs got;
+            subst (λ (es : List EntryParts). MadeAll Asks Hears old.1 es r.stepped new.1) mine
+            (subst (λ (n : ℕ). MadeAll Asks Hears old.1 first.made n new.1) steps made);
+        takes = subst (λ (es : List EntryParts). All IsTake es) theirs takes;
+        handed_on = subst (λ (es : List EntryParts). GotAll Puts Lacks o kind old.2 es new.2) theirs got;
+        none_waits = ap (λ (k : Kept). k.shelf) reports.ends.2 ∙ ap (λ (x : InnerParts). x.recorder.shelf) i ∙ empty;
       }
 
   pub recorded_in : (came : Result (LiveReport A) LiveFault) (tokens : List TokenParts)
-      → IfOk came (λ r. (reports : Reports o r) × (reports.source ≡ source) × (reports.tokens ≡ tokens)) → tokens ≡ first ∷ second ∷ []
+      → IfOk came (λ r. (reports : Reports o r) × (reports.inner ≡ inner) × (reports.source ≡ source) × (reports.tokens ≡ tokens)) → tokens ≡ first ∷ second ∷ []
       → first.seat ≡ 0 → second.seat ≡ 1 → second.pumped ≡ 0
-      → GaveAll Gives old.0 (taken_in source) new.0 → MadeAll Hands old.1 first.made first.pumped new.1
-      → GotAll Puts o kind old.2 second.made new.2 → IfOk came (λ r. Recorded Gives Hands Puts o kind old new r)
-  recorded_in (Ok r) tokens h t zero one none gave made got = recorded r h.0 h.1 (h.2 ∙ t) zero one none gave made got
-  recorded_in (Err f) tokens h t zero one none gave made got = tt
+      → GaveAll Gives Loses old.0 (taken_in source) new.0 → length (steps_of source.offered) ≡ first.pumped
+      → MadeAll Asks Hears old.1 first.made first.pumped new.1
+      → All IsTake second.made → GotAll Puts Lacks o kind old.2 second.made new.2 → inner.recorder.shelf ≡ []
+      → IfOk came (λ r. Recorded Gives Loses Asks Hears Puts Lacks o kind old new r)
+  recorded_in (Ok r) tokens h t zero one none gave given made takes got empty =
+      recorded r h.0 h.1 h.2 (h.3 ∙ t) zero one none gave given made takes got empty
+  recorded_in (Err f) tokens h t zero one none gave given made takes got empty = tt

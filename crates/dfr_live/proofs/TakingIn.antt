@@ -1,16 +1,19 @@
--- What a source took in, one answer of the feed after the other.
-use Rattle.std.proofs.Common.{◌≡◌, ℕ, ◌+◌, List, [], ◌∷◌, ◌++◌, replicate, refl, sym, ◌∙◌, ap, append_assoc, Result, Ok}
-use Rattle.std.proofs.lemmas.List.{append-nil, replicate-append-replicate}
+-- What a source took in, one answer of the intake after the other.
+use Rattle.std.proofs.Common.{◌≡◌, ◌⊎◌, inl, inr, ℕ, ◌+◌, ◌-◌, ◌≤◌, List, [], ◌∷◌, ◌++◌, replicate, length, Bool, true, refl, sym, ◌∙◌, ap, append_assoc, Result, Ok, Err, arith, length-append}
+use Rattle.std.proofs.lemmas.List.{append-nil, length-replicate, replicate-append-replicate}
 use Rattle.dfr_channels.specs.Parts.{ScanParts}
 use Rattle.dfr_recorder.specs.Steps.{StepParts}
 use Rattle.dfr_recorder.specs.Steps as step
 use Rattle.dfr_live.specs.Parts.{LeftParts}
-use Rattle.dfr_live.specs.Weave.{steps_of}
+use Rattle.dfr_live.specs.Weave.{steps_in, steps_of}
 use Rattle.dfr_live.specs.Seen.{SourceParts}
 use Rattle.dfr_live.specs.Station.{after_loss, after_offer}
 use Rattle.dfr_live.specs.declared.station.Fed.{Fed}
 use Rattle.dfr_live.specs.declared.station.Fed.TheVariants as fed
-use Rattle.dfr_live.specs.Devices.{Came, steps_given, all_given, taken_in, GaveOne, GaveAll}
+use Rattle.dfr_live.specs.declared.report.LiveFault.{LiveFault}
+use Rattle.dfr_live.specs.declared.report.LiveFault.TheVariants as fault
+use Rattle.dfr_live.specs.Devices.{GivesOf, LosesOf, TakenFor, Came, steps_given, goes_on, all_taken, taken_in, GaveOne, TookIn, GaveAll}
+use Rattle.dfr_live.specs.Causes.{AskFails, AcquisitionFails}
 use Rattle.dfr_live.proofs.Weaving.{steps_of-append}
 
 scan-more : (s : SourceParts) (scan : ScanParts) → taken_in (after_offer s scan) ≡ taken_in s ++ step.Scan scan ∷ []
@@ -26,30 +29,70 @@ loss-more s =
     ap (λ (l : List StepParts). steps_of s.offered ++ l) (sym (replicate-append-replicate s.lost 1 step.Lost))
     ∙ sym (append_assoc (steps_of s.offered) (replicate s.lost step.Lost) (step.Lost ∷ []))
 
-pub gave_scan : {A F : Type 0} (Gives : F → Result (Fed A) ℕ → F → Type 0) (f g : F) (s t : SourceParts) (scan : ScanParts) (r : Result (Fed A) ℕ)
-    → Gives f r g → r ≡ Ok (fed.Scan scan) → t ≡ after_offer s scan → GaveOne Gives f s g t
-gave_scan Gives f g s t scan r h is e = (r, h, rw (is, e) (scan-more s scan))
+module _ {A F : Type 0} (Gives : GivesOf A F) (Loses : LosesOf F) where
+  -- the scan was offered, or it is lost
+  pub took_scan : (f m g : F) (s t : SourceParts) (n k : ℕ) (scan : ScanParts) (r : Result (Fed A) ℕ)
+      → Gives f r m → r ≡ Ok (fed.Scan scan) → (((t ≡ after_offer s scan) × (g ≡ m)) ⊎ ((t ≡ after_loss s) × Loses m g)) → k ≡ n + 1
+      → TookIn Gives Loses f s n g t k
+  took_scan f m g s t n k scan r h is (inl e) more =
+      ((r, step.Scan scan ∷ []), (ap (λ (y : Result (Fed A) ℕ). goes_on y) is, inl (rw e.1 h, rw is refl)), rw e.0 (scan-more s scan), more)
+  took_scan f m g s t n k scan r h is (inr e) more =
+      ((r, step.Lost ∷ []), (ap (λ (y : Result (Fed A) ℕ). goes_on y) is, inr (scan, m, is, h, e.1, refl)), rw e.0 (loss-more s), more)
 
-pub gave_loss : {A F : Type 0} (Gives : F → Result (Fed A) ℕ → F → Type 0) (f g : F) (s t : SourceParts) (r : Result (Fed A) ℕ)
-    → Gives f r g → r ≡ Ok fed.Lost → t ≡ after_loss s → GaveOne Gives f s g t
-gave_loss Gives f g s t r h is e = (r, h, rw (is, e) (loss-more s))
+  pub took_loss : (f g : F) (s t : SourceParts) (n k : ℕ) (r : Result (Fed A) ℕ)
+      → Gives f r g → r ≡ Ok fed.Lost → t ≡ after_loss s → k ≡ n + 1 → TookIn Gives Loses f s n g t k
+  took_loss f g s t n k r h is e more =
+      ((r, step.Lost ∷ []), (ap (λ (y : Result (Fed A) ℕ). goes_on y) is, inl (h, rw is refl)), rw e (loss-more s), more)
 
-pub gave_none : {A F : Type 0} (Gives : F → Result (Fed A) ℕ → F → Type 0) (f g : F) (s : SourceParts) (r : Result (Fed A) ℕ)
-    → Gives f r g → r ≡ Ok fed.NotYet → GaveOne Gives f s g s
-gave_none Gives f g s r h is = (r, h, rw is (sym (append-nil (taken_in s))))
+  pub took_none : (f g : F) (s t : SourceParts) (n k : ℕ) (r : Result (Fed A) ℕ)
+      → Gives f r g → r ≡ Ok fed.NotYet → t ≡ s → k ≡ n + 0 → TookIn Gives Loses f s n g t k
+  took_none f g s t n k r h is e more =
+      ((r, []), (ap (λ (y : Result (Fed A) ℕ). goes_on y) is, inl (h, rw is refl)), rw e (sym (append-nil (taken_in s))), more)
 
--- what a feed gave from its beginning on, and a source that began empty took in
-abbrev pub GaveSoFar : {A F : Type 0} → (F → Result (Fed A) ℕ → F → Type 0) → F → F → SourceParts → Type 0
-GaveSoFar {A} Gives f g s = (answers : List (Result (Fed A) ℕ)) × Came Gives f answers g × (all_given answers ≡ taken_in s)
+  -- what an intake gave from its beginning on, a source that began empty took in, and so many steps were counted
+  abbrev pub GaveSoFar : F → F → SourceParts → ℕ → Type 0
+  GaveSoFar f g s n =
+      (given : List (TakenFor A)) × Came (GaveOne Gives Loses) f given g × (all_taken given ≡ taken_in s) × (n ≡ length (taken_in s))
 
-pub gave_first : {A F : Type 0} (Gives : F → Result (Fed A) ℕ → F → Type 0) (f : F) (s : SourceParts) → taken_in s ≡ [] → GaveSoFar Gives f f s
-gave_first Gives f s none = ([], refl, sym none)
+  pub gave_first : (f : F) (s : SourceParts) → taken_in s ≡ [] → GaveSoFar f f s 0
+  gave_first f s none = ([], refl, sym none, sym (ap length none))
 
-pub gave_more : {A F : Type 0} (Gives : F → Result (Fed A) ℕ → F → Type 0) (f g h : F) (s t : SourceParts)
-    → GaveSoFar Gives f g s → GaveOne Gives g s h t → GaveSoFar Gives f h t
-gave_more Gives f g h s t far one =
-    (one.0 ∷ far.0, (g, far.1, one.1), ap (λ (l : List StepParts). l ++ steps_given one.0) far.2 ∙ sym one.2)
+  pub gave_more : (f g h : F) (s t : SourceParts) (n k : ℕ) → GaveSoFar f g s n → TookIn Gives Loses g s n h t k → GaveSoFar f h t k
+  gave_more f g h s t n k far one =
+      let x : TakenFor A = one.0 in
+      let all = ap (λ (l : List StepParts). length l) one.2 in
+      let sum = length-append (taken_in s) x.1 in (
+        x ∷ far.0,
+        (g, far.1, one.1),
+        ap (λ (l : List StepParts). l ++ x.1) far.2 ∙ sym one.2,
+        omega (arith, all, sum, one.3, far.3),
+      )
 
-pub gave_last : {A F : Type 0} (Gives : F → Result (Fed A) ℕ → F → Type 0) (f g h : F) (s t : SourceParts)
-    → GaveSoFar Gives f g s → Gives g (Ok fed.Done) h → t ≡ s → GaveAll Gives f (taken_in t) h
-gave_last Gives f g h s t far last same = (far.0, (g, far.1, last), far.2 ∙ ap taken_in (sym same))
+  pub gave_last : (f g h : F) (s t : SourceParts) (n : ℕ)
+      → GaveSoFar f g s n → Gives g (Ok fed.Done) h → t ≡ s → GaveAll Gives Loses f (taken_in t) h
+  gave_last f g h s t n far last same = (far.0, g, far.1, last, far.2 ∙ ap taken_in (sym same))
+
+  pub gave_fails : (f g h : F) (s : SourceParts) (n : ℕ) (why : LiveFault)
+      → GaveSoFar f g s n → AskFails Gives g why h → AcquisitionFails Gives Loses f why h
+  gave_fails f g h s n (fault.Feed code) far last = (far.0, g, far.1, last)
+  gave_fails f g h s n (fault.Sink code) far last = last
+  gave_fails f g h s n fault.Turns far last = tt
+  gave_fails f g h s n fault.Counter far last = tt
+  gave_fails f g h s n fault.Memory far last = last
+  gave_fails f g h s n (fault.Open why) far last = last
+  gave_fails f g h s n (fault.End why) far last = tt
+
+-- of the steps taken in, those of scans and of the losses before them are all but the losses since
+pub but_last : (s : SourceParts) (n : ℕ) → n ≡ length (taken_in s) → n ≡ length (steps_of s.offered) + s.lost
+but_last s n h =
+    let sum = length-append (steps_of s.offered) (replicate s.lost step.Lost) in
+    let lost = length-replicate s.lost step.Lost in
+    omega (arith, h, sum, lost)
+
+-- items without a step are none
+pub no_items : (left : List LeftParts) → length (steps_of left) ≡ 0 → left ≡ []
+no_items [] h = refl
+no_items (x ∷ xs) h =
+    let all = length-append (steps_in x) (steps_of xs) in
+    let one = length-append (replicate x.lost step.Lost) (step.Scan x.scan ∷ []) in
+    absurd (omega (arith, all, one, h))

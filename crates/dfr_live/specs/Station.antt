@@ -1,5 +1,5 @@
 -- What the three threads of a station do, each by itself.
-use Rattle.std.specs.Prelude.{◌≡◌, ℕ, ◌+◌, ◌-◌, ◌≤◌, min, max, List, [], ◌∷◌, ◌++◌, Bool, true, false, Option, Some, None, Result, Ok, Err, All, Contains, IsOk, IfErr, IfSome}
+use Rattle.std.specs.Prelude.{◌≡◌, ℕ, ◌+◌, ◌-◌, ◌≤◌, min, max, List, [], ◌∷◌, ◌++◌, Bool, true, false, Option, Some, None, Result, Ok, Err, All, Contains, IsOk, IfErr, IfSome, ⊤}
 use Rattle.dfr_channels.specs.Parts.{ScanParts}
 use Rattle.dfr_recorder.specs.declared.step.Hit.{Hit}
 use Rattle.dfr_recorder.specs.declared.step.TriggerFault.{TriggerFault}
@@ -9,8 +9,11 @@ use Rattle.dfr_live.specs.declared.report.LiveFault.{LiveFault}
 use Rattle.dfr_live.specs.declared.report.LiveFault.TheVariants as fault
 use Rattle.dfr_live.specs.declared.station.Order.{Order}
 use Rattle.dfr_live.specs.declared.station.Order.TheVariants as order
+use Rattle.dfr_live.specs.declared.entry.Reply.{Reply}
+use Rattle.dfr_live.specs.declared.orders.Pumping.{Pumping}
+use Rattle.dfr_live.specs.declared.orders.Pumping.TheVariants as pumping
 use Rattle.dfr_live.specs.Seen.{TokenParts, SourceParts}
-use Rattle.dfr_live.specs.Calls.{Notes, wants_memory}
+use Rattle.dfr_live.specs.Calls.{Notes}
 
 -- ---- which fault a run gives
 
@@ -76,17 +79,18 @@ abbrev pub PumpsOut : Bool → TokenParts → TokenParts → Type 0
 PumpsOut true t u = u ≡ t
 PumpsOut false t u = CountsOn None t u
 
--- an order has one entry, of its call
-abbrev pub EntersOrder : {A : Type 0} → Order A → TokenParts → TokenParts → Type 0
-EntersOrder order.Trigger t u =
-    (r : Result Hit TriggerFault) × (wants_memory r ≡ false)
-    × Notes t call.Trigger (reply_is.Trigger r) u
-EntersOrder (order.SetRules rules) t u =
-    (done : Bool) × Notes t (call.SetRules rules) (reply_is.SetRules done) u
+-- how pumping towards a place ended, for a token that counted on: at the place; or after all scan steps that the lane was
+-- given, as their number under that name shows
+abbrev pub Pumps : ℕ → Option ℕ → TokenParts → Pumping → TokenParts → Type 0
+Pumps id place t pumping.Reached u = CountsTo place t u
+Pumps id place t (pumping.Exhausted all) u = (all.of ≡ id) × (all.value ≡ u.pumped)
+Pumps id place t pumping.Stopped u = ⊤
 
-abbrev pub CarriesOut : {A : Type 0} → Order A → TokenParts → Outcome → TokenParts → Type 0
-CarriesOut o t (Ok done) u = EntersOrder o t u
-CarriesOut o t (Err f) u = (f ≡ fault.Memory) × (u ≡ t)
+-- an order has one entry, of its call, with this reply; none where an allocation failed
+abbrev pub EntersOrder : {A : Type 0} → Order A → TokenParts → Option Reply → TokenParts → Type 0
+EntersOrder order.Trigger t (Some reply) u = Notes t call.Trigger reply u
+EntersOrder (order.SetRules rules) t (Some reply) u = Notes t (call.SetRules rules) reply u
+EntersOrder o t None u = u ≡ t
 
 -- ---- the acquisition thread
 

@@ -3,7 +3,6 @@
 ghost use Rattle.std.specs.Prelude.{◌≡◌, IfSome};
 ghost use Rattle.dfr_live.specs.Station.{Joins};
 
-use crate::report::LiveFault;
 use crate::signals::Signals;
 use std::snapshot::Snapshot;
 use std::sync::Wait;
@@ -54,7 +53,7 @@ fn start<'s, E, S: Work<Output = T> + Send + Drop + 's, T: Send + Drop + 's>(
         { work.run() },
     );
     if started.is_err() {
-        signals.fail(LiveFault::Memory);
+        signals.fail();
     }
     started.ok()
 }

@@ -1,25 +1,62 @@
 -- What a run over a script was given: all of its scans and orders.
-use Rattle.std.proofs.Common.{◌≡◌, ℕ, List, [], ◌∷◌, ◌++◌, map, Option, Some, None, Result, Ok, Err, refl, sym, ◌∙◌, ap, append_assoc}
-use Rattle.std.proofs.lemmas.List.{append-nil}
-use Rattle.std.specs.Prelude.{IfOk}
+use Rattle.std.proofs.Common.{◌≡◌, ◌⊎◌, inl, inr, ℕ, List, [], ◌∷◌, ◌++◌, map, Bool, true, false, true≢false, Option, Some, None, Result, Ok, Err, refl, sym, ◌∙◌, ap, subst, arith, append_assoc}
+use Rattle.std.proofs.lemmas.List.{append-nil, map-append}
+use Rattle.std.specs.Prelude.{IfOk, IfErr, min, max}
 use Rattle.dfr_recorder.specs.Steps.{StepParts}
 use Rattle.dfr_recorder.specs.Steps as step
 use Rattle.dfr_recorder.specs.History.{Opening}
 use Rattle.comtrade_format.specs.declared.file.Kind.{Kind}
 use Rattle.dfr_script.specs.Parts.{ScriptParts}
-use Rattle.dfr_live.specs.Parts.{CallParts}
+use Rattle.dfr_live.specs.Parts.{CallParts, EntryParts}
+use Rattle.dfr_live.specs.declared.entry.Reply.{Reply}
+use Rattle.dfr_live.specs.declared.outcome.OpenFault.{OpenFault}
 use Rattle.dfr_live.specs.declared.station.Fed.{Fed}
 use Rattle.dfr_live.specs.declared.station.Fed.TheVariants as fed
 use Rattle.dfr_live.specs.declared.station.Order.{Order}
+use Rattle.dfr_live.specs.declared.report.LiveFault.{LiveFault}
+use Rattle.dfr_live.specs.declared.report.LiveFault.TheVariants as fault
 use Rattle.dfr_live.specs.declared.report.LiveReport.{LiveReport}
-use Rattle.dfr_live.specs.Devices.{FilesParts, Came, all_given, steps_given, in_order, call_in, GaveAll, taken_in, calls_made}
+use Rattle.dfr_live.specs.Devices.{GivesOf, AsksOf, HearsOf, PutsOf, TakenFor, Came, GaveOne, GaveAll, FeedFailed, all_taken, steps_given, taken_in, never, asks_plainly, hears_plainly, stops, call_in, Noted, noted, Turn, Waits, Makes, Desked, new_desk, TookTurn, MadeAll, GotFront}
+use Rattle.dfr_live.specs.Causes.{HasCause}
 use Rattle.dfr_live.specs.Report.{Recorded}
 use Rattle.dfr_program.specs.declared.plan.Scans.{Scans}
 use Rattle.dfr_program.specs.declared.plan.Placed.{Placed}
-use Rattle.dfr_program.specs.Plans.{scans_in, orders_in, steps_left, orders_left, placed, FeedsNext, OrdersNext}
+use Rattle.dfr_program.specs.Plans.{scans_in, orders_in, steps_left, orders_left, placed, calls_made, call_at, FeedsNext, OrdersNext}
 use Rattle.dfr_program.specs.Live.{given_by, Ran}
 
+-- the greatest place of orders
+abbrev pub reached : ℕ → List (ℕ × CallParts) → ℕ
+reached before [] = before
+reached before (o ∷ os) = reached (max before o.0) os
+
+reached-more : (before p : ℕ) (c : CallParts) (os : List (ℕ × CallParts)) → reached before (os ++ (p, c) ∷ []) ≡ max (reached before os) p
+reached-more before p c [] = refl
+reached-more before p c (o ∷ os) = reached-more (max before o.0) p c os
+
+calls-more : (steps before p : ℕ) (c : CallParts) (os : List (ℕ × CallParts))
+    → calls_made steps before (os ++ (p, c) ∷ []) ≡ calls_made steps before os ++ (min (max (reached before os) p) steps, c) ∷ []
+calls-more steps before p c [] = refl
+calls-more steps before p c (o ∷ os) =
+    ap (λ (l : List (ℕ × CallParts)). (min (max before o.0) steps, o.1) ∷ l) (calls-more steps (max before o.0) p c os)
+
+abbrev pub call_in_note : Noted → ℕ × CallParts
+call_in_note n = (n.0, n.1)
+
+calls-noted : (es : List EntryParts) → map call_at es ≡ map call_in_note (map noted es)
+calls-noted [] = refl
+calls-noted (e ∷ es) = ap (λ (l : List (ℕ × CallParts)). call_at e ∷ l) (calls-noted es)
+
 module _ {A : Type 0} where
+  -- a feed and a desk over a script
+  abbrev pub Feeds : GivesOf A (Scans A)
+  Feeds x r y = FeedsNext (steps_left x) r (steps_left y)
+
+  abbrev pub Asks : AsksOf A (Placed A)
+  Asks s standing r t = asks_plainly (λ (x : Placed A) (o : Option (ℕ × Order A)) (y : Placed A). OrdersNext (orders_left x) o (orders_left y)) s r t
+
+  abbrev pub Hears : HearsOf (Placed A)
+  Hears s at reply on t = hears_plainly s reply on t
+
   one-less : (old : List StepParts) (r : Result (Fed A) ℕ) (new : List StepParts) → FeedsNext old r new → old ≡ steps_given r ++ new
   one-less old (Ok (fed.Scan scan)) new h = h
   one-less old (Ok fed.Lost) new h = h
@@ -27,42 +64,103 @@ module _ {A : Type 0} where
   one-less old (Ok fed.Done) new h = h.0 ∙ sym h.1
   one-less old (Err code) new h = absurd h
 
-  less : (rs : List (Result (Fed A) ℕ)) (s t : Scans A) → Came (λ (x : Scans A) (r : Result (Fed A) ℕ) (y : Scans A). FeedsNext (steps_left x) r (steps_left y)) s rs t → steps_left s ≡ all_given rs ++ steps_left t
+  one-taken : (s t : Scans A) (x : TakenFor A) → GaveOne Feeds never s x t → steps_left s ≡ x.1 ++ steps_left t
+  one-taken s t x (on, inl (h, is)) = one-less (steps_left s) x.0 (steps_left t) h ∙ ap (λ (l : List StepParts). l ++ steps_left t) (sym is)
+  one-taken s t x (on, inr lost) = absurd lost.4
+
+  less : (xs : List (TakenFor A)) (s t : Scans A) → Came (GaveOne Feeds never) s xs t → steps_left s ≡ all_taken xs ++ steps_left t
   less [] s t h = ap steps_left h
-  less (r ∷ rs) s t h =
-      less rs s h.0 h.1
-      ∙ ap (λ (l : List StepParts). all_given rs ++ l) (one-less (steps_left h.0) r (steps_left t) h.2)
-      ∙ sym (append_assoc (all_given rs) (steps_given r) (steps_left t))
+  less (x ∷ xs) s t h =
+      less xs s h.0 h.1
+      ∙ ap (λ (l : List StepParts). all_taken xs ++ l) (one-taken h.0 t x h.2)
+      ∙ sym (append_assoc (all_taken xs) x.1 (steps_left t))
 
   -- a feed over a script that said that no scan comes any more has given all
-  pub gave-all : (s t : Scans A) (steps : List StepParts) → GaveAll (λ (x : Scans A) (r : Result (Fed A) ℕ) (y : Scans A). FeedsNext (steps_left x) r (steps_left y)) s steps t → steps ≡ steps_left s
-  gave-all s t steps h =
-      let m : Scans A = h.1.0 in
-      sym h.2 ∙ sym (append-nil (all_given h.0)) ∙ ap (λ (l : List StepParts). all_given h.0 ++ l) (sym h.1.2.0) ∙ sym (less h.0 s m h.1.1)
+  pub gave-all : (s t : Scans A) (steps : List StepParts) → GaveAll Feeds never s steps t → steps ≡ steps_left s
+  gave-all s t steps (given, m, came, done, same) =
+      sym same ∙ sym (append-nil (all_taken given)) ∙ ap (λ (l : List StepParts). all_taken given ++ l) (sym done.0) ∙ sym (less given s m came)
 
-  orders-less : (os : List (ℕ × Order A)) (s t : Placed A) → Came (λ (x : Placed A) (o : ℕ × Order A) (y : Placed A). OrdersNext (orders_left x) (Some o) (orders_left y)) s os t → orders_left s ≡ in_order os ++ orders_left t
-  orders-less [] s t h = ap orders_left h
-  orders-less (o ∷ os) s t h =
-      orders-less os s h.0 h.1
-      ∙ ap (λ (l : List (ℕ × CallParts)). in_order os ++ l) h.2
-      ∙ sym (append_assoc (in_order os) (placed o ∷ []) (orders_left t))
+  -- it never fails
+  pub never-failed : (s t : Scans A) (code : ℕ) → FeedFailed Feeds never s code t → ⊥
+  never-failed s t code (given, m, came, failed) = failed
 
-  -- the orders of a script that were handed out until none came are all
-  made-all : (s t m : Placed A) (os : List (ℕ × Order A)) → Came (λ (x : Placed A) (o : ℕ × Order A) (y : Placed A). OrdersNext (orders_left x) (Some o) (orders_left y)) s os m → OrdersNext {A = A} (orders_left m) None (orders_left t) → in_order os ≡ orders_left s
-  made-all s t m os came last =
-      sym (append-nil (in_order os)) ∙ ap (λ (l : List (ℕ × CallParts)). in_order os ++ l) (sym last.0) ∙ sym (orders-less os s m came)
+  -- so far these orders were handed out, and their calls noted
+  abbrev Ordered : ℕ → Placed A → Desked (Placed A) → Type 0
+  Ordered steps p s =
+      (os : List (ℕ × CallParts)) × (orders_left p ≡ os ++ orders_left s.desk) × (s.pumped ≡ min (reached 0 os) steps)
+      × (map call_in_note s.notes ≡ calls_made steps 0 os)
+
+  one-more : (steps place : ℕ) (o : Order A) (reply : Reply) (p m : Placed A) (s t : Desked (Placed A))
+      → Ordered steps p s → orders_left s.desk ≡ placed (place, o) ∷ orders_left m → t.desk ≡ m
+      → t.pumped ≡ min (max s.pumped place) steps → t.notes ≡ s.notes ++ (t.pumped, call_in o, reply) ∷ [] → Ordered steps p t
+  one-more steps place o reply p m s t (os, left, here, calls) out same there notes =
+      let all = reached-more 0 place (call_in o) os in
+      let at : t.pumped ≡ min (max (reached 0 os) place) steps = omega (arith, there, here) in (
+        os ++ placed (place, o) ∷ [],
+        left ∙ ap (λ (l : List (ℕ × CallParts)). os ++ l) out ∙ sym (append_assoc os (placed (place, o) ∷ []) (orders_left m))
+            ∙ ap (λ (z : Placed A). (os ++ placed (place, o) ∷ []) ++ orders_left z) (sym same),
+        omega (arith, at, all),
+        ap (map call_in_note) notes
+            ∙ map-append call_in_note s.notes ((t.pumped, call_in o, reply) ∷ [])
+            ∙ ap (λ (l : List (ℕ × CallParts)). l ++ (t.pumped, call_in o) ∷ []) calls
+            ∙ ap (λ (n : ℕ). calls_made steps 0 os ++ (n, call_in o) ∷ []) at
+            ∙ sym (calls-more steps 0 place (call_in o) os),
+      )
+
+  ordered : (steps : ℕ) (p : Placed A) (turns : List (Turn A)) (s : Desked (Placed A))
+      → Came (TookTurn Asks Hears steps) (new_desk p) turns s → Ordered steps p s
+  ordered steps p [] s h =
+      subst (λ (z : Desked (Placed A)). Ordered steps p z) h ([], refl, omega arith, refl)
+  ordered steps p (Waits standing free ∷ turns) s (m, before, turn) = absurd turn.1
+  ordered steps p (Makes standing place o (Some reply) ∷ turns) s (m, before, (d, same, asked, heard, there, notes)) =
+      one-more steps place o reply p d m s (ordered steps p turns m before) asked heard.1 there notes
+  ordered steps p (Makes standing place o None ∷ turns) s (m, before, (d, same, asked, heard, there, notes)) =
+      absurd (true≢false heard.0)
+
+  -- the calls of a desk over a script are those of all its orders
+  pub made-all : (p q : Placed A) (made : List EntryParts) (steps : ℕ) → MadeAll Asks Hears p made steps q
+      → map call_at made ≡ calls_made steps 0 (orders_left p)
+  made-all p q made steps h =
+      let far = ordered steps p h.turns h.last h.came in
+      let none = h.done.1.0 in
+      calls-noted made ∙ ap (map call_in_note) h.notes ∙ far.3
+      ∙ ap (calls_made steps 0) (sym (far.1 ∙ ap (λ (l : List (ℕ × CallParts)). far.0 ++ l) none ∙ append-nil far.0))
 
   -- a run over a script that was recorded is of all that the script gives
-  pub ran : {K : Type 0} (Puts : K → FilesParts → Result (Unit {0}) ℕ → K → Type 0) (kind : Kind) (o : Opening) (s : ScriptParts)
+  pub ran : {K : Type 0} (Puts : PutsOf K) (kind : Kind) (o : Opening) (s : ScriptParts)
       (f f' : Scans A) (p p' : Placed A) (k k' : K) (r : LiveReport A)
       → steps_left f ≡ scans_in s.commands → orders_left p ≡ orders_in 0 s.commands
-      → Recorded (λ (x : Scans A) (r : Result (Fed A) ℕ) (y : Scans A). FeedsNext (steps_left x) r (steps_left y)) (λ (x : Placed A) (r : Option (ℕ × Order A)) (y : Placed A). OrdersNext (orders_left x) r (orders_left y)) Puts o kind (f, p, k) (f', p', k') r
+      → Recorded Feeds never Asks Hears Puts (λ s _ what t. stops s what t) o kind (f, p, k) (f', p', k') r
       → Ran (given_by Puts kind k k' s) o r
   ran Puts kind o s f f' p p' k k' r scans orders h =
-      let all = h.ordered in
       record {
         reports = h.report;
         fed = gave-all f f' (taken_in h.report.source) h.fed ∙ scans;
-        ordered = all.4 ∙ ap (calls_made r.stepped 0) (made-all p p' all.1 all.0 all.2 all.3 ∙ orders);
+        none_left = h.none_left;
+        ordered = made-all p p' _ r.stepped h.ordered ∙ ap (calls_made r.stepped 0) orders;
         handed_on = h.handed_on;
+        none_waits = h.none_waits;
       }
+
+  -- why it failed
+  pub failed : {K : Type 0} (Puts : PutsOf K) (kind : Kind) (o : Opening) (s : ScriptParts) (refused : Option OpenFault)
+      (f f' : Scans A) (p p' : Placed A) (k k' : K) (why : LiveFault)
+      → HasCause Feeds never Puts (λ s _ what t. stops s what t) o kind refused (f, p, k) (f', p', k') why
+      → ((why ≡ fault.Memory) ⊎ GotFront Puts (λ s _ what t. stops s what t) o kind k k')
+      → (given_by Puts kind k k' s).Fails o why
+  failed Puts kind o s refused f f' p p' k k' (fault.Feed code) cause front = absurd (never-failed f f' code cause)
+  failed Puts kind o s refused f f' p p' k k' (fault.Sink code) cause front = (cause, front)
+  failed Puts kind o s refused f f' p p' k k' fault.Turns cause front = (tt, front)
+  failed Puts kind o s refused f f' p p' k k' fault.Counter cause front = (tt, front)
+  failed Puts kind o s refused f f' p p' k k' fault.Memory cause front = (tt, front)
+  failed {K} Puts kind o s refused f f' p p' k k' (fault.Open why) cause front =
+      (ap (λ (x : Scans A × Placed A × K). x.2) cause.0, front)
+  failed Puts kind o s refused f f' p p' k k' (fault.End why) cause front = (tt, front)
+
+  pub all_failed : {K R : Type 0} (Puts : PutsOf K) (kind : Kind) (o : Opening) (s : ScriptParts) (refused : Option OpenFault)
+      (f f' : Scans A) (p p' : Placed A) (k k' : K) (came : Result R LiveFault)
+      → IfErr came (HasCause Feeds never Puts (λ s _ what t. stops s what t) o kind refused (f, p, k) (f', p', k'))
+      → IfErr came (λ why. (why ≡ fault.Memory) ⊎ GotFront Puts (λ s _ what t. stops s what t) o kind k k')
+      → IfErr came ((given_by Puts kind k k' s).Fails o)
+  all_failed Puts kind o s refused f f' p p' k k' (Ok r) cause front = tt
+  all_failed Puts kind o s refused f f' p p' k k' (Err why) cause front = failed Puts kind o s refused f f' p p' k k' why cause front

@@ -1,6 +1,6 @@
 -- The recorder that a script makes, in a live run.
 use Rattle.std.proofs.Common.{◌≡◌, Bool, true, false, List, ℕ, Option, None, Result, Ok, Err, sym, subst}
-use Rattle.std.specs.Prelude.{IfOk}
+use Rattle.std.specs.Prelude.{IfOk, IfErr}
 use Rattle.std.specs.Io.KnownBytes.{Appends}
 use Rattle.dfr_recorder.specs.Kept.{Kept}
 use Rattle.dfr_script.specs.Parts.{ScriptParts}
@@ -25,14 +25,15 @@ pub if_ok_map : {U E : Type 0} (P Q : U → Type 0) (r : Result U E) → IfOk r 
 if_ok_map P Q (Ok u) p f = f u p
 if_ok_map P Q (Err e) p f = tt
 
--- the text of what a run came to, with the law of its report and all that it was given
+-- the text of what a run came to, with the law of its report and all that it was given, or the cause of its fault
 pub tells_over : (A : Type 0) (g : GivenParts) (o : Opening) (came : Result (LiveReport A) LiveFault) (done : Bool) (text : List ℕ)
     → IfOk came (λ r. (x : InnerParts) (source : SourceParts) (tokens : List TokenParts) → Ends x source tokens r.ended → IsOneThread x source tokens r.ended)
-    → IfOk came (λ r. Ran g o r) → TellsCame came done text → TellsOver A g o done text
-tells_over A g o (Ok r) done text law ran tells =
+    → IfOk came (λ r. Ran g o r) → IfErr came (g.Fails o) → TellsCame came done text → TellsOver A g o done text
+tells_over A g o (Ok r) done text law ran fails tells =
     let reports : Reports o r = ran.reports in
     subst (λ (v : Bool). TellsOver A g o v text) (sym tells.0) (record { report = r; ran = ran; one = law reports.inner reports.source reports.tokens reports.ends; same = tells.1 })
-tells_over A g o (Err f) done text law ran tells = subst (λ (v : Bool). TellsOver A g o v text) (sym tells.0) tells.1
+tells_over A g o (Err why) done text law ran fails tells =
+    subst (λ (v : Bool). TellsOver A g o v text) (sym tells.0) (record { why = why; cause = fails; told = tells.1 })
 
 pub prints_live : (A : Type 0) (g : GivenParts) (f : Option Fault) (s : ScriptParts) (done : Bool) (text bytes : List ℕ) (a b : Option (List ℕ)) → TellsLive A g f s done text → bytes ≡ text → Appends a b bytes → PrintsLive A g f s done a b
 prints_live A g f s done text bytes a b tells q h = record { text = text; tells = tells; written = subst (λ v. Appends a b v) q h }

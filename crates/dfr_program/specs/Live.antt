@@ -1,5 +1,5 @@
 -- What a live run writes: the line of a fault, or the report of the run.
-use Rattle.std.specs.Prelude.{◌≡◌, ℕ, List, map, filter, Option, Some, None, Result, Ok, Err, Bool, true, false}
+use Rattle.std.specs.Prelude.{◌≡◌, ◌⊎◌, ℕ, List, [], map, filter, ⊤, Option, Some, None, Result, Ok, Err, Bool, true, false}
 use Rattle.std.specs.Io.KnownBytes.{Appends}
 use Rattle.dfr_recorder.specs.History.{Opening}
 use Rattle.dfr_recorder.specs.Steps.{StepParts}
@@ -7,39 +7,59 @@ use Rattle.comtrade_format.specs.declared.file.Kind.{Kind}
 use Rattle.dfr_script.specs.Parts.{ScriptParts}
 use Rattle.dfr_live.specs.Parts.{CallParts, EntryParts}
 use Rattle.dfr_live.specs.Ends.{is_by}
-use Rattle.dfr_live.specs.Devices.{FilesParts, taken_in, call_at, calls_made, GotAll}
+use Rattle.dfr_live.specs.Devices.{PutsOf, taken_in, stops, GotAll, GotFront, SinkFailed}
 use Rattle.dfr_live.specs.Report.{Reports}
 use Rattle.dfr_live.specs.declared.report.LiveFault.{LiveFault}
+use Rattle.dfr_live.specs.declared.report.LiveFault.TheVariants as fault
 use Rattle.dfr_live.specs.declared.report.LiveReport.{LiveReport}
 use Rattle.dfr_program.specs.declared.prepared.Fault.{Fault}
 use Rattle.dfr_program.specs.FaultTexts.{fault_text}
-use Rattle.dfr_program.specs.Plans.{scans_in, orders_in}
+use Rattle.dfr_program.specs.Plans.{scans_in, orders_in, call_at, calls_made}
 use Rattle.dfr_program.specs.Replays.{IsOpenedBy}
 use Rattle.dfr_program.specs.Reports.{report_text, run_word, run_fault_text}
 use Rattle.dfr_program.specs.Recording.{IsOneThread}
 use Rattle.dfr_program.specs.Writing.{Cut}
 
--- what a run is given, and what is known of its sink where the calls of these entries took the records, over this opening
+-- what a run is given, and what is known of its sink, over this opening: where the calls of these entries took the records, and where
+-- the run ended with this fault
 pub record GivenParts : Type 1 where
   pub scans : List StepParts
   pub orders : List (ℕ × CallParts)
   pub Sinks : Opening → List EntryParts → Type 0
+  pub Fails : Opening → LiveFault → Type 0
 
--- what the script gives it; the sink got the files of the records that were taken
-abbrev pub given_by : {K : Type 0} → (K → FilesParts → Result (Unit {0}) ℕ → K → Type 0) → Kind → K → K → ScriptParts → GivenParts
+-- why a run over a script ended with this fault: a script's feed never fails; a sink refused the files of a record, after those of others;
+-- where the recorder wasn't opened, the sink is as it was
+abbrev pub WhyFailed : {K : Type 0} → PutsOf K → Kind → K → K → Opening → LiveFault → Type 0
+WhyFailed Puts kind old new o (fault.Feed code) = ⊥
+WhyFailed Puts kind old new o (fault.Sink code) = SinkFailed Puts (λ s _ what t. stops s what t) o kind old code new
+WhyFailed Puts kind old new o fault.Turns = ⊤
+WhyFailed Puts kind old new o fault.Counter = ⊤
+WhyFailed Puts kind old new o fault.Memory = ⊤
+WhyFailed Puts kind old new o (fault.Open why) = new ≡ old
+WhyFailed Puts kind old new o (fault.End why) = ⊤
+
+-- what the script gives it; the sink got the files of the records that were taken; where the run failed, those of some records, and then
+-- at most those of one that it refused
+abbrev pub given_by : {K : Type 0} → PutsOf K → Kind → K → K → ScriptParts → GivenParts
 given_by Puts kind old new s = record {
   scans = scans_in s.commands;
   orders = orders_in 0 s.commands;
-  Sinks = λ o made. GotAll Puts o kind old made new;
+  Sinks = λ o made. GotAll Puts (λ s _ what t. stops s what t) o kind old made new;
+  Fails = λ o why.
+      WhyFailed Puts kind old new o why
+      × ((why ≡ fault.Memory) ⊎ GotFront Puts (λ s _ what t. stops s what t) o kind old new);
 }
 
--- a report on a run in threads over this opening, of all that it was given: the source took in the steps of its scans; the
--- calls of seat 0 are its orders, each at its place; and what is known of the sink holds with the calls of seat 1
+-- a report on a run in threads over this opening, of all that it was given: the source took in the steps of its scans, and none is left;
+-- the calls of seat 0 are its orders, each at its place; what is known of the sink holds with the calls of seat 1; no finished record waits
 pub record Ran {A : Type 0} (g : GivenParts) (o : Opening) (report : LiveReport A) : Type 0 where
   pub reports : Reports o report
   pub fed : taken_in reports.source ≡ g.scans
+  pub none_left : report.ended.left.items ≡ []
   pub ordered : map call_at (filter (is_by 0) report.ended.log.items) ≡ calls_made report.stepped 0 g.orders
   pub handed_on : g.Sinks o (filter (is_by 1) report.ended.log.items)
+  pub none_waits : report.ended.recorder.shelf ≡ []
 
 -- its text; its locked value, source and tokens are a recording as of one thread
 pub record TellsReport (A : Type 0) (g : GivenParts) (o : Opening) (text : List ℕ) : Type 0 where
@@ -48,22 +68,27 @@ pub record TellsReport (A : Type 0) (g : GivenParts) (o : Opening) (text : List 
   pub one : IsOneThread ran.reports.inner ran.reports.source ran.reports.tokens report.ended
   pub same : text ≡ report_text report
 
--- the line of a fault of the run
-pub record TellsFault (text : List ℕ) : Type 0 where
-  pub fault : LiveFault
+-- the line of this fault of a run
+pub record TellsFault (why : LiveFault) (text : List ℕ) : Type 0 where
   pub word : List ℕ
-  pub named : run_word fault ≡ Some word
+  pub named : run_word why ≡ Some word
   pub same : text ≡ run_fault_text word
+
+-- the line of the fault with which a run ended, and its cause
+pub record TellsFailed (g : GivenParts) (o : Opening) (text : List ℕ) : Type 0 where
+  pub why : LiveFault
+  pub cause : g.Fails o why
+  pub told : TellsFault why text
 
 -- the text of what a run came to: its report, or the line of its fault
 abbrev pub TellsCame : {A : Type 0} → Result (LiveReport A) LiveFault → Bool → List ℕ → Type 0
 TellsCame (Ok report) done text = (done ≡ true) × (text ≡ report_text report)
-TellsCame (Err fault) done text = (done ≡ false) × TellsFault text
+TellsCame (Err why) done text = (done ≡ false) × TellsFault why text
 
 -- the text of a run over this opening, and whether it was done
 abbrev pub TellsOver : Type 0 → GivenParts → Opening → Bool → List ℕ → Type 0
 TellsOver A g o true text = TellsReport A g o text
-TellsOver A g o false text = TellsFault text
+TellsOver A g o false text = TellsFailed g o text
 
 -- over the opening that the script says
 pub record TellsRun (A : Type 0) (g : GivenParts) (s : ScriptParts) (done : Bool) (text : List ℕ) : Type 0 where

@@ -1,6 +1,6 @@
 -- What a live run is given of a script: the scans that are fed, lost ones among them, and the orders
 -- with their places.
-use Rattle.std.specs.Prelude.{◌≡◌, ℕ, ◌+◌, List, [], ◌∷◌, ◌++◌, length, map, Option, Some, None, Result, Ok, Err, option_map}
+use Rattle.std.specs.Prelude.{◌≡◌, ℕ, ◌+◌, List, [], ◌∷◌, ◌++◌, length, map, min, max, Option, Some, None, Result, Ok, Err, option_map}
 use Rattle.std.specs.List.{flat_map}
 use Rattle.std.specs.Vec.Iter.{into_iter_items}
 use Rattle.dfr_channels.specs.Faults.{◌or◌}
@@ -10,7 +10,7 @@ use Rattle.dfr_recorder.specs.Steps.{StepParts}
 use Rattle.dfr_recorder.specs.Steps as step
 use Rattle.dfr_script.specs.Parts.{CommandParts, ScriptParts}
 use Rattle.dfr_script.specs.Parts as command
-use Rattle.dfr_live.specs.Parts.{CallParts}
+use Rattle.dfr_live.specs.Parts.{CallParts, EntryParts}
 use Rattle.dfr_live.specs.Parts as call
 use Rattle.dfr_live.specs.declared.station.Fed.{Fed}
 use Rattle.dfr_live.specs.declared.station.Fed.TheVariants as fed
@@ -83,6 +83,15 @@ pub record IsPlanned (layout : SetupParts) (cs : List CommandParts) (scans : Lis
   pub fit : refused_in layout cs ≡ None
   pub fed : scans ≡ scans_in cs
   pub ordered : orders ≡ orders_in 0 cs
+
+-- the calls of orders with their places, each with the number of scan steps made before it, in a run of so many: the
+-- greatest place of it and of those before it, but at most all steps of the run
+abbrev pub calls_made : ℕ → ℕ → List (ℕ × CallParts) → List (ℕ × CallParts)
+calls_made steps before [] = []
+calls_made steps before (o ∷ os) = (min (max before o.0) steps, o.1) ∷ calls_made steps (max before o.0) os
+
+abbrev pub call_at : EntryParts → ℕ × CallParts
+call_at e = (e.at, e.call)
 
 -- the scan steps that a feed hasn't given yet
 abbrev pub steps_left : {A : Type 0} → Scans A → List StepParts

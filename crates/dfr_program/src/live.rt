@@ -67,8 +67,8 @@ fn told_report<A: Allocator>(alloc: A, report: &LiveReport<A>) -> Result<Told<A>
 
 /// The line of a run's error.
 fn told_run_fault<A: Allocator>(alloc: A, fault: LiveFault) -> Result<Told<A>, RunFault>
-    ensures text { IfOk result (λ told. (told.done ≡ false) × TellsFault told.text.items) }
-    ensures fault { IfErr result (λ fault. fault ≡ RunFault.Memory) }
+    ensures text { IfOk result (λ told. (told.done ≡ false) × TellsFault fault told.text.items) }
+    ensures fault { IfErr result (λ why. why ≡ RunFault.Memory) }
 {
     let Some(word) = run_word(fault) else {
         return Err(RunFault::Memory);
@@ -161,9 +161,12 @@ fn run_script<A: Allocator + Copy + Send + Sync, K: Sink + Send, R: Threads + Wa
 /// the scan steps made are one list of steps, with the answers of a recorder in one thread. Every
 /// record of that recorder reads back from its two files (`as_one_thread`).
 ///
+/// Then no scan is left in the queue, and no finished record waits.
+///
 /// Returns false where it printed the line of an error, of the script or of the run. Where the
-/// script has an error, nothing runs and the sink is unchanged. The contract does not state which
-/// error of a run is printed, or what the sink has then.
+/// script has an error, nothing runs and the sink is unchanged. `fault feed` is never printed, and
+/// `fault sink` only where the sink refused the files of a record. After an error of the run the
+/// sink got the files of some records, and then at most those of one that it refused.
 ///
 /// - `Memory`: an allocation failed, or a thread could not be started. Nothing was written to `w`.
 /// - `Output`: a write failed. Only part of the text was written.

@@ -4,4 +4,4 @@ use Rattle.dfr_live.proofs.acquire.acquire.Given as goal
 abbrev pub invariant-loop : goal.invariant-loop
 invariant-loop g l =
     (goal.iterator-loop g).can_next l.iterator' × (goal.iterator-loop g).is_finite l.iterator'
-    × GaveSoFar g.F.Feed.gives l.initial.feed l.feed l.source
+    × GaveSoFar g.F.Intake.gives g.F.Intake.loses l.initial.feed l.feed l.source l.given

@@ -1,11 +1,11 @@
-use Rattle.dfr_live.proofs.Placing.{front_of_all}
+use Rattle.std.proofs.Common.{refl}
+use Rattle.dfr_live.proofs.Placing.{got_first, no_takes, front_of_all, front_fails, export_fails}
 use Rattle.dfr_live.proofs.export.export.Goals as goal
 
-pub returns-then-triggered-2-clause-front : goal.returns-then-triggered-2-clause-front
-returns-then-triggered-2-clause-front g c = front_of_all g.K.Sink.puts c.args.shared.now c.args.kind c.args.sink.now c.hand_on_where.new.sink c.hand_on_where.new.token.made (c.in_ok-hand_on_where.ensures.on.2 c.args.sink.now c.loop.invariant.4)
+pub loop-init : goal.loop-init
+loop-init g c =
+    (tt, tt, refl, refl, got_first g.K.Outlet.puts g.K.Outlet.lacks c.args.shared.now c.args.kind c.args.outlet.now c.args.token.now c.requires.new, no_takes c.args.token.now.made c.requires.new)
 
-pub returns-in_err-turn-clause-front : goal.returns-in_err-turn-clause-front
-returns-in_err-turn-clause-front g c = front_of_all g.K.Sink.puts c.args.shared.now c.args.kind c.args.sink.now c.hand_on_where.new.sink c.hand_on_where.new.token.made (c.in_ok-hand_on_where.ensures.on.2 c.args.sink.now c.loop.invariant.4)
-
-pub returns-then-not-branch-clause-front : goal.returns-then-not-branch-clause-front
-returns-then-not-branch-clause-front g c = front_of_all g.K.Sink.puts c.args.shared.now c.args.kind c.args.sink.now c.hand_on_where.new.sink c.hand_on_where.new.token.made (c.in_ok-hand_on_where.ensures.on.2 c.args.sink.now c.loop.invariant.4)
+pub returns-in-Stopped-clause-front : goal.returns-in-Stopped-clause-front
+returns-in-Stopped-clause-front g c =
+    front_of_all g.K.Outlet.puts g.K.Outlet.lacks c.args.shared.now c.args.kind c.args.outlet.now c.hand_on.new.outlet c.hand_on.new.token.made (c.in_ok-hand_on.ensures.on.2 c.args.outlet.now c.loop.invariant.4)

@@ -1,7 +1,7 @@
 use Rattle.std.proofs.Common.{◌∙◌}
 use Rattle.dfr_live.specs.Seen.{opening_of}
 use Rattle.dfr_program.specs.Live.{given_by}
-use Rattle.dfr_program.proofs.Fed.{ran}
+use Rattle.dfr_program.proofs.Fed.{ran, all_failed}
 use Rattle.dfr_program.proofs.Living.{if_ok_map, tells_over}
 use Rattle.dfr_program.proofs.live.run_plan.Goals as goal
 
@@ -15,4 +15,6 @@ returns-clause-text g c =
     (if_ok_map _ _ came.result came.ensures.recorded (λ r recorded.
     ran g.K.Sink.puts c.args.kind o s c.of-feed.result came.new.feed c.of-orders.result came.new.orders
     c.args.sink.now came.new.sink r (c.of-feed.ensures ∙ scans) (c.of-orders.ensures ∙ orders) recorded))
+    (all_failed g.K.Sink.puts c.args.kind o s _ c.of-feed.result came.new.feed c.of-orders.result came.new.orders
+    c.args.sink.now came.new.sink came.result came.ensures.cause came.ensures.front)
     tells)

@@ -1,0 +1,366 @@
+//! One recording in three threads, over any devices.
+
+ghost use Rattle.std.specs.Prelude.{◌≡◌, ◌≢◌, ◌⊎◌, [], true, length, All, Ok, Err, IfOk, IfErr, IfSome};
+ghost use Rattle.dfr_live.specs.Calls.{open_fault};
+ghost use Rattle.dfr_live.specs.Seen.{opening_of};
+ghost use Rattle.dfr_live.specs.Ends.{Ends};
+ghost use Rattle.dfr_live.specs.Devices.{taken_in, GaveAll, MadeAll, GotAll, GotFront, IsTake};
+ghost use Rattle.dfr_live.specs.Causes.{HasCause, RunFails, IsEnd};
+ghost use Rattle.dfr_live.specs.Report.{Reports, Recorded};
+ghost use Rattle.dfr_live.specs.Weave.{steps_of};
+
+use crate::devices::{Desk, Intake, Outlet, Pace};
+use crate::ended::{EndFault, Ended, end};
+use crate::export::hand_rest;
+use crate::inner::Inner;
+use crate::opened::{Opened, open};
+use crate::report::{LiveFault, LiveReport, first_fault, records_in};
+use crate::session::Session;
+use crate::shared::Shared;
+use crate::signals::Signals;
+use crate::source::Source;
+use crate::threads::in_three_threads;
+use crate::token::Token;
+use crate::works::{Acquisition, Exporting, Finished, Known, Triggering};
+use comtrade_write::Kind;
+use dfr_recorder::Recorder;
+use std::alloc::Allocator;
+use std::marker::{Brand, PhantomData};
+use std::sync::Wait;
+use std::thread::Threads;
+
+/// Records in three threads until the intake and the desk end, as `run_live` does, over devices that
+/// may lose scans, give orders meanwhile and wait for memory. `pace` says what idle threads do.
+///
+/// What the contract states is as for `run_live`, but:
+///
+/// - For a scan that the intake heard is lost, a lost step was taken in.
+/// - An order is made at its place, or at once where more scan steps were made already. Before it is
+///   known, at most as many are made as the desk allows.
+/// - The outlet may give up a record for whose files there is no memory.
+pub fn record_with<
+    A: Allocator + Copy + Send + Sync,
+    W: Send + Drop,
+    F: Intake<A, W> + Send,
+    O: Desk<A, W> + Send,
+    K: Outlet<W> + Send,
+    P: Pace + Sync,
+    R: Threads + Wait + Sync,
+>(
+    rt: &R,
+    alloc: A,
+    recorder: Recorder<A>,
+    lane: usize,
+    kind: Kind,
+    pace: &P,
+    feed: &mut F,
+    desk: &mut O,
+    outlet: &mut K,
+) -> Result<LiveReport<A>, LiveFault>
+    ensures recorded { IfOk result (λ report. Recorded F.gives F.loses O.asks O.hears K.puts K.lacks
+        (opening_of recorder) kind (feed.old, desk.old, outlet.old)
+        (feed.new, desk.new, outlet.new) report) }
+    ensures open { IfSome (open_fault recorder.scans lane 2)
+        (λ fault. result ≡ Err (LiveFault.Open fault)) }
+    ensures cause { IfErr result (HasCause F.gives F.loses K.puts K.lacks
+        (opening_of recorder) kind (open_fault recorder.scans lane 2)
+        (feed.old, desk.old, outlet.old) (feed.new, desk.new, outlet.new)) }
+    ensures front { IfErr result (λ fault. (fault ≡ LiveFault.Memory)
+        ⊎ GotFront K.puts K.lacks (opening_of recorder) kind outlet.old outlet.new) }
+{
+    match open(alloc, recorder, lane, 2) {
+        Ok(opened) => record_named::<Brand, A, W, F, O, K, P, R>(
+            rt, alloc, opened, kind, pace, feed, desk, outlet,
+        ),
+        Err((fault, _)) => Err(LiveFault::Open(fault)),
+    }
+}
+
+/// As `record_with`, for an opened recorder under a name.
+fn record_named<
+    N: Session<A> + Send + Sync,
+    A: Allocator + Copy + Send + Sync,
+    W: Send + Drop,
+    F: Intake<A, W> + Send,
+    O: Desk<A, W> + Send,
+    K: Outlet<W> + Send,
+    P: Pace + Sync,
+    R: Threads + Wait + Sync,
+>(
+    rt: &R,
+    alloc: A,
+    opened: Opened<A>,
+    kind: Kind,
+    pace: &P,
+    feed: &mut F,
+    desk: &mut O,
+    outlet: &mut K,
+) -> Result<LiveReport<A>, LiveFault>
+    requires named { (opened.opening ≡ N.opening) × (opened.lane ≡ N.lane)
+        × (opened.seats ≡ N.seats) }
+    requires seats { opened.seats ≡ 2 }
+    ensures recorded { IfOk result (λ report. Recorded F.gives F.loses O.asks O.hears K.puts K.lacks
+        N.opening kind (feed.old, desk.old, outlet.old) (feed.new, desk.new, outlet.new) report) }
+    ensures cause { IfErr result (RunFails F.gives F.loses K.puts K.lacks N.opening kind
+        feed.old outlet.old feed.new outlet.new) }
+    ensures front { IfErr result (λ fault. (fault ≡ LiveFault.Memory)
+        ⊎ GotFront K.puts K.lacks N.opening kind outlet.old outlet.new) }
+{
+    let (shared, mut source, mut tokens) = opened.share::<N>();
+    let Some(mut second) = tokens.pop() else {
+        unreachable!()
+    };
+    let Some(mut first) = tokens.pop() else {
+        unreachable!()
+    };
+    let signals = Signals::new();
+    run_threads(
+        rt,
+        alloc,
+        kind,
+        &signals,
+        pace,
+        &shared,
+        feed,
+        desk,
+        outlet,
+        &mut source,
+        &mut first,
+        &mut second,
+    )?;
+    let mut inner = shared.unlock();
+    hand_rest(
+        rt,
+        alloc,
+        kind,
+        &signals,
+        pace,
+        &mut inner,
+        outlet,
+        &mut second,
+    )?;
+    tokens.push_reserved(first);
+    tokens.push_reserved(second);
+    report(rt, alloc, pace, inner, source, tokens)
+}
+
+/// Runs the three threads. Ok where each did all of its work. The export thread starts first. Where
+/// it cannot start, no other thread starts, and the error is `Memory`; otherwise the outlet comes
+/// back, whatever the error.
+fn run_threads<
+    's,
+    N: Session<A> + Send + Sync,
+    A: Allocator + Copy + Send + Sync,
+    W: Send + Drop,
+    F: Intake<A, W> + Send,
+    O: Desk<A, W> + Send,
+    K: Outlet<W> + Send,
+    P: Pace + Sync,
+    R: Threads + Wait + Sync,
+>(
+    rt: &'s R,
+    alloc: A,
+    kind: Kind,
+    signals: &'s Signals,
+    pace: &'s P,
+    shared: &'s Shared<N, A>,
+    feed: &mut F,
+    desk: &mut O,
+    outlet: &mut K,
+    source: &mut Source<N, A>,
+    first: &mut Token<A>,
+    second: &mut Token<A>,
+) -> Result<(), LiveFault>
+    requires source { taken_in source.old ≡ [] }
+    requires first { (first.old.made ≡ []) × (first.old.pumped ≡ 0) }
+    requires second { second.old.made ≡ [] }
+    ensures fed { IfOk result (λ _.
+        GaveAll F.gives F.loses feed.old (taken_in source.new) feed.new) }
+    ensures all { IfOk result (λ _. length (steps_of source.new.offered) ≡ first.new.pumped) }
+    ensures seat { IfOk result (λ _. first.new.seat ≡ first.old.seat) }
+    ensures ordered { IfOk result (λ _.
+        MadeAll O.asks O.hears desk.old first.new.made first.new.pumped desk.new) }
+    ensures handed_on { IfOk result (λ _. (second.new.seat ≡ second.old.seat)
+        × (second.new.pumped ≡ second.old.pumped)
+        × GotAll K.puts K.lacks shared.now kind outlet.old second.new.made outlet.new
+        × All IsTake second.new.made) }
+    ensures cause { IfErr result (RunFails F.gives F.loses K.puts K.lacks shared.now kind
+        feed.old outlet.old feed.new outlet.new) }
+    ensures front { IfErr result (λ fault. (fault ≡ LiveFault.Memory)
+        ⊎ GotFront K.puts K.lacks shared.now kind outlet.old outlet.new) }
+{
+    let (exported, acquired, triggered) = in_three_threads(
+        rt,
+        signals,
+        Exporting {
+            rt,
+            alloc,
+            kind,
+            signals,
+            pace,
+            shared,
+            outlet,
+            token: second,
+            family: PhantomData,
+        },
+        Acquisition {
+            rt,
+            signals,
+            pace,
+            feed,
+            source,
+            family: PhantomData,
+        },
+        Triggering {
+            rt,
+            signals,
+            pace,
+            shared,
+            desk,
+            token: first,
+            family: PhantomData,
+        },
+    );
+    let Some(exported) = exported else {
+        return Err(LiveFault::Memory);
+    };
+    let Finished {
+        device: filled,
+        seat: emptied,
+        outcome: exported,
+    } = exported;
+    take_back(filled);
+    take_back(emptied);
+    let Some(acquired) = acquired else {
+        return not_started(Ok(()), fault_in(&exported));
+    };
+    let Finished {
+        device: fed,
+        seat: taken,
+        outcome: acquired,
+    } = acquired;
+    take_back(fed);
+    take_back(taken);
+    let Some(triggered) = triggered else {
+        return not_started(fault_in(&acquired), fault_in(&exported));
+    };
+    let Finished {
+        device: ordered,
+        seat: called,
+        outcome: triggered,
+    } = triggered;
+    take_back(ordered);
+    take_back(called);
+    first_of(&acquired, &triggered, &exported)?;
+    match (acquired, triggered, exported) {
+        (Ok(Some(given)), Ok(Some(made)), Ok(true)) => {
+            given.agrees(&made);
+            Ok(())
+        }
+        // A thread stops only for another's error.
+        _ => Err(LiveFault::Turns),
+    }
+}
+
+/// Does nothing. That it is used last here ties a reference that came back to the one that
+/// was lent.
+fn take_back<T>(x: &mut T)
+    ensures { x.new ≡ x.old }
+{}
+
+/// The error of a thread, if it has one.
+fn fault_in<O>(outcome: &Result<O, LiveFault>) -> Result<(), LiveFault>
+    ensures { IfErr result (λ fault. outcome.now ≡ Err fault) }
+{
+    match outcome {
+        Ok(_) => Ok(()),
+        Err(fault) => Err(*fault),
+    }
+}
+
+/// The error of a run of which a thread could not be started: that of another thread, if it comes
+/// first in `LiveFault`, else `Memory`.
+fn not_started(
+    acquisition: Result<(), LiveFault>,
+    exports: Result<(), LiveFault>,
+) -> Result<(), LiveFault>
+    ensures fails { result ≢ Ok tt }
+    ensures fault { IfErr result (λ fault. (fault ≡ LiveFault.Memory)
+        ⊎ ((acquisition ≡ Err fault) ⊎ (exports ≡ Err fault))) }
+{
+    first_fault(false, acquisition, Ok(()), exports)
+}
+
+/// The error of a run whose threads were all started: that of a thread, the one that comes first in
+/// `LiveFault`. Ok where no thread has one.
+fn first_of<'s>(
+    acquired: &Result<Known<'s>, LiveFault>,
+    triggered: &Result<Known<'s>, LiveFault>,
+    exported: &Result<bool, LiveFault>,
+) -> Result<(), LiveFault>
+    ensures { IfErr result (λ fault. (acquired.now ≡ Err fault)
+        ⊎ ((triggered.now ≡ Err fault) ⊎ (exported.now ≡ Err fault))) }
+{
+    first_fault(
+        true,
+        fault_in(acquired),
+        fault_in(triggered),
+        fault_in(exported),
+    )
+}
+
+/// Ends the recording, and counts what was done.
+fn report<N: Session<A>, A: Allocator + Copy>(
+    rt: &impl Wait,
+    alloc: A,
+    pace: &impl Pace,
+    inner: Inner<N, A>,
+    source: Source<N, A>,
+    tokens: Vec<Token<A>, A>,
+) -> Result<LiveReport<A>, LiveFault>
+    requires seats { N.seats ≡ 2 }
+    ensures ended { IfOk result (λ report. (reports : Reports N.opening report)
+        × (reports.inner ≡ inner) × (reports.source ≡ source) × (reports.tokens ≡ tokens.items)) }
+    ensures fault { IfErr result (λ fault. IsEnd fault) }
+{
+    let _ = inner.opening();
+    let stepped = inner.steps();
+    let ended = end_patiently(rt, alloc, pace, inner, source, tokens)?;
+    let records = records_in(ended.log.as_slice());
+    let refused = stepped - ended.recorder.scans();
+    Ok(LiveReport {
+        stepped,
+        refused,
+        records,
+        ended,
+    })
+}
+
+/// Ends the recording. If an allocation fails, it is tried again as the pace has it.
+fn end_patiently<N: Session<A>, A: Allocator + Copy>(
+    rt: &impl Wait,
+    alloc: A,
+    pace: &impl Pace,
+    inner: Inner<N, A>,
+    source: Source<N, A>,
+    tokens: Vec<Token<A>, A>,
+) -> Result<Ended<A>, LiveFault>
+    ensures ended { IfOk result (λ e. Ends inner source tokens.items e) }
+    ensures fault { IfErr result (λ fault. IsEnd fault) }
+{
+    let mut parts = (inner, source, tokens);
+    for _ in rt.forever() {
+        let (inner, source, tokens) = parts;
+        match end(alloc, inner, source, tokens) {
+            Ok(ended) => return Ok(ended),
+            Err((EndFault::Memory, inner, source, tokens)) => {
+                parts = (inner, source, tokens);
+                if pace.short().is_err() {
+                    return Err(LiveFault::End(EndFault::Memory));
+                }
+            }
+            Err((fault, _, _, _)) => return Err(LiveFault::End(fault)),
+        }
+    }
+    unreachable!()
+}
