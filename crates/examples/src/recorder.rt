@@ -101,10 +101,15 @@ fn recorder(alloc: Global, layout: Layout) -> Result<Recorder> {
         .context("out of memory")
 }
 
+/// The recorder of one line, with the channels above.
+pub fn line_recorder(alloc: Global) -> Result<Recorder> {
+    recorder(alloc, layout(read_cfg(alloc, CHANNELS)?)?)
+}
+
 /// Runs the recorder until no more scans come, and prints the files that it kept.
 pub fn record<R: Threads + Wait + Print + AllocGlobal + Sync>(rt: &R) -> Result<()> {
     let alloc = rt.alloc();
-    let recorder = recorder(alloc, layout(read_cfg(alloc, CHANNELS)?)?)?;
+    let recorder = line_recorder(alloc)?;
     let mut feed = Line {
         alloc,
         scans: 0..100,

@@ -1,0 +1,82 @@
+-- A recording of a list of scans in three threads, and the list of files that it leaves.
+use Rattle.std.specs.Prelude.{◌≡◌, ℕ, List, [], ◌∷◌, ◌++◌, map, filter, ⊤, Option, Some, None, Result, Ok, Err, All}
+use Rattle.std.specs.Vec.Iter.{into_iter_items}
+use Rattle.dfr_channels.specs.Parts.{ScanParts}
+use Rattle.dfr_recorder.specs.Parts.{RecordParts}
+use Rattle.dfr_recorder.specs.Steps.{StepParts}
+use Rattle.dfr_recorder.specs.Steps as step
+use Rattle.dfr_recorder.specs.History.{Opening}
+use Rattle.comtrade_format.specs.declared.file.Kind.{Kind}
+use Rattle.dfr_live.specs.Ends.{is_by}
+use Rattle.dfr_live.specs.OneList.{OneList}
+use Rattle.dfr_live.specs.Devices.{FilesParts, files_of, taken_in, extents_taken, IsTaken, IsTake}
+use Rattle.dfr_live.specs.Report.{Reports}
+use Rattle.dfr_live.specs.declared.station.Fed.{Fed}
+use Rattle.dfr_live.specs.declared.station.Fed.TheVariants as fed
+use Rattle.dfr_live.specs.declared.station.Order.{Order}
+use Rattle.dfr_live.specs.declared.report.LiveFault.{LiveFault}
+use Rattle.dfr_live.specs.declared.report.LiveFault.TheVariants as fault
+use Rattle.dfr_live.specs.declared.report.LiveReport.{LiveReport}
+use Rattle.examples.specs.declared.listed.ListFeed.{ListFeed}
+use Rattle.examples.specs.declared.listed.ListSink.{ListSink}
+use Rattle.examples.specs.declared.listed.Pair.{Pair}
+
+-- the step of what stands in the list: a scan's, or a lost one's
+abbrev pub step_of : Option ScanParts → StepParts
+step_of (Some scan) = step.Scan scan
+step_of None = step.Lost
+
+-- the steps that a feed hasn't given yet
+abbrev pub steps_left : {A : Type 0} → ListFeed A → List StepParts
+steps_left s = map step_of (into_iter_items s.rest)
+
+-- the first step that is left is given, and the others are left then; where none is left, the end
+abbrev pub FeedsNext : {A : Type 0} → List StepParts → Result (Fed A) ℕ → List StepParts → Type 0
+FeedsNext old (Ok (fed.Scan scan)) new = old ≡ step.Scan scan ∷ new
+FeedsNext old (Ok fed.Lost) new = old ≡ step.Lost ∷ new
+FeedsNext old (Ok fed.NotYet) new = ⊥
+FeedsNext old (Ok fed.Done) new = (old ≡ []) × (new ≡ [])
+FeedsNext old (Err code) new = ⊥
+
+-- no order is ever handed out
+abbrev pub HandsNone : {A : Type 0} → Option (ℕ × Order A) → Type 0
+HandsNone (Some order) = ⊥
+HandsNone None = ⊤
+
+abbrev pub files_in : {A : Type 0} → Pair A → FilesParts
+files_in p = record { extent = p.extent; cfg = p.cfg.items; dat = p.dat.items }
+
+-- the files that a sink has kept, in order
+abbrev pub kept : {A : Type 0} → ListSink A → List FilesParts
+kept s = map files_in s.pairs.items
+
+-- the files are kept after the others; or there is no memory for them, and the list is as it was
+abbrev pub Keeps : List FilesParts → FilesParts → Result (Unit {0}) ℕ → List FilesParts → Type 0
+Keeps old files (Ok done) new = new ≡ old ++ files ∷ []
+Keeps old files (Err code) new = (code ≡ 1) × (new ≡ old)
+
+-- A run in threads over this opening took in exactly these steps, and none is left. Seat 0 made no call, and seat 1 only took. These files
+-- are those of the records that it took, each once and in order; each is a record that the one-thread recorder answers to a take
+pub record IsRecorded (A : Type 0) (o : Opening) (kind : Kind) (steps : List StepParts) (files : List FilesParts) : Type 0 where
+  pub report : LiveReport A
+  pub reports : Reports o report
+  pub one : OneList reports.inner reports.source reports.tokens report.ended
+  pub fed : taken_in reports.source ≡ steps
+  pub none_left : report.ended.left.items ≡ []
+  pub no_orders : filter (is_by 0) report.ended.log.items ≡ []
+  pub takes : All IsTake (filter (is_by 1) report.ended.log.items)
+  pub records : List RecordParts
+  pub taken : All (IsTaken o) records
+  pub each : map (λ (r : RecordParts). r.extent) records ≡ extents_taken (filter (is_by 1) report.ended.log.items)
+  pub same : files ≡ map (files_of o.layout kind) records
+  pub none_waits : report.ended.recorder.shelf ≡ []
+
+-- a feed over a list never fails, and the sink fails only for want of memory
+abbrev pub CanFail : LiveFault → Type 0
+CanFail (fault.Feed code) = ⊥
+CanFail (fault.Sink code) = code ≡ 1
+CanFail fault.Turns = ⊤
+CanFail fault.Counter = ⊤
+CanFail fault.Memory = ⊤
+CanFail (fault.Open why) = ⊤
+CanFail (fault.End why) = ⊤
