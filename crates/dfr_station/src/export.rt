@@ -24,11 +24,19 @@ use std::time::{Clock, Duration};
 const NAP: u64 = 10;
 
 /// How long it waits before it tries a record again, in milliseconds.
-pub(crate) const RETRY: u64 = 1_000;
+const RETRY: u64 = 1_000;
 
 /// The most times pairs are tried after the input has ended, for all records together. Each record
-/// that is left then is tried once. A second lies between two tries, so this takes ten seconds.
+/// that is left then is tried once. A second lies between two tries, so this takes ten seconds. An
+/// allocation that fails at the very end is tried as often.
 pub(crate) const LAST_TRIES: u32 = 10;
+
+/// Before a try that is not the first, sleeps for a second.
+pub(crate) fn pause_before(rt: &(impl Wait + Clock), tries: u32) {
+    if tries > 0 {
+        thread::sleep(rt, Duration::from_millis(RETRY));
+    }
+}
 
 /// What the export thread works on.
 #[derive(Drop)]

@@ -4,25 +4,38 @@ ghost use Rattle.std.specs.Prelude.{◌≡◌, IsTrue, is_some, not};
 ghost use Rattle.dfr_recorder.specs.Own.{is_own};
 
 use crate::event::Event;
-use crate::export::{LAST_TRIES, RETRY, hand_over};
+use crate::export::{LAST_TRIES, hand_over, pause_before};
 use crate::intake::{Counts, Recorded};
 use crate::run::{ended_event, print_one};
 use crate::station::{Printer, Store, Stored};
 use comtrade_write::Kind;
 use dfr_channels::Layout;
-use dfr_recorder::{Record, Recorder};
+use dfr_recorder::{LostRefusal, Record, Recorder};
 use std::alloc::Allocator;
 use std::sync::Wait;
-use std::thread;
-use std::time::{Clock, Duration};
+use std::time::Clock;
 
-/// Makes lost scans until no record is open. Returns false if one is still open: an allocation
+/// Makes a lost scan. If an allocation fails, tries again each second, a few times. Returns whether
+/// it was made.
+fn is_lost<A: Allocator + Copy, R: Wait + Clock>(rt: &R, recorder: &mut Recorder<A>) -> bool {
+    for tries in 0..LAST_TRIES {
+        pause_before(rt, tries);
+        match recorder.lost() {
+            Ok(_) => return true,
+            Err(LostRefusal::ClockEnd) => return false,
+            Err(LostRefusal::Memory) => {}
+        }
+    }
+    false
+}
+
+/// Makes lost scans until no record is open. Returns false if one is still open: allocations
 /// failed, or the scans would be after the year 9999.
-fn is_closed<A: Allocator + Copy>(recorder: &mut Recorder<A>) -> bool
+fn is_closed<A: Allocator + Copy, R: Wait + Clock>(rt: &R, recorder: &mut Recorder<A>) -> bool
     ensures { result ≡ not (is_some recorder.new.recording) }
 {
     for _ in 0..recorder.limits().longest() {
-        if !recorder.is_recording() || recorder.lost().is_err() {
+        if !recorder.is_recording() || !is_lost(rt, recorder) {
             break;
         }
     }
@@ -45,9 +58,7 @@ fn stored<A: Allocator + Copy, K: Store, P: Printer, R: Wait + Clock>(
 {
     let mut is_in_trouble = false;
     for tries in 0..LAST_TRIES {
-        if tries > 0 {
-            thread::sleep(rt, Duration::from_millis(RETRY));
-        }
+        pause_before(rt, tries);
         match hand_over(alloc, layout, kind, taken, store) {
             Ok(stored) => {
                 if is_in_trouble {
@@ -123,7 +134,7 @@ fn with_open<A: Allocator + Copy, K: Store, P: Printer, R: Wait + Clock>(
     if !recorder.is_recording() {
         return counts;
     }
-    if is_closed(recorder)
+    if is_closed(rt, recorder)
         && let Some(taken) = recorder.take()
     {
         let layout = recorder.layout();
@@ -148,10 +159,10 @@ pub fn finish_station<A: Allocator + Copy, K: Store, P: Printer, R: Wait + Clock
     store: &mut K,
     printer: &mut P,
 ) {
-    let mut text = Vec::new(alloc);
     let counts = left.counts;
     let recorder = &mut left.ended.recorder;
-    let counts = with_open(rt, alloc, kind, recorder, counts, store, printer, &mut text);
-    print_one(rt, &mut text, printer, ended_event(counts));
+    let text = &mut left.text;
+    let counts = with_open(rt, alloc, kind, recorder, counts, store, printer, text);
+    print_one(rt, text, printer, ended_event(counts));
     left.counts = counts;
 }

@@ -58,7 +58,7 @@ pub fn run_station<
 ) -> Result<Recorded<A>, RunFault>
     ensures { IfOk result (λ left. Leaves (opening_of station.recorder) left.ended) }
 {
-    let Ok(mut text) = Vec::with_capacity(alloc, LINE) else {
+    let Ok(text) = Vec::with_capacity(alloc, LINE) else {
         drop(station);
         drop(first);
         return Err(RunFault::Memory);
@@ -85,9 +85,7 @@ pub fn run_station<
     };
     match open(alloc, recorder, LANE, 2) {
         Ok(opened) => {
-            let left = run_named::<Brand, A>(
-                rt, alloc, opened, how, input, store, printer, &mut text,
-            )?;
+            let left = run_named::<Brand, A>(rt, alloc, opened, how, input, store, printer, text)?;
             Ok(left)
         }
         Err((fault, recorder)) => {
@@ -98,7 +96,8 @@ pub fn run_station<
     }
 }
 
-/// Runs the station in the session `N`.
+/// Runs the station in the session `N`. If the recording can't be ended, prints the event of the
+/// end.
 fn run_named<N: Session<A> + Send + Sync, A: Allocator + Copy + Send + Sync>(
     rt: &(impl Threads + Wait + Clock + Sync),
     alloc: A,
@@ -107,7 +106,7 @@ fn run_named<N: Session<A> + Send + Sync, A: Allocator + Copy + Send + Sync>(
     input: &mut (impl Read + Send),
     store: &mut (impl Store + Send),
     printer: &mut (impl Printer + Send),
-    text: &mut Vec<u8, A>,
+    text: Vec<u8, A>,
 ) -> Result<Recorded<A>, RunFault>
     requires named { (opened.opening ≡ N.opening) × (opened.lane ≡ N.lane)
         × (opened.seats ≡ N.seats) }
@@ -127,13 +126,33 @@ fn run_named<N: Session<A> + Send + Sync, A: Allocator + Copy + Send + Sync>(
         unreachable!()
     };
     let tasks = tasks_of(
-        alloc, how, queues, shared, source, first, second, input, store, printer,
+        alloc,
+        how,
+        queues,
+        shared,
+        source,
+        first,
+        second,
+        input,
+        store,
+        &mut *printer,
     );
     let started = in_threads(rt, &tasks);
-    let (shared, source, first, second, counts) = taken_apart(rt, tasks, started, text)?;
+    let mut text = text;
+    let (shared, source, first, second, counts) = taken_apart(rt, tasks, started, &mut text)?;
     tokens.push_reserved(first);
     tokens.push_reserved(second);
-    ended_of(alloc, shared.unlock(), source, tokens, counts)
+    match ended_of(rt, alloc, shared.unlock(), source, tokens) {
+        Ok(ended) => Ok(Recorded {
+            ended,
+            counts,
+            text,
+        }),
+        Err(fault) => {
+            print_one(rt, &mut text, printer, ended_event(counts));
+            Err(RunFault::End(fault))
+        }
+    }
 }
 
 /// Takes the state apart after all threads have ended. Returns the shared recorder, the source, the

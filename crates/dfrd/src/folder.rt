@@ -3,7 +3,7 @@
 
 ghost use Rattle.std.specs.Prelude.{◌+◌, ◌<◌, ◌↔◌, IsTrue};
 
-use crate::outcome::{Reason, complain, reason_of};
+use crate::outcome::{FileFault, Reason, complain, reason_of};
 use crate::pair::{Paths, Removal, is_free, paths_of, remove_pair, sync_folder, write_pair};
 use crate::place::Place;
 use dfr_station::{Key, Store, Stored, Trouble, surplus_bytes};
@@ -156,8 +156,9 @@ impl<R: Files<File = File> + Eprint + AllocGlobal> Folder<'_, R> {
     }
 
     /// Removes the oldest pair that can be removed, from the index `from` on, but never the newest
-    /// one, and drops it from the list. Returns its index and its size, or None if there is none.
-    fn remove_next(&mut self, path: &str, from: usize) -> Option<(usize, u64)> {
+    /// one, and drops it from the list. Returns its index, its name and its size, or None if there
+    /// is none.
+    fn remove_next(&mut self, path: &str, from: usize) -> Option<(usize, Key, u64)> {
         let newest = self.pairs.len().saturating_sub(1);
         for at in from..newest {
             let (key, size) = *self.pairs.get(at)?;
@@ -167,7 +168,7 @@ impl<R: Files<File = File> + Eprint + AllocGlobal> Folder<'_, R> {
                 if removal == Removal::Done {
                     self.removed = self.removed.saturating_add(1);
                 }
-                return Some((at, size));
+                return Some((at, key, size));
             }
         }
         None
@@ -183,10 +184,17 @@ impl<R: Files<File = File> + Eprint + AllocGlobal> Folder<'_, R> {
             }
             for _ in 0..surplus {
                 match self.remove_next(path, from) {
-                    Some((at, _)) => from = at,
+                    Some((at, _, _)) => from = at,
                     None => return,
                 }
             }
+        }
+    }
+
+    /// Reports a pair that was given up.
+    fn report_given_up(&self, path: &str, key: Key) {
+        if let Ok(paths) = paths_of(self.rt.alloc(), path, key) {
+            let _ = complain(self.rt, paths.cfg.as_str(), FileFault::GivenUp);
         }
     }
 
@@ -202,8 +210,9 @@ impl<R: Files<File = File> + Eprint + AllocGlobal> Folder<'_, R> {
             return false;
         }
         match self.remove_next(path, 0) {
-            Some((_, freed)) => {
+            Some((_, key, freed)) => {
                 self.given = Some((record, given.saturating_add(freed)));
+                self.report_given_up(path, key);
                 true
             }
             None => false,

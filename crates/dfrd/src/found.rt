@@ -2,12 +2,12 @@
 //! interrupted recording left.
 
 use crate::folder::{Folder, FolderFault, Keep, Records};
-use crate::outcome::{Reason, reason_of};
+use crate::outcome::{FileFault, Reason, complain, reason_of};
 use crate::pair::{paths_of, recover, sync_folder};
 use crate::place::{Place, fault_of};
 use dfr_station::{Key, key_in};
-use std::alloc::Global;
-use std::fs::{File, OpenOptions};
+use std::alloc::{Allocator, Global};
+use std::fs::{DirEntry, File, OpenOptions};
 use std::io::ErrorKind;
 use std::rt::Files;
 use std::sync::{Arc, Wait};
@@ -69,15 +69,29 @@ fn probe<R: Files + AllocGlobal>(rt: &R, folder: &str) -> io::Result<()> {
     }
 }
 
+/// Which of our files an entry of the folder is; None if it is another one. A name that is not
+/// UTF-8 is none of ours.
+fn found_at<R: Files + Drop, A: Allocator>(
+    entry: io::Result<DirEntry<R, A>>,
+) -> io::Result<Option<(Key, Ending)>> {
+    match entry {
+        Ok(entry) => Ok(found_in(entry.file_name())),
+        Err(error) => {
+            if error.kind() == ErrorKind::InvalidFilename {
+                Ok(None)
+            } else {
+                Err(error)
+            }
+        }
+    }
+}
+
 impl<R: Files<File = File> + Eprint + AllocGlobal + Clone + Drop> Folder<'_, R> {
     /// Our files in the folder, but for the `.dat` files.
     fn found(&self, path: &str) -> io::Result<Vec<(Key, Ending)>> {
         let mut found = Vec::new(self.rt.alloc());
         for entry in fs::read_dir(self.rt, path)? {
-            let Ok(entry) = entry else {
-                continue;
-            };
-            if let Some(one) = found_in(entry.file_name()) {
+            if let Some(one) = found_at(entry)? {
                 found.push(one)?;
             }
         }
@@ -97,8 +111,8 @@ impl<R: Files<File = File> + Eprint + AllocGlobal + Clone + Drop> Folder<'_, R> 
                 }
             }
         }
-        if is_changed {
-            let _ = sync_folder(self.rt, path);
+        if is_changed && let Err(error) = sync_folder(self.rt, path) {
+            let _ = complain(self.rt, path, FileFault::Synced(reason_of(&error)));
         }
         Ok(())
     }
@@ -150,12 +164,18 @@ fn is_denied(error: &io::Error) -> bool {
 impl<R: Files<File = File> + Eprint + AllocGlobal + Clone + Drop + Wait> Records for Folder<'_, R> {
     fn open(&mut self, place: Arc<Place, Global>, keep: Keep) -> Result<(), FolderFault> {
         self.keep = keep;
-        if let Err(error) = probe(self.rt, place.path.as_str())
-            && is_denied(&error)
+        let probed = probe(self.rt, place.path.as_str());
+        if let Err(error) = &probed
+            && is_denied(error)
         {
             return Err(FolderFault::Denied);
         }
         let found = self.find_pairs(place.path.as_str());
+        if let Err(error) = &probed
+            && found.is_ok()
+        {
+            let _ = complain(self.rt, place.path.as_str(), reason_of(error));
+        }
         self.place = Some(place);
         match found {
             Ok(()) => Ok(()),

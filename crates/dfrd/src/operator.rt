@@ -41,12 +41,27 @@ pub(crate) struct Ear {
     identity: Identity,
 }
 
+/// Whether the path is that of a FIFO.
+fn is_fifo<R: Files>(rt: &R, path: &str) -> bool {
+    match fs::metadata(rt, path) {
+        Ok(metadata) => metadata.file_type().is_fifo(),
+        Err(_) => false,
+    }
+}
+
 /// Opens a file for reading and writing, so that a FIFO doesn't end when a writer closes it. Opens
-/// it for reading alone if writing isn't possible.
+/// a file that can't be written for reading alone. A FIFO is refused then: opening it would wait
+/// for a writer.
 fn open_both<R: Files<File = File>>(rt: &R, path: &str) -> io::Result<File> {
     match OpenOptions::new().read(true).write(true).open(rt, path) {
         Ok(file) => Ok(file),
-        Err(_) => File::open(rt, path),
+        Err(error) => {
+            if is_fifo(rt, path) {
+                Err(error)
+            } else {
+                File::open(rt, path)
+            }
+        }
     }
 }
 

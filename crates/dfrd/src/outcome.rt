@@ -64,6 +64,15 @@ pub(crate) enum FileFault {
     /// The operator's file.
     #[error("cannot be read: {0}")]
     Read(Reason),
+    /// The folder, which another `dfrd` may then use too.
+    #[error("cannot be locked: {0}")]
+    Locked(Reason),
+    /// The folder, after files were renamed or removed in it.
+    #[error("cannot be synced: {0}")]
+    Synced(Reason),
+    /// The configuration file of a pair that was removed for a new one.
+    #[error("removed, as there is no space left for a new pair")]
+    GivenUp,
 }
 
 /// Prints that an allocation failed, without allocating. Returns the exit status, 1.

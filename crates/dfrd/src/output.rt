@@ -22,6 +22,9 @@ const RETRY: u64 = 500;
 /// How long the end waits for what is still to be written, in naps of 20 milliseconds: five seconds.
 const LAST_NAPS: u64 = 250;
 
+/// After so many more failed writes the end waits no longer.
+const LAST_FAILED: u64 = 3;
+
 /// How far the writing has come.
 #[derive(Drop)]
 pub(crate) struct Progress {
@@ -103,11 +106,13 @@ impl<R: Clock> Lines<'_, R> {
         self.missed == 0 && self.progress.written.load(Ordering::SeqCst) == self.given
     }
 
-    /// Waits until all lines are written, five seconds at most, and not where writing fails.
+    /// Waits until all lines are written, five seconds at most, and no longer than until writing
+    /// has failed three times.
     pub(crate) fn finish(&mut self) {
-        let failed = self.progress.failed.load(Ordering::SeqCst);
+        let before = self.progress.failed.load(Ordering::SeqCst);
         for _ in 0..LAST_NAPS {
-            if self.is_done() || failed < self.progress.failed.load(Ordering::SeqCst) {
+            let failed = self.progress.failed.load(Ordering::SeqCst);
+            if self.is_done() || LAST_FAILED <= failed.saturating_sub(before) {
                 return;
             }
             thread::sleep(self.rt, Duration::from_millis(NAP));

@@ -1,7 +1,7 @@
 //! The folder's lock. It holds one folder, whatever its name is; the name may be given to another.
 
 use crate::folder::FolderFault;
-use crate::outcome::{Reason, complain, reason_of};
+use crate::outcome::{FileFault, Reason, complain, reason_of};
 use std::alloc::Global;
 use std::fs::{File, Metadata, TryLockError};
 use std::os::unix::fs::MetadataExt;
@@ -11,7 +11,7 @@ use std::time::{Clock, Duration};
 use std::{fs, thread};
 
 /// How often the thread looks whether the folder is still the locked one, in seconds.
-const LOOK: u64 = 60;
+const LOOK: u64 = 10;
 
 /// What tells one file or folder from all others, whatever their names.
 #[derive(Clone, Copy, Debug, PartialEq, Eq)]
@@ -54,16 +54,24 @@ pub(crate) fn fault_of(reason: Reason) -> FolderFault {
     }
 }
 
-/// Opens the folder and locks it. On a file system without locks it is open but not locked.
-fn locked<R: Files<File = File>>(rt: &R, path: &str) -> Result<File, Reason> {
+/// Opens the folder and locks it. If it can't be locked, as on a file system without locks, reports
+/// that and returns it open but not locked.
+fn locked<R: Files<File = File> + Eprint + AllocGlobal>(
+    rt: &R,
+    path: &str,
+) -> Result<File, Reason> {
     let folder = match File::open(rt, path) {
         Ok(folder) => folder,
         Err(error) => return Err(reason_of(&error)),
     };
     match folder.try_lock() {
-        Err(TryLockError::WouldBlock) => Err(Reason::Taken),
-        Ok(()) | Err(TryLockError::Error(_)) => Ok(folder),
+        Err(TryLockError::WouldBlock) => return Err(Reason::Taken),
+        Err(TryLockError::Error(error)) => {
+            let _ = complain(rt, path, FileFault::Locked(reason_of(&error)));
+        }
+        Ok(()) => {}
     }
+    Ok(folder)
 }
 
 /// Whether this is the locked folder.
@@ -79,7 +87,7 @@ fn is_held(lock: &Option<File>, there: Identity) -> bool {
 
 impl Place {
     /// Opens and locks the folder with this path.
-    pub(crate) fn open<R: Files<File = File> + AllocGlobal>(
+    pub(crate) fn open<R: Files<File = File> + Eprint + AllocGlobal>(
         rt: &R,
         path: &str,
     ) -> Result<Arc<Place>, FolderFault> {
@@ -128,8 +136,8 @@ impl Place {
     }
 }
 
-/// Looks each minute whether the folder is still the locked one. Reports why it can't be used, once
-/// for each reason.
+/// Looks every ten seconds whether the folder is still the locked one. Reports why it can't be
+/// used, once for each reason.
 pub(crate) fn watch<R: Files<File = File> + Eprint + AllocGlobal + Wait + Clock>(
     rt: &R,
     place: &Arc<Place, Global>,

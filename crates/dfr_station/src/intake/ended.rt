@@ -3,8 +3,11 @@
 ghost use Rattle.std.specs.Prelude.{◌≡◌, IfOk};
 ghost use Rattle.dfr_station.specs.Runs.{Leaves};
 
+use crate::export::{LAST_TRIES, pause_before};
 use dfr_live::{EndFault, Ended, Inner, OpenFault, Session, Source, Token, end};
 use std::alloc::{Allocator, Global};
+use std::sync::Wait;
+use std::time::Clock;
 use thiserror::Error;
 
 /// Why a recording didn't start, or did not reach its end.
@@ -63,22 +66,31 @@ impl Counts {
 pub struct Recorded<A: Allocator = Global> {
     pub ended: Ended<A>,
     pub counts: Counts,
+    /// Room for an event's line, so that printing the end doesn't allocate.
+    pub(crate) text: Vec<u8, A>,
 }
 
-/// Ends the recording.
-pub fn ended_of<N: Session<A>, A: Allocator + Copy>(
+/// Ends the recording. If an allocation fails, tries again each second, a few times.
+pub fn ended_of<N: Session<A>, A: Allocator + Copy, R: Wait + Clock>(
+    rt: &R,
     alloc: A,
     inner: Inner<N, A>,
     source: Source<N, A>,
     tokens: Vec<Token<A>, A>,
-    counts: Counts,
-) -> Result<Recorded<A>, RunFault>
+) -> Result<Ended<A>, EndFault>
     requires seats { N.seats ≡ 2 }
-    ensures { IfOk result (λ left. Leaves N.opening left.ended) }
+    ensures { IfOk result (λ ended. Leaves N.opening ended) }
 {
-    let _ = inner.opening();
-    match end(alloc, inner, source, tokens) {
-        Ok(ended) => Ok(Recorded { ended, counts }),
-        Err((fault, _, _, _)) => Err(RunFault::End(fault)),
+    let mut parts = (inner, source, tokens);
+    for tries in 0..LAST_TRIES {
+        pause_before(rt, tries);
+        let (inner, source, tokens) = parts;
+        let _ = inner.opening();
+        match end(alloc, inner, source, tokens) {
+            Ok(ended) => return Ok(ended),
+            Err((EndFault::Memory, inner, source, tokens)) => parts = (inner, source, tokens),
+            Err((fault, _, _, _)) => return Err(fault),
+        }
     }
+    Err(EndFault::Memory)
 }

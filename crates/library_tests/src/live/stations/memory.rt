@@ -1,11 +1,14 @@
-//! Each allocation of a station refused in turn: it is said, at most one scan is lost by it, and no pair is in halves.
+//! Each allocation of a station refused in turn: it is said, at most one scan is lost by it, no
+//! pair is in halves, and the end is told.
 
 use crate::live::stations::runs::{FRAMES, LINES};
-use crate::live::stations::station::{Kept, SETUP, Seen, is_told, nothing_seen, recorded};
+use crate::live::stations::station::{
+    Hasty, Kept, SETUP, Seen, Told, is_told, nothing_seen, recorded,
+};
 use crate::refused::common::Heap;
 use crate::streams::Pieces;
 use dfr_live::{EndFault, OpenFault};
-use dfr_station::{Input, Recorded, RunFault, SetupRefusal, recorder_of};
+use dfr_station::{Input, Printer, Recorded, RunFault, SetupRefusal, recorder_of};
 use failing_allocator::Refusing;
 use std::alloc::{Allocator, Global};
 use std::sync::Wait;
@@ -27,24 +30,57 @@ fn counted(dat: &[u8]) -> (usize, usize) {
     (rows, missing)
 }
 
-/// The one record has the scans of places 0 to 6; three of them have no value, and one more at most where an allocation failed.
-/// Where that is the one that fires, the level opens none.
-fn is_right(kept: &Kept, was_refused: bool) -> bool {
+/// What comes, and what has to be told of it.
+#[derive(Clone, Copy)]
+struct Feed<'a> {
+    form: Input,
+    bytes: &'a [u8],
+    /// How the line of the end begins.
+    end: &'a [u8],
+    /// How many rows of the record have no value.
+    missing: usize,
+}
+
+/// As frames: the record closes before the end.
+const WHOLE: Feed<'static> = Feed {
+    form: Input::Frames,
+    bytes: FRAMES,
+    end: b" end scans 8 lost ",
+    missing: 3,
+};
+
+/// The record has the scans of places 0 to 6; one more of them has no value at most where an
+/// allocation failed. Where that is the one that fires, the level opens none.
+fn is_right(kept: &Kept, missing: usize, was_refused: bool) -> bool {
     if kept.count == 0 {
         return was_refused;
     }
-    let (rows, missing) = counted(kept.dat.as_slice());
-    kept.count == 1 && rows == 7 && (missing == 3 || was_refused && missing == 4)
+    let (rows, found) = counted(kept.dat.as_slice());
+    kept.count == 1
+        && rows == 7
+        && (found == missing || was_refused && found.checked_sub(1) == Some(missing))
 }
 
-/// A run that ended, or that was refused an allocation and says so.
-fn is_said<A: Allocator>(left: Result<Recorded<A>, RunFault>, seen: &Seen) -> bool {
+/// The record, if there is one, and the end are told.
+fn is_all_told(seen: &Seen, end: &[u8]) -> bool {
+    let (record, records) = if seen.kept.count == 0 {
+        (b"".as_slice(), b" records 0 left ".as_slice())
+    } else {
+        (
+            b" record 1 first 0 trigger 5 last 6 ".as_slice(),
+            b" records 1 left ".as_slice(),
+        )
+    };
+    is_told(&seen.told, end) && is_told(&seen.told, record) && is_told(&seen.told, records)
+}
+
+/// A run that ended, or that was refused an allocation before its first step and says so.
+fn is_said<A: Allocator>(left: Result<Recorded<A>, RunFault>, seen: &Seen, end: &[u8]) -> bool {
     match left {
-        Ok(left) => left.counts.unwritten == 0 && is_told(&seen.told, b" end scans 8 lost "),
+        Ok(left) => left.counts.unwritten == 0 && is_all_told(seen, end),
         Err(fault) => {
-            fault == RunFault::Memory
-                || fault == RunFault::Open(OpenFault::Memory)
-                || fault == RunFault::End(EndFault::Memory)
+            seen.kept.count == 0
+                && (fault == RunFault::Memory || fault == RunFault::Open(OpenFault::Memory))
         }
     }
 }
@@ -54,33 +90,36 @@ fn nth<R: Threads + Wait + Clock + Sync>(
     rt: &R,
     alloc: Global,
     heap: Heap,
-    (form, bytes): (Input, &[u8]),
+    feed: Feed<'_>,
     n: u64,
 ) -> Option<bool> {
     let mut seen = nothing_seen(alloc, 0);
     let mut input = Pieces {
-        bytes,
+        bytes: feed.bytes,
         size: 1000,
         fault: None,
     };
     heap.refuse(n);
-    let left = recorded(rt, heap, form, &mut input, &mut seen);
+    let left = recorded(
+        rt,
+        heap,
+        feed.form,
+        &mut input,
+        &mut seen.kept,
+        &mut seen.told,
+    );
     let was_refused = heap.has_refused();
     heap.refuse_none();
-    let is_said = is_said(left, &seen);
-    (is_said && is_right(&seen.kept, was_refused)).then_some(was_refused)
+    let is_said = is_said(left, &seen, feed.end);
+    (is_said && is_right(&seen.kept, feed.missing, was_refused)).then_some(was_refused)
 }
 
 /// Refuses each allocation in turn.
-fn are_refused<R: Threads + Wait + Clock + Sync>(
-    rt: &R,
-    alloc: Global,
-    form: Input,
-    bytes: &[u8],
-) -> bool {
+fn are_refused<R: Threads + Wait + Clock + Sync>(rt: &R, alloc: Global, feed: Feed<'_>) -> bool {
+    let hasty = Hasty { rt };
     let heap = Refusing::new(alloc);
     for n in 1..5_000u64 {
-        match nth(rt, alloc, &heap, (form, bytes), n) {
+        match nth(&hasty, alloc, &heap, feed, n) {
             Some(true) => {}
             Some(false) => return n > 20,
             None => return false,
@@ -89,9 +128,73 @@ fn are_refused<R: Threads + Wait + Clock + Sync>(
     false
 }
 
-// Not run: since a station's end changed, some refused allocation ends a run otherwise than `nth`
-// expects, over frames and over lines.
-// `are_refused(&rt, rt.alloc(), Input::Frames, FRAMES)` and the same over `LINES` have to hold again.
+#[test]
+fn allocations_over_frames(rt: HostRuntime) {
+    assert!(rt; are_refused(&rt, rt.alloc(), WHOLE));
+}
+
+#[test]
+fn allocations_over_lines(rt: HostRuntime) {
+    let lines = Feed {
+        form: Input::Lines,
+        bytes: LINES,
+        ..WHOLE
+    };
+    assert!(rt; are_refused(&rt, rt.alloc(), lines));
+}
+
+/// The input ends while the record is open: a lost scan closes it.
+#[test]
+fn allocations_over_a_cut_record(rt: HostRuntime) {
+    let cut = Feed {
+        bytes: &FRAMES[..24],
+        end: b" end scans 6 lost ",
+        missing: 4,
+        ..WHOLE
+    };
+    assert!(rt; are_refused(&rt, rt.alloc(), cut));
+}
+
+/// A printer after whose first record no allocation succeeds.
+#[derive(Drop)]
+struct Starving<'a> {
+    told: Told,
+    heap: Heap<'a>,
+}
+
+impl Printer for Starving<'_> {
+    fn print(&mut self, text: &[u8]) {
+        self.told.print(text);
+        if is_told(&self.told, b" record 1 ") {
+            self.heap.refuse_all();
+        }
+    }
+}
+
+/// A run that can't be ended tells its end.
+#[test]
+fn no_memory_at_the_end(rt: HostRuntime) {
+    let hasty = Hasty { rt: &rt };
+    let heap = Refusing::new(rt.alloc());
+    let Seen { mut kept, told } = nothing_seen(rt.alloc(), 0);
+    let mut printer = Starving { told, heap: &heap };
+    let mut input = Pieces {
+        bytes: &FRAMES[..28],
+        size: 1000,
+        fault: None,
+    };
+    let left = recorded(
+        &hasty,
+        &heap,
+        Input::Frames,
+        &mut input,
+        &mut kept,
+        &mut printer,
+    );
+    let fault = left.err();
+    assert!(rt; fault == Some(RunFault::End(EndFault::Memory)));
+    assert!(rt; is_told(&printer.told, b" end scans 7 lost 2 records 1 left 0\n"));
+}
 
 /// A set-up whose nth allocation is refused: whether it had as many; None where that isn't said.
 fn is_set_up(heap: Heap, n: u64) -> Option<bool> {

@@ -38,7 +38,7 @@ fn is_recorded<R: Threads + Wait + Clock + Sync>(
         size,
         fault: None,
     };
-    let scans = match recorded(rt, alloc, form, &mut input, &mut seen) {
+    let scans = match recorded(rt, alloc, form, &mut input, &mut seen.kept, &mut seen.told) {
         Ok(left) => left.ended.recorder.scans(),
         Err(_) => 0,
     };

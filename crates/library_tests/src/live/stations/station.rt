@@ -1,4 +1,5 @@
-//! A station of one channel and one contact, with a reader, a store and a printer in memory.
+//! A station of one channel and one contact, with a reader, a store and a printer in memory, and a
+//! clock that hurries.
 
 use crate::streams::Pieces;
 use comtrade_write::Kind;
@@ -8,9 +9,10 @@ use dfr_station::{
     finish_station, read_first, recorder_of, run_station,
 };
 use std::alloc::{Allocator, Global};
+use std::io;
 use std::sync::Wait;
 use std::thread::Threads;
-use std::time::Clock;
+use std::time::{Clock, Duration};
 
 /// Nine scans before a trigger and one after it; a level over 100 opens a record.
 pub const SETUP: &[u8] =
@@ -18,6 +20,33 @@ pub const SETUP: &[u8] =
 
 /// How many bytes a frame of it has.
 const FRAME: usize = 4;
+
+/// The longest sleep of `Hasty`, in milliseconds.
+const NAP: u64 = 20;
+
+/// A runtime whose sleeps are short, for runs that try again each second.
+#[derive(Drop)]
+pub struct Hasty<'a, R> {
+    pub rt: &'a R,
+}
+
+impl<R: Threads> Threads for Hasty<'_, R> {}
+
+impl<R: Wait> Wait for Hasty<'_, R> {}
+
+impl<R: Clock> Clock for Hasty<'_, R> {
+    fn monotonic(&self) -> io::Result<Duration> {
+        self.rt.monotonic()
+    }
+
+    fn since_1970(&self) -> io::Result<Duration> {
+        self.rt.since_1970()
+    }
+
+    fn sleep(&self, duration: Duration) {
+        self.rt.sleep(duration.min(Duration::from_millis(NAP)))
+    }
+}
 
 /// The last pair that came, how many came, and how often none is taken before.
 #[derive(Drop)]
@@ -108,9 +137,9 @@ fn begun<A: Allocator + Copy + Send + Sync, R: Threads + Wait + Clock + Sync>(
     alloc: A,
     form: Input,
     input: &mut Pieces<'_>,
-    told: &mut Told,
+    printer: &mut (impl Printer + Send),
 ) -> Option<(First<A>, Recorder<A>)> {
-    match read_first(rt, alloc, input, told, (form, FRAME, false)) {
+    match read_first(rt, alloc, input, printer, (form, FRAME, false)) {
         Ok(first) => match recorder_of(alloc, SETUP, 0) {
             Ok(recorder) => Some((first, recorder)),
             Err(_) => None,
@@ -125,27 +154,14 @@ pub fn recorded<A: Allocator + Copy + Send + Sync, R: Threads + Wait + Clock + S
     alloc: A,
     form: Input,
     input: &mut Pieces<'_>,
-    seen: &mut Seen,
+    store: &mut Kept,
+    printer: &mut (impl Printer + Send),
 ) -> Result<Recorded<A>, RunFault> {
-    let Some((first, recorder)) = begun(rt, alloc, form, input, &mut seen.told) else {
+    let Some((first, recorder)) = begun(rt, alloc, form, input, printer) else {
         return Err(RunFault::Memory);
     };
-    let mut left = run_station(
-        rt,
-        alloc,
-        station_of(recorder, form),
-        first,
-        input,
-        &mut seen.kept,
-        &mut seen.told,
-    )?;
-    finish_station(
-        rt,
-        alloc,
-        Kind::Ascii,
-        &mut left,
-        &mut seen.kept,
-        &mut seen.told,
-    );
+    let station = station_of(recorder, form);
+    let mut left = run_station(rt, alloc, station, first, input, store, printer)?;
+    finish_station(rt, alloc, Kind::Ascii, &mut left, store, printer);
     Ok(left)
 }
