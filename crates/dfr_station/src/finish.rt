@@ -3,12 +3,12 @@
 ghost use Rattle.std.specs.Prelude.{◌≡◌, IsTrue, is_some, not};
 ghost use Rattle.dfr_recorder.specs.Own.{is_own};
 
-use crate::event::Event;
-use crate::export::{LAST_TRIES, hand_over, pause_before};
+use crate::event::{Event, Trouble};
 use crate::intake::{Counts, Recorded};
+use crate::outlet::{LAST_TRIES, key_of, pause_before};
 use crate::run::{ended_event, print_one};
 use crate::station::{Printer, Store, Stored};
-use comtrade_write::Kind;
+use comtrade_write::{Kind, pair_of};
 use dfr_channels::Layout;
 use dfr_recorder::{LostRefusal, Record, Recorder};
 use std::alloc::Allocator;
@@ -40,6 +40,26 @@ fn is_closed<A: Allocator + Copy, R: Wait + Clock>(rt: &R, recorder: &mut Record
         }
     }
     !recorder.is_recording()
+}
+
+/// Makes a record's pair and hands it to the store, once.
+fn hand_over<K: Store, A: Allocator + Copy>(
+    alloc: A,
+    layout: &Layout<A>,
+    kind: Kind,
+    taken: &Record<A>,
+    store: &mut K,
+) -> Result<Stored, Trouble>
+    requires { IsTrue (is_own layout.now taken.now) }
+{
+    match pair_of(alloc, layout, taken, kind) {
+        Ok(pair) => store.put(
+            key_of(layout, taken.extent()),
+            pair.cfg.as_slice(),
+            pair.dat.as_slice(),
+        ),
+        Err(_) => Err(Trouble::Memory),
+    }
 }
 
 /// Hands a record's pair to the store, again each second, a few times. Reports what the store

@@ -4,8 +4,8 @@
 ghost use Rattle.std.specs.Prelude.{◌≡◌, ◌≤◌, ◌-◌, ◌*◌, ◌/◌, max};
 
 use crate::event::Event;
-use crate::intake::{HEAD_LEN, is_damaged, is_scan_line};
-use crate::reading::{Given, read_some};
+use crate::intake::{Buffer, ROOM, is_damaged, is_scan_line};
+use crate::reading::Given;
 use crate::station::{Input, Printer};
 use crate::teller::put_line;
 use crate::telling::{now, print_lines};
@@ -19,21 +19,16 @@ use std::thread;
 use std::thread::{Scope, Threads};
 use std::time::{Clock, Duration};
 
-/// The most bytes read at once, and the greatest length of a line.
-const ROOM: usize = 65_536;
-
 /// How long the thread sleeps that reports meanwhile, in milliseconds.
 const NAP: u64 = 20;
 
 /// Room in bytes for the lines that it prints at once.
 const LINES: usize = 1_024;
 
-/// What came before the recorder was made. It is in the buffer up to `held`; with lines, after the
-/// room for the shortest set-up.
+/// What came before the recorder was made.
 #[derive(Drop)]
 pub struct First<A: Allocator = Global> {
-    pub(crate) buffer: Vec<u8, A>,
-    pub(crate) held: usize,
+    pub(crate) buffer: Buffer<A>,
     /// The instant of the last read, in microseconds since 1970-01-01 00:00:00 UTC.
     pub(crate) at: i64,
     /// How many scans came up to then.
@@ -47,7 +42,7 @@ pub struct First<A: Allocator = Global> {
 /// after it, but not before 1970.
 fn dated_back(at: u64, scans: u64, rate: u32) -> u64
     requires rate { 1 ≤ rate }
-    requires scans { scans ≤ 65_596 }
+    requires scans { scans ≤ 65_536 }
     ensures { result ≡ at - (scans - 1) * 1_000_000 / rate }
 {
     let later = if scans == 0 { 0 } else { scans - 1 };
@@ -62,7 +57,7 @@ impl<A: Allocator> First<A> {
         let Ok(at) = u64::try_from(self.at) else {
             return 0;
         };
-        if rate == 0 || self.scans > 65_596 {
+        if rate == 0 || self.scans > 65_536 {
             return self.at;
         }
         match i64::try_from(dated_back(at, self.scans, rate)) {
@@ -107,12 +102,6 @@ struct Reading<'x, I, A: Allocator> {
     first: First<A>,
 }
 
-/// The bytes that have come.
-fn bytes_of<A: Allocator>(first: &First<A>, form: Input) -> &[u8] {
-    let bytes = first.buffer.as_slice();
-    bytes.get(head_of(form)..first.held).unwrap_or(&[])
-}
-
 /// Reads once. Returns whether there is more to read: the first scan has not come whole, the input
 /// has not ended, and less than half of the buffer is full.
 fn read_on<A: Allocator, I: Read, R: Wait + Clock>(
@@ -122,21 +111,20 @@ fn read_on<A: Allocator, I: Read, R: Wait + Clock>(
     input: &mut I,
     first: &mut First<A>,
 ) -> bool {
-    let held = first.held;
-    let Some(room) = first.buffer.as_mut_slice().get_mut(held..) else {
+    if first.buffer.is_full() {
         return false;
-    };
-    match read_some(rt, input, room) {
+    }
+    match first.buffer.fill(rt, input) {
         Given::End | Given::Broken => {
             first.is_all = true;
             return false;
         }
-        Given::Bytes(count) => first.held = held.saturating_add(count),
+        Given::Bytes(_) => {}
     }
     first.at = now(rt);
-    let scans = scans_in(form, frame, bytes_of(first, form));
-    first.scans = scans;
-    scans == 0 && first.held < ROOM / 2
+    let bytes = first.buffer.waiting();
+    first.scans = scans_in(form, frame, bytes);
+    first.scans == 0 && bytes.len() < ROOM / 2
 }
 
 /// Reads until all of the first scan has come or the input ends, or half of the buffer is full.
@@ -244,19 +232,10 @@ fn read_reporting<A: Allocator + Send + Sync>(
     })
 }
 
-/// Where the bytes of the input begin in the buffer.
-fn head_of(form: Input) -> usize {
-    match form {
-        Input::Frames => 0,
-        Input::Lines => HEAD_LEN,
-    }
-}
-
 /// An empty buffer, with the time of this instant.
-fn begun<A: Allocator>(alloc: A, clock: &impl Clock, form: Input) -> Result<First<A>, AllocError> {
+fn begun<A: Allocator>(alloc: A, clock: &impl Clock) -> Result<First<A>, AllocError> {
     Ok(First {
-        buffer: vec![in alloc; 0u8; ROOM + HEAD_LEN]?,
-        held: head_of(form),
+        buffer: Buffer::new(alloc)?,
         at: now(clock),
         scans: 0,
         watch: Watch::new(millis(clock)),
@@ -278,7 +257,7 @@ pub fn read_first<
     printer: &mut P,
     (form, frame, minutes): (Input, usize, bool),
 ) -> Result<First<A>, AllocError> {
-    let first = begun(alloc, rt, form)?;
+    let first = begun(alloc, rt)?;
     let text = Vec::with_capacity(alloc, LINES)?;
     let watch = first.watch;
     let both = Both {

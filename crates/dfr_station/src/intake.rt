@@ -2,15 +2,23 @@
 //! lost one. Lines become the commands of a script. Here are also the result of a recording, and
 //! how many of the oldest pairs to remove.
 
+mod arrival;
+mod arrivals;
+mod buffer;
+mod cutter;
 mod ended;
 mod feed;
 mod frame;
 mod keep;
-mod lines;
+mod line;
 
-pub use ended::{Counts, Recorded, RunFault, ended_of};
-pub(crate) use feed::why_of;
-pub use feed::{Came, Tally, Why, give, give_frames, give_missing, lose};
+pub(crate) use arrival::Arrival;
+pub(crate) use arrivals::{Arrivals, Ending, Next};
+pub(crate) use buffer::{Buffer, ROOM};
+pub use ended::{Counts, Recorded, RunFault};
+pub use feed::Why;
+pub(crate) use feed::missing_scan;
 pub use frame::{frame_len, scan_of_frame};
 pub use keep::surplus_bytes;
-pub use lines::{HEAD, HEAD_LEN, HEAD_LINES, commands_of, is_damaged, is_scan_line};
+pub use line::{is_damaged, is_scan_line};
+pub(crate) use line::{skipped_of_line, skipped_of_rules};

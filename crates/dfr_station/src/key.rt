@@ -1,5 +1,7 @@
 //! The names of a record's files, from the instant of its trigger and its number.
 
+ghost use Rattle.std.specs.Prelude.{◌≡◌};
+
 use itoa::Buffer;
 use jiff_core::civil::DateTime;
 use std::alloc::{AllocError, Allocator};
@@ -30,7 +32,9 @@ fn packed(first: u16, second: u8, third: u8) -> u32 {
 
 /// The name of record `number`, triggered at an instant in microseconds since 1970-01-01
 /// 00:00:00 UTC.
-pub fn key_at(instant: i64, number: u64) -> Key {
+pub fn key_at(instant: i64, number: u64) -> Key
+    ensures { result.number ≡ number }
+{
     match DateTime::from_nanosecond(instant as i128 * 1000) {
         Ok(civil) => Key {
             date: packed(

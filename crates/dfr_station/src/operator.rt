@@ -1,14 +1,13 @@
 //! An operator's lines, which come while scans are recorded.
 
-use crate::event::{Asked, Event, Skipped};
-use crate::intake::{HEAD, commands_of};
-use crate::orders::{Trigger, skipped_of};
+use crate::desk::Office;
+use crate::event::{Event, Skipped};
+use crate::intake::{skipped_of_line, skipped_of_rules};
 use dfr_channels::{Rule, Rules};
-use dfr_live::{Order, Session, Shared};
-use dfr_script::{Command, ScriptRefusal, Word};
+use dfr_live::Order;
+use dfr_script::{Command, LineRefusal, ScanSize, command_of_line};
 use rtrb::Consumer;
-use std::alloc::{AllocError, Allocator, Global};
-use std::sync::Wait;
+use std::alloc::{Allocator, Global};
 
 /// The greatest length of an operator's line, in bytes.
 const LONGEST: usize = 4_096;
@@ -24,6 +23,8 @@ pub(crate) struct Operator<A: Allocator = Global> {
     line: Vec<u8, A>,
     /// The line is too long, or an allocation failed: it is refused.
     is_long: bool,
+    /// How many more bytes are read in this turn.
+    left: usize,
 }
 
 impl<A: Allocator> Operator<A> {
@@ -32,14 +33,15 @@ impl<A: Allocator> Operator<A> {
             bytes,
             line: Vec::new(alloc),
             is_long: false,
+            left: TURN,
         }
     }
 
-    /// Reads up to the end of a line, but no more bytes than `left`, which it counts down. Returns
-    /// whether that line is too long, or None if its end was not found.
-    fn next_line(&mut self, left: &mut usize) -> Option<bool> {
+    /// Reads up to the end of a line, but no more bytes than are left in this turn. Returns whether
+    /// that line is too long, or None if its end was not found.
+    fn next_line(&mut self) -> Option<bool> {
         for _ in 0..TURN {
-            *left = left.checked_sub(1)?;
+            self.left = self.left.checked_sub(1)?;
             match self.bytes.pop() {
                 Ok(b'\n') => {
                     let is_long = self.is_long;
@@ -58,80 +60,72 @@ impl<A: Allocator> Operator<A> {
     }
 }
 
-/// A script of the shortest set-up and this line.
-fn script_with<A: Allocator>(alloc: A, line: &[u8]) -> Result<Vec<u8, A>, AllocError> {
-    let mut script = Vec::new(alloc);
-    script.extend_from_slice(HEAD)?;
-    script.extend_from_slice(line)?;
-    Ok(script)
-}
-
-impl<A: Allocator + Copy> Trigger<A> {
-    /// Sets rules, or reports why they are refused.
-    fn set_rules<N: Session<A>>(
-        &mut self,
-        rt: &impl Wait,
-        shared: &Shared<N, A>,
-        list: Vec<Rule, A>,
-    ) {
-        match Rules::new(shared.opening().layout(), list) {
-            Ok(rules) => self.carry(rt, shared, Asked::Operator, Order::SetRules(rules)),
+impl<A: Allocator + Copy> Office<'_, A> {
+    /// The order to set these rules, or why they are refused.
+    fn rules_order(&self, list: Vec<Rule, A>) -> Result<Order<A>, Skipped> {
+        match Rules::new(self.layout, list) {
+            Ok(rules) => Ok(Order::SetRules(rules)),
             Err((fault, list)) => {
                 drop(list);
-                self.teller.tell(Event::Order(skipped_of(fault)))
+                Err(skipped_of_rules(fault))
             }
         }
     }
 
-    /// Carries out a command of an operator. Only `trigger` and `rules` are accepted.
-    fn obey<N: Session<A>>(&mut self, rt: &impl Wait, shared: &Shared<N, A>, command: Command<A>) {
+    /// The order of a command of an operator. Only `trigger` and `rules` are accepted.
+    fn order_of(&self, command: Command<A>) -> Result<Order<A>, Skipped> {
         match command {
-            Command::Trigger => self.carry(rt, shared, Asked::Operator, Order::Trigger),
-            Command::Rules { line: _, list } => self.set_rules(rt, shared, list),
-            Command::Scan(_) | Command::Lost | Command::Take => {
-                self.teller.tell(Event::Order(Skipped::Word))
-            }
+            Command::Trigger => Ok(Order::Trigger),
+            Command::Rules { line: _, list } => self.rules_order(list),
+            Command::Scan(_) | Command::Lost | Command::Take => Err(Skipped::Word),
         }
     }
 
-    /// Reads and carries out an operator's line.
-    fn hear<N: Session<A>>(&mut self, rt: &impl Wait, shared: &Shared<N, A>, line: &[u8]) {
-        let Ok(script) = script_with(self.alloc, line) else {
-            self.teller.tell(Event::Order(Skipped::Memory));
-            return;
+    /// The order of an operator's line, if it has one, or why it is refused.
+    fn order_in(&self, line: &[u8]) -> Result<Option<Order<A>>, Skipped> {
+        let size = ScanSize {
+            analog: self.layout.analog().len(),
+            status: self.layout.status().len(),
         };
-        match commands_of(self.alloc, &script) {
-            Ok(commands) => {
-                for command in commands {
-                    self.obey(rt, shared, command);
-                }
-            }
-            Err(ScriptRefusal::Fault(fault)) => self.teller.tell(Event::Order(match fault.word {
-                Word::Word | Word::Setup => Skipped::Word,
-                Word::Fields => Skipped::Fields,
-                Word::Number => Skipped::Number,
-            })),
-            Err(ScriptRefusal::Memory) => self.teller.tell(Event::Order(Skipped::Memory)),
+        match command_of_line(self.alloc, 1, line, size) {
+            Ok(None) => Ok(None),
+            Ok(Some(command)) => Ok(Some(self.order_of(command)?)),
+            Err(LineRefusal::Fault(fault)) => Err(skipped_of_line(fault)),
+            Err(LineRefusal::Memory) => Err(Skipped::Memory),
         }
     }
 
-    /// Carries out the lines of the operator that have come whole.
-    pub(crate) fn hear_operator<N: Session<A>>(&mut self, rt: &impl Wait, shared: &Shared<N, A>) {
-        let Some(mut operator) = self.operator.take() else {
-            return;
-        };
-        let mut left = TURN;
+    /// The next order of the operator whose line has come whole. Refused lines are reported.
+    pub(crate) fn hear_operator(&mut self) -> Option<Order<A>> {
+        let mut operator = self.operator.take()?;
+        let mut heard = None;
         for _ in 0..TURN {
-            let Some(is_long) = operator.next_line(&mut left) else {
+            let Some(is_long) = operator.next_line() else {
                 break;
             };
-            if is_long {
-                self.teller.tell(Event::Order(Skipped::Long));
+            let order = if is_long {
+                Err(Skipped::Long)
             } else {
-                self.hear(rt, shared, &operator.line);
-            }
+                self.order_in(&operator.line)
+            };
             operator.line.clear();
+            match order {
+                Ok(None) => {}
+                Ok(order) => {
+                    heard = order;
+                    break;
+                }
+                Err(why) => self.teller.tell(Event::Order(why)),
+            }
         }
         self.operator = Some(operator);
+        heard
+    }
+
+    /// More bytes of the operator may be read.
+    pub(crate) fn turn_operator(&mut self) {
+        if let Some(operator) = &mut self.operator {
+            operator.left = TURN;
+        }
     }
 }

@@ -1,14 +1,14 @@
 //! Makes a recorder from a set-up file.
 
-ghost use Rattle.std.specs.Prelude.{◌≡◌, IfOk, IsTrue, if◌then◌else◌, true, None};
-ghost use Rattle.dfr_recorder.specs.Limits.{has_stamps};
-ghost use Rattle.dfr_station.specs.declared.prepared.SetupRefusal.TheVariants as refusal;
+ghost use Rattle.std.specs.Prelude.{◌≡◌, MatchResult, None};
+ghost use Rattle.dfr_channels.specs.Lines.{lines};
+ghost use Rattle.dfr_script.specs.Scripts.{set_up};
+ghost use Rattle.dfr_station.specs.SetupFiles as spec;
 
-use crate::setup_text::{SetupText, setup_text};
-use dfr_channels::{Layout, RuleFault, Rules, SetupFault};
-use dfr_recorder::{LimitFault, Limits, Recorder};
-use dfr_script::{LimitNumbers, Script, ScriptFault, ScriptRefusal, Word, script_of};
-use std::alloc::{AllocError, Allocator};
+use dfr_channels::{RuleFault, SetupFault};
+use dfr_recorder::{LimitFault, Recorder};
+use dfr_script::{RecorderFault, RecorderRefusal, ScriptFault, ScriptRefusal, Word, set_up_of};
+use std::alloc::Allocator;
 use thiserror::Error;
 
 /// Why a set-up file is refused, in the order of the checks.
@@ -41,66 +41,49 @@ pub enum SetupRefusal {
     Memory,
 }
 
-impl From<AllocError> for SetupRefusal {
-    ghost from_gives = { λ _ e. e ≡ refusal.Memory };
+impl From<ScriptRefusal> for SetupRefusal {
+    ghost from_gives = { λ refusal e. e ≡ spec.of_script refusal };
 
-    fn from(_error: AllocError) -> SetupRefusal {
-        SetupRefusal::Memory
+    fn from(refusal: ScriptRefusal) -> SetupRefusal {
+        match refusal {
+            ScriptRefusal::Fault(fault) => match fault.word {
+                Word::Word => SetupRefusal::Word(fault.line),
+                Word::Fields => SetupRefusal::Fields(fault.line),
+                Word::Number => SetupRefusal::Number(fault.line),
+                Word::Setup => SetupRefusal::Missing,
+            },
+            ScriptRefusal::Memory => SetupRefusal::Memory,
+        }
     }
 }
 
-/// The refusal for a script's fault. `lines` is how many lines the file has before `go`. The script
-/// has its `start` line after them, so the number of the `go` line is reduced to that in the file.
-fn refusal_of(fault: ScriptFault, lines: u64) -> SetupRefusal {
-    let line = fault.line.min(lines.saturating_add(1));
-    match fault.word {
-        Word::Word => SetupRefusal::Word(line),
-        Word::Fields => SetupRefusal::Fields(line),
-        Word::Number => SetupRefusal::Number(line),
-        Word::Setup => SetupRefusal::Missing,
+impl From<RecorderRefusal> for SetupRefusal {
+    ghost from_gives = { λ refusal e. e ≡ spec.of_recorder refusal };
+
+    fn from(refusal: RecorderRefusal) -> SetupRefusal {
+        match refusal {
+            RecorderRefusal::Fault(RecorderFault::Setup(fault)) => SetupRefusal::Setup(fault),
+            RecorderRefusal::Fault(RecorderFault::Limits(fault)) => SetupRefusal::Limits(fault),
+            RecorderRefusal::Fault(RecorderFault::Rules(fault)) => SetupRefusal::Rules(fault),
+            RecorderRefusal::Memory => SetupRefusal::Memory,
+        }
     }
 }
 
-/// The limits of a `limits` line.
-fn limits_of<A: Allocator>(layout: &Layout<A>, line: LimitNumbers) -> Result<Limits, LimitFault>
-    ensures { IfOk result (λ limits. IsTrue (has_stamps layout.now.rate limits.longest)) }
-{
-    let limits = Limits::new(layout, line.pre, line.post, line.longest, line.shelf)?;
-    if line.unshared {
-        return Ok(limits.unshared());
-    }
-    Ok(limits)
-}
-
-/// The recorder for a script's set-up.
-fn recorder_in<A: Allocator + Copy>(
-    alloc: A,
-    script: Script<A>,
-) -> Result<Recorder<A>, SetupRefusal> {
-    let layout = match Layout::new(script.setup) {
-        Ok(layout) => layout,
-        Err((fault, _)) => return Err(SetupRefusal::Setup(fault)),
-    };
-    let limits = limits_of(&layout, script.limits).map_err(SetupRefusal::Limits)?;
-    let rules = match Rules::new(&layout, script.rules) {
-        Ok(rules) => rules,
-        Err((fault, _)) => return Err(SetupRefusal::Rules(fault)),
-    };
-    Recorder::new(alloc, layout, limits, rules).or(Err(SetupRefusal::Memory))
-}
-
-/// The recorder for a set-up file. `start` is the instant of scan 0, in microseconds since
+/// The recorder of a set-up file. `start` is the instant of scan 0, in microseconds since
 /// 1970-01-01 00:00:00 UTC. The file has the lines of a script up to `go`, or to its end. Its
-/// `start` line is not read.
+/// `start` lines are skipped.
 pub fn recorder_of<A: Allocator + Copy>(
     alloc: A,
     text: &[u8],
     start: i64,
-) -> Result<Recorder<A>, SetupRefusal> {
-    let SetupText { script, lines } = setup_text(alloc, text, start)?;
-    match script_of(alloc, &script) {
-        Ok(script) => recorder_in(alloc, script),
-        Err(ScriptRefusal::Fault(fault)) => Err(refusal_of(fault, lines)),
-        Err(ScriptRefusal::Memory) => Err(SetupRefusal::Memory),
-    }
+) -> Result<Recorder<A>, SetupRefusal>
+    ensures { MatchResult result
+        (λ recorder. (spec.file_fault (set_up start (lines text.now)) ≡ None)
+        × spec.IsOf (set_up start (lines text.now)) recorder)
+        (spec.Refuses (spec.file_fault (set_up start (lines text.now)))) }
+{
+    let set_up = set_up_of(alloc, text, start)?;
+    let recorder = dfr_script::recorder_of(alloc, set_up)?;
+    Ok(recorder)
 }

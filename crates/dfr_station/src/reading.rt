@@ -1,5 +1,8 @@
 //! One read of the input.
 
+ghost use Rattle.std.specs.Prelude.{◌<◌, length};
+ghost use Rattle.dfr_station.specs.Input as spec;
+
 use std::io::{ErrorKind, Read};
 use std::sync::Wait;
 use std::thread;
@@ -21,7 +24,10 @@ pub(crate) enum Given {
 
 /// Reads bytes into the room, at least one unless the input has ended. A read that a signal
 /// interrupted is repeated at once; one that would block is repeated after a nap.
-pub(crate) fn read_some<I: Read, R: Wait + Clock>(rt: &R, input: &mut I, room: &mut [u8]) -> Given {
+pub(crate) fn read_some<I: Read, R: Wait + Clock>(rt: &R, input: &mut I, room: &mut [u8]) -> Given
+    requires { 0 < length room.old }
+    ensures { spec.Reads (I.remaining input.old) result (I.remaining input.new) room.new }
+{
     for _ in rt.forever() {
         match input.read(room) {
             Ok(0) => return Given::End,

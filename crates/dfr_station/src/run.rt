@@ -1,46 +1,107 @@
 //! Runs a station, from its first scan to the end of its input.
 
 ghost use Rattle.std.specs.Prelude.{◌≡◌, IfOk};
-ghost use Rattle.dfr_recorder.specs.History.{Opening};
 ghost use Rattle.dfr_live.specs.Seen.{opening_of};
-ghost use Rattle.dfr_station.specs.Runs.{Leaves};
+ghost use Rattle.dfr_live.specs.Report.{Recorded as RecordedLive};
+ghost use Rattle.dfr_station.specs.Arrivals.{HandsNext};
+ghost use Rattle.dfr_station.specs.Stations.{Begins, IsFresh, Ran};
+ghost use Rattle.dfr_station.specs.declared.intake.arrivals.Arrivals.{Arrivals as Arriving};
 
-use crate::acquire::Acquisition;
-use crate::begin::{How, queues_in, tasks_of};
+use crate::acquisition::Acquisition;
+use crate::desk::{Office, Placed};
 use crate::event::Event;
 use crate::filler::Filler;
 use crate::first::First;
-use crate::intake::{Counts, Recorded, RunFault, ended_of};
-use crate::orders::Trigger;
+use crate::intake::{Arrivals, Counts, Recorded, RunFault};
+use crate::operator::Operator;
+use crate::outlet::Exports;
+use crate::pace::Napping;
+use crate::scans::Scans;
 use crate::signals::Signals;
-use crate::station::{Printer, Station, Store};
-use crate::tasks::{Tasks, in_threads};
-use crate::teller::put_line;
-use crate::telling::now;
-use dfr_live::{Opened, Session, Shared, Source, Token, open};
+use crate::station::{Printer, Recording, Station, Store};
+use crate::teller::{Teller, Waiting, put_line, telling_of};
+use crate::telling::{Telling, now, print_events};
+use crate::watch::Watch;
+use comtrade_write::Kind;
+use dfr_channels::{Layout, Memory};
+use dfr_live::{Desk, EndFault, Intake, LiveFault, LiveReport, Outlet, record_with};
+use dfr_recorder::Recorder;
+use rtrb::{Consumer, Producer, RingBuffer};
 use std::alloc::Allocator;
 use std::io::Read;
-use std::marker::Brand;
 use std::sync::Wait;
 use std::sync::atomic::Ordering;
+use std::thread;
 use std::thread::Threads;
 use std::time::Clock;
 
 /// The most scans that may wait for the trigger thread.
 const LANE: usize = 65_536;
 
+/// The most orders of the input that may wait.
+const ORDERS: usize = 1_024;
+
 /// The greatest length of an event's line, in bytes.
 const LINE: usize = 512;
 
-/// Records the input until it ends, in four threads:
+/// What is allocated for the devices of a station.
+#[derive(Drop)]
+struct Parts<A: Allocator> {
+    filler: Filler<A>,
+    tellers: (Teller<A>, Teller<A>, Teller<A>),
+    events: (Waiting<A>, Waiting<A>, Waiting<A>),
+    orders: (Producer<Placed<A>, A>, Consumer<Placed<A>, A>),
+    /// Room for an event's line.
+    text: Vec<u8, A>,
+}
+
+/// Allocates the parts.
+fn parts_in<A: Allocator + Copy>(alloc: A, layout: &Layout<A>) -> Result<Parts<A>, Memory>
+    ensures { IfOk result (λ parts. IsFresh layout.now parts) }
+{
+    let filler = Filler::new(alloc, layout)?;
+    let (scans, of_scans) = telling_of(alloc)?;
+    let (triggers, of_triggers) = telling_of(alloc)?;
+    let (exports, of_exports) = telling_of(alloc)?;
+    let orders = RingBuffer::new(alloc, ORDERS)?;
+    let text = Vec::with_capacity(alloc, LINE)?;
+    Ok(Parts {
+        filler,
+        tellers: (scans, triggers, exports),
+        events: (of_scans, of_triggers, of_exports),
+        orders,
+        text,
+    })
+}
+
+/// A copy of the recorder's layout, which the devices look at, and their parts.
+fn layout_and_parts<A: Allocator + Copy>(
+    alloc: A,
+    recorder: &Recorder<A>,
+) -> Result<(Layout<A>, Parts<A>), Memory>
+    ensures { IfOk result (λ made. (made.0 ≡ (opening_of recorder.now).layout) × IsFresh made.0 made.1) }
+{
+    let layout = recorder.layout().try_clone()?;
+    let parts = parts_in(alloc, &layout)?;
+    Ok((layout, parts))
+}
+
+/// How to run a station, apart from its recorder and its input.
+#[derive(Drop)]
+struct How<A: Allocator> {
+    kind: Kind,
+    minutes: bool,
+    operator: Option<Consumer<u8, A>>,
+    watch: Watch,
+}
+
+/// Records the input until it ends, with the threads of `record_with`:
 ///
-/// - The acquisition offers each scan. It waits only for the input.
+/// - The acquisition gives each scan. It waits only for the input.
 /// - The trigger thread makes the steps and carries out orders.
 /// - The export thread hands each record's pair to the store until the store takes it.
-/// - The last thread prints the events.
 ///
-/// The steps of all threads form one list, with the answers that a recorder in one thread gives:
-/// see `Ended::one_list`. `finish_station` writes the record that is open at the end.
+/// A fourth thread prints the events. `finish_station` writes the record that is open at the end.
 pub fn run_station<
     A: Allocator + Copy + Send + Sync,
     I: Read + Send,
@@ -56,18 +117,11 @@ pub fn run_station<
     store: &mut K,
     printer: &mut P,
 ) -> Result<Recorded<A>, RunFault>
-    ensures { IfOk result (λ left. Leaves (opening_of station.recorder) left.ended) }
+    ensures { IfOk result (λ left. (arrivals : Arriving I A)
+        × Begins (opening_of station.recorder).layout station.input first.buffer input.old arrivals
+        × Ran (HandsNext I.remaining) K.stores (opening_of station.recorder) station.kind
+        arrivals store.old left) }
 {
-    let Ok(text) = Vec::with_capacity(alloc, LINE) else {
-        drop(station);
-        drop(first);
-        return Err(RunFault::Memory);
-    };
-    let Ok(filler) = Filler::new(alloc, station.recorder.layout()) else {
-        drop(station);
-        drop(first);
-        return Err(RunFault::Memory);
-    };
     let Station {
         recorder,
         input: form,
@@ -75,137 +129,161 @@ pub fn run_station<
         minutes,
         operator,
     } = station;
+    let First {
+        buffer,
+        at,
+        scans: _,
+        watch,
+        is_all: _,
+    } = first;
     let how = How {
-        form,
         kind,
         minutes,
         operator,
-        first,
-        filler,
+        watch,
     };
-    match open(alloc, recorder, LANE, 2) {
-        Ok(opened) => {
-            let left = run_named::<Brand, A>(rt, alloc, opened, how, input, store, printer, text)?;
-            Ok(left)
-        }
-        Err((fault, recorder)) => {
-            drop(recorder);
-            drop(how);
-            Err(RunFault::Open(fault))
-        }
-    }
-}
-
-/// Runs the station in the session `N`. If the recording can't be ended, prints the event of the
-/// end.
-fn run_named<N: Session<A> + Send + Sync, A: Allocator + Copy + Send + Sync>(
-    rt: &(impl Threads + Wait + Clock + Sync),
-    alloc: A,
-    opened: Opened<A>,
-    how: How<A>,
-    input: &mut (impl Read + Send),
-    store: &mut (impl Store + Send),
-    printer: &mut (impl Printer + Send),
-    text: Vec<u8, A>,
-) -> Result<Recorded<A>, RunFault>
-    requires named { (opened.opening ≡ N.opening) × (opened.lane ≡ N.lane)
-        × (opened.seats ≡ N.seats) }
-    requires seats { opened.seats ≡ 2 }
-    ensures { IfOk result (λ left. Leaves N.opening left.ended) }
-{
-    let Ok(queues) = queues_in(alloc) else {
-        drop(opened);
+    let Ok((layout, parts)) = layout_and_parts(alloc, &recorder) else {
+        drop(recorder);
         drop(how);
+        drop(buffer);
         return Err(RunFault::Memory);
     };
-    let (shared, source, mut tokens) = opened.share::<N>();
-    let Some(second) = tokens.pop() else {
-        unreachable!()
-    };
-    let Some(first) = tokens.pop() else {
-        unreachable!()
-    };
-    let tasks = tasks_of(
+    let arrivals = Arrivals::new(alloc, &layout, form, (buffer, at), input);
+    run_over(
+        rt, alloc, recorder, how, parts, &layout, arrivals, store, printer,
+    )
+}
+
+/// Records what comes.
+fn run_over<
+    A: Allocator + Copy + Send + Sync,
+    I: Read + Send,
+    K: Store + Send,
+    P: Printer + Send,
+    R: Threads + Wait + Clock + Sync,
+>(
+    rt: &R,
+    alloc: A,
+    recorder: Recorder<A>,
+    how: How<A>,
+    parts: Parts<A>,
+    layout: &Layout<A>,
+    arrivals: Arrivals<'_, I, A>,
+    store: &mut K,
+    printer: &mut P,
+) -> Result<Recorded<A>, RunFault>
+    requires layout { layout.now ≡ (opening_of recorder).layout }
+    requires parts { IsFresh layout.now parts }
+    ensures { IfOk result (λ left. Ran (HandsNext I.remaining) K.stores (opening_of recorder)
+        how.kind arrivals.entry store.old left) }
+{
+    let Parts {
+        filler,
+        tellers: (scans, triggers, exports),
+        events,
+        orders: (orders, placed),
+        mut text,
+    } = parts;
+    let How {
+        kind,
+        minutes,
+        operator,
+        watch,
+    } = how;
+    let signals = Signals::new();
+    let scans = Scans::new(alloc, layout, &signals, scans, filler);
+    let mut intake = Acquisition::new(rt, arrivals, scans, orders);
+    let shelf = recorder.limits().shelf();
+    let operator = operator.map(|bytes| Operator::new(alloc, bytes));
+    let mut desk = Office::new(alloc, layout, &signals, (placed, operator), triggers, shelf);
+    let mut outlet = Exports::new(rt, layout, &signals, store, exports);
+    let telling = Telling::new(&mut *printer, events, minutes, watch);
+    let report = record_printing(
+        rt,
         alloc,
-        how,
-        queues,
-        shared,
-        source,
-        first,
-        second,
-        input,
-        store,
-        &mut *printer,
+        recorder,
+        kind,
+        &signals,
+        telling,
+        &mut intake,
+        &mut desk,
+        &mut outlet,
     );
-    let started = in_threads(rt, &tasks);
-    let mut text = text;
-    let (shared, source, first, second, counts) = taken_apart(rt, tasks, started, &mut text)?;
-    tokens.push_reserved(first);
-    tokens.push_reserved(second);
-    match ended_of(rt, alloc, shared.unlock(), source, tokens) {
-        Ok(ended) => Ok(Recorded {
+    let counts = Counts {
+        records: outlet.records(),
+        unwritten: outlet.unwritten(),
+        ..intake.counts()
+    };
+    match report {
+        Ok(LiveReport { stepped, ended, .. }) => Ok(Recorded {
             ended,
-            counts,
+            counts: counts.after(stepped),
             text,
         }),
         Err(fault) => {
-            print_one(rt, &mut text, printer, ended_event(counts));
-            Err(RunFault::End(fault))
+            if let RunFault::Counter | RunFault::End(_) = fault {
+                let counts = counts.after(desk.steps());
+                print_one(rt, &mut text, printer, ended_event(counts));
+            }
+            Err(fault)
         }
     }
 }
 
-/// Takes the state apart after all threads have ended. Returns the shared recorder, the source, the
-/// tokens of the trigger thread and the export thread, and the counts. If a thread couldn't
-/// continue, prints the event of the end.
-fn taken_apart<N: Session<A>, A: Allocator + Copy, I, K, P: Printer, R: Clock>(
+/// Records while another thread prints the events. If a thread can't be started, nothing is recorded.
+fn record_printing<
+    A: Allocator + Copy + Send + Sync,
+    F: Intake<A, Recording> + Send,
+    O: Desk<A, Recording> + Send,
+    K: Outlet<Recording> + Send,
+    P: Printer + Send,
+    R: Threads + Wait + Clock + Sync,
+>(
     rt: &R,
-    tasks: Tasks<'_, '_, '_, N, I, K, P, A>,
-    started: bool,
-    text: &mut Vec<u8, A>,
-) -> Result<(Shared<N, A>, Source<N, A>, Token<A>, Token<A>, Counts), RunFault> {
-    if !started {
-        drop(tasks);
-        return Err(RunFault::Thread);
-    }
-    let Tasks {
-        alloc: _,
-        signals,
-        shared,
-        acquisition,
-        trigger,
-        exports,
-        telling,
-    } = tasks;
-    let source = source_of(acquisition.into_inner());
-    let first = trigger_token(trigger.into_inner());
-    let (second, unwritten) = exports.into_inner().into_token();
-    let counts = counts_of(&signals, first.pumped(), unwritten);
-    let telling = telling.into_inner();
-    if signals.failed.load(Ordering::SeqCst) {
-        print_one(rt, text, &mut *telling.printer, ended_event(counts));
-        drop(telling);
-        drop(shared);
-        drop(source);
-        drop(first);
-        drop(second);
-        return Err(RunFault::Counter);
-    }
-    drop(telling);
-    Ok((shared, source, first, second, counts))
+    alloc: A,
+    recorder: Recorder<A>,
+    kind: Kind,
+    signals: &Signals,
+    telling: Telling<'_, P, A>,
+    intake: &mut F,
+    desk: &mut O,
+    outlet: &mut K,
+) -> Result<LiveReport<A>, RunFault>
+    ensures { IfOk result (λ report. RecordedLive F.gives F.loses O.asks O.hears K.puts K.lacks
+        (opening_of recorder) kind (intake.old, desk.old, outlet.old)
+        (intake.new, desk.new, outlet.new) report) }
+{
+    thread::scope(thread::scope_env(), rt, |scope| {
+        let printing = scope.spawn(move || print_events(rt, signals, telling));
+        if printing.is_err() {
+            return Err(RunFault::Thread);
+        }
+        let pace = Napping { rt, signals };
+        let report = record_with::<A, Recording, F, O, K, Napping<R>, R>(
+            rt, alloc, recorder, LANE, kind, &pace, intake, desk, outlet,
+        );
+        signals.ended.store(true, Ordering::SeqCst);
+        match report {
+            Ok(report) => Ok(report),
+            Err(fault) => Err(fault_of(fault, signals)),
+        }
+    })
 }
 
-/// The counts after all threads have ended, if so many steps were made.
-fn counts_of(signals: &Signals, steps: u64, unwritten: u64) -> Counts {
-    let scans = signals.came.load(Ordering::SeqCst);
-    Counts {
-        scans,
-        lost: signals.lost.load(Ordering::SeqCst),
-        left: scans.saturating_sub(steps),
-        records: signals.records.load(Ordering::SeqCst),
-        unwritten,
-        clock: signals.clock(),
-        is_broken: signals.broken.load(Ordering::SeqCst),
+/// Why the run failed. The devices have no errors of their own. `Memory` says that a thread could not
+/// be started, or that allocations failed after the input had ended.
+fn fault_of(fault: LiveFault, signals: &Signals) -> RunFault {
+    match fault {
+        LiveFault::Open(fault) => RunFault::Open(fault),
+        LiveFault::End(fault) => RunFault::End(fault),
+        LiveFault::Counter => RunFault::Counter,
+        LiveFault::Memory | LiveFault::Turns | LiveFault::Feed(_) | LiveFault::Sink(_) => {
+            if signals.acquired.load(Ordering::SeqCst) {
+                RunFault::End(EndFault::Memory)
+            } else {
+                RunFault::Thread
+            }
+        }
     }
 }
 
@@ -217,49 +295,6 @@ pub(crate) fn ended_event(counts: Counts) -> Event {
         records: counts.records,
         left: counts.left,
     }
-}
-
-/// The source.
-fn source_of<N: Session<A>, A: Allocator, I>(
-    acquisition: Acquisition<'_, N, I, A>,
-) -> Source<N, A> {
-    let Acquisition {
-        input: _,
-        source,
-        scans,
-        orders,
-        form: _,
-        filler,
-        buffer,
-        held: _,
-        at: _,
-    } = acquisition;
-    drop(filler);
-    drop(scans);
-    drop(orders);
-    drop(buffer);
-    source
-}
-
-/// The trigger thread's token.
-fn trigger_token<A: Allocator>(trigger: Trigger<A>) -> Token<A> {
-    let Trigger {
-        alloc: _,
-        token,
-        orders,
-        next,
-        operator,
-        teller,
-        shelf: _,
-        is_full: _,
-        missed: _,
-        told: _,
-    } = trigger;
-    drop(orders);
-    drop(next);
-    drop(operator);
-    drop(teller);
-    token
 }
 
 /// Prints an event. The text has room for its line.

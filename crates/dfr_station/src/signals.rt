@@ -2,15 +2,17 @@
 
 use std::sync::atomic::{AtomicBool, AtomicI64, AtomicU64, Ordering};
 
-/// The counters and flags. Each is written by one thread, but for `failed`.
+/// The counters and flags. Each is written by one thread, but for `short`
+/// and `last_short`.
 #[derive(Drop)]
 pub(crate) struct Signals {
-    /// How many scans came, including lost ones. The trigger thread may make this many steps.
-    /// An order of the input that came before one of these scans is in the queue before this
-    /// is written.
+    /// How many scans came, including lost ones.
     pub(crate) came: AtomicU64,
     /// How many of them were lost.
     pub(crate) lost: AtomicU64,
+    /// How many scan steps can be made: those up to the newest scan that the queue took. An order of
+    /// the input that came before one of these scans is in the queue before this is written.
+    pub(crate) ready: AtomicU64,
     /// How many microseconds the wall clock was ahead of the time of the newest scan when that scan
     /// was read. Written before `came`.
     pub(crate) clock: AtomicI64,
@@ -20,16 +22,16 @@ pub(crate) struct Signals {
     pub(crate) waiting: AtomicU64,
     /// At how many scans a rule fired while the shelf was full.
     pub(crate) missed: AtomicU64,
-    /// The input couldn't be read to its end.
-    pub(crate) broken: AtomicBool,
+    /// How often an allocation failed that is tried again.
+    pub(crate) short: AtomicU64,
+    /// How often since the input has ended.
+    pub(crate) last_short: AtomicU64,
+    /// The trigger thread has started.
+    pub(crate) triggering: AtomicBool,
     /// The input has ended.
     pub(crate) acquired: AtomicBool,
-    /// All steps have been made.
-    pub(crate) triggered: AtomicBool,
-    /// All records have been stored or given up.
-    pub(crate) exported: AtomicBool,
-    /// A thread could not be started, or cannot continue.
-    pub(crate) failed: AtomicBool,
+    /// All other threads have ended.
+    pub(crate) ended: AtomicBool,
 }
 
 impl Signals {
@@ -37,15 +39,16 @@ impl Signals {
         Signals {
             came: AtomicU64::new(0),
             lost: AtomicU64::new(0),
+            ready: AtomicU64::new(0),
             clock: AtomicI64::new(0),
             records: AtomicU64::new(0),
             waiting: AtomicU64::new(0),
             missed: AtomicU64::new(0),
-            broken: AtomicBool::new(false),
+            short: AtomicU64::new(0),
+            last_short: AtomicU64::new(0),
+            triggering: AtomicBool::new(false),
             acquired: AtomicBool::new(false),
-            triggered: AtomicBool::new(false),
-            exported: AtomicBool::new(false),
-            failed: AtomicBool::new(false),
+            ended: AtomicBool::new(false),
         }
     }
 

@@ -17,9 +17,20 @@ pub struct Stored {
 }
 
 /// Takes the records' pairs of files.
+///
+/// An implementation may state in `stores` what one call does: the store before it, the name, the two
+/// files, the answer, and the store after it.
 pub trait Store {
+    ghost use Rattle.std.specs.Prelude.{Result, ℕ, List, ⊤};
+    ghost use Rattle.dfr_station.specs.declared.key.Key.{Key};
+    ghost use Rattle.dfr_station.specs.declared.event.Trouble.{Trouble};
+    ghost use Rattle.dfr_station.specs.declared.station.Stored.{Stored};
+
+    ghost stores: { Self → Key → List ℕ → List ℕ → Result Stored Trouble → Self → Type 0 } = { λ _ _ _ _ _ _. ⊤ };
+
     /// Stores a record's configuration file and data file: both of them, or neither on an error.
-    fn put(&mut self, key: Key, cfg: &[u8], dat: &[u8]) -> Result<Stored, Trouble>;
+    fn put(&mut self, key: Key, cfg: &[u8], dat: &[u8]) -> Result<Stored, Trouble>
+        ensures { stores self.old key cfg.now dat.now result self.new };
 }
 
 /// Prints the lines of events.
@@ -50,3 +61,7 @@ pub struct Station<A: Allocator = Global> {
     /// The bytes that an operator sends, if there is one.
     pub operator: Option<Consumer<u8, A>>,
 }
+
+/// Names the devices of a station.
+#[derive(Clone, Copy, Debug, Drop)]
+pub(crate) struct Recording;

@@ -17,12 +17,33 @@ const NAP: u64 = 20;
 /// What the printing thread works on.
 #[derive(Drop)]
 pub(crate) struct Telling<'x, P, A: Allocator = Global> {
-    pub(crate) printer: &'x mut P,
-    pub(crate) scans: Waiting<A>,
-    pub(crate) triggers: Waiting<A>,
-    pub(crate) exports: Waiting<A>,
-    pub(crate) minutes: bool,
-    pub(crate) watch: Watch,
+    printer: &'x mut P,
+    scans: Waiting<A>,
+    triggers: Waiting<A>,
+    exports: Waiting<A>,
+    minutes: bool,
+    watch: Watch,
+    /// How many failed allocations that are tried again have been reported.
+    short: u64,
+}
+
+impl<'x, P, A: Allocator> Telling<'x, P, A> {
+    pub(crate) fn new(
+        printer: &'x mut P,
+        (scans, triggers, exports): (Waiting<A>, Waiting<A>, Waiting<A>),
+        minutes: bool,
+        watch: Watch,
+    ) -> Telling<'x, P, A> {
+        Telling {
+            printer,
+            scans,
+            triggers,
+            exports,
+            minutes,
+            watch,
+            short: 0,
+        }
+    }
 }
 
 /// The current instant in microseconds since 1970-01-01 00:00:00 UTC; 0 if the clock can't be read.
@@ -59,6 +80,15 @@ impl<P: Printer, A: Allocator + Copy> Telling<'_, P, A> {
         }
     }
 
+    /// Makes the line of failed allocations, if there were more.
+    fn put_short(&mut self, turn: Turn, signals: &Signals) {
+        let short = signals.short.load(Ordering::SeqCst);
+        if short != self.short {
+            self.short = short;
+            put_line(&mut self.triggers.text, turn.at, Event::Memory);
+        }
+    }
+
     /// Prints the waiting events. Returns whether there were any. The queues are emptied in the
     /// reverse of the order of printing, so that a record is never printed before its trigger.
     fn print(&mut self, clock: &impl Clock, signals: &Signals) -> bool {
@@ -70,6 +100,7 @@ impl<P: Printer, A: Allocator + Copy> Telling<'_, P, A> {
         let exports = self.exports.fill(turn);
         let triggers = self.triggers.fill(turn);
         let scans = self.scans.fill(turn);
+        self.put_short(turn, signals);
         self.put_watch(turn, signals);
         print_lines(self.printer, &self.scans.text);
         print_lines(self.printer, &self.triggers.text);
@@ -89,10 +120,11 @@ pub(crate) fn print_lines<P: Printer>(printer: &mut P, text: &[u8]) {
 pub(crate) fn print_events<A: Allocator + Copy, P: Printer, R: Wait + Clock>(
     rt: &R,
     signals: &Signals,
-    telling: &mut Telling<'_, P, A>,
+    telling: Telling<'_, P, A>,
 ) {
+    let mut telling = telling;
     for _ in rt.forever() {
-        let ended = signals.exported.load(Ordering::SeqCst);
+        let ended = signals.ended.load(Ordering::SeqCst);
         if telling.print(rt, signals) {
             continue;
         }

@@ -1,13 +1,7 @@
 //! The result of a recording, and why one failed.
 
-ghost use Rattle.std.specs.Prelude.{◌≡◌, IfOk};
-ghost use Rattle.dfr_station.specs.Runs.{Leaves};
-
-use crate::export::{LAST_TRIES, pause_before};
-use dfr_live::{EndFault, Ended, Inner, OpenFault, Session, Source, Token, end};
+use dfr_live::{EndFault, Ended, OpenFault};
 use std::alloc::{Allocator, Global};
-use std::sync::Wait;
-use std::time::Clock;
 use thiserror::Error;
 
 /// Why a recording didn't start, or did not reach its end.
@@ -51,7 +45,17 @@ pub struct Counts {
 }
 
 impl Counts {
-    ghost use Rattle.std.specs.Prelude.{◌≡◌, ◌&&◌, ◌==◌, ◌<◌, not, nat_lt};
+    ghost use Rattle.std.specs.Prelude.{◌≡◌, ◌-◌, ◌&&◌, ◌==◌, ◌<◌, not, nat_lt};
+
+    /// These counts, if so many steps were made.
+    pub(crate) fn after(self, steps: u64) -> Counts
+        ensures { result ≡ record self { left = self.scans - steps } }
+    {
+        Counts {
+            left: self.scans.saturating_sub(steps),
+            ..self
+        }
+    }
 
     /// Whether scans came, the input was read to its end, and no record was given up.
     pub fn is_whole(self) -> bool
@@ -68,29 +72,4 @@ pub struct Recorded<A: Allocator = Global> {
     pub counts: Counts,
     /// Room for an event's line, so that printing the end doesn't allocate.
     pub(crate) text: Vec<u8, A>,
-}
-
-/// Ends the recording. If an allocation fails, tries again each second, a few times.
-pub fn ended_of<N: Session<A>, A: Allocator + Copy, R: Wait + Clock>(
-    rt: &R,
-    alloc: A,
-    inner: Inner<N, A>,
-    source: Source<N, A>,
-    tokens: Vec<Token<A>, A>,
-) -> Result<Ended<A>, EndFault>
-    requires seats { N.seats ≡ 2 }
-    ensures { IfOk result (λ ended. Leaves N.opening ended) }
-{
-    let mut parts = (inner, source, tokens);
-    for tries in 0..LAST_TRIES {
-        pause_before(rt, tries);
-        let (inner, source, tokens) = parts;
-        let _ = inner.opening();
-        match end(alloc, inner, source, tokens) {
-            Ok(ended) => return Ok(ended),
-            Err((EndFault::Memory, inner, source, tokens)) => parts = (inner, source, tokens),
-            Err((fault, _, _, _)) => return Err(fault),
-        }
-    }
-    Err(EndFault::Memory)
 }

@@ -1,0 +1,132 @@
+-- What the acquisition makes of an input: each scan that comes is one step, its scan or a lost one, and each order goes into a queue.
+use Rattle.std.specs.Prelude.{◌≡◌, ◌⊎◌, ℕ, ◌+◌, ◌-◌, ◌^◌, ◌≤◌, min, List, [], ◌∷◌, ◌++◌, length, replicate, Bool, Option, Some, None, Result, Ok, Err}
+use Rattle.dfr_channels.specs.Parts.{ScanParts, SetupParts}
+use Rattle.dfr_channels.specs.declared.scan.Reading.TheVariants as reading
+use Rattle.dfr_live.specs.Devices.{Came}
+use Rattle.dfr_live.specs.declared.station.Fed.{Fed}
+use Rattle.dfr_live.specs.declared.station.Fed.TheVariants as fed
+use Rattle.dfr_station.specs.Storing.{one_more}
+use Rattle.dfr_station.specs.declared.desk.Placed.{Placed}
+use Rattle.dfr_station.specs.declared.intake.arrival.Arrival.{Arrival}
+use Rattle.dfr_station.specs.declared.intake.arrival.Arrival.TheVariants as arrival
+use Rattle.dfr_station.specs.declared.intake.arrivals.Ending.{Ending}
+use Rattle.dfr_station.specs.declared.intake.arrivals.Next.{Next}
+use Rattle.dfr_station.specs.declared.intake.arrivals.Next.TheVariants as coming
+use Rattle.dfr_station.specs.declared.scans.Given.{Given}
+use Rattle.dfr_station.specs.declared.scans.Given.TheVariants as given
+
+-- the scans of an input: how many came and how many of them were lost, how many of these in a row since the queue took one, the bits
+-- of that one, what was given last, of which it isn't known yet whether the queue takes it, and the bits of that
+pub record ScansParts : Type 0 where
+  pub layout : SetupParts
+  pub came : ℕ
+  pub lost : ℕ
+  pub row : ℕ
+  pub bits : List Bool
+  pub last : Given
+  pub noted : List Bool
+
+abbrev pub next_in_row : ℕ → ℕ
+next_in_row n = min (n + 1) (2 ^ 32 - 1)
+
+abbrev pub settled_by : Given → ScansParts → ScansParts
+settled_by given.Nothing s = s
+settled_by given.Scan s = record s { row = 0; bits = s.noted; last = given.Nothing; noted = s.bits }
+settled_by given.Filler s = record s { row = 0; last = given.Nothing }
+
+-- the queue took what was given last
+abbrev pub settled : ScansParts → ScansParts
+settled s = settled_by s.last s
+
+abbrev pub dropped_by : Given → ScansParts → ScansParts
+dropped_by given.Nothing s = record s { row = next_in_row s.row }
+dropped_by given.Scan s = record s { lost = one_more s.lost; row = next_in_row s.row; last = given.Nothing }
+dropped_by given.Filler s = record s { row = next_in_row s.row; last = given.Nothing }
+
+-- the queue had no place for what was given last: it is lost
+abbrev pub dropped : ScansParts → ScansParts
+dropped s = dropped_by s.last s
+
+-- a scan without readings, with these bits
+abbrev pub missing : SetupParts → List Bool → ScanParts
+missing layout bits = record { analog = replicate (length layout.analog) reading.Missing; status = bits }
+
+abbrev pub counted_lost : ScansParts → ScansParts
+counted_lost s = record s { came = one_more s.came; lost = one_more s.lost }
+
+-- a scan came that is lost; after 65,536 lost ones in a row, a scan without readings may be given in its place, with the bits of the
+-- newest scan that the queue took
+abbrev pub GivesLost : {A : Type 0} → ScansParts → Fed A → ScansParts → Type 0
+GivesLost s fed.Lost t = t ≡ record (counted_lost s) { row = next_in_row s.row }
+GivesLost s (fed.Scan scan) t =
+    (65_536 ≤ s.row) × (scan ≡ missing s.layout s.bits) × (t ≡ record (counted_lost s) { last = given.Filler })
+GivesLost s fed.NotYet t = ⊥
+GivesLost s fed.Done t = ⊥
+
+-- a scan came that fits: it is given, or it is lost for want of memory
+abbrev pub GivesScan : {A : Type 0} → ScansParts → ScanParts → Fed A → ScansParts → Type 0
+GivesScan {A} s scan (fed.Scan x) t =
+    ((x ≡ scan) × (t ≡ record s { came = one_more s.came; last = given.Scan; noted = scan.status }))
+    ⊎ ((m : List Bool) × GivesLost {A} (record s { noted = m }) (fed.Scan x) t)
+GivesScan {A} s scan fed.Lost t = (m : List Bool) × GivesLost {A} (record s { noted = m }) fed.Lost t
+GivesScan s scan fed.NotYet t = ⊥
+GivesScan s scan fed.Done t = ⊥
+
+-- an input, the scans of it, and the orders that were put into the queue
+pub record Acquired (C A : Type 0) : Type 0 where
+  pub incoming : C
+  pub scans : ScansParts
+  pub orders : List (Placed A)
+
+abbrev pub ComesOf : Type 0 → Type 0 → Type 1
+ComesOf C A = C → Next A → C → Type 0
+
+-- what is no step: an order, for which there may be no place in its queue; a line that is skipped; or all that was read was given
+abbrev pub QuietlyBy : {C A : Type 0} → Acquired C A → Next A → Acquired C A → Type 0
+QuietlyBy s (coming.Arrival (arrival.Scan scan)) t = ⊥
+QuietlyBy s (coming.Arrival (arrival.Lost why)) t = ⊥
+QuietlyBy s (coming.Arrival (arrival.Order line place order)) t =
+    (t.orders ≡ s.orders ++ record { at = place; order = order } ∷ []) ⊎ (t.orders ≡ s.orders)
+QuietlyBy s (coming.Arrival (arrival.Skipped line why)) t = t.orders ≡ s.orders
+QuietlyBy s coming.Drained t = t.orders ≡ s.orders
+QuietlyBy s (coming.End ending) t = ⊥
+
+abbrev pub Quietly : {C A : Type 0} → ComesOf C A → Acquired C A → Next A → Acquired C A → Type 0
+Quietly Comes s x t = Comes s.incoming x t.incoming × (t.scans ≡ s.scans) × QuietlyBy s x t
+
+-- what is one step: a scan, or a lost one
+abbrev pub Steps : {C A : Type 0} → Acquired C A → Next A → Fed A → Acquired C A → Type 0
+Steps s (coming.Arrival (arrival.Scan scan)) x t = GivesScan s.scans scan x t.scans × (t.orders ≡ s.orders)
+Steps s (coming.Arrival (arrival.Lost why)) x t = GivesLost s.scans x t.scans × (t.orders ≡ s.orders)
+Steps s (coming.Arrival (arrival.Order line place order)) x t = ⊥
+Steps s (coming.Arrival (arrival.Skipped line why)) x t = ⊥
+Steps s coming.Drained x t = ⊥
+Steps s (coming.End ending) x t = ⊥
+
+-- what came, once it was taken from the input, and the step for it
+abbrev pub Gave : {C A : Type 0} → Acquired C A → Next A → Option (Fed A) → Acquired C A → Type 0
+Gave s x (Some fed) t = Steps s x fed t × (t.incoming ≡ s.incoming)
+Gave s x None t = QuietlyBy s x t × (t.scans ≡ s.scans) × (t.incoming ≡ s.incoming)
+
+-- after what is no step, this came next
+abbrev pub ComesNext : {C A : Type 0} → ComesOf C A → Acquired C A → (Acquired C A → Type 0) → Type 0
+ComesNext {C} {A} Comes s Then =
+    (quiet : List (Next A)) × (m : Acquired C A) × Came (Quietly Comes) s quiet m × Then m
+
+-- what the acquisition gives: a step for the next scan that comes, or none before recording has begun, or the end of the input
+abbrev pub AcquisitionGives : {C A : Type 0} → ComesOf C A → Acquired C A → Result (Fed A) ℕ → Acquired C A → Type 0
+AcquisitionGives Comes s (Ok fed.NotYet) t = t ≡ s
+AcquisitionGives {C} {A} Comes s (Ok fed.Done) t =
+    ComesNext Comes (record s { scans = settled s.scans }) (λ (m : Acquired C A).
+        (ending : Ending) × Comes m.incoming (coming.End ending) t.incoming × (t.scans ≡ m.scans) × (t.orders ≡ m.orders))
+AcquisitionGives {C} {A} Comes s (Ok (fed.Scan scan)) t =
+    ComesNext Comes (record s { scans = settled s.scans }) (λ (m : Acquired C A).
+        (x : Next A) × Comes m.incoming x t.incoming × Steps m x (fed.Scan scan) t)
+AcquisitionGives {C} {A} Comes s (Ok fed.Lost) t =
+    ComesNext Comes (record s { scans = settled s.scans }) (λ (m : Acquired C A).
+        (x : Next A) × Comes m.incoming x t.incoming × Steps m x fed.Lost t)
+AcquisitionGives Comes s (Err code) t = ⊥
+
+-- the queue had no place for the scan that was given last
+abbrev pub AcquisitionLoses : {C A : Type 0} → Acquired C A → Acquired C A → Type 0
+AcquisitionLoses s t = t ≡ record s { scans = dropped s.scans }

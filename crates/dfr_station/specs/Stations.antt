@@ -1,0 +1,64 @@
+-- What a station did that ran to the end of its input.
+use Rattle.std.specs.Prelude.{◌≡◌, ℕ, ◌-◌, List, [], map, Bool, false, Option, Some, None, ⊤, true}
+use Rattle.rtrb.specs.Ring.{sent}
+use Rattle.dfr_channels.specs.Parts.{SetupParts}
+use Rattle.dfr_recorder.specs.History.{Opening}
+use Rattle.comtrade_format.specs.declared.file.Kind.{Kind}
+use Rattle.dfr_live.specs.Devices.{AsksOf, HearsOf}
+use Rattle.dfr_live.specs.Report.{Recorded as RecordedLive}
+use Rattle.dfr_live.specs.declared.report.LiveReport.{LiveReport}
+use Rattle.dfr_station.specs.Input.{ReadingParts, reading_of}
+use Rattle.dfr_station.specs.Acquiring.{Acquired, ComesOf, AcquisitionGives, AcquisitionLoses}
+use Rattle.dfr_station.specs.Storing.{StoresOf, Exporting, PutsPair, LacksPair}
+use Rattle.dfr_station.specs.declared.desk.Office.{Office}
+use Rattle.dfr_station.specs.declared.intake.arrivals.Arrivals.{Arrivals}
+use Rattle.dfr_station.specs.declared.intake.ended.Recorded.{Recorded}
+use Rattle.dfr_station.specs.declared.run.Parts.{Parts}
+use Rattle.dfr_station.specs.declared.scans.Given.TheVariants as given
+use Rattle.dfr_station.specs.declared.station.Input.{Input}
+
+-- nothing is said of the orders that a station's desk hands out; it goes on, whatever the reply
+abbrev pub asks_any : {A : Type 0} → AsksOf A (Office A)
+asks_any s standing asked t = ⊤
+
+abbrev pub hears_any : {A : Type 0} → HearsOf (Office A)
+hears_any s at reply goes_on t = goes_on ≡ true
+
+-- no scan has come, and no order: before the first scan the status channels are in their normal states
+abbrev pub IsBegun : {C A : Type 0} → SetupParts → C → Acquired C A → Type 0
+IsBegun layout incoming s =
+    (s.incoming ≡ incoming) × (s.scans.layout ≡ layout) × (s.scans.came ≡ 0) × (s.scans.lost ≡ 0) × (s.scans.row ≡ 0)
+    × (s.scans.last ≡ given.Nothing) × (s.scans.bits ≡ map (λ c. c.normal) layout.status) × (s.orders ≡ [])
+
+-- the parts of a station before it runs: no scan was taken, and no order was put into the queue
+abbrev pub IsFresh : {A : Type 0} → SetupParts → Parts A → Type 0
+IsFresh layout parts =
+    (parts.filler.bits.items ≡ map (λ c. c.normal) layout.status) × (sent parts.orders.0 ≡ [])
+
+-- A run from an input to a store. As `dfr_live` has it, over the three devices of a station: the acquisition gave a step for each scan that
+-- came, one list has the steps of all, and the pair of each record went to the store or the record was counted. What is left is what that
+-- run left, and the counts are those of the devices.
+pub record Ran {C A K : Type 0} (Comes : ComesOf C A) (Stores : StoresOf K) (o : Opening) (kind : Kind) (incoming : C) (store : K)
+    (left : Recorded A) : Type 0 where
+  pub begun : Acquired C A
+  pub over : Acquired C A
+  pub opened : Office A
+  pub closed : Office A
+  pub exported : Exporting K
+  pub report : LiveReport A
+  pub begins : IsBegun o.layout incoming begun
+  pub recorded : RecordedLive (AcquisitionGives Comes) AcquisitionLoses asks_any hears_any (PutsPair Stores)
+      (λ s extent short t. LacksPair s short t) o kind
+      (begun, opened, record { store = store; records = 0; unwritten = 0 }) (over, closed, exported) report
+  pub same_end : left.ended ≡ report.ended
+  pub all_scans : left.counts.scans ≡ over.scans.came
+  pub all_lost : left.counts.lost ≡ over.scans.lost
+  pub not_made : left.counts.left ≡ over.scans.came - report.stepped
+  pub taken : left.counts.records ≡ exported.records
+  pub given_up : left.counts.unwritten ≡ exported.unwritten
+
+-- what comes begins with these bytes, which were read before, and goes on with this input
+abbrev pub Begins : {I A : Type 0} → SetupParts → Input → List ℕ → I → Arrivals I A → Type 0
+Begins layout form bytes input s =
+    (s.input.now ≡ input) × (s.cutter.layout.now ≡ layout) × (s.cutter.buffer ≡ bytes) × (s.ending ≡ None)
+    × (reading_of s.cutter ≡ record { form = form; came = 0; lines = 0; owed = false; skipping = false })

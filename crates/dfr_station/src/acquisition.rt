@@ -1,0 +1,159 @@
+//! What the acquisition thread reads: each scan that comes is one step, and each order is put into a
+//! queue.
+
+ghost use Rattle.std.specs.Prelude.{◌≡◌};
+ghost use Rattle.rtrb.specs.Ring.{sent};
+ghost use Rattle.dfr_station.specs.Acquiring.{Gave};
+
+use crate::desk::Placed;
+use crate::event::{Event, Skipped};
+use crate::intake::{Arrival, Arrivals, Counts, Ending, Next};
+use crate::scans::Scans;
+use crate::station::Recording;
+use dfr_live::{Fed, Intake};
+use rtrb::Producer;
+use std::alloc::{Allocator, Global};
+use std::io::Read;
+use std::marker::Model;
+use std::sync::Wait;
+use std::time::Clock;
+
+/// The input, and what is made of it.
+#[derive(Drop)]
+pub(crate) struct Acquisition<'s, 'x, I, R, A: Allocator = Global> {
+    rt: &'s R,
+    arrivals: Arrivals<'x, I, A>,
+    scans: Scans<'s, A>,
+    orders: Producer<Placed<A>, A>,
+    /// The input couldn't be read to its end.
+    is_broken: bool,
+}
+
+impl<'s, 'x, I, R, A: Allocator> Model for Acquisition<'s, 'x, I, R, A> {
+    ghost use Rattle.rtrb.specs.Ring.{sent};
+    ghost use Rattle.dfr_station.specs.Acquiring.{Acquired};
+
+    ghost use Rattle.dfr_station.specs.declared.intake.arrivals.Arrivals.{Arrivals as Arriving};
+
+    ghost Value = { Acquired (Arriving I A) A };
+
+    ghost view = { λ a. record {
+      incoming = a.arrivals;
+      scans = a.scans;
+      orders = sent a.orders;
+    } };
+}
+
+impl<'s, 'x, I, R, A: Allocator + Copy> Acquisition<'s, 'x, I, R, A> {
+    pub(crate) fn new(
+        rt: &'s R,
+        arrivals: Arrivals<'x, I, A>,
+        scans: Scans<'s, A>,
+        orders: Producer<Placed<A>, A>,
+    ) -> Acquisition<'s, 'x, I, R, A>
+        ensures { result ≡ record { incoming = arrivals.entry; scans = scans.entry; orders = sent orders } }
+    {
+        Acquisition {
+            rt,
+            arrivals,
+            scans,
+            orders,
+            is_broken: false,
+        }
+    }
+
+    /// What came until now. Records are not counted here.
+    pub(crate) fn counts(&self) -> Counts
+        ensures { (result.scans ≡ self.now.scans.came) × (result.lost ≡ self.now.scans.lost) }
+    {
+        Counts {
+            scans: self.scans.came(),
+            lost: self.scans.lost(),
+            left: 0,
+            records: 0,
+            unwritten: 0,
+            clock: self.scans.clock(),
+            is_broken: self.is_broken,
+        }
+    }
+
+    /// Reports a line that is skipped.
+    fn skip(&mut self, line: u64, why: Skipped)
+        ensures { self.new ≡ self.old }
+    {
+        self.scans.tell(Event::Line { line, why });
+    }
+
+    /// What came: a step, or none.
+    fn step_of(&mut self, arrival: Arrival<A>) -> Option<Fed<A>>
+        ensures { Gave self.old (Next.Arrival arrival) result self.new }
+    {
+        match arrival {
+            Arrival::Scan(scan) => Some(self.scans.give(scan)),
+            Arrival::Lost(why) => Some(self.scans.lose(why)),
+            Arrival::Order { line, at, order } => {
+                if self.orders.push(Placed { at, order }).is_err() {
+                    self.skip(line, Skipped::Busy);
+                }
+                None
+            }
+            Arrival::Skipped { line, why } => {
+                self.skip(line, why);
+                None
+            }
+        }
+    }
+
+    /// The input has ended.
+    fn end(&mut self, ending: Ending)
+        ensures { self.new ≡ self.old }
+    {
+        match ending {
+            Ending::Whole => {}
+            Ending::Cut(bytes) => self.scans.tell(Event::Cut(bytes)),
+            Ending::Broken => {
+                self.is_broken = true;
+                self.scans.tell(Event::Broken);
+            }
+        }
+        self.scans.end();
+    }
+}
+
+impl<I: Read, R: Wait + Clock, A: Allocator + Copy> Intake<A, Recording>
+    for Acquisition<'_, '_, I, R, A> {
+    ghost use Rattle.dfr_station.specs.Acquiring.{AcquisitionGives, AcquisitionLoses};
+    ghost use Rattle.dfr_station.specs.Arrivals.{HandsNext};
+
+    ghost gives = { λ s r t. AcquisitionGives (HandsNext I.remaining) s r t };
+
+    ghost loses = { λ s t. AcquisitionLoses s t };
+
+    fn next(&mut self) -> Result<Fed<A>, u32> {
+        if !self.scans.begins() {
+            return Ok(Fed::NotYet);
+        }
+        self.scans.settle();
+        for _ in self.rt.forever() {
+            match self.arrivals.next(self.rt) {
+                Next::Arrival(arrival) => {
+                    if let Some(fed) = self.step_of(arrival) {
+                        return Ok(fed);
+                    }
+                }
+                Next::Drained => self.scans.publish(self.arrivals.at()),
+                Next::End(ending) => {
+                    self.scans.publish(self.arrivals.at());
+                    self.end(ending);
+                    return Ok(Fed::Done);
+                }
+            }
+        }
+        unreachable!()
+    }
+
+    fn is_lost(&mut self) -> bool {
+        self.scans.drop_given();
+        true
+    }
+}

@@ -1,0 +1,92 @@
+//! The input's bytes that were read and wait to be used.
+
+ghost use Rattle.std.specs.Prelude.{◌≡◌, ◌≤◌, ◌<◌, ◌+◌, ◌==◌, IfOk, [], length, drop};
+ghost use Rattle.dfr_station.specs.Input as spec;
+
+use crate::reading::{Given, read_some};
+use std::alloc::{AllocError, Allocator, Global};
+use std::io::Read;
+use std::marker::Model;
+use std::sync::Wait;
+use std::time::Clock;
+
+/// The most bytes that wait, and are read at once.
+pub(crate) const ROOM: usize = 65_536;
+
+/// The bytes that wait: those of `bytes` from `from` to `end`.
+#[derive(Drop)]
+pub(crate) struct Buffer<A: Allocator = Global> {
+    bytes: Vec<u8, A>,
+    from: usize,
+    end: usize,
+}
+
+impl<A: Allocator> Model for Buffer<A> {
+    ghost use Rattle.std.specs.Prelude.{◌≡◌, ◌≤◌, ◌-◌, List, ℕ, length, take, drop};
+
+    ghost Value = { List ℕ };
+
+    ghost view = { λ b. take (b.end - b.from) (drop b.from b.bytes.items) };
+
+    ghost invariant = { λ b. (b.from ≤ b.end) × (b.end ≤ 65_536) × (length b.bytes.items ≡ 65_536) };
+}
+
+impl<A: Allocator> Buffer<A> {
+    /// An empty buffer.
+    pub(crate) fn new(alloc: A) -> Result<Buffer<A>, AllocError>
+        ensures { IfOk result (λ buffer. buffer ≡ []) }
+    {
+        Ok(Buffer {
+            bytes: vec![in alloc; 0u8; ROOM]?,
+            from: 0,
+            end: 0,
+        })
+    }
+
+    /// The bytes that wait.
+    pub(crate) fn waiting(&self) -> &[u8]
+        ensures bytes { result.now ≡ self.now }
+        ensures few { length result.now ≤ 65_536 }
+    {
+        &self.bytes[self.from..self.end]
+    }
+
+    /// Whether there is no room for more bytes.
+    pub(crate) fn is_full(&self) -> bool
+        ensures { result ≡ (length self.now == 65_536) }
+    {
+        self.end - self.from == ROOM
+    }
+
+    /// Drops the first bytes that wait.
+    pub(crate) fn use_up(&mut self, count: usize)
+        requires { count ≤ length self.old }
+        ensures { self.new ≡ drop count self.old }
+    {
+        self.from += count;
+    }
+
+    /// Moves the bytes that wait to the front.
+    fn move_up(&mut self)
+        ensures { self.new ≡ self.old }
+    {
+        if self.from > 0 {
+            self.bytes.copy_within(self.from..self.end, 0);
+            self.end -= self.from;
+            self.from = 0;
+        }
+    }
+
+    /// Reads once, after the bytes that wait. There must be room.
+    pub(crate) fn fill<I: Read, R: Wait + Clock>(&mut self, rt: &R, input: &mut I) -> Given
+        requires { length self.old < 65_536 }
+        ensures { spec.Fills I.remaining self.old input.old result self.new input.new }
+    {
+        self.move_up();
+        let given = read_some(rt, input, &mut self.bytes[self.end..]);
+        if let Given::Bytes(count) = given {
+            self.end += count;
+        }
+        given
+    }
+}

@@ -1,0 +1,189 @@
+//! What a line of the input is: a scan, a lost scan, an order, or a line that is skipped.
+
+ghost use Rattle.std.specs.Prelude.{◌≡◌, MatchOption};
+ghost use Rattle.dfr_channels.specs.Firing.{rules_fault};
+ghost use Rattle.dfr_script.specs.Commands.{parts_of};
+ghost use Rattle.dfr_station.specs.Lines as spec;
+
+use crate::event::Skipped;
+use crate::intake::arrival::{Arrival, arrival_of_scan};
+use crate::intake::feed::Why;
+use dfr_channels::{Layout, Lines, Rule, RuleFault, Rules};
+use dfr_live::Order;
+use dfr_script::{Command, LineFault, LineRefusal, ScanSize, command_of_line};
+use memchr::memchr;
+use std::alloc::{Allocator, Global};
+
+/// A line: its number, from 1, how many scans came before it, and its text without its end.
+#[derive(Clone, Copy, Debug)]
+pub struct Line<'a> {
+    pub number: u64,
+    pub came: u64,
+    pub text: &'a [u8],
+}
+
+/// What a line means.
+#[derive(Drop, Debug)]
+pub enum Meaning<A: Allocator = Global> {
+    /// Nothing: the line is blank or a comment.
+    Nothing,
+    /// One arrival.
+    One(Arrival<A>),
+    /// The line is skipped, and a lost scan: it is probably a scan line that was damaged.
+    Damaged(Skipped),
+}
+
+/// The first line of the bytes, without its end, and the number of its bytes with its end. None if
+/// the bytes have no line feed.
+pub(crate) fn first_line(bytes: &[u8]) -> Option<(&[u8], usize)>
+    ensures { MatchOption result (spec.HasNoFeed bytes.now)
+        (λ line. spec.IsFirstLine bytes.now line.0.now line.1) }
+{
+    let feed = memchr(b'\n', bytes)?;
+    let line = Lines::of(&bytes[..feed]).next()?;
+    Some((line, feed + 1))
+}
+
+/// The first word of a line, up to its first blank or control character.
+fn first_word(line: &[u8]) -> &[u8]
+    ensures { result.now ≡ spec.first_word line.now }
+{
+    match line.iter().position(|b| *b <= b' ') {
+        Some(end) => &line[..end],
+        None => line,
+    }
+}
+
+/// Whether a line is a scan line: it begins with the word `scan` or `lost`. Such a line counts as a
+/// scan, even if it can't be read.
+pub fn is_scan_line(line: &[u8]) -> bool
+    ensures { result ≡ spec.is_scan_line line.now }
+{
+    matches!(first_word(line), b"scan" | b"lost")
+}
+
+/// The words of the script language with which no scan line begins.
+const WORDS: [&[u8]; 12] = [
+    b"trigger", b"rules", b"take", b"go", b"station", b"device", b"analog", b"status", b"freq",
+    b"rate", b"start", b"limits",
+];
+
+/// Whether a line is probably a scan line that was damaged: it is neither blank nor a comment, and
+/// its first word is none of the script language.
+pub fn is_damaged(line: &[u8]) -> bool
+    ensures { result ≡ spec.is_damaged line.now }
+{
+    if line.starts_with(b"#") || line.iter().all(|b| matches!(*b, b' ' | b'\t' | b'\r')) {
+        return false;
+    }
+    let word = first_word(line);
+    !is_scan_line(line) && !WORDS.iter().any(|known| *known == word)
+}
+
+/// Why a line with this fault is skipped.
+pub(crate) fn skipped_of_line(fault: LineFault) -> Skipped
+    ensures { result ≡ spec.skipped_of_line fault }
+{
+    match fault {
+        LineFault::Word => Skipped::Word,
+        LineFault::Fields => Skipped::Fields,
+        LineFault::Number => Skipped::Number,
+    }
+}
+
+/// Why a line with these rules is skipped.
+pub(crate) fn skipped_of_rules(fault: RuleFault) -> Skipped
+    ensures { result ≡ spec.skipped_of_rules fault }
+{
+    match fault {
+        RuleFault::TooMany => Skipped::TooMany,
+        RuleFault::NoChannel(_) => Skipped::NoChannel,
+    }
+}
+
+/// An order to set these rules; the line is skipped if they don't fit the layout.
+fn arrival_of_rules<A: Allocator>(
+    layout: &Layout<A>,
+    line: u64,
+    at: u64,
+    list: Vec<Rule, A>,
+) -> Arrival<A>
+    ensures { spec.parts_of result
+        ≡ spec.of_rules (rules_fault layout.now list.items) line at list.items }
+{
+    match Rules::new(layout, list) {
+        Ok(rules) => Arrival::Order {
+            line,
+            at,
+            order: Order::SetRules(rules),
+        },
+        Err((fault, _)) => Arrival::Skipped {
+            line,
+            why: skipped_of_rules(fault),
+        },
+    }
+}
+
+/// What a command means.
+fn arrival_of_command<A: Allocator>(
+    layout: &Layout<A>,
+    number: u64,
+    came: u64,
+    command: Command<A>,
+) -> Arrival<A>
+    ensures { spec.parts_of result ≡ spec.of_command layout.now number came (parts_of command) }
+{
+    match command {
+        Command::Scan(scan) => arrival_of_scan(layout, scan),
+        Command::Lost => Arrival::Lost(Why::Told),
+        Command::Trigger => Arrival::Order {
+            line: number,
+            at: came,
+            order: Order::Trigger,
+        },
+        Command::Take => Arrival::Skipped {
+            line: number,
+            why: Skipped::Word,
+        },
+        Command::Rules { line, list } => arrival_of_rules(layout, line, came, list),
+    }
+}
+
+/// A line that can't be read. A scan line is a lost scan, and any other line is skipped. After the
+/// first scan a damaged line is a lost scan as well, so that later scans keep their instants.
+pub(crate) fn refused<A: Allocator>(line: Line<'_>, skipped: Skipped, why: Why) -> Meaning<A>
+    ensures { spec.given_by line.number result
+        ≡ spec.refused line.number line.came line.text.now skipped why }
+{
+    if is_scan_line(line.text) {
+        return Meaning::One(Arrival::Lost(why));
+    }
+    if line.came > 0 && is_damaged(line.text) {
+        return Meaning::Damaged(skipped);
+    }
+    Meaning::One(Arrival::Skipped {
+        line: line.number,
+        why: skipped,
+    })
+}
+
+/// What a line means: the same as after the `go` of a script, but that `take` is not accepted.
+pub fn meaning_of<A: Allocator + Copy>(
+    alloc: A,
+    layout: &Layout<A>,
+    line: Line<'_>,
+) -> Meaning<A>
+    ensures { spec.LineMeans layout.now line.number line.came line.text.now
+        (spec.given_by line.number result) }
+{
+    let size = ScanSize {
+        analog: layout.analog().len(),
+        status: layout.status().len(),
+    };
+    match command_of_line(alloc, line.number, line.text, size) {
+        Ok(None) => Meaning::Nothing,
+        Ok(Some(command)) => Meaning::One(arrival_of_command(layout, line.number, line.came, command)),
+        Err(LineRefusal::Fault(fault)) => refused(line, skipped_of_line(fault), Why::Unread),
+        Err(LineRefusal::Memory) => refused(line, Skipped::Memory, Why::Memory),
+    }
+}
