@@ -1,3 +1,5 @@
 pub mod Parts
 pub mod Cutting
 pub mod Coming
+pub mod Acquired
+pub mod Orders

@@ -86,7 +86,7 @@ abbrev pub QuietlyBy : {C A : Type 0} → Acquired C A → Next A → Acquired C
 QuietlyBy s (coming.Arrival (arrival.Scan scan)) t = ⊥
 QuietlyBy s (coming.Arrival (arrival.Lost why)) t = ⊥
 QuietlyBy s (coming.Arrival (arrival.Order line place order)) t =
-    (t.orders ≡ s.orders ++ record { at = place; order = order } ∷ []) ⊎ (t.orders ≡ s.orders)
+    (t.orders ≡ s.orders ++ record { line = line; at = place; order = order } ∷ []) ⊎ (t.orders ≡ s.orders)
 QuietlyBy s (coming.Arrival (arrival.Skipped line why)) t = t.orders ≡ s.orders
 QuietlyBy s coming.Drained t = t.orders ≡ s.orders
 QuietlyBy s (coming.End ending) t = ⊥
@@ -113,9 +113,9 @@ abbrev pub ComesNext : {C A : Type 0} → ComesOf C A → Acquired C A → (Acqu
 ComesNext {C} {A} Comes s Then =
     (quiet : List (Next A)) × (m : Acquired C A) × Came (Quietly Comes) s quiet m × Then m
 
--- what the acquisition gives: a step for the next scan that comes, or none before recording has begun, or the end of the input
+-- what the acquisition gives: a step for the next scan that comes, or the end of the input
 abbrev pub AcquisitionGives : {C A : Type 0} → ComesOf C A → Acquired C A → Result (Fed A) ℕ → Acquired C A → Type 0
-AcquisitionGives Comes s (Ok fed.NotYet) t = t ≡ s
+AcquisitionGives Comes s (Ok fed.NotYet) t = ⊥
 AcquisitionGives {C} {A} Comes s (Ok fed.Done) t =
     ComesNext Comes (record s { scans = settled s.scans }) (λ (m : Acquired C A).
         (ending : Ending) × Comes m.incoming (coming.End ending) t.incoming × (t.scans ≡ m.scans) × (t.orders ≡ m.orders))

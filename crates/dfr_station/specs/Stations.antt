@@ -4,25 +4,17 @@ use Rattle.rtrb.specs.Ring.{sent}
 use Rattle.dfr_channels.specs.Parts.{SetupParts}
 use Rattle.dfr_recorder.specs.History.{Opening}
 use Rattle.comtrade_format.specs.declared.file.Kind.{Kind}
-use Rattle.dfr_live.specs.Devices.{AsksOf, HearsOf}
 use Rattle.dfr_live.specs.Report.{Recorded as RecordedLive}
 use Rattle.dfr_live.specs.declared.report.LiveReport.{LiveReport}
 use Rattle.dfr_station.specs.Input.{ReadingParts, reading_of}
 use Rattle.dfr_station.specs.Acquiring.{Acquired, ComesOf, AcquisitionGives, AcquisitionLoses}
 use Rattle.dfr_station.specs.Storing.{StoresOf, Exporting, PutsPair, LacksPair}
-use Rattle.dfr_station.specs.declared.desk.Office.{Office}
+use Rattle.dfr_station.specs.Desks.{DeskParts, DeskAsks, DeskHears}
 use Rattle.dfr_station.specs.declared.intake.arrivals.Arrivals.{Arrivals}
 use Rattle.dfr_station.specs.declared.intake.ended.Recorded.{Recorded}
 use Rattle.dfr_station.specs.declared.run.Parts.{Parts}
 use Rattle.dfr_station.specs.declared.scans.Given.TheVariants as given
 use Rattle.dfr_station.specs.declared.station.Input.{Input}
-
--- nothing is said of the orders that a station's desk hands out; it goes on, whatever the reply
-abbrev pub asks_any : {A : Type 0} → AsksOf A (Office A)
-asks_any s standing asked t = ⊤
-
-abbrev pub hears_any : {A : Type 0} → HearsOf (Office A)
-hears_any s at reply goes_on t = goes_on ≡ true
 
 -- no scan has come, and no order: before the first scan the status channels are in their normal states
 abbrev pub IsBegun : {C A : Type 0} → SetupParts → C → Acquired C A → Type 0
@@ -42,12 +34,12 @@ pub record Ran {C A K : Type 0} (Comes : ComesOf C A) (Stores : StoresOf K) (o :
     (left : Recorded A) : Type 0 where
   pub begun : Acquired C A
   pub over : Acquired C A
-  pub opened : Office A
-  pub closed : Office A
+  pub opened : DeskParts A
+  pub closed : DeskParts A
   pub exported : Exporting K
   pub report : LiveReport A
   pub begins : IsBegun o.layout incoming begun
-  pub recorded : RecordedLive (AcquisitionGives Comes) AcquisitionLoses asks_any hears_any (PutsPair Stores)
+  pub recorded : RecordedLive (AcquisitionGives Comes) AcquisitionLoses DeskAsks DeskHears (PutsPair Stores)
       (λ s extent short t. LacksPair s short t) o kind
       (begun, opened, record { store = store; records = 0; unwritten = 0 }) (over, closed, exported) report
   pub same_end : left.ended ≡ report.ended

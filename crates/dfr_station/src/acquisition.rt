@@ -92,7 +92,7 @@ impl<'s, 'x, I, R, A: Allocator + Copy> Acquisition<'s, 'x, I, R, A> {
             Arrival::Scan(scan) => Some(self.scans.give(scan)),
             Arrival::Lost(why) => Some(self.scans.lose(why)),
             Arrival::Order { line, at, order } => {
-                if self.orders.push(Placed { at, order }).is_err() {
+                if self.orders.push(Placed { line, at, order }).is_err() {
                     self.skip(line, Skipped::Busy);
                 }
                 None
@@ -130,9 +130,7 @@ impl<I: Read, R: Wait + Clock, A: Allocator + Copy> Intake<A, Recording>
     ghost loses = { λ s t. AcquisitionLoses s t };
 
     fn next(&mut self) -> Result<Fed<A>, u32> {
-        if !self.scans.begins() {
-            return Ok(Fed::NotYet);
-        }
+        self.scans.begin();
         self.scans.settle();
         for _ in self.rt.forever() {
             match self.arrivals.next(self.rt) {

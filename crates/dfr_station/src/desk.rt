@@ -1,5 +1,10 @@
 //! The orders: those of the input come at their places, an operator's as they arrive.
 
+ghost use Rattle.std.specs.Prelude.{◌≡◌, ℕ, ◌≤◌, [], IfSome, IsSomeAnd, MatchOption};
+ghost use Rattle.rtrb.specs.Ring.{received};
+ghost use Rattle.dfr_live.specs.Lane.{lane_out};
+ghost use Rattle.dfr_station.specs.Desks as spec;
+
 use crate::event::{Asked, Event, Replied, Skipped};
 use crate::operator::Operator;
 use crate::signals::Signals;
@@ -10,11 +15,13 @@ use crate::station::Recording;
 use dfr_live::{Desk, Order, Reply, Standing};
 use rtrb::Consumer;
 use std::alloc::{Allocator, Global};
+use std::marker::Model;
 use std::sync::atomic::Ordering;
 
-/// An order of the input, and how many scans came before it.
+/// An order of the input: its line, and how many scans came before it.
 #[derive(Drop)]
 pub(crate) struct Placed<A: Allocator = Global> {
+    pub(crate) line: u64,
     pub(crate) at: u64,
     pub(crate) order: Order<A>,
 }
@@ -30,8 +37,8 @@ pub(crate) struct Office<'s, A: Allocator = Global> {
     next: Option<Placed<A>>,
     pub(crate) operator: Option<Operator<A>>,
     pub(crate) teller: Teller<A>,
-    /// Who gave the order that was handed out last.
-    asked: Asked,
+    /// The line of the order that was handed out last. None if an operator gave it.
+    line: Option<u64>,
     /// How many finished records may wait.
     shelf: u32,
     /// Whether the shelf was full when it was last looked at.
@@ -42,6 +49,21 @@ pub(crate) struct Office<'s, A: Allocator = Global> {
     steps: u64,
 }
 
+impl<'s, A: Allocator> Model for Office<'s, A> {
+    ghost use Rattle.rtrb.specs.Ring.{received};
+    ghost use Rattle.dfr_live.specs.Lane.{lane_out};
+    ghost use Rattle.dfr_station.specs.Desks.{DeskParts};
+
+    ghost Value = { DeskParts A };
+
+    ghost view = { λ o. record {
+      lane = lane_out o.orders;
+      taken = received o.orders;
+      waits = o.next;
+      line = o.line;
+    } };
+}
+
 impl<'s, A: Allocator> Office<'s, A> {
     pub(crate) fn new(
         alloc: A,
@@ -50,7 +72,9 @@ impl<'s, A: Allocator> Office<'s, A> {
         (orders, operator): (Consumer<Placed<A>, A>, Option<Operator<A>>),
         teller: Teller<A>,
         shelf: u32,
-    ) -> Office<'s, A> {
+    ) -> Office<'s, A>
+        ensures { result ≡ record { lane = lane_out orders; taken = received orders; waits = None; line = None } }
+    {
         Office {
             alloc,
             layout,
@@ -59,7 +83,7 @@ impl<'s, A: Allocator> Office<'s, A> {
             next: None,
             operator,
             teller,
-            asked: Asked::Input,
+            line: None,
             shelf,
             is_full: false,
             told: 0,
@@ -75,7 +99,11 @@ impl<'s, A: Allocator> Office<'s, A> {
 
 impl<A: Allocator + Copy> Office<'_, A> {
     /// Takes the next order of the input off the queue, unless that was done. Returns its place.
-    fn next_place(&mut self) -> Option<u64> {
+    fn next_place(&mut self) -> Option<u64>
+        ensures out { spec.HandsOut self.old [] self.new }
+        ensures place { MatchOption result (self.new.waits ≡ None)
+            (λ at. IsSomeAnd self.new.waits (λ placed. placed.at ≡ at)) }
+    {
         if self.next.is_none() {
             self.next = self.orders.pop().ok();
         }
@@ -86,30 +114,61 @@ impl<A: Allocator + Copy> Office<'_, A> {
     }
 
     /// Hands out the next order of the input, if there is one.
-    fn hand_next(&mut self) -> Option<live::Asked<A>> {
+    fn hand_next(&mut self) -> Option<live::Asked<A>>
+        ensures { MatchOption result ((self.new ≡ self.old) × (self.old.waits ≡ None))
+            (λ asked. (pumped : ℕ) → spec.Answers pumped self.old asked self.new) }
+    {
         match self.next.take() {
-            Some(placed) => {
-                self.asked = Asked::Input;
-                Some(live::Asked::Order(placed.at, placed.order))
-            }
-            None => None,
-        }
-    }
-
-    /// Hands out the next order of the operator, if its line has come whole.
-    fn hand_operators(&mut self, at: u64) -> Option<live::Asked<A>> {
-        match self.hear_operator() {
-            Some(order) => {
-                self.asked = Asked::Operator;
+            Some(Placed { line, at, order }) => {
+                self.line = Some(line);
                 Some(live::Asked::Order(at, order))
             }
             None => None,
         }
     }
 
+    /// Hands out the next order of the input, if it is due after so many steps.
+    fn hand_due(&mut self, pumped: u64) -> Option<live::Asked<A>>
+        ensures { MatchOption result
+            (spec.HandsOut self.old [] self.new × spec.IsEarly pumped self.new)
+            (λ asked. spec.Answers pumped self.old asked self.new) }
+    {
+        match self.next_place() {
+            Some(at) if at <= pumped => self.hand_next(),
+            _ => None,
+        }
+    }
+
+    /// Hands out the next order of the operator, if its line has come whole.
+    fn hand_operators(&mut self, at: u64) -> Option<live::Asked<A>>
+        ensures { MatchOption result (self.new ≡ self.old)
+            (λ asked. spec.Answers at self.old asked self.new) }
+    {
+        match self.hear_operator() {
+            Some(order) => {
+                self.line = None;
+                Some(live::Asked::Order(at, order))
+            }
+            None => None,
+        }
+    }
+
+    /// How many steps may be made before the desk is asked again: those that can be made, up to the
+    /// next order.
+    fn free_steps(&self, ready: u64) -> u64
+        ensures { IfSome self.now.waits (λ placed. result ≤ placed.at) }
+    {
+        match &self.next {
+            Some(placed) => placed.at.min(ready),
+            None => ready,
+        }
+    }
+
     /// Reports at how many more scans a rule fired while the shelf was full, since the last such
     /// report.
-    fn tell_missed(&mut self, missed: u64) {
+    fn tell_missed(&mut self, missed: u64)
+        ensures { self.new ≡ self.old }
+    {
         let more = missed.saturating_sub(self.told);
         if more > 0 {
             self.told = missed;
@@ -119,7 +178,9 @@ impl<A: Allocator + Copy> Office<'_, A> {
 
     /// Publishes the numbers of waiting records and missed triggers. Reports when the shelf gets
     /// full or has room again.
-    fn watch_shelf(&mut self, standing: Standing) {
+    fn watch_shelf(&mut self, standing: Standing)
+        ensures { self.new ≡ self.old }
+    {
         let waiting = standing.waiting;
         self.signals.waiting.store(waiting as u64, Ordering::SeqCst);
         self.signals.missed.store(standing.missed, Ordering::SeqCst);
@@ -138,14 +199,12 @@ impl<A: Allocator + Copy> Office<'_, A> {
 
     /// What to do after so many steps: an order that is due, or of the operator; more steps, up to
     /// the next order; and at the end the orders that are left.
-    fn asked_at(&mut self, pumped: u64) -> live::Asked<A> {
+    fn asked_at(&mut self, pumped: u64) -> live::Asked<A>
+        ensures { spec.Answers pumped self.old result self.new }
+    {
         let acquired = self.signals.acquired.load(Ordering::SeqCst);
         let ready = self.signals.ready.load(Ordering::SeqCst);
-        let place = self.next_place();
-        if let Some(at) = place
-            && at <= pumped
-            && let Some(order) = self.hand_next()
-        {
+        if let Some(order) = self.hand_due(pumped) {
             return order;
         }
         if let Some(order) = self.hand_operators(pumped) {
@@ -158,22 +217,40 @@ impl<A: Allocator + Copy> Office<'_, A> {
             };
         }
         self.turn_operator();
-        live::Asked::NotYet(match place {
-            Some(at) => at.min(ready),
-            None => ready,
-        })
+        live::Asked::NotYet(self.free_steps(ready))
     }
 }
 
+/// What is reported of an order of that line of the input, or of an operator.
+fn event_of(line: Option<u64>, at: u64, reply: Option<Reply>) -> Event
+    ensures { result ≡ spec.told_of line at reply }
+{
+    let reply = match reply {
+        Some(Reply::Trigger(hit)) => Replied::Trigger(hit),
+        Some(Reply::SetRules(are_set)) => Replied::Rules(are_set),
+        Some(Reply::Take(_)) | None => {
+            let why = Skipped::Memory;
+            return match line {
+                Some(line) => Event::Line { line, why },
+                None => Event::Order(why),
+            };
+        }
+    };
+    let asked = match line {
+        Some(_) => Asked::Input,
+        None => Asked::Operator,
+    };
+    Event::Reply { asked, at, reply }
+}
+
 impl<A: Allocator + Copy> Desk<A, Recording> for Office<'_, A> {
-    ghost use Rattle.dfr_station.specs.Stations.{asks_any, hears_any};
+    ghost use Rattle.dfr_station.specs.Desks.{DeskAsks, DeskHears};
 
-    ghost asks = { λ s standing asked t. asks_any s standing asked t };
+    ghost asks = { λ s standing asked t. DeskAsks s standing asked t };
 
-    ghost hears = { λ s at reply goes_on t. hears_any s at reply goes_on t };
+    ghost hears = { λ s at reply goes_on t. DeskHears s at reply goes_on t };
 
     fn next(&mut self, standing: Standing) -> live::Asked<A> {
-        self.signals.triggering.store(true, Ordering::SeqCst);
         self.steps = standing.pumped;
         self.watch_shelf(standing);
         let asked = self.asked_at(standing.pumped);
@@ -184,20 +261,7 @@ impl<A: Allocator + Copy> Desk<A, Recording> for Office<'_, A> {
     }
 
     fn answered(&mut self, at: u64, reply: Option<Reply>) -> bool {
-        let asked = self.asked;
-        self.teller.tell(match reply {
-            Some(Reply::Trigger(hit)) => Event::Reply {
-                asked,
-                at,
-                reply: Replied::Trigger(hit),
-            },
-            Some(Reply::SetRules(are_set)) => Event::Reply {
-                asked,
-                at,
-                reply: Replied::Rules(are_set),
-            },
-            Some(Reply::Take(_)) | None => Event::Order(Skipped::Memory),
-        });
+        self.teller.tell(event_of(self.line, at, reply));
         true
     }
 }

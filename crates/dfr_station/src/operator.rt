@@ -1,5 +1,8 @@
 //! An operator's lines, which come while scans are recorded.
 
+ghost use Rattle.std.specs.Prelude.{◌≡◌};
+ghost use Rattle.dfr_station.specs.Desks.{TakesByte};
+
 use crate::desk::Office;
 use crate::event::{Event, Skipped};
 use crate::intake::{skipped_of_line, skipped_of_rules};
@@ -21,8 +24,8 @@ pub(crate) struct Operator<A: Allocator = Global> {
     pub(crate) bytes: Consumer<u8, A>,
     /// What of the current line has come.
     line: Vec<u8, A>,
-    /// The line is too long, or an allocation failed: it is refused.
-    is_long: bool,
+    /// Why the line is refused.
+    refused: Option<Skipped>,
     /// How many more bytes are read in this turn.
     left: usize,
 }
@@ -32,27 +35,38 @@ impl<A: Allocator> Operator<A> {
         Operator {
             bytes,
             line: Vec::new(alloc),
-            is_long: false,
+            refused: None,
             left: TURN,
         }
     }
 
+    /// Adds a byte to the line, unless the line is refused.
+    fn add(&mut self, b: u8)
+        ensures { TakesByte self.old.refused self.old b self.new.refused self.new }
+    {
+        if self.refused.is_some() {
+            return;
+        }
+        if self.line.len() >= LONGEST {
+            self.refused = Some(Skipped::Long);
+        } else if self.line.push(b).is_err() {
+            self.refused = Some(Skipped::Memory);
+        }
+    }
+
     /// Reads up to the end of a line, but no more bytes than are left in this turn. Returns whether
-    /// that line is too long, or None if its end was not found.
-    fn next_line(&mut self) -> Option<bool> {
+    /// that line is refused, or None if its end was not found.
+    fn next_line(&mut self) -> Option<Result<(), Skipped>> {
         for _ in 0..TURN {
             self.left = self.left.checked_sub(1)?;
             match self.bytes.pop() {
                 Ok(b'\n') => {
-                    let is_long = self.is_long;
-                    self.is_long = false;
-                    return Some(is_long);
+                    return Some(match self.refused.take() {
+                        Some(why) => Err(why),
+                        None => Ok(()),
+                    });
                 }
-                Ok(b) => {
-                    if self.line.len() >= LONGEST || self.line.push(b).is_err() {
-                        self.is_long = true;
-                    }
-                }
+                Ok(b) => self.add(b),
                 Err(_) => return None,
             }
         }
@@ -96,17 +110,18 @@ impl<A: Allocator + Copy> Office<'_, A> {
     }
 
     /// The next order of the operator whose line has come whole. Refused lines are reported.
-    pub(crate) fn hear_operator(&mut self) -> Option<Order<A>> {
+    pub(crate) fn hear_operator(&mut self) -> Option<Order<A>>
+        ensures { self.new ≡ self.old }
+    {
         let mut operator = self.operator.take()?;
         let mut heard = None;
         for _ in 0..TURN {
-            let Some(is_long) = operator.next_line() else {
+            let Some(read) = operator.next_line() else {
                 break;
             };
-            let order = if is_long {
-                Err(Skipped::Long)
-            } else {
-                self.order_in(&operator.line)
+            let order = match read {
+                Ok(()) => self.order_in(&operator.line),
+                Err(why) => Err(why),
             };
             operator.line.clear();
             match order {
@@ -123,7 +138,9 @@ impl<A: Allocator + Copy> Office<'_, A> {
     }
 
     /// More bytes of the operator may be read.
-    pub(crate) fn turn_operator(&mut self) {
+    pub(crate) fn turn_operator(&mut self)
+        ensures { self.new ≡ self.old }
+    {
         if let Some(operator) = &mut self.operator {
             operator.left = TURN;
         }

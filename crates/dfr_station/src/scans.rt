@@ -99,22 +99,18 @@ impl<'s, A: Allocator + Copy> Scans<'s, A> {
         }
     }
 
-    /// Whether recording has begun: the trigger thread has started. The first time this is reported.
-    pub(crate) fn begins(&mut self) -> bool
+    /// Reports, once, that recording begins.
+    pub(crate) fn begin(&mut self)
         ensures { self.new ≡ self.old }
     {
         if self.has_begun {
-            return true;
-        }
-        if !self.signals.triggering.load(Ordering::SeqCst) {
-            return false;
+            return;
         }
         self.has_begun = true;
         self.teller.tell(Event::Started {
             start: self.layout.start(),
             rate: self.layout.rate(),
         });
-        true
     }
 
     /// How many scans came.

@@ -26,8 +26,6 @@ pub(crate) struct Signals {
     pub(crate) short: AtomicU64,
     /// How often since the input has ended.
     pub(crate) last_short: AtomicU64,
-    /// The trigger thread has started.
-    pub(crate) triggering: AtomicBool,
     /// The input has ended.
     pub(crate) acquired: AtomicBool,
     /// All other threads have ended.
@@ -46,7 +44,6 @@ impl Signals {
             missed: AtomicU64::new(0),
             short: AtomicU64::new(0),
             last_short: AtomicU64::new(0),
-            triggering: AtomicBool::new(false),
             acquired: AtomicBool::new(false),
             ended: AtomicBool::new(false),
         }

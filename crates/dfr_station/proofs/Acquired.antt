@@ -1,0 +1,72 @@
+-- How what comes becomes the acquisition's steps.
+use Rattle.std.proofs.Common.{◌≡◌, ℕ, List, [], ◌∷◌, Option, Some, None, Result, Ok, Err, sym, ◌∙◌}
+use Rattle.dfr_live.specs.Devices.{Came}
+use Rattle.dfr_live.specs.declared.station.Fed.{Fed}
+use Rattle.dfr_live.specs.declared.station.Fed.TheVariants as fed
+use Rattle.dfr_station.specs.Acquiring.{Acquired, ComesOf, QuietlyBy, Quietly, Steps, Gave, settled, AcquisitionGives}
+use Rattle.dfr_station.specs.declared.intake.arrival.Arrival.TheVariants as arrival
+use Rattle.dfr_station.specs.declared.intake.arrivals.Ending.{Ending}
+use Rattle.dfr_station.specs.declared.intake.arrivals.Next.{Next}
+use Rattle.dfr_station.specs.declared.intake.arrivals.Next.TheVariants as coming
+
+module _ {C A : Type 0} where
+  -- after this came, the rest stays
+  abbrev pub moved : Acquired C A → C → Acquired C A
+  moved s i = record s { incoming = i }
+
+  quietly_at : (s : Acquired C A) (i : C) (x : Next A) (t : Acquired C A) → QuietlyBy (moved s i) x t → QuietlyBy s x t
+  quietly_at s i (coming.Arrival (arrival.Scan scan)) t h = h
+  quietly_at s i (coming.Arrival (arrival.Lost why)) t h = h
+  quietly_at s i (coming.Arrival (arrival.Order line place order)) t h = h
+  quietly_at s i (coming.Arrival (arrival.Skipped line why)) t h = h
+  quietly_at s i coming.Drained t h = h
+  quietly_at s i (coming.End ending) t h = h
+
+  steps_at : (s : Acquired C A) (i : C) (x : Next A) (f : Fed A) (t : Acquired C A) → Steps (moved s i) x f t → Steps s x f t
+  steps_at s i (coming.Arrival (arrival.Scan scan)) f t h = h
+  steps_at s i (coming.Arrival (arrival.Lost why)) f t h = h
+  steps_at s i (coming.Arrival (arrival.Order line place order)) f t h = h
+  steps_at s i (coming.Arrival (arrival.Skipped line why)) f t h = h
+  steps_at s i coming.Drained f t h = h
+  steps_at s i (coming.End ending) f t h = h
+
+  -- what comes is no step that says nothing yet, and none that ends
+  never_yet : (s : Acquired C A) (x : Next A) (t : Acquired C A) → Steps s x fed.NotYet t → ⊥
+  never_yet s (coming.Arrival (arrival.Scan scan)) t h = h.0
+  never_yet s (coming.Arrival (arrival.Lost why)) t h = h.0
+  never_yet s (coming.Arrival (arrival.Order line place order)) t h = h
+  never_yet s (coming.Arrival (arrival.Skipped line why)) t h = h
+  never_yet s coming.Drained t h = h
+  never_yet s (coming.End ending) t h = h
+
+  never_done : (s : Acquired C A) (x : Next A) (t : Acquired C A) → Steps s x fed.Done t → ⊥
+  never_done s (coming.Arrival (arrival.Scan scan)) t h = h.0
+  never_done s (coming.Arrival (arrival.Lost why)) t h = h.0
+  never_done s (coming.Arrival (arrival.Order line place order)) t h = h
+  never_done s (coming.Arrival (arrival.Skipped line why)) t h = h
+  never_done s coming.Drained t h = h
+  never_done s (coming.End ending) t h = h
+
+  module _ (Comes : ComesOf C A) where
+    -- what came until now is no step
+    abbrev pub QuietSoFar : Acquired C A → Acquired C A → Type 0
+    QuietSoFar s m = (quiet : List (Next A)) × Came (Quietly Comes) s quiet m
+
+    pub quiet_more : (s m t : Acquired C A) (i : C) (x : Next A)
+        → QuietSoFar s m → Comes m.incoming x i → Gave (moved m i) x None t → QuietSoFar s t
+    quiet_more s m t i x far comes gave =
+        (x ∷ far.0, (m, far.1, (rw gave.2 comes, gave.1, quietly_at m i x t gave.0)))
+
+    gives_step : (s m t : Acquired C A) (x : Next A) (f : Fed A)
+        → QuietSoFar (record s { scans = settled s.scans }) m → Comes m.incoming x t.incoming → Steps m x f t
+        → AcquisitionGives Comes s (Ok f) t
+    gives_step s m t x (fed.Scan scan) far comes steps = (far.0, m, far.1, x, comes, steps)
+    gives_step s m t x fed.Lost far comes steps = (far.0, m, far.1, x, comes, steps)
+    gives_step s m t x fed.NotYet far comes steps = never_yet m x t steps
+    gives_step s m t x fed.Done far comes steps = absurd (never_done m x t steps)
+
+    pub gives_some : (s m t : Acquired C A) (i : C) (x : Next A) (f : Fed A)
+        → QuietSoFar (record s { scans = settled s.scans }) m → Comes m.incoming x i → Gave (moved m i) x (Some f) t
+        → AcquisitionGives Comes s (Ok f) t
+    gives_some s m t i x f far comes gave =
+        gives_step s m t x f far (rw gave.1 comes) (steps_at m i x f t gave.0)

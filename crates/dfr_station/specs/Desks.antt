@@ -1,0 +1,88 @@
+-- Which orders a station's desk hands out: those of the input in their order, each once, and an operator's between them.
+use Rattle.std.specs.Prelude.{◌≡◌, ◌⊎◌, ℕ, ◌<◌, ◌≤◌, List, [], ◌∷◌, ◌++◌, length, true, Option, Some, None, IfSome, option_to_list}
+use Rattle.dfr_live.specs.Devices.{AsksOf, HearsOf}
+use Rattle.dfr_live.specs.Lane.{LaneName}
+use Rattle.dfr_live.specs.declared.devices.Asked.{Asked}
+use Rattle.dfr_live.specs.declared.devices.Asked.TheVariants as asked
+use Rattle.dfr_live.specs.declared.entry.Reply.{Reply}
+use Rattle.dfr_live.specs.declared.entry.Reply.TheVariants as replied
+use Rattle.dfr_station.specs.declared.desk.Placed.{Placed}
+use Rattle.dfr_station.specs.declared.event.Asked.TheVariants as giver
+use Rattle.dfr_station.specs.declared.event.Event.{Event}
+use Rattle.dfr_station.specs.declared.event.Event.TheVariants as event
+use Rattle.dfr_station.specs.declared.event.Replied.{Replied}
+use Rattle.dfr_station.specs.declared.event.Replied.TheVariants as answer
+use Rattle.dfr_station.specs.declared.event.Skipped.{Skipped}
+use Rattle.dfr_station.specs.declared.event.Skipped.TheVariants as skipped
+use Rattle.dfr_station.specs.declared.operator.Operator.{Operator}
+
+-- a desk: the queue of the input's orders, what it took off that queue, of which one may wait for its place, and the line of the order
+-- that it handed out last, if the input gave it
+pub record DeskParts (A : Type 0) : Type 0 where
+  pub lane : LaneName A
+  pub taken : List (Placed A)
+  pub waits : Option (Placed A)
+  pub line : Option ℕ
+
+-- these orders of the input were handed out: they are what waited and what was taken, but for what waits then
+pub record HandsOut {A : Type 0} (s : DeskParts A) (out : List (Placed A)) (t : DeskParts A) : Type 0 where
+  pub lane : t.lane ≡ s.lane
+  pub more : List (Placed A)
+  pub taken : t.taken ≡ s.taken ++ more
+  pub rest : option_to_list s.waits ++ more ≡ out ++ option_to_list t.waits
+
+-- nothing that waits is due after so many steps
+abbrev pub IsEarly : {A : Type 0} → ℕ → DeskParts A → Type 0
+IsEarly pumped t = IfSome t.waits (λ p. pumped < p.at)
+
+-- What a desk answers after so many steps: the next order of the input, at its place; or an operator's, at once; or that no order is due,
+-- with no more steps than up to the next; or that none is left. Whether more orders come, it sees by flags of the other threads, of
+-- which nothing is stated: nor is that it answers with the last two in time.
+abbrev pub Answers : {A : Type 0} → ℕ → DeskParts A → Asked A → DeskParts A → Type 0
+Answers pumped s (asked.Order place o) t =
+    ((line : ℕ) × (t.line ≡ Some line) × HandsOut s (record { line = line; at = place; order = o } ∷ []) t)
+    ⊎ ((t.line ≡ None) × (place ≡ pumped) × HandsOut s [] t)
+Answers pumped s (asked.NotYet steps) t = HandsOut s [] t × IsEarly pumped t × IfSome t.waits (λ p. steps ≤ p.at)
+Answers pumped s asked.Done t = HandsOut s [] t × (t.waits ≡ None)
+
+abbrev pub DeskAsks : {A : Type 0} → AsksOf A (DeskParts A)
+DeskAsks s standing asked t = Answers standing.pumped s asked t
+
+-- it goes on, whatever the reply
+abbrev pub DeskHears : {A : Type 0} → HearsOf (DeskParts A)
+DeskHears s at reply goes_on t = (goes_on ≡ true) × (t ≡ s)
+
+-- ---- what is told
+
+-- there was no memory for an order: of this line of the input, or of an operator
+abbrev pub lacking : Option ℕ → Event
+lacking (Some line) = event.Line line skipped.Memory
+lacking None = event.Order skipped.Memory
+
+abbrev pub replied_to : Option ℕ → ℕ → Replied → Event
+replied_to (Some line) at reply = event.Reply giver.Input at reply
+replied_to None at reply = event.Reply giver.Operator at reply
+
+-- what is told of the reply to an order
+abbrev pub told_of : Option ℕ → ℕ → Option Reply → Event
+told_of line at (Some (replied.Trigger hit)) = replied_to line at (answer.Trigger hit)
+told_of line at (Some (replied.SetRules done)) = replied_to line at (answer.Rules done)
+told_of line at (Some (replied.Take extent)) = lacking line
+told_of line at None = lacking line
+
+-- why a line of an operator is refused at one more byte
+abbrev pub RefusesByte : ℕ → Skipped → Type 0
+RefusesByte count skipped.Long = 4_096 ≤ count
+RefusesByte count skipped.Memory = count < 4_096
+RefusesByte count skipped.Word = ⊥
+RefusesByte count skipped.Fields = ⊥
+RefusesByte count skipped.Number = ⊥
+RefusesByte count skipped.NoChannel = ⊥
+RefusesByte count skipped.TooMany = ⊥
+RefusesByte count skipped.Busy = ⊥
+
+-- one more byte of a line: it stands at its end; or the line is refused, from then on
+abbrev pub TakesByte : {A : Type 0} → Option Skipped → Operator A → ℕ → Option Skipped → Operator A → Type 0
+TakesByte (Some why) s b refused t = refused ≡ Some why
+TakesByte None s b (Some why) t = RefusesByte (length s.line.items) why
+TakesByte None s b None t = t.line.items ≡ s.line.items ++ b ∷ []

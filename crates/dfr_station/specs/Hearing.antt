@@ -1,0 +1,48 @@
+-- What a station makes of what comes, one by one: for each scan one step is taken in, and each order goes to the desk.
+use Rattle.std.specs.Prelude.{◌≡◌, ◌⊎◌, ℕ, List, [], ◌∷◌, ◌++◌, map, Bool}
+use Rattle.dfr_channels.specs.Parts.{ScanParts, SetupParts}
+use Rattle.dfr_recorder.specs.Steps.{StepParts}
+use Rattle.dfr_recorder.specs.Steps as step
+use Rattle.dfr_live.specs.Devices.{call_in}
+use Rattle.dfr_station.specs.Acquiring.{missing}
+use Rattle.dfr_station.specs.Lines.{ArrivalParts}
+use Rattle.dfr_station.specs.Lines as came
+use Rattle.dfr_station.specs.Storing.{one_more}
+use Rattle.dfr_station.specs.declared.desk.Placed.{Placed}
+
+-- so far: the steps that were taken in, the orders that go to the desk, how many scans came, and how many of them are lost
+pub record Heard : Type 0 where
+  pub steps : List StepParts
+  pub orders : List ArrivalParts
+  pub came : ℕ
+  pub lost : ℕ
+
+abbrev pub nothing_heard : Heard
+nothing_heard = record { steps = []; orders = []; came = 0; lost = 0 }
+
+-- a scan came that is lost: a lost step is taken in for it, or a scan without readings
+abbrev pub HearsLost : SetupParts → Heard → Heard → Type 0
+HearsLost layout s t =
+    (x : StepParts) × ((x ≡ step.Lost) ⊎ ((bits : List Bool) × (x ≡ step.Scan (missing layout bits))))
+    × (t ≡ record s { steps = s.steps ++ x ∷ []; came = one_more s.came; lost = one_more s.lost })
+
+-- a scan came that fits: it is taken in, or it is lost
+abbrev pub HearsScan : SetupParts → Heard → ScanParts → Heard → Type 0
+HearsScan layout s scan t =
+    (t ≡ record s { steps = s.steps ++ step.Scan scan ∷ []; came = one_more s.came }) ⊎ HearsLost layout s t
+
+-- an order goes to the desk, unless there is no place for it in the queue
+abbrev pub Hears : SetupParts → Heard → ArrivalParts → Heard → Type 0
+Hears layout s (came.Scan scan) t = HearsScan layout s scan t
+Hears layout s (came.Lost why) t = HearsLost layout s t
+Hears layout s (came.Order line at call) t = (t ≡ record s { orders = s.orders ++ came.Order line at call ∷ [] }) ⊎ (t ≡ s)
+Hears layout s (came.Skips line why) t = t ≡ s
+
+-- an order of the queue, as it came
+abbrev pub order_of : {A : Type 0} → Placed A → ArrivalParts
+order_of p = came.Order p.line p.at (call_in p.order)
+
+-- what came, the newest first, and then this
+abbrev pub onto : List ArrivalParts → List ArrivalParts → List ArrivalParts
+onto [] xs = xs
+onto (r ∷ rs) xs = onto rs (r ∷ xs)
