@@ -1,6 +1,6 @@
 //! One read of the input.
 
-ghost use Rattle.std.specs.Prelude.{◌<◌, length};
+ghost use Rattle.std.specs.Prelude.{◌<◌, length, take};
 ghost use Rattle.dfr_station.specs.Input as spec;
 
 use std::io::{ErrorKind, Read};
@@ -26,7 +26,8 @@ pub(crate) enum Given {
 /// interrupted is repeated at once; one that would block is repeated after a nap.
 pub(crate) fn read_some<I: Read, R: Wait + Clock>(rt: &R, input: &mut I, room: &mut [u8]) -> Given
     requires { 0 < length room.old }
-    ensures { spec.Reads (I.remaining input.old) result (I.remaining input.new) room.new }
+    ensures { spec.Reads (I.remaining input.old) result (I.remaining input.new)
+        (take (spec.count_of result) room.new) }
 {
     for _ in rt.forever() {
         match input.read(room) {

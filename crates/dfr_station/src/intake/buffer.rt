@@ -1,6 +1,6 @@
 //! The input's bytes that were read and wait to be used.
 
-ghost use Rattle.std.specs.Prelude.{◌≡◌, ◌≤◌, ◌<◌, ◌+◌, ◌==◌, IfOk, [], length, drop};
+ghost use Rattle.std.specs.Prelude.{◌≡◌, ◌≤◌, ◌<◌, IfOk, MatchBool, [], length, drop};
 ghost use Rattle.dfr_station.specs.Input as spec;
 
 use crate::reading::{Given, read_some};
@@ -53,7 +53,7 @@ impl<A: Allocator> Buffer<A> {
 
     /// Whether there is no room for more bytes.
     pub(crate) fn is_full(&self) -> bool
-        ensures { result ≡ (length self.now == 65_536) }
+        ensures { MatchBool result (length self.now ≡ 65_536) (length self.now < 65_536) }
     {
         self.end - self.from == ROOM
     }
