@@ -22,6 +22,20 @@ pub(crate) enum Given {
     Broken,
 }
 
+impl Given {
+    ghost use Rattle.std.specs.Prelude.{◌≡◌};
+
+    /// How many bytes it gave.
+    pub(crate) fn count(self) -> usize
+        ensures { result ≡ spec.count_of self }
+    {
+        match self {
+            Given::Bytes(count) => count,
+            Given::End | Given::Broken => 0,
+        }
+    }
+}
+
 /// Reads bytes into the room, at least one unless the input has ended. A read that a signal
 /// interrupted is repeated at once; one that would block is repeated after a nap.
 pub(crate) fn read_some<I: Read, R: Wait + Clock>(rt: &R, input: &mut I, room: &mut [u8]) -> Given
