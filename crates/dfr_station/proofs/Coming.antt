@@ -5,7 +5,7 @@ use Rattle.std.proofs.lemmas.List.Splits.{slice_split_at, slice_split_none, slic
 use Rattle.std.proofs.lemmas.List.{append-nil}
 use Rattle.dfr_channels.specs.Parts.{SetupParts}
 use Rattle.dfr_station.specs.Lines.{ArrivalParts, Lost, is_feed, HasNoFeed}
-use Rattle.dfr_station.specs.Input.{one_more, scans_after, with_owed, owed_list, pieces, lines_left, PieceGives, LinesGive, ReadingParts, OwedGive, Comes, Leads}
+use Rattle.dfr_station.specs.Input.{one_more, scans_after, with_owed, owed_list, pieces, lines_left, PieceGives, LinesGive, ReadingParts, Comes}
 use Rattle.dfr_station.specs.declared.station.Input.TheVariants as form
 use Rattle.dfr_station.specs.declared.intake.feed.Why.TheVariants as why
 
@@ -32,29 +32,33 @@ pieces_on (b ∷ front) more none =
 abbrev pub after_line : ReadingParts → ℕ → Bool → Bool → ReadingParts
 after_line s came owed skipping = record s { came = came; lines = one_more s.lines; owed = owed; skipping = skipping }
 
+-- what the lines give that are left gives these pieces, too
+abbrev pub Leaves : SetupParts → List (List ℕ) → Bool → List ℕ → Type 0
+Leaves layout ps skipping rest = (n came : ℕ) (xs : List ArrivalParts) → LinesGive layout n came (lines_left skipping rest) xs → LinesGive layout n came ps xs
+
 -- a piece was used up, and gave these arrivals; a lost scan may be owed
-pub line_leads : (layout : SetupParts) (s : ReadingParts) (bytes rest piece : List ℕ) (given : List ArrivalParts) (came : ℕ) (owed skipping : Bool)
+pub line_leads : (layout : SetupParts) (s : ReadingParts) (bytes rest piece : List ℕ) (ps : List (List ℕ)) (given : List ArrivalParts) (came : ℕ) (owed skipping : Bool)
     → s.form ≡ form.Lines → s.owed ≡ false → s.skipping ≡ false
-    → pieces bytes ≡ piece ∷ lines_left skipping rest
+    → pieces bytes ≡ piece ∷ ps → Leaves layout ps skipping rest
     → PieceGives layout (one_more s.lines) s.came piece (given ++ owed_list owed)
     → with_owed came owed ≡ scans_after s.came (given ++ owed_list owed)
-    → Leads layout s bytes given (after_line s came owed skipping) rest
+    → (xs : List ArrivalParts) → Comes layout (after_line s came owed skipping) rest xs → Comes layout s bytes (given ++ xs)
 unfolding Comes LinesGive
-line_leads layout s bytes rest piece given came true skipping lines paid begins cut gives counted xs comes =
+line_leads layout s bytes rest piece ps given came true skipping lines paid begins cut leaves gives counted xs comes =
     let later = rw lines at comes in
     rw (lines, paid, begins, cut) (
       given ++ Lost why.Unread ∷ [],
       later.0,
       gives,
       ap (λ l. given ++ l) later.1 ∙ sym (append_assoc given (Lost why.Unread ∷ []) later.0),
-      rw counted at later.2,
+      rw counted at (leaves _ _ _ later.2),
     )
-line_leads layout s bytes rest piece given came false skipping lines paid begins cut gives counted xs comes =
+line_leads layout s bytes rest piece ps given came false skipping lines paid begins cut leaves gives counted xs comes =
     let later = rw lines at comes in
     rw (lines, paid, begins, cut) (
       given ++ [],
       xs,
       gives,
       ap (λ l. l ++ xs) (sym (append-nil given)),
-      rw counted at later,
+      rw counted at (leaves _ _ _ later),
     )

@@ -1,7 +1,7 @@
 -- What comes with the whole input: the arrivals of its frames, or of its lines, in order.
-use Rattle.std.specs.Prelude.{◌≡◌, ◌⊎◌, ℕ, ◌+◌, ◌-◌, ◌^◌, ◌≤◌, ◌<◌, min, Bool, true, false, List, [], ◌∷◌, ◌++◌, length, take, drop, Option, Some, None, ⊤}
+use Rattle.std.specs.Prelude.{◌≡◌, ◌⊎◌, ℕ, ◌+◌, ◌-◌, ◌^◌, ◌≤◌, ◌<◌, min, Bool, true, false, List, [], ◌∷◌, ◌++◌, length, take, drop, Option, Some, None}
 use Rattle.std.specs.List.{slice_split}
-use Rattle.std.specs.Io.KnownBytes.{Keeps, Consumes, IsAtEnd, prepend_known}
+use Rattle.std.specs.Io.KnownBytes.{Keeps, Consumes, IsAtEnd}
 use Rattle.dfr_channels.specs.Lines.{without_cr}
 use Rattle.dfr_channels.specs.Parts.{SetupParts}
 use Rattle.dfr_station.specs.Frames.{frame_len}
@@ -17,18 +17,21 @@ use Rattle.dfr_station.specs.declared.station.Input.TheVariants as form
 
 -- ---- one read
 
--- what a read of the input gave: bytes that came next, or nothing, since no more come, or since it can't be read
+-- what a read gave: so many bytes that came next; or none, since no more come, or since the input can't be read
 abbrev pub Reads : Option (List ℕ) → Given → Option (List ℕ) → List ℕ → Type 0
-Reads before (given.Bytes n) after bytes = (0 < n) × (n ≤ length bytes) × Consumes before after (take n bytes)
-Reads before given.End after bytes = IsAtEnd before
-Reads before given.Broken after bytes = ⊤
+Reads before (given.Bytes n) after bytes = (0 < n) × (length bytes ≡ n) × Consumes before after bytes
+Reads before given.End after bytes = (bytes ≡ []) × Keeps before after × IsAtEnd after
+Reads before given.Broken after bytes = (bytes ≡ []) × Keeps before after
 
--- a read put bytes after those that wait; what is to come in all stays the same
+abbrev pub count_of : Given → ℕ
+count_of (given.Bytes n) = n
+count_of given.End = 0
+count_of given.Broken = 0
+
+-- a read put the bytes that it gave after those that wait
 abbrev pub Fills : {I : Type 0} → (I → Option (List ℕ)) → List ℕ → I → Given → List ℕ → I → Type 0
-Fills left waiting input (given.Bytes n) grown later =
-    (0 < n) × (length grown ≡ length waiting + n) × Keeps (prepend_known waiting (left input)) (prepend_known grown (left later))
-Fills left waiting input given.End grown later = (grown ≡ waiting) × IsAtEnd (left input)
-Fills left waiting input given.Broken grown later = grown ≡ waiting
+Fills left waiting input given grown later =
+    (bytes : List ℕ) × (grown ≡ waiting ++ bytes) × Reads (left input) given (left later) bytes
 
 -- ---- counts, which stop at the greatest `u64`
 
@@ -107,49 +110,44 @@ FormGives layout s bytes form.Lines xs = OwedGive layout s (lines_left s.skippin
 unfoldable pub Comes : SetupParts → ReadingParts → List ℕ → List ArrivalParts → Type 0
 Comes layout s bytes xs = FormGives layout s bytes s.form xs
 
--- so of bytes that are known
-abbrev pub ComesOf : SetupParts → ReadingParts → Option (List ℕ) → List ArrivalParts → Type 0
-ComesOf layout s None xs = ⊤
-ComesOf layout s (Some bytes) xs = Comes layout s bytes xs
-
--- a state of the reading came to another, and gave these arrivals meanwhile: before what comes from then on they came first
-abbrev pub Leads : SetupParts → ReadingParts → List ℕ → List ArrivalParts → ReadingParts → List ℕ → Type 0
-Leads layout s bytes given t later = (xs : List ArrivalParts) → Comes layout t later xs → Comes layout s bytes (given ++ xs)
-
 -- ---- the bytes that wait
 
 abbrev pub reading_of : {A : Type 0} → Cutter A → ReadingParts
 reading_of c = record { form = c.form; came = c.came; lines = c.lines; owed = c.is_owed; skipping = c.is_skipping }
 
--- a cutter came to another state and gave these arrivals, whatever comes after the bytes that wait; where they are the last, nothing does
-abbrev pub Cuts : {A : Type 0} → Bool → Cutter A → List ArrivalParts → Cutter A → Type 0
-Cuts last c given d =
-    (d.layout.now ≡ c.layout.now)
-    × ((more : List ℕ) → (last ≡ true → more ≡ [])
-        → Leads c.layout.now (reading_of c) (c.buffer ++ more) given (reading_of d) (d.buffer ++ more))
+-- what comes with the bytes that wait and then these, up to the input's end
+abbrev pub ComesOver : {A : Type 0} → Cutter A → List ℕ → List ArrivalParts → Type 0
+ComesOver c more xs = Comes c.layout.now (reading_of c) (c.buffer ++ more) xs
 
-abbrev pub owed_list : Bool → List ArrivalParts
-owed_list true = Lost why.Unread ∷ []
-owed_list false = []
-
--- what a line gave: the arrival that was handed out, and the lost scan that is owed
-abbrev pub handed : {A : Type 0} → Option (Arrival A) → Bool → List ArrivalParts
-handed None owed = owed_list owed
-handed (Some a) owed = parts_of a ∷ owed_list owed
-
-abbrev pub with_owed : ℕ → Bool → ℕ
-with_owed came true = one_more came
-with_owed came false = came
+-- A cutter came to another state and gave these arrivals: they come first, before what comes from then on. So it is whatever comes
+-- after the bytes that wait; where they are the last, nothing does.
+pub record Cuts {A : Type 0} (last : Bool) (c : Cutter A) (given : List ArrivalParts) (d : Cutter A) : Type 0 where
+  pub first : (more : List ℕ) → (last ≡ true → more ≡ []) → (xs : List ArrivalParts) → ComesOver d more xs → ComesOver c more (given ++ xs)
 
 -- nothing whole waits, and there is room for more; where the bytes are the last, nothing comes any more
 pub record Wants {A : Type 0} (last : Bool) (c d : Cutter A) : Type 0 where
   pub room : length d.buffer < 65_536
   pub cut : Cuts last c [] d
-  pub over : last ≡ true → Comes d.layout.now (reading_of d) d.buffer []
+  pub over : last ≡ true → ComesOver d [] []
 
 abbrev pub Hands : {A : Type 0} → Bool → Cutter A → Option (Arrival A) → Cutter A → Type 0
 Hands last c None d = Wants last c d
 Hands last c (Some a) d = Cuts last c (parts_of a ∷ []) d
+
+-- ---- one line
+
+-- what was handed out of a line, and the lost scan that is owed for it
+abbrev pub handed : {A : Type 0} → Option (Arrival A) → List ArrivalParts
+handed None = []
+handed (Some a) = parts_of a ∷ []
+
+abbrev pub owed_list : Bool → List ArrivalParts
+owed_list true = Lost why.Unread ∷ []
+owed_list false = []
+
+abbrev pub with_owed : ℕ → Bool → ℕ
+with_owed came true = one_more came
+with_owed came false = came
 
 -- a line comes next
 pub record IsReady {A : Type 0} (c : Cutter A) : Type 0 where
@@ -159,7 +157,7 @@ pub record IsReady {A : Type 0} (c : Cutter A) : Type 0 where
 
 -- one line was used up
 pub record TakesLine {A : Type 0} (last : Bool) (c : Cutter A) (o : Option (Arrival A)) (d : Cutter A) : Type 0 where
-  pub cut : Cuts last c (handed o false) d
+  pub cut : Cuts last c (handed o) d
   pub shorter : length d.buffer < length c.buffer
-  pub lines : d.form ≡ c.form
+  pub same : d.form ≡ c.form
   pub paid : o ≡ None → d.is_owed ≡ false

@@ -1,6 +1,6 @@
 //! One read of the input.
 
-ghost use Rattle.std.specs.Prelude.{◌<◌, length};
+ghost use Rattle.std.specs.Prelude.{◌<◌, length, take};
 ghost use Rattle.dfr_station.specs.Input as spec;
 
 use std::io::{ErrorKind, Read};
@@ -22,11 +22,26 @@ pub(crate) enum Given {
     Broken,
 }
 
+impl Given {
+    ghost use Rattle.std.specs.Prelude.{◌≡◌};
+
+    /// How many bytes it gave.
+    pub(crate) fn count(self) -> usize
+        ensures { result ≡ spec.count_of self }
+    {
+        match self {
+            Given::Bytes(count) => count,
+            Given::End | Given::Broken => 0,
+        }
+    }
+}
+
 /// Reads bytes into the room, at least one unless the input has ended. A read that a signal
 /// interrupted is repeated at once; one that would block is repeated after a nap.
 pub(crate) fn read_some<I: Read, R: Wait + Clock>(rt: &R, input: &mut I, room: &mut [u8]) -> Given
     requires { 0 < length room.old }
-    ensures { spec.Reads (I.remaining input.old) result (I.remaining input.new) room.new }
+    ensures { spec.Reads (I.remaining input.old) result (I.remaining input.new)
+        (take (spec.count_of result) room.new) }
 {
     for _ in rt.forever() {
         match input.read(room) {

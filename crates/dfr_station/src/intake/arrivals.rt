@@ -1,5 +1,6 @@
 //! Reads the input and hands out what comes, one by one.
 
+ghost use Rattle.std.specs.Prelude.{◌≡◌, ◌<◌, None, MatchOption, [], length};
 ghost use Rattle.dfr_station.specs.Arrivals as spec;
 ghost use Rattle.dfr_station.specs.Stations.{Begins};
 
@@ -18,10 +19,19 @@ use std::time::Clock;
 /// How the input ended.
 #[derive(Clone, Copy, Debug, PartialEq, Eq)]
 pub(crate) enum Ending {
-    /// After a whole scan.
+    /// Nothing of it was left.
     Whole,
     /// Within a frame, of which so many bytes came.
     Cut(u64),
+    /// It can't be read any more.
+    Broken,
+}
+
+/// Why no more is read.
+#[derive(Clone, Copy, Debug, PartialEq, Eq)]
+pub(crate) enum Stop {
+    /// The input has ended.
+    End,
     /// It can't be read any more.
     Broken,
 }
@@ -46,8 +56,8 @@ pub(crate) struct Arrivals<'x, I, A: Allocator = Global> {
     at: i64,
     /// All that was read has been handed out.
     is_drained: bool,
-    /// The input has ended.
-    ending: Option<Ending>,
+    /// Why no more is read.
+    ending: Option<Stop>,
 }
 
 impl<'x, I, A: Allocator + Copy> Arrivals<'x, I, A> {
@@ -75,50 +85,62 @@ impl<'x, I, A: Allocator + Copy> Arrivals<'x, I, A> {
         self.at
     }
 
-    /// How an input ended that could be read to its end.
-    fn whole_or_cut(&self) -> Ending {
-        let left = self.cutter.buffer.waiting().len();
-        match self.cutter.form {
-            Input::Frames if left > 0 => Ending::Cut(left as u64),
-            Input::Frames | Input::Lines => Ending::Whole,
+    /// How an input ended that was read to its end, once all that it gave was handed out.
+    fn whole_or_cut(&self) -> Ending
+        ensures { spec.EndsWith result self.now.cutter.buffer }
+    {
+        match self.cutter.buffer.waiting().len() {
+            0 => Ending::Whole,
+            left => Ending::Cut(left as u64),
         }
     }
 }
 
 impl<I: Read, A: Allocator + Copy> Arrivals<'_, I, A> {
-    /// Reads once, and hands out what comes then.
-    fn read<R: Wait + Clock>(&mut self, rt: &R) -> Next<A> {
+    /// What comes next of what was read. None if more has to be read.
+    fn next_read(&mut self) -> Option<Next<A>>
+        ensures { MatchOption result (spec.IsDrained I.remaining self.old self.new)
+            (λ next. spec.HandsNext I.remaining self.old next self.new) }
+    {
+        let is_last = matches!(self.ending, Some(Stop::End));
+        if let Some(arrival) = self.cutter.next(is_last) {
+            self.is_drained = false;
+            return Some(Next::Arrival(arrival));
+        }
+        match self.ending? {
+            Stop::End => Some(Next::End(self.whole_or_cut())),
+            Stop::Broken => Some(Next::End(Ending::Broken)),
+        }
+    }
+
+    /// Reads once.
+    fn read<R: Wait + Clock>(&mut self, rt: &R)
+        requires room { length self.old.cutter.buffer < 65_536 }
+        requires going { self.old.ending ≡ None }
+        ensures { spec.CameFirst I.remaining self.old [] self.new }
+    {
         match self.cutter.buffer.fill(rt, self.input) {
             Given::Bytes(_) => self.at = now(rt),
-            Given::End => self.ending = Some(self.whole_or_cut()),
-            Given::Broken => {
-                self.ending = Some(Ending::Broken);
-                return Next::End(Ending::Broken);
-            }
-        }
-        match (self.cutter.next(self.ending.is_some()), self.ending) {
-            (Some(arrival), _) => {
-                self.is_drained = false;
-                Next::Arrival(arrival)
-            }
-            (None, Some(ending)) => Next::End(ending),
-            (None, None) => Next::Drained,
+            Given::End => self.ending = Some(Stop::End),
+            Given::Broken => self.ending = Some(Stop::Broken),
         }
     }
 
     /// What comes next.
-    pub(crate) fn next<R: Wait + Clock>(&mut self, rt: &R) -> Next<A> {
-        if let Some(arrival) = self.cutter.next(self.ending.is_some()) {
-            self.is_drained = false;
-            return Next::Arrival(arrival);
-        }
-        if let Some(ending) = self.ending {
-            return Next::End(ending);
+    pub(crate) fn next<R: Wait + Clock>(&mut self, rt: &R) -> Next<A>
+        ensures { spec.HandsNext I.remaining self.old result self.new }
+    {
+        if let Some(next) = self.next_read() {
+            return next;
         }
         if !self.is_drained {
             self.is_drained = true;
             return Next::Drained;
         }
-        self.read(rt)
+        self.read(rt);
+        match self.next_read() {
+            Some(next) => next,
+            None => Next::Drained,
+        }
     }
 }

@@ -1,6 +1,6 @@
 //! The input's bytes that were read and wait to be used.
 
-ghost use Rattle.std.specs.Prelude.{◌≡◌, ◌≤◌, ◌<◌, ◌+◌, ◌==◌, IfOk, [], length, drop};
+ghost use Rattle.std.specs.Prelude.{◌≡◌, ◌≤◌, ◌<◌, ◌-◌, IfOk, MatchBool, [], length, take, drop};
 ghost use Rattle.dfr_station.specs.Input as spec;
 
 use crate::reading::{Given, read_some};
@@ -53,7 +53,7 @@ impl<A: Allocator> Buffer<A> {
 
     /// Whether there is no room for more bytes.
     pub(crate) fn is_full(&self) -> bool
-        ensures { result ≡ (length self.now == 65_536) }
+        ensures { MatchBool result (length self.now ≡ 65_536) (length self.now < 65_536) }
     {
         self.end - self.from == ROOM
     }
@@ -66,27 +66,27 @@ impl<A: Allocator> Buffer<A> {
         self.from += count;
     }
 
-    /// Moves the bytes that wait to the front.
-    fn move_up(&mut self)
-        ensures { self.new ≡ self.old }
-    {
-        if self.from > 0 {
-            self.bytes.copy_within(self.from..self.end, 0);
-            self.end -= self.from;
-            self.from = 0;
-        }
-    }
-
     /// Reads once, after the bytes that wait. There must be room.
     pub(crate) fn fill<I: Read, R: Wait + Clock>(&mut self, rt: &R, input: &mut I) -> Given
         requires { length self.old < 65_536 }
         ensures { spec.Fills I.remaining self.old input.old result self.new input.new }
     {
-        self.move_up();
+        self.end = move_up(&mut self.bytes, self.from, self.end);
+        self.from = 0;
         let given = read_some(rt, input, &mut self.bytes[self.end..]);
-        if let Given::Bytes(count) = given {
-            self.end += count;
-        }
+        self.end += given.count();
         given
     }
+}
+
+/// Moves the bytes from `from` to `end` to the front. Returns their number.
+fn move_up(bytes: &mut [u8], from: usize, end: usize) -> usize
+    requires within { (from ≤ end) × (end ≤ length bytes.old) }
+    ensures count { result ≡ end - from }
+    ensures moved { take (end - from) bytes.new ≡ take (end - from) (drop from bytes.old) }
+{
+    if from > 0 {
+        bytes.copy_within(from..end, 0);
+    }
+    end - from
 }

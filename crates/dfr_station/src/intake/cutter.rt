@@ -1,8 +1,8 @@
 //! Cuts the bytes that were read into frames or lines, and says what each is.
 
-ghost use Rattle.std.specs.Prelude.{◌≡◌, ◌≤◌, ◌<◌, [], true, false, length, drop};
+ghost use Rattle.std.specs.Prelude.{◌≡◌, ◌≤◌, ◌<◌, Bool, true, false, None, MatchOption, [], ◌++◌, length, drop};
 ghost use Rattle.dfr_station.specs.Input as spec;
-ghost use Rattle.dfr_station.specs.Lines.{given_by, IsFirstLine, HasNoFeed};
+ghost use Rattle.dfr_station.specs.Lines.{given_by, HasNoFeed};
 ghost use Rattle.dfr_station.specs.declared.station.Input.TheVariants as form;
 
 use crate::event::Skipped;
@@ -76,9 +76,11 @@ impl<'x, A: Allocator + Copy> Cutter<'x, A> {
 
     /// Drops the rest of a line that was refused, as far as it has come.
     fn skip_on(&mut self)
-        requires skipping { (self.old.is_skipping ≡ true) × (self.old.form ≡ form.Lines) }
+        requires lines { self.old.form ≡ form.Lines }
+        requires skipping { self.old.is_skipping ≡ true }
         ensures cut { spec.Cuts false self.old [] self.new }
         ensures rest { self.new.is_skipping ≡ true → self.new.buffer ≡ [] }
+        ensures shorter { length self.new.buffer ≤ length self.old.buffer }
         ensures same { (self.new.form ≡ self.old.form) × (self.new.is_owed ≡ self.old.is_owed) }
     {
         let bytes = self.buffer.waiting();
@@ -110,9 +112,10 @@ impl<'x, A: Allocator + Copy> Cutter<'x, A> {
         requires owed { self.old.is_owed ≡ false }
         requires there { count ≤ length self.old.buffer }
         ensures given { given_by (spec.one_more self.old.lines) meaning
-            ≡ spec.handed result self.new.is_owed }
+            ≡ spec.handed result ++ spec.owed_list self.new.is_owed }
         ensures came { spec.with_owed self.new.came self.new.is_owed
-            ≡ spec.scans_after self.old.came (spec.handed result self.new.is_owed) }
+            ≡ spec.scans_after self.old.came (given_by (spec.one_more self.old.lines) meaning) }
+        ensures paid { result ≡ None → self.new.is_owed ≡ false }
         ensures state { self.new ≡ record self.old {
               buffer = drop count self.old.buffer;
               lines = spec.one_more self.old.lines;
@@ -183,19 +186,13 @@ impl<'x, A: Allocator + Copy> Cutter<'x, A> {
         Some(self.hand_out(count, meaning))
     }
 
-    /// Takes the next line; if the bytes are the last, also one without a line feed. A silent line
-    /// hands out nothing. None if no line waits.
-    fn take_line(&mut self, is_last: bool) -> Option<Option<Arrival<A>>>
-        requires ready { (self.old.form ≡ form.Lines) × (self.old.is_owed ≡ false) }
+    /// Takes the line at the front; if the bytes are the last, also one without a line feed. None if
+    /// none waits.
+    fn front_line(&mut self, is_last: bool) -> Option<Option<Arrival<A>>>
+        requires ready { spec.IsReady self.old }
         ensures { MatchOption result (spec.Wants is_last self.old self.new)
             (λ handed. spec.TakesLine is_last self.old handed self.new) }
     {
-        if self.is_skipping {
-            self.skip_on();
-        }
-        if self.is_skipping {
-            return None;
-        }
         if let Some(handed) = self.next_line() {
             return Some(handed);
         }
@@ -205,9 +202,26 @@ impl<'x, A: Allocator + Copy> Cutter<'x, A> {
         if is_last { self.last_line() } else { None }
     }
 
+    /// Takes the next line, as `front_line`. A silent line hands out nothing.
+    fn take_line(&mut self, is_last: bool) -> Option<Option<Arrival<A>>>
+        requires lines { self.old.form ≡ form.Lines }
+        requires paid { self.old.is_owed ≡ false }
+        ensures { MatchOption result (spec.Wants is_last self.old self.new)
+            (λ handed. spec.TakesLine is_last self.old handed self.new) }
+    {
+        if self.is_skipping {
+            self.skip_on();
+        }
+        if self.is_skipping {
+            return None;
+        }
+        self.front_line(is_last)
+    }
+
     /// What the next line is that isn't silent.
     fn next_of_lines(&mut self, is_last: bool) -> Option<Arrival<A>>
-        requires ready { (self.old.form ≡ form.Lines) × (self.old.is_owed ≡ false) }
+        requires lines { self.old.form ≡ form.Lines }
+        requires paid { self.old.is_owed ≡ false }
         ensures { spec.Hands is_last self.old result self.new }
     {
         while let Some(handed) = self.take_line(is_last) {

@@ -1,6 +1,7 @@
 //! What a line of the input is: a scan, a lost scan, an order, or a line that is skipped.
 
 ghost use Rattle.std.specs.Prelude.{◌≡◌, MatchOption};
+ghost use Rattle.std.specs.Str.{bytes_eq};
 ghost use Rattle.dfr_channels.specs.Firing.{rules_fault};
 ghost use Rattle.dfr_script.specs.Commands.{parts_of};
 ghost use Rattle.dfr_station.specs.Lines as spec;
@@ -54,12 +55,20 @@ fn first_word(line: &[u8]) -> &[u8]
     }
 }
 
+/// Whether the word is exactly this text.
+fn is_word(word: &[u8], text: &str) -> bool
+    ensures { result ≡ bytes_eq word.now text.now }
+{
+    word == text.as_bytes()
+}
+
 /// Whether a line is a scan line: it begins with the word `scan` or `lost`. Such a line counts as a
 /// scan, even if it can't be read.
 pub fn is_scan_line(line: &[u8]) -> bool
     ensures { result ≡ spec.is_scan_line line.now }
 {
-    matches!(first_word(line), b"scan" | b"lost")
+    let word = first_word(line);
+    is_word(word, "scan") || is_word(word, "lost")
 }
 
 /// The words of the script language with which no scan line begins.
