@@ -3,3 +3,4 @@ pub mod Cutting
 pub mod Coming
 pub mod Acquired
 pub mod Orders
+pub mod Hearers

@@ -1,14 +1,18 @@
 -- What a station makes of what comes, one by one: for each scan one step is taken in, and each order goes to the desk.
-use Rattle.std.specs.Prelude.{◌≡◌, ◌⊎◌, ℕ, List, [], ◌∷◌, ◌++◌, map, Bool}
+use Rattle.std.specs.Prelude.{◌≡◌, ◌⊎◌, ℕ, List, [], ◌∷◌, ◌++◌, map, reverse, Bool, Option}
 use Rattle.dfr_channels.specs.Parts.{ScanParts, SetupParts}
 use Rattle.dfr_recorder.specs.Steps.{StepParts}
 use Rattle.dfr_recorder.specs.Steps as step
-use Rattle.dfr_live.specs.Devices.{call_in}
-use Rattle.dfr_station.specs.Acquiring.{missing}
+use Rattle.dfr_live.specs.Devices.{Came, call_in}
+use Rattle.dfr_station.specs.Acquiring.{missing, Acquired}
+use Rattle.dfr_station.specs.Arrivals.{ComesNext, CameFirst}
 use Rattle.dfr_station.specs.Lines.{ArrivalParts}
 use Rattle.dfr_station.specs.Lines as came
 use Rattle.dfr_station.specs.Storing.{one_more}
 use Rattle.dfr_station.specs.declared.desk.Placed.{Placed}
+use Rattle.dfr_station.specs.declared.intake.arrivals.Arrivals.{Arrivals}
+use Rattle.dfr_station.specs.declared.intake.arrivals.Ending.{Ending}
+use Rattle.dfr_station.specs.declared.intake.arrivals.Ending.TheVariants as ending
 
 -- so far: the steps that were taken in, the orders that go to the desk, how many scans came, and how many of them are lost
 pub record Heard : Type 0 where
@@ -42,7 +46,21 @@ Hears layout s (came.Skips line why) t = t ≡ s
 abbrev pub order_of : {A : Type 0} → Placed A → ArrivalParts
 order_of p = came.Order p.line p.at (call_in p.order)
 
--- what came, the newest first, and then this
-abbrev pub onto : List ArrivalParts → List ArrivalParts → List ArrivalParts
-onto [] xs = xs
-onto (r ∷ rs) xs = onto rs (r ∷ xs)
+-- what is heard where the acquisition is in this state, and these steps were taken in
+abbrev pub heard_at : {C A : Type 0} → List StepParts → Acquired C A → Heard
+heard_at steps g = record { steps = steps; orders = map order_of g.orders; came = g.scans.came; lost = g.scans.lost }
+
+-- these came from there on up to the input's end, or up to where it can't be read
+abbrev pub CameInAll : {I A : Type 0} → (I → Option (List ℕ)) → Arrivals I A → List ArrivalParts → Ending → Arrivals I A → Type 0
+CameInAll left s came ending.Whole t = ComesNext left s came
+CameInAll left s came (ending.Cut count) t = ComesNext left s came
+CameInAll left s came ending.Broken t = CameFirst left s came t
+
+-- All that came, the newest first: the acquisition made these steps of it, and its counts and orders. So each scan that came over the
+-- whole input is one step, at its place: the scan itself, or a counted loss.
+pub record HeardAll {I A : Type 0} (left : I → Option (List ℕ)) (layout : SetupParts) (s : Acquired (Arrivals I A) A) (steps : List StepParts)
+    (t : Acquired (Arrivals I A) A) : Type 0 where
+  pub came : List ArrivalParts
+  pub heard : Came (Hears layout) nothing_heard came (heard_at steps t)
+  pub ending : Ending
+  pub whole : CameInAll left s.incoming (reverse came) ending t.incoming

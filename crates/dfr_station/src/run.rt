@@ -3,7 +3,6 @@
 ghost use Rattle.std.specs.Prelude.{◌≡◌, IfOk};
 ghost use Rattle.dfr_live.specs.Seen.{opening_of};
 ghost use Rattle.dfr_live.specs.Report.{Recorded as RecordedLive};
-ghost use Rattle.dfr_station.specs.Arrivals.{HandsNext};
 ghost use Rattle.dfr_station.specs.Stations.{Begins, IsFresh, Ran};
 ghost use Rattle.dfr_station.specs.declared.intake.arrivals.Arrivals.{Arrivals as Arriving};
 
@@ -119,7 +118,7 @@ pub fn run_station<
 ) -> Result<Recorded<A>, RunFault>
     ensures { IfOk result (λ left. (arrivals : Arriving I A)
         × Begins (opening_of station.recorder).layout station.input first.buffer input.old arrivals
-        × Ran (HandsNext I.remaining) K.stores (opening_of station.recorder) station.kind
+        × Ran I.remaining K.stores (opening_of station.recorder) station.kind
         arrivals store.old left) }
 {
     let Station {
@@ -174,7 +173,7 @@ fn run_over<
 ) -> Result<Recorded<A>, RunFault>
     requires layout { layout.now ≡ (opening_of recorder).layout }
     requires parts { IsFresh layout.now parts }
-    ensures { IfOk result (λ left. Ran (HandsNext I.remaining) K.stores (opening_of recorder)
+    ensures { IfOk result (λ left. Ran I.remaining K.stores (opening_of recorder)
         how.kind arrivals.entry store.old left) }
 {
     let Parts {
