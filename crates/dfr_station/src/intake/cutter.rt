@@ -10,9 +10,9 @@ use crate::intake::arrival::Arrival;
 use crate::intake::buffer::Buffer;
 use crate::intake::feed::Why;
 use crate::intake::frame::{arrival_of_frame, frame_len};
-use crate::intake::line::{Line, Meaning, first_line, meaning_of, refused};
+use crate::intake::line::{Line, Meaning, first_line, meaning_of, refused, without_return};
 use crate::station::Input;
-use dfr_channels::{Layout, Lines};
+use dfr_channels::Layout;
 use memchr::memchr;
 use std::alloc::{Allocator, Global};
 
@@ -181,8 +181,7 @@ impl<'x, A: Allocator + Copy> Cutter<'x, A> {
         if count == 0 {
             return None;
         }
-        let text = Lines::of(bytes).next()?;
-        let meaning = meaning_of(self.alloc, self.layout, self.line(text));
+        let meaning = meaning_of(self.alloc, self.layout, self.line(without_return(bytes)));
         Some(self.hand_out(count, meaning))
     }
 
