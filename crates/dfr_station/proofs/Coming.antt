@@ -13,7 +13,7 @@ use Rattle.dfr_station.specs.declared.intake.feed.Why.TheVariants as why
 pub pieces_at : (piece behind : List ℕ) → HasNoFeed piece → pieces (piece ++ 10 ∷ behind) ≡ piece ∷ pieces behind
 pieces_at piece behind none = slice_split_at is_feed piece 10 behind none refl
 
-first_of : List (List ℕ) → List ℕ
+abbrev pub first_of : List (List ℕ) → List ℕ
 first_of ps = get_or ps 0 []
 
 one_at_least : (ps : List (List ℕ)) → 0 < length ps → ps ≡ first_of ps ∷ drop 1 ps
@@ -25,7 +25,7 @@ pub pieces_on : (front more : List ℕ) → HasNoFeed front → pieces (front ++
 pieces_on [] more none = one_at_least (pieces more) (omega (arith, length-slice_split is_feed more))
 pieces_on (b ∷ front) more none =
     let here : is_feed b ≡ false = none 0 0 (omega arith) in
-    let later : HasNoFeed front = λ k d l. none (k + 1) d (omega (arith, l)) in
+    let later : HasNoFeed front = λ k d l. none (suc k) d (omega arith) in
     slice_split-cons_no is_feed b (front ++ more) here ∙ ap (onto_first b) (pieces_on front more later)
 
 -- the state after a line

@@ -5,7 +5,7 @@ use Rattle.std.proofs.lemmas.Bool.{cases_Bool, eqb-true}
 use Rattle.std.proofs.lemmas.List.{take-append-drop, drop_more, get_or_default, get_or-take, length-take-le}
 use Rattle.std.proofs.lemmas.List.Splits.{slice_split_none}
 use Rattle.memchr.specs.Find.{IsFirstByte, is_byte}
-use Rattle.dfr_channels.specs.Lines.{without_cr, cut_lines}
+use Rattle.dfr_channels.specs.Lines.{without_cr}
 use Rattle.dfr_station.specs.Lines.{is_feed, HasNoFeed, IsFirstLine}
 
 fails_at : (bytes : List ℕ) (k d : ℕ) → k < length bytes → ¬ (is_byte 10 (slice_index bytes k) ≡ true) → is_feed (slice_index_or bytes k d) ≡ false
@@ -19,22 +19,16 @@ none_before bytes at found = λ k d l.
     let within : k < at = omega (arith, length-take-le at bytes (omega (arith, found.0.high))) in
     rw (get_or-take at bytes k d within) (fails_at bytes k d (omega (arith, found.0.high)) (found.0.before k (omega arith) within))
 
--- bytes without a line feed are one line
-pub one_line : (bytes : List ℕ) → HasNoFeed bytes → cut_lines bytes ≡ without_cr bytes ∷ []
-one_line bytes none = ap (map without_cr) (slice_split_none is_feed bytes none)
-
 -- the line before the first line feed
-pub first_line_is : (bytes line : List ℕ) (rest : List (List ℕ)) (at : ℕ) → IsFirstByte (is_byte 10) bytes (Some at) → cut_lines (take at bytes) ≡ line ∷ rest → IsFirstLine bytes line (at + 1)
-first_line_is bytes line rest at found lines =
+pub first_line_is : (bytes line : List ℕ) (at : ℕ) → IsFirstByte (is_byte 10) bytes (Some at) → line ≡ without_cr (take at bytes) → IsFirstLine bytes line (at + 1)
+first_line_is bytes line at found text =
     let high : at < length bytes = found.0.high in
     let feed : slice_index bytes at ≡ 10 = eqb-true (slice_index bytes at) 10 found.1 in
-    let none = none_before bytes at found in
-    let one : without_cr (take at bytes) ∷ [] ≡ line ∷ rest = sym (one_line (take at bytes) none) ∙ lines in
     record {
       piece = take at bytes;
       behind = drop (at + 1) bytes;
       cut = sym (take-append-drop at bytes) ∙ ap (λ xs. take at bytes ++ xs) (drop_more bytes at 0 high ∙ ap (λ b. b ∷ drop (at + 1) bytes) feed);
-      first = none;
-      text = cc;
+      first = none_before bytes at found;
+      text = text;
       counted = omega (arith, length-take-le at bytes (omega (arith, high)));
     }

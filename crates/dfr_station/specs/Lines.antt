@@ -108,8 +108,9 @@ is_blank b = (b == 32) || ((b == 9) || (b == 13))
 -- neither blank nor a comment, and its first word is none of the script language
 unfoldable pub is_damaged : List ℕ → Bool
 is_damaged line =
-    not (is_comment line || list_all is_blank line)
-    && (not (is_scan_line line) && not (list_any (λ word. bytes_eq word (first_word line)) other_words))
+    not (is_comment line) && not (list_all is_blank line)
+    && not (is_scan_line line)
+    && not (list_any (λ known. bytes_eq (first_word line) known) other_words)
 
 -- line n, which can't be read, after so many scans: a scan line is a lost scan, and any other line is skipped; a damaged line
 -- after the first scan is skipped and a lost scan

@@ -10,10 +10,9 @@ use crate::intake::arrival::Arrival;
 use crate::intake::buffer::Buffer;
 use crate::intake::feed::Why;
 use crate::intake::frame::{arrival_of_frame, frame_len};
-use crate::intake::line::{Line, Meaning, first_line, meaning_of, refused};
+use crate::intake::line::{Line, Meaning, first_line, meaning_of, refused, without_return};
 use crate::station::Input;
-use dfr_channels::{Layout, Lines};
-use memchr::memchr;
+use dfr_channels::Layout;
 use std::alloc::{Allocator, Global};
 
 /// The bytes that were read and wait, and how far they were cut.
@@ -83,14 +82,13 @@ impl<'x, A: Allocator + Copy> Cutter<'x, A> {
         ensures shorter { length self.new.buffer ≤ length self.old.buffer }
         ensures same { (self.new.form ≡ self.old.form) × (self.new.is_owed ≡ self.old.is_owed) }
     {
-        let bytes = self.buffer.waiting();
-        match memchr(b'\n', bytes) {
-            Some(feed) => {
-                self.buffer.use_up(feed + 1);
+        match first_line(self.buffer.waiting()) {
+            Some((_, count)) => {
+                self.buffer.use_up(count);
                 self.is_skipping = false;
             }
             None => {
-                let count = bytes.len();
+                let count = self.buffer.waiting().len();
                 self.buffer.use_up(count);
             }
         }
@@ -181,8 +179,7 @@ impl<'x, A: Allocator + Copy> Cutter<'x, A> {
         if count == 0 {
             return None;
         }
-        let text = Lines::of(bytes).next()?;
-        let meaning = meaning_of(self.alloc, self.layout, self.line(text));
+        let meaning = meaning_of(self.alloc, self.layout, self.line(without_return(bytes)));
         Some(self.hand_out(count, meaning))
     }
 

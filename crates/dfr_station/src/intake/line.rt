@@ -1,15 +1,17 @@
 //! What a line of the input is: a scan, a lost scan, an order, or a line that is skipped.
 
-ghost use Rattle.std.specs.Prelude.{◌≡◌, MatchOption};
+ghost use Rattle.std.specs.Prelude.{◌≡◌, MatchOption, position};
+ghost use Rattle.std.specs.List.{list_all, list_any};
 ghost use Rattle.std.specs.Str.{bytes_eq};
 ghost use Rattle.dfr_channels.specs.Firing.{rules_fault};
+ghost use Rattle.dfr_channels.specs.Lines.{without_cr};
 ghost use Rattle.dfr_script.specs.Commands.{parts_of};
 ghost use Rattle.dfr_station.specs.Lines as spec;
 
 use crate::event::Skipped;
 use crate::intake::arrival::{Arrival, arrival_of_scan};
 use crate::intake::feed::Why;
-use dfr_channels::{Layout, Lines, Rule, RuleFault, Rules};
+use dfr_channels::{Layout, Rule, RuleFault, Rules};
 use dfr_live::Order;
 use dfr_script::{Command, LineFault, LineRefusal, ScanSize, command_of_line};
 use memchr::memchr;
@@ -34,6 +36,16 @@ pub enum Meaning<A: Allocator = Global> {
     Damaged(Skipped),
 }
 
+/// A line without the carriage return at its end.
+pub(crate) fn without_return(line: &[u8]) -> &[u8]
+    ensures { result.now ≡ without_cr line.now }
+{
+    match line {
+        [front @ .., b'\r'] => front,
+        _ => line,
+    }
+}
+
 /// The first line of the bytes, without its end, and the number of its bytes with its end. None if
 /// the bytes have no line feed.
 pub(crate) fn first_line(bytes: &[u8]) -> Option<(&[u8], usize)>
@@ -41,15 +53,22 @@ pub(crate) fn first_line(bytes: &[u8]) -> Option<(&[u8], usize)>
         (λ line. spec.IsFirstLine bytes.now line.0.now line.1) }
 {
     let feed = memchr(b'\n', bytes)?;
-    let line = Lines::of(&bytes[..feed]).next()?;
-    Some((line, feed + 1))
+    Some((without_return(&bytes[..feed]), feed + 1))
 }
 
-/// The first word of a line, up to its first blank or control character.
+/// Where the first word of a line ends: at its first blank or control character.
+fn word_end(line: &[u8]) -> Option<usize>
+    ensures { result ≡ position spec.ends_word line.now }
+{
+    line.iter().position(|b| *b <= b' ')
+}
+
+/// The first word of a line.
+#[tactic(auto, using(dfr_channels::proofs::Cuts::cuts))]
 fn first_word(line: &[u8]) -> &[u8]
     ensures { result.now ≡ spec.first_word line.now }
 {
-    match line.iter().position(|b| *b <= b' ') {
+    match word_end(line) {
         Some(end) => &line[..end],
         None => line,
     }
@@ -71,22 +90,46 @@ pub fn is_scan_line(line: &[u8]) -> bool
     is_word(word, "scan") || is_word(word, "lost")
 }
 
-/// The words of the script language with which no scan line begins.
-const WORDS: [&[u8]; 12] = [
-    b"trigger", b"rules", b"take", b"go", b"station", b"device", b"analog", b"status", b"freq",
-    b"rate", b"start", b"limits",
-];
+/// Whether the word is one of the script language with which no scan line begins.
+fn is_other_word(word: &[u8]) -> bool
+    ensures { result ≡ list_any (λ known. bytes_eq word.now known) spec.other_words }
+{
+    is_word(word, "trigger")
+        || is_word(word, "rules")
+        || is_word(word, "take")
+        || is_word(word, "go")
+        || is_word(word, "station")
+        || is_word(word, "device")
+        || is_word(word, "analog")
+        || is_word(word, "status")
+        || is_word(word, "freq")
+        || is_word(word, "rate")
+        || is_word(word, "start")
+        || is_word(word, "limits")
+}
+
+/// Whether the line is a comment.
+fn is_comment(line: &[u8]) -> bool
+    ensures { result ≡ spec.is_comment line.now }
+{
+    matches!(line, [b'#', ..])
+}
+
+/// Whether the line is blank.
+fn is_blank(line: &[u8]) -> bool
+    ensures { result ≡ list_all spec.is_blank line.now }
+{
+    line.iter().all(|b| matches!(*b, b' ' | b'\t' | b'\r'))
+}
 
 /// Whether a line is probably a scan line that was damaged: it is neither blank nor a comment, and
 /// its first word is none of the script language.
+#[tactic(auto, unfolding(crate::specs::Lines::is_damaged))]
 pub fn is_damaged(line: &[u8]) -> bool
     ensures { result ≡ spec.is_damaged line.now }
 {
-    if line.starts_with(b"#") || line.iter().all(|b| matches!(*b, b' ' | b'\t' | b'\r')) {
-        return false;
-    }
-    let word = first_word(line);
-    !is_scan_line(line) && !WORDS.iter().any(|known| *known == word)
+    let says = !is_comment(line) && !is_blank(line);
+    says && !is_scan_line(line) && !is_other_word(first_word(line))
 }
 
 /// Why a line with this fault is skipped.
