@@ -115,7 +115,7 @@ module _ {I A : Type 0} (left : I → Option (List ℕ)) (layout : SetupParts) (
   hears_lost m t steps x is orders came lost = (x, is, rw (orders, came, lost) refl)
 
   gives_lost : (m t : Acquired (Arrivals I A) A) (bits : List Bool) (steps : List StepParts) (f : Fed A)
-      → m.scans.layout ≡ layout → GivesLost {A} (record m.scans { noted = bits }) f t.scans → t.orders ≡ m.orders
+      → m.scans.layout ≡ layout → GivesLost {A = A} (record m.scans { noted = bits }) f t.scans → t.orders ≡ m.orders
       → HearsLost layout (heard_at steps m) (heard_at (steps ++ steps_given (Ok f)) t)
   gives_lost m t bits steps fed.Lost same h orders =
       hears_lost m t steps step.Lost (inl refl) orders (ap (λ (s : ScansParts). s.came) h) (ap (λ (s : ScansParts). s.lost) h)
@@ -137,7 +137,7 @@ module _ {I A : Type 0} (left : I → Option (List ℕ)) (layout : SetupParts) (
   hears_scan m t scan fed.NotYet steps same e orders = absurd e
   hears_scan m t scan fed.Done steps same e orders = absurd e
 
-  lost_layout : (s t : ScansParts) (f : Fed A) → GivesLost {A} s f t → t.layout ≡ s.layout
+  lost_layout : (s t : ScansParts) (f : Fed A) → GivesLost {A = A} s f t → t.layout ≡ s.layout
   lost_layout s t fed.Lost h = ap (λ (s : ScansParts). s.layout) h
   lost_layout s t (fed.Scan y) h = ap (λ (s : ScansParts). s.layout) h.2
   lost_layout s t fed.NotYet h = absurd h
@@ -162,12 +162,12 @@ module _ {I A : Type 0} (left : I → Option (List ℕ)) (layout : SetupParts) (
   heard_step m t coming.Drained f steps far hands h = absurd h
   heard_step m t (coming.End ending) f steps far hands h = absurd h
 
-  dropped_lost : (s t : ScansParts) (y : ScanParts) → GivesLost {A} s (fed.Scan y) t → SameCounts (record s { came = one_more s.came; lost = one_more s.lost }) (dropped t)
+  dropped_lost : (s t : ScansParts) (y : ScanParts) → GivesLost {A = A} s (fed.Scan y) t → SameCounts (record s { came = one_more s.came; lost = one_more s.lost }) (dropped t)
   dropped_lost s t y h =
       let d = drops_filler t (ap (λ (s : ScansParts). s.last) h.2) in
       (d.0 ∙ ap (λ (s : ScansParts). s.came) h.2, d.1 ∙ ap (λ (s : ScansParts). s.lost) h.2, d.2 ∙ ap (λ (s : ScansParts). s.layout) h.2)
 
-  dropped_scan : (s t : ScansParts) (scan y : ScanParts) → GivesScan {A} s scan (fed.Scan y) t → SameCounts (record s { came = one_more s.came; lost = one_more s.lost }) (dropped t)
+  dropped_scan : (s t : ScansParts) (scan y : ScanParts) → GivesScan {A = A} s scan (fed.Scan y) t → SameCounts (record s { came = one_more s.came; lost = one_more s.lost }) (dropped t)
   dropped_scan s t scan y (inl e) =
       let d = drops_scan t (ap (λ (s : ScansParts). s.last) e.1) in
       (d.0 ∙ ap (λ (s : ScansParts). s.came) e.1, d.1 ∙ ap (λ (s : ScansParts). one_more s.lost) e.1, d.2 ∙ ap (λ (s : ScansParts). s.layout) e.1)

@@ -1,21 +1,53 @@
 -- The orders of the input, as they wait and are handed out.
-use Rattle.std.proofs.Common.{◌≡◌, ℕ, List, [], ◌∷◌, ◌++◌, Option, Some, None, refl, sym, ◌∙◌, ap, append_assoc}
+use Rattle.std.proofs.Common.{◌≡◌, ℕ, List, [], ◌∷◌, ◌++◌, Option, Some, None, inl, inr, refl, sym, ◌∙◌, ap, append_assoc}
 use Rattle.std.proofs.lemmas.List.{append-nil}
-use Rattle.std.specs.Prelude.{option_to_list}
-use Rattle.dfr_station.specs.Desks.{DeskParts, HandsOut}
+use Rattle.std.specs.Prelude.{option_to_list, MatchOption}
+use Rattle.dfr_live.specs.declared.devices.Asked.{Asked}
+use Rattle.dfr_live.specs.declared.devices.Asked.TheVariants as asked
+use Rattle.dfr_station.specs.Desks.{DeskParts, HandsOut, IsEarly, Answers}
 use Rattle.dfr_station.specs.declared.desk.Placed.{Placed}
 
 module _ {A : Type 0} where
+  pub hands_none : (s t : DeskParts A) → t.lane ≡ s.lane → t.taken ≡ s.taken → t.waits ≡ s.waits → HandsOut s [] t
+  hands_none s t lane taken waits = record {
+    lane = lane;
+    more = [];
+    taken = taken ∙ sym (append-nil s.taken);
+    rest = append-nil (option_to_list s.waits) ∙ sym (ap (λ (o : Option (Placed A)). option_to_list o) waits);
+  }
+
+  -- one was taken off the queue, and waits
+  pub takes_off : (s t : DeskParts A) (x : Placed A) → t.lane ≡ s.lane → t.taken ≡ s.taken ++ x ∷ [] → s.waits ≡ None → t.waits ≡ Some x → HandsOut s [] t
+  takes_off s t x lane taken none waits = record {
+    lane = lane;
+    more = x ∷ [];
+    taken = taken;
+    rest = rw (none, waits) refl;
+  }
+
   -- what was handed out first, and then
   pub hands_on : (s m t : DeskParts A) (out more : List (Placed A)) → HandsOut s out m → HandsOut m more t → HandsOut s (out ++ more) t
-  hands_on s m t out more first then' = record {
-    lane = then'.lane ∙ first.lane;
-    more = first.more ++ then'.more;
-    taken = then'.taken ∙ ap (λ (l : List (Placed A)). l ++ then'.more) first.taken ∙ append_assoc s.taken first.more then'.more;
+  hands_on s m t out more first later = record {
+    lane = later.lane ∙ first.lane;
+    more = first.more ++ later.more;
+    taken = later.taken ∙ ap (λ (l : List (Placed A)). l ++ later.more) first.taken ∙ append_assoc s.taken first.more later.more;
     rest =
-      sym (append_assoc (option_to_list s.waits) first.more then'.more)
-      ∙ ap (λ (l : List (Placed A)). l ++ then'.more) first.rest
-      ∙ append_assoc out (option_to_list m.waits) then'.more
-      ∙ ap (λ (l : List (Placed A)). out ++ l) then'.rest
+      sym (append_assoc (option_to_list s.waits) first.more later.more)
+      ∙ ap (λ (l : List (Placed A)). l ++ later.more) first.rest
+      ∙ append_assoc out (option_to_list m.waits) later.more
+      ∙ ap (λ (l : List (Placed A)). out ++ l) later.rest
       ∙ sym (append_assoc out more (option_to_list t.waits));
   }
+
+  pub answers_after : (pumped : ℕ) (s m t : DeskParts A) (a : Asked A) → HandsOut s [] m → Answers pumped m a t → Answers pumped s a t
+  answers_after pumped s m t (asked.Order place o) first (inl h) = inl (h.0, h.1, hands_on s m t [] _ first h.2)
+  answers_after pumped s m t (asked.Order place o) first (inr h) = inr (h.0, h.1, hands_on s m t [] [] first h.2)
+  answers_after pumped s m t (asked.NotYet steps) first h = (hands_on s m t [] [] first h.0, h.1, h.2)
+  answers_after pumped s m t asked.Done first h = (hands_on s m t [] [] first h.0, h.1)
+
+  -- an order that was due, or none
+  pub due_after : (pumped : ℕ) (s m t : DeskParts A) (r : Option (Asked A)) → HandsOut s [] m
+      → MatchOption r ((t ≡ m) × (m.waits ≡ None)) (λ a. (p : ℕ) → Answers p m a t)
+      → MatchOption r (HandsOut s [] t × IsEarly pumped t) (λ a. Answers pumped s a t)
+  due_after pumped s m t None first h = rw h.0 (first, rw h.1 tt)
+  due_after pumped s m t (Some a) first h = answers_after pumped s m t a first (h pumped)

@@ -67,8 +67,8 @@ GivesLost s fed.Done t = ⊥
 abbrev pub GivesScan : {A : Type 0} → ScansParts → ScanParts → Fed A → ScansParts → Type 0
 GivesScan {A} s scan (fed.Scan x) t =
     ((x ≡ scan) × (t ≡ record s { came = one_more s.came; last = given.Scan; noted = scan.status }))
-    ⊎ ((m : List Bool) × GivesLost {A} (record s { noted = m }) (fed.Scan x) t)
-GivesScan {A} s scan fed.Lost t = (m : List Bool) × GivesLost {A} (record s { noted = m }) fed.Lost t
+    ⊎ ((m : List Bool) × GivesLost {A = A} (record s { noted = m }) (fed.Scan x) t)
+GivesScan {A} s scan fed.Lost t = (m : List Bool) × GivesLost {A = A} (record s { noted = m }) fed.Lost t
 GivesScan s scan fed.NotYet t = ⊥
 GivesScan s scan fed.Done t = ⊥
 

@@ -1,6 +1,6 @@
 //! The orders: those of the input come at their places, an operator's as they arrive.
 
-ghost use Rattle.std.specs.Prelude.{◌≡◌, ℕ, ◌≤◌, [], IfSome, IsSomeAnd, MatchOption};
+ghost use Rattle.std.specs.Prelude.{◌≡◌, ℕ, ◌≤◌, [], ⊤, IfSome, MatchBool, MatchOption};
 ghost use Rattle.rtrb.specs.Ring.{received};
 ghost use Rattle.dfr_live.specs.Lane.{lane_out};
 ghost use Rattle.dfr_station.specs.Desks as spec;
@@ -69,7 +69,8 @@ impl<'s, A: Allocator> Office<'s, A> {
         alloc: A,
         layout: &'s Layout<A>,
         signals: &'s Signals,
-        (orders, operator): (Consumer<Placed<A>, A>, Option<Operator<A>>),
+        orders: Consumer<Placed<A>, A>,
+        operator: Option<Operator<A>>,
         teller: Teller<A>,
         shelf: u32,
     ) -> Office<'s, A>
@@ -98,18 +99,25 @@ impl<'s, A: Allocator> Office<'s, A> {
 }
 
 impl<A: Allocator + Copy> Office<'_, A> {
-    /// Takes the next order of the input off the queue, unless that was done. Returns its place.
-    fn next_place(&mut self) -> Option<u64>
-        ensures out { spec.HandsOut self.old [] self.new }
-        ensures place { MatchOption result (self.new.waits ≡ None)
-            (λ at. IsSomeAnd self.new.waits (λ placed. placed.at ≡ at)) }
+    /// Takes the next order of the input off the queue, unless that was done.
+    fn take_off(&mut self)
+        ensures { spec.HandsOut self.old [] self.new }
     {
-        if self.next.is_none() {
-            self.next = self.orders.pop().ok();
+        if self.next.is_some() {
+            return;
         }
+        if let Ok(placed) = self.orders.pop() {
+            self.next = Some(placed);
+        }
+    }
+
+    /// Whether the next order of the input is due after so many steps.
+    fn is_due(&self, pumped: u64) -> bool
+        ensures { MatchBool result ⊤ (spec.IsEarly pumped self.now) }
+    {
         match &self.next {
-            Some(placed) => Some(placed.at),
-            None => None,
+            Some(placed) => placed.at <= pumped,
+            None => false,
         }
     }
 
@@ -133,9 +141,11 @@ impl<A: Allocator + Copy> Office<'_, A> {
             (spec.HandsOut self.old [] self.new × spec.IsEarly pumped self.new)
             (λ asked. spec.Answers pumped self.old asked self.new) }
     {
-        match self.next_place() {
-            Some(at) if at <= pumped => self.hand_next(),
-            _ => None,
+        self.take_off();
+        if self.is_due(pumped) {
+            self.hand_next()
+        } else {
+            None
         }
     }
 

@@ -147,7 +147,7 @@ pub fn run_station<
         drop(buffer);
         return Err(RunFault::Memory);
     };
-    let arrivals = Arrivals::new(alloc, &layout, form, (buffer, at), input);
+    let arrivals = Arrivals::new(alloc, &layout, form, buffer, at, input);
     run_over(
         rt, alloc, recorder, how, parts, &layout, arrivals, store, printer,
     )
@@ -194,7 +194,9 @@ fn run_over<
     let mut intake = Acquisition::new(rt, arrivals, scans, orders);
     let shelf = recorder.limits().shelf();
     let operator = operator.map(|bytes| Operator::new(alloc, bytes));
-    let mut desk = Office::new(alloc, layout, &signals, (placed, operator), triggers, shelf);
+    let mut desk = Office::new(
+        alloc, layout, &signals, placed, operator, triggers, shelf,
+    );
     let mut outlet = Exports::new(rt, layout, &signals, store, exports);
     let telling = Telling::new(&mut *printer, events, minutes, watch);
     let report = record_printing(

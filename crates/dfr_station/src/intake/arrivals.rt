@@ -66,7 +66,8 @@ impl<'x, I, A: Allocator + Copy> Arrivals<'x, I, A> {
         alloc: A,
         layout: &'x Layout<A>,
         form: Input,
-        (buffer, at): (Buffer<A>, i64),
+        buffer: Buffer<A>,
+        at: i64,
         input: &'x mut I,
     ) -> Arrivals<'x, I, A>
         ensures { Begins layout.entry.now form buffer input.entry.now result }
