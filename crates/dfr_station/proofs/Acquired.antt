@@ -1,5 +1,5 @@
 -- How what comes becomes the acquisition's steps.
-use Rattle.std.proofs.Common.{◌≡◌, ℕ, List, [], ◌∷◌, Option, Some, None, Result, Ok, Err, sym, ◌∙◌}
+use Rattle.std.proofs.Common.{◌≡◌, List, ◌∷◌, Some, None, Ok}
 use Rattle.dfr_live.specs.Devices.{Came}
 use Rattle.dfr_live.specs.declared.station.Fed.{Fed}
 use Rattle.dfr_live.specs.declared.station.Fed.TheVariants as fed
@@ -52,21 +52,26 @@ module _ {C A : Type 0} where
     abbrev pub QuietSoFar : Acquired C A → Acquired C A → Type 0
     QuietSoFar s m = (quiet : List (Next A)) × Came (Quietly Comes) s quiet m
 
-    pub quiet_more : (s m t : Acquired C A) (i : C) (x : Next A)
-        → QuietSoFar s m → Comes m.incoming x i → Gave (moved m i) x None t → QuietSoFar s t
-    quiet_more s m t i x far comes gave =
-        (x ∷ far.0, (m, far.1, (rw gave.2 comes, gave.1, quietly_at m i x t gave.0)))
+    pub quiet_more : (s v m t : Acquired C A) (i : C) (x : Next A)
+        → v ≡ m → QuietSoFar s m → Comes v.incoming x i → Gave (moved v i) x None t → QuietSoFar s t
+    quiet_more s v m t i x e far comes gave =
+        (x ∷ far.0, (v, rw e far.1, (rw gave.2 comes, gave.1, quietly_at v i x t gave.0)))
 
     gives_step : (s m t : Acquired C A) (x : Next A) (f : Fed A)
         → QuietSoFar (record s { scans = settled s.scans }) m → Comes m.incoming x t.incoming → Steps m x f t
         → AcquisitionGives Comes s (Ok f) t
-    gives_step s m t x (fed.Scan scan) far comes steps = (far.0, m, far.1, x, comes, steps)
-    gives_step s m t x fed.Lost far comes steps = (far.0, m, far.1, x, comes, steps)
+    gives_step s m t x (fed.Scan scan) far comes steps = (far.0, m, far.1, (x, comes, steps))
+    gives_step s m t x fed.Lost far comes steps = (far.0, m, far.1, (x, comes, steps))
     gives_step s m t x fed.NotYet far comes steps = never_yet m x t steps
     gives_step s m t x fed.Done far comes steps = absurd (never_done m x t steps)
 
-    pub gives_some : (s m t : Acquired C A) (i : C) (x : Next A) (f : Fed A)
-        → QuietSoFar (record s { scans = settled s.scans }) m → Comes m.incoming x i → Gave (moved m i) x (Some f) t
+    pub gives_some : (s v m t : Acquired C A) (i : C) (x : Next A) (f : Fed A)
+        → v ≡ m → QuietSoFar (record s { scans = settled s.scans }) m → Comes v.incoming x i → Gave (moved v i) x (Some f) t
         → AcquisitionGives Comes s (Ok f) t
-    gives_some s m t i x f far comes gave =
-        gives_step s m t x f far (rw gave.1 comes) (steps_at m i x f t gave.0)
+    gives_some s v m t i x f e far comes gave =
+        gives_step s v t x f (rw e far) (rw gave.1 comes) (steps_at v i x f t gave.0)
+
+    pub gives_end : (s v m t : Acquired C A) (ending : Ending)
+        → v ≡ m → QuietSoFar (record s { scans = settled s.scans }) m → Comes v.incoming (coming.End ending) t.incoming
+        → t.scans ≡ v.scans → t.orders ≡ v.orders → AcquisitionGives Comes s (Ok fed.Done) t
+    gives_end s v m t ending e far comes scans orders = (far.0, v, rw e far.1, (ending, comes, scans, orders))

@@ -190,9 +190,9 @@ module _ {I A : Type 0} (left : I → Option (List ℕ)) (layout : SetupParts) (
   heard_gave : (f g : Acquired (Arrivals I A) A) (r : Result (Fed A) ℕ) (steps : List StepParts)
       → SoFar f steps → goes_on r ≡ true → AcquisitionGives (HandsNext left) f r g → SoFar g (steps ++ steps_given r)
   heard_gave f g (Ok (fed.Scan y)) steps far on h =
-      heard_step h.1 g h.3 (fed.Scan y) steps (heard_quiet _ h.1 h.0 steps (heard_settled f steps far) h.2) h.4 h.5
+      heard_step h.1 g h.3.0 (fed.Scan y) steps (heard_quiet _ h.1 h.0 steps (heard_settled f steps far) h.2) h.3.1 h.3.2
   heard_gave f g (Ok fed.Lost) steps far on h =
-      heard_step h.1 g h.3 fed.Lost steps (heard_quiet _ h.1 h.0 steps (heard_settled f steps far) h.2) h.4 h.5
+      heard_step h.1 g h.3.0 fed.Lost steps (heard_quiet _ h.1 h.0 steps (heard_settled f steps far) h.2) h.3.1 h.3.2
   heard_gave f g (Ok fed.NotYet) steps far on h = absurd h
   heard_gave f g (Ok fed.Done) steps far on h = cc
   heard_gave f g (Err code) steps far on h = absurd h
@@ -201,7 +201,7 @@ module _ {I A : Type 0} (left : I → Option (List ℕ)) (layout : SetupParts) (
       → SoFar f steps → AcquisitionGives (HandsNext left) f (Ok (fed.Scan scan)) m → g ≡ after_drop m → SoFar g (steps ++ step.Lost ∷ [])
   heard_loses f m g scan steps far h loses =
       subst (λ (x : Acquired (Arrivals I A) A). SoFar x (steps ++ step.Lost ∷ [])) (sym loses)
-      (heard_drop h.1 m h.3 scan steps (heard_quiet _ h.1 h.0 steps (heard_settled f steps far) h.2) h.4 h.5)
+      (heard_drop h.1 m h.3.0 scan steps (heard_quiet _ h.1 h.0 steps (heard_settled f steps far) h.2) h.3.1 h.3.2)
 
   heard_one : (f g : Acquired (Arrivals I A) A) (taken : TakenFor A) (steps : List StepParts)
       → SoFar f steps → GaveOne (AcquisitionGives (HandsNext left)) AcquisitionLoses f taken g → SoFar g (steps ++ taken.1)
@@ -239,8 +239,8 @@ module _ {I A : Type 0} (left : I → Option (List ℕ)) (layout : SetupParts) w
       record {
         came = far.came;
         heard = subst (λ (x : Heard). Came (Hears layout) nothing_heard far.came x)
-            (rw (done.5, done.6, h.4) refl)
+            (rw (done.3.2, done.3.3, h.4) refl)
             far.heard;
-        ending = done.3;
-        whole = ends_so left layout f.incoming nothing_heard (reverse far.came) done.1.incoming g.incoming done.3 far.leads done.4;
+        ending = done.3.0;
+        whole = ends_so left layout f.incoming nothing_heard (reverse far.came) done.1.incoming g.incoming done.3.0 far.leads done.3.1;
       }

@@ -2,5 +2,6 @@ pub mod Parts
 pub mod Cutting
 pub mod Coming
 pub mod Acquired
-pub mod Orders
 pub mod Hearers
+pub mod Orders
+pub mod Tries

@@ -208,7 +208,8 @@ impl<K: Store, R: Wait + Clock, A: Allocator> Outlet<Recording> for Exports<'_, 
         let key = key_of(self.layout, extent);
         for _ in self.rt.forever() {
             match self.tried(key, extent, cfg, dat) {
-                Tried::Stored | Tried::GivenUp => return Ok(()),
+                Tried::Stored => return Ok(()),
+                Tried::GivenUp => return Ok(()),
                 Tried::Again => {}
             }
         }

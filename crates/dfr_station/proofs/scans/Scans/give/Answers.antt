@@ -1,4 +1,4 @@
-use Rattle.std.proofs.Common.{rules, ◌≡◌, List, Bool, refl, inl, inr}
+use Rattle.std.proofs.Common.{rules, ◌≡◌, List, Bool, refl, inl, inr, subst}
 use Rattle.dfr_channels.specs.Parts.{ScanParts}
 use Rattle.dfr_live.specs.declared.station.Fed.{Fed}
 use Rattle.dfr_live.specs.declared.station.Fed.TheVariants as fed
@@ -12,9 +12,14 @@ lost_instead s scan fed.Lost t m h = (m, h)
 lost_instead s scan fed.NotYet t m h = h
 lost_instead s scan fed.Done t m h = h
 
+lost_from : {A : Type 0} (s u : ScansParts) (scan : ScanParts) (f : Fed A) (t : ScansParts) (m : List Bool)
+    → u ≡ record s { noted = m } → GivesLost {A = A} u f t → GivesScan s scan f t
+lost_from {A} s u scan f t m e h = lost_instead s scan f t m (subst (λ (x : ScansParts). GivesLost {A = A} x f t) e h)
+
 pub returns-then-is_err : goal.returns-then-is_err
 returns-then-is_err g c =
-    rw (← c.self.view_is) (lost_instead _ c.args.scan c.lose.result c.lose.new.self c.note.new.self.next.items (rw c.note.ensures.kept at c.lose.ensures))
+    lost_from c.args.self.now _ c.args.scan c.lose.result c.lose.new.self c.note.new.self.next.items
+    (rw (← c.self.view_is, c.note.ensures.kept) refl) c.lose.ensures
 
 pub returns : goal.returns
 returns g c = inl (refl, search rules)
