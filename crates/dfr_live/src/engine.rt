@@ -146,7 +146,8 @@ fn record_named<
 
 /// Runs the three threads. Ok where each did all of its work. The export thread starts first. Where
 /// it cannot start, no other thread starts, and the error is `Memory`; otherwise the outlet comes
-/// back, whatever the error.
+/// back, whatever the error. The acquisition starts last: where another thread cannot start, nothing
+/// is asked of the feed.
 fn run_threads<
     's,
     N: Session<A> + Send + Sync,
@@ -189,7 +190,7 @@ fn run_threads<
     ensures front { IfErr result (λ fault. (fault ≡ LiveFault.Memory)
         ⊎ GotFront K.puts K.lacks shared.now kind outlet.old outlet.new) }
 {
-    let (exported, acquired, triggered) = in_three_threads(
+    let (exported, triggered, acquired) = in_three_threads(
         rt,
         signals,
         Exporting {
@@ -203,14 +204,6 @@ fn run_threads<
             token: second,
             family: PhantomData,
         },
-        Acquisition {
-            rt,
-            signals,
-            pace,
-            feed,
-            source,
-            family: PhantomData,
-        },
         Triggering {
             rt,
             signals,
@@ -218,6 +211,14 @@ fn run_threads<
             shared,
             desk,
             token: first,
+            family: PhantomData,
+        },
+        Acquisition {
+            rt,
+            signals,
+            pace,
+            feed,
+            source,
             family: PhantomData,
         },
     );
@@ -231,18 +232,8 @@ fn run_threads<
     } = exported;
     take_back(filled);
     take_back(emptied);
-    let Some(acquired) = acquired else {
-        return not_started(Ok(()), fault_in(&exported));
-    };
-    let Finished {
-        device: fed,
-        seat: taken,
-        outcome: acquired,
-    } = acquired;
-    take_back(fed);
-    take_back(taken);
     let Some(triggered) = triggered else {
-        return not_started(fault_in(&acquired), fault_in(&exported));
+        return not_started(Ok(()), fault_in(&exported));
     };
     let Finished {
         device: ordered,
@@ -251,6 +242,16 @@ fn run_threads<
     } = triggered;
     take_back(ordered);
     take_back(called);
+    let Some(acquired) = acquired else {
+        return not_started(fault_in(&triggered), fault_in(&exported));
+    };
+    let Finished {
+        device: fed,
+        seat: taken,
+        outcome: acquired,
+    } = acquired;
+    take_back(fed);
+    take_back(taken);
     first_of(&acquired, &triggered, &exported)?;
     match (acquired, triggered, exported) {
         (Ok(Some(given)), Ok(Some(made)), Ok(true)) => {
@@ -281,14 +282,14 @@ fn fault_in<O>(outcome: &Result<O, LiveFault>) -> Result<(), LiveFault>
 /// The error of a run of which a thread could not be started: that of another thread, if it comes
 /// first in `LiveFault`, else `Memory`.
 fn not_started(
-    acquisition: Result<(), LiveFault>,
+    trigger: Result<(), LiveFault>,
     exports: Result<(), LiveFault>,
 ) -> Result<(), LiveFault>
     ensures fails { result ≢ Ok tt }
     ensures fault { IfErr result (λ fault. (fault ≡ LiveFault.Memory)
-        ⊎ ((acquisition ≡ Err fault) ⊎ (exports ≡ Err fault))) }
+        ⊎ ((trigger ≡ Err fault) ⊎ (exports ≡ Err fault))) }
 {
-    first_fault(false, acquisition, Ok(()), exports)
+    first_fault(false, Ok(()), trigger, exports)
 }
 
 /// The error of a run whose threads were all started: that of a thread, the one that comes first in
