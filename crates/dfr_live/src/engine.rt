@@ -1,27 +1,25 @@
 //! One recording in three threads, over any devices.
 
-ghost use Rattle.std.specs.Prelude.{◌≡◌, ◌≢◌, ◌⊎◌, [], true, length, All, Ok, Err, IfOk, IfErr, IfSome};
+ghost use Rattle.std.specs.Prelude.{◌≡◌, ◌⊎◌, [], length, All, Err, IfOk, IfErr, IfSome};
 ghost use Rattle.dfr_live.specs.Calls.{open_fault};
 ghost use Rattle.dfr_live.specs.Seen.{opening_of};
-ghost use Rattle.dfr_live.specs.Ends.{Ends};
 ghost use Rattle.dfr_live.specs.Devices.{taken_in, GaveAll, MadeAll, GotAll, GotFront, IsTake};
-ghost use Rattle.dfr_live.specs.Causes.{HasCause, RunFails, IsEnd};
-ghost use Rattle.dfr_live.specs.Report.{Reports, Recorded};
+ghost use Rattle.dfr_live.specs.Causes.{HasCause, RunFails};
+ghost use Rattle.dfr_live.specs.Report.{Recorded};
 ghost use Rattle.dfr_live.specs.Weave.{steps_of};
 
+use crate::closing::{fault_in, first_of, not_started, report};
 use crate::devices::{Desk, Intake, Outlet, Pace};
-use crate::ended::{EndFault, Ended, end};
 use crate::export::hand_rest;
-use crate::inner::Inner;
 use crate::opened::{Opened, open};
-use crate::report::{LiveFault, LiveReport, first_fault, records_in};
+use crate::report::{LiveFault, LiveReport};
 use crate::session::Session;
 use crate::shared::Shared;
 use crate::signals::Signals;
 use crate::source::Source;
 use crate::threads::in_three_threads;
 use crate::token::Token;
-use crate::works::{Acquisition, Exporting, Finished, Known, Triggering};
+use crate::works::{Acquisition, Exporting, Finished, Triggering};
 use comtrade_write::Kind;
 use dfr_recorder::Recorder;
 use std::alloc::Allocator;
@@ -268,100 +266,3 @@ fn run_threads<
 fn take_back<T>(x: &mut T)
     ensures { x.new ≡ x.old }
 {}
-
-/// The error of a thread, if it has one.
-fn fault_in<O>(outcome: &Result<O, LiveFault>) -> Result<(), LiveFault>
-    ensures { IfErr result (λ fault. outcome.now ≡ Err fault) }
-{
-    match outcome {
-        Ok(_) => Ok(()),
-        Err(fault) => Err(*fault),
-    }
-}
-
-/// The error of a run of which a thread could not be started: that of another thread, if it comes
-/// first in `LiveFault`, else `Memory`.
-fn not_started(
-    trigger: Result<(), LiveFault>,
-    exports: Result<(), LiveFault>,
-) -> Result<(), LiveFault>
-    ensures fails { result ≢ Ok tt }
-    ensures fault { IfErr result (λ fault. (fault ≡ LiveFault.Memory)
-        ⊎ ((trigger ≡ Err fault) ⊎ (exports ≡ Err fault))) }
-{
-    first_fault(false, Ok(()), trigger, exports)
-}
-
-/// The error of a run whose threads were all started: that of a thread, the one that comes first in
-/// `LiveFault`. Ok where no thread has one.
-fn first_of<'s>(
-    acquired: &Result<Known<'s>, LiveFault>,
-    triggered: &Result<Known<'s>, LiveFault>,
-    exported: &Result<bool, LiveFault>,
-) -> Result<(), LiveFault>
-    ensures { IfErr result (λ fault. (acquired.now ≡ Err fault)
-        ⊎ ((triggered.now ≡ Err fault) ⊎ (exported.now ≡ Err fault))) }
-{
-    first_fault(
-        true,
-        fault_in(acquired),
-        fault_in(triggered),
-        fault_in(exported),
-    )
-}
-
-/// Ends the recording, and counts what was done.
-fn report<N: Session<A>, A: Allocator + Copy>(
-    rt: &impl Wait,
-    alloc: A,
-    pace: &impl Pace,
-    inner: Inner<N, A>,
-    source: Source<N, A>,
-    tokens: Vec<Token<A>, A>,
-) -> Result<LiveReport<A>, LiveFault>
-    requires seats { N.seats ≡ 2 }
-    ensures ended { IfOk result (λ report. (reports : Reports N.opening report)
-        × (reports.inner ≡ inner) × (reports.source ≡ source) × (reports.tokens ≡ tokens.items)) }
-    ensures fault { IfErr result (λ fault. IsEnd fault) }
-{
-    let _ = inner.opening();
-    let stepped = inner.steps();
-    let ended = end_patiently(rt, alloc, pace, inner, source, tokens)?;
-    let records = records_in(ended.log.as_slice());
-    let refused = stepped - ended.recorder.scans();
-    Ok(LiveReport {
-        stepped,
-        refused,
-        records,
-        ended,
-    })
-}
-
-/// Ends the recording. If an allocation fails, it is tried again as the pace has it.
-fn end_patiently<N: Session<A>, A: Allocator + Copy>(
-    rt: &impl Wait,
-    alloc: A,
-    pace: &impl Pace,
-    inner: Inner<N, A>,
-    source: Source<N, A>,
-    tokens: Vec<Token<A>, A>,
-) -> Result<Ended<A>, LiveFault>
-    ensures ended { IfOk result (λ e. Ends inner source tokens.items e) }
-    ensures fault { IfErr result (λ fault. IsEnd fault) }
-{
-    let mut parts = (inner, source, tokens);
-    for _ in rt.forever() {
-        let (inner, source, tokens) = parts;
-        match end(alloc, inner, source, tokens) {
-            Ok(ended) => return Ok(ended),
-            Err((EndFault::Memory, inner, source, tokens)) => {
-                parts = (inner, source, tokens);
-                if pace.short().is_err() {
-                    return Err(LiveFault::End(EndFault::Memory));
-                }
-            }
-            Err((fault, _, _, _)) => return Err(LiveFault::End(fault)),
-        }
-    }
-    unreachable!()
-}
