@@ -66,11 +66,12 @@ impl<'x, I, A: Allocator + Copy> Arrivals<'x, I, A> {
         alloc: A,
         layout: &'x Layout<A>,
         form: Input,
-        (buffer, at): (Buffer<A>, i64),
+        read: (Buffer<A>, i64),
         input: &'x mut I,
     ) -> Arrivals<'x, I, A>
-        ensures { Begins layout.entry.now form buffer input.entry.now result }
+        ensures { Begins layout.entry.now form read.0 input.entry.now result }
     {
+        let (buffer, at) = read;
         Arrivals {
             input,
             cutter: Cutter::new(alloc, layout, form, buffer),
