@@ -3,15 +3,16 @@ use Rattle.std.proofs.Common.{◌≡◌, ℕ, suc, ◌+◌, ◌<◌, ◌≤◌, 
 use Rattle.std.specs.List.{All, slice_split, onto_first}
 use Rattle.std.proofs.lemmas.List.Splits.{slice_split_at, slice_split_none, slice_split-cons_no, length-slice_split}
 use Rattle.std.proofs.lemmas.Bool.{false≢true}
-use Rattle.std.proofs.lemmas.List.{append-nil, take-append-le, drop-append-le, drop_at, length-drop}
+use Rattle.std.proofs.lemmas.List.{append-nil, take-append-le, drop-append-le, drop_at, take_at, length-drop}
 use Rattle.dfr_channels.specs.Parts.{SetupParts}
-use Rattle.dfr_station.specs.Lines.{ArrivalParts, Lost, is_feed, HasNoFeed, IsFirstLine, FrameMeans, LineMeans}
-use Rattle.dfr_station.specs.Input.{one_more, scans_after, with_owed, owed_list, pieces, lines_left, PieceGives, LinesGive, frame_size, FramesGive, ReadingParts, Comes, reading_of, Cuts, IsReady, Wants, handed, TakesLine}
+use Rattle.dfr_station.specs.Lines.{ArrivalParts, Lost, refused, is_feed, HasNoFeed, IsFirstLine, FrameMeans, LineMeans}
+use Rattle.dfr_station.specs.Input.{one_more, scans_after, with_owed, owed_list, pieces, long, lines_left, PieceGives, LinesGive, frame_size, FramesGive, ReadingParts, Comes, reading_of, Cuts, IsReady, Wants, handed, TakesLine}
 use Rattle.dfr_script.specs.Commands.{command_line}
 use Rattle.dfr_script.specs.Words.{is_silent}
 use Rattle.dfr_station.specs.declared.intake.arrival.Arrival.{Arrival}
 use Rattle.dfr_station.specs.declared.intake.cutter.Cutter.{Cutter}
 use Rattle.dfr_station.specs.declared.station.Input.TheVariants as form
+use Rattle.dfr_station.specs.declared.event.Skipped.TheVariants as skipped
 use Rattle.dfr_station.specs.declared.intake.feed.Why.TheVariants as why
 
 -- bytes with a line feed: the piece before it, and those after it
@@ -76,6 +77,14 @@ pieces_first bytes line more count cut =
       ∙ drop_at (cut.piece ++ 10 ∷ []) cut.behind count (omega (arith, cut.counted, length-append cut.piece (10 ∷ []))) in
     ap (λ b. pieces (b ++ more)) cut.cut ∙ ap pieces (append_assoc cut.piece (10 ∷ cut.behind) more)
     ∙ pieces_at cut.piece (cut.behind ++ more) cut.first ∙ ap (λ b. cut.piece ∷ pieces (b ++ more)) (sym behind)
+
+-- a line that fills the buffer is too long, whatever comes after it
+pub long_gives : (layout : SetupParts) (n came : ℕ) (bytes more : List ℕ) (xs : List ArrivalParts)
+    → length bytes ≡ long → xs ≡ refused n came bytes skipped.Long why.Unread → PieceGives layout n came (bytes ++ more) xs
+long_gives layout n came bytes more xs full is = inl (
+    omega (arith, length-append bytes more),
+    is ∙ ap (λ t. refused n came t skipped.Long why.Unread) (sym (take_at bytes more long full)),
+  )
 
 -- an empty line says nothing
 says_nothing : (layout : SetupParts) (n came : ℕ) (xs : List ArrivalParts) → LineMeans layout n came [] xs → xs ≡ []

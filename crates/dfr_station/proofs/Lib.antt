@@ -1,4 +1,3 @@
-pub mod Parts
 pub mod Cutting
 pub mod Coming
 pub mod Handing

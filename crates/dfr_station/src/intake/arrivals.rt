@@ -19,9 +19,9 @@ use std::time::Clock;
 /// How the input ended.
 #[derive(Clone, Copy, Debug, PartialEq, Eq)]
 pub(crate) enum Ending {
-    /// Nothing of it was left.
+    /// All that came was handed out.
     Whole,
-    /// Within a frame, of which so many bytes came.
+    /// Within a frame. So many bytes of it came, and are not handed out.
     Cut(u64),
     /// It can't be read any more.
     Broken,

@@ -1,10 +1,7 @@
-use Rattle.std.proofs.Common.{◌≡◌, false, true, [], ◌++◌, length, drop, ap, sym, ◌∙◌, arith, length-append, inl}
-use Rattle.std.proofs.lemmas.List.{drop_all, take_at}
-use Rattle.dfr_station.specs.Input.{long, one_more, pieces}
-use Rattle.dfr_station.specs.Lines.{refused}
-use Rattle.dfr_station.specs.declared.event.Skipped.TheVariants as skipped
-use Rattle.dfr_station.specs.declared.intake.feed.Why.TheVariants as why
-use Rattle.dfr_station.proofs.Coming.{first_of, pieces_on, takes}
+use Rattle.std.proofs.Common.{◌≡◌, false, true, [], ◌++◌, length, drop, ap, arith}
+use Rattle.std.proofs.lemmas.List.{drop_all}
+use Rattle.dfr_station.specs.Input.{one_more, pieces}
+use Rattle.dfr_station.proofs.Coming.{first_of, pieces_on, long_gives, takes}
 use Rattle.dfr_station.proofs.intake.cutter.Cutter.long_line.Goals as goal
 
 pub returns : goal.returns
@@ -19,9 +16,6 @@ returns g c =
       (λ more none. (
         pieces_on s.buffer more c.requires.long.0,
         λ n came xs gives. rw nothing at gives,
-        inl (
-          omega (arith, length-append s.buffer (first_of (pieces more))),
-          means ∙ ap (λ t. refused (one_more s.lines) s.came t skipped.Long why.Unread) (sym (take_at s.buffer (first_of (pieces more)) long c.requires.long.1)),
-        ),
+        long_gives s.layout.now (one_more s.lines) s.came s.buffer (first_of (pieces more)) _ c.requires.long.1 means,
       ))
       (rw done.given at done.came) done.paid)
