@@ -73,8 +73,8 @@ line_leads layout s bytes rest piece ps given came false skipping lines paid beg
 pub pieces_first : (bytes line more : List ℕ) (count : ℕ) (cut : IsFirstLine bytes line count) → pieces (bytes ++ more) ≡ cut.piece ∷ pieces (drop count bytes ++ more)
 pieces_first bytes line more count cut =
     let behind : drop count bytes ≡ cut.behind =
-      ap (drop count) (cut.cut ∙ sym (append_assoc cut.piece (10 ∷ []) cut.behind))
-      ∙ drop_at (cut.piece ++ 10 ∷ []) cut.behind count (omega (arith, cut.counted, length-append cut.piece (10 ∷ []))) in
+    ap (drop count) (cut.cut ∙ sym (append_assoc cut.piece (10 ∷ []) cut.behind))
+    ∙ drop_at (cut.piece ++ 10 ∷ []) cut.behind count (omega (arith, cut.counted, length-append cut.piece (10 ∷ []))) in
     ap (λ b. pieces (b ++ more)) cut.cut ∙ ap pieces (append_assoc cut.piece (10 ∷ cut.behind) more)
     ∙ pieces_at cut.piece (cut.behind ++ more) cut.first ∙ ap (λ b. cut.piece ∷ pieces (b ++ more)) (sym behind)
 
@@ -82,9 +82,9 @@ pieces_first bytes line more count cut =
 pub long_gives : (layout : SetupParts) (n came : ℕ) (bytes more : List ℕ) (xs : List ArrivalParts)
     → length bytes ≡ long → xs ≡ refused n came bytes skipped.Long why.Unread → PieceGives layout n came (bytes ++ more) xs
 long_gives layout n came bytes more xs full is = inl (
-    omega (arith, length-append bytes more),
-    is ∙ ap (λ t. refused n came t skipped.Long why.Unread) (sym (take_at bytes more long full)),
-  )
+  omega (arith, length-append bytes more),
+  is ∙ ap (λ t. refused n came t skipped.Long why.Unread) (sym (take_at bytes more long full)),
+)
 
 -- an empty line says nothing
 says_nothing : (layout : SetupParts) (n came : ℕ) (xs : List ArrivalParts) → LineMeans layout n came [] xs → xs ≡ []
@@ -116,8 +116,10 @@ skip_leads layout s false skipping bytes rest xs lines owes skips same comes = r
 pub skips_to : {A : Type 0} (c : Cutter A) (bytes : List ℕ) (skipping : Bool) → c.form ≡ form.Lines → c.is_skipping ≡ true
     → ((more : List ℕ) → drop 1 (pieces (c.buffer ++ more)) ≡ lines_left skipping (bytes ++ more))
     → Cuts false c [] (record c { buffer = bytes; is_skipping = skipping })
-skips_to c bytes skipping lines skips same = record { first = λ more none xs comes.
-    skip_leads c.layout.now (reading_of c) c.is_owed skipping (c.buffer ++ more) (bytes ++ more) xs lines refl skips (same more) comes }
+skips_to c bytes skipping lines skips same = record {
+  first = λ more none xs comes.
+      skip_leads c.layout.now (reading_of c) c.is_owed skipping (c.buffer ++ more) (bytes ++ more) xs lines refl skips (same more) comes;
+}
 
 pub for_any : {A : Type 0} {c d : Cutter A} {given : List ArrivalParts} (last : Bool) → Cuts false c given d → Cuts last c given d
 for_any last cut = record { first = λ more none xs comes. cut.first more (λ e. absurd (false≢true e)) xs comes }
@@ -129,37 +131,39 @@ takes_any last took = record { cut = for_any last took.cut; shorter = took.short
 pub takes : {A : Type 0} (last : Bool) (c : Cutter A) (o : Option (Arrival A)) (count came : ℕ) (owed skipping : Bool) (piece : List ℕ → List ℕ) (ps : List ℕ → List (List ℕ))
     → IsReady c → 0 < count → count ≤ length c.buffer
     → ((more : List ℕ) → (last ≡ true → more ≡ [])
-        → (pieces (c.buffer ++ more) ≡ piece more ∷ ps more) × Leaves c.layout.now (ps more) skipping (drop count c.buffer ++ more)
-        × PieceGives c.layout.now (one_more c.lines) c.came (piece more) (handed o ++ owed_list owed))
+    → (pieces (c.buffer ++ more) ≡ piece more ∷ ps more) × Leaves c.layout.now (ps more) skipping (drop count c.buffer ++ more)
+    × PieceGives c.layout.now (one_more c.lines) c.came (piece more) (handed o ++ owed_list owed))
     → with_owed came owed ≡ scans_after c.came (handed o ++ owed_list owed) → (o ≡ None → owed ≡ false)
     → TakesLine last c o (record c { buffer = drop count c.buffer; lines = one_more c.lines; came = came; is_owed = owed; is_skipping = skipping })
 takes last c o count came owed skipping piece ps ready some within cut counted paid = record {
-    cut = record { first = λ more none xs comes.
-      let k = cut more none in
-      line_leads c.layout.now (reading_of c) (c.buffer ++ more) (drop count c.buffer ++ more) (piece more) (ps more) (handed o) came owed skipping
-      ready.lines ready.paid ready.begins k.0 k.1 k.2 counted xs comes };
-    shorter = omega (arith, length-drop count c.buffer);
-    same = refl;
-    paid = paid;
-  }
+  cut = record {
+    first = λ more none xs comes.
+        let k = cut more none in
+        line_leads c.layout.now (reading_of c) (c.buffer ++ more) (drop count c.buffer ++ more) (piece more) (ps more) (handed o) came owed skipping
+        ready.lines ready.paid ready.begins k.0 k.1 k.2 counted xs comes;
+  };
+  shorter = omega (arith, length-drop count c.buffer);
+  same = refl;
+  paid = paid;
+}
 
 -- no bytes wait, and a line comes next
 pub waits_for_line : {A : Type 0} (last : Bool) (c : Cutter A) → IsReady c → c.buffer ≡ [] → Wants last c c
 unfolding Comes
 waits_for_line last c ready empty = record {
-    room = omega (arith, ap length empty);
-    cut = record { first = λ more none xs comes. comes };
-    over = λ is_last. rw (ready.lines, ready.paid, ready.begins, empty) (ended_there c.layout.now (one_more c.lines) c.came);
-  }
+  room = omega (arith, ap length empty);
+  cut = record { first = λ more none xs comes. comes };
+  over = λ is_last. rw (ready.lines, ready.paid, ready.begins, empty) (ended_there c.layout.now (one_more c.lines) c.came);
+}
 
 -- no bytes wait, and the rest of a line that was too long comes next
 pub waits_for_rest : {A : Type 0} (last : Bool) (c d : Cutter A) → Cuts false c [] d → d.form ≡ form.Lines → d.is_owed ≡ false → d.is_skipping ≡ true → d.buffer ≡ [] → Wants last c d
 unfolding Comes LinesGive
 waits_for_rest last c d cut lines paid skips empty = record {
-    room = omega (arith, ap length empty);
-    cut = for_any last cut;
-    over = λ is_last. rw (lines, paid, skips, empty) refl;
-  }
+  room = omega (arith, ap length empty);
+  cut = for_any last cut;
+  over = λ is_last. rw (lines, paid, skips, empty) refl;
+}
 
 -- the last line was taken, or none waited
 pub last_of : {A : Type 0} (last : Bool) (c d : Cutter A) (r : Option (Option (Arrival A))) → IsReady c → last ≡ true

@@ -115,11 +115,11 @@ impl<'x, A: Allocator + Copy> Cutter<'x, A> {
             ≡ spec.scans_after self.old.came (given_by (spec.one_more self.old.lines) meaning) }
         ensures paid { result ≡ None → self.new.is_owed ≡ false }
         ensures state { self.new ≡ record self.old {
-              buffer = drop count self.old.buffer;
-              lines = spec.one_more self.old.lines;
-              came = self.new.came;
-              is_owed = self.new.is_owed;
-            } }
+          buffer = drop count self.old.buffer;
+          lines = spec.one_more self.old.lines;
+          came = self.new.came;
+          is_owed = self.new.is_owed;
+        } }
     {
         self.buffer.use_up(count);
         self.lines = self.lines.saturating_add(1);

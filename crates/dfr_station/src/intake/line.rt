@@ -221,11 +221,7 @@ pub(crate) fn refused<A: Allocator>(line: Line<'_>, skipped: Skipped, why: Why) 
 }
 
 /// What a line means: the same as after the `go` of a script, but that `take` is not accepted.
-pub fn meaning_of<A: Allocator + Copy>(
-    alloc: A,
-    layout: &Layout<A>,
-    line: Line<'_>,
-) -> Meaning<A>
+pub fn meaning_of<A: Allocator + Copy>(alloc: A, layout: &Layout<A>, line: Line<'_>) -> Meaning<A>
     ensures { spec.LineMeans layout.now line.entry.number line.entry.came line.entry.text.now
         (spec.given_by line.entry.number result) }
 {
@@ -235,7 +231,12 @@ pub fn meaning_of<A: Allocator + Copy>(
     };
     match command_of_line(alloc, line.number, line.text, size) {
         Ok(None) => Meaning::Nothing,
-        Ok(Some(command)) => Meaning::One(arrival_of_command(layout, line.number, line.came, command)),
+        Ok(Some(command)) => Meaning::One(arrival_of_command(
+            layout,
+            line.number,
+            line.came,
+            command,
+        )),
         Err(LineRefusal::Fault(fault)) => refused(line, skipped_of_line(fault), Why::Unread),
         Err(LineRefusal::Memory) => refused(line, Skipped::Memory, Why::Memory),
     }

@@ -14,11 +14,11 @@ returns g c =
     let nothing : drop (length c.waiting-bytes.result.now) s.buffer ≡ [] = drop_all _ s.buffer (omega arith) in
     let means = rw (c.line.ensures, done.given, c.without_return.ensures, c.waiting-bytes.ensures.bytes) at c.meaning_of-meaning.ensures in
     rw done.state (takes true s c.hand_out.result (length c.waiting-bytes.result.now) _ _ s.is_skipping (λ more. s.buffer) (λ more. [])
-      c.requires.ready (omega arith) (omega arith)
-      (λ more none.
-        let last : more ≡ [] = none refl in (
-          ap (λ m. pieces (s.buffer ++ m)) last ∙ ap pieces (append-nil s.buffer) ∙ slice_split_none is_feed s.buffer c.requires.short.0,
-          λ n came xs gives. ends_there s.layout.now n came xs (rw (c.requires.ready.begins, nothing, last) at gives),
-          inr (c.requires.short.1, means),
-        ))
-      (rw done.given at done.came) done.paid)
+    c.requires.ready (omega arith) (omega arith)
+    (λ more none.
+    let last : more ≡ [] = none refl in (
+      ap (λ m. pieces (s.buffer ++ m)) last ∙ ap pieces (append-nil s.buffer) ∙ slice_split_none is_feed s.buffer c.requires.short.0,
+      λ n came xs gives. ends_there s.layout.now n came xs (rw (c.requires.ready.begins, nothing, last) at gives),
+      inr (c.requires.short.1, means),
+    ))
+    (rw done.given at done.came) done.paid)

@@ -12,10 +12,10 @@ returns g c =
     let nothing : drop (length c.waiting-bytes.result.now) s.buffer ≡ [] = drop_all _ s.buffer (omega arith) in
     let means = rw (c.line.ensures, done.given, c.waiting-bytes.ensures.bytes) at c.refused-meaning.ensures in
     rw done.state (takes false s c.hand_out.result (length c.waiting-bytes.result.now) _ _ true (λ more. s.buffer ++ first_of (pieces more)) (λ more. drop 1 (pieces more))
-      c.requires.ready (omega arith) (omega arith)
-      (λ more none. (
-        pieces_on s.buffer more c.requires.long.0,
-        λ n came xs gives. rw nothing at gives,
-        long_gives s.layout.now (one_more s.lines) s.came s.buffer (first_of (pieces more)) _ c.requires.long.1 means,
-      ))
-      (rw done.given at done.came) done.paid)
+    c.requires.ready (omega arith) (omega arith)
+    (λ more none. (
+      pieces_on s.buffer more c.requires.long.0,
+      λ n came xs gives. rw nothing at gives,
+      long_gives s.layout.now (one_more s.lines) s.came s.buffer (first_of (pieces more)) _ c.requires.long.1 means,
+    ))
+    (rw done.given at done.came) done.paid)

@@ -12,6 +12,6 @@ returns g c =
     let most : length s.buffer ≤ 65_536 = rw c.waiting.ensures.bytes at c.waiting.ensures.few in
     let means = rw (c.line.ensures, done.given, cut.text) at c.meaning_of-meaning.ensures in
     rw done.state (takes false s c.hand_out.result c.in_ok-text.count _ _ s.is_skipping (λ more. cut.piece) (λ more. pieces (drop c.in_ok-text.count s.buffer ++ more))
-      c.requires.ready (omega (arith, cut.counted)) (omega (arith, cut.counted, parts))
-      (λ more none. (pieces_first s.buffer _ more _ cut, λ n came xs gives. rw c.requires.ready.begins at gives, inr (omega (arith, cut.counted, parts, most), means)))
-      (rw done.given at done.came) done.paid)
+    c.requires.ready (omega (arith, cut.counted)) (omega (arith, cut.counted, parts))
+    (λ more none. (pieces_first s.buffer _ more _ cut, λ n came xs gives. rw c.requires.ready.begins at gives, inr (omega (arith, cut.counted, parts, most), means)))
+    (rw done.given at done.came) done.paid)

@@ -9,7 +9,7 @@ returns-in-Some-clause-cut g c =
     let s = c.args.self.now in
     let cut = rw c.waiting.ensures.bytes at c.in-Some.ensures in
     rw c.use_up.ensures (skips_to s (drop c.in-Some.count s.buffer) false c.requires.lines c.requires.skipping
-      (λ more. ap (drop 1) (pieces_first s.buffer _ more c.in-Some.count cut)))
+    (λ more. ap (drop 1) (pieces_first s.buffer _ more c.in-Some.count cut)))
 
 pub returns-in-None-clause-cut : goal.returns-in-None-clause-cut
 returns-in-None-clause-cut g c =
@@ -18,4 +18,4 @@ returns-in-None-clause-cut g c =
     let count : length c.waiting-count.result.now ≡ length s.buffer = ap length c.waiting-count.ensures.bytes in
     let nothing : c.use_up-in-None.new.self ≡ [] = c.use_up-in-None.ensures ∙ drop_all _ s.buffer (omega arith) in
     rw nothing (skips_to s [] s.is_skipping c.requires.lines c.requires.skipping
-      (λ more. rw c.requires.skipping (ap (drop 1) (pieces_on s.buffer more none))))
+    (λ more. rw c.requires.skipping (ap (drop 1) (pieces_on s.buffer more none))))
