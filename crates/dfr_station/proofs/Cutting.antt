@@ -1,5 +1,5 @@
 -- Bytes cut at their first line feed.
-use Rattle.std.proofs.Common.{◌≡◌, ℕ, ◌+◌, ◌<◌, ◌≤◌, Bool, true, false, List, [], ◌∷◌, ◌++◌, length, map, slice_index, slice_index_or, take, drop, Some, None, refl, sym, ap, ◌∙◌, arith, ⊎_elim}
+use Rattle.std.proofs.Common.{◌≡◌, ℕ, ◌+◌, ◌<◌, ◌≤◌, Bool, true, false, List, [], ◌∷◌, ◌++◌, length, map, slice_index, slice_index_or, take, drop, Some, sym, ap, ◌∙◌, arith, ⊎_elim}
 use Rattle.std.specs.List.{All, slice_split}
 use Rattle.std.proofs.lemmas.Bool.{cases_Bool, eqb-true}
 use Rattle.std.proofs.lemmas.List.{take-append-drop, drop_more, get_or_default, get_or-take, length-take-le}
@@ -10,9 +10,6 @@ use Rattle.dfr_station.specs.Lines.{is_feed, HasNoFeed, IsFirstLine}
 
 fails_at : (bytes : List ℕ) (k d : ℕ) → k < length bytes → ¬ (is_byte 10 (slice_index bytes k) ≡ true) → is_feed (slice_index_or bytes k d) ≡ false
 fails_at bytes k d l none = rw (get_or_default bytes k d 0 l) (⊎_elim (λ t. absurd (none t)) (λ f. f) (cases_Bool _))
-
-pub none_found : (bytes : List ℕ) → IsFirstByte (is_byte 10) bytes None → HasNoFeed bytes
-none_found bytes none = λ k d l. fails_at bytes k d l (none k (omega arith) l)
 
 none_before : (bytes : List ℕ) (at : ℕ) → IsFirstByte (is_byte 10) bytes (Some at) → HasNoFeed (take at bytes)
 none_before bytes at found = λ k d l.

@@ -1,6 +1,6 @@
-pub mod Parts
 pub mod Cutting
 pub mod Coming
+pub mod Handing
 pub mod Acquired
 pub mod Hearers
 pub mod Orders

@@ -19,9 +19,9 @@ use std::time::Clock;
 /// How the input ended.
 #[derive(Clone, Copy, Debug, PartialEq, Eq)]
 pub(crate) enum Ending {
-    /// Nothing of it was left.
+    /// All that came was handed out.
     Whole,
-    /// Within a frame, of which so many bytes came.
+    /// Within a frame. So many bytes of it came, and are not handed out.
     Cut(u64),
     /// It can't be read any more.
     Broken,
@@ -66,12 +66,12 @@ impl<'x, I, A: Allocator + Copy> Arrivals<'x, I, A> {
         alloc: A,
         layout: &'x Layout<A>,
         form: Input,
-        buffer: Buffer<A>,
-        at: i64,
+        read: (Buffer<A>, i64),
         input: &'x mut I,
     ) -> Arrivals<'x, I, A>
-        ensures { Begins layout.entry.now form buffer input.entry.now result }
+        ensures { Begins layout.entry.now form read.0 input.entry.now result }
     {
+        let (buffer, at) = read;
         Arrivals {
             input,
             cutter: Cutter::new(alloc, layout, form, buffer),

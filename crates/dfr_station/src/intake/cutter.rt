@@ -96,7 +96,7 @@ impl<'x, A: Allocator + Copy> Cutter<'x, A> {
 
     /// The next line, with this text.
     fn line<'b>(&self, text: &'b [u8]) -> Line<'b>
-        ensures { result ≡ record { number = spec.one_more self.now.lines; came = self.now.came; text = text } }
+        ensures { result ≡ record { number = spec.one_more self.now.lines; came = self.now.came; text = text.entry } }
     {
         Line {
             number: self.lines.saturating_add(1),
@@ -115,11 +115,11 @@ impl<'x, A: Allocator + Copy> Cutter<'x, A> {
             ≡ spec.scans_after self.old.came (given_by (spec.one_more self.old.lines) meaning) }
         ensures paid { result ≡ None → self.new.is_owed ≡ false }
         ensures state { self.new ≡ record self.old {
-              buffer = drop count self.old.buffer;
-              lines = spec.one_more self.old.lines;
-              came = self.new.came;
-              is_owed = self.new.is_owed;
-            } }
+          buffer = drop count self.old.buffer;
+          lines = spec.one_more self.old.lines;
+          came = self.new.came;
+          is_owed = self.new.is_owed;
+        } }
     {
         self.buffer.use_up(count);
         self.lines = self.lines.saturating_add(1);
@@ -148,8 +148,9 @@ impl<'x, A: Allocator + Copy> Cutter<'x, A> {
             ((self.new ≡ self.old) × HasNoFeed self.old.buffer)
             (λ handed. spec.TakesLine false self.old handed self.new) }
     {
+        let (alloc, layout) = (self.alloc, self.layout);
         let (text, count) = first_line(self.buffer.waiting())?;
-        let meaning = meaning_of(self.alloc, self.layout, self.line(text));
+        let meaning = meaning_of(alloc, layout, self.line(text));
         Some(self.hand_out(count, meaning))
     }
 
@@ -174,12 +175,13 @@ impl<'x, A: Allocator + Copy> Cutter<'x, A> {
             ((self.new ≡ self.old) × (self.old.buffer ≡ []))
             (λ handed. spec.TakesLine true self.old handed self.new) }
     {
+        let (alloc, layout) = (self.alloc, self.layout);
         let bytes = self.buffer.waiting();
         let count = bytes.len();
         if count == 0 {
             return None;
         }
-        let meaning = meaning_of(self.alloc, self.layout, self.line(without_return(bytes)));
+        let meaning = meaning_of(alloc, layout, self.line(without_return(bytes)));
         Some(self.hand_out(count, meaning))
     }
 

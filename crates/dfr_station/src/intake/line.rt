@@ -6,6 +6,7 @@ ghost use Rattle.std.specs.Str.{bytes_eq};
 ghost use Rattle.dfr_channels.specs.Firing.{rules_fault};
 ghost use Rattle.dfr_channels.specs.Lines.{without_cr};
 ghost use Rattle.dfr_script.specs.Commands.{parts_of};
+ghost use Rattle.dfr_script.specs.Words as words;
 ghost use Rattle.dfr_station.specs.Lines as spec;
 
 use crate::event::Skipped;
@@ -110,7 +111,7 @@ fn is_other_word(word: &[u8]) -> bool
 
 /// Whether the line is a comment.
 fn is_comment(line: &[u8]) -> bool
-    ensures { result ≡ spec.is_comment line.now }
+    ensures { result ≡ words.is_comment line.now }
 {
     matches!(line, [b'#', ..])
 }
@@ -204,8 +205,8 @@ fn arrival_of_command<A: Allocator>(
 /// A line that can't be read. A scan line is a lost scan, and any other line is skipped. After the
 /// first scan a damaged line is a lost scan as well, so that later scans keep their instants.
 pub(crate) fn refused<A: Allocator>(line: Line<'_>, skipped: Skipped, why: Why) -> Meaning<A>
-    ensures { spec.given_by line.number result
-        ≡ spec.refused line.number line.came line.text.now skipped why }
+    ensures { spec.given_by line.entry.number result
+        ≡ spec.refused line.entry.number line.entry.came line.entry.text.now skipped why }
 {
     if is_scan_line(line.text) {
         return Meaning::One(Arrival::Lost(why));
@@ -220,13 +221,9 @@ pub(crate) fn refused<A: Allocator>(line: Line<'_>, skipped: Skipped, why: Why) 
 }
 
 /// What a line means: the same as after the `go` of a script, but that `take` is not accepted.
-pub fn meaning_of<A: Allocator + Copy>(
-    alloc: A,
-    layout: &Layout<A>,
-    line: Line<'_>,
-) -> Meaning<A>
-    ensures { spec.LineMeans layout.now line.number line.came line.text.now
-        (spec.given_by line.number result) }
+pub fn meaning_of<A: Allocator + Copy>(alloc: A, layout: &Layout<A>, line: Line<'_>) -> Meaning<A>
+    ensures { spec.LineMeans layout.now line.entry.number line.entry.came line.entry.text.now
+        (spec.given_by line.entry.number result) }
 {
     let size = ScanSize {
         analog: layout.analog().len(),
@@ -234,7 +231,12 @@ pub fn meaning_of<A: Allocator + Copy>(
     };
     match command_of_line(alloc, line.number, line.text, size) {
         Ok(None) => Meaning::Nothing,
-        Ok(Some(command)) => Meaning::One(arrival_of_command(layout, line.number, line.came, command)),
+        Ok(Some(command)) => Meaning::One(arrival_of_command(
+            layout,
+            line.number,
+            line.came,
+            command,
+        )),
         Err(LineRefusal::Fault(fault)) => refused(line, skipped_of_line(fault), Why::Unread),
         Err(LineRefusal::Memory) => refused(line, Skipped::Memory, Why::Memory),
     }

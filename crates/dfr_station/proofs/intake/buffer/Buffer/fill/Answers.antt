@@ -31,8 +31,7 @@ returns g c =
     let waits : take m now ≡ c.args.self.now = ap (take m) same ∙ (rw c.move_up-self-inside.ensures.count c.move_up-self-inside.ensures.moved) ∙ ap (λ b. take (c.self.inside.end - c.self.inside.from) (drop c.self.inside.from b)) c.deref_mut.ensures.value ∙ c.self.view_is in
     let few : n ≤ length room = few_read _ _ _ room c.read_some-given.ensures in
     let front : length (take m now) ≡ m = length-take-le m now (omega arith) in
-    let written = with_items_is (with_items v moved) (take m now ++ (room ++ drop (length now - m) (drop m now))) (simp (length-append, length-drop) (omega arith)) in
-    (
+    let written = with_items_is (with_items v moved) (take m now ++ (room ++ drop (length now - m) (drop m now))) (simp (length-append, length-drop) (omega arith)) in (
       take n room,
       rw (written, c.count.ensures) (put_behind m n (take m now) room _ front few ∙ ap (λ w. w ++ take n room) waits),
       c.read_some-given.ensures,

@@ -1,0 +1,14 @@
+-- What is handed out after what came first.
+use Rattle.std.proofs.Common.{ℕ, List, [], Option}
+use Rattle.dfr_station.specs.Arrivals.{CameFirst, HandsNext}
+use Rattle.dfr_station.specs.declared.intake.arrivals.Arrivals.{Arrivals}
+use Rattle.dfr_station.specs.declared.intake.arrivals.Ending.TheVariants as ending
+use Rattle.dfr_station.specs.declared.intake.arrivals.Next.{Next}
+use Rattle.dfr_station.specs.declared.intake.arrivals.Next.TheVariants as next
+
+pub hands_on : {I A : Type 0} (left : I → Option (List ℕ)) (s m t : Arrivals I A) (x : Next A) → CameFirst left s [] m → HandsNext left m x t → HandsNext left s x t
+hands_on left s m t (next.Arrival a) first hands = record { before = λ xs comes. first.before _ (hands.before xs comes) }
+hands_on left s m t next.Drained first hands = record { before = λ xs comes. first.before _ (hands.before xs comes) }
+hands_on left s m t (next.End ending.Broken) first hands = record { before = λ xs comes. first.before _ (hands.before xs comes) }
+hands_on left s m t (next.End ending.Whole) first hands = (first.before [] hands.0, hands.1)
+hands_on left s m t (next.End (ending.Cut count)) first hands = (first.before [] hands.0, hands.1)
