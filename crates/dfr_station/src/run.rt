@@ -147,7 +147,7 @@ pub fn run_station<
         drop(buffer);
         return Err(RunFault::Memory);
     };
-    let arrivals = Arrivals::new(alloc, &layout, form, buffer, at, input);
+    let arrivals = Arrivals::new(alloc, &layout, form, (buffer, at), input);
     run_over(
         rt, alloc, recorder, how, parts, &layout, arrivals, store, printer,
     )
