@@ -1,6 +1,6 @@
 //! Runs a station, from its first scan to the end of its input.
 
-ghost use Rattle.std.specs.Prelude.{◌≡◌, IfOk};
+ghost use Rattle.std.specs.Prelude.{◌≡◌, Ok, IfOk};
 ghost use Rattle.dfr_live.specs.Seen.{opening_of};
 ghost use Rattle.dfr_live.specs.Report.{Recorded as RecordedLive};
 ghost use Rattle.dfr_station.specs.Stations.{Begins, IsFresh, Ran};
@@ -28,10 +28,10 @@ use dfr_recorder::Recorder;
 use rtrb::{Consumer, Producer, RingBuffer};
 use std::alloc::Allocator;
 use std::io::Read;
-use std::sync::Wait;
+use std::sync::{Mutex, Wait};
 use std::sync::atomic::Ordering;
 use std::thread;
-use std::thread::Threads;
+use std::thread::{Scope, Threads};
 use std::time::Clock;
 
 /// The most scans that may wait for the trigger thread.
@@ -198,18 +198,22 @@ fn run_over<
         alloc, layout, &signals, placed, operator, triggers, shelf,
     );
     let mut outlet = Exports::new(rt, layout, &signals, store, exports);
-    let telling = Telling::new(&mut *printer, events, minutes, watch);
-    let report = record_printing(
+    let telling = Mutex::new(Telling::new(&mut *printer, events, minutes, watch));
+    let pace = Napping {
         rt,
+        signals: &signals,
+    };
+    let report = record_printing(
+        pace,
         alloc,
         recorder,
         kind,
-        &signals,
-        telling,
+        &telling,
         &mut intake,
         &mut desk,
         &mut outlet,
     );
+    drop(telling);
     let counts = Counts {
         records: outlet.records(),
         unwritten: outlet.unwritten(),
@@ -233,6 +237,9 @@ fn run_over<
 
 /// Records while another thread prints the events. If a thread can't be started, nothing is recorded.
 fn record_printing<
+    'x,
+    'y,
+    'z,
     A: Allocator + Copy + Send + Sync,
     F: Intake<A, Recording> + Send,
     O: Desk<A, Recording> + Send,
@@ -240,35 +247,98 @@ fn record_printing<
     P: Printer + Send,
     R: Threads + Wait + Clock + Sync,
 >(
-    rt: &R,
+    pace: Napping<'_, R>,
     alloc: A,
     recorder: Recorder<A>,
     kind: Kind,
-    signals: &Signals,
-    telling: Telling<'_, P, A>,
-    intake: &mut F,
-    desk: &mut O,
-    outlet: &mut K,
+    telling: &Mutex<Telling<'_, P, A>>,
+    intake: &'x mut F,
+    desk: &'y mut O,
+    outlet: &'z mut K,
 ) -> Result<LiveReport<A>, RunFault>
     ensures { IfOk result (λ report. RecordedLive F.gives F.loses O.asks O.hears K.puts K.lacks
         (opening_of recorder) kind (intake.old, desk.old, outlet.old)
         (intake.new, desk.new, outlet.new) report) }
 {
-    thread::scope(thread::scope_env(), rt, |scope| {
-        let printing = scope.spawn(move || print_events(rt, signals, telling));
-        if printing.is_err() {
-            return Err(RunFault::Thread);
-        }
-        let pace = Napping { rt, signals };
-        let report = record_with::<A, Recording, F, O, K, Napping<R>, R>(
-            rt, alloc, recorder, LANE, kind, &pace, intake, desk, outlet,
-        );
-        signals.ended.store(true, Ordering::SeqCst);
-        match report {
-            Ok(report) => Ok(report),
-            Err(fault) => Err(fault_of(fault, signals)),
-        }
-    })
+    let rt = pace.rt;
+    let devices = (intake, desk, outlet);
+    let (report, (intake, desk, outlet)) = thread::scope(
+        thread::scope_env(),
+        rt,
+        |scope| -> (Result<LiveReport<A>, RunFault>, (&'x mut F, &'y mut O, &'z mut K))
+            ensures names { (result.1.0.ghost_name ≡ devices.entry.0.ghost_name)
+                × (result.1.1.ghost_name ≡ devices.entry.1.ghost_name)
+                × (result.1.2.ghost_name ≡ devices.entry.2.ghost_name) }
+            ensures recorded { IfOk result.0 (λ report.
+                RecordedLive F.gives F.loses O.asks O.hears K.puts K.lacks (opening_of recorder) kind
+                (devices.entry.0.now, devices.entry.1.now, devices.entry.2.now)
+                (result.1.0.now, result.1.1.now, result.1.2.now) report) }
+        { record_beside(scope, pace, alloc, recorder, kind, telling, devices) },
+    );
+    take_back(intake);
+    take_back(desk);
+    take_back(outlet);
+    report
+}
+
+/// Does nothing. That it is used last here ties a reference that came back to the one that was lent.
+fn take_back<T>(x: &mut T)
+    ensures { x.new ≡ x.old }
+{}
+
+/// Starts the thread that prints the events, and records. Then says that all other threads have ended.
+fn record_beside<
+    's,
+    'x,
+    'y,
+    'z,
+    E,
+    A: Allocator + Copy + Send + Sync + 's,
+    F: Intake<A, Recording> + Send,
+    O: Desk<A, Recording> + Send,
+    K: Outlet<Recording> + Send,
+    P: Printer + Send + 's,
+    R: Threads + Wait + Clock + Sync + 's,
+>(
+    scope: &Scope<'s, E>,
+    pace: Napping<'s, R>,
+    alloc: A,
+    recorder: Recorder<A>,
+    kind: Kind,
+    telling: &'s Mutex<Telling<'_, P, A>>,
+    devices: (&'x mut F, &'y mut O, &'z mut K),
+) -> (Result<LiveReport<A>, RunFault>, (&'x mut F, &'y mut O, &'z mut K))
+    ensures names { (result.1.0.ghost_name ≡ devices.entry.0.ghost_name)
+        × (result.1.1.ghost_name ≡ devices.entry.1.ghost_name)
+        × (result.1.2.ghost_name ≡ devices.entry.2.ghost_name) }
+    ensures recorded { IfOk result.0 (λ report. RecordedLive F.gives F.loses O.asks O.hears K.puts K.lacks
+        (opening_of recorder) kind (devices.entry.0.now, devices.entry.1.now, devices.entry.2.now)
+        (result.1.0.now, result.1.1.now, result.1.2.now) report) }
+{
+    let Napping { rt, signals } = pace;
+    let (intake, desk, outlet) = devices;
+    if scope.spawn(move || print_events(rt, signals, telling)).is_err() {
+        return (Err(RunFault::Thread), (intake, desk, outlet));
+    }
+    let pace = Napping { rt, signals };
+    let report = record_with::<A, Recording, F, O, K, Napping<R>, R>(
+        rt, alloc, recorder, LANE, kind, &pace, &mut *intake, &mut *desk, &mut *outlet,
+    );
+    signals.ended.store(true, Ordering::SeqCst);
+    (outcome_of(report, signals), (intake, desk, outlet))
+}
+
+/// How the run ended.
+fn outcome_of<A: Allocator>(
+    report: Result<LiveReport<A>, LiveFault>,
+    signals: &Signals,
+) -> Result<LiveReport<A>, RunFault>
+    ensures { IfOk result (λ made. report ≡ Ok made) }
+{
+    match report {
+        Ok(report) => Ok(report),
+        Err(fault) => Err(fault_of(fault, signals)),
+    }
 }
 
 /// Why the run failed. The devices have no errors of their own. `Memory` says that a thread could not

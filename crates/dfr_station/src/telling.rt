@@ -6,7 +6,7 @@ use crate::station::Printer;
 use crate::teller::{Turn, Waiting, put_line};
 use crate::watch::{Watch, millis};
 use std::alloc::{Allocator, Global};
-use std::sync::Wait;
+use std::sync::{Mutex, Wait};
 use std::sync::atomic::Ordering;
 use std::thread;
 use std::time::{Clock, Duration};
@@ -120,9 +120,9 @@ pub(crate) fn print_lines<P: Printer>(printer: &mut P, text: &[u8]) {
 pub(crate) fn print_events<A: Allocator + Copy, P: Printer, R: Wait + Clock>(
     rt: &R,
     signals: &Signals,
-    telling: Telling<'_, P, A>,
+    telling: &Mutex<Telling<'_, P, A>>,
 ) {
-    let mut telling = telling;
+    let mut telling = telling.lock(rt);
     for _ in rt.forever() {
         let ended = signals.ended.load(Ordering::SeqCst);
         if telling.print(rt, signals) {
