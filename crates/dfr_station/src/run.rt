@@ -265,7 +265,7 @@ fn record_printing<
     let (report, (intake, desk, outlet)) = thread::scope(
         thread::scope_env(),
         rt,
-        |scope| -> (Result<LiveReport<A>, RunFault>, (&'x mut F, &'y mut O, &'z mut K))
+        |scope| -> (Result<LiveReport<A>, RunFault>, (&mut F, &mut O, &mut K))
             ensures names { (result.1.0.ghost_name ≡ devices.entry.0.ghost_name)
                 × (result.1.1.ghost_name ≡ devices.entry.1.ghost_name)
                 × (result.1.2.ghost_name ≡ devices.entry.2.ghost_name) }
