@@ -237,9 +237,6 @@ fn run_over<
 
 /// Records while another thread prints the events. If a thread can't be started, nothing is recorded.
 fn record_printing<
-    'x,
-    'y,
-    'z,
     A: Allocator + Copy + Send + Sync,
     F: Intake<A, Recording> + Send,
     O: Desk<A, Recording> + Send,
@@ -252,9 +249,9 @@ fn record_printing<
     recorder: Recorder<A>,
     kind: Kind,
     telling: &Mutex<Telling<'_, P, A>>,
-    intake: &'x mut F,
-    desk: &'y mut O,
-    outlet: &'z mut K,
+    intake: &mut F,
+    desk: &mut O,
+    outlet: &mut K,
 ) -> Result<LiveReport<A>, RunFault>
     ensures { IfOk result (λ report. RecordedLive F.gives F.loses O.asks O.hears K.puts K.lacks
         (opening_of recorder) kind (intake.old, desk.old, outlet.old)
@@ -269,8 +266,8 @@ fn record_printing<
             ensures names { (result.1.0.ghost_name ≡ devices.entry.0.ghost_name)
                 × (result.1.1.ghost_name ≡ devices.entry.1.ghost_name)
                 × (result.1.2.ghost_name ≡ devices.entry.2.ghost_name) }
-            ensures recorded { IfOk result.0 (λ report.
-                RecordedLive F.gives F.loses O.asks O.hears K.puts K.lacks (opening_of recorder) kind
+            ensures recorded { IfOk result.0 (λ report. RecordedLive F.gives F.loses O.asks O.hears K.puts
+                K.lacks (opening_of recorder) kind
                 (devices.entry.0.now, devices.entry.1.now, devices.entry.2.now)
                 (result.1.0.now, result.1.1.now, result.1.2.now) report) }
         { record_beside(scope, pace, alloc, recorder, kind, telling, devices) },
