@@ -422,28 +422,28 @@ module _ {A F K : Type 0} (Gives : GivesOf A F) (Loses : LosesOf F) (Puts : Puts
   one_failed (Err why) a b e (inr (inl is)) x y z = by-trigger why (err_has (λ (w : LiveFault). TriggerFails w) b why is y)
   one_failed (Err why) a b e (inr (inr is)) x y z = by-export why (err_has (λ (w : LiveFault). ExportFails Puts Lacks o kind k w l) e why is z)
 
-  -- of a run of which a thread was not started, after the acquisition
-  pub trigger_not_started : {T U : Type 0} (came a' e' : Result (Unit {0}) LiveFault) (a : Result T LiveFault) (e : Result U LiveFault)
-      → IfErr came (λ why. (why ≡ fault.Memory) ⊎ ((a' ≡ Err why) ⊎ (e' ≡ Err why)))
-      → IfErr a' (λ why. a ≡ Err why) → IfErr e' (λ why. e ≡ Err why)
-      → IfErr a (λ why. AcquisitionFails Gives Loses f why g) → IfErr e (λ why. ExportFails Puts Lacks o kind k why l)
-      → IfErr came Fails
-  trigger_not_started (Ok done) a' e' a e which i j x z = tt
-  trigger_not_started (Err why) a' e' a e (inl is) i j x z = rw is tt
-  trigger_not_started (Err why) a' e' a e (inr (inl is)) i j x z =
-      by-acquisition why (err_has (λ (w : LiveFault). AcquisitionFails Gives Loses f w g) a why (err_has (λ (w : LiveFault). a ≡ Err w) a' why is i) x)
-  trigger_not_started (Err why) a' e' a e (inr (inr is)) i j x z =
-      by-export why (err_has (λ (w : LiveFault). ExportFails Puts Lacks o kind k w l) e why (err_has (λ (w : LiveFault). e ≡ Err w) e' why is j) z)
-
-  -- before it
-  pub acquisition_not_started : {U : Type 0} (came e' : Result (Unit {0}) LiveFault) (e : Result U LiveFault)
+  -- of a run of which only the export was started
+  pub trigger_not_started : {U : Type 0} (came e' : Result (Unit {0}) LiveFault) (e : Result U LiveFault)
       → IfErr came (λ why. (why ≡ fault.Memory) ⊎ ((done_well ≡ Err why) ⊎ (e' ≡ Err why)))
       → IfErr e' (λ why. e ≡ Err why) → IfErr e (λ why. ExportFails Puts Lacks o kind k why l)
       → IfErr came Fails
-  acquisition_not_started (Ok done) e' e which j z = tt
-  acquisition_not_started (Err why) e' e (inl is) j z = rw is tt
-  acquisition_not_started (Err why) e' e (inr (inl is)) j z = absurd (ok-is-err why is)
-  acquisition_not_started (Err why) e' e (inr (inr is)) j z =
+  trigger_not_started (Ok done) e' e which j z = tt
+  trigger_not_started (Err why) e' e (inl is) j z = rw is tt
+  trigger_not_started (Err why) e' e (inr (inl is)) j z = absurd (ok-is-err why is)
+  trigger_not_started (Err why) e' e (inr (inr is)) j z =
+      by-export why (err_has (λ (w : LiveFault). ExportFails Puts Lacks o kind k w l) e why (err_has (λ (w : LiveFault). e ≡ Err w) e' why is j) z)
+
+  -- of a run of which the acquisition was not started
+  pub acquisition_not_started : {T U : Type 0} (came b' e' : Result (Unit {0}) LiveFault) (b : Result T LiveFault) (e : Result U LiveFault)
+      → IfErr came (λ why. (why ≡ fault.Memory) ⊎ ((b' ≡ Err why) ⊎ (e' ≡ Err why)))
+      → IfErr b' (λ why. b ≡ Err why) → IfErr e' (λ why. e ≡ Err why)
+      → IfErr b (λ why. TriggerFails why) → IfErr e (λ why. ExportFails Puts Lacks o kind k why l)
+      → IfErr came Fails
+  acquisition_not_started (Ok done) b' e' b e which i j y z = tt
+  acquisition_not_started (Err why) b' e' b e (inl is) i j y z = rw is tt
+  acquisition_not_started (Err why) b' e' b e (inr (inl is)) i j y z =
+      by-trigger why (err_has (λ (w : LiveFault). TriggerFails w) b why (err_has (λ (w : LiveFault). b ≡ Err w) b' why is i) y)
+  acquisition_not_started (Err why) b' e' b e (inr (inr is)) i j y z =
       by-export why (err_has (λ (w : LiveFault). ExportFails Puts Lacks o kind k w l) e why (err_has (λ (w : LiveFault). e ≡ Err w) e' why is j) z)
 
 -- a run over the opening of its recorder

@@ -13,6 +13,8 @@ use Rattle.dfr_live.specs.Seen.{InnerParts, SourceParts, TokenParts}
 use Rattle.dfr_live.specs.Ends.{is_by, IsNoted}
 use Rattle.dfr_live.specs.Devices.{GivesOf, LosesOf, AsksOf, HearsOf, PutsOf, LacksOf, taken_in, GaveAll, MadeAll, GotAll, IsTake}
 use Rattle.dfr_live.specs.Report.{Reports, Recorded}
+use Rattle.dfr_live.specs.OneList.{OneList}
+use Rattle.dfr_live.proofs.Closed.{orders_take_none, took_all_closed}
 use Rattle.dfr_live.proofs.Woven.{one-list}
 use Rattle.dfr_live.proofs.TakingIn.{no_items}
 
@@ -39,17 +41,23 @@ module _ {A F O K : Type 0} (Gives : GivesOf A F) (Loses : LosesOf F) (Asks : As
       let line = length-append reports.inner.stepped (steps_of r.ended.left.items) in
       let whole = ap length reports.ends.0 in
       let offered = ap (λ (x : SourceParts). length (steps_of x.offered)) s in
+      let list : OneList reports.inner reports.source reports.tokens r.ended = one-list reports.inner reports.source reports.tokens r.ended reports.ends in
+      let ordered : MadeAll Asks Hears old.1 (filter (is_by 0) r.ended.log.items) r.stepped new.1 =
+      subst (λ (es : List EntryParts). MadeAll Asks Hears old.1 es r.stepped new.1) mine
+      (subst (λ (n : ℕ). MadeAll Asks Hears old.1 first.made n new.1) steps made) in
+      let none_waits = ap (λ (k : Kept). k.shelf) reports.ends.2 ∙ ap (λ (x : InnerParts). x.recorder.shelf) i ∙ empty in
       record {
         report = reports;
-        one = one-list reports.inner reports.source reports.tokens r.ended reports.ends;
+        one = list;
         fed = subst (λ (x : SourceParts). GaveAll Gives Loses old.0 (taken_in x) new.0) (sym s) gave;
         none_left = no_items r.ended.left.items (omega (arith, line, whole, offered, given, steps, reports.stepped));
-        ordered =
-            subst (λ (es : List EntryParts). MadeAll Asks Hears old.1 es r.stepped new.1) mine
-            (subst (λ (n : ℕ). MadeAll Asks Hears old.1 first.made n new.1) steps made);
+        ordered = ordered;
         takes = subst (λ (es : List EntryParts). All IsTake es) theirs takes;
         handed_on = subst (λ (es : List EntryParts). GotAll Puts Lacks o kind old.2 es new.2) theirs got;
-        none_waits = ap (λ (k : Kept). k.shelf) reports.ends.2 ∙ ap (λ (x : InnerParts). x.recorder.shelf) i ∙ empty;
+        none_waits = none_waits;
+        all_closed =
+            took_all_closed reports.inner reports.source reports.tokens r.ended list o reports.opening reports.seats
+            (orders_take_none Asks Hears old.1 (filter (is_by 0) r.ended.log.items) r.stepped new.1 ordered) none_waits;
       }
 
   pub recorded_in : (came : Result (LiveReport A) LiveFault) (tokens : List TokenParts)

@@ -10,8 +10,8 @@ use Rattle.dfr_live.specs.declared.report.LiveFault.TheVariants as fault
 use Rattle.dfr_live.specs.declared.station.Order.{Order}
 use Rattle.dfr_live.specs.declared.station.Order.TheVariants as order
 use Rattle.dfr_live.specs.declared.entry.Reply.{Reply}
-use Rattle.dfr_live.specs.declared.orders.Pumping.{Pumping}
-use Rattle.dfr_live.specs.declared.orders.Pumping.TheVariants as pumping
+use Rattle.dfr_live.specs.declared.pumping.Pumping.{Pumping}
+use Rattle.dfr_live.specs.declared.pumping.Pumping.TheVariants as pumping
 use Rattle.dfr_live.specs.Seen.{TokenParts, SourceParts}
 use Rattle.dfr_live.specs.Calls.{Notes}
 

@@ -1,27 +1,25 @@
 //! One recording in three threads, over any devices.
 
-ghost use Rattle.std.specs.Prelude.{◌≡◌, ◌≢◌, ◌⊎◌, [], true, length, All, Ok, Err, IfOk, IfErr, IfSome};
+ghost use Rattle.std.specs.Prelude.{◌≡◌, ◌⊎◌, [], length, All, Err, IfOk, IfErr, IfSome};
 ghost use Rattle.dfr_live.specs.Calls.{open_fault};
 ghost use Rattle.dfr_live.specs.Seen.{opening_of};
-ghost use Rattle.dfr_live.specs.Ends.{Ends};
 ghost use Rattle.dfr_live.specs.Devices.{taken_in, GaveAll, MadeAll, GotAll, GotFront, IsTake};
-ghost use Rattle.dfr_live.specs.Causes.{HasCause, RunFails, IsEnd};
-ghost use Rattle.dfr_live.specs.Report.{Reports, Recorded};
+ghost use Rattle.dfr_live.specs.Causes.{HasCause, RunFails};
+ghost use Rattle.dfr_live.specs.Report.{Recorded};
 ghost use Rattle.dfr_live.specs.Weave.{steps_of};
 
+use crate::closing::{fault_in, first_of, not_started, report};
 use crate::devices::{Desk, Intake, Outlet, Pace};
-use crate::ended::{EndFault, Ended, end};
 use crate::export::hand_rest;
-use crate::inner::Inner;
 use crate::opened::{Opened, open};
-use crate::report::{LiveFault, LiveReport, first_fault, records_in};
+use crate::report::{LiveFault, LiveReport};
 use crate::session::Session;
 use crate::shared::Shared;
 use crate::signals::Signals;
 use crate::source::Source;
 use crate::threads::in_three_threads;
 use crate::token::Token;
-use crate::works::{Acquisition, Exporting, Finished, Known, Triggering};
+use crate::works::{Acquisition, Exporting, Finished, Triggering};
 use comtrade_write::Kind;
 use dfr_recorder::Recorder;
 use std::alloc::Allocator;
@@ -146,7 +144,8 @@ fn record_named<
 
 /// Runs the three threads. Ok where each did all of its work. The export thread starts first. Where
 /// it cannot start, no other thread starts, and the error is `Memory`; otherwise the outlet comes
-/// back, whatever the error.
+/// back, whatever the error. The acquisition starts last: where another thread cannot start, nothing
+/// is asked of the feed.
 fn run_threads<
     's,
     N: Session<A> + Send + Sync,
@@ -189,7 +188,7 @@ fn run_threads<
     ensures front { IfErr result (λ fault. (fault ≡ LiveFault.Memory)
         ⊎ GotFront K.puts K.lacks shared.now kind outlet.old outlet.new) }
 {
-    let (exported, acquired, triggered) = in_three_threads(
+    let (exported, triggered, acquired) = in_three_threads(
         rt,
         signals,
         Exporting {
@@ -203,14 +202,6 @@ fn run_threads<
             token: second,
             family: PhantomData,
         },
-        Acquisition {
-            rt,
-            signals,
-            pace,
-            feed,
-            source,
-            family: PhantomData,
-        },
         Triggering {
             rt,
             signals,
@@ -218,6 +209,14 @@ fn run_threads<
             shared,
             desk,
             token: first,
+            family: PhantomData,
+        },
+        Acquisition {
+            rt,
+            signals,
+            pace,
+            feed,
+            source,
             family: PhantomData,
         },
     );
@@ -231,18 +230,8 @@ fn run_threads<
     } = exported;
     take_back(filled);
     take_back(emptied);
-    let Some(acquired) = acquired else {
-        return not_started(Ok(()), fault_in(&exported));
-    };
-    let Finished {
-        device: fed,
-        seat: taken,
-        outcome: acquired,
-    } = acquired;
-    take_back(fed);
-    take_back(taken);
     let Some(triggered) = triggered else {
-        return not_started(fault_in(&acquired), fault_in(&exported));
+        return not_started(Ok(()), fault_in(&exported));
     };
     let Finished {
         device: ordered,
@@ -251,6 +240,16 @@ fn run_threads<
     } = triggered;
     take_back(ordered);
     take_back(called);
+    let Some(acquired) = acquired else {
+        return not_started(fault_in(&triggered), fault_in(&exported));
+    };
+    let Finished {
+        device: fed,
+        seat: taken,
+        outcome: acquired,
+    } = acquired;
+    take_back(fed);
+    take_back(taken);
     first_of(&acquired, &triggered, &exported)?;
     match (acquired, triggered, exported) {
         (Ok(Some(given)), Ok(Some(made)), Ok(true)) => {
@@ -267,100 +266,3 @@ fn run_threads<
 fn take_back<T>(x: &mut T)
     ensures { x.new ≡ x.old }
 {}
-
-/// The error of a thread, if it has one.
-fn fault_in<O>(outcome: &Result<O, LiveFault>) -> Result<(), LiveFault>
-    ensures { IfErr result (λ fault. outcome.now ≡ Err fault) }
-{
-    match outcome {
-        Ok(_) => Ok(()),
-        Err(fault) => Err(*fault),
-    }
-}
-
-/// The error of a run of which a thread could not be started: that of another thread, if it comes
-/// first in `LiveFault`, else `Memory`.
-fn not_started(
-    acquisition: Result<(), LiveFault>,
-    exports: Result<(), LiveFault>,
-) -> Result<(), LiveFault>
-    ensures fails { result ≢ Ok tt }
-    ensures fault { IfErr result (λ fault. (fault ≡ LiveFault.Memory)
-        ⊎ ((acquisition ≡ Err fault) ⊎ (exports ≡ Err fault))) }
-{
-    first_fault(false, acquisition, Ok(()), exports)
-}
-
-/// The error of a run whose threads were all started: that of a thread, the one that comes first in
-/// `LiveFault`. Ok where no thread has one.
-fn first_of<'s>(
-    acquired: &Result<Known<'s>, LiveFault>,
-    triggered: &Result<Known<'s>, LiveFault>,
-    exported: &Result<bool, LiveFault>,
-) -> Result<(), LiveFault>
-    ensures { IfErr result (λ fault. (acquired.now ≡ Err fault)
-        ⊎ ((triggered.now ≡ Err fault) ⊎ (exported.now ≡ Err fault))) }
-{
-    first_fault(
-        true,
-        fault_in(acquired),
-        fault_in(triggered),
-        fault_in(exported),
-    )
-}
-
-/// Ends the recording, and counts what was done.
-fn report<N: Session<A>, A: Allocator + Copy>(
-    rt: &impl Wait,
-    alloc: A,
-    pace: &impl Pace,
-    inner: Inner<N, A>,
-    source: Source<N, A>,
-    tokens: Vec<Token<A>, A>,
-) -> Result<LiveReport<A>, LiveFault>
-    requires seats { N.seats ≡ 2 }
-    ensures ended { IfOk result (λ report. (reports : Reports N.opening report)
-        × (reports.inner ≡ inner) × (reports.source ≡ source) × (reports.tokens ≡ tokens.items)) }
-    ensures fault { IfErr result (λ fault. IsEnd fault) }
-{
-    let _ = inner.opening();
-    let stepped = inner.steps();
-    let ended = end_patiently(rt, alloc, pace, inner, source, tokens)?;
-    let records = records_in(ended.log.as_slice());
-    let refused = stepped - ended.recorder.scans();
-    Ok(LiveReport {
-        stepped,
-        refused,
-        records,
-        ended,
-    })
-}
-
-/// Ends the recording. If an allocation fails, it is tried again as the pace has it.
-fn end_patiently<N: Session<A>, A: Allocator + Copy>(
-    rt: &impl Wait,
-    alloc: A,
-    pace: &impl Pace,
-    inner: Inner<N, A>,
-    source: Source<N, A>,
-    tokens: Vec<Token<A>, A>,
-) -> Result<Ended<A>, LiveFault>
-    ensures ended { IfOk result (λ e. Ends inner source tokens.items e) }
-    ensures fault { IfErr result (λ fault. IsEnd fault) }
-{
-    let mut parts = (inner, source, tokens);
-    for _ in rt.forever() {
-        let (inner, source, tokens) = parts;
-        match end(alloc, inner, source, tokens) {
-            Ok(ended) => return Ok(ended),
-            Err((EndFault::Memory, inner, source, tokens)) => {
-                parts = (inner, source, tokens);
-                if pace.short().is_err() {
-                    return Err(LiveFault::End(EndFault::Memory));
-                }
-            }
-            Err((fault, _, _, _)) => return Err(LiveFault::End(fault)),
-        }
-    }
-    unreachable!()
-}

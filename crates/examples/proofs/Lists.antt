@@ -167,6 +167,7 @@ module _ {A : Type 0} where
         each = same-extents got ∙ h.handed_on.2;
         same = all-kept o.layout kind got k k' h.handed_on.1.1 ∙ ap (λ (l : List FilesParts). l ++ map (files_of o.layout kind) (records_of got)) empty;
         none_waits = h.none_waits;
+        all_closed = same-extents got ∙ h.handed_on.2 ∙ h.all_closed;
       }
 
   pub can-fail : (o : Opening) (kind : Kind) (refused : Option OpenFault) (f f' : ListFeed A) (p p' : NoOrders) (k k' : ListSink A) (why : LiveFault)

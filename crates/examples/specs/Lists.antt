@@ -8,7 +8,8 @@ use Rattle.dfr_recorder.specs.Steps as step
 use Rattle.dfr_recorder.specs.History.{Opening}
 use Rattle.comtrade_format.specs.declared.file.Kind.{Kind}
 use Rattle.dfr_live.specs.Ends.{is_by}
-use Rattle.dfr_live.specs.OneList.{OneList}
+use Rattle.dfr_live.specs.OneList.{OneList, step_from}
+use Rattle.dfr_live.specs.Closed.{extents_closed}
 use Rattle.dfr_live.specs.Devices.{FilesParts, files_of, taken_in, extents_taken, IsTaken, IsTake}
 use Rattle.dfr_live.specs.Report.{Reports}
 use Rattle.dfr_live.specs.declared.station.Fed.{Fed}
@@ -56,7 +57,8 @@ Keeps old files (Ok done) new = new ≡ old ++ files ∷ []
 Keeps old files (Err code) new = (code ≡ 1) × (new ≡ old)
 
 -- A run in threads over this opening took in exactly these steps, and none is left. Seat 0 made no call, and seat 1 only took. These files
--- are those of the records that it took, each once and in order; each is a record that the one-thread recorder answers to a take
+-- are those of the records that it took, each once and in order; each is a record that the one-thread recorder answers to a take; their
+-- extents are those of all records that closed in the one list of steps
 pub record IsRecorded (A : Type 0) (o : Opening) (kind : Kind) (steps : List StepParts) (files : List FilesParts) : Type 0 where
   pub report : LiveReport A
   pub reports : Reports o report
@@ -70,6 +72,7 @@ pub record IsRecorded (A : Type 0) (o : Opening) (kind : Kind) (steps : List Ste
   pub each : map (λ (r : RecordParts). r.extent) records ≡ extents_taken (filter (is_by 1) report.ended.log.items)
   pub same : files ≡ map (files_of o.layout kind) records
   pub none_waits : report.ended.recorder.shelf ≡ []
+  pub all_closed : map (λ (r : RecordParts). r.extent) records ≡ extents_closed o (map step_from one.list)
 
 -- a feed over a list never fails, and the sink fails only for want of memory
 abbrev pub CanFail : LiveFault → Type 0

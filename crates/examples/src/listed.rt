@@ -77,9 +77,9 @@ impl<A: Allocator + Copy> Sink for ListSink<A> {
 /// Records a list of scans in three threads, and returns the files of the records that were taken.
 ///
 /// By the contract the source took in exactly the scans of the list, lost ones too, and none is
-/// left. The list of files has, in order, those of each record that was taken. Each is a record
-/// that a recorder in one thread gives. No finished record is left. The error is never `Feed`, and
-/// `Sink` only with the code 1: no memory.
+/// left. The list of files has, in order, those of a record with the extent of each record that
+/// closed. Each is a record that a recorder in one thread gives. No finished record is left. The
+/// error is never `Feed`, and `Sink` only with the code 1: no memory.
 pub fn record_list<A: Allocator + Copy + Send + Sync, R: Threads + Wait + Sync>(
     rt: &R,
     alloc: A,

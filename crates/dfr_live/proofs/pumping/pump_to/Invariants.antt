@@ -1,7 +1,9 @@
 use Rattle.std.proofs.Common.{◌≡◌}
-use Rattle.dfr_live.proofs.engine.end_patiently.Given as goal
+use Rattle.dfr_live.specs.Station.{CountsOn}
+use Rattle.dfr_live.proofs.pumping.pump_to.Given as goal
 
 abbrev pub invariant-loop : goal.invariant-loop
 invariant-loop g l =
     (goal.iterator-loop g).can_next l.iterator' × (goal.iterator-loop g).is_finite l.iterator'
-    × (l.parts ≡ (l.fn.inner, l.fn.source, l.fn.tokens))
+    × (l.turns.all ≡ l.initial.turns.all)
+    × CountsOn l.fn.place l.initial.token l.token
