@@ -136,15 +136,17 @@ Hands last c (Some a) d = Cuts last c (parts_of a ∷ []) d
 
 -- ---- one line
 
--- what was handed out of a line, and the lost scan that is owed for it
+-- what was handed out of a line
 abbrev pub handed : {A : Type 0} → Option (Arrival A) → List ArrivalParts
 handed None = []
 handed (Some a) = parts_of a ∷ []
 
+-- the lost scan that is owed for it
 abbrev pub owed_list : Bool → List ArrivalParts
 owed_list true = Lost why.Unread ∷ []
 owed_list false = []
 
+-- how many scans came, with that one
 abbrev pub with_owed : ℕ → Bool → ℕ
 with_owed came true = one_more came
 with_owed came false = came
