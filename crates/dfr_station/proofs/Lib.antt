@@ -1,3 +1,4 @@
 pub mod Cutting
 pub mod Coming
 pub mod Handing
+pub mod Growing

@@ -33,6 +33,12 @@ abbrev pub Fills : {I : Type 0} → (I → Option (List ℕ)) → List ℕ → I
 Fills left waiting input given grown later =
     (bytes : List ℕ) × (grown ≡ waiting ++ bytes) × Reads (left input) given (left later) bytes
 
+-- bytes came next, one read after the other, and wait after those that waited
+pub record Grows {I : Type 0} (left : I → Option (List ℕ)) (waiting : List ℕ) (input : I) (grown : List ℕ) (later : I) : Type 0 where
+  pub bytes : List ℕ
+  pub put : grown ≡ waiting ++ bytes
+  pub came : Consumes (left input) (left later) bytes
+
 -- ---- counts, which stop at the greatest `u64`
 
 abbrev pub one_more : ℕ → ℕ
