@@ -5,3 +5,4 @@ pub mod Acquired
 pub mod Hearers
 pub mod Orders
 pub mod Tries
+pub mod Growing

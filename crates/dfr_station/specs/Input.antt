@@ -33,6 +33,12 @@ abbrev pub Fills : {I : Type 0} → (I → Option (List ℕ)) → List ℕ → I
 Fills left waiting input given grown later =
     (bytes : List ℕ) × (grown ≡ waiting ++ bytes) × Reads (left input) given (left later) bytes
 
+-- bytes came next, one read after the other, and wait after those that waited
+pub record Grows {I : Type 0} (left : I → Option (List ℕ)) (waiting : List ℕ) (input : I) (grown : List ℕ) (later : I) : Type 0 where
+  pub bytes : List ℕ
+  pub put : grown ≡ waiting ++ bytes
+  pub came : Consumes (left input) (left later) bytes
+
 -- ---- counts, which stop at the greatest `u64`
 
 abbrev pub one_more : ℕ → ℕ
@@ -136,15 +142,17 @@ Hands last c (Some a) d = Cuts last c (parts_of a ∷ []) d
 
 -- ---- one line
 
--- what was handed out of a line, and the lost scan that is owed for it
+-- what was handed out of a line
 abbrev pub handed : {A : Type 0} → Option (Arrival A) → List ArrivalParts
 handed None = []
 handed (Some a) = parts_of a ∷ []
 
+-- the lost scan that is owed for it
 abbrev pub owed_list : Bool → List ArrivalParts
 owed_list true = Lost why.Unread ∷ []
 owed_list false = []
 
+-- how many scans came, with that one
 abbrev pub with_owed : ℕ → Bool → ℕ
 with_owed came true = one_more came
 with_owed came false = came

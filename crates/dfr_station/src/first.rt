@@ -1,14 +1,15 @@
 //! Reads the input up to the first scan, whose instant becomes that of scan 0. Meanwhile a second
 //! thread reports the input's silence and each minute.
 
-ghost use Rattle.std.specs.Prelude.{◌≡◌, ◌≤◌, ◌-◌, ◌*◌, ◌/◌, max};
+ghost use Rattle.std.specs.Prelude.{◌≡◌, ◌≤◌, ◌-◌, ◌*◌, ◌/◌, max, [], IfOk};
+ghost use Rattle.std.specs.Io.KnownBytes.{Consumes};
+ghost use Rattle.dfr_station.specs.Input.{Grows};
 
-use crate::event::Event;
 use crate::intake::{Buffer, ROOM, is_damaged, is_scan_line};
+use crate::meanwhile::{Before, Meanwhile, report};
 use crate::reading::Given;
 use crate::station::{Input, Printer};
-use crate::teller::put_line;
-use crate::telling::{now, print_lines};
+use crate::telling::now;
 use crate::watch::{Watch, millis};
 use dfr_channels::Lines;
 use std::alloc::{AllocError, Allocator, Global};
@@ -16,11 +17,8 @@ use std::io::Read;
 use std::sync::atomic::{AtomicBool, Ordering};
 use std::sync::{Mutex, Wait};
 use std::thread;
-use std::thread::{Scope, Threads};
-use std::time::{Clock, Duration};
-
-/// How long the thread sleeps that reports meanwhile, in milliseconds.
-const NAP: u64 = 20;
+use std::thread::Threads;
+use std::time::Clock;
 
 /// Room in bytes for the lines that it prints at once.
 const LINES: usize = 1_024;
@@ -95,7 +93,7 @@ fn scans_in(form: Input, frame: usize, bytes: &[u8]) -> u64 {
     }
 }
 
-/// What the thread works on that reads.
+/// The input, and what was read of it.
 #[derive(Drop)]
 struct Reading<'x, I, A: Allocator> {
     input: &'x mut I,
@@ -108,132 +106,118 @@ fn read_on<A: Allocator, I: Read, R: Wait + Clock>(
     rt: &R,
     form: Input,
     frame: usize,
-    input: &mut I,
-    first: &mut First<A>,
-) -> bool {
-    if first.buffer.is_full() {
+    reading: &mut Reading<'_, I, A>,
+) -> bool
+    ensures read { Grows I.remaining reading.old.first.buffer reading.old.input.now
+        reading.new.first.buffer reading.new.input.now }
+    ensures same { reading.new.input.ghost_name ≡ reading.old.input.ghost_name }
+{
+    if reading.first.buffer.is_full() {
         return false;
     }
-    match first.buffer.fill(rt, input) {
+    match reading.first.buffer.fill(rt, reading.input) {
         Given::End | Given::Broken => {
-            first.is_all = true;
+            reading.first.is_all = true;
             return false;
         }
         Given::Bytes(_) => {}
     }
-    first.at = now(rt);
-    let bytes = first.buffer.waiting();
-    first.scans = scans_in(form, frame, bytes);
-    first.scans == 0 && bytes.len() < ROOM / 2
+    reading.first.at = now(rt);
+    let bytes = reading.first.buffer.waiting();
+    let len = bytes.len();
+    let scans = scans_in(form, frame, bytes);
+    reading.first.scans = scans;
+    scans == 0 && len < ROOM / 2
 }
 
-/// Reads until all of the first scan has come or the input ends, or half of the buffer is full.
-fn read_scan<A: Allocator, I: Read, R: Wait + Clock>(
+/// Reads until all of the first scan has come or the input ends, or half of the buffer is full, or
+/// so often.
+fn read_scan<'x, A: Allocator, I: Read, R: Wait + Clock>(
+    rt: &R,
+    reads: usize,
+    form: Input,
+    frame: usize,
+    mut reading: Reading<'x, I, A>,
+) -> Reading<'x, I, A>
+    ensures read { Grows I.remaining reading.entry.first.buffer reading.entry.input.now
+        result.first.buffer result.input.now }
+    ensures same { result.input.ghost_name ≡ reading.entry.input.ghost_name }
+{
+    for _ in 0..reads {
+        if !read_on(rt, form, frame, &mut reading) {
+            return reading;
+        }
+    }
+    reading
+}
+
+/// Reads the first scan while the other thread reports. False if that can't be started.
+fn read_reporting<
+    'x,
+    A: Allocator + Send + Sync,
+    I: Read + Send,
+    P: Printer + Send,
+    R: Threads + Wait + Clock + Sync,
+>(
     rt: &R,
     form: Input,
     frame: usize,
-    task: &mut Reading<'_, I, A>,
-) {
-    for _ in 0..ROOM {
-        if !read_on(rt, form, frame, &mut *task.input, &mut task.first) {
-            return;
-        }
-    }
+    meanwhile: &Meanwhile<'_, P, A>,
+    reading: Reading<'x, I, A>,
+) -> (bool, Reading<'x, I, A>)
+    ensures read { Grows I.remaining reading.entry.first.buffer reading.entry.input.now
+        result.1.first.buffer result.1.input.now }
+    ensures same { result.1.input.ghost_name ≡ reading.entry.input.ghost_name }
+{
+    thread::scope(
+        thread::scope_env(),
+        rt,
+        move |scope| -> (bool, Reading<'_, I, A>)
+            ensures read { Grows I.remaining reading.entry.first.buffer reading.entry.input.now
+                result.1.first.buffer result.1.input.now }
+            ensures same { result.1.input.ghost_name ≡ reading.entry.input.ghost_name }
+        {
+            let started = scope.spawn(move || report(rt, meanwhile)).is_ok();
+            let reads = if started { ROOM } else { 0 };
+            let reading = read_scan(rt, reads, form, frame, reading);
+            meanwhile.has_come.store(true, Ordering::SeqCst);
+            (started, reading)
+        },
+    )
 }
 
-/// The line of a minute before the first scan.
-const NOTHING: Event = Event::Minute {
-    scans: 0,
-    lost: 0,
-    records: 0,
-    waiting: 0,
-    missed: 0,
-    clock: None,
-};
+/// Does nothing. That it is used last here ties a reference that came back to the one that was lent.
+fn take_back<T>(x: &mut T)
+    ensures { x.new ≡ x.old }
+{}
 
-/// What the thread works on that reports while no scan has come.
-#[derive(Drop)]
-struct Before<'x, P, A: Allocator> {
-    printer: &'x mut P,
-    text: Vec<u8, A>,
-    watch: Watch,
-    minutes: bool,
-}
-
-impl<P: Printer, A: Allocator> Before<'_, P, A> {
-    /// Prints the lines that are due.
-    fn print(&mut self, clock: &impl Clock) {
-        let millis = millis(clock);
-        self.text.clear();
-        if let Some(event) = self.watch.silence(0, millis) {
-            put_line(&mut self.text, now(clock), event);
-        }
-        if self.watch.is_minute(millis) && self.minutes {
-            put_line(&mut self.text, now(clock), NOTHING);
-        }
-        print_lines(self.printer, &self.text);
-    }
-}
-
-/// The state of both threads. The state of one thread has a lock that this thread holds throughout.
-#[derive(Drop)]
-struct Both<'x, 'y, I, P, A: Allocator> {
-    has_come: AtomicBool,
-    reading: Mutex<Reading<'x, I, A>>,
-    before: Mutex<Before<'y, P, A>>,
-}
-
-/// Prints the lines that are due, until the first scan has come.
-fn report<P: Printer, A: Allocator, I, R: Wait + Clock>(rt: &R, both: &Both<'_, '_, I, P, A>) {
-    let mut held = both.before.lock(rt);
-    for _ in rt.forever() {
-        if both.has_come.load(Ordering::SeqCst) {
-            return;
-        }
-        held.print(rt);
-        thread::sleep(rt, Duration::from_millis(NAP));
-    }
-}
-
-/// Reads the first scan in this thread.
-fn run_reading<A: Allocator, I: Read, P, R: Wait + Clock>(
+/// Reads the first scan of an input while the other thread reports. False if that can't be started.
+fn read_lent<
+    A: Allocator + Send + Sync,
+    I: Read + Send,
+    P: Printer + Send,
+    R: Threads + Wait + Clock + Sync,
+>(
     rt: &R,
     form: Input,
     frame: usize,
-    both: &Both<'_, '_, I, P, A>,
-) {
-    let mut held = both.reading.lock(rt);
-    read_scan(rt, form, frame, &mut *held);
-}
-
-/// Starts the thread that reports. Returns false if it can't be started.
-fn start<'s, E, A: Allocator + Send + Sync>(
-    scope: &Scope<'s, E>,
-    rt: &'s (impl Threads + Wait + Clock + Sync),
-    both: &'s Both<'_, '_, impl Read + Send, impl Printer + Send, A>,
-) -> bool {
-    scope.spawn(move || report(rt, both)).is_ok()
-}
-
-/// Reads the first scan while the other thread reports. Returns false if that can't be started.
-fn read_reporting<A: Allocator + Send + Sync>(
-    rt: &(impl Threads + Wait + Clock + Sync),
-    form: Input,
-    frame: usize,
-    both: &Both<'_, '_, impl Read + Send, impl Printer + Send, A>,
-) -> bool {
-    thread::scope(thread::scope_env(), rt, |scope| {
-        let started = start(scope, rt, both);
-        if started {
-            run_reading(rt, form, frame, both);
-        }
-        both.has_come.store(true, Ordering::SeqCst);
-        started
-    })
+    meanwhile: &Meanwhile<'_, P, A>,
+    input: &mut I,
+    first: First<A>,
+) -> (bool, First<A>)
+    ensures { Grows I.remaining first.buffer input.old result.1.buffer input.new }
+{
+    let reading = Reading { input, first };
+    let (started, reading) = read_reporting(rt, form, frame, meanwhile, reading);
+    let Reading { input, first } = reading;
+    take_back(input);
+    (started, first)
 }
 
 /// An empty buffer, with the time of this instant.
-fn begun<A: Allocator>(alloc: A, clock: &impl Clock) -> Result<First<A>, AllocError> {
+fn begun<A: Allocator>(alloc: A, clock: &impl Clock) -> Result<First<A>, AllocError>
+    ensures { IfOk result (λ first. first.buffer ≡ []) }
+{
     Ok(First {
         buffer: Buffer::new(alloc)?,
         at: now(clock),
@@ -255,14 +239,16 @@ pub fn read_first<
     alloc: A,
     input: &mut I,
     printer: &mut P,
-    (form, frame, minutes): (Input, usize, bool),
-) -> Result<First<A>, AllocError> {
+    how: (Input, usize, bool),
+) -> Result<First<A>, AllocError>
+    ensures { IfOk result (λ first. Consumes (I.remaining input.old) (I.remaining input.new) first.buffer) }
+{
+    let (form, frame, minutes) = how;
     let first = begun(alloc, rt)?;
     let text = Vec::with_capacity(alloc, LINES)?;
     let watch = first.watch;
-    let both = Both {
+    let meanwhile = Meanwhile {
         has_come: AtomicBool::new(false),
-        reading: Mutex::new(Reading { input, first }),
         before: Mutex::new(Before {
             printer,
             text,
@@ -270,16 +256,11 @@ pub fn read_first<
             minutes,
         }),
     };
-    let started = read_reporting(rt, form, frame, &both);
-    let Both {
+    let (started, mut first) = read_lent(rt, form, frame, &meanwhile, input, first);
+    let Meanwhile {
         has_come: _,
-        reading,
         before,
-    } = both;
-    let Reading {
-        input: _,
-        mut first,
-    } = reading.into_inner();
+    } = meanwhile;
     let before = before.into_inner();
     first.watch = before.watch;
     drop(before);

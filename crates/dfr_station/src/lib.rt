@@ -12,6 +12,7 @@ mod first;
 mod intake;
 mod key;
 mod losses;
+mod meanwhile;
 mod operator;
 mod outlet;
 mod pace;
