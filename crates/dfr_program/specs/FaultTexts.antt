@@ -9,6 +9,8 @@ use Rattle.dfr_recorder.specs.declared.limits.LimitFault.{LimitFault}
 use Rattle.dfr_recorder.specs.declared.limits.LimitFault.TheVariants as limits
 use Rattle.dfr_script.specs.declared.fault.Word.{Word}
 use Rattle.dfr_script.specs.declared.fault.Word.TheVariants as words
+use Rattle.dfr_script.specs.declared.recorder.RecorderFault.{RecorderFault}
+use Rattle.dfr_script.specs.declared.recorder.RecorderFault.TheVariants as recorders
 use Rattle.dfr_program.specs.declared.prepared.Fault.{Fault}
 use Rattle.dfr_program.specs.declared.prepared.Fault.TheVariants as faults
 
@@ -36,12 +38,16 @@ unfoldable pub rule_word : RuleFault → List ℕ
 rule_word rules.TooMany = codes "too-many"
 rule_word (rules.NoChannel i) = codes "no-channel"
 
+-- of a set-up's fault, what stands before the line's end
+abbrev pub recorder_words : RecorderFault → List ℕ
+recorder_words (recorders.Setup f) = codes "fault setup " ++ setup_word f
+recorder_words (recorders.Limits f) = codes "fault limits " ++ limit_word f
+recorder_words (recorders.Rules f) = codes "fault rules " ++ rule_word f
+
 -- what stands before the line's end
 abbrev pub fault_words : Fault → List ℕ
 fault_words (faults.Script f) = codes "fault line " ++ decimal f.line ++ codes " " ++ word_of f.word
-fault_words (faults.Setup f) = codes "fault setup " ++ setup_word f
-fault_words (faults.Limits f) = codes "fault limits " ++ limit_word f
-fault_words (faults.Rules f) = codes "fault rules " ++ rule_word f
+fault_words (faults.Recorder f) = recorder_words f
 fault_words (faults.RulesAt line) = codes "fault line " ++ decimal line ++ codes " rules"
 
 unfoldable pub fault_text : Fault → List ℕ

@@ -4,11 +4,11 @@ use Rattle.std.specs.Io.KnownBytes.{Appends}
 use Rattle.dfr_recorder.specs.History.{Opening}
 use Rattle.dfr_recorder.specs.Kept.{Kept, kept}
 use Rattle.dfr_script.specs.Parts.{CommandParts, ScriptParts}
+use Rattle.dfr_script.specs.Recorders.{HasNumbers}
 use Rattle.comtrade_format.specs.declared.file.Kind.{Kind}
 use Rattle.dfr_program.specs.declared.fault.RunFault.{RunFault}
 use Rattle.dfr_program.specs.declared.fault.RunFault.TheVariants as run
 use Rattle.dfr_program.specs.declared.prepared.Fault.{Fault}
-use Rattle.dfr_program.specs.Faults.{HasNumbers}
 use Rattle.dfr_program.specs.FaultTexts.{fault_text}
 use Rattle.dfr_program.specs.Transcript.{transcript}
 use Rattle.dfr_program.specs.Writing.{Cut}

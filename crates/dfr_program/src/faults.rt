@@ -8,7 +8,7 @@ use crate::prepared::Fault;
 use crate::text::{put, put_both, put_with};
 use dfr_channels::SetupFault;
 use dfr_recorder::LimitFault;
-use dfr_script::Word;
+use dfr_script::{RecorderFault, Word};
 use std::alloc::{AllocError, Allocator};
 
 #[tactic(auto, unfolding(crate::specs::FaultTexts::word_of))]
@@ -49,6 +49,20 @@ fn limit_word(fault: LimitFault) -> &'static str
     }
 }
 
+/// Appends the line of a set-up's fault, without its end.
+fn put_recorder_words<A: Allocator>(
+    out: &mut Vec<u8, A>,
+    fault: RecorderFault,
+) -> Result<(), AllocError>
+    ensures { OnOk result (out.new.items ≡ out.old.items ++ spec.recorder_words fault) }
+{
+    match fault {
+        RecorderFault::Setup(fault) => put_both(out, "fault setup ", setup_word(fault)),
+        RecorderFault::Limits(fault) => put_both(out, "fault limits ", limit_word(fault)),
+        RecorderFault::Rules(fault) => put_both(out, "fault rules ", rule_word(fault)),
+    }
+}
+
 /// Appends the line without its end.
 fn put_words<A: Allocator>(out: &mut Vec<u8, A>, fault: Fault) -> Result<(), AllocError>
     ensures { OnOk result (out.new.items ≡ out.old.items ++ spec.fault_words fault) }
@@ -58,9 +72,7 @@ fn put_words<A: Allocator>(out: &mut Vec<u8, A>, fault: Fault) -> Result<(), All
             put_with(out, "fault line ", fault.line)?;
             put_both(out, " ", word_of(fault.word))
         }
-        Fault::Setup(fault) => put_both(out, "fault setup ", setup_word(fault)),
-        Fault::Limits(fault) => put_both(out, "fault limits ", limit_word(fault)),
-        Fault::Rules(fault) => put_both(out, "fault rules ", rule_word(fault)),
+        Fault::Recorder(fault) => put_recorder_words(out, fault),
         Fault::RulesAt(line) => {
             put_with(out, "fault line ", line)?;
             put(out, " rules")
