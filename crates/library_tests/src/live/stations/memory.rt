@@ -3,12 +3,14 @@
 
 use crate::live::stations::runs::{FRAMES, LINES};
 use crate::live::stations::station::{
-    Hasty, Kept, SETUP, Seen, Told, is_told, nothing_seen, recorded,
+    Hasty, Kept, SETUP, Seen, is_told, nothing_seen, recorded,
 };
 use crate::refused::common::Heap;
 use crate::streams::Pieces;
 use dfr_live::{EndFault, OpenFault};
-use dfr_station::{Input, Printer, Recorded, RunFault, SetupRefusal, recorder_of};
+use dfr_station::{
+    Input, Key, Recorded, RunFault, SetupRefusal, Store, Stored, Trouble, recorder_of,
+};
 use failing_allocator::Refusing;
 use std::alloc::{Allocator, Global};
 use std::sync::Wait;
@@ -155,19 +157,20 @@ fn allocations_over_a_cut_record(rt: HostRuntime) {
     assert!(rt; are_refused(&rt, rt.alloc(), cut));
 }
 
-/// A printer after whose first record no allocation succeeds.
+/// A store after whose first record no allocation succeeds.
 #[derive(Drop)]
 struct Starving<'a> {
-    told: Told,
+    kept: Kept,
     heap: Heap<'a>,
 }
 
-impl Printer for Starving<'_> {
-    fn print(&mut self, text: &[u8]) {
-        self.told.print(text);
-        if is_told(&self.told, b" record 1 ") {
+impl Store for Starving<'_> {
+    fn put(&mut self, key: Key, cfg: &[u8], dat: &[u8]) -> Result<Stored, Trouble> {
+        let stored = self.kept.put(key, cfg, dat);
+        if stored.is_ok() {
             self.heap.refuse_all();
         }
+        stored
     }
 }
 
@@ -176,8 +179,8 @@ impl Printer for Starving<'_> {
 fn no_memory_at_the_end(rt: HostRuntime) {
     let hasty = Hasty { rt: &rt };
     let heap = Refusing::new(rt.alloc());
-    let Seen { mut kept, told } = nothing_seen(rt.alloc(), 0);
-    let mut printer = Starving { told, heap: &heap };
+    let Seen { kept, mut told } = nothing_seen(rt.alloc(), 0);
+    let mut store = Starving { kept, heap: &heap };
     let mut input = Pieces {
         bytes: &FRAMES[..28],
         size: 1000,
@@ -188,12 +191,12 @@ fn no_memory_at_the_end(rt: HostRuntime) {
         &heap,
         Input::Frames,
         &mut input,
-        &mut kept,
-        &mut printer,
+        &mut store,
+        &mut told,
     );
     let fault = left.err();
     assert!(rt; fault == Some(RunFault::End(EndFault::Memory)));
-    assert!(rt; is_told(&printer.told, b" end scans 7 lost 2 records 1 left 0\n"));
+    assert!(rt; is_told(&told, b" end scans 7 lost 2 records 1 left "));
 }
 
 /// A set-up whose nth allocation is refused: whether it had as many; None where that isn't said.

@@ -154,7 +154,7 @@ pub fn recorded<A: Allocator + Copy + Send + Sync, R: Threads + Wait + Clock + S
     alloc: A,
     form: Input,
     input: &mut Pieces<'_>,
-    store: &mut Kept,
+    store: &mut (impl Store + Send),
     printer: &mut (impl Printer + Send),
 ) -> Result<Recorded<A>, RunFault> {
     let Some((first, recorder)) = begun(rt, alloc, form, input, printer) else {
