@@ -19,7 +19,7 @@ grows_none left waiting input = record { bytes = []; put = sym (append-nil waiti
 
 pub grows_on : {I : Type 0} {left : I → Option (List ℕ)} {w g h : List ℕ} {i k m : I} → Grows left w i g k → Grows left g k h m → Grows left w i h m
 grows_on {I} {left} {w} {g} {h} {i} {k} {m} a b = record {
-    bytes = a.bytes ++ b.bytes;
-    put = b.put ∙ ap (λ l. l ++ b.bytes) a.put ∙ append_assoc w a.bytes b.bytes;
-    came = came_after (left i) (left k) (left m) a.bytes b.bytes a.came b.came;
-  }
+  bytes = a.bytes ++ b.bytes;
+  put = b.put ∙ ap (λ l. l ++ b.bytes) a.put ∙ append_assoc w a.bytes b.bytes;
+  came = came_after (left i) (left k) (left m) a.bytes b.bytes a.came b.came;
+}

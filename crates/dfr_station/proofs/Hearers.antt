@@ -56,7 +56,7 @@ module _ {I A : Type 0} (left : I → Option (List ℕ)) (layout : SetupParts) (
   came_more rs a g h far hands =
       subst (λ (l : List ArrivalParts). CameFirst left first l h) (sym (reverse-append (a ∷ []) rs)) (record {
         before = λ xs c.
-          subst (λ (l : List ArrivalParts). ComesNext left first l) (sym (append_assoc (reverse rs) (a ∷ []) xs)) (far.before (a ∷ xs) (hands.before xs c));
+            subst (λ (l : List ArrivalParts). ComesNext left first l) (sym (append_assoc (reverse rs) (a ∷ []) xs)) (far.before (a ∷ xs) (hands.before xs c));
       })
 
   one_came : (g h : Acquired (Arrivals I A) A) (steps later : List StepParts) (a : ArrivalParts)
@@ -232,7 +232,7 @@ module _ {I A : Type 0} (left : I → Option (List ℕ)) (layout : SetupParts) w
       → GaveAll (AcquisitionGives (HandsNext left)) AcquisitionLoses f steps g → HeardAll left layout f steps g
   heard_all f g steps begun same h =
       let start : SoFar left layout f.incoming nothing_heard f [] =
-        record { came = []; heard = sym begun; leads = record { before = λ xs c. c }; same = same } in
+      record { came = []; heard = sym begun; leads = record { before = λ xs c. c }; same = same } in
       let all = heard_ones left layout f.incoming nothing_heard f h.1 h.0 [] start h.2 in
       let done = h.3 in
       let far = heard_quiet left layout f.incoming nothing_heard _ done.1 done.0 (all_taken h.0) (heard_settled left layout f.incoming nothing_heard h.1 (all_taken h.0) all) done.2 in

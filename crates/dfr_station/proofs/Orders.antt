@@ -32,11 +32,11 @@ module _ {A : Type 0} where
     more = first.more ++ later.more;
     taken = later.taken ∙ ap (λ (l : List (Placed A)). l ++ later.more) first.taken ∙ append_assoc s.taken first.more later.more;
     rest =
-      sym (append_assoc (option_to_list s.waits) first.more later.more)
-      ∙ ap (λ (l : List (Placed A)). l ++ later.more) first.rest
-      ∙ append_assoc out (option_to_list m.waits) later.more
-      ∙ ap (λ (l : List (Placed A)). out ++ l) later.rest
-      ∙ sym (append_assoc out more (option_to_list t.waits));
+        sym (append_assoc (option_to_list s.waits) first.more later.more)
+        ∙ ap (λ (l : List (Placed A)). l ++ later.more) first.rest
+        ∙ append_assoc out (option_to_list m.waits) later.more
+        ∙ ap (λ (l : List (Placed A)). out ++ l) later.rest
+        ∙ sym (append_assoc out more (option_to_list t.waits));
   }
 
   pub answers_after : (pumped : ℕ) (s m t : DeskParts A) (a : Asked A) → HandsOut s [] m → Answers pumped m a t → Answers pumped s a t

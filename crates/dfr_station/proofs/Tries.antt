@@ -24,6 +24,9 @@ module _ {K : Type 0} (Stores : StoresOf K) (key : Key) (files : FilesParts) whe
   pub given_up : (s m t : Exporting K) → TriedSoFar s m → TriedPair Stores key files m tried.GivenUp t → StoredOrGivenUp Stores key files s t
   given_up s m t far one =
       let records : m.records ≡ s.records = ap (λ (x : Exporting K). x.records) far.0 in
-      let unwritten : m.unwritten ≡ s.unwritten = ap (λ (x : Exporting K). x.unwritten) far.0 in
-      (one.0 ∷ far.1.0, t.store, (m.store, far.1.1, one.1),
-        inr (refl, ap (λ (x : Exporting K). x.records) one.2 ∙ records, ap (λ (x : Exporting K). x.unwritten) one.2 ∙ ap one_more unwritten))
+      let unwritten : m.unwritten ≡ s.unwritten = ap (λ (x : Exporting K). x.unwritten) far.0 in (
+        one.0 ∷ far.1.0,
+        t.store,
+        (m.store, far.1.1, one.1),
+        inr (refl, ap (λ (x : Exporting K). x.records) one.2 ∙ records, ap (λ (x : Exporting K). x.unwritten) one.2 ∙ ap one_more unwritten),
+      )

@@ -118,13 +118,13 @@ abbrev pub AcquisitionGives : {C A : Type 0} → ComesOf C A → Acquired C A �
 AcquisitionGives Comes s (Ok fed.NotYet) t = ⊥
 AcquisitionGives {C} {A} Comes s (Ok fed.Done) t =
     ComesNext Comes (record s { scans = settled s.scans }) (λ (m : Acquired C A).
-        (ending : Ending) × Comes m.incoming (coming.End ending) t.incoming × (t.scans ≡ m.scans) × (t.orders ≡ m.orders))
+    (ending : Ending) × Comes m.incoming (coming.End ending) t.incoming × (t.scans ≡ m.scans) × (t.orders ≡ m.orders))
 AcquisitionGives {C} {A} Comes s (Ok (fed.Scan scan)) t =
     ComesNext Comes (record s { scans = settled s.scans }) (λ (m : Acquired C A).
-        (x : Next A) × Comes m.incoming x t.incoming × Steps m x (fed.Scan scan) t)
+    (x : Next A) × Comes m.incoming x t.incoming × Steps m x (fed.Scan scan) t)
 AcquisitionGives {C} {A} Comes s (Ok fed.Lost) t =
     ComesNext Comes (record s { scans = settled s.scans }) (λ (m : Acquired C A).
-        (x : Next A) × Comes m.incoming x t.incoming × Steps m x fed.Lost t)
+    (x : Next A) × Comes m.incoming x t.incoming × Steps m x fed.Lost t)
 AcquisitionGives Comes s (Err code) t = ⊥
 
 -- the queue had no place for the scan that was given last

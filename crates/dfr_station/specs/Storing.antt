@@ -33,8 +33,8 @@ abbrev pub StoredOrGivenUp : {K : Type 0} → StoresOf K → Key → FilesParts 
 StoredOrGivenUp {K} Stores key files s t =
     (troubles : List Trouble) × (m : K) × Refused Stores key files s.store troubles m
     × (((stored : Stored) × Stores m key files.cfg files.dat (Ok stored) t.store
-            × (t.records ≡ one_more s.records) × (t.unwritten ≡ s.unwritten))
-        ⊎ ((t.store ≡ m) × (t.records ≡ s.records) × (t.unwritten ≡ one_more s.unwritten)))
+    × (t.records ≡ one_more s.records) × (t.unwritten ≡ s.unwritten))
+    ⊎ ((t.store ≡ m) × (t.records ≡ s.records) × (t.unwritten ≡ one_more s.unwritten)))
 
 -- one try to store a pair: the store took it; or it didn't, and the pair is tried again, or the record is given up
 abbrev pub TriedPair : {K : Type 0} → StoresOf K → Key → FilesParts → Exporting K → Tried → Exporting K → Type 0

@@ -32,7 +32,6 @@ pub(crate) struct Acquisition<'s, 'x, I, R, A: Allocator = Global> {
 impl<'s, 'x, I, R, A: Allocator> Model for Acquisition<'s, 'x, I, R, A> {
     ghost use Rattle.rtrb.specs.Ring.{sent};
     ghost use Rattle.dfr_station.specs.Acquiring.{Acquired};
-
     ghost use Rattle.dfr_station.specs.declared.intake.arrivals.Arrivals.{Arrivals as Arriving};
 
     ghost Value = { Acquired (Arriving I A) A };

@@ -31,8 +31,8 @@ pub use event::{Asked, Event, Replied, Skipped, Trouble};
 pub use finish::finish_station;
 pub use first::{First, read_first};
 pub use intake::{
-    Counts, Recorded, RunFault, Why, frame_len, is_damaged, is_scan_line,
-    scan_of_frame, surplus_bytes,
+    Counts, Recorded, RunFault, Why, frame_len, is_damaged, is_scan_line, scan_of_frame,
+    surplus_bytes,
 };
 pub use key::{Key, key_at, key_in, put_key};
 pub use prepared::{SetupRefusal, recorder_of};

@@ -28,8 +28,8 @@ use dfr_recorder::Recorder;
 use rtrb::{Consumer, Producer, RingBuffer};
 use std::alloc::Allocator;
 use std::io::Read;
-use std::sync::{Mutex, Wait};
 use std::sync::atomic::Ordering;
+use std::sync::{Mutex, Wait};
 use std::thread;
 use std::thread::{Scope, Threads};
 use std::time::Clock;
@@ -194,9 +194,7 @@ fn run_over<
     let mut intake = Acquisition::new(rt, arrivals, scans, orders);
     let shelf = recorder.limits().shelf();
     let operator = operator.map(|bytes| Operator::new(alloc, bytes));
-    let mut desk = Office::new(
-        alloc, layout, &signals, placed, operator, triggers, shelf,
-    );
+    let mut desk = Office::new(alloc, layout, &signals, placed, operator, triggers, shelf);
     let mut outlet = Exports::new(rt, layout, &signals, store, exports);
     let telling = Mutex::new(Telling::new(&mut *printer, events, minutes, watch));
     let pace = Napping {
@@ -304,7 +302,10 @@ fn record_beside<
     kind: Kind,
     telling: &'s Mutex<Telling<'_, P, A>>,
     devices: (&'x mut F, &'y mut O, &'z mut K),
-) -> (Result<LiveReport<A>, RunFault>, (&'x mut F, &'y mut O, &'z mut K))
+) -> (
+    Result<LiveReport<A>, RunFault>,
+    (&'x mut F, &'y mut O, &'z mut K),
+)
     ensures names { (result.1.0.ghost_name ≡ devices.entry.0.ghost_name)
         × (result.1.1.ghost_name ≡ devices.entry.1.ghost_name)
         × (result.1.2.ghost_name ≡ devices.entry.2.ghost_name) }
@@ -314,12 +315,23 @@ fn record_beside<
 {
     let Napping { rt, signals } = pace;
     let (intake, desk, outlet) = devices;
-    if scope.spawn(move || print_events(rt, signals, telling)).is_err() {
+    if scope
+        .spawn(move || print_events(rt, signals, telling))
+        .is_err()
+    {
         return (Err(RunFault::Thread), (intake, desk, outlet));
     }
     let pace = Napping { rt, signals };
     let report = record_with::<A, Recording, F, O, K, Napping<R>, R>(
-        rt, alloc, recorder, LANE, kind, &pace, &mut *intake, &mut *desk, &mut *outlet,
+        rt,
+        alloc,
+        recorder,
+        LANE,
+        kind,
+        &pace,
+        &mut *intake,
+        &mut *desk,
+        &mut *outlet,
     );
     signals.ended.store(true, Ordering::SeqCst);
     (outcome_of(report, signals), (intake, desk, outlet))

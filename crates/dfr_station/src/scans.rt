@@ -246,7 +246,9 @@ impl<'s, A: Allocator + Copy> Scans<'s, A> {
         self.set_clock(at);
         self.tell_losses();
         let signals = self.signals;
-        signals.clock.store(self.clock.unwrap_or(0), Ordering::SeqCst);
+        signals
+            .clock
+            .store(self.clock.unwrap_or(0), Ordering::SeqCst);
         signals.lost.store(self.lost, Ordering::SeqCst);
         signals.came.store(self.came, Ordering::SeqCst);
         signals.ready.store(self.ready, Ordering::SeqCst);

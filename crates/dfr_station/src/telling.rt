@@ -6,8 +6,8 @@ use crate::station::Printer;
 use crate::teller::{Turn, Waiting, put_line};
 use crate::watch::{Watch, millis};
 use std::alloc::{Allocator, Global};
-use std::sync::{Mutex, Wait};
 use std::sync::atomic::Ordering;
+use std::sync::{Mutex, Wait};
 use std::thread;
 use std::time::{Clock, Duration};
 

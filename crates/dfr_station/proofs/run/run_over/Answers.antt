@@ -19,7 +19,7 @@ returns-in-Ok g c =
       opens = rw c.new-desk.ensures (c.requires.parts.2, refl);
       recorded = recorded;
       heard = heard_all g.I.Read.remaining _ c.new-intake.result c.record_printing-report.new.intake (taken_in recorded.report.source)
-        (rw (c.new-intake.ensures, c.requires.parts.1, s.1, s.2) refl) (rw c.new-intake.ensures (s.0 ∙ c.requires.layout)) recorded.fed;
+          (rw (c.new-intake.ensures, c.requires.parts.1, s.1, s.2) refl) (rw c.new-intake.ensures (s.0 ∙ c.requires.layout)) recorded.fed;
       same_end = refl;
       all_scans = rw c.after.ensures c.counts.ensures.0;
       all_lost = rw c.after.ensures c.counts.ensures.1;

@@ -2,9 +2,7 @@
 //! pair is in halves, and the end is told.
 
 use crate::live::stations::runs::{FRAMES, LINES};
-use crate::live::stations::station::{
-    Hasty, Kept, SETUP, Seen, is_told, nothing_seen, recorded,
-};
+use crate::live::stations::station::{Hasty, Kept, SETUP, Seen, is_told, nothing_seen, recorded};
 use crate::refused::common::Heap;
 use crate::streams::Pieces;
 use dfr_live::{EndFault, OpenFault};

@@ -10,14 +10,20 @@ returns-in-Some-step_of g c =
     c.self-in-loop.view_is c.loop.invariant.2 c.in-Arrival.ensures c.in-Some-step_of.ensures
 
 pub loop-preserved-in_default : goal.loop-preserved-in_default
-loop-preserved-in_default g c =
-    (tt, tt, quiet_more (HandsNext g.I.Read.remaining) _ _ c.loop.self c.step_of.new.self c.next-in-loop.new.self (coming.Arrival c.in-Arrival.arrival)
-    c.self-in-loop.view_is c.loop.invariant.2 c.in-Arrival.ensures (rw c.in_default.is at c.step_of.ensures))
+loop-preserved-in_default g c = (
+  tt,
+  tt,
+  quiet_more (HandsNext g.I.Read.remaining) _ _ c.loop.self c.step_of.new.self c.next-in-loop.new.self (coming.Arrival c.in-Arrival.arrival)
+      c.self-in-loop.view_is c.loop.invariant.2 c.in-Arrival.ensures (rw c.in_default.is at c.step_of.ensures),
+)
 
 pub loop-preserved : goal.loop-preserved
-loop-preserved g c =
-    (tt, tt, quiet_more (HandsNext g.I.Read.remaining) _ _ c.loop.self _ c.next-in-loop.new.self coming.Drained
-    c.self-in-loop.view_is c.loop.invariant.2 c.in-Drained.ensures (refl, c.publish.ensures, refl))
+loop-preserved g c = (
+  tt,
+  tt,
+  quiet_more (HandsNext g.I.Read.remaining) _ _ c.loop.self _ c.next-in-loop.new.self coming.Drained
+      c.self-in-loop.view_is c.loop.invariant.2 c.in-Drained.ensures (refl, c.publish.ensures, refl),
+)
 
 pub returns-in-End : goal.returns-in-End
 returns-in-End g c =

@@ -3,16 +3,26 @@ use Rattle.dfr_station.proofs.Tries.{tried_again, tried_stored, given_up}
 use Rattle.dfr_station.proofs.outlet.ExportsOutletRecording.put.Goals as goal
 
 pub returns-in-Stored : goal.returns-in-Stored
-returns-in-Stored g c =
-    (refl, (c.key_of-key.result, c.key_of-key.ensures,
+returns-in-Stored g c = (
+  refl,
+  (
+    c.key_of-key.result,
+    c.key_of-key.ensures,
     tried_stored g.K.Store.stores c.key_of-key.result
-    (record { extent = c.args.extent; cfg = c.args.cfg.now; dat = c.args.dat.now })
-    c.args.self.now c.loop.self c.tried.new.self c.loop.invariant.2 c.in-Stored.ensures))
+        (record { extent = c.args.extent; cfg = c.args.cfg.now; dat = c.args.dat.now })
+        c.args.self.now c.loop.self c.tried.new.self c.loop.invariant.2 c.in-Stored.ensures,
+  ),
+)
 
 pub returns-in-GivenUp : goal.returns-in-GivenUp
-returns-in-GivenUp g c =
-    (refl, (c.key_of-key.result, c.key_of-key.ensures,
-    given_up g.K.Store.stores c.key_of-key.result (record { extent = c.args.extent; cfg = c.args.cfg.now; dat = c.args.dat.now }) c.args.self.now c.loop.self c.tried.new.self c.loop.invariant.2 c.in-GivenUp.ensures))
+returns-in-GivenUp g c = (
+  refl,
+  (
+    c.key_of-key.result,
+    c.key_of-key.ensures,
+    given_up g.K.Store.stores c.key_of-key.result (record { extent = c.args.extent; cfg = c.args.cfg.now; dat = c.args.dat.now }) c.args.self.now c.loop.self c.tried.new.self c.loop.invariant.2 c.in-GivenUp.ensures,
+  ),
+)
 
 pub loop-preserved : goal.loop-preserved
 loop-preserved g c =
