@@ -41,6 +41,6 @@ lines = [line.split(' ', 1)[1] for line in text.decode().splitlines() if ' ' in 
 print(lines[0])
 print('skipped' if any(line.startswith('skipped') for line in lines) else 'none')
 print('missed' if any(line.startswith('missed lines') for line in lines) else 'none missed')
-print(lines[-1], dfrd.wait())
+print(*[line for line in lines if line.startswith('end ')], dfrd.wait()) # (on a slow machine more lines are missed, and counted after it)
 P
 python3 "$work/station.py" "$dfrd" --quiet --start 0 first/in "$folder"
