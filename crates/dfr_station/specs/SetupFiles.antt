@@ -10,8 +10,6 @@ use Rattle.dfr_script.specs.declared.fault.ScriptRefusal.{ScriptRefusal}
 use Rattle.dfr_script.specs.declared.fault.ScriptRefusal.TheVariants as script
 use Rattle.dfr_script.specs.declared.recorder.RecorderFault.{RecorderFault}
 use Rattle.dfr_script.specs.declared.recorder.RecorderFault.TheVariants as recorder
-use Rattle.dfr_script.specs.declared.recorder.RecorderRefusal.{RecorderRefusal}
-use Rattle.dfr_script.specs.declared.recorder.RecorderRefusal.TheVariants as recorders
 use Rattle.dfr_station.specs.declared.prepared.SetupRefusal.{SetupRefusal}
 use Rattle.dfr_station.specs.declared.prepared.SetupRefusal.TheVariants as refusal
 
@@ -34,14 +32,14 @@ of_fault (recorder.Setup f) = refusal.Setup f
 of_fault (recorder.Limits f) = refusal.Limits f
 of_fault (recorder.Rules f) = refusal.Rules f
 
-abbrev pub of_recorder : RecorderRefusal → SetupRefusal
-of_recorder (recorders.Fault f) = of_fault f
-of_recorder recorders.Memory = refusal.Memory
+-- the fault of a set-up
+abbrev pub fault_of : RecorderSetupParts → Option SetupRefusal
+fault_of s = option_map of_fault (set_up_fault s)
 
 -- the first fault of lines that say this: that of a line, or else of the set-up
 abbrev pub file_fault : Result RecorderSetupParts ScriptFault → Option SetupRefusal
 file_fault (Err f) = Some (of_line f)
-file_fault (Ok s) = option_map of_fault (set_up_fault s)
+file_fault (Ok s) = fault_of s
 
 -- the recorder of the set-up that the lines say
 abbrev pub IsOf : Result RecorderSetupParts ScriptFault → Kept → Type 0

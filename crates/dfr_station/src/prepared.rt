@@ -2,12 +2,16 @@
 
 ghost use Rattle.std.specs.Prelude.{◌≡◌, MatchResult, None};
 ghost use Rattle.dfr_channels.specs.Lines.{lines};
+ghost use Rattle.dfr_script.specs.Recorders.{IsMadeOf};
 ghost use Rattle.dfr_script.specs.Scripts.{set_up};
 ghost use Rattle.dfr_station.specs.SetupFiles as spec;
 
 use dfr_channels::{RuleFault, SetupFault};
 use dfr_recorder::{LimitFault, Recorder};
-use dfr_script::{RecorderFault, RecorderRefusal, ScriptFault, ScriptRefusal, Word, set_up_of};
+use dfr_script as recorders;
+use dfr_script::{
+    RecorderFault, RecorderRefusal, RecorderSetup, ScriptFault, ScriptRefusal, Word, set_up_of,
+};
 use std::alloc::Allocator;
 use thiserror::Error;
 
@@ -57,16 +61,30 @@ impl From<ScriptRefusal> for SetupRefusal {
     }
 }
 
-impl From<RecorderRefusal> for SetupRefusal {
-    ghost from_gives = { λ refusal e. e ≡ spec.of_recorder refusal };
+/// The refusal of a set-up with this fault.
+fn refusal_of(fault: RecorderFault) -> SetupRefusal
+    ensures { result ≡ spec.of_fault fault }
+{
+    match fault {
+        RecorderFault::Setup(fault) => SetupRefusal::Setup(fault),
+        RecorderFault::Limits(fault) => SetupRefusal::Limits(fault),
+        RecorderFault::Rules(fault) => SetupRefusal::Rules(fault),
+    }
+}
 
-    fn from(refusal: RecorderRefusal) -> SetupRefusal {
-        match refusal {
-            RecorderRefusal::Fault(RecorderFault::Setup(fault)) => SetupRefusal::Setup(fault),
-            RecorderRefusal::Fault(RecorderFault::Limits(fault)) => SetupRefusal::Limits(fault),
-            RecorderRefusal::Fault(RecorderFault::Rules(fault)) => SetupRefusal::Rules(fault),
-            RecorderRefusal::Memory => SetupRefusal::Memory,
-        }
+/// The recorder of a set-up.
+fn recorder_over<A: Allocator + Copy>(
+    alloc: A,
+    set_up: RecorderSetup<A>,
+) -> Result<Recorder<A>, SetupRefusal>
+    ensures { MatchResult result
+        (λ recorder. (spec.fault_of set_up ≡ None) × IsMadeOf set_up recorder)
+        (spec.Refuses (spec.fault_of set_up)) }
+{
+    match recorders::recorder_of(alloc, set_up) {
+        Ok(recorder) => Ok(recorder),
+        Err(RecorderRefusal::Fault(fault)) => Err(refusal_of(fault)),
+        Err(RecorderRefusal::Memory) => Err(SetupRefusal::Memory),
     }
 }
 
@@ -84,6 +102,5 @@ pub fn recorder_of<A: Allocator + Copy>(
         (spec.Refuses (spec.file_fault (set_up start (lines text.now)))) }
 {
     let set_up = set_up_of(alloc, text, start)?;
-    let recorder = dfr_script::recorder_of(alloc, set_up)?;
-    Ok(recorder)
+    recorder_over(alloc, set_up)
 }
