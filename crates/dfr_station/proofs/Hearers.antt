@@ -1,6 +1,6 @@
 -- From what the acquisition gave to what came with the input.
-use Rattle.std.proofs.Common.{◌≡◌, ◌⊎◌, inl, inr, ℕ, List, [], ◌∷◌, ◌++◌, map, reverse, Bool, true, Option, Result, Ok, Err, refl, sym, ◌∙◌, ap, subst, append_assoc}
-use Rattle.std.proofs.lemmas.List.{append-nil, map-append, reverse-append}
+use Rattle.std.proofs.Common.{◌≡◌, ◌⊎◌, inl, inr, ℕ, List, [], ◌∷◌, ◌++◌, ◌≤◌, length, map, reverse, Bool, true, Option, Result, Ok, Err, refl, sym, ◌∙◌, ap, subst, append_assoc}
+use Rattle.std.proofs.lemmas.List.{append-nil, length-map, map-append, reverse-append}
 use Rattle.dfr_channels.specs.Parts.{ScanParts, SetupParts}
 use Rattle.dfr_recorder.specs.Steps.{StepParts}
 use Rattle.dfr_recorder.specs.Steps as step
@@ -13,22 +13,22 @@ use Rattle.dfr_station.specs.Arrivals.{ComesNext, CameFirst, HandsNext}
 use Rattle.dfr_station.specs.Hearing.{Heard, nothing_heard, heard_at, Hears, HearsLost, order_of, CameInAll, HeardAll}
 use Rattle.dfr_station.specs.Lines.{ArrivalParts}
 use Rattle.dfr_station.specs.Lines as came
-use Rattle.dfr_station.specs.Storing.{one_more}
+use Rattle.dfr_station.specs.Input.{one_more}
 use Rattle.dfr_station.specs.declared.intake.arrival.Arrival.TheVariants as arrival
 use Rattle.dfr_station.specs.declared.intake.arrivals.Arrivals.{Arrivals}
 use Rattle.dfr_station.specs.declared.intake.arrivals.Ending.{Ending}
 use Rattle.dfr_station.specs.declared.intake.arrivals.Ending.TheVariants as ending
 use Rattle.dfr_station.specs.declared.intake.arrivals.Next.{Next}
 use Rattle.dfr_station.specs.declared.intake.arrivals.Next.TheVariants as coming
-use Rattle.dfr_station.specs.declared.scans.Given.{Given}
-use Rattle.dfr_station.specs.declared.scans.Given.TheVariants as given
+use Rattle.dfr_station.specs.declared.scans.LastGiven.{LastGiven}
+use Rattle.dfr_station.specs.declared.scans.LastGiven.TheVariants as given
 
 -- ---- the counts
 
 abbrev SameCounts : ScansParts → ScansParts → Type 0
 SameCounts s t = (t.came ≡ s.came) × (t.lost ≡ s.lost) × (t.layout ≡ s.layout)
 
-settles_by : (g : Given) (s : ScansParts) → SameCounts s (settled_by g s)
+settles_by : (g : LastGiven) (s : ScansParts) → SameCounts s (settled_by g s)
 settles_by given.Nothing s = (refl, refl, refl)
 settles_by given.Scan s = (refl, refl, refl)
 settles_by given.Filler s = (refl, refl, refl)
@@ -80,11 +80,12 @@ module _ {I A : Type 0} (left : I → Option (List ℕ)) (layout : SetupParts) (
   }
 
   hears_order : (m t : Acquired (Arrivals I A) A) (steps : List StepParts) (line place : ℕ) (order : Order A)
-      → t.scans ≡ m.scans → (t.orders ≡ m.orders ++ record { line = line; at = place; order = order } ∷ []) ⊎ (t.orders ≡ m.orders)
+      → t.scans ≡ m.scans → (t.orders ≡ m.orders ++ record { line = line; at = place; order = order } ∷ []) ⊎ ((t.orders ≡ m.orders) × (1_024 ≤ length m.orders))
       → Hears layout (heard_at steps m) (came.Order line place (call_in order)) (heard_at steps t)
   hears_order m t steps line place order scans (inl e) =
       inl (rw (scans, e) (rw (map-append order_of m.orders (record { line = line; at = place; order = order } ∷ [])) refl))
-  hears_order m t steps line place order scans (inr e) = inr (rw (scans, e) refl)
+  hears_order m t steps line place order scans (inr e) =
+      inr (rw (scans, e.0) refl, rw (length-map m.orders (order_of {A = A})) e.1)
 
   heard_quietly : (m t : Acquired (Arrivals I A) A) (x : Next A) (steps : List StepParts)
       → SoFar m steps → Quietly (HandsNext left) m x t → SoFar t steps

@@ -8,18 +8,20 @@ use Rattle.dfr_station.specs.Desks.{DeskParts, HandsOut, IsEarly, Answers}
 use Rattle.dfr_station.specs.declared.desk.Placed.{Placed}
 
 module _ {A : Type 0} where
-  pub hands_none : (s t : DeskParts A) → t.lane ≡ s.lane → t.taken ≡ s.taken → t.waits ≡ s.waits → HandsOut s [] t
-  hands_none s t lane taken waits = record {
+  pub hands_none : (s t : DeskParts A) → t.lane ≡ s.lane → t.has_operator ≡ s.has_operator → t.taken ≡ s.taken → t.waits ≡ s.waits → HandsOut s [] t
+  hands_none s t lane same taken waits = record {
     lane = lane;
+    same = same;
     more = [];
     taken = taken ∙ sym (append-nil s.taken);
     rest = append-nil (option_to_list s.waits) ∙ sym (ap (λ (o : Option (Placed A)). option_to_list o) waits);
   }
 
   -- one was taken off the queue, and waits
-  pub takes_off : (s t : DeskParts A) (x : Placed A) → t.lane ≡ s.lane → t.taken ≡ s.taken ++ x ∷ [] → s.waits ≡ None → t.waits ≡ Some x → HandsOut s [] t
-  takes_off s t x lane taken none waits = record {
+  pub takes_off : (s t : DeskParts A) (x : Placed A) → t.lane ≡ s.lane → t.has_operator ≡ s.has_operator → t.taken ≡ s.taken ++ x ∷ [] → s.waits ≡ None → t.waits ≡ Some x → HandsOut s [] t
+  takes_off s t x lane same taken none waits = record {
     lane = lane;
+    same = same;
     more = x ∷ [];
     taken = taken;
     rest = rw (none, waits) refl;
@@ -29,6 +31,7 @@ module _ {A : Type 0} where
   pub hands_on : (s m t : DeskParts A) (out more : List (Placed A)) → HandsOut s out m → HandsOut m more t → HandsOut s (out ++ more) t
   hands_on s m t out more first later = record {
     lane = later.lane ∙ first.lane;
+    same = later.same ∙ first.same;
     more = first.more ++ later.more;
     taken = later.taken ∙ ap (λ (l : List (Placed A)). l ++ later.more) first.taken ∙ append_assoc s.taken first.more later.more;
     rest =
@@ -41,7 +44,7 @@ module _ {A : Type 0} where
 
   pub answers_after : (pumped : ℕ) (s m t : DeskParts A) (a : Asked A) → HandsOut s [] m → Answers pumped m a t → Answers pumped s a t
   answers_after pumped s m t (asked.Order place o) first (inl h) = inl (h.0, h.1, hands_on s m t [] _ first h.2)
-  answers_after pumped s m t (asked.Order place o) first (inr h) = inr (h.0, h.1, hands_on s m t [] [] first h.2)
+  answers_after pumped s m t (asked.Order place o) first (inr h) = inr (sym first.same ∙ h.0, h.1, h.2, hands_on s m t [] [] first h.3)
   answers_after pumped s m t (asked.NotYet steps) first h = (hands_on s m t [] [] first h.0, h.1, h.2)
   answers_after pumped s m t asked.Done first h = (hands_on s m t [] [] first h.0, h.1)
 

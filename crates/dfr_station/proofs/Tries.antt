@@ -1,7 +1,8 @@
 -- How often a pair is handed to the store.
-use Rattle.std.proofs.Common.{◌≡◌, ℕ, List, [], ◌∷◌, inl, inr, refl, sym, ◌∙◌, ap, subst}
+use Rattle.std.proofs.Common.{arith, ◌≡◌, ℕ, List, [], ◌∷◌, inl, inr, refl, sym, ◌∙◌, ap, subst}
 use Rattle.dfr_live.specs.Devices.{FilesParts}
-use Rattle.dfr_station.specs.Storing.{StoresOf, Exporting, one_more, Refused, StoredOrGivenUp, TriedPair}
+use Rattle.dfr_station.specs.Input.{one_more}
+use Rattle.dfr_station.specs.Storing.{StoresOf, Exporting, Refused, StoredOrGivenUp, TriedPair}
 use Rattle.dfr_station.specs.declared.key.Key.{Key}
 use Rattle.dfr_station.specs.declared.event.Trouble.{Trouble}
 use Rattle.dfr_station.specs.declared.outlet.Tried.TheVariants as tried
@@ -28,5 +29,5 @@ module _ {K : Type 0} (Stores : StoresOf K) (key : Key) (files : FilesParts) whe
         one.0 ∷ far.1.0,
         t.store,
         (m.store, far.1.1, one.1),
-        inr (refl, ap (λ (x : Exporting K). x.records) one.2 ∙ records, ap (λ (x : Exporting K). x.unwritten) one.2 ∙ ap one_more unwritten),
+        inr (omega arith, refl, ap (λ (x : Exporting K). x.records) one.2 ∙ records, ap (λ (x : Exporting K). x.unwritten) one.2 ∙ ap one_more unwritten),
       )

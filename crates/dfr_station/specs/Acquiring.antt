@@ -1,19 +1,19 @@
--- What the acquisition makes of an input: each scan that comes is one step, its scan or a lost one, and each order goes into a queue.
+-- What the acquisition makes of an input: each scan that comes is one step, its scan or a lost one, and each order goes into a queue, if it has a place.
 use Rattle.std.specs.Prelude.{◌≡◌, ◌⊎◌, ℕ, ◌+◌, ◌-◌, ◌^◌, ◌≤◌, min, List, [], ◌∷◌, ◌++◌, length, replicate, Bool, Option, Some, None, Result, Ok, Err}
 use Rattle.dfr_channels.specs.Parts.{ScanParts, SetupParts}
 use Rattle.dfr_channels.specs.declared.scan.Reading.TheVariants as reading
 use Rattle.dfr_live.specs.Devices.{Came}
 use Rattle.dfr_live.specs.declared.station.Fed.{Fed}
 use Rattle.dfr_live.specs.declared.station.Fed.TheVariants as fed
-use Rattle.dfr_station.specs.Storing.{one_more}
+use Rattle.dfr_station.specs.Input.{one_more}
 use Rattle.dfr_station.specs.declared.desk.Placed.{Placed}
 use Rattle.dfr_station.specs.declared.intake.arrival.Arrival.{Arrival}
 use Rattle.dfr_station.specs.declared.intake.arrival.Arrival.TheVariants as arrival
 use Rattle.dfr_station.specs.declared.intake.arrivals.Ending.{Ending}
 use Rattle.dfr_station.specs.declared.intake.arrivals.Next.{Next}
 use Rattle.dfr_station.specs.declared.intake.arrivals.Next.TheVariants as coming
-use Rattle.dfr_station.specs.declared.scans.Given.{Given}
-use Rattle.dfr_station.specs.declared.scans.Given.TheVariants as given
+use Rattle.dfr_station.specs.declared.scans.LastGiven.{LastGiven}
+use Rattle.dfr_station.specs.declared.scans.LastGiven.TheVariants as given
 
 -- the scans of an input: how many came and how many of them were lost, how many of these in a row since the queue took one, the bits
 -- of that one, what was given last, of which it isn't known yet whether the queue takes it, and the bits of that
@@ -23,13 +23,13 @@ pub record ScansParts : Type 0 where
   pub lost : ℕ
   pub row : ℕ
   pub bits : List Bool
-  pub last : Given
+  pub last : LastGiven
   pub noted : List Bool
 
 abbrev pub next_in_row : ℕ → ℕ
 next_in_row n = min (n + 1) (2 ^ 32 - 1)
 
-abbrev pub settled_by : Given → ScansParts → ScansParts
+abbrev pub settled_by : LastGiven → ScansParts → ScansParts
 settled_by given.Nothing s = s
 settled_by given.Scan s = record s { row = 0; bits = s.noted; last = given.Nothing; noted = s.bits }
 settled_by given.Filler s = record s { row = 0; last = given.Nothing }
@@ -38,7 +38,7 @@ settled_by given.Filler s = record s { row = 0; last = given.Nothing }
 abbrev pub settled : ScansParts → ScansParts
 settled s = settled_by s.last s
 
-abbrev pub dropped_by : Given → ScansParts → ScansParts
+abbrev pub dropped_by : LastGiven → ScansParts → ScansParts
 dropped_by given.Nothing s = record s { row = next_in_row s.row }
 dropped_by given.Scan s = record s { lost = one_more s.lost; row = next_in_row s.row; last = given.Nothing }
 dropped_by given.Filler s = record s { row = next_in_row s.row; last = given.Nothing }
@@ -81,12 +81,13 @@ pub record Acquired (C A : Type 0) : Type 0 where
 abbrev pub ComesOf : Type 0 → Type 0 → Type 1
 ComesOf C A = C → Next A → C → Type 0
 
--- what is no step: an order, for which there may be no place in its queue; a line that is skipped; or all that was read was given
+-- what is no step: an order, which goes into a queue of 1,024 places (the first 1,024 orders have one); a line that is skipped; or all that
+-- was read was given
 abbrev pub QuietlyBy : {C A : Type 0} → Acquired C A → Next A → Acquired C A → Type 0
 QuietlyBy s (coming.Arrival (arrival.Scan scan)) t = ⊥
 QuietlyBy s (coming.Arrival (arrival.Lost why)) t = ⊥
 QuietlyBy s (coming.Arrival (arrival.Order line place order)) t =
-    (t.orders ≡ s.orders ++ record { line = line; at = place; order = order } ∷ []) ⊎ (t.orders ≡ s.orders)
+    (t.orders ≡ s.orders ++ record { line = line; at = place; order = order } ∷ []) ⊎ ((t.orders ≡ s.orders) × (1_024 ≤ length s.orders))
 QuietlyBy s (coming.Arrival (arrival.Skipped line why)) t = t.orders ≡ s.orders
 QuietlyBy s coming.Drained t = t.orders ≡ s.orders
 QuietlyBy s (coming.End ending) t = ⊥

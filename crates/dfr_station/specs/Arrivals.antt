@@ -18,7 +18,7 @@ MayBeLeft (Some stop.End) left rest = rest ≡ []
 
 -- these come from there on, up to the input's end: those of the bytes that wait and of the bytes that are to be read
 abbrev pub ComesNext : {I A : Type 0} → (I → Option (List ℕ)) → Arrivals I A → List ArrivalParts → Type 0
-ComesNext left s xs = (rest : List ℕ) × MayBeLeft s.ending (left s.input.now) rest × ComesOver s.cutter rest xs
+ComesNext left s xs = (rest : List ℕ) × MayBeLeft s.ending (left s.input) rest × ComesOver s.cutter rest xs
 
 -- the arrivals that were given from one state to another come before whatever comes from then on
 pub record CameFirst {I A : Type 0} (left : I → Option (List ℕ)) (s : Arrivals I A) (given : List ArrivalParts) (t : Arrivals I A) : Type 0 where

@@ -1,5 +1,5 @@
 -- Which orders a station's desk hands out: those of the input in their order, each once, and an operator's between them.
-use Rattle.std.specs.Prelude.{◌≡◌, ◌⊎◌, ℕ, ◌<◌, ◌≤◌, List, [], ◌∷◌, ◌++◌, length, true, Option, Some, None, IfSome, option_to_list}
+use Rattle.std.specs.Prelude.{◌≡◌, ◌⊎◌, ℕ, ◌<◌, ◌≤◌, List, [], ◌∷◌, ◌++◌, length, Bool, true, Option, Some, None, IfSome, option_to_list}
 use Rattle.dfr_live.specs.Devices.{AsksOf, HearsOf}
 use Rattle.dfr_live.specs.Lane.{LaneName}
 use Rattle.dfr_live.specs.declared.devices.Asked.{Asked}
@@ -16,17 +16,19 @@ use Rattle.dfr_station.specs.declared.event.Skipped.{Skipped}
 use Rattle.dfr_station.specs.declared.event.Skipped.TheVariants as skipped
 use Rattle.dfr_station.specs.declared.operator.Operator.{Operator}
 
--- a desk: the queue of the input's orders, what it took off that queue, of which one may wait for its place, and the line of the order
--- that it handed out last, if the input gave it
+-- a desk: the queue of the input's orders, what it took off that queue, of which one may wait for its place, the line of the order
+-- that it handed out last, if the input gave it, and whether there is an operator
 pub record DeskParts (A : Type 0) : Type 0 where
   pub lane : LaneName A
   pub taken : List (Placed A)
   pub waits : Option (Placed A)
   pub line : Option ℕ
+  pub has_operator : Bool
 
 -- these orders of the input were handed out: they are what waited and what was taken, but for what waits then
 pub record HandsOut {A : Type 0} (s : DeskParts A) (out : List (Placed A)) (t : DeskParts A) : Type 0 where
   pub lane : t.lane ≡ s.lane
+  pub same : t.has_operator ≡ s.has_operator
   pub more : List (Placed A)
   pub taken : t.taken ≡ s.taken ++ more
   pub rest : option_to_list s.waits ++ more ≡ out ++ option_to_list t.waits
@@ -35,13 +37,13 @@ pub record HandsOut {A : Type 0} (s : DeskParts A) (out : List (Placed A)) (t : 
 abbrev pub IsEarly : {A : Type 0} → ℕ → DeskParts A → Type 0
 IsEarly pumped t = IfSome t.waits (λ p. pumped < p.at)
 
--- What a desk answers after so many steps: the next order of the input, at its place; or an operator's, at once; or that no order is due,
+-- What a desk answers after so many steps: the next order of the input, at its place; or an operator's, if there is one, at once; or that no order is due,
 -- with no more steps than up to the next; or that none is left. Whether more orders come, it sees by flags of the other threads, of
 -- which nothing is stated: nor is that it answers with the last two in time.
 abbrev pub Answers : {A : Type 0} → ℕ → DeskParts A → Asked A → DeskParts A → Type 0
 Answers pumped s (asked.Order place o) t =
     ((line : ℕ) × (t.line ≡ Some line) × HandsOut s (record { line = line; at = place; order = o } ∷ []) t)
-    ⊎ ((t.line ≡ None) × (place ≡ pumped) × HandsOut s [] t)
+    ⊎ ((s.has_operator ≡ true) × (t.line ≡ None) × (place ≡ pumped) × HandsOut s [] t)
 Answers pumped s (asked.NotYet steps) t = HandsOut s [] t × IsEarly pumped t × IfSome t.waits (λ p. steps ≤ p.at)
 Answers pumped s asked.Done t = HandsOut s [] t × (t.waits ≡ None)
 

@@ -1,5 +1,5 @@
 -- What a station makes of what comes, one by one: for each scan one step is taken in, and each order goes to the desk.
-use Rattle.std.specs.Prelude.{◌≡◌, ◌⊎◌, ℕ, List, [], ◌∷◌, ◌++◌, map, reverse, Bool, Option}
+use Rattle.std.specs.Prelude.{◌≡◌, ◌⊎◌, ℕ, ◌≤◌, length, List, [], ◌∷◌, ◌++◌, map, reverse, Bool, Option}
 use Rattle.dfr_channels.specs.Parts.{ScanParts, SetupParts}
 use Rattle.dfr_recorder.specs.Steps.{StepParts}
 use Rattle.dfr_recorder.specs.Steps as step
@@ -8,7 +8,7 @@ use Rattle.dfr_station.specs.Acquiring.{missing, Acquired}
 use Rattle.dfr_station.specs.Arrivals.{ComesNext, CameFirst}
 use Rattle.dfr_station.specs.Lines.{ArrivalParts}
 use Rattle.dfr_station.specs.Lines as came
-use Rattle.dfr_station.specs.Storing.{one_more}
+use Rattle.dfr_station.specs.Input.{one_more}
 use Rattle.dfr_station.specs.declared.desk.Placed.{Placed}
 use Rattle.dfr_station.specs.declared.intake.arrivals.Arrivals.{Arrivals}
 use Rattle.dfr_station.specs.declared.intake.arrivals.Ending.{Ending}
@@ -35,11 +35,12 @@ abbrev pub HearsScan : SetupParts → Heard → ScanParts → Heard → Type 0
 HearsScan layout s scan t =
     (t ≡ record s { steps = s.steps ++ step.Scan scan ∷ []; came = one_more s.came }) ⊎ HearsLost layout s t
 
--- an order goes to the desk, unless there is no place for it in the queue
+-- an order goes to the desk, unless there is no place for it in the queue: the first 1,024 orders have one
 abbrev pub Hears : SetupParts → Heard → ArrivalParts → Heard → Type 0
 Hears layout s (came.Scan scan) t = HearsScan layout s scan t
 Hears layout s (came.Lost why) t = HearsLost layout s t
-Hears layout s (came.Order line at call) t = (t ≡ record s { orders = s.orders ++ came.Order line at call ∷ [] }) ⊎ (t ≡ s)
+Hears layout s (came.Order line at call) t =
+    (t ≡ record s { orders = s.orders ++ came.Order line at call ∷ [] }) ⊎ ((t ≡ s) × (1_024 ≤ length s.orders))
 Hears layout s (came.Skips line why) t = t ≡ s
 
 -- an order of the queue, as it came

@@ -1,9 +1,10 @@
 -- What becomes of the pair of a record: it goes to the store until the store takes it, or the record is given up and counted.
-use Rattle.std.specs.Prelude.{◌≡◌, ◌⊎◌, ℕ, ◌+◌, ◌-◌, ◌^◌, min, List, Result, Ok, Err}
+use Rattle.std.specs.Prelude.{◌≡◌, ◌⊎◌, ℕ, ◌<◌, List, length, Result, Ok, Err}
 use Rattle.dfr_recorder.specs.declared.record.Extent.{Extent}
 use Rattle.dfr_live.specs.Devices.{Came, FilesParts}
 use Rattle.dfr_live.specs.declared.devices.Short.{Short}
 use Rattle.dfr_live.specs.declared.devices.Short.TheVariants as short
+use Rattle.dfr_station.specs.Input.{one_more}
 use Rattle.dfr_station.specs.declared.key.Key.{Key}
 use Rattle.dfr_station.specs.declared.event.Trouble.{Trouble}
 use Rattle.dfr_station.specs.declared.station.Stored.{Stored}
@@ -20,21 +21,18 @@ pub record Exporting (K : Type 0) : Type 0 where
   pub records : ℕ
   pub unwritten : ℕ
 
-abbrev pub one_more : ℕ → ℕ
-one_more n = min (n + 1) (2 ^ 64 - 1)
-
 -- the store did not take the files, once for each of these troubles, the newest first
 abbrev pub Refused : {K : Type 0} → StoresOf K → Key → FilesParts → K → List Trouble → K → Type 0
 Refused {K} Stores key files f troubles g =
     Came (λ (s : K) (trouble : Trouble) (t : K). Stores s key files.cfg files.dat (Err trouble) t) f troubles g
 
--- the store took the files under this name, in the end; or the record was given up
+-- the store took the files under this name, in the end; or it refused them, at least once, and the record was given up
 abbrev pub StoredOrGivenUp : {K : Type 0} → StoresOf K → Key → FilesParts → Exporting K → Exporting K → Type 0
 StoredOrGivenUp {K} Stores key files s t =
     (troubles : List Trouble) × (m : K) × Refused Stores key files s.store troubles m
     × (((stored : Stored) × Stores m key files.cfg files.dat (Ok stored) t.store
     × (t.records ≡ one_more s.records) × (t.unwritten ≡ s.unwritten))
-    ⊎ ((t.store ≡ m) × (t.records ≡ s.records) × (t.unwritten ≡ one_more s.unwritten)))
+    ⊎ ((0 < length troubles) × (t.store ≡ m) × (t.records ≡ s.records) × (t.unwritten ≡ one_more s.unwritten)))
 
 -- one try to store a pair: the store took it; or it didn't, and the pair is tried again, or the record is given up
 abbrev pub TriedPair : {K : Type 0} → StoresOf K → Key → FilesParts → Exporting K → Tried → Exporting K → Type 0

@@ -1,8 +1,8 @@
 //! What the acquisition thread reads: each scan that comes is one step, and each order is put into a
 //! queue.
 
-ghost use Rattle.std.specs.Prelude.{◌≡◌};
-ghost use Rattle.rtrb.specs.Ring.{sent};
+ghost use Rattle.std.specs.Prelude.{◌≡◌, ◌≤◌, ◌+◌, length};
+ghost use Rattle.rtrb.specs.Ring.{sent, known_free};
 ghost use Rattle.dfr_station.specs.Acquiring.{Gave};
 
 use crate::desk::Placed;
@@ -30,7 +30,8 @@ pub(crate) struct Acquisition<'s, 'x, I, R, A: Allocator = Global> {
 }
 
 impl<'s, 'x, I, R, A: Allocator> Model for Acquisition<'s, 'x, I, R, A> {
-    ghost use Rattle.rtrb.specs.Ring.{sent};
+    ghost use Rattle.std.specs.Prelude.{◌≤◌, ◌+◌, length};
+    ghost use Rattle.rtrb.specs.Ring.{sent, known_free};
     ghost use Rattle.dfr_station.specs.Acquiring.{Acquired};
     ghost use Rattle.dfr_station.specs.declared.intake.arrivals.Arrivals.{Arrivals as Arriving};
 
@@ -41,6 +42,9 @@ impl<'s, 'x, I, R, A: Allocator> Model for Acquisition<'s, 'x, I, R, A> {
       scans = a.scans;
       orders = sent a.orders;
     } };
+
+    // The queue has 1,024 places.
+    ghost invariant = { λ a. 1_024 ≤ known_free a.orders + length (sent a.orders) };
 }
 
 impl<'s, 'x, I, R, A: Allocator + Copy> Acquisition<'s, 'x, I, R, A> {
@@ -50,6 +54,7 @@ impl<'s, 'x, I, R, A: Allocator + Copy> Acquisition<'s, 'x, I, R, A> {
         scans: Scans<'s, A>,
         orders: Producer<Placed<A>, A>,
     ) -> Acquisition<'s, 'x, I, R, A>
+        requires places { 1_024 ≤ known_free orders + length (sent orders) }
         ensures { result ≡ record { incoming = arrivals.entry; scans = scans.entry; orders = sent orders } }
     {
         Acquisition {
@@ -59,6 +64,13 @@ impl<'s, 'x, I, R, A: Allocator + Copy> Acquisition<'s, 'x, I, R, A> {
             orders,
             is_broken: false,
         }
+    }
+
+    /// The input.
+    pub(crate) fn into_input(self) -> I
+        ensures { result ≡ self.incoming.input }
+    {
+        self.arrivals.input
     }
 
     /// What came until now. Records are not counted here.

@@ -1,6 +1,6 @@
 //! The orders: those of the input come at their places, an operator's as they arrive.
 
-ghost use Rattle.std.specs.Prelude.{◌≡◌, ℕ, ◌≤◌, [], ⊤, IfSome, MatchBool, MatchOption};
+ghost use Rattle.std.specs.Prelude.{◌≡◌, ℕ, ◌≤◌, [], ⊤, is_some, IfSome, MatchBool, MatchOption};
 ghost use Rattle.rtrb.specs.Ring.{received};
 ghost use Rattle.dfr_live.specs.Lane.{lane_out};
 ghost use Rattle.dfr_station.specs.Desks as spec;
@@ -36,6 +36,7 @@ pub(crate) struct Office<'s, A: Allocator = Global> {
     /// The next order of the input, if it was taken off the queue before it was due.
     next: Option<Placed<A>>,
     pub(crate) operator: Option<Operator<A>>,
+    pub(crate) has_operator: bool,
     pub(crate) teller: Teller<A>,
     /// The line of the order that was handed out last. None if an operator gave it.
     line: Option<u64>,
@@ -61,20 +62,27 @@ impl<'s, A: Allocator> Model for Office<'s, A> {
       taken = received o.orders;
       waits = o.next;
       line = o.line;
+      has_operator = o.has_operator;
     } };
 }
 
-impl<'s, A: Allocator> Office<'s, A> {
+impl<'s, A: Allocator + Copy> Office<'s, A> {
     pub(crate) fn new(
         alloc: A,
         layout: &'s Layout<A>,
         signals: &'s Signals,
         orders: Consumer<Placed<A>, A>,
-        operator: Option<Operator<A>>,
+        operator: Option<Consumer<u8, A>>,
         teller: Teller<A>,
         shelf: u32,
     ) -> Office<'s, A>
-        ensures { result ≡ record { lane = lane_out orders; taken = received orders; waits = None; line = None } }
+        ensures { result ≡ record {
+          lane = lane_out orders;
+          taken = received orders;
+          waits = None;
+          line = None;
+          has_operator = is_some operator;
+        } }
     {
         Office {
             alloc,
@@ -82,7 +90,8 @@ impl<'s, A: Allocator> Office<'s, A> {
             signals,
             orders,
             next: None,
-            operator,
+            has_operator: operator.is_some(),
+            operator: operator.map(|bytes| Operator::new(alloc, bytes)),
             teller,
             line: None,
             shelf,
@@ -179,8 +188,8 @@ impl<A: Allocator + Copy> Office<'_, A> {
     fn tell_missed(&mut self, missed: u64)
         ensures { self.new ≡ self.old }
     {
-        let more = missed.saturating_sub(self.told);
-        if more > 0 {
+        if missed > self.told {
+            let more = missed - self.told;
             self.told = missed;
             self.teller.tell(Event::Unopened(more));
         }

@@ -187,7 +187,7 @@ fn read_reporting<
 }
 
 /// Does nothing. That it is used last here ties a reference that came back to the one that was lent.
-fn take_back<T>(x: &mut T)
+pub(crate) fn take_back<T>(x: &mut T)
     ensures { x.new ≡ x.old }
 {}
 

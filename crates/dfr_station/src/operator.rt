@@ -1,6 +1,6 @@
 //! An operator's lines, which come while scans are recorded.
 
-ghost use Rattle.std.specs.Prelude.{◌≡◌};
+ghost use Rattle.std.specs.Prelude.{◌≡◌, true, IfSome};
 ghost use Rattle.dfr_station.specs.Desks.{TakesByte};
 
 use crate::desk::Office;
@@ -111,8 +111,12 @@ impl<A: Allocator + Copy> Office<'_, A> {
 
     /// The next order of the operator whose line has come whole. Refused lines are reported.
     pub(crate) fn hear_operator(&mut self) -> Option<Order<A>>
-        ensures { self.new ≡ self.old }
+        ensures same { self.new ≡ self.old }
+        ensures heard { IfSome result (λ _. self.old.has_operator ≡ true) }
     {
+        if !self.has_operator {
+            return None;
+        }
         let mut operator = self.operator.take()?;
         let mut heard = None;
         for _ in 0..TURN {

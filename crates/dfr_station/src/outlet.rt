@@ -1,7 +1,8 @@
 //! Where finished records go: the pair of each is handed to the store until the store takes it.
 
 ghost use Rattle.std.specs.Prelude.{◌≡◌, MatchBool};
-ghost use Rattle.dfr_station.specs.Storing.{one_more, TriedPair};
+ghost use Rattle.dfr_station.specs.Input.{one_more};
+ghost use Rattle.dfr_station.specs.Storing.{TriedPair};
 
 use crate::event::{Event, Trouble};
 use crate::key::{Key, key_at};
@@ -35,11 +36,11 @@ pub(crate) fn pause_before(rt: &(impl Wait + Clock), tries: u32) {
 
 /// The store, and what is reported of it.
 #[derive(Drop)]
-pub(crate) struct Exports<'s, 'x, K, R, A: Allocator = Global> {
+pub(crate) struct Exports<'s, K, R, A: Allocator = Global> {
     rt: &'s R,
     layout: &'s Layout<A>,
     signals: &'s Signals,
-    store: &'x mut K,
+    store: K,
     teller: Teller<A>,
     /// Why the store did not take the last pair.
     trouble: Option<Trouble>,
@@ -51,27 +52,27 @@ pub(crate) struct Exports<'s, 'x, K, R, A: Allocator = Global> {
     unwritten: u64,
 }
 
-impl<'s, 'x, K, R, A: Allocator> Model for Exports<'s, 'x, K, R, A> {
+impl<'s, K, R, A: Allocator> Model for Exports<'s, K, R, A> {
     ghost use Rattle.dfr_station.specs.Storing.{Exporting};
 
     ghost Value = { Exporting K };
 
     ghost view = { λ e. record {
-      store = e.store.now;
+      store = e.store;
       records = e.records;
       unwritten = e.unwritten;
     } };
 }
 
-impl<'s, 'x, K, R, A: Allocator> Exports<'s, 'x, K, R, A> {
+impl<'s, K, R, A: Allocator> Exports<'s, K, R, A> {
     pub(crate) fn new(
         rt: &'s R,
         layout: &'s Layout<A>,
         signals: &'s Signals,
-        store: &'x mut K,
+        store: K,
         teller: Teller<A>,
-    ) -> Exports<'s, 'x, K, R, A>
-        ensures { result ≡ record { store = store.entry.now; records = 0; unwritten = 0 } }
+    ) -> Exports<'s, K, R, A>
+        ensures { result ≡ record { store = store; records = 0; unwritten = 0 } }
     {
         Exports {
             rt,
@@ -84,6 +85,13 @@ impl<'s, 'x, K, R, A: Allocator> Exports<'s, 'x, K, R, A> {
             records: 0,
             unwritten: 0,
         }
+    }
+
+    /// The store.
+    pub(crate) fn into_store(self) -> K
+        ensures { result ≡ self.store }
+    {
+        self.store
     }
 
     /// How many records the store took.
@@ -105,6 +113,7 @@ impl<'s, 'x, K, R, A: Allocator> Exports<'s, 'x, K, R, A> {
 pub(crate) fn key_of<A: Allocator>(layout: &Layout<A>, extent: Extent) -> Key
     ensures { result.number ≡ extent.number }
 {
+    // a scan without an instant is refused, so the scan of a record's trigger has one
     let instant = layout.instant(extent.trigger).unwrap_or(0);
     key_at(instant, extent.number)
 }
@@ -120,7 +129,7 @@ pub(crate) enum Tried {
     GivenUp,
 }
 
-impl<K, R: Wait + Clock, A: Allocator> Exports<'_, '_, K, R, A> {
+impl<K, R: Wait + Clock, A: Allocator> Exports<'_, K, R, A> {
     /// Reports that the store took a pair, and counts it.
     fn tell_stored(&mut self, extent: Extent, stored: Stored)
         ensures { self.new ≡ record self.old { records = one_more self.old.records } }
@@ -170,12 +179,14 @@ impl<K, R: Wait + Clock, A: Allocator> Exports<'_, '_, K, R, A> {
         if !self.signals.acquired.load(Ordering::SeqCst) {
             return false;
         }
-        self.last_tries = self.last_tries.saturating_add(1);
-        self.last_tries >= LAST_TRIES
+        if self.last_tries < LAST_TRIES {
+            self.last_tries += 1;
+        }
+        self.last_tries == LAST_TRIES
     }
 }
 
-impl<K: Store, R: Wait + Clock, A: Allocator> Exports<'_, '_, K, R, A> {
+impl<K: Store, R: Wait + Clock, A: Allocator> Exports<'_, K, R, A> {
     /// Hands a pair to the store once.
     fn tried(&mut self, key: Key, extent: Extent, cfg: &[u8], dat: &[u8]) -> Tried
         ensures { TriedPair K.stores key (record { extent = extent; cfg = cfg.now; dat = dat.now })
@@ -197,7 +208,7 @@ impl<K: Store, R: Wait + Clock, A: Allocator> Exports<'_, '_, K, R, A> {
     }
 }
 
-impl<K: Store, R: Wait + Clock, A: Allocator> Outlet<Recording> for Exports<'_, '_, K, R, A> {
+impl<K: Store, R: Wait + Clock, A: Allocator> Outlet<Recording> for Exports<'_, K, R, A> {
     ghost use Rattle.dfr_station.specs.Storing.{PutsPair, LacksPair};
 
     ghost puts = { λ s files r t. PutsPair K.stores s files r t };

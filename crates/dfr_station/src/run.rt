@@ -1,97 +1,58 @@
 //! Runs a station, from its first scan to the end of its input.
 
-ghost use Rattle.std.specs.Prelude.{◌≡◌, Ok, IfOk};
+ghost use Rattle.std.specs.Prelude.{◌≡◌, ◌-◌, Ok, IfOk, is_some};
 ghost use Rattle.dfr_live.specs.Seen.{opening_of};
-ghost use Rattle.dfr_live.specs.Report.{Recorded as RecordedLive};
 ghost use Rattle.dfr_station.specs.Stations.{Begins, IsFresh, Ran};
+ghost use Rattle.dfr_live.specs.declared.report.LiveReport.{LiveReport as LiveReported};
 ghost use Rattle.dfr_station.specs.declared.intake.arrivals.Arrivals.{Arrivals as Arriving};
 
 use crate::acquisition::Acquisition;
-use crate::desk::{Office, Placed};
+use crate::desk::Office;
 use crate::event::Event;
-use crate::filler::Filler;
 use crate::first::First;
-use crate::intake::{Arrivals, Counts, Recorded, RunFault};
-use crate::operator::Operator;
+use crate::intake::{Arrivals, Buffer, Counts, Recorded, RunFault};
 use crate::outlet::Exports;
 use crate::pace::Napping;
+use crate::parts::{Parts, layout_and_parts};
+use crate::recording::record_printing;
 use crate::scans::Scans;
 use crate::signals::Signals;
-use crate::station::{Printer, Recording, Station, Store};
-use crate::teller::{Teller, Waiting, put_line, telling_of};
-use crate::telling::{Telling, now, print_events};
+use crate::station::{Input, Printer, Station, Store};
+use crate::teller::put_line;
+use crate::telling::{Telling, now};
 use crate::watch::Watch;
 use comtrade_write::Kind;
-use dfr_channels::{Layout, Memory};
-use dfr_live::{Desk, EndFault, Intake, LiveFault, LiveReport, Outlet, record_with};
+use dfr_channels::Layout;
+use dfr_live::LiveReport;
 use dfr_recorder::Recorder;
-use rtrb::{Consumer, Producer, RingBuffer};
-use std::alloc::Allocator;
+use rtrb::Consumer;
+use std::alloc::{Allocator, Global};
 use std::io::Read;
-use std::sync::atomic::Ordering;
 use std::sync::{Mutex, Wait};
-use std::thread;
-use std::thread::{Scope, Threads};
+use std::thread::Threads;
 use std::time::Clock;
 
-/// The most scans that may wait for the trigger thread.
-const LANE: usize = 65_536;
-
-/// The most orders of the input that may wait.
-const ORDERS: usize = 1_024;
-
-/// The greatest length of an event's line, in bytes.
-const LINE: usize = 512;
-
-/// What is allocated for the devices of a station.
-#[derive(Drop)]
-struct Parts<A: Allocator> {
-    filler: Filler<A>,
-    tellers: (Teller<A>, Teller<A>, Teller<A>),
-    events: (Waiting<A>, Waiting<A>, Waiting<A>),
-    orders: (Producer<Placed<A>, A>, Consumer<Placed<A>, A>),
-    /// Room for an event's line.
-    text: Vec<u8, A>,
-}
-
-/// Allocates the parts.
-fn parts_in<A: Allocator + Copy>(alloc: A, layout: &Layout<A>) -> Result<Parts<A>, Memory>
-    ensures { IfOk result (λ parts. IsFresh layout.now parts) }
-{
-    let filler = Filler::new(alloc, layout)?;
-    let (scans, of_scans) = telling_of(alloc)?;
-    let (triggers, of_triggers) = telling_of(alloc)?;
-    let (exports, of_exports) = telling_of(alloc)?;
-    let orders = RingBuffer::new(alloc, ORDERS)?;
-    let text = Vec::with_capacity(alloc, LINE)?;
-    Ok(Parts {
-        filler,
-        tellers: (scans, triggers, exports),
-        events: (of_scans, of_triggers, of_exports),
-        orders,
-        text,
-    })
-}
-
-/// A copy of the recorder's layout, which the devices look at, and their parts.
-fn layout_and_parts<A: Allocator + Copy>(
-    alloc: A,
-    recorder: &Recorder<A>,
-) -> Result<(Layout<A>, Parts<A>), Memory>
-    ensures { IfOk result (λ made. (made.0 ≡ (opening_of recorder.now).layout) × IsFresh made.0 made.1) }
-{
-    let layout = recorder.layout().try_clone()?;
-    let parts = parts_in(alloc, &layout)?;
-    Ok((layout, parts))
-}
-
-/// How to run a station, apart from its recorder and its input.
+/// How to run a station, apart from its recorder, its input and its store.
 #[derive(Drop)]
 struct How<A: Allocator> {
+    form: Input,
+    /// What was read before, and the instant of the last read.
+    read: (Buffer<A>, i64),
     kind: Kind,
     minutes: bool,
     operator: Option<Consumer<u8, A>>,
     watch: Watch,
+}
+
+/// What a run gives back.
+#[derive(Drop)]
+pub struct Run<I, K, A: Allocator = Global> {
+    /// What was recorded, or why the recording failed.
+    pub recorded: Result<Recorded<A>, RunFault>,
+    /// The input.
+    pub input: I,
+    /// The store.
+    pub store: K,
 }
 
 /// Records the input until it ends, with the threads of `record_with`:
@@ -101,6 +62,7 @@ struct How<A: Allocator> {
 /// - The export thread hands each record's pair to the store until the store takes it.
 ///
 /// A fourth thread prints the events. `finish_station` writes the record that is open at the end.
+/// Whatever the end, the input and the store come back.
 pub fn run_station<
     A: Allocator + Copy + Send + Sync,
     I: Read + Send,
@@ -112,14 +74,37 @@ pub fn run_station<
     alloc: A,
     station: Station<A>,
     first: First<A>,
-    input: &mut I,
-    store: &mut K,
+    input: I,
+    store: K,
     printer: &mut P,
-) -> Result<Recorded<A>, RunFault>
-    ensures { IfOk result (λ left. (arrivals : Arriving I A)
-        × Begins (opening_of station.recorder).layout station.input first.buffer input.old arrivals
-        × Ran I.remaining K.stores (opening_of station.recorder) station.kind
-        arrivals store.old left) }
+) -> Run<I, K, A>
+    ensures { IfOk result.recorded (λ left. (arrivals : Arriving I A)
+        × Begins (opening_of station.recorder).layout station.input first.buffer input arrivals
+        × Ran I.remaining K.stores (opening_of station.recorder) station.kind (is_some station.operator)
+        arrivals store left result.input result.store) }
+{
+    let (recorder, how) = how_of(station, first);
+    match layout_and_parts(alloc, &recorder) {
+        Ok((layout, parts)) => run_over(
+            rt, alloc, recorder, how, parts, &layout, input, store, printer,
+        ),
+        Err(_) => {
+            drop(recorder);
+            drop(how);
+            Run {
+                recorded: Err(RunFault::Memory),
+                input,
+                store,
+            }
+        }
+    }
+}
+
+/// The recorder of a station, and how to run it.
+fn how_of<A: Allocator>(station: Station<A>, first: First<A>) -> (Recorder<A>, How<A>)
+    ensures { (result.0 ≡ station.recorder) × (result.1.form ≡ station.input)
+        × (result.1.read.0 ≡ first.buffer) × (result.1.kind ≡ station.kind)
+        × (result.1.operator ≡ station.operator) }
 {
     let Station {
         recorder,
@@ -136,21 +121,14 @@ pub fn run_station<
         is_all: _,
     } = first;
     let how = How {
+        form,
+        read: (buffer, at),
         kind,
         minutes,
         operator,
         watch,
     };
-    let Ok((layout, parts)) = layout_and_parts(alloc, &recorder) else {
-        drop(recorder);
-        drop(how);
-        drop(buffer);
-        return Err(RunFault::Memory);
-    };
-    let arrivals = Arrivals::new(alloc, &layout, form, (buffer, at), input);
-    run_over(
-        rt, alloc, recorder, how, parts, &layout, arrivals, store, printer,
-    )
+    (recorder, how)
 }
 
 /// Records what comes.
@@ -167,14 +145,16 @@ fn run_over<
     how: How<A>,
     parts: Parts<A>,
     layout: &Layout<A>,
-    arrivals: Arrivals<'_, I, A>,
-    store: &mut K,
+    input: I,
+    store: K,
     printer: &mut P,
-) -> Result<Recorded<A>, RunFault>
+) -> Run<I, K, A>
     requires layout { layout.now ≡ (opening_of recorder).layout }
     requires parts { IsFresh layout.now parts }
-    ensures { IfOk result (λ left. Ran I.remaining K.stores (opening_of recorder)
-        how.kind arrivals.entry store.old left) }
+    ensures { IfOk result.recorded (λ left. (arrivals : Arriving I A)
+        × Begins layout.now how.form how.read.0 input arrivals
+        × Ran I.remaining K.stores (opening_of recorder) how.kind (is_some how.operator)
+        arrivals store left result.input result.store) }
 {
     let Parts {
         filler,
@@ -184,16 +164,18 @@ fn run_over<
         mut text,
     } = parts;
     let How {
+        form,
+        read,
         kind,
         minutes,
         operator,
         watch,
     } = how;
     let signals = Signals::new();
+    let arrivals = Arrivals::new(alloc, layout, form, read, input);
     let scans = Scans::new(alloc, layout, &signals, scans, filler);
     let mut intake = Acquisition::new(rt, arrivals, scans, orders);
     let shelf = recorder.limits().shelf();
-    let operator = operator.map(|bytes| Operator::new(alloc, bytes));
     let mut desk = Office::new(alloc, layout, &signals, placed, operator, triggers, shelf);
     let mut outlet = Exports::new(rt, layout, &signals, store, exports);
     let telling = Mutex::new(Telling::new(&mut *printer, events, minutes, watch));
@@ -217,153 +199,33 @@ fn run_over<
         unwritten: outlet.unwritten(),
         ..intake.counts()
     };
+    if let Err(RunFault::Counter | RunFault::End(_)) = &report {
+        let counts = counts.after(desk.steps());
+        print_one(rt, &mut text, printer, ended_event(counts));
+    }
+    Run {
+        recorded: recorded_of(report, counts, text),
+        input: intake.into_input(),
+        store: outlet.into_store(),
+    }
+}
+
+/// What was recorded, with these counts.
+fn recorded_of<A: Allocator>(
+    report: Result<LiveReport<A>, RunFault>,
+    counts: Counts,
+    text: Vec<u8, A>,
+) -> Result<Recorded<A>, RunFault>
+    ensures { IfOk result (λ left. (r : LiveReported A) × (report ≡ Ok r) × (left.ended ≡ r.ended)
+        × (left.counts ≡ record counts { left = counts.scans - r.stepped })) }
+{
     match report {
         Ok(LiveReport { stepped, ended, .. }) => Ok(Recorded {
             ended,
             counts: counts.after(stepped),
             text,
         }),
-        Err(fault) => {
-            if let RunFault::Counter | RunFault::End(_) = fault {
-                let counts = counts.after(desk.steps());
-                print_one(rt, &mut text, printer, ended_event(counts));
-            }
-            Err(fault)
-        }
-    }
-}
-
-/// Records while another thread prints the events. If a thread can't be started, nothing is recorded.
-fn record_printing<
-    A: Allocator + Copy + Send + Sync,
-    F: Intake<A, Recording> + Send,
-    O: Desk<A, Recording> + Send,
-    K: Outlet<Recording> + Send,
-    P: Printer + Send,
-    R: Threads + Wait + Clock + Sync,
->(
-    pace: Napping<'_, R>,
-    alloc: A,
-    recorder: Recorder<A>,
-    kind: Kind,
-    telling: &Mutex<Telling<'_, P, A>>,
-    intake: &mut F,
-    desk: &mut O,
-    outlet: &mut K,
-) -> Result<LiveReport<A>, RunFault>
-    ensures { IfOk result (λ report. RecordedLive F.gives F.loses O.asks O.hears K.puts K.lacks
-        (opening_of recorder) kind (intake.old, desk.old, outlet.old)
-        (intake.new, desk.new, outlet.new) report) }
-{
-    let rt = pace.rt;
-    let devices = (intake, desk, outlet);
-    let (report, (intake, desk, outlet)) = thread::scope(
-        thread::scope_env(),
-        rt,
-        |scope| -> (Result<LiveReport<A>, RunFault>, (&mut F, &mut O, &mut K))
-            ensures names { (result.1.0.ghost_name ≡ devices.entry.0.ghost_name)
-                × (result.1.1.ghost_name ≡ devices.entry.1.ghost_name)
-                × (result.1.2.ghost_name ≡ devices.entry.2.ghost_name) }
-            ensures recorded { IfOk result.0 (λ report. RecordedLive F.gives F.loses O.asks O.hears K.puts
-                K.lacks (opening_of recorder) kind
-                (devices.entry.0.now, devices.entry.1.now, devices.entry.2.now)
-                (result.1.0.now, result.1.1.now, result.1.2.now) report) }
-        { record_beside(scope, pace, alloc, recorder, kind, telling, devices) },
-    );
-    take_back(intake);
-    take_back(desk);
-    take_back(outlet);
-    report
-}
-
-/// Does nothing. That it is used last here ties a reference that came back to the one that was lent.
-fn take_back<T>(x: &mut T)
-    ensures { x.new ≡ x.old }
-{}
-
-/// Starts the thread that prints the events, and records. Then says that all other threads have ended.
-fn record_beside<
-    's,
-    'x,
-    'y,
-    'z,
-    E,
-    A: Allocator + Copy + Send + Sync + 's,
-    F: Intake<A, Recording> + Send,
-    O: Desk<A, Recording> + Send,
-    K: Outlet<Recording> + Send,
-    P: Printer + Send + 's,
-    R: Threads + Wait + Clock + Sync + 's,
->(
-    scope: &Scope<'s, E>,
-    pace: Napping<'s, R>,
-    alloc: A,
-    recorder: Recorder<A>,
-    kind: Kind,
-    telling: &'s Mutex<Telling<'_, P, A>>,
-    devices: (&'x mut F, &'y mut O, &'z mut K),
-) -> (
-    Result<LiveReport<A>, RunFault>,
-    (&'x mut F, &'y mut O, &'z mut K),
-)
-    ensures names { (result.1.0.ghost_name ≡ devices.entry.0.ghost_name)
-        × (result.1.1.ghost_name ≡ devices.entry.1.ghost_name)
-        × (result.1.2.ghost_name ≡ devices.entry.2.ghost_name) }
-    ensures recorded { IfOk result.0 (λ report. RecordedLive F.gives F.loses O.asks O.hears K.puts K.lacks
-        (opening_of recorder) kind (devices.entry.0.now, devices.entry.1.now, devices.entry.2.now)
-        (result.1.0.now, result.1.1.now, result.1.2.now) report) }
-{
-    let Napping { rt, signals } = pace;
-    let (intake, desk, outlet) = devices;
-    if scope
-        .spawn(move || print_events(rt, signals, telling))
-        .is_err()
-    {
-        return (Err(RunFault::Thread), (intake, desk, outlet));
-    }
-    let pace = Napping { rt, signals };
-    let report = record_with::<A, Recording, F, O, K, Napping<R>, R>(
-        rt,
-        alloc,
-        recorder,
-        LANE,
-        kind,
-        &pace,
-        &mut *intake,
-        &mut *desk,
-        &mut *outlet,
-    );
-    signals.ended.store(true, Ordering::SeqCst);
-    (outcome_of(report, signals), (intake, desk, outlet))
-}
-
-/// How the run ended.
-fn outcome_of<A: Allocator>(
-    report: Result<LiveReport<A>, LiveFault>,
-    signals: &Signals,
-) -> Result<LiveReport<A>, RunFault>
-    ensures { IfOk result (λ made. report ≡ Ok made) }
-{
-    match report {
-        Ok(report) => Ok(report),
-        Err(fault) => Err(fault_of(fault, signals)),
-    }
-}
-
-/// Why the run failed. The devices have no errors of their own. `Memory` says that a thread could not
-/// be started, or that allocations failed after the input had ended.
-fn fault_of(fault: LiveFault, signals: &Signals) -> RunFault {
-    match fault {
-        LiveFault::Open(fault) => RunFault::Open(fault),
-        LiveFault::End(fault) => RunFault::End(fault),
-        LiveFault::Counter => RunFault::Counter,
-        LiveFault::Memory | LiveFault::Turns | LiveFault::Feed(_) | LiveFault::Sink(_) => {
-            if signals.acquired.load(Ordering::SeqCst) {
-                RunFault::End(EndFault::Memory)
-            } else {
-                RunFault::Thread
-            }
-        }
+        Err(fault) => Err(fault),
     }
 }
 

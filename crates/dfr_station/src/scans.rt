@@ -2,7 +2,7 @@
 //! reports lost ones.
 
 ghost use Rattle.std.specs.Prelude.{◌≡◌};
-ghost use Rattle.dfr_station.specs.Storing.{one_more};
+ghost use Rattle.dfr_station.specs.Input.{one_more};
 ghost use Rattle.dfr_station.specs.Acquiring.{settled, dropped, GivesLost, GivesScan};
 
 use crate::event::Event;
@@ -23,7 +23,7 @@ const MOST_LOST: u32 = 65_536;
 
 /// What was given last, of which it isn't known yet whether the queue took it.
 #[derive(Clone, Copy, PartialEq, Eq)]
-pub(crate) enum Given {
+pub(crate) enum LastGiven {
     /// No scan.
     Nothing,
     /// A scan that came.
@@ -46,7 +46,9 @@ pub(crate) struct Scans<'s, A: Allocator = Global> {
     ready: u64,
     /// How many scans were lost since then.
     row: u32,
-    given: Given,
+    given: LastGiven,
+    /// The place of the scan that came last, if one was given.
+    place: u64,
     /// Lost scans that have not been reported yet.
     losses: Option<Losses>,
     /// How many microseconds the wall clock was ahead of the time of the newest scan when that scan
@@ -80,7 +82,7 @@ impl<'s, A: Allocator + Copy> Scans<'s, A> {
         filler: Filler<A>,
     ) -> Scans<'s, A>
         ensures { (result.layout ≡ layout.now) × (result.came ≡ 0) × (result.lost ≡ 0)
-            × (result.row ≡ 0) × (result.last ≡ Given.Nothing) × (result.bits ≡ filler.bits.items) }
+            × (result.row ≡ 0) × (result.last ≡ LastGiven.Nothing) × (result.bits ≡ filler.bits.items) }
     {
         Scans {
             alloc,
@@ -92,7 +94,8 @@ impl<'s, A: Allocator + Copy> Scans<'s, A> {
             lost: 0,
             ready: 0,
             row: 0,
-            given: Given::Nothing,
+            given: LastGiven::Nothing,
+            place: 0,
             losses: None,
             clock: None,
             has_begun: false,
@@ -145,11 +148,11 @@ impl<'s, A: Allocator + Copy> Scans<'s, A> {
         ensures { self.new ≡ settled self.old }
     {
         match self.given {
-            Given::Nothing => return,
-            Given::Scan => self.filler.keep(),
-            Given::Filler => {}
+            LastGiven::Nothing => return,
+            LastGiven::Scan => self.filler.keep(),
+            LastGiven::Filler => {}
         }
-        self.given = Given::Nothing;
+        self.given = LastGiven::Nothing;
         self.row = 0;
         self.ready = self.came;
     }
@@ -162,8 +165,9 @@ impl<'s, A: Allocator + Copy> Scans<'s, A> {
             drop(scan);
             return self.lose(Why::Memory);
         }
+        self.place = self.came;
         self.came = self.came.saturating_add(1);
-        self.given = Given::Scan;
+        self.given = LastGiven::Scan;
         Fed::Scan(scan)
     }
 
@@ -181,7 +185,7 @@ impl<'s, A: Allocator + Copy> Scans<'s, A> {
             )
             && self.layout.check(&scan).is_ok()
         {
-            self.given = Given::Filler;
+            self.given = LastGiven::Filler;
             return Fed::Scan(scan);
         }
         self.row = self.row.saturating_add(1);
@@ -192,10 +196,10 @@ impl<'s, A: Allocator + Copy> Scans<'s, A> {
     pub(crate) fn drop_given(&mut self)
         ensures { self.new ≡ dropped self.old }
     {
-        if self.given == Given::Scan {
-            self.count_lost(self.came.saturating_sub(1), Why::Full);
+        if self.given == LastGiven::Scan {
+            self.count_lost(self.place, Why::Full);
         }
-        self.given = Given::Nothing;
+        self.given = LastGiven::Nothing;
         self.row = self.row.saturating_add(1);
     }
 

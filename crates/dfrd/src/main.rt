@@ -211,14 +211,13 @@ fn main(rt: HostRuntime) -> ExitCode {
     if !started {
         return ExitCode::from(out_of_memory(&rt));
     }
-    let mut input = rt.reader();
     let status = record(
         &rt,
         &asked,
         &plan,
         operator,
-        &mut input,
-        &mut folder,
+        rt.reader(),
+        folder,
         &mut lines,
     );
     lines.finish();

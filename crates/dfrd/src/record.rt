@@ -6,7 +6,7 @@ use crate::words::Asked;
 use comtrade_io::{ToolFault, fault_of, read_up_to};
 use dfr_recorder::Recorder;
 use dfr_station::{
-    Printer, Station, Store, finish_station, frame_len, read_first, recorder_of, run_station,
+    Printer, Run, Station, Store, finish_station, frame_len, read_first, recorder_of, run_station,
 };
 use rtrb::Consumer;
 use std::alloc::Global;
@@ -136,8 +136,8 @@ pub(crate) fn keep_of(asked: &Asked<'_>) -> Keep {
 /// Records until the input ends. Returns the exit status: 1 if no scan came, the input couldn't be
 /// read, a record could not be written, or the recording failed.
 pub(crate) fn record<
-    I: Read + Send,
-    K: Store + Send,
+    I: Read + Send + Drop,
+    K: Store + Send + Drop,
     P: Printer + Send,
     R: Eprint + AllocGlobal + Threads + Wait + Clock + Sync,
 >(
@@ -145,12 +145,12 @@ pub(crate) fn record<
     asked: &Asked<'_>,
     plan: &Plan,
     operator: Option<Consumer<u8>>,
-    input: &mut I,
-    store: &mut K,
+    mut input: I,
+    store: K,
     printer: &mut P,
 ) -> u8 {
     let how = (asked.input, plan.frame, !asked.is_quiet);
-    let Ok(first) = read_first(rt, rt.alloc(), input, printer, how) else {
+    let Ok(first) = read_first(rt, rt.alloc(), &mut input, printer, how) else {
         return out_of_memory(rt);
     };
     let start = match asked.start {
@@ -166,9 +166,14 @@ pub(crate) fn record<
                 minutes: !asked.is_quiet,
                 operator,
             };
-            match run_station(rt, rt.alloc(), station, first, input, store, printer) {
+            let Run {
+                recorded,
+                input: _,
+                mut store,
+            } = run_station(rt, rt.alloc(), station, first, input, store, printer);
+            match recorded {
                 Ok(mut left) => {
-                    finish_station(rt, rt.alloc(), asked.kind, &mut left, store, printer);
+                    finish_station(rt, rt.alloc(), asked.kind, &mut left, &mut store, printer);
                     u8::from(!left.counts.is_whole())
                 }
                 Err(fault) => complain(rt, "recording", fault),

@@ -50,7 +50,7 @@ pub(crate) enum Next<A: Allocator = Global> {
 /// What comes with the input.
 #[derive(Drop)]
 pub(crate) struct Arrivals<'x, I, A: Allocator = Global> {
-    input: &'x mut I,
+    pub(crate) input: I,
     cutter: Cutter<'x, A>,
     /// The instant of the last read, in microseconds since 1970-01-01 00:00:00 UTC.
     at: i64,
@@ -67,9 +67,9 @@ impl<'x, I, A: Allocator + Copy> Arrivals<'x, I, A> {
         layout: &'x Layout<A>,
         form: Input,
         read: (Buffer<A>, i64),
-        input: &'x mut I,
+        input: I,
     ) -> Arrivals<'x, I, A>
-        ensures { Begins layout.entry.now form read.0 input.entry.now result }
+        ensures { Begins layout.entry.now form read.0 input result }
     {
         let (buffer, at) = read;
         Arrivals {
@@ -120,7 +120,7 @@ impl<I: Read, A: Allocator + Copy> Arrivals<'_, I, A> {
         requires going { self.old.ending ≡ None }
         ensures { spec.CameFirst I.remaining self.old [] self.new }
     {
-        match self.cutter.buffer.fill(rt, self.input) {
+        match self.cutter.buffer.fill(rt, &mut self.input) {
             Given::Bytes(_) => self.at = now(rt),
             Given::End => self.ending = Some(Stop::End),
             Given::Broken => self.ending = Some(Stop::Broken),

@@ -93,21 +93,15 @@ fn nth<R: Threads + Wait + Clock + Sync>(
     feed: Feed<'_>,
     n: u64,
 ) -> Option<bool> {
-    let mut seen = nothing_seen(alloc, 0);
-    let mut input = Pieces {
+    let Seen { kept, mut told } = nothing_seen(alloc, 0);
+    let input = Pieces {
         bytes: feed.bytes,
         size: 1000,
         fault: None,
     };
     heap.refuse(n);
-    let left = recorded(
-        rt,
-        heap,
-        feed.form,
-        &mut input,
-        &mut seen.kept,
-        &mut seen.told,
-    );
+    let (left, kept) = recorded(rt, heap, feed.form, input, kept, &mut told);
+    let seen = Seen { kept, told };
     let was_refused = heap.has_refused();
     heap.refuse_none();
     let is_said = is_said(left, &seen, feed.end);
@@ -178,20 +172,13 @@ fn no_memory_at_the_end(rt: HostRuntime) {
     let hasty = Hasty { rt: &rt };
     let heap = Refusing::new(rt.alloc());
     let Seen { kept, mut told } = nothing_seen(rt.alloc(), 0);
-    let mut store = Starving { kept, heap: &heap };
-    let mut input = Pieces {
+    let store = Starving { kept, heap: &heap };
+    let input = Pieces {
         bytes: &FRAMES[..28],
         size: 1000,
         fault: None,
     };
-    let left = recorded(
-        &hasty,
-        &heap,
-        Input::Frames,
-        &mut input,
-        &mut store,
-        &mut told,
-    );
+    let (left, _store) = recorded(&hasty, &heap, Input::Frames, input, store, &mut told);
     let fault = left.err();
     assert!(rt; fault == Some(RunFault::End(EndFault::Memory)));
     assert!(rt; is_told(&told, b" end scans 7 lost 2 records 1 left "));

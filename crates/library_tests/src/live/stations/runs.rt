@@ -1,6 +1,6 @@
 //! A station over a reader in memory: each frame and each line of a scan is one step, its scan or a lost one, in order.
 
-use crate::live::stations::station::{is_told, nothing_seen, recorded};
+use crate::live::stations::station::{Seen, is_told, nothing_seen, recorded};
 use crate::streams::Pieces;
 use dfr_station::Input;
 use std::alloc::Global;
@@ -32,21 +32,22 @@ fn is_recorded<R: Threads + Wait + Clock + Sync>(
     size: usize,
     troubles: u32,
 ) -> bool {
-    let mut seen = nothing_seen(alloc, troubles);
-    let mut input = Pieces {
+    let Seen { kept, mut told } = nothing_seen(alloc, troubles);
+    let input = Pieces {
         bytes,
         size,
         fault: None,
     };
-    let scans = match recorded(rt, alloc, form, &mut input, &mut seen.kept, &mut seen.told) {
+    let (left, kept) = recorded(rt, alloc, form, input, kept, &mut told);
+    let scans = match left {
         Ok(left) => left.ended.recorder.scans(),
         Err(_) => 0,
     };
     scans == 8
-        && seen.kept.count == 1
-        && seen.kept.dat.as_slice() == ROWS
-        && is_told(&seen.told, why)
-        && is_told(&seen.told, END)
+        && kept.count == 1
+        && kept.dat.as_slice() == ROWS
+        && is_told(&told, why)
+        && is_told(&told, END)
 }
 
 #[test]

@@ -5,7 +5,7 @@ use crate::streams::Pieces;
 use comtrade_write::Kind;
 use dfr_recorder::Recorder;
 use dfr_station::{
-    First, Input, Key, Printer, Recorded, RunFault, Station, Store, Stored, Trouble,
+    First, Input, Key, Printer, Recorded, Run, RunFault, Station, Store, Stored, Trouble,
     finish_station, read_first, recorder_of, run_station,
 };
 use std::alloc::{Allocator, Global};
@@ -148,20 +148,33 @@ fn begun<A: Allocator + Copy + Send + Sync, R: Threads + Wait + Clock + Sync>(
     }
 }
 
-/// Records these bytes.
-pub fn recorded<A: Allocator + Copy + Send + Sync, R: Threads + Wait + Clock + Sync>(
+/// Records these bytes. The store comes back.
+pub fn recorded<
+    A: Allocator + Copy + Send + Sync,
+    K: Store + Send,
+    R: Threads + Wait + Clock + Sync,
+>(
     rt: &R,
     alloc: A,
     form: Input,
-    input: &mut Pieces<'_>,
-    store: &mut (impl Store + Send),
+    mut input: Pieces<'_>,
+    store: K,
     printer: &mut (impl Printer + Send),
-) -> Result<Recorded<A>, RunFault> {
-    let Some((first, recorder)) = begun(rt, alloc, form, input, printer) else {
-        return Err(RunFault::Memory);
+) -> (Result<Recorded<A>, RunFault>, K) {
+    let Some((first, recorder)) = begun(rt, alloc, form, &mut input, printer) else {
+        return (Err(RunFault::Memory), store);
     };
     let station = station_of(recorder, form);
-    let mut left = run_station(rt, alloc, station, first, input, store, printer)?;
-    finish_station(rt, alloc, Kind::Ascii, &mut left, store, printer);
-    Ok(left)
+    let Run {
+        recorded,
+        input: _,
+        mut store,
+    } = run_station(rt, alloc, station, first, input, store, printer);
+    match recorded {
+        Ok(mut left) => {
+            finish_station(rt, alloc, Kind::Ascii, &mut left, &mut store, printer);
+            (Ok(left), store)
+        }
+        Err(fault) => (Err(fault), store),
+    }
 }

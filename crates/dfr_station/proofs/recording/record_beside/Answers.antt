@@ -1,6 +1,6 @@
 use Rattle.std.proofs.Common.{◌≡◌, Result, Ok, Err}
 use Rattle.std.specs.Prelude.{IfOk}
-use Rattle.dfr_station.proofs.run.record_beside.Goals as goal
+use Rattle.dfr_station.proofs.recording.record_beside.Goals as goal
 
 passed_on : {T E F : Type 0} (a : Result T E) (b : Result T F) (P : T → Type 0) → IfOk a (λ x. b ≡ Ok x) → IfOk b P → IfOk a P
 passed_on (Ok x) b P h known = rw h at known

@@ -1,4 +1,4 @@
-use Rattle.dfr_station.proofs.run.fn.record_printing.scope+FnOnce.call_once.Goals as goal
+use Rattle.dfr_station.proofs.recording.fn.record_printing.scope+FnOnce.call_once.Goals as goal
 
 pub scope-requires : goal.scope-requires
 scope-requires g c =
