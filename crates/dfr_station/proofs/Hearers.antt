@@ -7,8 +7,9 @@ use Rattle.dfr_recorder.specs.Steps as step
 use Rattle.dfr_live.specs.Devices.{Came, TakenFor, GaveOne, GaveAll, all_taken, steps_given, goes_on, call_in}
 use Rattle.dfr_live.specs.declared.station.Fed.{Fed}
 use Rattle.dfr_live.specs.declared.station.Fed.TheVariants as fed
+use Rattle.dfr_live.specs.Lane.{LaneName}
 use Rattle.dfr_live.specs.declared.station.Order.{Order}
-use Rattle.dfr_station.specs.Acquiring.{ScansParts, settled, settled_by, dropped, missing, GivesLost, GivesScan, Acquired, Quietly, Steps, AcquisitionGives, AcquisitionLoses}
+use Rattle.dfr_station.specs.Acquiring.{ScansParts, settled, settled_by, dropped, missing, GivesLost, GivesScan, SentOrders, Acquired, Quietly, Steps, AcquisitionGives, AcquisitionLoses}
 use Rattle.dfr_station.specs.Arrivals.{ComesNext, CameFirst, HandsNext}
 use Rattle.dfr_station.specs.Hearing.{Heard, nothing_heard, heard_at, Hears, HearsLost, order_of, CameInAll, HeardAll}
 use Rattle.dfr_station.specs.Lines.{ArrivalParts}
@@ -43,13 +44,14 @@ module _ {I A : Type 0} where
   abbrev after_drop : Acquired (Arrivals I A) A → Acquired (Arrivals I A) A
   after_drop t = record t { scans = dropped t.scans }
 
-module _ {I A : Type 0} (left : I → Option (List ℕ)) (layout : SetupParts) (first : Arrivals I A) (none : Heard) where
+module _ {I A : Type 0} (left : I → Option (List ℕ)) (layout : SetupParts) (lane : LaneName A) (first : Arrivals I A) (none : Heard) where
   -- the arrivals up to now, the newest first, before what comes from now on
   pub record SoFar (g : Acquired (Arrivals I A) A) (steps : List StepParts) : Type 0 where
     pub came : List ArrivalParts
     pub heard : Came (Hears layout) none came (heard_at steps g)
     pub leads : CameFirst left first (reverse came) g.incoming
     pub same : g.scans.layout ≡ layout
+    pub lane : g.orders.lane ≡ lane
 
   came_more : (rs : List ArrivalParts) (a : ArrivalParts) (g h : Arrivals I A)
       → CameFirst left first (reverse rs) g → CameFirst left g (a ∷ []) h → CameFirst left first (reverse (a ∷ rs)) h
@@ -61,42 +63,53 @@ module _ {I A : Type 0} (left : I → Option (List ℕ)) (layout : SetupParts) (
 
   one_came : (g h : Acquired (Arrivals I A) A) (steps later : List StepParts) (a : ArrivalParts)
       → SoFar g steps → Hears layout (heard_at steps g) a (heard_at later h) → CameFirst left g.incoming (a ∷ []) h.incoming
-      → h.scans.layout ≡ g.scans.layout → SoFar h later
-  one_came g h steps later a far hears hands same = record {
+      → h.scans.layout ≡ g.scans.layout → h.orders.lane ≡ g.orders.lane → SoFar h later
+  one_came g h steps later a far hears hands same queue = record {
     came = a ∷ far.came;
     heard = (heard_at steps g, far.heard, hears);
     leads = came_more far.came a g.incoming h.incoming far.leads hands;
     same = same ∙ far.same;
+    lane = queue ∙ far.lane;
   }
 
   none_came : (g h : Acquired (Arrivals I A) A) (steps : List StepParts)
       → SoFar g steps → heard_at steps h ≡ heard_at steps g → CameFirst left g.incoming [] h.incoming
-      → h.scans.layout ≡ g.scans.layout → SoFar h steps
-  none_came g h steps far is hands same = record {
+      → h.scans.layout ≡ g.scans.layout → h.orders.lane ≡ g.orders.lane → SoFar h steps
+  none_came g h steps far is hands same queue = record {
     came = far.came;
     heard = subst (λ (x : Heard). Came (Hears layout) none far.came x) (sym is) far.heard;
     leads = record { before = λ xs c. far.leads.before xs (hands.before xs c) };
     same = same ∙ far.same;
+    lane = queue ∙ far.lane;
   }
 
   hears_order : (m t : Acquired (Arrivals I A) A) (steps : List StepParts) (line place : ℕ) (order : Order A)
-      → t.scans ≡ m.scans → (t.orders ≡ m.orders ++ record { line = line; at = place; order = order } ∷ []) ⊎ ((t.orders ≡ m.orders) × (1_024 ≤ length m.orders))
+      → t.scans ≡ m.scans → (t.orders ≡ record m.orders { items = m.orders.items ++ record { line = line; at = place; order = order } ∷ [] }) ⊎ ((t.orders ≡ m.orders) × (1_024 ≤ length m.orders.items))
       → Hears layout (heard_at steps m) (came.Order line place (call_in order)) (heard_at steps t)
   hears_order m t steps line place order scans (inl e) =
-      inl (rw (scans, e) (rw (map-append order_of m.orders (record { line = line; at = place; order = order } ∷ [])) refl))
+      inl (rw (scans, e) (rw (map-append order_of m.orders.items (record { line = line; at = place; order = order } ∷ [])) refl))
   hears_order m t steps line place order scans (inr e) =
-      inr (rw (scans, e.0) refl, rw (length-map m.orders (order_of {A = A})) e.1)
+      inr (rw (scans, e.0) refl, rw (length-map m.orders.items (order_of {A = A})) e.1)
+
+  same_lane : (m t : Acquired (Arrivals I A) A) → t.orders ≡ m.orders → t.orders.lane ≡ m.orders.lane
+  same_lane m t h = ap (λ (o : SentOrders A). o.lane) h
+
+  order_lane : (m t : Acquired (Arrivals I A) A) (line place : ℕ) (order : Order A)
+      → (t.orders ≡ record m.orders { items = m.orders.items ++ record { line = line; at = place; order = order } ∷ [] }) ⊎ ((t.orders ≡ m.orders) × (1_024 ≤ length m.orders.items))
+      → t.orders.lane ≡ m.orders.lane
+  order_lane m t line place order (inl e) = ap (λ (o : SentOrders A). o.lane) e
+  order_lane m t line place order (inr e) = ap (λ (o : SentOrders A). o.lane) e.0
 
   heard_quietly : (m t : Acquired (Arrivals I A) A) (x : Next A) (steps : List StepParts)
       → SoFar m steps → Quietly (HandsNext left) m x t → SoFar t steps
   heard_quietly m t (coming.Arrival (arrival.Scan scan)) steps far h = absurd h.2
   heard_quietly m t (coming.Arrival (arrival.Lost why)) steps far h = absurd h.2
   heard_quietly m t (coming.Arrival (arrival.Order line place order)) steps far h =
-      one_came m t steps steps (came.Order line place (call_in order)) far (hears_order m t steps line place order h.1 h.2) h.0 (ap (λ (s : ScansParts). s.layout) h.1)
+      one_came m t steps steps (came.Order line place (call_in order)) far (hears_order m t steps line place order h.1 h.2) h.0 (ap (λ (s : ScansParts). s.layout) h.1) (order_lane m t line place order h.2)
   heard_quietly m t (coming.Arrival (arrival.Skipped line why)) steps far h =
-      one_came m t steps steps (came.Skips line why) far (rw (h.1, h.2) refl) h.0 (ap (λ (s : ScansParts). s.layout) h.1)
+      one_came m t steps steps (came.Skips line why) far (rw (h.1, h.2) refl) h.0 (ap (λ (s : ScansParts). s.layout) h.1) (same_lane m t h.2)
   heard_quietly m t coming.Drained steps far h =
-      none_came m t steps far (rw (h.1, h.2) refl) h.0 (ap (λ (s : ScansParts). s.layout) h.1)
+      none_came m t steps far (rw (h.1, h.2) refl) h.0 (ap (λ (s : ScansParts). s.layout) h.1) (same_lane m t h.2)
   heard_quietly m t (coming.End ending) steps far h = absurd h.2
 
   heard_quiet : (s m : Acquired (Arrivals I A) A) (quiet : List (Next A)) (steps : List StepParts)
@@ -107,7 +120,7 @@ module _ {I A : Type 0} (left : I → Option (List ℕ)) (layout : SetupParts) (
   heard_settled : (s : Acquired (Arrivals I A) A) (steps : List StepParts) → SoFar s steps → SoFar (record s { scans = settled s.scans }) steps
   heard_settled s steps far =
       let h = settles_by s.scans.last s.scans in
-      none_came s (record s { scans = settled s.scans }) steps far (rw (h.0, h.1) refl) (record { before = λ xs c. c }) h.2
+      none_came s (record s { scans = settled s.scans }) steps far (rw (h.0, h.1) refl) (record { before = λ xs c. c }) h.2 refl
 
   hears_lost : (m t : Acquired (Arrivals I A) A) (steps : List StepParts) (x : StepParts)
       → (x ≡ step.Lost) ⊎ ((bits : List Bool) × (x ≡ step.Scan (missing layout bits))) → t.orders ≡ m.orders
@@ -155,9 +168,9 @@ module _ {I A : Type 0} (left : I → Option (List ℕ)) (layout : SetupParts) (
   heard_step : (m t : Acquired (Arrivals I A) A) (x : Next A) (f : Fed A) (steps : List StepParts)
       → SoFar m steps → HandsNext left m.incoming x t.incoming → Steps m x f t → SoFar t (steps ++ steps_given (Ok f))
   heard_step m t (coming.Arrival (arrival.Scan scan)) f steps far hands h =
-      one_came m t steps (steps ++ steps_given (Ok f)) (came.Scan scan) far (hears_scan m t scan f steps far.same h.0 h.1) hands (scan_layout m.scans t.scans scan f h.0)
+      one_came m t steps (steps ++ steps_given (Ok f)) (came.Scan scan) far (hears_scan m t scan f steps far.same h.0 h.1) hands (scan_layout m.scans t.scans scan f h.0) (same_lane m t h.1)
   heard_step m t (coming.Arrival (arrival.Lost why)) f steps far hands h =
-      one_came m t steps (steps ++ steps_given (Ok f)) (came.Lost why) far (gives_lost m t m.scans.noted steps f far.same h.0 h.1) hands (lost_layout m.scans t.scans f h.0)
+      one_came m t steps (steps ++ steps_given (Ok f)) (came.Lost why) far (gives_lost m t m.scans.noted steps f far.same h.0 h.1) hands (lost_layout m.scans t.scans f h.0) (same_lane m t h.1)
   heard_step m t (coming.Arrival (arrival.Order line place order)) f steps far hands h = absurd h
   heard_step m t (coming.Arrival (arrival.Skipped line why)) f steps far hands h = absurd h
   heard_step m t coming.Drained f steps far hands h = absurd h
@@ -179,10 +192,10 @@ module _ {I A : Type 0} (left : I → Option (List ℕ)) (layout : SetupParts) (
       → SoFar m steps → HandsNext left m.incoming x t.incoming → Steps m x (fed.Scan y) t → SoFar (after_drop t) (steps ++ step.Lost ∷ [])
   heard_drop m t (coming.Arrival (arrival.Scan scan)) y steps far hands h =
       let d = dropped_scan m.scans t.scans scan y h.0 in
-      one_came m (after_drop t) steps (steps ++ step.Lost ∷ []) (came.Scan scan) far (inr (hears_lost m (after_drop t) steps step.Lost (inl refl) h.1 d.0 d.1)) hands d.2
+      one_came m (after_drop t) steps (steps ++ step.Lost ∷ []) (came.Scan scan) far (inr (hears_lost m (after_drop t) steps step.Lost (inl refl) h.1 d.0 d.1)) hands d.2 (same_lane m t h.1)
   heard_drop m t (coming.Arrival (arrival.Lost why)) y steps far hands h =
       let d = dropped_lost m.scans t.scans y h.0 in
-      one_came m (after_drop t) steps (steps ++ step.Lost ∷ []) (came.Lost why) far (hears_lost m (after_drop t) steps step.Lost (inl refl) h.1 d.0 d.1) hands d.2
+      one_came m (after_drop t) steps (steps ++ step.Lost ∷ []) (came.Lost why) far (hears_lost m (after_drop t) steps step.Lost (inl refl) h.1 d.0 d.1) hands d.2 (same_lane m t h.1)
   heard_drop m t (coming.Arrival (arrival.Order line place order)) y steps far hands h = absurd h
   heard_drop m t (coming.Arrival (arrival.Skipped line why)) y steps far hands h = absurd h
   heard_drop m t coming.Drained y steps far hands h = absurd h
@@ -232,16 +245,17 @@ module _ {I A : Type 0} (left : I → Option (List ℕ)) (layout : SetupParts) w
       → heard_at [] f ≡ nothing_heard → f.scans.layout ≡ layout
       → GaveAll (AcquisitionGives (HandsNext left)) AcquisitionLoses f steps g → HeardAll left layout f steps g
   heard_all f g steps begun same h =
-      let start : SoFar left layout f.incoming nothing_heard f [] =
-      record { came = []; heard = sym begun; leads = record { before = λ xs c. c }; same = same } in
-      let all = heard_ones left layout f.incoming nothing_heard f h.1 h.0 [] start h.2 in
+      let start : SoFar left layout f.orders.lane f.incoming nothing_heard f [] =
+      record { came = []; heard = sym begun; leads = record { before = λ xs c. c }; same = same; lane = refl } in
+      let all = heard_ones left layout f.orders.lane f.incoming nothing_heard f h.1 h.0 [] start h.2 in
       let done = h.3 in
-      let far = heard_quiet left layout f.incoming nothing_heard _ done.1 done.0 (all_taken h.0) (heard_settled left layout f.incoming nothing_heard h.1 (all_taken h.0) all) done.2 in
+      let far = heard_quiet left layout f.orders.lane f.incoming nothing_heard _ done.1 done.0 (all_taken h.0) (heard_settled left layout f.orders.lane f.incoming nothing_heard h.1 (all_taken h.0) all) done.2 in
       record {
         came = far.came;
         heard = subst (λ (x : Heard). Came (Hears layout) nothing_heard far.came x)
             (rw (done.3.2, done.3.3, h.4) refl)
             far.heard;
+        lane = ap (λ (o : SentOrders A). o.lane) done.3.3 ∙ far.lane;
         ending = done.3.0;
-        whole = ends_so left layout f.incoming nothing_heard (reverse far.came) done.1.incoming g.incoming done.3.0 far.leads done.3.1;
+        whole = ends_so left layout f.orders.lane f.incoming nothing_heard (reverse far.came) done.1.incoming g.incoming done.3.0 far.leads done.3.1;
       }

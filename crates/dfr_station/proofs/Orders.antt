@@ -2,9 +2,12 @@
 use Rattle.std.proofs.Common.{◌≡◌, ℕ, List, [], ◌∷◌, ◌++◌, Option, Some, None, inl, inr, refl, sym, ◌∙◌, ap, append_assoc}
 use Rattle.std.proofs.lemmas.List.{append-nil}
 use Rattle.std.specs.Prelude.{option_to_list, MatchOption}
+use Rattle.dfr_live.specs.Devices.{Came, Turn, Waits, Makes, Desked, TookTurn, MadeAll, new_desk}
+use Rattle.dfr_live.specs.Parts.{EntryParts}
 use Rattle.dfr_live.specs.declared.devices.Asked.{Asked}
 use Rattle.dfr_live.specs.declared.devices.Asked.TheVariants as asked
-use Rattle.dfr_station.specs.Desks.{DeskParts, HandsOut, IsEarly, Answers}
+use Rattle.dfr_live.specs.declared.devices.Standing.{Standing}
+use Rattle.dfr_station.specs.Desks.{DeskParts, HandsOut, IsEarly, Answers, DeskAsks, DeskHears}
 use Rattle.dfr_station.specs.declared.desk.Placed.{Placed}
 
 module _ {A : Type 0} where
@@ -54,3 +57,24 @@ module _ {A : Type 0} where
       → MatchOption r (HandsOut s [] t × IsEarly pumped t) (λ a. Answers pumped s a t)
   due_after pumped s m t None first h = rw h.0 (first, rw h.1 tt)
   due_after pumped s m t (Some a) first h = answers_after pumped s m t a first (h pumped)
+
+  -- ---- the queue of a desk stays the same
+
+  asks_lane : (s t : DeskParts A) (standing : Standing) (a : Asked A) → DeskAsks s standing a t → t.lane ≡ s.lane
+  asks_lane s t standing (asked.Order place o) (inl h) = h.2.lane
+  asks_lane s t standing (asked.Order place o) (inr h) = h.3.lane
+  asks_lane s t standing (asked.NotYet steps) h = h.0.lane
+  asks_lane s t standing asked.Done h = h.0.lane
+
+  turn_lane : (steps : ℕ) (s t : Desked (DeskParts A)) (x : Turn A) → TookTurn DeskAsks DeskHears steps s x t → t.desk.lane ≡ s.desk.lane
+  turn_lane steps s t (Waits standing free) h = asks_lane s.desk t.desk standing (asked.NotYet free) h.1
+  turn_lane steps s t (Makes standing place o reply) h =
+      ap (λ (d : DeskParts A). d.lane) h.3.1 ∙ asks_lane s.desk h.0 standing (asked.Order place o) h.2
+
+  turns_lane : (steps : ℕ) (s t : Desked (DeskParts A)) (turns : List (Turn A)) → Came (TookTurn DeskAsks DeskHears steps) s turns t → t.desk.lane ≡ s.desk.lane
+  turns_lane steps s t [] h = sym (ap (λ (d : Desked (DeskParts A)). d.desk.lane) h)
+  turns_lane steps s t (x ∷ turns) h = turn_lane steps h.0 t x h.2 ∙ turns_lane steps s h.0 turns h.1
+
+  pub made_lane : (f g : DeskParts A) (made : List EntryParts) (steps : ℕ) → MadeAll DeskAsks DeskHears f made steps g → g.lane ≡ f.lane
+  made_lane f g made steps h =
+      asks_lane h.last.desk g h.done.0 asked.Done h.done.1 ∙ turns_lane steps (new_desk f) h.last h.turns h.came

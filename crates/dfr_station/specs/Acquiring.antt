@@ -3,6 +3,7 @@ use Rattle.std.specs.Prelude.{◌≡◌, ◌⊎◌, ℕ, ◌+◌, ◌-◌, ◌^�
 use Rattle.dfr_channels.specs.Parts.{ScanParts, SetupParts}
 use Rattle.dfr_channels.specs.declared.scan.Reading.TheVariants as reading
 use Rattle.dfr_live.specs.Devices.{Came}
+use Rattle.dfr_live.specs.Lane.{LaneName}
 use Rattle.dfr_live.specs.declared.station.Fed.{Fed}
 use Rattle.dfr_live.specs.declared.station.Fed.TheVariants as fed
 use Rattle.dfr_station.specs.Input.{one_more}
@@ -72,11 +73,16 @@ GivesScan {A} s scan fed.Lost t = (m : List Bool) × GivesLost {A = A} (record s
 GivesScan s scan fed.NotYet t = ⊥
 GivesScan s scan fed.Done t = ⊥
 
+-- the queue of orders, and those that were put into it
+pub record SentOrders (A : Type 0) : Type 0 where
+  pub lane : LaneName A
+  pub items : List (Placed A)
+
 -- an input, the scans of it, and the orders that were put into the queue
 pub record Acquired (C A : Type 0) : Type 0 where
   pub incoming : C
   pub scans : ScansParts
-  pub orders : List (Placed A)
+  pub orders : SentOrders A
 
 abbrev pub ComesOf : Type 0 → Type 0 → Type 1
 ComesOf C A = C → Next A → C → Type 0
@@ -87,7 +93,8 @@ abbrev pub QuietlyBy : {C A : Type 0} → Acquired C A → Next A → Acquired C
 QuietlyBy s (coming.Arrival (arrival.Scan scan)) t = ⊥
 QuietlyBy s (coming.Arrival (arrival.Lost why)) t = ⊥
 QuietlyBy s (coming.Arrival (arrival.Order line place order)) t =
-    (t.orders ≡ s.orders ++ record { line = line; at = place; order = order } ∷ []) ⊎ ((t.orders ≡ s.orders) × (1_024 ≤ length s.orders))
+    (t.orders ≡ record s.orders { items = s.orders.items ++ record { line = line; at = place; order = order } ∷ [] })
+    ⊎ ((t.orders ≡ s.orders) × (1_024 ≤ length s.orders.items))
 QuietlyBy s (coming.Arrival (arrival.Skipped line why)) t = t.orders ≡ s.orders
 QuietlyBy s coming.Drained t = t.orders ≡ s.orders
 QuietlyBy s (coming.End ending) t = ⊥

@@ -49,7 +49,7 @@ order_of p = came.Order p.line p.at (call_in p.order)
 
 -- what is heard where the acquisition is in this state, and these steps were taken in
 abbrev pub heard_at : {C A : Type 0} → List StepParts → Acquired C A → Heard
-heard_at steps g = record { steps = steps; orders = map order_of g.orders; came = g.scans.came; lost = g.scans.lost }
+heard_at steps g = record { steps = steps; orders = map order_of g.orders.items; came = g.scans.came; lost = g.scans.lost }
 
 -- these came from there on up to the input's end, or up to where it can't be read
 abbrev pub CameInAll : {I A : Type 0} → (I → Option (List ℕ)) → Arrivals I A → List ArrivalParts → Ending → Arrivals I A → Type 0
@@ -63,5 +63,6 @@ pub record HeardAll {I A : Type 0} (left : I → Option (List ℕ)) (layout : Se
     (t : Acquired (Arrivals I A) A) : Type 0 where
   pub came : List ArrivalParts
   pub heard : Came (Hears layout) nothing_heard came (heard_at steps t)
+  pub lane : t.orders.lane ≡ s.orders.lane
   pub ending : Ending
   pub whole : CameInAll left s.incoming (reverse came) ending t.incoming

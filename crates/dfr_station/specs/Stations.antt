@@ -1,6 +1,7 @@
 -- What a station did that ran to the end of its input.
 use Rattle.std.specs.Prelude.{◌≡◌, ℕ, ◌-◌, ◌≤◌, List, [], map, Bool, false, Option, None}
 use Rattle.rtrb.specs.Ring.{sent, known_free, received}
+use Rattle.dfr_live.specs.Lane.{lane_in, lane_out}
 use Rattle.dfr_channels.specs.Parts.{SetupParts}
 use Rattle.dfr_recorder.specs.History.{Opening}
 use Rattle.comtrade_format.specs.declared.file.Kind.{Kind}
@@ -23,13 +24,13 @@ use Rattle.dfr_station.specs.declared.station.Input.{Input}
 abbrev pub IsBegun : {C A : Type 0} → SetupParts → C → Acquired C A → Type 0
 IsBegun layout incoming s =
     (s.incoming ≡ incoming) × (s.scans.layout ≡ layout) × (s.scans.came ≡ 0) × (s.scans.lost ≡ 0) × (s.scans.row ≡ 0)
-    × (s.scans.last ≡ given.Nothing) × (s.scans.bits ≡ map (λ c. c.normal) layout.status) × (s.orders ≡ [])
+    × (s.scans.last ≡ given.Nothing) × (s.scans.bits ≡ map (λ c. c.normal) layout.status) × (s.orders.items ≡ [])
 
 -- the parts of a station before it runs: no scan was taken, and no order was put into the queue, which has 1,024 places, or taken off it
 abbrev pub IsFresh : {A : Type 0} → SetupParts → Parts A → Type 0
 IsFresh layout parts =
     (parts.filler.bits.items ≡ map (λ c. c.normal) layout.status) × (sent parts.orders.0 ≡ []) × (1_024 ≤ known_free parts.orders.0)
-    × (received parts.orders.1 ≡ [])
+    × (received parts.orders.1 ≡ []) × (lane_in parts.orders.0 ≡ lane_out parts.orders.1)
 
 -- what comes begins with these bytes, which were read before, and goes on with this input
 abbrev pub Begins : {I A : Type 0} → SetupParts → Input → List ℕ → I → Arrivals I A → Type 0
@@ -38,7 +39,8 @@ Begins layout form bytes input s =
     × (reading_of s.cutter ≡ record { form = form; came = 0; lines = 0; owed = false; skipping = false })
 
 -- A run from an input to a store. As `dfr_live` has it, over the three devices of a station: the acquisition gave a step for each scan that
--- came, one list has the steps of all, with the orders of the desk, and the pair of each record went to the store or the record was counted.
+-- came, one list has the steps of all, with the orders of the desk, which are all
+-- that went into its queue, and the pair of each record went to the store or the record was counted.
 -- So each scan that came over the whole input is one step at its place, or one counted loss. What is left is what that run left, the
 -- counts are those of the devices, and the input and the store come back as the devices left them.
 --
@@ -58,6 +60,7 @@ pub record Ran {I A K : Type 0} (remaining : I → Option (List ℕ)) (Stores : 
       (λ s extent short t. LacksPair s short t) o kind
       (begun, opened, record { store = store; records = 0; unwritten = 0 }) (over, closed, exported) report
   pub heard : HeardAll remaining o.layout begun (taken_in recorded.report.source) over
+  pub ordered_all : closed.taken ≡ over.orders.items
   pub input_over : over.incoming.input ≡ input_left
   pub store_over : exported.store ≡ store_left
   pub same_end : left.ended ≡ report.ended

@@ -1,11 +1,12 @@
 //! What the acquisition thread reads: each scan that comes is one step, and each order is put into a
 //! queue.
 
-ghost use Rattle.std.specs.Prelude.{◌≡◌, ◌≤◌, ◌+◌, length};
+ghost use Rattle.std.specs.Prelude.{◌≡◌, ◌≤◌, ◌+◌, length, IsTrue};
 ghost use Rattle.rtrb.specs.Ring.{sent, known_free};
+ghost use Rattle.dfr_live.specs.Lane.{lane_in};
 ghost use Rattle.dfr_station.specs.Acquiring.{Gave};
 
-use crate::desk::Placed;
+use crate::desk::{Office, Placed};
 use crate::event::{Event, Skipped};
 use crate::intake::{Arrival, Arrivals, Counts, Ending, Next};
 use crate::scans::Scans;
@@ -32,6 +33,7 @@ pub(crate) struct Acquisition<'s, 'x, I, R, A: Allocator = Global> {
 impl<'s, 'x, I, R, A: Allocator> Model for Acquisition<'s, 'x, I, R, A> {
     ghost use Rattle.std.specs.Prelude.{◌≤◌, ◌+◌, length};
     ghost use Rattle.rtrb.specs.Ring.{sent, known_free};
+    ghost use Rattle.dfr_live.specs.Lane.{lane_in};
     ghost use Rattle.dfr_station.specs.Acquiring.{Acquired};
     ghost use Rattle.dfr_station.specs.declared.intake.arrivals.Arrivals.{Arrivals as Arriving};
 
@@ -40,7 +42,7 @@ impl<'s, 'x, I, R, A: Allocator> Model for Acquisition<'s, 'x, I, R, A> {
     ghost view = { λ a. record {
       incoming = a.arrivals;
       scans = a.scans;
-      orders = sent a.orders;
+      orders = record { lane = lane_in a.orders; items = sent a.orders };
     } };
 
     // The queue has 1,024 places.
@@ -55,7 +57,11 @@ impl<'s, 'x, I, R, A: Allocator + Copy> Acquisition<'s, 'x, I, R, A> {
         orders: Producer<Placed<A>, A>,
     ) -> Acquisition<'s, 'x, I, R, A>
         requires places { 1_024 ≤ known_free orders + length (sent orders) }
-        ensures { result ≡ record { incoming = arrivals.entry; scans = scans.entry; orders = sent orders } }
+        ensures { result ≡ record {
+          incoming = arrivals.entry;
+          scans = scans.entry;
+          orders = record { lane = lane_in orders; items = sent orders };
+        } }
     {
         Acquisition {
             rt,
@@ -64,6 +70,15 @@ impl<'s, 'x, I, R, A: Allocator + Copy> Acquisition<'s, 'x, I, R, A> {
             orders,
             is_broken: false,
         }
+    }
+
+    /// Whether the desk took all orders that were put into its queue.
+    pub(crate) fn is_heard_by(&mut self, desk: &mut Office<'_, A>) -> bool
+        requires one { self.old.orders.lane ≡ desk.old.lane }
+        ensures all { IsTrue result → desk.old.taken ≡ self.old.orders.items }
+        ensures same { (self.new ≡ self.old) × (desk.new ≡ desk.old) }
+    {
+        desk.has_all(&mut self.orders)
     }
 
     /// The input.

@@ -1,8 +1,8 @@
 //! The orders: those of the input come at their places, an operator's as they arrive.
 
-ghost use Rattle.std.specs.Prelude.{◌≡◌, ℕ, ◌≤◌, [], ⊤, is_some, IfSome, MatchBool, MatchOption};
-ghost use Rattle.rtrb.specs.Ring.{received};
-ghost use Rattle.dfr_live.specs.Lane.{lane_out};
+ghost use Rattle.std.specs.Prelude.{◌≡◌, ℕ, ◌≤◌, [], ⊤, is_some, IsTrue, IfSome, MatchBool, MatchOption};
+ghost use Rattle.rtrb.specs.Ring.{sent, received, known_free};
+ghost use Rattle.dfr_live.specs.Lane.{lane_in, lane_out};
 ghost use Rattle.dfr_station.specs.Desks as spec;
 
 use crate::event::{Asked, Event, Replied, Skipped};
@@ -13,7 +13,7 @@ use crate::teller::Teller;
 use dfr_channels::Layout;
 use dfr_live as live;
 use dfr_live::{Desk, Order, Reply, Standing};
-use rtrb::Consumer;
+use rtrb::{Consumer, Producer};
 use std::alloc::{Allocator, Global};
 use std::marker::Model;
 use std::sync::atomic::Ordering;
@@ -99,6 +99,17 @@ impl<'s, A: Allocator + Copy> Office<'s, A> {
             told: 0,
             steps: 0,
         }
+    }
+
+    /// Whether all orders were taken off the queue that were put into it at its other end.
+    pub(crate) fn has_all(&mut self, orders: &mut Producer<Placed<A>, A>) -> bool
+        requires one { lane_in orders.old ≡ self.old.lane }
+        ensures all { IsTrue result → self.old.taken ≡ sent orders.old }
+        ensures same { self.new ≡ self.old }
+        ensures queue { (lane_in orders.new ≡ lane_in orders.old) × (sent orders.new ≡ sent orders.old)
+            × (known_free orders.old ≤ known_free orders.new) }
+    {
+        self.orders.slots_beside(orders) == 0
     }
 
     /// How many steps had been made when the desk was asked last.

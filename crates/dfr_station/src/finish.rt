@@ -1,10 +1,14 @@
 //! The record that is open when the input ends: it is closed with lost scans, and written.
 
-ghost use Rattle.std.specs.Prelude.{◌≡◌, IsTrue, is_some, not};
+ghost use Rattle.std.specs.Prelude.{◌≡◌, ◌⊎◌, List, Ok, Err, Some, false, true, IsTrue, MatchBool, is_some, not};
 ghost use Rattle.dfr_recorder.specs.Own.{is_own};
+ghost use Rattle.dfr_recorder.specs.declared.step.Scanned.{Scanned as Accepted};
+ghost use Rattle.dfr_live.specs.Devices.{files_of};
+ghost use Rattle.dfr_station.specs.Finishing.{LosesScan, LosesScans, TriedLast, TriesLast, WritesLast, FinishesOpen, EndsOpen, Finishes, counted_last};
 
 use crate::event::{Event, Trouble};
 use crate::intake::{Counts, Recorded};
+use crate::key::Key;
 use crate::outlet::{LAST_TRIES, key_of, pause_before};
 use crate::run::{ended_event, print_one};
 use crate::station::{Printer, Store, Stored};
@@ -17,7 +21,11 @@ use std::time::Clock;
 
 /// Makes a lost scan. If an allocation fails, tries again each second, a few times. Returns whether
 /// it was made.
-fn is_lost<A: Allocator + Copy, R: Wait + Clock>(rt: &R, recorder: &mut Recorder<A>) -> bool {
+fn is_lost<A: Allocator + Copy, R: Wait + Clock>(rt: &R, recorder: &mut Recorder<A>) -> bool
+    ensures lost { MatchBool result ((x : Accepted) × LosesScan recorder.old x recorder.new)
+        (recorder.new ≡ recorder.old) }
+    ensures layout { recorder.new.layout ≡ recorder.old.layout }
+{
     for tries in 0..LAST_TRIES {
         pause_before(rt, tries);
         match recorder.lost() {
@@ -32,7 +40,9 @@ fn is_lost<A: Allocator + Copy, R: Wait + Clock>(rt: &R, recorder: &mut Recorder
 /// Makes lost scans until no record is open. Returns false if one is still open: allocations
 /// failed, or the scans would be after the year 9999.
 fn is_closed<A: Allocator + Copy, R: Wait + Clock>(rt: &R, recorder: &mut Recorder<A>) -> bool
-    ensures { result ≡ not (is_some recorder.new.recording) }
+    ensures closed { result ≡ not (is_some recorder.new.recording) }
+    ensures lost { (lost : List Accepted) × LosesScans recorder.old lost recorder.new }
+    ensures layout { recorder.new.layout ≡ recorder.old.layout }
 {
     for _ in 0..recorder.limits().longest() {
         if !recorder.is_recording() || !is_lost(rt, recorder) {
@@ -48,16 +58,14 @@ fn hand_over<K: Store, A: Allocator + Copy>(
     layout: &Layout<A>,
     kind: Kind,
     taken: &Record<A>,
+    key: Key,
     store: &mut K,
 ) -> Result<Stored, Trouble>
     requires { IsTrue (is_own layout.now taken.now) }
+    ensures { TriedLast K.stores key (files_of layout.now kind taken.now) store.old result store.new }
 {
     match pair_of(alloc, layout, taken, kind) {
-        Ok(pair) => store.put(
-            key_of(layout, taken.extent()),
-            pair.cfg.as_slice(),
-            pair.dat.as_slice(),
-        ),
+        Ok(pair) => store.put(key, pair.cfg.as_slice(), pair.dat.as_slice()),
         Err(_) => Err(Trouble::Memory),
     }
 }
@@ -70,16 +78,18 @@ fn stored<A: Allocator + Copy, K: Store, P: Printer, R: Wait + Clock>(
     layout: &Layout<A>,
     kind: Kind,
     taken: &Record<A>,
+    key: Key,
     store: &mut K,
     printer: &mut P,
     text: &mut Vec<u8, A>,
 ) -> Option<Stored>
     requires { IsTrue (is_own layout.now taken.now) }
+    ensures { TriesLast K.stores key (files_of layout.now kind taken.now) store.old result store.new }
 {
     let mut is_in_trouble = false;
     for tries in 0..LAST_TRIES {
         pause_before(rt, tries);
-        match hand_over(alloc, layout, kind, taken, store) {
+        match hand_over(alloc, layout, kind, taken, key, store) {
             Ok(stored) => {
                 if is_in_trouble {
                     print_one(rt, text, printer, Event::Over);
@@ -110,9 +120,11 @@ fn written<A: Allocator + Copy, K: Store, P: Printer, R: Wait + Clock>(
     text: &mut Vec<u8, A>,
 ) -> Counts
     requires { IsTrue (is_own layout.now taken.now) }
+    ensures { WritesLast K.stores layout.now kind taken.now counts store.old result store.new }
 {
     let extent = taken.extent();
-    match stored(rt, alloc, layout, kind, taken, store, printer, text) {
+    let key = key_of(layout, extent);
+    match stored(rt, alloc, layout, kind, taken, key, store, printer, text) {
         Some(stored) => {
             let record = Event::Record {
                 extent,
@@ -150,7 +162,9 @@ fn with_open<A: Allocator + Copy, K: Store, P: Printer, R: Wait + Clock>(
     store: &mut K,
     printer: &mut P,
     text: &mut Vec<u8, A>,
-) -> Counts {
+) -> Counts
+    ensures { Finishes K.stores kind recorder.old counts store.old recorder.new result store.new }
+{
     if !recorder.is_recording() {
         return counts;
     }
@@ -178,7 +192,11 @@ pub fn finish_station<A: Allocator + Copy, K: Store, P: Printer, R: Wait + Clock
     left: &mut Recorded<A>,
     store: &mut K,
     printer: &mut P,
-) {
+)
+    ensures finished { Finishes K.stores kind left.old.ended.recorder left.old.counts store.old
+        left.new.ended.recorder left.new.counts store.new }
+    ensures same { (left.new.ended.log ≡ left.old.ended.log) × (left.new.ended.left ≡ left.old.ended.left) }
+{
     let counts = left.counts;
     let recorder = &mut left.ended.recorder;
     let text = &mut left.text;

@@ -23,7 +23,7 @@ use crate::telling::{Telling, now};
 use crate::watch::Watch;
 use comtrade_write::Kind;
 use dfr_channels::Layout;
-use dfr_live::LiveReport;
+use dfr_live::{EndFault, LiveReport};
 use dfr_recorder::Recorder;
 use rtrb::Consumer;
 use std::alloc::{Allocator, Global};
@@ -199,6 +199,7 @@ fn run_over<
         unwritten: outlet.unwritten(),
         ..intake.counts()
     };
+    let report = all_made(report, &mut intake, &mut desk);
     if let Err(RunFault::Counter | RunFault::End(_)) = &report {
         let counts = counts.after(desk.steps());
         print_one(rt, &mut text, printer, ended_event(counts));
@@ -207,6 +208,23 @@ fn run_over<
         recorded: recorded_of(report, counts, text),
         input: intake.into_input(),
         store: outlet.into_store(),
+    }
+}
+
+/// A run in which the desk took all orders of the input, as it must have.
+fn all_made<I, R, A: Allocator + Copy>(
+    report: Result<LiveReport<A>, RunFault>,
+    intake: &mut Acquisition<'_, '_, I, R, A>,
+    desk: &mut Office<'_, A>,
+) -> Result<LiveReport<A>, RunFault>
+    requires one { IfOk report (λ _. intake.old.orders.lane ≡ desk.old.lane) }
+    ensures all { IfOk result (λ made. (report ≡ Ok made) × (desk.old.taken ≡ intake.old.orders.items)) }
+    ensures same { (intake.new ≡ intake.old) × (desk.new ≡ desk.old) }
+{
+    match report {
+        Ok(made) if intake.is_heard_by(desk) => Ok(made),
+        Ok(_) => Err(RunFault::End(EndFault::Mismatch)),
+        Err(fault) => Err(fault),
     }
 }
 

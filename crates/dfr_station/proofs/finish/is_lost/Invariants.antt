@@ -1,0 +1,5 @@
+use Rattle.std.proofs.Common.{◌≡◌}
+use Rattle.dfr_station.proofs.finish.is_lost.Given as goal
+
+abbrev pub invariant-loop-tries : goal.invariant-loop-tries
+invariant-loop-tries g l = l.recorder ≡ l.initial.recorder
