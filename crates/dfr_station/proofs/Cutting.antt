@@ -1,9 +1,7 @@
 -- Bytes cut at their first line feed.
-use Rattle.std.proofs.Common.{◌≡◌, ℕ, ◌+◌, ◌<◌, ◌≤◌, Bool, true, false, List, [], ◌∷◌, ◌++◌, length, map, slice_index, slice_index_or, take, drop, Some, sym, ap, ◌∙◌, arith, ⊎_elim}
-use Rattle.std.specs.List.{All, slice_split}
+use Rattle.std.proofs.Common.{◌≡◌, ℕ, ◌+◌, ◌<◌, true, false, List, ◌∷◌, ◌++◌, length, slice_index, slice_index_or, take, drop, Some, sym, ap, ◌∙◌, arith, ⊎_elim}
 use Rattle.std.proofs.lemmas.Bool.{cases_Bool, eqb-true}
 use Rattle.std.proofs.lemmas.List.{take-append-drop, drop_more, get_or_default, get_or-take, length-take-le}
-use Rattle.std.proofs.lemmas.List.Splits.{slice_split_none}
 use Rattle.memchr.specs.Find.{IsFirstByte, is_byte}
 use Rattle.dfr_channels.specs.Lines.{without_cr}
 use Rattle.dfr_station.specs.Lines.{is_feed, HasNoFeed, IsFirstLine}

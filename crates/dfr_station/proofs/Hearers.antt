@@ -1,5 +1,5 @@
 -- From what the acquisition gave to what came with the input.
-use Rattle.std.proofs.Common.{◌≡◌, ◌⊎◌, inl, inr, ℕ, List, [], ◌∷◌, ◌++◌, ◌≤◌, length, map, reverse, Bool, true, Option, Result, Ok, Err, refl, sym, ◌∙◌, ap, subst, append_assoc}
+use Rattle.std.proofs.Common.{◌≡◌, ◌⊎◌, inl, inr, ℕ, List, [], ◌∷◌, ◌++◌, ◌≤◌, length, reverse, Bool, true, Option, Result, Ok, Err, refl, sym, ◌∙◌, ap, subst, append_assoc}
 use Rattle.std.proofs.lemmas.List.{append-nil, length-map, map-append, reverse-append}
 use Rattle.dfr_channels.specs.Parts.{ScanParts, SetupParts}
 use Rattle.dfr_recorder.specs.Steps.{StepParts}
@@ -44,14 +44,14 @@ module _ {I A : Type 0} where
   abbrev after_drop : Acquired (Arrivals I A) A → Acquired (Arrivals I A) A
   after_drop t = record t { scans = dropped t.scans }
 
-module _ {I A : Type 0} (left : I → Option (List ℕ)) (layout : SetupParts) (lane : LaneName A) (first : Arrivals I A) (none : Heard) where
+module _ {I A : Type 0} (left : I → Option (List ℕ)) (layout : SetupParts) (named : LaneName A) (first : Arrivals I A) (none : Heard) where
   -- the arrivals up to now, the newest first, before what comes from now on
   pub record SoFar (g : Acquired (Arrivals I A) A) (steps : List StepParts) : Type 0 where
     pub came : List ArrivalParts
     pub heard : Came (Hears layout) none came (heard_at steps g)
     pub leads : CameFirst left first (reverse came) g.incoming
     pub same : g.scans.layout ≡ layout
-    pub lane : g.orders.lane ≡ lane
+    pub lane : g.orders.lane ≡ named
 
   came_more : (rs : List ArrivalParts) (a : ArrivalParts) (g h : Arrivals I A)
       → CameFirst left first (reverse rs) g → CameFirst left g (a ∷ []) h → CameFirst left first (reverse (a ∷ rs)) h

@@ -6,3 +6,4 @@ pub mod Hearers
 pub mod Orders
 pub mod Tries
 pub mod Growing
+pub mod Finished

@@ -1,5 +1,5 @@
 -- How often a pair is handed to the store.
-use Rattle.std.proofs.Common.{arith, ◌≡◌, ℕ, List, [], ◌∷◌, inl, inr, refl, sym, ◌∙◌, ap, subst}
+use Rattle.std.proofs.Common.{arith, ◌≡◌, List, ◌∷◌, inl, inr, refl, ◌∙◌, ap}
 use Rattle.dfr_live.specs.Devices.{FilesParts}
 use Rattle.dfr_station.specs.Input.{one_more}
 use Rattle.dfr_station.specs.Storing.{StoresOf, Exporting, Refused, StoredOrGivenUp, TriedPair}

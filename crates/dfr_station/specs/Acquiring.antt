@@ -8,7 +8,6 @@ use Rattle.dfr_live.specs.declared.station.Fed.{Fed}
 use Rattle.dfr_live.specs.declared.station.Fed.TheVariants as fed
 use Rattle.dfr_station.specs.Input.{one_more}
 use Rattle.dfr_station.specs.declared.desk.Placed.{Placed}
-use Rattle.dfr_station.specs.declared.intake.arrival.Arrival.{Arrival}
 use Rattle.dfr_station.specs.declared.intake.arrival.Arrival.TheVariants as arrival
 use Rattle.dfr_station.specs.declared.intake.arrivals.Ending.{Ending}
 use Rattle.dfr_station.specs.declared.intake.arrivals.Next.{Next}

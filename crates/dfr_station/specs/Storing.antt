@@ -1,6 +1,5 @@
 -- What becomes of the pair of a record: it goes to the store until the store takes it, or the record is given up and counted.
 use Rattle.std.specs.Prelude.{◌≡◌, ◌⊎◌, ℕ, ◌<◌, List, length, Result, Ok, Err}
-use Rattle.dfr_recorder.specs.declared.record.Extent.{Extent}
 use Rattle.dfr_live.specs.Devices.{Came, FilesParts}
 use Rattle.dfr_live.specs.declared.devices.Short.{Short}
 use Rattle.dfr_live.specs.declared.devices.Short.TheVariants as short

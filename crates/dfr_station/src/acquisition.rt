@@ -83,7 +83,7 @@ impl<'s, 'x, I, R, A: Allocator + Copy> Acquisition<'s, 'x, I, R, A> {
 
     /// The input.
     pub(crate) fn into_input(self) -> I
-        ensures { result ≡ self.incoming.input }
+        ensures { result ≡ self.entry.incoming.input }
     {
         self.arrivals.input
     }

@@ -89,7 +89,7 @@ impl<'s, K, R, A: Allocator> Exports<'s, K, R, A> {
 
     /// The store.
     pub(crate) fn into_store(self) -> K
-        ensures { result ≡ self.store }
+        ensures { result ≡ self.entry.store }
     {
         self.store
     }

@@ -1,4 +1,4 @@
-use Rattle.std.proofs.Common.{rules, ◌≡◌, Option, None, Result, Ok, Err}
+use Rattle.std.proofs.Common.{rules, ◌≡◌, None, Result, Ok}
 use Rattle.std.specs.Prelude.{MatchResult}
 use Rattle.dfr_channels.specs.Lines.{lines}
 use Rattle.dfr_recorder.specs.Kept.{Kept}

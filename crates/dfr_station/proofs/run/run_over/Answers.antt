@@ -1,19 +1,39 @@
-use Rattle.std.proofs.Common.{rules, Result, Ok, Err, refl, ◌∙◌}
+use Rattle.std.proofs.Common.{◌≡◌, Result, Ok, Err, refl, sym, ◌∙◌, subst}
 use Rattle.std.specs.Prelude.{IfOk}
 use Rattle.dfr_live.specs.Devices.{taken_in}
+use Rattle.dfr_live.specs.Seen.{opening_of}
 use Rattle.dfr_station.proofs.Hearers.{heard_all}
+use Rattle.dfr_station.proofs.Orders.{made_lane}
 use Rattle.dfr_station.proofs.run.run_over.Goals as goal
 
 if_ok : {T E : Type 0} (r : Result T E) (P Q : T → Type 0) → ((x : T) → P x → Q x) → IfOk r P → IfOk r Q
 if_ok (Ok x) P Q then h = then x h
 if_ok (Err e) P Q then h = tt
 
+-- what is known of the report behind an outcome
+behind : {T E : Type 0} (a b : Result T E) (P Q : T → Type 0) (x : T) → b ≡ Ok x → IfOk b (λ y. (a ≡ Ok y) × Q y) → IfOk a P → P x × Q x
+behind {T} {E} a b P Q x e all h =
+    let w : (a ≡ Ok x) × Q x = subst (λ (r : Result T E). IfOk r (λ y. (a ≡ Ok y) × Q y)) e all in
+    (subst (λ (r : Result T E). IfOk r P) w.0 h, w.1)
+
+pub all_made-report-requires : goal.all_made-report-requires
+all_made-report-requires g c =
+    let s = c.new-scans.ensures in
+    let start : c.new-intake.result.orders.lane ≡ c.new-desk.result.lane = rw (c.new-intake.ensures, c.new-desk.ensures) c.requires.parts.4 in
+    record {
+      one = if_ok c.record_printing-report.result _ _ (λ report recorded.
+          let heard = heard_all g.I.Read.remaining (opening_of c.args.recorder).layout c.new-intake.result c.record_printing-report.new.intake (taken_in recorded.report.source)
+          (rw (c.new-intake.ensures, c.requires.parts.1, s.1, s.2) refl) (rw c.new-intake.ensures (s.0 ∙ c.requires.layout)) recorded.fed in
+          heard.lane ∙ start ∙ sym (made_lane c.new-desk.result c.record_printing-report.new.desk _ _ recorded.ordered)) c.record_printing-report.ensures;
+    }
+
 pub returns : goal.returns
 returns g c =
     let s = c.new-scans.ensures in
     let bits = rw c.requires.layout at c.requires.parts.0 in
     if_ok c.recorded_of.result _ _ (λ left made.
-    let recorded = rw c.new-outlet.ensures at (rw made.1 at c.record_printing-report.ensures) in (
+    let known = behind c.record_printing-report.result c.all_made-report.result _ _ made.0 made.1 c.all_made-report.ensures.all c.record_printing-report.ensures in
+    let recorded = rw c.new-outlet.ensures at known.0 in (
       c.new-arrivals.result,
       c.new-arrivals.ensures,
       record {
@@ -28,13 +48,14 @@ returns g c =
         recorded = recorded;
         heard = heard_all g.I.Read.remaining _ c.new-intake.result c.record_printing-report.new.intake (taken_in recorded.report.source)
             (rw (c.new-intake.ensures, c.requires.parts.1, s.1, s.2) refl) (rw c.new-intake.ensures (s.0 ∙ c.requires.layout)) recorded.fed;
-        input_over = search rules;
-        store_over = search rules;
+        ordered_all = known.1;
+        input_over = rw (c.into_input.ensures, c.all_made-report.ensures.same.0) refl;
+        store_over = rw c.into_store.ensures refl;
         same_end = made.2;
-        all_scans = rw (made.3) (search rules);
-        all_lost = rw (made.3) (search rules);
-        not_made = rw (made.3) (search rules);
-        taken = rw (made.3) (search rules);
-        given_up = rw (made.3) (search rules);
+        all_scans = rw made.3 c.counts.ensures.0;
+        all_lost = rw made.3 c.counts.ensures.1;
+        not_made = rw (made.3, c.counts.ensures.0) refl;
+        taken = rw made.3 c.records.ensures;
+        given_up = rw made.3 c.unwritten.ensures;
       },
     )) c.recorded_of.ensures

@@ -1,4 +1,4 @@
-use Rattle.std.proofs.Common.{rules, ◌≡◌, false, Option, Some, None, refl}
+use Rattle.std.proofs.Common.{◌≡◌, false, Option, Some, None, refl}
 use Rattle.std.specs.Prelude.{is_some}
 use Rattle.dfr_station.proofs.Orders.{takes_off}
 use Rattle.dfr_station.proofs.desk.Office.take_off.Goals as goal

@@ -1,4 +1,4 @@
-use Rattle.std.proofs.Common.{◌≡◌, ◌≤◌, ◌++◌, false, length, drop, ap, arith, length-append, inr}
+use Rattle.std.proofs.Common.{◌≤◌, ◌++◌, false, length, drop, ap, arith, length-append, inr}
 use Rattle.dfr_station.specs.Input.{pieces}
 use Rattle.dfr_station.proofs.Coming.{pieces_first, takes}
 use Rattle.dfr_station.proofs.intake.cutter.Cutter.next_line.Goals as goal

@@ -1,6 +1,5 @@
-use Rattle.std.proofs.Common.{◌≡◌, false, [], length, drop, ap, sym, ◌∙◌, arith}
+use Rattle.std.proofs.Common.{◌≡◌, false, [], length, drop, ap, ◌∙◌, arith}
 use Rattle.std.proofs.lemmas.List.{drop_all}
-use Rattle.dfr_station.specs.Input.{Cuts}
 use Rattle.dfr_station.proofs.Coming.{pieces_first, pieces_on, skips_to}
 use Rattle.dfr_station.proofs.intake.cutter.Cutter.skip_on.Goals as goal
 
