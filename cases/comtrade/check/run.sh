@@ -13,7 +13,7 @@ rows() {
     printf '%b' "$1" > "$folder/dat"
     checked files/first.cfg "$folder/dat"
 }
-. <(grep '^tried' read-cfg-faults/run.sh)
+. <(grep '^tried' dfr/read/cfg-faults/run.sh)
 tried 1 'Bay\0033[31m,DFR,\0033[2J'
 # counts that don't agree with the lines: a rate too many, a channel too few, one too many, one of the other kind, no frequency
 tried 5 '1\r\n500,3'

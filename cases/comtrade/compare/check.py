@@ -16,7 +16,7 @@ def module(name, path):
 
 
 Record = module("reader", "files/reader.py").Record
-numbers = module("numbers_of_plots", "comtrade-plot-numbers/check.py")
+numbers = module("numbers_of_plots", "comtrade/plot-numbers/check.py")
 SVG = numbers.SVG
 
 

@@ -1,14 +1,14 @@
 # two records in one picture: what is drawn and printed of matching channels is what a plain reader of both pairs works out, at both ends of a line with
 # other rates and triggers, before and after a change, of a record with itself; what is printed of the other channels; what can't be compared
 if ! command -v python3 > /dev/null; then
-    cat comtrade-compare/out # skipped: there is no python3 here
+    cat comtrade/compare/out # skipped: there is no python3 here
     exit 0
 fi
 exec 2>&1
 folder=$(mktemp -d)
 trap 'rm -r "$folder"' EXIT
-python3 comtrade-compare/pairs.py "$folder"
-check() { python3 comtrade-compare/check.py "$comtrade" "$folder" "$@"; }
+python3 comtrade/compare/pairs.py "$folder"
+check() { python3 comtrade/compare/check.py "$comtrade" "$folder" "$@"; }
 check near far
 check --whole near far
 check far near

@@ -4,7 +4,7 @@ exec 2>&1
 folder=$(mktemp -d)
 trap 'rm -r "$folder"' EXIT
 mkdir "$folder/pair" "$folder/new"
-cp comtrade-intended/*.cfg comtrade-intended/*.dat "$folder/pair"
+cp comtrade/intended/*.cfg comtrade/intended/*.dat "$folder/pair"
 cd "$folder" || exit 1
 for name in big-endian unsigned rows-lost mark first-stamp; do
     echo "== $name"

@@ -2,7 +2,7 @@
 import math
 import sys
 
-sys.path.insert(0, sys.path[0] + "/../files")
+sys.path.insert(0, sys.path[0] + "/../../files")
 from signals import plus, then, wave, write  # noqa: E402
 
 LOAD, FAULT = wave(50, 300, -30), wave(50, 3000, -80)

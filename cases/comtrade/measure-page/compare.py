@@ -4,7 +4,7 @@ import pathlib
 import subprocess
 import sys
 
-FILES = pathlib.Path(__file__).parent.parent / "files"
+FILES = pathlib.Path(__file__).parent.parent.parent / "files"
 
 
 def near(one, other, size):

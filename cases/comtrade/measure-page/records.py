@@ -1,7 +1,7 @@
 """Records whose cycles have no whole number of rows, with harmonics, dc and skews: python3 records.py FOLDER"""
 import sys
 
-sys.path.insert(0, sys.path[0] + "/../files")
+sys.path.insert(0, sys.path[0] + "/../../files")
 from signals import plus, wave, write  # noqa: E402
 
 

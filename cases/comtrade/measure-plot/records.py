@@ -1,7 +1,7 @@
 """Records whose rms values are known: python3 records.py FOLDER"""
 import sys
 
-sys.path.insert(0, sys.path[0] + "/../files")
+sys.path.insert(0, sys.path[0] + "/../../files")
 from signals import then, wave, write  # noqa: E402
 
 

@@ -3,7 +3,7 @@
 folder=$(mktemp -d)
 trap 'rm -r "$folder"' EXIT
 most=2000
-cc -O2 -shared -fPIC -o "$folder/refuse.so" comtrade-memory/refuse.c || { most=0; echo 'skipped: no C compiler' >&2; }
+cc -O2 -shared -fPIC -o "$folder/refuse.so" comtrade/memory/refuse.c || { most=0; echo 'skipped: no C compiler' >&2; }
 mkdir "$folder/made"
 shopt -s nullglob
 clear_made() {
@@ -52,7 +52,7 @@ refused csv files/first.dat csv files/first.cfg -
 refused plot /dev/null plot $first
 refused convert /dev/null convert --kind binary $first "$folder/made/pair"
 refused 'convert what the kind can not hold' /dev/null convert --kind ascii files/lenient.cfg files/binary.dat "$folder/made/pair"
-refused extract first/out extract "$folder/made"
+refused extract dfr/replay/first/out extract "$folder/made"
 refused help /dev/null help show
 refused version /dev/null --version
 refused 'no words' /dev/null

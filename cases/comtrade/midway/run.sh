@@ -34,7 +34,7 @@ printf '1,0%s\r\n' "$(for n in $(seq 40); do printf ',%s' "$n"; done)" > "$folde
 limited convert --kind ascii "$folder/wide.cfg" "$folder/wide.dat" "$folder/again"
 # the same of records that are cut out of a replay: the first pair stays where the second can't be written
 mkdir -p "$folder/records/rec2.dat"
-"$dfr" < scans-shared-by-two-records/in | tried extract "$folder/records"
+"$dfr" < dfr/replay/scans-shared-by-two-records/in | tried extract "$folder/records"
 "$dfr" < ../examples/earth-fault/script | limited extract "$folder/cut"
-"$dfr" < first/in | tried extract "$folder/wide.cfg"
+"$dfr" < dfr/replay/first/in | tried extract "$folder/wide.cfg"
 (cd "$folder" && find . | LC_ALL=C sort)

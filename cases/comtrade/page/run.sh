@@ -1,5 +1,5 @@
 # a page in a browser: it loads without an error, draws a known peak in its column, zooms, moves cursors that tell the values of the file
-cd comtrade-page || exit 1
+cd comtrade/page || exit 1
 browser=$(command -v chromium || command -v chromium-browser || command -v google-chrome)
 if [ -z "$browser" ]; then
     cat out # skipped: there is no Chromium here
@@ -7,7 +7,7 @@ if [ -z "$browser" ]; then
 fi
 folder=$(mktemp -d)
 trap 'rm -r "$folder"' EXIT
-"$comtrade" page ../../examples/earth-fault/rec1.cfg ../../examples/earth-fault/rec1.dat > "$folder/page.html" || exit 1
+"$comtrade" page ../../../examples/earth-fault/rec1.cfg ../../../examples/earth-fault/rec1.dat > "$folder/page.html" || exit 1
 {
     echo '<script>const failed = []; addEventListener("error", (event) => failed.push(event.message));</script>'
     cat "$folder/page.html"

@@ -2,7 +2,7 @@
 # or of the new rate if the stamps of all rows show that
 folder=$(mktemp -d)
 trap 'rm -r "$folder"' EXIT
-cfg=rates-border/pair.cfg
+cfg=comtrade/rates-border/pair.cfg
 # name, cfg and dat: notes, times, what `import` writes, and whether the times of that are the same
 tried() {
     echo "== $1"
@@ -17,11 +17,11 @@ tried() {
 }
 changed() { # name, edits of the cfg and of new.dat
     sed -b -e "$2" $cfg > "$folder/$1.cfg"
-    sed -b -e "$3" rates-border/new.dat > "$folder/$1.dat"
+    sed -b -e "$3" comtrade/rates-border/new.dat > "$folder/$1.dat"
     tried "$1" "$folder/$1.cfg" "$folder/$1.dat"
 }
-tried old $cfg rates-border/old.dat
-tried new $cfg rates-border/new.dat
+tried old $cfg comtrade/rates-border/old.dat
+tried new $cfg comtrade/rates-border/new.dat
 # stamps in half microseconds
 changed timemult '$s/1/0.5/' 's/,20000,/,40000,/;s/,20200,/,40400,/;s/,20400,/,40800,/'
 # the stamps fit neither: the border lies between both, a row has no stamp, another row is off by more than half an interval
@@ -35,11 +35,11 @@ three='5s/2/3/;7s/$/\n50,6\r/'
 changed both "$three" '4s/$/\n5,40400,5\r\n6,60400,6\r/'
 changed mixed "$three" '4s/$/\n5,20600,5\r\n6,40600,6\r/'
 # a part that begins after the border
-"$comtrade" csv --from 'row 3' $cfg rates-border/new.dat
-"$comtrade" convert --kind ascii --from 'row 3' $cfg rates-border/new.dat "$folder/part"
+"$comtrade" csv --from 'row 3' $cfg comtrade/rates-border/new.dat
+"$comtrade" convert --kind ascii --from 'row 3' $cfg comtrade/rates-border/new.dat "$folder/part"
 "$comtrade" csv "$folder/part.cfg" "$folder/part.dat"
 # `import` keeps stamps in nanoseconds as microseconds
-sed -b '2,4s/00,/00000,/' rates-border/new.dat > "$folder/nanos.dat"
+sed -b '2,4s/00,/00000,/' comtrade/rates-border/new.dat > "$folder/nanos.dat"
 "$comtrade" import $cfg "$folder/nanos.dat" "$folder/of-nanos"
 tr -d '\032' < "$folder/of-nanos.dat" | cut -d, -f1,2
 "$comtrade" csv "$folder/of-nanos.cfg" "$folder/of-nanos.dat" | cut -d, -f1-3

@@ -3,7 +3,7 @@
 exec 2>&1
 folder=$(mktemp -d)
 trap 'rm -r "$folder"' EXIT
-cp comtrade-text-bytes/*.cfg comtrade-text-bytes/*.dat "$folder"
+cp comtrade/text-bytes/*.cfg comtrade/text-bytes/*.dat "$folder"
 sed 's/^1,IA/1,\xe9\xba\xa3\xb1/' "$folder/gbk.cfg" > "$folder/name.cfg"
 cp "$folder/gbk.dat" "$folder/name.dat"
 cd "$folder" || exit 1

@@ -1,7 +1,7 @@
 # 3,001 scans of a thousand a second come at once: scan 0 is three seconds old, and the last one as new as the clock says
 . files/dfrd.bash
 seq 3001 | sed 's|.*|scan 1/|' > "$work/scans"
-once() { "$dfrd" --quiet "$@" first/in "$folder" > "$work/told"; }
+once() { "$dfrd" --quiet "$@" dfr/replay/first/in "$folder" > "$work/told"; }
 age() { # how old scan 0 was when its line was printed, in whole seconds
     python3 -c '
 import sys

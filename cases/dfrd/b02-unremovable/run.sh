@@ -10,7 +10,7 @@ mv 20000104T000000.000000-4.cfg{,.gone}                                   # nor 
 rm 20000104T000000.000000-4.dat; mkdir 20000104T000000.000000-4.dat
 cd - > /dev/null || exit
 mkfifo "$work/scans"
-"$dfrd" --quiet --start 0 --keep 3 first/in "$folder" < "$work/scans" > "$work/told" 2> "$work/err" &
+"$dfrd" --quiet --start 0 --keep 3 dfr/replay/first/in "$folder" < "$work/scans" > "$work/told" 2> "$work/err" &
 exec 3> "$work/scans"
 printf 'scan 1/\nscan 2/\ntrigger\nscan 3/\nscan 4/\n' >&3
 until_told "$work/told" 'record 1'

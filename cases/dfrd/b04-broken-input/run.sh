@@ -1,6 +1,6 @@
 # an input that can't be read, one that is closed, and one without a scan end with status 1
 . files/dfrd.bash
-once() { "$dfrd" --quiet --start 0 "$@" first/in "$folder" > "$work/told"; echo $?; told < "$work/told"; }
+once() { "$dfrd" --quiet --start 0 "$@" dfr/replay/first/in "$folder" > "$work/told"; echo $?; told < "$work/told"; }
 once < "$work"
 once <&-
 once --raw < "$work"

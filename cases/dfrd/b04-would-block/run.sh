@@ -1,6 +1,6 @@
 # a pipe that doesn't block: where it is empty dfrd waits for more
 . files/dfrd.bash
-python3 - "$dfrd" first/in "$folder" > "$work/told" <<'END'
+python3 - "$dfrd" dfr/replay/first/in "$folder" > "$work/told" <<'END'
 import os, subprocess, sys, time
 for form, scans in ([], b"scan %d/\n"), (["--raw"], b"%c\0"):
     read, write = os.pipe()

@@ -43,4 +43,4 @@ print('skipped' if any(line.startswith('skipped') for line in lines) else 'none'
 print('missed' if any(line.startswith('missed lines') for line in lines) else 'none missed')
 print(*[line for line in lines if line.startswith('end ')], dfrd.wait()) # (on a slow machine more lines are missed, and counted after it)
 P
-python3 "$work/station.py" "$dfrd" --quiet --start 0 first/in "$folder"
+python3 "$work/station.py" "$dfrd" --quiet --start 0 dfr/replay/first/in "$folder"

@@ -3,6 +3,6 @@
 mkfifo "$work/out"
 exec 4<> "$work/out"
 head -c 65536 /dev/zero >&4
-sed '1,/^go$/d; /^take$/d' first/in | timeout 9 "$dfrd" --quiet --start 0 first/in "$folder" > "$work/out"
+sed '1,/^go$/d; /^take$/d' dfr/replay/first/in | timeout 9 "$dfrd" --quiet --start 0 dfr/replay/first/in "$folder" > "$work/out"
 echo "${PIPESTATUS[1]}"
 names

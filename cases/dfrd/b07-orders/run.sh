@@ -3,7 +3,7 @@
 begin() {
     rm -f "$work/scans" "$work/told"
     mkfifo "$work/scans"
-    "$dfrd" --quiet --start 0 --orders "$work/orders" first/in "$folder" < "$work/scans" > "$work/told" 2> "$work/err" &
+    "$dfrd" --quiet --start 0 --orders "$work/orders" dfr/replay/first/in "$folder" < "$work/scans" > "$work/told" 2> "$work/err" &
     exec 3> "$work/scans"
     echo 'scan 1/' >&3
     until_told "$work/told" 'start'
@@ -32,4 +32,4 @@ mkfifo "$work/orders"
 timeout 3 bash -c "echo trigger > '$work/orders'" || echo 'nobody hears it'
 answers 2
 end
-"$dfrd" --quiet --orders "$folder" first/in "$folder" < /dev/null 2>&1 | sed "s|$work|WORK|"
+"$dfrd" --quiet --orders "$folder" dfr/replay/first/in "$folder" < /dev/null 2>&1 | sed "s|$work|WORK|"

@@ -1,7 +1,7 @@
 # the first loss is told at once, those of the next second together, also while the input is silent
 . files/dfrd.bash
 mkfifo "$work/scans"
-"$dfrd" --quiet --start 0 first/in "$folder" < "$work/scans" > "$work/told" &
+"$dfrd" --quiet --start 0 dfr/replay/first/in "$folder" < "$work/scans" > "$work/told" &
 exec 3> "$work/scans"
 printf 'scan 1/\nlost\n' >&3
 until_told "$work/told" 'lost 1'

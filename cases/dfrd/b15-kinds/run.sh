@@ -1,7 +1,7 @@
 # each reason for which the folder takes no record is named, also a second one after the first
 . files/dfrd.bash
 mkfifo "$work/scans"
-bash -c 'trap "" XFSZ; echo $$ > "$2"; exec "$0" --quiet --start 0 first/in "$1"' "$dfrd" "$folder" "$work/pid" < "$work/scans" 2> >(cat > "$work/err") | cat > "$work/told" &
+bash -c 'trap "" XFSZ; echo $$ > "$2"; exec "$0" --quiet --start 0 dfr/replay/first/in "$1"' "$dfrd" "$folder" "$work/pid" < "$work/scans" 2> >(cat > "$work/err") | cat > "$work/told" &
 exec 3> "$work/scans"
 printf 'scan 1/\nscan 2/\n' >&3
 until_told "$work/told" 'start'

@@ -1,7 +1,7 @@
 # an operator's trigger after 2,000 comments is answered within six seconds
 . files/dfrd.bash
 mkfifo "$work/orders" "$work/scans"
-"$dfrd" --quiet --start 0 --orders "$work/orders" first/in "$folder" < "$work/scans" > "$work/told" &
+"$dfrd" --quiet --start 0 --orders "$work/orders" dfr/replay/first/in "$folder" < "$work/scans" > "$work/told" &
 exec 3> "$work/scans"
 echo 'scan 1/' >&3
 until_told "$work/told" 'start'

@@ -1,5 +1,5 @@
 # what would be recorded; nothing is
 . files/dfrd.bash
-"$dfrd" --check first/in "$folder"
+"$dfrd" --check dfr/replay/first/in "$folder"
 echo $?
 names

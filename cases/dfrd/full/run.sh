@@ -1,10 +1,10 @@
 # no file may grow, as on a disk that is full, and then they may again: the record that waited is written
 . files/dfrd.bash
 mkfifo "$work/scans"
-limited='trap "" XFSZ; echo $$ > "$2"; ulimit -S -f 0; exec "$0" --quiet --start 0 first/in "$1"'
+limited='trap "" XFSZ; echo $$ > "$2"; ulimit -S -f 0; exec "$0" --quiet --start 0 dfr/replay/first/in "$1"'
 bash -c "$limited" "$dfrd" "$folder" "$work/pid" < "$work/scans" | cat > "$work/told" &
 exec 3> "$work/scans"
-sed '1,/^go$/d; /^take$/d' first/in >&3
+sed '1,/^go$/d; /^take$/d' dfr/replay/first/in >&3
 until_told "$work/told" 'trouble full'
 names
 prlimit --pid "$(cat "$work/pid")" --fsize=unlimited

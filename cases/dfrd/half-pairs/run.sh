@@ -10,7 +10,7 @@ cp "$files/first.cfg" 19700101T000000.009000-3.cfg.gone                         
 cp "$files/first.cfg" 19700101T000000.009000-4.cfg.part; cp "$files/first.dat" 19700101T000000.009000-4.dat.part # neither rename
 cp "$files/first.cfg" 19700101T000000.009000-5.cfg.gone                                                          # removed but for this
 cd "$OLDPWD" || exit
-"$dfrd" --check first/in "$folder" > "$work/checked" 2>&1
+"$dfrd" --check dfr/replay/first/in "$folder" > "$work/checked" 2>&1
 echo $?
 names
 for n in 1 2 3; do cmp "$folder/19700101T000000.009000-$n.dat" files/first.dat && cmp "$folder/19700101T000000.009000-$n.cfg" files/first.cfg; done

@@ -2,5 +2,5 @@
 . files/dfrd.bash
 long() { printf '%s' "$1"; head -c 10000000 /dev/zero | tr '\0' 1; echo; }
 { echo 'scan 1/'; long 'scan 1'; echo 'scan 2/'; long 'x'; echo 'trigger'; echo 'scan 3/'; echo 'scan 4/'; } |
-    "$dfrd" --quiet --start 0 first/in "$folder" | told
+    "$dfrd" --quiet --start 0 dfr/replay/first/in "$folder" | told
 cat "$folder"/*.dat | tr -d "\r\032"

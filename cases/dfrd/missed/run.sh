@@ -1,7 +1,7 @@
 # rules that fire while the shelf is full open no record: they are counted, and told once it is free
 . files/dfrd.bash
 mkfifo "$work/scans"
-"$dfrd" --quiet --start 0 first/in "$folder" < "$work/scans" > "$work/told" &
+"$dfrd" --quiet --start 0 dfr/replay/first/in "$folder" < "$work/scans" > "$work/told" &
 exec 3> "$work/scans"
 printf 'rules level 0 over 100\nscan 1/\nscan 2/\n' >&3
 until_told "$work/told" 'rules set'

@@ -2,7 +2,7 @@
 . files/dfrd.bash
 mkfifo "$work/scans"
 printf 'trigger\ntrigger\n' > "$work/orders"
-"$dfrd" --quiet --start 0 --orders "$work/orders" first/in "$folder" < "$work/scans" > "$work/told" &
+"$dfrd" --quiet --start 0 --orders "$work/orders" dfr/replay/first/in "$folder" < "$work/scans" > "$work/told" &
 exec 3> "$work/scans"
 for i in 1 2 3 4; do echo "scan $i/" >&3; done
 until_told "$work/told" 'start'
@@ -16,4 +16,4 @@ until_told "$work/told" 'record 1'
 exec 3>&-
 wait
 told < "$work/told"
-"$dfrd" --quiet --orders "$work/none" first/in "$folder" < /dev/null 2>&1 | sed "s|$work|WORK|"
+"$dfrd" --quiet --orders "$work/none" dfr/replay/first/in "$folder" < /dev/null 2>&1 | sed "s|$work|WORK|"

@@ -1,7 +1,7 @@
 # an operator at a FIFO, whose writers come and go; nonsense is refused
 . files/dfrd.bash
 mkfifo "$work/orders" "$work/scans"
-"$dfrd" --quiet --start 0 --orders "$work/orders" first/in "$folder" < "$work/scans" > "$work/told" &
+"$dfrd" --quiet --start 0 --orders "$work/orders" dfr/replay/first/in "$folder" < "$work/scans" > "$work/told" &
 exec 3> "$work/scans"
 for i in 1 2 3 4; do echo "scan $i/" >&3; done
 until_told "$work/told" 'start'

@@ -4,7 +4,7 @@ for name in 20000101T000000.000000-1 20000102T000000.000000-2; do
     cp files/first.cfg "$folder/$name.cfg"; cp files/first.dat "$folder/$name.dat"
 done
 mkfifo "$work/scans"
-"$dfrd" --quiet --start 0 --keep 2 first/in "$folder" < "$work/scans" > "$work/told" &
+"$dfrd" --quiet --start 0 --keep 2 dfr/replay/first/in "$folder" < "$work/scans" > "$work/told" &
 exec 3> "$work/scans"
 printf 'scan 1/\nscan 2/\n' >&3
 until_told "$work/told" 'start'

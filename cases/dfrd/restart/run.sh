@@ -1,6 +1,6 @@
 # a second recording of the same instants takes other names; what an earlier one left that was cut off is ended
 . files/dfrd.bash
-once() { sed '1,/^go$/d; /^take$/d' first/in | "$dfrd" --quiet --start 0 first/in "$folder" | told | grep "^record"; }
+once() { sed '1,/^go$/d; /^take$/d' dfr/replay/first/in | "$dfrd" --quiet --start 0 dfr/replay/first/in "$folder" | told | grep "^record"; }
 once
 once
 name=$folder/19700101T000000.009000-7

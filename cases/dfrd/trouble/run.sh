@@ -1,7 +1,7 @@
 # the folder is gone, and comes back: recording goes on, the shelf fills, and nothing of it is lost that was taken
 . files/dfrd.bash
 mkfifo "$work/scans"
-"$dfrd" --quiet --start 0 first/in "$folder" < "$work/scans" > "$work/told" &
+"$dfrd" --quiet --start 0 dfr/replay/first/in "$folder" < "$work/scans" > "$work/told" &
 exec 3> "$work/scans"
 printf 'scan 1/\nscan 2/\n' >&3
 until_told "$work/told" 'start'

@@ -28,6 +28,6 @@ sed 's/#.*//; s/:.*//' crates.txt | awk 'NF { print $1 }' | LC_ALL=C sort | whil
     grep -qF "    (cd crates/$name && rt check)" "$page" || echo "$name: no line that checks it"
     unknown "$page" "$name"
     gone "$page" "$name"
-    awk -v name="$name" -f cases/readme-examples/blocks.awk "$page"
+    awk -v name="$name" -f cases/documents/readme-examples/blocks.awk "$page"
 done
-sed -n "/^### A recorder of one's own/,/^## /p" docs/EMBEDDING.md | awk -v name=EMBEDDING -f cases/readme-examples/blocks.awk
+sed -n "/^### A recorder of one's own/,/^## /p" docs/EMBEDDING.md | awk -v name=EMBEDDING -f cases/documents/readme-examples/blocks.awk

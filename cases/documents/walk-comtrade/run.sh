@@ -1,6 +1,6 @@
 # The walks of the pages on comtrade print what the pages show; the sample records are what their script writes; the page on import lists
 # each key of a repair. Skipped without python3
-command -v python3 > /dev/null || exec cat walk-comtrade/out
+command -v python3 > /dev/null || exec cat documents/walk-comtrade/out
 exec 2>&1
 export LC_ALL=C
 folder=$(mktemp -d)

@@ -1,5 +1,5 @@
 # the commands of the example's README as they stand there, in a copy of the examples without what they make
-command -v python3 > /dev/null || exec cat example-lost-scans/out # skipped: its check is written in Python
+command -v python3 > /dev/null || exec cat examples/lost-scans/out # skipped: its check is written in Python
 folder=$(mktemp -d)
 trap 'rm -r "$folder"' EXIT
 cp -r ../examples "$folder/examples"

@@ -29,4 +29,4 @@ compile cc c c99
 compile cc c c17
 compile c++ c++ c++17
 same Rust rust examples/embedding/rust/comtrade/examples/sample.rs
-section Rattle | awk -v name=Rattle -f cases/readme-examples/blocks.awk
+section Rattle | awk -v name=Rattle -f cases/documents/readme-examples/blocks.awk

@@ -3,7 +3,7 @@
 folder=$(mktemp -d)
 trap 'rm -rf "$folder"' EXIT
 skipped() { echo "skipped: $*" >&2; }
-here=$(cd ../share/completions && pwd) cases=$(cd completions && pwd)
+here=$(cd ../share/completions && pwd) cases=$(cd packaging/completions && pwd)
 mkdir -p "$folder/place/sub" "$folder/home"
 cd "$folder/place" || exit 1
 touch rec1.cfg rec1.dat REC2.CFF notes.txt 'two words.Cfg'

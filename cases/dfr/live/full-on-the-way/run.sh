@@ -1,7 +1,7 @@
 # a disk that is full after 1,024 bytes of the data file: they stay, and nothing is tried again
 . files/live.bash
 {
-    head -n 6 first/in
+    head -n 6 dfr/replay/first/in
     printf '%s\n' 'limits 99,1,101,1' go
     for k in {10..109}; do echo "scan $k/"; done
     printf '%s\n' trigger 'scan 110/'

@@ -1,7 +1,7 @@
 # a disk that is full after 1,024 bytes of the configuration file: they stay, and no data file is made
 . files/live.bash
 {
-    head -n 2 first/in
+    head -n 2 dfr/replay/first/in
     for k in {1..40}; do echo "analog I$k,A,,A,1,0,0,-32767,32767,1,1,P"; done
     printf '%s\n' 'freq 50' 'rate 1000' 'start 0' 'limits 2,2,6,1' go
     for k in {0..3}; do echo "scan $(printf '%d,' {1..39})$k/"; done

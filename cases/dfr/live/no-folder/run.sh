@@ -1,6 +1,6 @@
 # the folder isn't made
 . files/live.bash
-"$dfr" live first/in "$folder/none"
+"$dfr" live dfr/replay/first/in "$folder/none"
 status=$?
 names
 exit $status

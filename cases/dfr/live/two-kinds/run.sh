@@ -1,7 +1,7 @@
 # ten records of one script in both kinds: each file is the one that a replay prints
 . files/live.bash
 {
-    head -n 6 first/in
+    head -n 6 dfr/replay/first/in
     printf '%s\n' 'limits 3,4,12,20' go
     for k in {0..299}; do
         echo "scan $((k * 7919 % 18001 - 9001))/"

@@ -1,7 +1,7 @@
 # 140,000 scans and 353 records: 64 wait and a trigger meets the full shelf, by hand and by a rule; they are taken; more follow by a rule
 . files/replayed.bash
 script() {
-    head -n 6 first/in
+    head -n 6 dfr/replay/first/in
     printf '%s\n' 'limits 3,5,12,64' go
     awk 'function many(count, line) { while (count-- > 0) print line }
     BEGIN {

@@ -1,2 +1,2 @@
 # standard output is closed
-"$dfr" < first/in >&-
+"$dfr" < dfr/replay/first/in >&-

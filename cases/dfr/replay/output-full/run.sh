@@ -1,2 +1,2 @@
 # a device that takes no byte
-"$dfr" < first/in > /dev/full
+"$dfr" < dfr/replay/first/in > /dev/full

@@ -11,8 +11,8 @@ tried 'station x\r\n\r\n'
 tried '\n\n'
 tried '\r'
 # one CR ends a line, and a second one is a word of it
-got=$({ cat first/in; printf '\r\r'; } | "$dfr"; echo "$?")
+got=$({ cat dfr/replay/first/in; printf '\r\r'; } | "$dfr"; echo "$?")
 echo "two CR | ${got//$'\n'/ | }"
-got=$({ cat first/in; printf '\r\r\n\n'; } | "$dfr"; echo "$?")
+got=$({ cat dfr/replay/first/in; printf '\r\r\n\n'; } | "$dfr"; echo "$?")
 echo "two CR and lines | ${got//$'\n'/ | }"
-{ cat first/in; printf '\r'; } | "$dfr" | cmp - first/out && echo 'one CR'
+{ cat dfr/replay/first/in; printf '\r'; } | "$dfr" | cmp - dfr/replay/first/out && echo 'one CR'

@@ -1,6 +1,6 @@
 # the first script with one line replaced by one that may not stand there: line, text, what is printed, status
 tried() {
-    got=$({ head -n "$(($1 - 1))" first/in; printf '%s\n' "$2"; tail -n "+$(($1 + 1))" first/in; } | "$dfr"; echo "$?")
+    got=$({ head -n "$(($1 - 1))" dfr/replay/first/in; printf '%s\n' "$2"; tail -n "+$(($1 + 1))" dfr/replay/first/in; } | "$dfr"; echo "$?")
     echo "$1 | $2 | ${got//$'\n'/ | }"
 }
 tried 1 'scan 1/'
@@ -19,5 +19,5 @@ tried 9 'scan1/'
 tried 9 'trigger x'
 tried 9 'triggers'
 # two lines of rules before go
-got=$({ head -n 7 first/in; echo 'rules'; echo 'rules'; tail -n +8 first/in; } | "$dfr"; echo "$?")
+got=$({ head -n 7 dfr/replay/first/in; echo 'rules'; echo 'rules'; tail -n +8 dfr/replay/first/in; } | "$dfr"; echo "$?")
 echo "rules twice | ${got//$'\n'/ | }"

@@ -1,6 +1,6 @@
 # the first script with its first command replaced: text, what is printed, status
 tried() {
-    got=$({ head -n 8 first/in; printf '%s\n' "$1"; tail -n +10 first/in; } | "$dfr"; echo "$?")
+    got=$({ head -n 8 dfr/replay/first/in; printf '%s\n' "$1"; tail -n +10 dfr/replay/first/in; } | "$dfr"; echo "$?")
     echo "$1 | ${got//$'\n'/ | }"
 }
 tried 'scan'

@@ -1,6 +1,6 @@
 # the first script with a set-up line that can be read and isn't valid: line, text, what is printed, status
 tried() {
-    got=$({ head -n "$(($1 - 1))" first/in; printf '%s\n' "$2"; tail -n "+$(($1 + 1))" first/in; } | "$dfr"; echo "$?")
+    got=$({ head -n "$(($1 - 1))" dfr/replay/first/in; printf '%s\n' "$2"; tail -n "+$(($1 + 1))" dfr/replay/first/in; } | "$dfr"; echo "$?")
     echo "$1 | $2 | ${got//$'\n'/ | }"
 }
 tried 1 'station a,b'
