@@ -180,5 +180,5 @@ module _ {A : Type 0} where
   all_failed Puts kind o s scans f f' p p' k k' (Ok r) new cause front = tt
   all_failed Puts kind o s scans f f' p p' k k' (Err why) new cause front = λ word named.
       failed Puts kind o s f f' p p' k k' why word
-          (subst (λ (n : ℕ). HasCause Feeds never Puts (λ s _ what t. stops s what t) o kind (open_fault n 1_024 2) (f, p, k) (f', p', k') why) new cause)
-          (fronted why word named front) named
+      (subst (λ (n : ℕ). HasCause Feeds never Puts (λ s _ what t. stops s what t) o kind (open_fault n 1_024 2) (f, p, k) (f', p', k') why) new cause)
+      (fronted why word named front) named
