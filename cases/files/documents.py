@@ -1,11 +1,13 @@
 #!/usr/bin/env python3
 """Reads the pages for people: documents.py PAGE.. prints what is wrong with them, and nothing where all is well.
 
-A link within the repository has to lead to a file, and its anchor to a heading there. Sentences have 18 words at most on average, over
+A link within the repository has to lead to a file, and its anchor to a heading there. A name in backticks that ends in .rt has to be
+the end of a path in crates/, and one that begins with a folder of cases/ has to be there, in crates/ or at the top. Sentences have 18 words at most on average, over
 all pages and on each page, and lines at most 110 columns outside tables, code, pictures
 and the names of files that an example stands in.
 """
 
+import glob
 import os
 import re
 import sys
@@ -60,6 +62,19 @@ def broken(page, text):
             yield link
 
 
+def unknown(text):
+    """Names of code files and cases that are not there."""
+    code = [it.replace(os.sep, "/") for it in glob.glob("crates/*/src/**/*.rt", recursive=True)]
+    groups = set(os.listdir("cases"))
+    for name in dict.fromkeys(re.findall(r"`([\w/*.-]+)`", text)):
+        if re.fullmatch(r"[a-z0-9_/]+\.rt", name):
+            if not any(f"/{it}".endswith(f"/{name}") for it in code):
+                yield name
+        elif "/" in name and (name.startswith("cases/") or name.split("/")[0] in groups):
+            if not any(glob.glob(folder + name) for folder in ("", "cases/", "crates/")):
+                yield name
+
+
 def main():
     every = []
     for page in sys.argv[1:]:
@@ -71,6 +86,8 @@ def main():
             print(f"{page}: {sum(found) / len(found):.1f} words in a sentence")
         for link in broken(page, text):
             print(f"{page}: no {link}")
+        for name in unknown(text):
+            print(f"{page}: no {name}")
         for line in text.split("\n"):
             if len(line) > LONGEST and not re.match(r"\s*(\||!\[|`crates/)", line):
                 print(f"{page}: a line of {len(line)} columns: {line[:60]}")

@@ -1,0 +1,8 @@
+# rms values and phasors of a page are those of `measure`, also where a cycle has no whole number of rows, and with skews
+command -v python3 > /dev/null && command -v node > /dev/null || { echo "comtrade/measure-page: skipped without python3 and node" >&2; cat comtrade/measure-page/out; exit 0; }
+folder=$(mktemp -d)
+trap 'rm -r "$folder"' EXIT
+python3 comtrade/measure-page/records.py "$folder"
+for record in 960-50 800-60 4000-60 4800-50 rates missing; do
+    python3 comtrade/measure-page/compare.py "$comtrade" "$folder/$record" 97 100 160 199 2>&1
+done

@@ -1,0 +1,2 @@
+# standard output is closed
+"$dfr" < dfr/replay/first/in >&-

@@ -1,5 +1,0 @@
-# the input ends within a frame, and before any
-. files/dfrd.bash
-printf '\1\0\2\0\3' | "$dfrd" --raw --quiet --start 0 first/in "$folder" | told
-"$dfrd" --raw --quiet --start 0 first/in "$folder" < /dev/null | told
-names

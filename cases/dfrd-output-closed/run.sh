@@ -1,7 +1,0 @@
-# standard output is closed, full, or a pipe whose reader has gone: recording goes on
-. files/dfrd.bash
-once() { sed '1,/^go$/d; /^take$/d' first/in | "$dfrd" --quiet --start 0 first/in "$folder"; }
-once > /dev/full
-once | true
-once >&-
-names

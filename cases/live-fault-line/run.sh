@@ -1,6 +1,0 @@
-# a fault of a line comes before anything is run
-. files/live.bash
-{ cat first/in; echo "scan x/"; } | "$dfr" live /dev/stdin "$folder"
-status=$?
-names
-exit $status

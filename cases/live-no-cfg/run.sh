@@ -1,7 +1,0 @@
-# a configuration file that can't be made: a folder has its name
-. files/live.bash
-mkdir "$folder/rec1.cfg"
-"$dfr" live first/in "$folder"
-status=$?
-names
-exit $status

@@ -1,3 +1,0 @@
-# without a record the folder isn't looked at; an open record isn't written
-. files/live.bash
-{ head -n 12 first/in; echo trigger; } | "$dfr" live /dev/stdin "$folder/none"

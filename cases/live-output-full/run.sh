@@ -1,6 +1,0 @@
-# standard output takes no byte: the files are there all the same
-. files/live.bash
-"$dfr" live first/in "$folder" > /dev/full
-status=$?
-names
-exit $status

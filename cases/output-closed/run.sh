@@ -1,2 +1,0 @@
-# standard output is closed
-"$dfr" < first/in >&-

@@ -1,2 +1,0 @@
-# a device that takes no byte
-"$dfr" < first/in > /dev/full

@@ -1,2 +1,0 @@
-# a reader that has gone away before the first byte
-{ sleep 1; "$dfr" < first/in; echo "$?" >&2; } | true

@@ -1,3 +1,0 @@
-# the first script with a station and a device without a name, and with no rules on a line of their own
-sed '1s/.*/station/;2s/.*/device/' first/in | "$dfr" | cmp - <(sed 's/^cfg 142$/cfg 134/;s/^Bay 1,DFR,1999/,,1999/' first/out) && echo same
-sed '7a rules' first/in | "$dfr" | cmp - first/out && echo same
