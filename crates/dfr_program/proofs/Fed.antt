@@ -1,9 +1,8 @@
 -- What a run over a script was given: all of its scans and orders.
-use Rattle.std.proofs.Common.{◌≡◌, ◌⊎◌, inl, inr, ℕ, List, [], ◌∷◌, ◌++◌, map, Bool, true, false, true≢false, Option, Some, None, is_some, Result, Ok, Err, refl, sym, ◌∙◌, ap, subst, arith, append_assoc}
+use Rattle.std.proofs.Common.{◌≡◌, ◌⊎◌, inl, inr, ℕ, List, [], ◌∷◌, ◌++◌, map, true≢false, Option, Some, None, is_some, Result, Ok, Err, refl, sym, ◌∙◌, ap, subst, arith, append_assoc}
 use Rattle.std.proofs.lemmas.List.{append-nil, map-append}
-use Rattle.std.specs.Prelude.{IfOk, IfErr, min, max}
+use Rattle.std.specs.Prelude.{IfErr, min, max}
 use Rattle.dfr_recorder.specs.Steps.{StepParts}
-use Rattle.dfr_recorder.specs.Steps as step
 use Rattle.dfr_recorder.specs.History.{Opening}
 use Rattle.comtrade_format.specs.declared.file.Kind.{Kind}
 use Rattle.dfr_script.specs.Parts.{ScriptParts}

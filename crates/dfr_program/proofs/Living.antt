@@ -1,5 +1,5 @@
 -- The recorder that a script makes, in a live run.
-use Rattle.std.proofs.Common.{◌≡◌, Bool, true, false, List, ℕ, Option, Some, None, Result, Ok, Err, sym, subst}
+use Rattle.std.proofs.Common.{◌≡◌, Bool, List, ℕ, Option, Some, None, Result, Ok, Err, sym, subst}
 use Rattle.std.specs.Prelude.{IfOk, IfErr}
 use Rattle.std.specs.Io.KnownBytes.{Appends}
 use Rattle.dfr_recorder.specs.Kept.{Kept}
@@ -14,7 +14,7 @@ use Rattle.dfr_recorder.specs.History.{Opening}
 use Rattle.dfr_program.specs.declared.prepared.Fault.{Fault}
 use Rattle.dfr_program.specs.Faults.{IsMadeOf}
 use Rattle.dfr_program.specs.Live.{GivenParts, Ran, TellsCame, TellsOver, TellsLive, PrintsLive}
-use Rattle.dfr_program.specs.Reports.{report_text, run_word}
+use Rattle.dfr_program.specs.Reports.{run_word}
 
 pub tells_run : (A : Type 0) (g : GivenParts) (f : Option Fault) (s : ScriptParts) (k : Kept) (done : Bool) (text : List ℕ) → f ≡ None → IsMadeOf s k → TellsOver A g (opening_of k) done text → TellsLive A g f s done text
 tells_run A g f s k done text q made over =
