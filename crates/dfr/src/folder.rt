@@ -1,15 +1,15 @@
 //! The folder that receives the files of records.
 
-ghost use Rattle.std.specs.Prelude.{◌≡◌, ◌++◌, IfOk, IfErr, codes, decimal};
+ghost use Rattle.std.specs.Prelude.{◌≡◌, IfOk};
 ghost use Rattle.std.specs.String.{string_bytes};
+ghost use Rattle.dfr.specs.Folders.{path_in, WritesFile, WritesPart};
 
+use crate::directory::Directory;
 use comtrade_write::write_all_of;
 use dfr_live::Sink;
 use dfr_recorder::Extent;
 use itoa::Buffer;
 use std::alloc::{AllocError, Allocator};
-use std::fs::File;
-use std::rt::Files;
 
 /// The code of every error: an empty path, a failed allocation, or a file that could not be created
 /// or written in full.
@@ -18,11 +18,12 @@ const UNWRITTEN: u32 = 1;
 /// A sink that writes record N into the folder `path`, as `recN.cfg` and `recN.dat`. Files that
 /// already have these names are replaced. An empty `path` names no folder, and every write fails.
 #[derive(Drop)]
-pub struct Folder<'a, R> {
-    /// The runtime that gives access to files.
-    pub rt: &'a R,
+pub struct Folder<'a, D, A: Allocator> {
+    pub alloc: A,
     /// The folder's path.
     pub path: &'a str,
+    /// Where the files are created.
+    pub files: D,
 }
 
 /// The path of a record's file: `FOLDER/recN` and the ending.
@@ -32,8 +33,7 @@ fn path_of<A: Allocator>(
     number: u64,
     ending: &str,
 ) -> Result<String<A>, AllocError>
-    ensures { IfOk result (λ path. string_bytes path
-        ≡ folder.now ++ codes "/rec" ++ decimal number ++ ending.now) }
+    ensures { IfOk result (λ path. string_bytes path ≡ path_in folder.now number ending.now) }
 {
     let mut path = String::from_str(alloc, folder)?;
     path.push_str("/rec")?;
@@ -43,40 +43,51 @@ fn path_of<A: Allocator>(
 }
 
 /// Creates the file, or empties an existing one, and writes the bytes.
-fn write_file<R: Files>(rt: &R, path: &str, bytes: &[u8]) -> Result<(), u32>
-    ensures { IfErr result (λ code. code ≡ 1) }
+fn write_file<D: Directory>(files: &mut D, path: &str, bytes: &[u8]) -> Result<(), u32>
+    ensures { WritesFile D.creates D.closes D.File.contents path.now bytes.now files.old result files.new }
 {
-    let Ok(mut file) = File::create(rt, path) else {
+    let Some(mut file) = files.create(path) else {
         return Err(UNWRITTEN);
     };
-    match write_all_of(&mut file, bytes) {
+    let written = write_all_of(&mut file, bytes);
+    files.close(file);
+    match written {
         Ok(()) => Ok(()),
         Err(_) => Err(UNWRITTEN),
     }
 }
 
-fn write_part<R: Files + AllocGlobal>(
-    folder: &Folder<'_, R>,
+/// Writes one of a record's two files.
+fn write_part<D: Directory, A: Allocator>(
+    alloc: A,
+    folder: &str,
+    files: &mut D,
     number: u64,
     ending: &str,
     bytes: &[u8],
 ) -> Result<(), u32>
-    ensures { IfErr result (λ code. code ≡ 1) }
+    ensures { WritesPart D.creates D.closes D.File.contents folder.now number ending.now bytes.now
+        files.old result files.new }
 {
-    if folder.path.is_empty() {
+    if number == 0 {
         return Err(UNWRITTEN);
     }
-    let Ok(path) = path_of(folder.rt.alloc(), folder.path, number, ending) else {
+    let Ok(path) = path_of(alloc, folder, number, ending) else {
         return Err(UNWRITTEN);
     };
-    write_file(folder.rt, path.as_str(), bytes)
+    write_file(files, path.as_str(), bytes)
 }
 
-impl<R: Files + AllocGlobal> Sink for Folder<'_, R> {
-    fn put(&mut self, extent: Extent, cfg: &[u8], dat: &[u8]) -> Result<(), u32>
-        ensures { IfErr result (λ code. code ≡ 1) }
-    {
-        write_part(self, extent.number, ".cfg", cfg)?;
-        write_part(self, extent.number, ".dat", dat)
+impl<D: Directory, A: Allocator + Copy> Sink for Folder<'_, D, A> {
+    ghost use Rattle.std.specs.Prelude.{◌≡◌};
+    ghost use Rattle.dfr.specs.Folders.{PutsFiles};
+
+    ghost puts = { λ s files r t. (t.path ≡ s.path)
+        × PutsFiles D.creates D.closes D.File.contents s.path.now files s.files r t.files };
+
+    fn put(&mut self, extent: Extent, cfg: &[u8], dat: &[u8]) -> Result<(), u32> {
+        let number = extent.number;
+        write_part(self.alloc, self.path, &mut self.files, number, ".cfg", cfg)?;
+        write_part(self.alloc, self.path, &mut self.files, number, ".dat", dat)
     }
 }

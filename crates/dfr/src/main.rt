@@ -7,11 +7,13 @@
 //! K is `ascii` (the default) or `binary`. Exit status: 0 done, 1 error, 2 usage error.
 #![tactic(auto)]
 
+mod directory;
 mod folder;
 
 ghost use Rattle.std.specs.Prelude.{◌≤◌, IfOk, length};
 ghost use Rattle.dfr_program.specs.Words.{NamesFiles};
 
+use crate::directory::Disk;
 use crate::folder::Folder;
 use bumpalo::Bump;
 use comtrade_write::Kind;
@@ -144,8 +146,9 @@ fn main(rt: HostRuntime) -> ExitCode {
         return ExitCode::from(2);
     };
     let mut folder = Folder {
-        rt: &rt,
+        alloc: rt.alloc(),
         path: last_of(&words),
+        files: Disk { rt: &rt },
     };
     match run(&rt, &words, command, &mut folder) {
         Ok(true) => ExitCode::SUCCESS,

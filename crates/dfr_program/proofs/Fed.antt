@@ -1,15 +1,16 @@
 -- What a run over a script was given: all of its scans and orders.
-use Rattle.std.proofs.Common.{◌≡◌, ◌⊎◌, inl, inr, ℕ, List, [], ◌∷◌, ◌++◌, map, Bool, true, false, true≢false, Option, Some, None, Result, Ok, Err, refl, sym, ◌∙◌, ap, subst, arith, append_assoc}
+use Rattle.std.proofs.Common.{◌≡◌, ◌⊎◌, inl, inr, ℕ, List, [], ◌∷◌, ◌++◌, map, true≢false, Option, Some, None, is_some, Result, Ok, Err, refl, sym, ◌∙◌, ap, subst, arith, append_assoc}
 use Rattle.std.proofs.lemmas.List.{append-nil, map-append}
-use Rattle.std.specs.Prelude.{IfOk, IfErr, min, max}
+use Rattle.std.specs.Prelude.{IfErr, min, max}
 use Rattle.dfr_recorder.specs.Steps.{StepParts}
-use Rattle.dfr_recorder.specs.Steps as step
 use Rattle.dfr_recorder.specs.History.{Opening}
 use Rattle.comtrade_format.specs.declared.file.Kind.{Kind}
 use Rattle.dfr_script.specs.Parts.{ScriptParts}
 use Rattle.dfr_live.specs.Parts.{CallParts, EntryParts}
 use Rattle.dfr_live.specs.declared.entry.Reply.{Reply}
+use Rattle.dfr_live.specs.Calls.{open_fault}
 use Rattle.dfr_live.specs.declared.outcome.OpenFault.{OpenFault}
+use Rattle.dfr_live.specs.declared.outcome.OpenFault.TheVariants as open_refused
 use Rattle.dfr_live.specs.declared.station.Fed.{Fed}
 use Rattle.dfr_live.specs.declared.station.Fed.TheVariants as fed
 use Rattle.dfr_live.specs.declared.station.Order.{Order}
@@ -23,6 +24,7 @@ use Rattle.dfr_program.specs.declared.plan.Scans.{Scans}
 use Rattle.dfr_program.specs.declared.plan.Placed.{Placed}
 use Rattle.dfr_program.specs.Plans.{scans_in, orders_in, steps_left, orders_left, placed, calls_made, call_at, FeedsNext, OrdersNext}
 use Rattle.dfr_program.specs.Live.{given_by, Ran}
+use Rattle.dfr_program.specs.Reports.{run_word}
 
 -- the greatest place of orders
 abbrev pub reached : ℕ → List (ℕ × CallParts) → ℕ
@@ -45,6 +47,18 @@ call_in_note n = (n.0, n.1)
 calls-noted : (es : List EntryParts) → map call_at es ≡ map call_in_note (map noted es)
 calls-noted [] = refl
 calls-noted (e ∷ es) = ap (λ (l : List (ℕ × CallParts)). call_at e ∷ l) (calls-noted es)
+
+none-named : {word : List ℕ} → None ≡ Some word → ⊥
+none-named q = true≢false (sym (ap is_some q))
+
+fronted : {Q : Type 0} (why : LiveFault) (word : List ℕ) → run_word why ≡ Some word → ((why ≡ fault.Memory) ⊎ Q) → Q
+fronted why word named (inl q) = absurd (none-named (sym (ap run_word q) ∙ named))
+fronted why word named (inr front) = front
+
+-- a recorder of a script can be opened, unless an allocation fails
+open-failed : (why : OpenFault) (word : List ℕ) → run_word (fault.Open why) ≡ Some word → ((None ≡ Some why) ⊎ (why ≡ open_refused.Memory)) → ⊥
+open-failed why word named (inl q) = true≢false (sym (ap is_some q))
+open-failed why word named (inr q) = none-named (sym (ap (λ (f : OpenFault). run_word (fault.Open f)) q) ∙ named)
 
 module _ {A : Type 0} where
   -- a feed and a desk over a script
@@ -142,25 +156,28 @@ module _ {A : Type 0} where
         none_waits = h.none_waits;
       }
 
-  -- why it failed
-  pub failed : {K : Type 0} (Puts : PutsOf K) (kind : Kind) (o : Opening) (s : ScriptParts) (refused : Option OpenFault)
-      (f f' : Scans A) (p p' : Placed A) (k k' : K) (why : LiveFault)
-      → HasCause Feeds never Puts (λ s _ what t. stops s what t) o kind refused (f, p, k) (f', p', k') why
-      → ((why ≡ fault.Memory) ⊎ GotFront Puts (λ s _ what t. stops s what t) o kind k k')
+  -- why it failed, where its fault has a word
+  failed : {K : Type 0} (Puts : PutsOf K) (kind : Kind) (o : Opening) (s : ScriptParts)
+      (f f' : Scans A) (p p' : Placed A) (k k' : K) (why : LiveFault) (word : List ℕ)
+      → HasCause Feeds never Puts (λ s _ what t. stops s what t) o kind None (f, p, k) (f', p', k') why
+      → GotFront Puts (λ s _ what t. stops s what t) o kind k k' → run_word why ≡ Some word
       → (given_by Puts kind k k' s).Fails o why
-  failed Puts kind o s refused f f' p p' k k' (fault.Feed code) cause front = absurd (never-failed f f' code cause)
-  failed Puts kind o s refused f f' p p' k k' (fault.Sink code) cause front = (cause, front)
-  failed Puts kind o s refused f f' p p' k k' fault.Turns cause front = (tt, front)
-  failed Puts kind o s refused f f' p p' k k' fault.Counter cause front = (tt, front)
-  failed Puts kind o s refused f f' p p' k k' fault.Memory cause front = (tt, front)
-  failed {K} Puts kind o s refused f f' p p' k k' (fault.Open why) cause front =
-      (ap (λ (x : Scans A × Placed A × K). x.2) cause.0, front)
-  failed Puts kind o s refused f f' p p' k k' (fault.End why) cause front = (tt, front)
+  failed Puts kind o s f f' p p' k k' (fault.Feed code) word cause front named = absurd (never-failed f f' code cause)
+  failed Puts kind o s f f' p p' k k' (fault.Sink code) word cause front named = (cause, front)
+  failed Puts kind o s f f' p p' k k' fault.Turns word cause front named = (tt, front)
+  failed Puts kind o s f f' p p' k k' fault.Counter word cause front named = (tt, front)
+  failed Puts kind o s f f' p p' k k' fault.Memory word cause front named = absurd (none-named named)
+  failed Puts kind o s f f' p p' k k' (fault.Open why) word cause front named = absurd (open-failed why word named cause.1)
+  failed Puts kind o s f f' p p' k k' (fault.End why) word cause front named = (tt, front)
 
-  pub all_failed : {K R : Type 0} (Puts : PutsOf K) (kind : Kind) (o : Opening) (s : ScriptParts) (refused : Option OpenFault)
-      (f f' : Scans A) (p p' : Placed A) (k k' : K) (came : Result R LiveFault)
-      → IfErr came (HasCause Feeds never Puts (λ s _ what t. stops s what t) o kind refused (f, p, k) (f', p', k'))
+  -- so of a run over a new recorder
+  pub all_failed : {K R : Type 0} (Puts : PutsOf K) (kind : Kind) (o : Opening) (s : ScriptParts) (scans : ℕ)
+      (f f' : Scans A) (p p' : Placed A) (k k' : K) (came : Result R LiveFault) → scans ≡ 0
+      → IfErr came (HasCause Feeds never Puts (λ s _ what t. stops s what t) o kind (open_fault scans 1_024 2) (f, p, k) (f', p', k'))
       → IfErr came (λ why. (why ≡ fault.Memory) ⊎ GotFront Puts (λ s _ what t. stops s what t) o kind k k')
-      → IfErr came ((given_by Puts kind k k' s).Fails o)
-  all_failed Puts kind o s refused f f' p p' k k' (Ok r) cause front = tt
-  all_failed Puts kind o s refused f f' p p' k k' (Err why) cause front = failed Puts kind o s refused f f' p p' k k' why cause front
+      → IfErr came (λ why. (word : List ℕ) → run_word why ≡ Some word → (given_by Puts kind k k' s).Fails o why)
+  all_failed Puts kind o s scans f f' p p' k k' (Ok r) new cause front = tt
+  all_failed Puts kind o s scans f f' p p' k k' (Err why) new cause front = λ word named.
+      failed Puts kind o s f f' p p' k k' why word
+      (subst (λ (n : ℕ). HasCause Feeds never Puts (λ s _ what t. stops s what t) o kind (open_fault n 1_024 2) (f, p, k) (f', p', k') why) new cause)
+      (fronted why word named front) named

@@ -1,5 +1,5 @@
 -- Writing some bytes after others.
-use Rattle.std.proofs.Common.{◌≡◌, ◌≢◌, ◌<◌, ℕ, List, [], ◌++◌, Option, take, drop, length, length-drop, ap, arith}
+use Rattle.std.proofs.Common.{◌≢◌, ◌<◌, ℕ, List, [], ◌++◌, Option, take, drop, length, length-drop, ap, arith}
 use Rattle.std.proofs.KnownBytes.{Appends-nil, Appends-trans}
 use Rattle.std.specs.Io.KnownBytes.{Appends}
 use Rattle.std.proofs.lemmas.List.{take-append-drop}

@@ -1,5 +1,5 @@
 -- What a live run writes: the line of a fault, or the report of the run.
-use Rattle.std.specs.Prelude.{◌≡◌, ◌⊎◌, ℕ, List, [], map, filter, ⊤, Option, Some, None, Result, Ok, Err, Bool, true, false}
+use Rattle.std.specs.Prelude.{◌≡◌, ℕ, List, [], map, filter, ⊤, Option, Some, None, Result, Ok, Err, Bool, true, false}
 use Rattle.std.specs.Io.KnownBytes.{Appends}
 use Rattle.dfr_recorder.specs.History.{Opening}
 use Rattle.dfr_recorder.specs.Steps.{StepParts}
@@ -28,15 +28,15 @@ pub record GivenParts : Type 1 where
   pub Sinks : Opening → List EntryParts → Type 0
   pub Fails : Opening → LiveFault → Type 0
 
--- why a run over a script ended with this fault: a script's feed never fails; a sink refused the files of a record, after those of others;
--- where the recorder wasn't opened, the sink is as it was
+-- why a run over a script ended with a fault that is printed: a script's feed never fails, and its recorder can be opened; a sink refused the
+-- files of a record, after those of others; out of memory isn't printed
 abbrev pub WhyFailed : {K : Type 0} → PutsOf K → Kind → K → K → Opening → LiveFault → Type 0
 WhyFailed Puts kind old new o (fault.Feed code) = ⊥
 WhyFailed Puts kind old new o (fault.Sink code) = SinkFailed Puts (λ s _ what t. stops s what t) o kind old code new
 WhyFailed Puts kind old new o fault.Turns = ⊤
 WhyFailed Puts kind old new o fault.Counter = ⊤
-WhyFailed Puts kind old new o fault.Memory = ⊤
-WhyFailed Puts kind old new o (fault.Open why) = new ≡ old
+WhyFailed Puts kind old new o fault.Memory = ⊥
+WhyFailed Puts kind old new o (fault.Open why) = ⊥
 WhyFailed Puts kind old new o (fault.End why) = ⊤
 
 -- what the script gives it; the sink got the files of the records that were taken; where the run failed, those of some records, and then
@@ -46,9 +46,7 @@ given_by Puts kind old new s = record {
   scans = scans_in s.commands;
   orders = orders_in 0 s.commands;
   Sinks = λ o made. GotAll Puts (λ s _ what t. stops s what t) o kind old made new;
-  Fails = λ o why.
-      WhyFailed Puts kind old new o why
-      × ((why ≡ fault.Memory) ⊎ GotFront Puts (λ s _ what t. stops s what t) o kind old new);
+  Fails = λ o why. WhyFailed Puts kind old new o why × GotFront Puts (λ s _ what t. stops s what t) o kind old new;
 }
 
 -- a report on a run in threads over this opening, of all that it was given: the source took in the steps of its scans, and none is left;

@@ -103,7 +103,7 @@ fn run_plan<A: Allocator + Copy + Send + Sync, K: Sink + Send, R: Threads + Wait
     kind: Kind,
     sink: &mut K,
 ) -> Result<Told<A>, RunFault>
-    ensures text { IfOk result (λ told. (s : ScriptParts)
+    ensures text { IfOk result (λ told. (s : ScriptParts) → plan.recorder.scans ≡ 0
         → map given plan.scans.items ≡ scans_in s.commands
         → map placed plan.orders.items ≡ orders_in 0 s.commands
         → TellsOver A (given_by K.puts kind sink.old sink.new s) (opening_of plan.recorder)
@@ -164,9 +164,9 @@ fn run_script<A: Allocator + Copy + Send + Sync, K: Sink + Send, R: Threads + Wa
 /// Then no scan is left in the queue, and no finished record waits.
 ///
 /// Returns false where it printed the line of an error, of the script or of the run. Where the
-/// script has an error, nothing runs and the sink is unchanged. `fault feed` is never printed, and
-/// `fault sink` only where the sink refused the files of a record. After an error of the run the
-/// sink got the files of some records, and then at most those of one that it refused.
+/// script has an error, nothing runs and the sink is unchanged. `fault feed` and `fault open` are
+/// never printed, and `fault sink` only where the sink refused the files of a record. After an error
+/// of the run the sink got the files of some records, and then at most those of one that it refused.
 ///
 /// - `Memory`: an allocation failed, or a thread could not be started. Nothing was written to `w`.
 /// - `Output`: a write failed. Only part of the text was written.
