@@ -1,0 +1,7 @@
+# lintian finds neither errors nor warnings in the deb with the programs; each override says why.
+command -v lintian > /dev/null && command -v dpkg-deb > /dev/null || { echo "no lintian" >&2; exit 77; }
+work=$(mktemp -d)
+trap 'rm -rf "$work"' EXIT
+../packaging/build "$work" dfr
+lintian --allow-root --fail-on error,warning "$work"/*.deb 2>&1 && echo "no error and no warning"
+cat ../packaging/dfr/lintian-overrides
