@@ -65,7 +65,11 @@ sleep 1
 since=\$(date '+%F %T')
 systemctl start dfrd@bay3
 until_told ' start '
-echo trigger > /run/dfrd/bay3/orders
+for i in \$(seq 100); do # refused as long as there is no scan
+    echo trigger > /run/dfrd/bay3/orders
+    sleep 0.2
+    [ -z "\$($(log_of bay3) --since "\$since" | grep 'trigger opened')" ] || break
+done
 until_told 'trigger opened'
 begin=\$(date +%s%N)
 systemctl stop dfrd@bay3

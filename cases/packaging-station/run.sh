@@ -20,15 +20,22 @@ begin() { # begin NAME LINE..: a station with these lines below `go`
     pid=$!
 }
 until_told() { for _ in $(seq 600); do grep -q "$1" "$log" && return; sleep 0.05; done; echo "not told: $1"; }
+until_opened() { # the operator asks again as long as there is no scan yet
+    until_told '^[^ ]* start '
+    for _ in $(seq 300); do
+        echo trigger > "$run/orders"
+        sleep 0.2
+        ! grep -q 'operator at .* trigger opened' "$log" || return
+    done
+    echo "no trigger is taken: $(tail -n 1 "$log")"
+}
 ended() { wait "$pid"; echo "status $?"; cut -d' ' -f2- "$log" | grep "$1" | sed 's/[0-9][0-9.T-]*-1\.\(cfg\|dat\)/NAME.\1/g; s/[0-9][0-9]*/N/g; s/ clock [-+N.]*//'; }
 pairs() { (cd "$DFRD_ROOT/var/lib/dfrd/$name" && ls) | sed 's/.*\././'; }
 
 echo "== a command; an operator's record is open when the station is stopped"
 post=48000
 begin bay1 '' '# the example' "input exec $converter 60 1000" "options --raw --quiet --keep 3"
-until_told '^[^ ]* start '
-echo trigger > "$run/orders"
-until_told 'operator at .* trigger opened'
+until_opened
 "$station" stop bay1 "$pid"
 ended 'cut\|^end'
 pairs

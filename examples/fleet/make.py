@@ -8,7 +8,9 @@ with the current, its rms values, the inception and the duration of each fault, 
 """
 import csv
 import datetime
+import functools
 import math
+import multiprocessing
 import random
 import sys
 from pathlib import Path
@@ -48,22 +50,25 @@ def channel(name, values, unit, a):
     return dfr_comtrade.Analog(name, numpy.rint(values / a).astype("int32"), unit=unit, a=a)
 
 
+def write_record(folder, number):
+    """Writes a record, and returns what the analysis must find in it."""
+    place = Path(folder) / f"station{number // 100:04}"
+    place.mkdir(parents=True, exist_ok=True)
+    first = datetime.datetime(2026, 1, 1) + datetime.timedelta(minutes=7 * number)
+    analog, status, truth = record_of(number)
+    name = place / f"{first:%Y%m%dT%H%M%S}-{number}"
+    dfr_comtrade.write(
+        name, analog, status, station=f"Station {number // 100}", device="Bay 1", first=first,
+        trigger=first + datetime.timedelta(microseconds=PRE * 1_000_000 // RATE),
+        rates=[(float(RATE), ROWS)], overwrite=True,
+    )
+    return (f"{name.resolve()}.cfg", *truth)
+
+
 def main(count, folder):
-    lines = []
-    begin = datetime.datetime(2026, 1, 1)
-    for number in range(count):
-        station = number // 100
-        place = Path(folder) / f"station{station:04}"
-        place.mkdir(parents=True, exist_ok=True)
-        first = begin + datetime.timedelta(minutes=7 * number)
-        analog, status, truth = record_of(number)
-        name = place / f"{first:%Y%m%dT%H%M%S}-{number}"
-        dfr_comtrade.write(
-            name, analog, status, station=f"Station {station}", device="Bay 1", first=first,
-            trigger=first + datetime.timedelta(microseconds=PRE * 1_000_000 // RATE),
-            rates=[(float(RATE), ROWS)], overwrite=True,
-        )
-        lines.append((f"{name.resolve()}.cfg", *truth))
+    Path(folder).mkdir(parents=True, exist_ok=True)
+    with multiprocessing.Pool() as pool:
+        lines = pool.map(functools.partial(write_record, folder), range(count), chunksize=25)
     with open(Path(folder) / "truth.csv", "w", newline="", encoding="utf-8") as file:
         csv.writer(file, lineterminator="\n").writerows(lines)
 
