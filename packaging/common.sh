@@ -23,7 +23,19 @@ need() { command -v "$1" > /dev/null || fail "no $1: apt install $2"; }
 program() {
     local path=$top/crates/$1/out/$1
     [ -z "${PROGRAMS-}" ] || path=$PROGRAMS/$1
-    [ -x "$path" ] || fail "no $path: build it with (cd crates/$1 && rt run -- --version)"
+    [ -x "$path" ] || fail "no $path: run the gate, or (cd crates/$1 && rt run -- --version)"
+    echo "$path"
+}
+
+# core_library: the proved part of the C library: what `rt lib` made, else what the gate kept
+core_library() {
+    local path=$top/crates/comtrade_c/out/libcomtrade_c.a kit sum
+    if [ ! -f "$path" ] && command -v rt > /dev/null && sum=$("$top/bench/guards" --sum comtrade_c)
+    then
+        kit=$(dirname "$(dirname "$(readlink -f "$(command -v rt)")")")
+        path=$(dirname "$kit")/rattle-kept/guards/libcomtrade_c-$sum.a
+    fi
+    [ -f "$path" ] || fail "no $path: run the gate, or (cd crates/comtrade_c && rt lib)"
     echo "$path"
 }
 

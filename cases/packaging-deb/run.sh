@@ -4,7 +4,7 @@ command -v dpkg-deb > /dev/null || { echo "no dpkg-deb" >&2; exit 77; }
 exec 2>&1
 work=$(mktemp -d)
 trap 'rm -rf "$work"' EXIT
-export LC_ALL=C
+export LC_ALL=C DPKG_DEB_COMPRESSOR_LEVEL=0 # (to save time)
 version=$(cat ../VERSION)
 mkdir "$work/room"
 ../packaging/build "$work/one" dfr archive
