@@ -5,6 +5,7 @@ check "the archive: man pages; nothing is left after --uninstall" as_user << 'EN
 MANPATH=~/.local/share/man man -w dfrd
 cd dfr-*/
 ~/.local/bin/comtrade --version
+bin/comtrade --version
 ./install.sh --uninstall ~/.local
 [ -z "$(find ~/.local -type f)" ]
 END
@@ -26,6 +27,11 @@ PYTHON
 cmp rec1.cfg copy.cfg
 cmp rec1.dat copy.dat
 pip show dfr-comtrade
+END
+check "the wheel with the extra arrays: Debian's numpy and pandas do" as_user << 'END'
+. comtrade/bin/activate
+pip install --no-index --force-reinstall --no-deps dfr_comtrade-*.whl
+pip install --no-index "$(echo dfr_comtrade-*.whl)[arrays]"
 END
 check "the sdist, with the library of the wheel" as_user << 'END'
 library=$(echo comtrade/lib/python3*/site-packages/dfr_comtrade/libcomtrade.so)

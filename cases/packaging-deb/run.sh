@@ -1,6 +1,6 @@
 # The packages with programs: a second run, in another place and time zone, gives the same bytes. What the deb has; its programs and
 # those of the archive are the proved ones.
-command -v dpkg-deb > /dev/null || { echo "no dpkg-deb" >&2; exit 77; }
+for tool in dpkg-deb readelf; do command -v $tool > /dev/null || { echo "no $tool" >&2; exit 77; }; done
 exec 2>&1
 work=$(mktemp -d)
 trap 'rm -rf "$work"' EXIT

@@ -1,5 +1,5 @@
 # lintian finds neither errors nor warnings in the deb with the programs; each override says why.
-command -v lintian > /dev/null && command -v dpkg-deb > /dev/null || { echo "no lintian" >&2; exit 77; }
+for tool in lintian dpkg-deb readelf; do command -v $tool > /dev/null || { echo "no $tool" >&2; exit 77; }; done
 work=$(mktemp -d)
 trap 'rm -rf "$work"' EXIT
 DPKG_DEB_COMPRESSOR_LEVEL=0 ../packaging/build "$work" dfr # (to save time)
