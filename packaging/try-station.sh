@@ -51,52 +51,46 @@ sleep 2
 systemctl is-active dfrd@bay3
 END
 check "stopped with a record open: it is written, within 3 s" inside << END
-until_told() { # a line of the journal since the restart
-    local i
-    for i in \$(seq 200); do
-        [ -z "\$($(log_of bay3) --since "\$since" | grep "\$1")" ] || return 0
-        sleep 0.1
-    done
-    return 1
+told() { $(log_of bay3) --since "\$since" | grep "\$1"; } # since the restart
+asked() { # a trigger is refused as long as there is no scan
+    echo trigger > /run/dfrd/bay3/orders
+    sleep 0.2
+    told 'trigger opened'
 }
 sed -i 's/^limits .*/limits 480,24000,30000,8/' /etc/dfrd/bay3.setup
 systemctl stop dfrd@bay3
 sleep 1
 since=\$(date '+%F %T')
 systemctl start dfrd@bay3
-until_told ' start '
-for i in \$(seq 100); do # refused as long as there is no scan
-    echo trigger > /run/dfrd/bay3/orders
-    sleep 0.2
-    [ -z "\$($(log_of bay3) --since "\$since" | grep 'trigger opened')" ] || break
-done
-until_told 'trigger opened'
+soon told ' start '
+soon asked
 begin=\$(date +%s%N)
 systemctl stop dfrd@bay3
-[ \$((\$(date +%s%N) - begin)) -lt 3000000000 ]
-$(log_of bay3) --since "\$since" | grep 'record .* cut'
-$(log_of bay3) --since "\$since" | grep 'end scans'
+taken=\$((\$(date +%s%N) - begin))
+told 'record .* cut'
+told 'end scans'
 [ "\$(systemctl show -P Result dfrd@bay3)" = success ]
+[ \$taken -lt 3000000000 ]
 END
 check "a station whose scans come through the FIFO" inside << 'END'
 sed '/^input/d' /etc/dfrd/example.setup > /etc/dfrd/bay4.setup
 systemctl start dfrd@bay4
-sleep 1
+soon [ -p /run/dfrd/bay4/input ]
 usermod -aG dfrd analyst
-timeout 30 runuser -u analyst -- \
+timeout 60 runuser -u analyst -- \
     sh -c '/usr/libexec/dfrd/example-converter 8 4 > /run/dfrd/bay4/input'
-sleep 2
-[ "$(ls /var/lib/dfrd/bay4/*.cfg | wc -l)" = 2 ]
-systemctl is-active dfrd@bay4
+two() { [ "$(ls /var/lib/dfrd/bay4/*.cfg | wc -l)" = 2 ]; }
+soon two
+soon systemctl is-active dfrd@bay4
 systemctl stop dfrd@bay4
 END
 check "an error in a set-up is in the journal, and mending it is enough" inside << END
 sed 's/^rate 4800/rate much/' /etc/dfrd/example.setup > /etc/dfrd/bay5.setup
 systemctl start dfrd@bay5 || :
-sleep 3
-$(log_of bay5) | grep 'bay5.setup.*line'
+told() { $(log_of bay5) | grep "\$1"; }
+soon told 'bay5.setup.*line'
 cp /etc/dfrd/example.setup /etc/dfrd/bay5.setup
-sleep 4
+soon told ' start '
 systemctl is-active dfrd@bay5
 systemctl stop dfrd@bay5
 END
