@@ -62,7 +62,7 @@ systemctl stop dfrd@bay3
 sleep 1
 since=\$(date '+%F %T')
 systemctl start dfrd@bay3
-soon told ' start '
+soon told ' start 20'
 soon asked
 begin=\$(date +%s%N)
 systemctl stop dfrd@bay3
@@ -90,7 +90,7 @@ systemctl start dfrd@bay5 || :
 told() { $(log_of bay5) | grep "\$1"; }
 soon told 'bay5.setup.*line'
 cp /etc/dfrd/example.setup /etc/dfrd/bay5.setup
-soon told ' start '
+soon told ' start 20' # (not the "Failed to start" of systemd)
 systemctl is-active dfrd@bay5
 systemctl stop dfrd@bay5
 END
