@@ -4,6 +4,7 @@ import ctypes.util
 import os
 from ctypes import POINTER, Structure, c_bool, c_char_p, c_double, c_int32, c_int64, c_size_t, c_uint8, c_uint32, c_uint64, c_void_p
 from pathlib import Path
+from typing import Any
 
 VERSION = 10100  # the oldest library that has every call used here
 ALL = ctypes.c_size_t(-1).value
@@ -22,7 +23,7 @@ class Fault(Structure):
 class Sized(Structure):
     """A struct that begins with its size."""
 
-    def __init__(self, **fields):
+    def __init__(self, **fields: Any) -> None:
         super().__init__(size=ctypes.sizeof(type(self)), **fields)
 
 

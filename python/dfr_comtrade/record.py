@@ -2,19 +2,26 @@
 import array
 import ctypes
 import datetime
-from typing import Any, Dict, Iterator, List, NamedTuple, Sequence
+import importlib
+from typing import Any, Dict, Iterator, List, NamedTuple, Sequence, TypeVar, Union, overload
 
 from . import _library as c
 from .errors import need
 
-try:
-    import numpy
-except ImportError:
-    numpy = None  # type: ignore[assignment]
+
+def _optional(name: str) -> Any:
+    """A module, or None if it is not installed."""
+    try:
+        return importlib.import_module(name)
+    except ImportError:
+        return None
+
+
+numpy = _optional("numpy")
 
 _EPOCH = datetime.datetime(1970, 1, 1)
 _NUMBERS = {"i": "int32", "d": "float64", "B": "uint8", "Q": "uint64", "q": "int64"}
-_TYPES = {"i": ctypes.c_int32, "d": ctypes.c_double, "B": ctypes.c_uint8}
+_TYPES: Dict[str, Any] = {"i": ctypes.c_int32, "d": ctypes.c_double, "B": ctypes.c_uint8}
 # Larger tables (in bytes) are read one channel at a time.
 _MOST = 1 << 30
 # A block of rows with this many samples or bits stays in the cache of the processor.
@@ -89,7 +96,7 @@ class _Kept:
         return Rate(said.samp, said.endsamp)
 
 
-class _Channel(Sequence):
+class _Channel(Sequence[Any]):
     """A channel of a record. As a sequence it is its values or bits."""
 
     def __init__(self, kept: _Kept, number: int, texts: Sequence[int]):
@@ -128,8 +135,14 @@ class AnalogChannel(_Channel):
         said = c.Analog()
         need(c.library.comtrade_analog(kept.at, number, ctypes.byref(said)))
         self.unit = kept.text(c.ANALOG_UNIT, number)
-        self.a, self.b, self.skew, self.primary, self.secondary = said.a, said.b, said.skew, said.primary, said.secondary
-        self.min, self.max, self.on_secondary = said.min, said.max, said.on_secondary
+        self.a: float = said.a
+        self.b: float = said.b
+        self.skew: float = said.skew
+        self.primary: float = said.primary
+        self.secondary: float = said.secondary
+        self.min: int = said.min
+        self.max: int = said.max
+        self.on_secondary: bool = said.on_secondary
 
     @property
     def samples(self) -> Any:
@@ -141,7 +154,8 @@ class AnalogChannel(_Channel):
         """The value of each row in `unit`, as float64."""
         return self._record.column("values", "d", self._number, self._record.head.analog)
 
-    _items = values.fget  # type: ignore[assignment]
+    def _items(self) -> Any:
+        return self.values
 
 
 class StatusChannel(_Channel):
@@ -158,19 +172,27 @@ class StatusChannel(_Channel):
         """The bits, one for each row, as uint8."""
         return self._record.column("bits", "B", self._number, self._record.head.status)
 
-    _items = bits.fget  # type: ignore[assignment]
+    def _items(self) -> Any:
+        return self.bits
 
 
-class Channels(Sequence):
+_C = TypeVar("_C", bound=_Channel)
+
+
+class Channels(Sequence[_C]):
     """The channels, by index (from 0) or by id. An id that several channels have means the first of them."""
 
-    def __init__(self, channels: List[Any]):
+    def __init__(self, channels: List[_C]):
         self._channels = channels
-        self._by_id: Dict[str, Any] = {}
+        self._by_id: Dict[str, _C] = {}
         for channel in channels:
             self._by_id.setdefault(channel.id, channel)
 
-    def __getitem__(self, at: Any) -> Any:
+    @overload
+    def __getitem__(self, at: Union[int, str]) -> _C: ...
+    @overload
+    def __getitem__(self, at: slice) -> List[_C]: ...
+    def __getitem__(self, at: Union[int, str, slice]) -> Union[_C, List[_C]]:
         return self._by_id[at] if isinstance(at, str) else self._channels[at]
 
     def __len__(self) -> int:
@@ -193,7 +215,10 @@ class Record:
     def __init__(self, at: ctypes.c_void_p):
         self._record = kept = _Kept(at)
         head = kept.head
-        self.line_freq, self.timemult, self.binary, self.nrates = head.line_freq, head.timemult, head.binary, head.nrates
+        self.line_freq: float = head.line_freq
+        self.timemult: float = head.timemult
+        self.binary: bool = head.binary
+        self.nrates: int = head.nrates
         self.station, self.device = kept.text(c.STATION, 0), kept.text(c.DEVICE, 0)
         self.analog = Channels([AnalogChannel(kept, k) for k in range(head.analog)])
         self.status = Channels([StatusChannel(kept, k) for k in range(head.status)])
@@ -253,8 +278,7 @@ class Record:
     def to_pandas(self) -> Any:
         """A pandas DataFrame of all values and bits: a column for each channel, indexed by seconds since the first row. Channels with the same
         id get column names ending in `#2`, `#3` .."""
-        import pandas
-
+        pandas = importlib.import_module("pandas")
         columns: Dict[str, Any] = {}
         for channel in [*self.analog, *self.status]:
             name, again = channel.id, 1
@@ -280,53 +304,65 @@ class Record:
 
     @property
     def station_name(self) -> str:
+        """The same as `station`."""
         return self.station
 
     @property
     def rec_dev_id(self) -> str:
+        """The same as `device`."""
         return self.device
 
     @property
     def analog_channel_ids(self) -> List[str]:
+        """The ids of the analogue channels."""
         return self.analog.keys()
 
     @property
     def status_channel_ids(self) -> List[str]:
+        """The ids of the status channels."""
         return self.status.keys()
 
     @property
     def analog_count(self) -> int:
+        """The number of analogue channels."""
         return len(self.analog)
 
     @property
     def status_count(self) -> int:
+        """The number of status channels."""
         return len(self.status)
 
     @property
     def total_samples(self) -> int:
+        """The number of rows."""
         return self._record.rows
 
     @property
     def frequency(self) -> float:
+        """The same as `line_freq`."""
         return self.line_freq
 
     @property
     def time(self) -> Any:
+        """The same as `times`."""
         return self.times
 
     @property
     def start_timestamp(self) -> datetime.datetime:
+        """The same as `first`."""
         return self.first
 
     @property
     def trigger_timestamp(self) -> datetime.datetime:
+        """The same as `trigger`."""
         return self.trigger
 
     @property
     def trigger_time(self) -> float:
         """Seconds from the first row to the trigger."""
-        return (self._record.head.trigger - self._record.head.first) / 1e6
+        return float(self._record.head.trigger - self._record.head.first) / 1e6
 
     @property
     def ft(self) -> str:
+        """The type of the data file: ASCII or BINARY."""
         return "BINARY" if self.binary else "ASCII"

@@ -44,6 +44,7 @@ def check_metadata(data):
     assert about.get_all("License-File") == ["LICENSE-MIT", "LICENSE-APACHE"]
     assert about.get_all("Provides-Extra") == ["arrays", "test"]
     assert about.get_all("Requires-Dist") == ['numpy; extra == "arrays"', 'pandas; extra == "arrays"', 'pytest; extra == "test"']
+    assert about["Author"] == "The Mehukarau authors" and "COMTRADE" in about["Keywords"].split(",")
     assert about["Description-Content-Type"].startswith("text/markdown")
     assert about.get_payload(decode=True).decode() == (PYTHON / "README.md").read_text(encoding="utf-8")
 
@@ -63,6 +64,19 @@ def test_wheel(project, tmp_path):
     names = names_in(tmp_path / backend(project).build_wheel(str(tmp_path)))
     modules = sorted(path.name for path in (PYTHON / "dfr_comtrade").iterdir() if path.suffix in (".py", ".typed"))
     assert sorted(names) == sorted(f"dfr_comtrade/{name}" for name in [*modules, "libcomtrade.so"])
+
+
+def test_same_bytes(project, tmp_path, monkeypatch):
+    monkeypatch.setenv("SOURCE_DATE_EPOCH", "1795824000")
+    monkeypatch.setenv("DFR_COMTRADE_PLATFORM", "manylinux_2_28_x86_64")
+    made = []
+    for folder in (tmp_path / "one", tmp_path / "two"):
+        folder.mkdir()
+        names = backend(project).build_wheel(str(folder)), backend(project).build_sdist(str(folder))
+        made.append({name: (folder / name).read_bytes() for name in names})
+        for path in (project / "dfr_comtrade").iterdir():
+            os.utime(path, (1, 1))
+    assert made[0] == made[1] and f"{NAME}-py3-none-manylinux_2_28_x86_64.whl" in made[0]
 
 
 def test_editable(project, tmp_path):

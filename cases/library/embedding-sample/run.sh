@@ -28,5 +28,17 @@ same 'C and C++' c examples/embedding/sample.c
 compile cc c c99
 compile cc c c17
 compile c++ c++ c++17
+# the lines in the comment of comtrade.h, in a function
+for compiler in 'cc -std=c99' 'cc -std=c17' 'c++ -x c++ -std=c++17'; do
+    command -v "${compiler%% *}" > "$made/said" || continue
+    {
+        echo '#include "comtrade.h"'
+        echo 'void sample(size_t rows, double *values);'
+        echo 'void sample(size_t rows, double *values) {'
+        sed -n '/^ \*\/$\|^#ifndef/q; s/^ \*     //p' examples/embedding/comtrade.h
+        echo '}'
+    } > "$made/comment.c"
+    $compiler -fsyntax-only -Wall -Wextra -Werror -Iexamples/embedding "$made/comment.c" >&2 || echo "the comment of comtrade.h doesn't compile: $compiler"
+done
 same Rust rust examples/embedding/rust/comtrade/examples/sample.rs
 section Rattle | awk -v name=Rattle -f cases/documents/readme-examples/blocks.awk

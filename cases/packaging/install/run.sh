@@ -6,9 +6,9 @@ unset DESTDIR
 shown() { sed "s|$folder|FOLDER|"; }
 
 ../install "$folder/place" | shown
-(cd "$folder/place" && find . -type f ! -name 'LICENSE-*' | LC_ALL=C sort)
-for licence in ../LICENSE-*; do
-    [ ! -f "$licence" ] || cmp "$licence" "$folder/place/share/doc/comtrade/${licence##*/}"
+(cd "$folder/place" && find . -type f ! -path '*/doc/dfr/docs/*' ! -path '*/doc/dfr/examples/*' | LC_ALL=C sort)
+for page in README.md LICENSE-MIT LICENSE-APACHE docs/dfrd.md docs/INSTALL.md examples/relays/single.cff; do
+    cmp "../$page" "$folder/place/share/doc/dfr/$page"
 done
 for program in dfr dfrd comtrade; do
     cmp ../crates/$program/out/$program "$folder/place/bin/$program"
@@ -44,6 +44,6 @@ for words in "" "--hlep" "a b" "--uninstall" "--uninstall --help"; do
     # shellcheck disable=SC2086
     "$here/../install" $words > said
     echo "status $?"
-done 2>&1 | grep -v '^ \|^$\|^[Im]\|^and'
+done 2>&1 | grep -v '^ \|^$\|^[Imf]'
 "$here/../install" --uninstall "$folder/nowhere" 2>&1 | shown
 find . -type d | LC_ALL=C sort
