@@ -69,7 +69,7 @@ fn write_part<D: Directory, A: Allocator>(
     ensures { WritesPart D.creates D.closes D.File.contents folder.now number ending.now bytes.now
         files.old result files.new }
 {
-    if number == 0 {
+    if folder.is_empty() {
         return Err(UNWRITTEN);
     }
     let Ok(path) = path_of(alloc, folder, number, ending) else {
