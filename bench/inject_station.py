@@ -180,9 +180,12 @@ class Station:
 
     def is_traced(self):
         for task in os.listdir(f"/proc/{self.child.pid}/task"):
-            with open(f"/proc/{self.child.pid}/task/{task}/status") as file:
-                if "TracerPid:\t0\n" in file.read():
-                    return False
+            try:
+                with open(f"/proc/{self.child.pid}/task/{task}/status") as file:
+                    if "TracerPid:\t0\n" in file.read():
+                        return False
+            except FileNotFoundError:  # (the thread has ended meanwhile)
+                pass
         return True
 
     def look(self):
