@@ -48,7 +48,10 @@ until_told '^[^ ]* start '
 "$station" stop bay2 "$pid"
 ended '^end'
 
+# (the FIFOs have their mode as soon as they are there: under the umask of the unit, with a chmod that does nothing)
 echo "== the FIFO"
+umask 027
+ln -s "$(type -P true)" "$DFRD_ROOT/bin/chmod"
 begin bay3 "options --raw"
 for _ in $(seq 600); do [ -p "$run/input" ] && [ -e "$run/input.pid" ] && break; sleep 0.05; done
 stat -c '%A %n' "$run"/[io]* | sed "s|$run/||; /pid/d"
