@@ -59,10 +59,17 @@ stat -c '%A %n' "$run"/[io]* | sed "s|$run/||; /pid/d"
 ended '^record\|^end'
 pairs
 
+# (here the input takes its time to get a process group of its own)
+printf '#!/bin/sh\nsleep 0.5\nexec %s "$@"\n' "$(type -P setsid)" | install -m 755 /dev/stdin "$DFRD_ROOT/bin/setsid"
 echo "== stopped before anything was written to the FIFO"
 begin bay4 "options --raw"
 for _ in $(seq 600); do [ -e "$run/input.pid" ] && break; sleep 0.05; done
 "$station" stop bay4 "$pid"
+ended '^end'
+
+echo "== stopped as soon as it is started"
+begin bay6 "options --raw"
+"$station" stop bay6 "$pid"
 ended '^end'
 
 echo "== errors"
