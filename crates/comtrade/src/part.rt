@@ -15,19 +15,18 @@ pub(crate) struct Taken<A: Allocator> {
     pub(crate) before: usize,
 }
 
-/// Puts why a record has no such part. A failed allocation is an error of the tool.
+/// Puts why a record has no such part, unless that is a failed allocation.
 pub(crate) fn put_part_fault<A: Allocator + Copy>(
     said: &mut Vec<u8, A>,
     fault: PartFault<'_>,
-) -> Result<(), ToolFault> {
+) -> Result<(), AllocError> {
     if fault == PartFault::Memory {
-        return Err(ToolFault::Memory);
+        return Err(AllocError);
     }
     let text = format!(in *said.allocator(); "{fault}")?;
     put(said, "comtrade: ")?;
     put_safe(said, text.as_str().as_bytes())?;
-    put(said, "\n")?;
-    Ok(())
+    put(said, "\n")
 }
 
 /// The part, with its times among those of all rows.

@@ -35,6 +35,15 @@ struct Look {
     json: bool,
 }
 
+/// What is asked of a record, and how it is shown.
+#[derive(Clone, Copy)]
+struct Request<'a, A: Allocator> {
+    room: Room<A>,
+    view: View,
+    viewed: Viewed<'a>,
+    look: Look,
+}
+
 /// A number of pixels; None if the text is not one.
 fn pixels_of(text: &str) -> Option<u32> {
     match text.parse::<u32>() {
@@ -66,26 +75,25 @@ pub(crate) fn options_of(picture: Picture<'_>) -> Option<PlotOptions> {
 
 /// Prints what is asked of a file whose rows have these times, in nanoseconds since the trigger.
 fn put_view<A: Allocator + Copy, W: Write>(
-    room: Room<A>,
-    view: View,
-    look: Look,
+    asked: &Request<'_, A>,
     file: &File<A>,
     times: &[Option<i64>],
     w: &mut W,
 ) -> Result<(), ToolFault> {
-    match view {
-        View::Csv => csv_over(room.lists, file, times, look.spelling, w),
+    let (lists, look) = (asked.room.lists, asked.look);
+    match asked.view {
+        View::Csv => csv_over(lists, file, times, look.spelling, w),
         View::Plot => {
-            let list = rms_of(room.lists, file, times)?;
+            let list = rms_of(lists, file, times)?;
             let rms = list.as_slice();
-            plot_over(room.lists, Timed { file, times, rms }, look.options, w)
+            plot_over(lists, Timed { file, times, rms }, look.options, w)
         }
         View::Page => {
             let rms: &[Rms] = &[];
-            page_over(room.lists, Timed { file, times, rms }, w)
+            page_over(lists, Timed { file, times, rms }, w)
         }
-        _ if look.json => write_out(w, &show_json(room.texts, room.lists, file, times)?),
-        _ => show_over(room.lists, file, times, w),
+        _ if look.json => write_out(w, &show_json(asked.room.texts, lists, file, times)?),
+        _ => show_over(lists, file, times, w),
     }
 }
 
@@ -153,47 +161,40 @@ fn look_of<A: Allocator>(
 
 /// The part that is asked for; None if it cannot be measured, with the error in `said`.
 fn part_in<'a, A: Allocator>(
-    view: View,
-    viewed: Viewed<'a>,
+    asked: &Request<'a, A>,
     said: &mut Vec<u8, A>,
 ) -> Result<Option<Part<'a>>, ToolFault> {
-    if view == View::Measure {
-        measured_part(viewed, said)
+    if asked.view == View::Measure {
+        measured_part(asked.viewed, said)
     } else {
-        Ok(Some(viewed.part))
+        Ok(Some(asked.viewed.part))
     }
 }
 
 /// Prints what is asked of a part; false if it cannot be measured, with the error in `said`.
 fn view_taken<A: Allocator + Copy, W: Write>(
-    room: Room<A>,
-    view: View,
-    viewed: Viewed<'_>,
-    look: Look,
+    asked: &Request<'_, A>,
     taken: &Taken<A>,
     w: &mut W,
     said: &mut Vec<u8, A>,
 ) -> Result<bool, ToolFault> {
-    if view == View::Measure {
-        return measure_over(room, viewed, taken, w, said);
+    if asked.view == View::Measure {
+        return measure_over(asked.room, asked.viewed, taken, w, said);
     }
-    put_view(room, view, look, &taken.file, &taken.times, w)?;
+    put_view(asked, &taken.file, &taken.times, w)?;
     Ok(true)
 }
 
 /// Prints what is asked of a part; false if it is refused, with the error in `said`.
 fn view_part<A: Allocator + Copy, W: Write>(
-    room: Room<A>,
-    view: View,
-    viewed: Viewed<'_>,
-    look: Look,
+    asked: &Request<'_, A>,
     file: File<A>,
     part: Part<'_>,
     w: &mut W,
     said: &mut Vec<u8, A>,
 ) -> Result<bool, ToolFault> {
-    match taken_of(room.lists, file, part, said)? {
-        Some(taken) => view_taken(room, view, viewed, look, &taken, w, said),
+    match taken_of(asked.room.lists, file, part, said)? {
+        Some(taken) => view_taken(asked, &taken, w, said),
         None => Ok(false),
     }
 }
@@ -201,33 +202,28 @@ fn view_part<A: Allocator + Copy, W: Write>(
 /// Whether a measurement is asked for at a moment that the record does not have, with the error in
 /// `said`.
 fn is_off<A: Allocator + Copy>(
-    room: Room<A>,
-    view: View,
-    viewed: Viewed<'_>,
+    asked: &Request<'_, A>,
     file: &File<A>,
     said: &mut Vec<u8, A>,
 ) -> Result<bool, ToolFault> {
-    if view != View::Measure {
+    if asked.view != View::Measure {
         return Ok(false);
     }
-    is_outside(room.lists, file, viewed.cursor, said)
+    is_outside(asked.room.lists, file, asked.viewed.cursor, said)
 }
 
 /// Prints what is asked of the part that is asked for; false if it is refused, with the error in `said`.
 fn view_file<A: Allocator + Copy, W: Write>(
-    room: Room<A>,
-    view: View,
-    viewed: Viewed<'_>,
-    look: Look,
+    asked: &Request<'_, A>,
     file: File<A>,
     w: &mut W,
     said: &mut Vec<u8, A>,
 ) -> Result<bool, ToolFault> {
-    if is_off(room, view, viewed, &file, said)? {
+    if is_off(asked, &file, said)? {
         return Ok(false);
     }
-    match part_in(view, viewed, said)? {
-        Some(part) => view_part(room, view, viewed, look, file, part, w, said),
+    match part_in(asked, said)? {
+        Some(part) => view_part(asked, file, part, w, said),
         None => Ok(false),
     }
 }
@@ -251,9 +247,15 @@ pub(crate) fn view_over<A: Allocator + Copy, W: Write>(
     let Some(look) = look_of(viewed, said)? else {
         return Ok(false);
     };
+    let asked = Request {
+        room,
+        view,
+        viewed,
+        look,
+    };
     let reading = Reading::to_show(is_imported, viewed.part, view == View::Show);
     match file_spelled(room.lists, pair, reading, said)? {
-        Some(loaded) => view_file(room, view, viewed, look, loaded.file, w, said),
+        Some(loaded) => view_file(&asked, loaded.file, w, said),
         None => Ok(false),
     }
 }
