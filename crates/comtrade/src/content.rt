@@ -108,7 +108,8 @@ fn imported_in<A: Allocator + Copy>(
     Ok(None)
 }
 
-/// The texts of a line on a pair that means something else than it reads as, but cannot be imported.
+/// The texts of a line on a pair that means something else than it reads as, but cannot be
+/// imported.
 const UNCLEAR: (&str, &str, &str) = (
     "note: ",
     ": `comtrade import` cannot read it: ",
@@ -173,8 +174,8 @@ fn file_in<A: Allocator + Copy>(
 /// The error for an unknown encoding.
 pub(crate) const NO_ENCODING: &str = "comtrade: --encoding expects utf-8 or latin1\n";
 
-/// The file of a pair, as `file_in`, with its texts spelled; None also for an unknown encoding, with
-/// the error in `said`.
+/// The file of a pair, as `file_in`, with its texts spelled; None also for an unknown encoding,
+/// with the error in `said`.
 pub(crate) fn file_spelled<A: Allocator + Copy>(
     alloc: A,
     pair: Pair<'_>,

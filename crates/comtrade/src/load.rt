@@ -134,8 +134,8 @@ fn as_pair(alloc: Global, inputs: Inputs, imported: Imported) -> Result<Inputs, 
     })
 }
 
-/// Reads a record as a pair. A single file becomes the equivalent pair. None if that fails, which is
-/// printed.
+/// Reads a record as a pair. A single file becomes the equivalent pair. None if that fails, which
+/// is printed.
 pub(crate) fn read_pair<R: Files + Input + Eprint + AllocGlobal + Clone + Drop>(
     rt: &R,
     names: Names<'_>,

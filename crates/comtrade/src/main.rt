@@ -1,5 +1,6 @@
-//! The program `comtrade`: it parses its arguments, reads the files that they name, and hands the work
-//! to the libraries. Each command prints its errors on standard error and returns the exit status.
+//! The program `comtrade`: it parses its arguments, reads the files that they name, and hands the
+//! work to the libraries. Each command prints its errors on standard error and returns the exit
+//! status.
 #![tactic(auto)]
 
 mod around;
@@ -135,7 +136,8 @@ pub(crate) fn print_bytes<R: Print + Eprint + AllocGlobal>(rt: &R, bytes: &[u8])
     }
 }
 
-/// Prints what is asked of a pair. The status of `check` is its verdict, even if nobody reads the text.
+/// Prints what is asked of a pair. The status of `check` is its verdict, even if nobody reads the
+/// text.
 fn print_view<R: Print + Eprint + AllocGlobal>(
     rt: &R,
     view: View,

@@ -6,8 +6,8 @@ use comtrade_values::put;
 use comtrade_views::{Cut, PartFault, is_whole, part_of, times_since_trigger};
 use std::alloc::{AllocError, Allocator};
 
-/// A record or a part of it, the times of its rows (nanoseconds since its trigger), and the number of
-/// rows before the part.
+/// A record or a part of it, the times of its rows (nanoseconds since its trigger), and the number
+/// of rows before the part.
 #[derive(Drop)]
 pub(crate) struct Taken<A: Allocator> {
     pub(crate) file: File<A>,

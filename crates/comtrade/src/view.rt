@@ -14,7 +14,8 @@ use std::alloc::{AllocError, Allocator, Global};
 use std::io::Write;
 
 const NO_SPELLING: &str = "\
-comtrade: --separator expects tab or one character that is not a letter, digit, minus or quotation mark; \
+comtrade: --separator expects tab or one character that is not a letter, digit, minus or \
+quotation mark; \
 --decimal expects . or , and not the separator\n";
 
 pub(crate) const NO_SIZE: &str =
@@ -138,8 +139,8 @@ fn verdict_json(alloc: Global, is_sound: bool, text: &[u8]) -> Result<Vec<u8>, A
     Ok(out)
 }
 
-/// How values are spelled and pictures drawn; None if a separator or size is not valid, with the error
-/// in `said`.
+/// How values are spelled and pictures drawn; None if a separator or size is not valid, with the
+/// error in `said`.
 fn look_of<A: Allocator>(
     viewed: Viewed<'_>,
     said: &mut Vec<u8, A>,
@@ -212,7 +213,8 @@ fn is_off<A: Allocator + Copy>(
     is_outside(asked.room.lists, file, asked.viewed.cursor, said)
 }
 
-/// Prints what is asked of the part that is asked for; false if it is refused, with the error in `said`.
+/// Prints what is asked of the part that is asked for; false if it is refused, with the error in
+/// `said`.
 fn view_file<A: Allocator + Copy, W: Write>(
     asked: &Request<'_, A>,
     file: File<A>,
@@ -228,10 +230,10 @@ fn view_file<A: Allocator + Copy, W: Write>(
     }
 }
 
-/// Prints what is asked of a part of a pair; false if the pair has an error, or no such part. `Check`
-/// prints the error; the other commands put it to `said` and print nothing. `said` also gets the
-/// repairs of a pair, and what is doubtful about one that is shown and reads exactly. `is_imported` if
-/// the pair was a single file.
+/// Prints what is asked of a part of a pair; false if the pair has an error, or no such part.
+/// `Check` prints the error; the other commands put it to `said` and print nothing. `said` also
+/// gets the repairs of a pair, and what is doubtful about one that is shown and reads exactly.
+/// `is_imported` if the pair was a single file.
 pub(crate) fn view_over<A: Allocator + Copy, W: Write>(
     room: Room<A>,
     view: View,

@@ -54,8 +54,8 @@ fn join(words: &mut [String], value: &str) -> Result<(), AllocError> {
     }
 }
 
-/// The arguments. A negative number after an option that takes a moment is joined to the option, since
-/// it would be read as an option itself.
+/// The arguments. A negative number after an option that takes a moment is joined to the option,
+/// since it would be read as an option itself.
 pub(crate) fn words_of<R: Env + AllocGlobal>(rt: &R) -> io::Result<Vec<String>> {
     let mut rest: Vec<String> = Vec::new(rt.alloc());
     let mut is_moment = false;

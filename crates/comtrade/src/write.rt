@@ -42,7 +42,8 @@ fn write_new<R: Files + Eprint + AllocGlobal>(rt: &R, name: &str, bytes: &[u8]) 
     true
 }
 
-/// Writes the files of this name with `.cfg` and `.dat`, or neither; what happens to each is printed.
+/// Writes the files of this name with `.cfg` and `.dat`, or neither; what happens to each is
+/// printed.
 pub(crate) fn write_named<R: Files + Eprint + AllocGlobal>(
     rt: &R,
     name: &str,
