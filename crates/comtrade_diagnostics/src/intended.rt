@@ -1,7 +1,8 @@
 //! Reads what a pair means that reads exactly, but whose own signs show that it means something else.
 
 use crate::check::Pair;
-use comtrade_dialects::{Choices, ImportFault, Key, Note, Notes, is_sound, repaired};
+use crate::importing::{Repaired, repaired_pair};
+use comtrade_dialects::{Choices, ImportFault, Key, Note, is_sound};
 use comtrade_format::{File, Head, Rate, Row};
 use comtrade_values::Items;
 use dfr_channels::{AnalogChannel, StatusChannel};
@@ -159,11 +160,11 @@ fn is_same<A: Allocator>(one: &File<A>, other: &File<A>) -> bool {
 /// values and times.
 fn repaired_as<A: Allocator + Copy>(
     alloc: A,
-    mut file: File<A>,
-    notes: Vec<Note<A>, A>,
+    repaired: Repaired<A>,
     literal: File<A>,
     texts: Texts,
 ) -> Result<Intended<A>, AllocError> {
+    let Repaired { mut file, notes } = repaired;
     if texts == Texts::Literal && is_same(&literal, &file) {
         return Ok(Intended::Literal(literal));
     }
@@ -185,9 +186,8 @@ pub fn intended_of<A: Allocator + Copy>(
     if is_sound(alloc, &file, pair.dat)? {
         return Ok(Intended::Literal(file));
     }
-    let mut notes = Notes::new(alloc);
-    match repaired(alloc, &mut notes, pair.cfg, pair.dat, Choices::default()) {
-        Ok(meant) => repaired_as(alloc, meant, notes.into_list(), file, texts),
+    match repaired_pair(alloc, pair.cfg, pair.dat, Choices::default()) {
+        Ok(meant) => repaired_as(alloc, meant, file, texts),
         Err(ImportFault::Memory) => Err(AllocError),
         Err(fault) => Ok(Intended::Unclear(file, fault)),
     }
