@@ -1,8 +1,8 @@
 //! Reads the files of the record that the arguments name.
 
 use crate::find::{Pairing, pairing_of};
-use crate::{complain, out_of_memory, read_named, refuse};
-use comtrade_diagnostics::{Choices, ImportFault, Imported, Note, Pair, import_single};
+use crate::{complain, read_named};
+use comtrade_diagnostics::{ImportFault, Note, Pair};
 use comtrade_io::{Names, ToolFault, put_safe};
 use comtrade_values::put;
 use std::alloc::{AllocError, Allocator, Global};
@@ -14,8 +14,6 @@ pub(crate) struct Inputs {
     names: Pairing,
     pub(crate) cfg: Vec<u8>,
     pub(crate) dat: Vec<u8>,
-    /// The repairs of a single file that became a pair, one line each.
-    pub(crate) said: Vec<u8>,
 }
 
 impl Inputs {
@@ -70,12 +68,7 @@ pub(crate) fn read_inputs<R: Files + Input + Eprint + AllocGlobal + Clone + Drop
         Some(name) => read_input(rt, name.as_str())?,
         None => Vec::new(rt.alloc()),
     };
-    Some(Inputs {
-        names,
-        cfg,
-        dat,
-        said: Vec::new(rt.alloc()),
-    })
+    Some(Inputs { names, cfg, dat })
 }
 
 /// The repairs, one line each.
@@ -122,45 +115,17 @@ pub(crate) fn import_refusal(
     Ok(said)
 }
 
-/// A single file as a pair.
-fn as_pair(alloc: Global, inputs: Inputs, imported: Imported) -> Result<Inputs, AllocError> {
-    let mut said = Vec::new(alloc);
-    put_notes(&mut said, &imported.notes)?;
-    Ok(Inputs {
-        names: inputs.names,
-        cfg: imported.cfg,
-        dat: imported.dat,
-        said,
-    })
-}
-
-/// Reads a record as a pair. A single file becomes the equivalent pair. None if that fails, which
-/// is printed.
-pub(crate) fn read_pair<R: Files + Input + Eprint + AllocGlobal + Clone + Drop>(
+/// Reads the files of a record that is shown or converted. None if that fails, or if a single file
+/// is read strictly, which is printed.
+pub(crate) fn read_record<R: Files + Input + Eprint + AllocGlobal + Clone + Drop>(
     rt: &R,
     names: Names<'_>,
     is_strict: bool,
 ) -> Option<Inputs> {
     let inputs = read_inputs(rt, names)?;
-    if !inputs.is_single() {
-        return Some(inputs);
-    }
-    if is_strict {
+    if is_strict && inputs.is_single() {
         complain(rt, name_of(&inputs), ToolFault::Single);
         return None;
     }
-    match import_single(rt.alloc(), &inputs.cfg, Choices::default()) {
-        Ok(imported) => match as_pair(rt.alloc(), inputs, imported) {
-            Ok(pair) => Some(pair),
-            Err(_) => {
-                out_of_memory(rt);
-                None
-            }
-        },
-        Err(fault) => {
-            let refusal = import_refusal(rt.alloc(), name_of(&inputs), fault);
-            refuse(rt, 1, refusal);
-            None
-        }
-    }
+    Some(inputs)
 }

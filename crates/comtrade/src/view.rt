@@ -2,6 +2,7 @@
 
 use crate::around::rms_of;
 use crate::content::{Reading, file_spelled};
+use crate::load::Inputs;
 use crate::measure::{is_outside, measure_over, measured_part};
 use crate::part::{Taken, taken_of};
 use comtrade_diagnostics::{Pair, check_over};
@@ -15,8 +16,7 @@ use std::io::Write;
 
 const NO_SPELLING: &str = "\
 comtrade: --separator expects tab or one character that is not a letter, digit, minus or \
-quotation mark; \
---decimal expects . or , and not the separator\n";
+quotation mark; --decimal expects . or , and not the separator\n";
 
 pub(crate) const NO_SIZE: &str =
     "comtrade: --width and --height expect a whole number of pixels from 1 to 100000\n";
@@ -38,7 +38,7 @@ struct Look {
 
 /// What is asked of a record, and how it is shown.
 #[derive(Clone, Copy)]
-struct Request<'a, A: Allocator> {
+pub(crate) struct Request<'a, A: Allocator> {
     room: Room<A>,
     view: View,
     viewed: Viewed<'a>,
@@ -99,7 +99,7 @@ fn put_view<A: Allocator + Copy, W: Write>(
 }
 
 /// Prints the verdict on a pair, as text or as JSON.
-fn check<A: Allocator + Copy, W: Write>(
+pub(crate) fn check<A: Allocator + Copy, W: Write>(
     room: Room<A>,
     viewed: Viewed<'_>,
     pair: Pair<'_>,
@@ -111,8 +111,10 @@ fn check<A: Allocator + Copy, W: Write>(
     let mut text = Vec::new(room.lists);
     let is_sound = check_over(room.lists, pair, &mut text)?;
     let out = verdict_json(room.texts, is_sound, &text)?;
-    write_out(w, &out)?;
-    Ok(is_sound)
+    match write_out(w, &out) {
+        Ok(()) | Err(ToolFault::Closed) => Ok(is_sound),
+        Err(fault) => Err(fault),
+    }
 }
 
 /// A verdict as a JSON object.
@@ -215,7 +217,7 @@ fn is_off<A: Allocator + Copy>(
 
 /// Prints what is asked of the part that is asked for; false if it is refused, with the error in
 /// `said`.
-fn view_file<A: Allocator + Copy, W: Write>(
+pub(crate) fn view_file<A: Allocator + Copy, W: Write>(
     asked: &Request<'_, A>,
     file: File<A>,
     w: &mut W,
@@ -230,24 +232,22 @@ fn view_file<A: Allocator + Copy, W: Write>(
     }
 }
 
-/// Prints what is asked of a part of a pair; false if the pair has an error, or no such part.
-/// `Check` prints the error; the other commands put it to `said` and print nothing. `said` also
-/// gets the repairs of a pair, and what is doubtful about one that is shown and reads exactly.
-/// `is_imported` if the pair was a single file.
-pub(crate) fn view_over<A: Allocator + Copy, W: Write>(
+/// What is asked of a record, and its file; None if a separator, size or encoding is not valid or
+/// the record has an error, which is put to `said`. `said` also gets the repairs of a record, and
+/// what is doubtful about one that is shown and reads exactly.
+pub(crate) fn shown_file<'a, A: Allocator + Copy>(
     room: Room<A>,
     view: View,
-    viewed: Viewed<'_>,
-    is_imported: bool,
-    pair: Pair<'_>,
-    w: &mut W,
+    viewed: Viewed<'a>,
+    inputs: &Inputs,
     said: &mut Vec<u8, A>,
-) -> Result<bool, ToolFault> {
-    if view == View::Check {
-        return check(room, viewed, pair, w);
-    }
+) -> Result<Option<(Request<'a, A>, File<A>)>, ToolFault> {
     let Some(look) = look_of(viewed, said)? else {
-        return Ok(false);
+        return Ok(None);
+    };
+    let reading = Reading::to_show(viewed.part, view == View::Show);
+    let Some(loaded) = file_spelled(room.lists, inputs, reading, said)? else {
+        return Ok(None);
     };
     let asked = Request {
         room,
@@ -255,9 +255,5 @@ pub(crate) fn view_over<A: Allocator + Copy, W: Write>(
         viewed,
         look,
     };
-    let reading = Reading::to_show(is_imported, viewed.part, view == View::Show);
-    match file_spelled(room.lists, pair, reading, said)? {
-        Some(loaded) => view_file(&asked, loaded.file, w, said),
-        None => Ok(false),
-    }
+    Ok(Some((asked, loaded.file)))
 }

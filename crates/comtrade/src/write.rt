@@ -1,12 +1,12 @@
 //! Writes pairs of files that do not exist yet.
 
 use crate::content::{Loaded, Origin, Reading, file_spelled};
-use crate::load::{Inputs, pair_of, read_pair};
+use crate::load::{Inputs, pair_of, read_record};
 use crate::part::put_part_fault;
 use crate::{complain, message_on, note_size, out_of_memory, refuse, say};
 use bumpalo::Bump;
 use comtrade_diagnostics::{Pair, put_refusal};
-use comtrade_format::{File as Record, Kind, WriteFault};
+use comtrade_format::{File as Record, WriteFault};
 use comtrade_io::{Converted, ToolFault, fault_of, write_out};
 use comtrade_read::written_of;
 use comtrade_views::{PartFault, is_whole, part_of};
@@ -66,15 +66,15 @@ pub(crate) fn write_named<R: Files + Eprint + AllocGlobal>(
     0
 }
 
-/// Why a pair cannot be converted.
-fn pair_refusal(
+/// Why a file that a pair reads to cannot be written.
+fn pair_refusal<A: Allocator>(
     alloc: Global,
-    kind: Kind,
     pair: Pair<'_>,
+    file: &Record<A>,
     fault: WriteFault,
 ) -> Result<Vec<u8>, AllocError> {
     let mut said = Vec::new(alloc);
-    put_refusal(alloc, &mut said, pair, kind, fault)?;
+    put_refusal(alloc, &mut said, pair, file, fault)?;
     Ok(said)
 }
 
@@ -116,8 +116,7 @@ fn file_of<R: Eprint + AllocGlobal, A: Allocator + Copy>(
     inputs: &Inputs,
 ) -> Option<Loaded<A>> {
     let mut said = Vec::new(lists);
-    let reading = Reading::to_write(inputs.is_single(), asked.part);
-    match file_spelled(lists, pair_of(inputs), reading, &mut said) {
+    match file_spelled(lists, inputs, Reading::to_write(asked.part), &mut said) {
         Ok(found) => {
             say(rt, &said);
             found
@@ -155,8 +154,8 @@ fn write_whole<R: Files + Eprint + AllocGlobal, A: Allocator + Copy>(
         Ok(made) => write_named(rt, asked.name, &made.cfg, &made.dat),
         Err(WriteFault::Memory) => out_of_memory(rt),
         Err(fault) if origin == Origin::Literal => {
-            let pair = pair_of(inputs);
-            refuse(rt, 1, pair_refusal(rt.alloc(), asked.kind, pair, fault))
+            let refusal = pair_refusal(rt.alloc(), pair_of(inputs), &file, fault);
+            refuse(rt, 1, refusal)
         }
         Err(fault) => {
             let _ = eprintln!(rt; "comtrade: nothing was written: {fault}");
@@ -211,10 +210,9 @@ pub(crate) fn run_convert<R: Files + Input + Eprint + AllocGlobal + Clone + Drop
     if !is_name(rt, asked.name) {
         return 2;
     }
-    let Some(inputs) = read_pair(rt, asked.names, asked.part.strict) else {
+    let Some(inputs) = read_record(rt, asked.names, asked.part.strict) else {
         return 1;
     };
-    say(rt, &inputs.said);
     note_size(rt, is_watched, &inputs);
     if is_whole(asked.part) && asked.part.encoding.is_none() {
         convert_whole(rt, asked, &inputs)
