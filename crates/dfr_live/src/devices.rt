@@ -139,7 +139,9 @@ impl<A: Allocator, F: Feed<A>> Intake<A, Live> for F {
 
     ghost loses = { λ s t. never s t };
 
-    fn next(&mut self, spare: Option<Scan<A>>) -> Result<Fed<A>, u32> {
+    fn next(&mut self, spare: Option<Scan<A>>) -> Result<Fed<A>, u32>
+        ensures { F.gives self.old result self.new }
+    {
         drop(spare);
         Feed::next(self)
     }
