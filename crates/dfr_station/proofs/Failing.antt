@@ -12,7 +12,7 @@ use Rattle.dfr_live.specs.declared.ended.EndFault.TheVariants as unended
 use Rattle.dfr_live.specs.declared.outcome.OpenFault.{OpenFault}
 use Rattle.dfr_live.specs.declared.report.LiveFault.{LiveFault}
 use Rattle.dfr_live.specs.declared.report.LiveFault.TheVariants as live
-use Rattle.dfr_station.specs.Failing.{IsShort, IsToldAs, DevicesFail, IsFaultOf, unasked, StoredSome, RunFails}
+use Rattle.dfr_station.specs.Failing.{NothingKnown, IsToldAs, DevicesFail, IsFaultOf, unasked, StoredSome, StationFails}
 use Rattle.dfr_station.specs.Storing.{StoresOf, Exporting, PutsPair, LacksPair}
 use Rattle.dfr_station.specs.declared.intake.ended.RunFault.{RunFault}
 use Rattle.dfr_station.specs.declared.intake.ended.RunFault.TheVariants as run
@@ -21,7 +21,7 @@ use Rattle.dfr_station.specs.declared.intake.ended.RunFault.TheVariants as run
 
 module _ {A F O K : Type 0} (Gives : GivesOf A F) (Loses : LosesOf F) (Puts : PutsOf K) (Lacks : LacksOf K) (o : Opening) (kind : Kind)
     (refused : Option OpenFault) (old new : F × O × K) where
-  short_fails : (r : RunFault) → IsShort r → DevicesFail Puts Lacks o kind refused old new r
+  short_fails : (r : RunFault) → NothingKnown r → DevicesFail Puts Lacks o kind refused old new r
   unfolding DevicesFail
   short_fails r (inl is) = subst (DevicesFail Puts Lacks o kind refused old new) (sym is) tt
   short_fails r (inr is) = subst (DevicesFail Puts Lacks o kind refused old new) (sym is) (inl refl)
@@ -100,7 +100,7 @@ module _ {K : Type 0} (Stores : StoresOf K) where
     stored_but why (inr got) = inr (stored got)
 
     pub run_fails : (r : RunFault) → DevicesFail (PutsPair Stores) Lacks o kind refused old new r
-        → RunFails Stores o kind refused (input, store) (input_left, store_left) r
+        → StationFails Stores o kind refused (input, store) (input_left, store_left) r
     unfolding DevicesFail
     run_fails run.Memory fails = unchanged fails
     run_fails run.Thread fails = tt

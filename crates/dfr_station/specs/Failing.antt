@@ -13,18 +13,18 @@ use Rattle.dfr_station.specs.declared.intake.ended.RunFault.{RunFault}
 use Rattle.dfr_station.specs.declared.intake.ended.RunFault.TheVariants as run
 
 -- a thread could not be started, or there was no memory at the end
-abbrev pub IsShort : RunFault → Type 0
-IsShort r = (r ≡ run.Thread) ⊎ (r ≡ run.End unended.Memory)
+abbrev pub NothingKnown : RunFault → Type 0
+NothingKnown r = (r ≡ run.Thread) ⊎ (r ≡ run.End unended.Memory)
 
 -- what a station tells of a fault of its threads; its devices have no errors of their own, and its idle threads none
 abbrev pub IsToldAs : LiveFault → RunFault → Type 0
 IsToldAs (live.Open why) r = r ≡ run.Open why
 IsToldAs (live.End why) r = r ≡ run.End why
 IsToldAs live.Counter r = r ≡ run.Counter
-IsToldAs live.Memory r = IsShort r
-IsToldAs live.Turns r = IsShort r
-IsToldAs (live.Feed code) r = IsShort r
-IsToldAs (live.Sink code) r = IsShort r
+IsToldAs live.Memory r = NothingKnown r
+IsToldAs live.Turns r = NothingKnown r
+IsToldAs (live.Feed code) r = NothingKnown r
+IsToldAs (live.Sink code) r = NothingKnown r
 
 -- The devices before and after a run that failed, whose recorder has that reason not to be opened, or none: they are as they were where
 -- the run did not begin, and else the outlet got the files of some records. Where a thread could not be started, or there was no memory
@@ -51,11 +51,11 @@ StoredSome {K} Stores o kind store left =
     × Got (PutsPair Stores) (λ s extent short t. LacksPair s short t) o kind (unasked store) records e × (e.store ≡ left)
 
 -- A run that failed, from an input and a store to those that are left. For want of memory before it began, or where the recorder was not
--- opened, nothing was read or stored; a recorder that has accepted no scan is not opened only for want of memory. Else the store got
+-- opened, nothing was read or stored; if the recorder has accepted no scan, only want of memory keeps it from being opened. Else the store got
 -- the pairs of some records. Where a thread could not be started, or there was no memory at the end, nothing is known.
-abbrev pub RunFails : {I K : Type 0} → StoresOf K → Opening → Kind → Option OpenFault → I × K → I × K → RunFault → Type 0
-RunFails Stores o kind refused old left run.Memory = left ≡ old
-RunFails Stores o kind refused old left run.Thread = ⊤
-RunFails Stores o kind refused old left (run.Open why) = (left ≡ old) × ((refused ≡ Some why) ⊎ (why ≡ unopened.Memory))
-RunFails Stores o kind refused old left run.Counter = StoredSome Stores o kind old.1 left.1
-RunFails Stores o kind refused old left (run.End why) = (why ≡ unended.Memory) ⊎ StoredSome Stores o kind old.1 left.1
+abbrev pub StationFails : {I K : Type 0} → StoresOf K → Opening → Kind → Option OpenFault → I × K → I × K → RunFault → Type 0
+StationFails Stores o kind refused old left run.Memory = left ≡ old
+StationFails Stores o kind refused old left run.Thread = ⊤
+StationFails Stores o kind refused old left (run.Open why) = (left ≡ old) × ((refused ≡ Some why) ⊎ (why ≡ unopened.Memory))
+StationFails Stores o kind refused old left run.Counter = StoredSome Stores o kind old.1 left.1
+StationFails Stores o kind refused old left (run.End why) = (why ≡ unended.Memory) ⊎ StoredSome Stores o kind old.1 left.1

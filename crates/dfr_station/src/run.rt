@@ -3,7 +3,7 @@
 ghost use Rattle.std.specs.Prelude.{◌≡◌, ◌-◌, Ok, Err, IfOk, IfErr, is_some};
 ghost use Rattle.dfr_live.specs.Calls.{open_fault};
 ghost use Rattle.dfr_live.specs.Seen.{opening_of};
-ghost use Rattle.dfr_station.specs.Failing.{IsFaultOf, RunFails};
+ghost use Rattle.dfr_station.specs.Failing.{IsFaultOf, StationFails};
 ghost use Rattle.dfr_station.specs.Stations.{Begins, IsFresh, Ran};
 ghost use Rattle.dfr_live.specs.declared.report.LiveReport.{LiveReport as LiveReported};
 ghost use Rattle.dfr_station.specs.declared.intake.arrivals.Arrivals.{Arrivals as Arriving};
@@ -87,7 +87,7 @@ pub fn run_station<
         × Begins (opening_of station.recorder).layout station.input first.buffer input arrivals
         × Ran I.remaining K.stores (opening_of station.recorder) station.kind
         (is_some station.operator) arrivals store left result.input result.store) }
-    ensures failed { IfErr result.recorded (RunFails K.stores (opening_of station.recorder)
+    ensures failed { IfErr result.recorded (StationFails K.stores (opening_of station.recorder)
         station.kind (open_fault station.recorder.scans 65_536 2)
         (input, store) (result.input, result.store)) }
 {
@@ -163,7 +163,7 @@ fn run_over<
         × Begins layout.now how.form how.read.0 input arrivals
         × Ran I.remaining K.stores (opening_of recorder) how.kind (is_some how.operator)
         arrivals store left result.input result.store) }
-    ensures failed { IfErr result.recorded (RunFails K.stores (opening_of recorder) how.kind
+    ensures failed { IfErr result.recorded (StationFails K.stores (opening_of recorder) how.kind
         (open_fault recorder.scans 65_536 2) (input, store) (result.input, result.store)) }
 {
     let Parts {

@@ -232,8 +232,8 @@ impl<'x, A: Allocator + Copy> Cutter<'x, A> {
     }
 
     /// What comes next of the bytes that wait; `is_last`: no more bytes come after them. None if
-    /// nothing whole waits. Allocates only what a scan or an order needs; a frame's scan has the memory
-    /// of the spare one, if there is one.
+    /// nothing whole waits. Allocates only what a scan or an order needs; a frame's scan has the
+    /// memory of the spare one, if there is one.
     pub(crate) fn next(&mut self, is_last: bool, spare: &mut Option<Scan<A>>) -> Option<Arrival<A>>
         ensures { spec.Hands is_last self.old result self.new }
     {
