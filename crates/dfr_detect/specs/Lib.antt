@@ -1,0 +1,4 @@
+pub mod Windows
+pub mod Sums
+pub mod Levels
+pub mod Watched

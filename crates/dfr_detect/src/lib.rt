@@ -1,0 +1,8 @@
+//! Detectors: bits computed from the samples of the last scans.
+#![tactic(auto)]
+
+mod level;
+mod settings;
+mod window;
+
+pub use settings::{Condition, Settings};
