@@ -23,8 +23,10 @@ meets RmsUnder n level samples = nat_le (sum_of_squares samples) (n * (level * l
 meets Change n level samples = nat_le level (unsigned_abs (change n 0 samples))
 meets Jump n level samples = nat_le level (unsigned_abs (change n 0 samples -ℤ change n n samples))
 
--- the level is met at the newest scan: since the last gap there are as many samples as the condition looks at, and they meet it
+-- there are as many samples as the condition looks at, and they meet the level
+abbrev pub is_met : Condition → ℕ → ℕ → List ℤ → Bool
+is_met condition n level samples = (length samples == span condition n) && meets condition n level samples
+
+-- at the newest scan of a history the level is met by the samples since the last gap
 abbrev pub holds : Condition → ℕ → ℕ → List (Option ℤ) → Bool
-holds condition n level past =
-    let samples = window (span condition n) past in
-    (length samples == span condition n) && meets condition n level samples
+holds condition n level past = is_met condition n level (window (span condition n) past)

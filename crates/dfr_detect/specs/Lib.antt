@@ -1,4 +1,5 @@
 pub mod Windows
 pub mod Sums
+pub mod Fitting
 pub mod Levels
 pub mod Watched

@@ -71,3 +71,19 @@ pub(crate) fn meets<A: Allocator>(
         Condition::Jump => level <= jump(scans as usize, window).unsigned_abs(),
     }
 }
+
+/// Whether the window is full and its samples meet the level.
+#[inline(always)]
+pub(crate) fn is_met<A: Allocator>(
+    condition: Condition,
+    scans: u32,
+    level: u64,
+    window: &Window<A>,
+) -> bool
+    requires scans { scans ≤ 2 ^ 16 }
+    requires level { level ≤ 2 ^ 40 }
+    requires places { window.now.capacity ≡ spec.span condition scans }
+    ensures { result ≡ spec.is_met condition scans level window.now.items }
+{
+    window.is_full() && meets(condition, scans, level, window)
+}

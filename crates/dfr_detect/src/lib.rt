@@ -3,6 +3,8 @@
 
 mod level;
 mod settings;
+mod watch;
 mod window;
 
-pub use settings::{Condition, Settings};
+pub use settings::{Condition, Settings, SettingsFault};
+pub use watch::Watch;
