@@ -2,7 +2,7 @@
 
 use crate::find::{Pairing, pairing_of};
 use crate::{complain, out_of_memory, read_named, say};
-use comtrade_diagnostics::{Choices, ImportFault, Imported, Note, Pair, import_single};
+use comtrade_diagnostics::{ImportFault, Note, Pair};
 use comtrade_io::{Names, ToolFault, put_safe};
 use comtrade_values::put;
 use std::alloc::{AllocError, Allocator};
@@ -14,8 +14,6 @@ pub(crate) struct Inputs {
     names: Pairing,
     pub(crate) cfg: Vec<u8>,
     pub(crate) dat: Vec<u8>,
-    /// The repairs of a single file that became a pair, one line each.
-    pub(crate) said: Vec<u8>,
 }
 
 impl Inputs {
@@ -70,12 +68,7 @@ pub(crate) fn read_inputs<R: Files + Input + Eprint + AllocGlobal + Clone + Drop
         Some(name) => read_input(rt, name.as_str())?,
         None => Vec::new(rt.alloc()),
     };
-    Some(Inputs {
-        names,
-        cfg,
-        dat,
-        said: Vec::new(rt.alloc()),
-    })
+    Some(Inputs { names, cfg, dat })
 }
 
 /// The repairs, one line each.
@@ -117,47 +110,17 @@ pub(crate) fn refuse_import<R: Eprint + AllocGlobal>(rt: &R, name: &str, fault: 
     1
 }
 
-/// The repairs, one line each; None if an allocation failed, which is printed.
-fn notes_of<R: Eprint + AllocGlobal>(rt: &R, notes: &[Note]) -> Option<Vec<u8>> {
-    let mut said = Vec::new(rt.alloc());
-    if put_notes(&mut said, notes).is_err() {
-        out_of_memory(rt);
-        return None;
-    }
-    Some(said)
-}
-
-/// A single file as a pair.
-fn as_pair<R: Eprint + AllocGlobal>(rt: &R, inputs: Inputs, imported: Imported) -> Option<Inputs> {
-    let said = notes_of(rt, &imported.notes)?;
-    Some(Inputs {
-        names: inputs.names,
-        cfg: imported.cfg,
-        dat: imported.dat,
-        said,
-    })
-}
-
-/// Reads a record as a pair. A single file becomes the equivalent pair. None if that fails, which is
-/// printed.
-pub(crate) fn read_pair<R: Files + Input + Eprint + AllocGlobal + Clone + Drop>(
+/// Reads the files of a record that is shown or converted. None if that fails, or if a single file is
+/// read strictly, which is printed.
+pub(crate) fn read_record<R: Files + Input + Eprint + AllocGlobal + Clone + Drop>(
     rt: &R,
     names: Names<'_>,
     is_strict: bool,
 ) -> Option<Inputs> {
     let inputs = read_inputs(rt, names)?;
-    if !inputs.is_single() {
-        return Some(inputs);
-    }
-    if is_strict {
+    if is_strict && inputs.is_single() {
         complain(rt, name_of(&inputs), ToolFault::Single);
         return None;
     }
-    match import_single(rt.alloc(), &inputs.cfg, Choices::default()) {
-        Ok(imported) => as_pair(rt, inputs, imported),
-        Err(fault) => {
-            refuse_import(rt, name_of(&inputs), fault);
-            None
-        }
-    }
+    Some(inputs)
 }

@@ -2,6 +2,7 @@
 
 use crate::around::rms_of;
 use crate::content::{Reading, file_spelled};
+use crate::load::Inputs;
 use crate::measure::{is_outside, measure_over, measured_part};
 use crate::part::{Taken, taken_of};
 use comtrade_diagnostics::{Pair, check_over};
@@ -29,7 +30,7 @@ pub(crate) struct Room<A: Allocator> {
 
 /// How values are spelled, and how a picture is drawn.
 #[derive(Clone, Copy)]
-struct Look {
+pub(crate) struct Look {
     spelling: Spelling,
     options: PlotOptions,
     json: bool,
@@ -90,7 +91,7 @@ fn put_view<A: Allocator + Copy, W: Write>(
 }
 
 /// Prints the verdict on a pair, as text or as JSON.
-fn check<A: Allocator + Copy, W: Write>(
+pub(crate) fn check<A: Allocator + Copy, W: Write>(
     room: Room<A>,
     viewed: Viewed<'_>,
     pair: Pair<'_>,
@@ -102,8 +103,10 @@ fn check<A: Allocator + Copy, W: Write>(
     let mut text = Vec::new(room.lists);
     let is_sound = check_over(room.lists, pair, &mut text)?;
     let out = verdict_json(room.texts, is_sound, &text)?;
-    write_out(w, &out)?;
-    Ok(is_sound)
+    match write_out(w, &out) {
+        Ok(()) | Err(ToolFault::Closed) => Ok(is_sound),
+        Err(fault) => Err(fault),
+    }
 }
 
 /// A verdict as a JSON object.
@@ -214,7 +217,7 @@ fn is_off<A: Allocator + Copy>(
 }
 
 /// Prints what is asked of the part that is asked for; false if it is refused, with the error in `said`.
-fn view_file<A: Allocator + Copy, W: Write>(
+pub(crate) fn view_file<A: Allocator + Copy, W: Write>(
     room: Room<A>,
     view: View,
     viewed: Viewed<'_>,
@@ -232,28 +235,22 @@ fn view_file<A: Allocator + Copy, W: Write>(
     }
 }
 
-/// Prints what is asked of a part of a pair; false if the pair has an error, or no such part. `Check`
-/// prints the error; the other commands put it to `said` and print nothing. `said` also gets the
-/// repairs of a pair, and what is doubtful about one that is shown and reads exactly. `is_imported` if
-/// the pair was a single file.
-pub(crate) fn view_over<A: Allocator + Copy, W: Write>(
+/// How a record is shown, and its file; None if a separator, size or encoding is not valid or the
+/// record has an error, which is put to `said`. `said` also gets the repairs of a record, and what is
+/// doubtful about one that is shown and reads exactly.
+pub(crate) fn shown_file<A: Allocator + Copy>(
     room: Room<A>,
     view: View,
     viewed: Viewed<'_>,
-    is_imported: bool,
-    pair: Pair<'_>,
-    w: &mut W,
+    inputs: &Inputs,
     said: &mut Vec<u8, A>,
-) -> Result<bool, ToolFault> {
-    if view == View::Check {
-        return check(room, viewed, pair, w);
-    }
+) -> Result<Option<(Look, File<A>)>, ToolFault> {
     let Some(look) = look_of(viewed, said)? else {
-        return Ok(false);
+        return Ok(None);
     };
-    let reading = Reading::to_show(is_imported, viewed.part, view == View::Show);
-    match file_spelled(room.lists, pair, reading, said)? {
-        Some(loaded) => view_file(room, view, viewed, look, loaded.file, w, said),
-        None => Ok(false),
+    let reading = Reading::to_show(viewed.part, view == View::Show);
+    match file_spelled(room.lists, inputs, reading, said)? {
+        Some(loaded) => Ok(Some((look, loaded.file))),
+        None => Ok(None),
     }
 }

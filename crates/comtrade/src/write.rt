@@ -1,12 +1,12 @@
 //! Writes pairs of files that do not exist yet.
 
 use crate::content::{Loaded, Origin, Reading, file_spelled};
-use crate::load::{Inputs, pair_of, read_pair};
+use crate::load::{Inputs, pair_of, read_record};
 use crate::part::put_part_fault;
 use crate::{complain, note_size, out_of_memory, say};
 use bumpalo::Bump;
 use comtrade_diagnostics::{Pair, put_refusal};
-use comtrade_format::{File as Record, Kind, WriteFault};
+use comtrade_format::{File as Record, WriteFault};
 use comtrade_io::{Converted, ToolFault, fault_of, put_safe, write_out};
 use comtrade_read::written_of;
 use comtrade_views::{PartFault, is_whole, part_of};
@@ -65,15 +65,15 @@ pub(crate) fn write_named<R: Files + Eprint + AllocGlobal>(
     0
 }
 
-/// Prints why a pair cannot be converted.
-fn refuse_pair<R: Eprint + AllocGlobal>(
+/// Prints why a file that a pair reads to cannot be written.
+fn refuse_pair<R: Eprint + AllocGlobal, A: Allocator>(
     rt: &R,
-    kind: Kind,
     pair: Pair<'_>,
+    file: &Record<A>,
     fault: WriteFault,
 ) -> u8 {
     let mut said = Vec::new(rt.alloc());
-    match put_refusal(rt.alloc(), &mut said, pair, kind, fault) {
+    match put_refusal(rt.alloc(), &mut said, pair, file, fault) {
         Ok(()) => {
             say(rt, &said);
             1
@@ -128,8 +128,7 @@ fn file_of<R: Eprint + AllocGlobal, A: Allocator + Copy>(
     inputs: &Inputs,
 ) -> Option<Loaded<A>> {
     let mut said = Vec::new(lists);
-    let reading = Reading::to_write(inputs.is_single(), asked.part);
-    match file_spelled(lists, pair_of(inputs), reading, &mut said) {
+    match file_spelled(lists, inputs, Reading::to_write(asked.part), &mut said) {
         Ok(found) => {
             say(rt, &said);
             found
@@ -167,7 +166,7 @@ fn write_whole<R: Files + Eprint + AllocGlobal, A: Allocator + Copy>(
         Ok(made) => write_named(rt, asked.name, &made.cfg, &made.dat),
         Err(WriteFault::Memory) => out_of_memory(rt),
         Err(fault) if origin == Origin::Literal => {
-            refuse_pair(rt, asked.kind, pair_of(inputs), fault)
+            refuse_pair(rt, pair_of(inputs), &file, fault)
         }
         Err(fault) => {
             let _ = eprintln!(rt; "comtrade: nothing was written: {fault}");
@@ -228,10 +227,9 @@ pub(crate) fn run_convert<R: Files + Input + Eprint + AllocGlobal + Clone + Drop
     if !is_name(rt, asked.name) {
         return 2;
     }
-    let Some(inputs) = read_pair(rt, asked.names, asked.part.strict) else {
+    let Some(inputs) = read_record(rt, asked.names, asked.part.strict) else {
         return 1;
     };
-    say(rt, &inputs.said);
     note_size(rt, is_watched, &inputs);
     if is_whole(asked.part) && asked.part.encoding.is_none() {
         convert_whole(rt, asked, &inputs)
