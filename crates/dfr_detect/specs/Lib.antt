@@ -3,3 +3,4 @@ pub mod Sums
 pub mod Fitting
 pub mod Levels
 pub mod Watched
+pub mod Signals

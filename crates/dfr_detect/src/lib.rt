@@ -3,6 +3,7 @@
 
 mod level;
 mod settings;
+mod sum;
 mod watch;
 mod window;
 
