@@ -4,3 +4,4 @@ pub mod Fitting
 pub mod Levels
 pub mod Watched
 pub mod Signals
+pub mod Detection
