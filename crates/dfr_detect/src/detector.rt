@@ -32,11 +32,7 @@ impl<A: Allocator + Copy> Detector<A> {
     ghost use Rattle.dfr_detect.specs.Detection.{detected, wanted, IsDetection};
 
     /// A detector that has seen no scan.
-    pub fn new(
-        alloc: A,
-        settings: Settings,
-        channels: Vec<usize, A>,
-    ) -> Result<Detector<A>, Memory>
+    pub fn new(alloc: A, settings: Settings, channels: Vec<usize, A>) -> Result<Detector<A>, Memory>
         requires fits { settings_fault settings ≡ None }
         requires few { length channels.items ≤ 256 }
         ensures { IfOk result (λ detector. detector ≡ detected (wanted settings channels.items) []) }
