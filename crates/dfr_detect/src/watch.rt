@@ -105,4 +105,12 @@ impl<A: Allocator> Watch<A> {
         }
         self.on
     }
+
+    /// The bit of the newest scan, false before the first.
+    #[inline(always)]
+    pub fn bit(&self) -> bool
+        ensures { result ≡ self.now.on }
+    {
+        self.on
+    }
 }
