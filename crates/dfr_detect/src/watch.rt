@@ -1,6 +1,6 @@
 //! The bit of one signal, scan after scan.
 
-ghost use Rattle.std.specs.Prelude.{◌≡◌, ◌≤◌, ◌+◌, ◌&&◌, ◌||◌, if◌then◌else◌, min};
+ghost use Rattle.std.specs.Prelude.{◌≡◌, ◌≤◌, ◌+◌, if◌then◌else◌, min};
 
 use crate::Settings;
 use crate::level::{is_met, span};
@@ -42,14 +42,6 @@ fn next_row(row: u32, asked: u32, met: bool) -> u32
     }
 }
 
-/// The bit, after it was `on`.
-#[inline(always)]
-fn next_bit(fires: bool, on: bool, stays: bool) -> bool
-    ensures { result ≡ (fires || (on && stays)) }
-{
-    fires || (on && stays)
-}
-
 impl<A: Allocator> Watch<A> {
     ghost use Rattle.std.specs.Prelude.{◌≡◌, ◌≤◌, ◌^◌, [], None, Some, IfOk, IfSome, unsigned_abs};
     ghost use Rattle.dfr_detect.specs.Fitting.{settings_fault};
@@ -78,9 +70,9 @@ impl<A: Allocator> Watch<A> {
         let s = self.settings;
         self.window.push(x);
         let met = is_met(s.condition, s.scans, s.level, &self.window);
-        let stays = is_met(s.condition, s.scans, s.reset, &self.window);
+        let stays = self.on && is_met(s.condition, s.scans, s.reset, &self.window);
         self.row = next_row(self.row, s.row, met);
-        self.on = next_bit(self.row >= s.row, self.on, stays);
+        self.on = self.row >= s.row || stays;
     }
 
     /// Starts anew.
