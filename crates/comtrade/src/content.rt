@@ -1,17 +1,17 @@
 //! Reads the `File` that a pair holds. What the exact reader refuses, or what means something else
 //! than it reads as, is read as `import` reads it, with notes on the repairs.
 
-use crate::load::{Inputs, pair_of, put_import_fault, put_notes};
+use crate::load::{Inputs, REFUSED, pair_of, put_import_fault, put_notes};
 use comtrade_diagnostics::{
     Choices, ImportFault, Intended, Pair, Repaired, Texts, intended_of, put_fault, put_remarks,
     repaired_pair, repaired_single,
 };
 use comtrade_format::File;
-use comtrade_io::{Part as Asked, ToolFault, put_safe};
+use comtrade_io::{Part as Asked, ToolFault};
 use comtrade_read::{Fault, Part, ReadFault, read};
 use comtrade_values::put;
 use comtrade_views::{Encoding, spell_for_views, spell_in_utf8};
-use std::alloc::{AllocError, Allocator};
+use std::alloc::Allocator;
 
 /// Whether an error is in the first line, where files of other editions are refused.
 fn is_first(part: Part, fault: ReadFault) -> bool {
@@ -100,7 +100,7 @@ fn single_in<A: Allocator + Copy>(
         Ok(repaired) => Ok(Some(told(repaired, Origin::Literal, said)?)),
         Err(ImportFault::Memory) => Err(ToolFault::Memory),
         Err(fault) => {
-            put_import_fault(said, pair.cfg_name, fault)?;
+            put_import_fault(said, REFUSED, pair.cfg_name, fault)?;
             Ok(None)
         }
     }
@@ -119,26 +119,20 @@ fn imported_in<A: Allocator + Copy>(
         Err(ImportFault::Memory) => return Err(ToolFault::Memory),
         Err(fault)
             if is_first(found.part, found.fault) && !matches!(fault, ImportFault::Cfg(1, _)) => {
-            put_import_fault(said, pair.cfg_name, fault)?;
+            put_import_fault(said, REFUSED, pair.cfg_name, fault)?;
         }
         Err(_) => put_fault(alloc, said, pair, found)?,
     }
     Ok(None)
 }
 
-/// That a pair means something else than it reads as, but cannot be imported.
-fn put_unclear<A: Allocator + Copy>(
-    out: &mut Vec<u8, A>,
-    name: &[u8],
-    fault: ImportFault,
-) -> Result<(), AllocError> {
-    let text = format!(in *out.allocator(); "{fault}")?;
-    put(out, "note: ")?;
-    put_safe(out, name)?;
-    put(out, ": `comtrade import` cannot read it: ")?;
-    put_safe(out, text.as_str().as_bytes())?;
-    put(out, "; this is its literal content\n")
-}
+/// The texts of a line on a pair that means something else than it reads as, but cannot be
+/// imported.
+const UNCLEAR: (&str, &str, &str) = (
+    "note: ",
+    ": `comtrade import` cannot read it: ",
+    "; this is its literal content\n",
+);
 
 /// What a pair means that reads exactly to this file. `said` gets each repair, one line each.
 fn intended_in<A: Allocator + Copy>(
@@ -155,7 +149,7 @@ fn intended_in<A: Allocator + Copy>(
             (file, Origin::Repaired)
         }
         Intended::Unclear(file, fault) => {
-            put_unclear(said, pair.cfg_name, fault)?;
+            put_import_fault(said, UNCLEAR, pair.cfg_name, fault)?;
             (file, Origin::Literal)
         }
     };

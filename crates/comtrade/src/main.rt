@@ -1,5 +1,6 @@
-//! The program `comtrade`: it parses its arguments, reads the files that they name, and hands the work
-//! to the libraries. Each command prints its errors on standard error and returns the exit status.
+//! The program `comtrade`: it parses its arguments, reads the files that they name, and hands the
+//! work to the libraries. Each command prints its errors on standard error and returns the exit
+//! status.
 #![tactic(auto)]
 
 mod around;
@@ -23,7 +24,7 @@ use crate::import::run_import;
 use crate::load::{Inputs, pair_of, read_inputs, read_record};
 use crate::survey::run_survey;
 use crate::view::{Room, check, shown_file, view_file};
-use crate::words::{refuse_start, refuse_words, words_of};
+use crate::words::{invalid_argument, safe_lines, words_of};
 use crate::write::run_convert;
 use bumpalo::Bump;
 use comtrade_diagnostics::{Pair, put_single};
@@ -31,7 +32,8 @@ use comtrade_io::{
     Answer, Asked, ToolFault, View, Viewed, answer_of, fault_of, put_safe, read_up_to, write_out,
 };
 use comtrade_read::read_cfg;
-use std::alloc::Allocator;
+use comtrade_values::put;
+use std::alloc::{AllocError, Allocator, Global};
 use std::fs::File;
 use std::io::IsTerminal;
 use std::process::ExitCode;
@@ -55,6 +57,32 @@ pub(crate) fn say<R: Eprint>(rt: &R, bytes: &[u8]) {
 pub(crate) fn out_of_memory<R: Eprint>(rt: &R) -> u8 {
     let _ = eprintln!(rt; "comtrade: out of memory");
     1
+}
+
+/// Prints a message on standard error, or that there was no memory for it. Returns the exit status:
+/// this one, or 1 without memory.
+pub(crate) fn refuse<R: Eprint>(rt: &R, status: u8, said: Result<Vec<u8>, AllocError>) -> u8 {
+    match said {
+        Ok(said) => {
+            say(rt, &said);
+            status
+        }
+        Err(_) => out_of_memory(rt),
+    }
+}
+
+/// A message with a name, as printable characters, between two texts.
+pub(crate) fn message_on(
+    alloc: Global,
+    before: &str,
+    name: &[u8],
+    after: &str,
+) -> Result<Vec<u8>, AllocError> {
+    let mut said = Vec::new(alloc);
+    put(&mut said, before)?;
+    put_safe(&mut said, name)?;
+    put(&mut said, after)?;
+    Ok(said)
 }
 
 /// Prints `comtrade: `, a name and its error on standard error. A reader that has gone away is no
@@ -108,8 +136,8 @@ pub(crate) fn print_bytes<R: Print + Eprint + AllocGlobal>(rt: &R, bytes: &[u8])
     }
 }
 
-/// Prints what is asked of a part of a record; false if the record has an error, or no such part, which
-/// is put to `said`. What was repaired in a single file is printed first.
+/// Prints what is asked of a part of a record; false if the record has an error, or no such part,
+/// which is put to `said`. What was repaired in a single file is printed first.
 fn print_file<R: Print + Eprint + AllocGlobal, A: Allocator + Copy>(
     rt: &R,
     room: Room<A>,
@@ -118,14 +146,14 @@ fn print_file<R: Print + Eprint + AllocGlobal, A: Allocator + Copy>(
     inputs: &Inputs,
     said: &mut Vec<u8, A>,
 ) -> Result<bool, ToolFault> {
-    let Some((look, file)) = shown_file(room, view, viewed, inputs, said)? else {
+    let Some((asked, file)) = shown_file(room, view, viewed, inputs, said)? else {
         return Ok(false);
     };
     if inputs.is_single() {
         say(rt, said);
         said.clear();
     }
-    view_file(room, view, viewed, look, file, &mut io::writer(rt), said)
+    view_file(&asked, file, &mut io::writer(rt), said)
 }
 
 /// Prints what is asked of a record.
@@ -241,7 +269,7 @@ fn answer<R: Files + Input + Print + Eprint + AllocGlobal + Clone + Drop>(
     match answer_of(rt.alloc(), &texts) {
         Ok(Answer::Do(asked)) => run(rt, is_watched, asked),
         Ok(Answer::Print(text)) => print_bytes(rt, text.as_str().as_bytes()),
-        Ok(Answer::Refuse(text)) => refuse_words(rt, text.as_str()),
+        Ok(Answer::Refuse(text)) => refuse(rt, 2, safe_lines(rt.alloc(), text.as_str())),
         Err(_) => out_of_memory(rt),
     }
 }
@@ -250,6 +278,6 @@ fn main(rt: HostRuntime) -> ExitCode {
     let is_watched = rt.stderr().is_terminal();
     ExitCode::from(match words_of(&rt) {
         Ok(words) => answer(&rt, is_watched, &words),
-        Err(error) => refuse_start(&rt, error.kind()),
+        Err(error) => refuse(&rt, 2, invalid_argument(&rt, error.kind())),
     })
 }

@@ -15,8 +15,8 @@ use std::alloc::{AllocError, Allocator, Global};
 use std::io::Write;
 
 const NO_SPELLING: &str = "\
-comtrade: --separator expects tab or one character that is not a letter, digit, minus or quotation mark; \
---decimal expects . or , and not the separator\n";
+comtrade: --separator expects tab or one character that is not a letter, digit, minus or \
+quotation mark; --decimal expects . or , and not the separator\n";
 
 pub(crate) const NO_SIZE: &str =
     "comtrade: --width and --height expect a whole number of pixels from 1 to 100000\n";
@@ -30,10 +30,19 @@ pub(crate) struct Room<A: Allocator> {
 
 /// How values are spelled, and how a picture is drawn.
 #[derive(Clone, Copy)]
-pub(crate) struct Look {
+struct Look {
     spelling: Spelling,
     options: PlotOptions,
     json: bool,
+}
+
+/// What is asked of a record, and how it is shown.
+#[derive(Clone, Copy)]
+pub(crate) struct Request<'a, A: Allocator> {
+    room: Room<A>,
+    view: View,
+    viewed: Viewed<'a>,
+    look: Look,
 }
 
 /// A number of pixels; None if the text is not one.
@@ -67,26 +76,25 @@ pub(crate) fn options_of(picture: Picture<'_>) -> Option<PlotOptions> {
 
 /// Prints what is asked of a file whose rows have these times, in nanoseconds since the trigger.
 fn put_view<A: Allocator + Copy, W: Write>(
-    room: Room<A>,
-    view: View,
-    look: Look,
+    asked: &Request<'_, A>,
     file: &File<A>,
     times: &[Option<i64>],
     w: &mut W,
 ) -> Result<(), ToolFault> {
-    match view {
-        View::Csv => csv_over(room.lists, file, times, look.spelling, w),
+    let (lists, look) = (asked.room.lists, asked.look);
+    match asked.view {
+        View::Csv => csv_over(lists, file, times, look.spelling, w),
         View::Plot => {
-            let list = rms_of(room.lists, file, times)?;
+            let list = rms_of(lists, file, times)?;
             let rms = list.as_slice();
-            plot_over(room.lists, Timed { file, times, rms }, look.options, w)
+            plot_over(lists, Timed { file, times, rms }, look.options, w)
         }
         View::Page => {
             let rms: &[Rms] = &[];
-            page_over(room.lists, Timed { file, times, rms }, w)
+            page_over(lists, Timed { file, times, rms }, w)
         }
-        _ if look.json => write_out(w, &show_json(room.texts, room.lists, file, times)?),
-        _ => show_over(room.lists, file, times, w),
+        _ if look.json => write_out(w, &show_json(asked.room.texts, lists, file, times)?),
+        _ => show_over(lists, file, times, w),
     }
 }
 
@@ -133,8 +141,8 @@ fn verdict_json(alloc: Global, is_sound: bool, text: &[u8]) -> Result<Vec<u8>, A
     Ok(out)
 }
 
-/// How values are spelled and pictures drawn; None if a separator or size is not valid, with the error
-/// in `said`.
+/// How values are spelled and pictures drawn; None if a separator or size is not valid, with the
+/// error in `said`.
 fn look_of<A: Allocator>(
     viewed: Viewed<'_>,
     said: &mut Vec<u8, A>,
@@ -156,47 +164,40 @@ fn look_of<A: Allocator>(
 
 /// The part that is asked for; None if it cannot be measured, with the error in `said`.
 fn part_in<'a, A: Allocator>(
-    view: View,
-    viewed: Viewed<'a>,
+    asked: &Request<'a, A>,
     said: &mut Vec<u8, A>,
 ) -> Result<Option<Part<'a>>, ToolFault> {
-    if view == View::Measure {
-        measured_part(viewed, said)
+    if asked.view == View::Measure {
+        measured_part(asked.viewed, said)
     } else {
-        Ok(Some(viewed.part))
+        Ok(Some(asked.viewed.part))
     }
 }
 
 /// Prints what is asked of a part; false if it cannot be measured, with the error in `said`.
 fn view_taken<A: Allocator + Copy, W: Write>(
-    room: Room<A>,
-    view: View,
-    viewed: Viewed<'_>,
-    look: Look,
+    asked: &Request<'_, A>,
     taken: &Taken<A>,
     w: &mut W,
     said: &mut Vec<u8, A>,
 ) -> Result<bool, ToolFault> {
-    if view == View::Measure {
-        return measure_over(room, viewed, taken, w, said);
+    if asked.view == View::Measure {
+        return measure_over(asked.room, asked.viewed, taken, w, said);
     }
-    put_view(room, view, look, &taken.file, &taken.times, w)?;
+    put_view(asked, &taken.file, &taken.times, w)?;
     Ok(true)
 }
 
 /// Prints what is asked of a part; false if it is refused, with the error in `said`.
 fn view_part<A: Allocator + Copy, W: Write>(
-    room: Room<A>,
-    view: View,
-    viewed: Viewed<'_>,
-    look: Look,
+    asked: &Request<'_, A>,
     file: File<A>,
     part: Part<'_>,
     w: &mut W,
     said: &mut Vec<u8, A>,
 ) -> Result<bool, ToolFault> {
-    match taken_of(room.lists, file, part, said)? {
-        Some(taken) => view_taken(room, view, viewed, look, &taken, w, said),
+    match taken_of(asked.room.lists, file, part, said)? {
+        Some(taken) => view_taken(asked, &taken, w, said),
         None => Ok(false),
     }
 }
@@ -204,53 +205,55 @@ fn view_part<A: Allocator + Copy, W: Write>(
 /// Whether a measurement is asked for at a moment that the record does not have, with the error in
 /// `said`.
 fn is_off<A: Allocator + Copy>(
-    room: Room<A>,
-    view: View,
-    viewed: Viewed<'_>,
+    asked: &Request<'_, A>,
     file: &File<A>,
     said: &mut Vec<u8, A>,
 ) -> Result<bool, ToolFault> {
-    if view != View::Measure {
+    if asked.view != View::Measure {
         return Ok(false);
     }
-    is_outside(room.lists, file, viewed.cursor, said)
+    is_outside(asked.room.lists, file, asked.viewed.cursor, said)
 }
 
-/// Prints what is asked of the part that is asked for; false if it is refused, with the error in `said`.
+/// Prints what is asked of the part that is asked for; false if it is refused, with the error in
+/// `said`.
 pub(crate) fn view_file<A: Allocator + Copy, W: Write>(
-    room: Room<A>,
-    view: View,
-    viewed: Viewed<'_>,
-    look: Look,
+    asked: &Request<'_, A>,
     file: File<A>,
     w: &mut W,
     said: &mut Vec<u8, A>,
 ) -> Result<bool, ToolFault> {
-    if is_off(room, view, viewed, &file, said)? {
+    if is_off(asked, &file, said)? {
         return Ok(false);
     }
-    match part_in(view, viewed, said)? {
-        Some(part) => view_part(room, view, viewed, look, file, part, w, said),
+    match part_in(asked, said)? {
+        Some(part) => view_part(asked, file, part, w, said),
         None => Ok(false),
     }
 }
 
-/// How a record is shown, and its file; None if a separator, size or encoding is not valid or the
-/// record has an error, which is put to `said`. `said` also gets the repairs of a record, and what is
-/// doubtful about one that is shown and reads exactly.
-pub(crate) fn shown_file<A: Allocator + Copy>(
+/// What is asked of a record, and its file; None if a separator, size or encoding is not valid or
+/// the record has an error, which is put to `said`. `said` also gets the repairs of a record, and
+/// what is doubtful about one that is shown and reads exactly.
+pub(crate) fn shown_file<'a, A: Allocator + Copy>(
     room: Room<A>,
     view: View,
-    viewed: Viewed<'_>,
+    viewed: Viewed<'a>,
     inputs: &Inputs,
     said: &mut Vec<u8, A>,
-) -> Result<Option<(Look, File<A>)>, ToolFault> {
+) -> Result<Option<(Request<'a, A>, File<A>)>, ToolFault> {
     let Some(look) = look_of(viewed, said)? else {
         return Ok(None);
     };
     let reading = Reading::to_show(viewed.part, view == View::Show);
-    match file_spelled(room.lists, inputs, reading, said)? {
-        Some(loaded) => Ok(Some((look, loaded.file))),
-        None => Ok(None),
-    }
+    let Some(loaded) = file_spelled(room.lists, inputs, reading, said)? else {
+        return Ok(None);
+    };
+    let asked = Request {
+        room,
+        view,
+        viewed,
+        look,
+    };
+    Ok(Some((asked, loaded.file)))
 }
