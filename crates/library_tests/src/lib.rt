@@ -32,6 +32,8 @@ mod bay;
 #[cfg(test)]
 mod channels;
 #[cfg(test)]
+mod detectors;
+#[cfg(test)]
 mod live;
 #[cfg(test)]
 mod program;

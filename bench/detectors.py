@@ -1,0 +1,149 @@
+#!/usr/bin/env python3
+"""The definitions of the detectors, over whole lists of scans, apart from the code: bench/detectors.py COMMAND
+
+  examples          worked examples of each condition, computed by numpy from floats, and by the definitions
+  make N [SEED]     N lines, each with settings and a random history: missing, lost, saturated, noisy, off-nominal
+  judge LINES BITS  compares bits, one line for each history, with the definitions; the status is 1 if one differs
+
+A line: condition, scans, level, reset level, row, how many channels, their numbers; then each scan, its readings with commas
+between them, `-` where one is missing, `L` for a lost scan.
+"""
+import math
+import random
+import sys
+
+SPAN = {"over": lambda n: n, "under": lambda n: n, "change": lambda n: n + 1, "jump": lambda n: 2 * n + 1}
+
+
+def signal(scan, channels):
+    """The sum of these channels in a scan; None if one of them has no sample."""
+    samples = [scan[c] if c < len(scan) else None for c in channels]
+    return None if None in samples else sum(samples)
+
+
+def since_gap(history):
+    """The samples since the last gap, the oldest first."""
+    gaps = [k for k, x in enumerate(history) if x is None]
+    return history[gaps[-1] + 1:] if gaps else history
+
+
+def holds(condition, n, level, history):
+    """Whether the level is met at the last sample of a history."""
+    samples = since_gap(history)
+    if len(samples) < SPAN[condition](n):
+        return False
+    last = samples[len(samples) - SPAN[condition](n):]
+    if condition == "over":
+        return n * level * level <= sum(x * x for x in last)
+    if condition == "under":
+        return sum(x * x for x in last) <= n * level * level
+    if condition == "change":
+        return abs(last[-1] - last[0]) >= level
+    return abs(last[-1] - 2 * last[n] + last[0]) >= level
+
+
+def bits(condition, n, level, reset, row, history):
+    """The bit of each scan, over all scans up to it."""
+    met = [holds(condition, n, level, history[:k + 1]) for k in range(len(history))]
+    stays = [holds(condition, n, reset, history[:k + 1]) for k in range(len(history))]
+    found = []
+    for k in range(len(history)):
+        fires = k + 1 >= row and all(met[k + 1 - row:k + 1])
+        found.append(fires or (k > 0 and found[k - 1] and stays[k]))
+    return found
+
+
+def parsed(line):
+    words = line.split()
+    condition, (n, level, reset, row, count) = words[0], map(int, words[1:6])
+    channels = [int(w) for w in words[6:6 + count]]
+    scans = [[] if w == "L" else [None if p == "-" else int(p) for p in w.split(",")] for w in words[6 + count:]]
+    return condition, n, level, reset, row, channels, scans
+
+
+def wave(rng, length, kind):
+    """The samples of one channel."""
+    size = rng.choice([3, 40, 2000, 32767, 2**31 - 1])
+    per_cycle = rng.uniform(2.5, 21)
+    start = rng.uniform(0, 2 * math.pi)
+    fault = rng.randrange(length + 1)
+    found = []
+    for k in range(length):
+        if kind == "noise":
+            x = rng.randint(-size, size)
+        elif kind == "steps":
+            x = size if k >= fault else rng.randint(-1, 1)
+        else:
+            x = round(size * (0.4 if k < fault else 1) * math.sin(start + 2 * math.pi * k / per_cycle))
+        if kind == "saturated":
+            x = max(-size // 2, min(size // 2, x))
+        found.append(max(-2**31, min(2**31 - 1, x)))
+    return found, size
+
+
+def history(rng):
+    length, width = rng.randint(1, 70), rng.randint(1, 4)
+    kind = rng.choice(["noise", "steps", "sine", "saturated"])
+    waves = [wave(rng, length, kind) for _ in range(width)]
+    gaps = rng.choice([0, 0, 0.01, 0.05, 0.3])
+    words = []
+    for k in range(length):
+        if rng.random() < gaps:
+            words.append("L")
+        else:
+            words.append(",".join("-" if rng.random() < gaps / 2 else str(w[k]) for w, _ in waves))
+    channels = [rng.randrange(width + (rng.random() < 0.02)) for _ in range(rng.randint(1, 4))]
+    condition = rng.choice(list(SPAN))
+    n = rng.choice([1, 2, 3, 4, 5, 8, 10, 16, 20])
+    level = max(1, int(rng.choice([0.1, 0.3, 0.5, 0.7, 1, 2]) * max(s for _, s in waves)))
+    reset = level if rng.random() < 0.4 else max(1, int(level * (rng.uniform(1, 2) if condition == "under" else rng.uniform(0, 1))))
+    row = rng.choice([1, 1, 2, 3, 7])
+    return " ".join([condition, *map(str, [n, level, reset, row, len(channels), *channels]), *words])
+
+
+def make(count, seed=1):
+    rng = random.Random(seed)
+    for _ in range(count):
+        print(history(rng))
+
+
+def judge(lines_name, bits_name):
+    lines, answers = open(lines_name).read().splitlines(), open(bits_name).read().splitlines()
+    differ, ones, both = abs(len(lines) - len(answers)), 0, 0
+    for number, (line, answer) in enumerate(zip(lines, answers), 1):
+        condition, n, level, reset, row, channels, scans = parsed(line)
+        wanted = "".join("01"[b] for b in bits(condition, n, level, reset, row, [signal(s, channels) for s in scans]))
+        ones += wanted.count("1")
+        both += len(set(wanted)) == 2
+        if wanted != answer:
+            differ += 1
+            print(f"line {number}: {line[:60]}: {answer}, expected {wanted}")
+    print(f"{len(lines)} histories, {both} with both bits, {ones} bits are 1: {differ} differ")
+    return differ > 0
+
+
+def examples():
+    import numpy as np
+    t = np.arange(60)
+    sag = np.round(np.where(t < 30, 1000, 600) * np.sqrt(2) * np.sin(2 * np.pi * t / 20)).astype(int)
+    slow = np.round(1000 * np.sin(2 * np.pi * t / 21)).astype(int)
+    rms = [float(np.sqrt(np.mean(sag[k - 19:k + 1].astype(float) ** 2))) if k >= 19 else math.nan for k in range(60)]
+    first = int(np.argmax(np.array(rms) <= 850))
+    ours = bits("under", 20, 850, 850, 1, sag.tolist())
+    print(f"a sag to 600 at scan 30, 20 scans a cycle: rms at scans 19, 29, 39, 49: {[round(rms[k], 1) for k in (19, 29, 39, 49)]}")
+    print(f"  rms under 850: numpy from scan {first}, the definition from scan {ours.index(True)}")
+    change = np.abs(slow[20:] - slow[:-20])
+    jump = np.abs(slow[40:] - 2 * slow[20:-20] + slow[:-40])
+    print(f"a steady wave of 1000 whose cycle has 21 scans, over 20: greatest change {change.max()}, greatest jump {jump.max()}")
+    for condition, level in (("change", int(change.max())), ("jump", int(jump.max()))):
+        fires = [any(bits(condition, 20, at, at, 1, slow.tolist())) for at in (level, level + 1)]
+        print(f"  {condition} of {level} and of {level + 1}: {fires}")
+    return first != ours.index(True)
+
+
+if __name__ == "__main__":
+    if len(sys.argv) < 2 or sys.argv[1] not in ("examples", "make", "judge"):
+        sys.exit(__doc__)
+    if sys.argv[1] == "make":
+        sys.exit(make(*map(int, sys.argv[2:])))
+    sys.exit(examples() if sys.argv[1] == "examples" else judge(*sys.argv[2:]))

@@ -1,0 +1,4 @@
+pub mod Summed
+pub mod Steps
+pub mod Each
+pub mod Runs

@@ -1,0 +1,24 @@
+-- The last samples of a signal. A history has what each scan gave, the newest first: a sample, or
+-- none where the sample is missing or the scan is lost.
+use Rattle.std.specs.Prelude.{ℕ, ℤ, pos, ◌*◌, unsigned_abs, List, [], ◌∷◌, take, slice_index_or, Option, Some, None}
+use Rattle.std.specs.List.{sum_by}
+
+-- the samples since the last gap, the newest first
+abbrev pub since_gap : List (Option ℤ) → List ℤ
+since_gap [] = []
+since_gap (None ∷ past) = []
+since_gap (Some x ∷ past) = x ∷ since_gap past
+
+-- the last n of them
+abbrev pub window : ℕ → List (Option ℤ) → List ℤ
+window n past = take n (since_gap past)
+
+-- the sample n scans before the newest
+abbrev pub ago : ℕ → List ℤ → ℤ
+ago n samples = slice_index_or samples n (pos 0)
+
+abbrev pub square : ℤ → ℕ
+square x = unsigned_abs x * unsigned_abs x
+
+abbrev pub sum_of_squares : List ℤ → ℕ
+sum_of_squares samples = sum_by square samples
