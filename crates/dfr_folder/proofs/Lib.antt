@@ -1,0 +1,4 @@
+mod Moments
+mod Beside
+mod Named
+mod Stages

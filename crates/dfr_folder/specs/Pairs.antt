@@ -1,0 +1,79 @@
+-- What a reader finds under a key, and what recovery makes of it.
+use Rattle.std.specs.Prelude.{◌≡◌, ◌⊎◌, ℕ, List, Option, Some, None}
+use Rattle.dfr_folder.specs.declared.name.Ending.{Ending}
+use Rattle.dfr_folder.specs.declared.name.Ending.TheVariants as ending
+use Rattle.dfr_folder.specs.declared.name.Key.{Key}
+use Rattle.dfr_folder.specs.declared.name.Name.{Name}
+use Rattle.dfr_folder.specs.Directory.{Content, File, IsFresh, on_disk}
+
+-- the files of one key
+abbrev pub Files : Type 0
+Files = Ending → Option (List ℕ)
+
+abbrev pub name : Key → Ending → Name
+name key end = record { key = key; ending = end }
+
+abbrev pub under : Content → Key → Files
+under c key end = c (name key end)
+
+-- no file
+abbrev pub nothing : Files
+nothing end = None
+
+-- a configuration file, and its data file if there is one
+abbrev pub found_of : Option (List ℕ) → Option (List ℕ) → Option (List ℕ × Option (List ℕ))
+found_of None dat = None
+found_of (Some cfg) dat = Some (cfg, dat)
+
+-- what a reader finds who looks for configuration files
+abbrev pub found : Files → Option (List ℕ × Option (List ℕ))
+found files = found_of (files ending.Config) (files ending.Data)
+
+-- the pair that recovery makes of a `.cfg`, `.dat`, `.cfg.gone`, `.cfg.part` and `.dat.part`
+abbrev pub recovered_of : Option (List ℕ) → Option (List ℕ) → Option (List ℕ) → Option (List ℕ) → Option (List ℕ) → Option (List ℕ × List ℕ)
+recovered_of (Some cfg) (Some dat) leaving cfg_part dat_part = Some (cfg, dat)
+-- the data file had its name first: it gets it again
+recovered_of (Some cfg) None leaving cfg_part (Some dat) = Some (cfg, dat)
+recovered_of (Some cfg) None leaving cfg_part None = None
+-- it was being removed
+recovered_of None dat (Some cfg) cfg_part dat_part = None
+-- both were written before the data file got its name
+recovered_of None (Some dat) None (Some cfg) dat_part = Some (cfg, dat)
+recovered_of None (Some dat) None None dat_part = None
+recovered_of None None None cfg_part dat_part = None
+
+abbrev pub recovered : Files → Option (List ℕ × List ℕ)
+recovered files = recovered_of (files ending.Config) (files ending.Data) (files ending.Gone) (files ending.ConfigPart) (files ending.DataPart)
+
+-- no pair, or this one: whoever looks finds none or the whole pair, and so does who recovers first
+pub record IsNoneOrWhole (cfg dat : List ℕ) (files : Files) : Type 0 where
+  pub shown : (found files ≡ None) ⊎ (found files ≡ Some (cfg, Some dat))
+  pub mended : (recovered files ≡ None) ⊎ (recovered files ≡ Some (cfg, dat))
+
+-- a crash left what it might have left before, but for the files of one key, which have P
+pub record Beside {D : Type 0} (may_leave : D → Content → Type 0) (old : D) (key : Key) (P : Files → Type 0) (c : Content) : Type 0 where
+  pub before : Content
+  pub left : may_leave old before
+  pub elsewhere : (n : Name) → (n.key ≡ key → ⊥) → c n ≡ before n
+  pub there : P (under c key)
+
+-- no name of the key is in use, and no crash leaves one
+abbrev pub IsFree : {D : Type 0} → (D → Name → Option File) → (D → Content → Type 0) → D → Key → Type 0
+IsFree files may_leave directory key = (end : Ending) → IsFresh files may_leave directory (name key end)
+
+-- the files of a pair
+abbrev pub pair : List ℕ → List ℕ → Files
+pair cfg dat ending.Config = Some cfg
+pair cfg dat ending.Data = Some dat
+pair cfg dat ending.ConfigPart = None
+pair cfg dat ending.DataPart = None
+pair cfg dat ending.Gone = None
+
+abbrev pub synced : Option (List ℕ) → Option File
+synced None = None
+synced (Some bytes) = on_disk bytes
+
+-- the key has these files, all on the disk: every crash leaves them
+pub record Rests {D : Type 0} (files : D → Name → Option File) (may_leave : D → Content → Type 0) (directory : D) (key : Key) (have : Files) : Type 0 where
+  pub seen : (end : Ending) → files directory (name key end) ≡ synced (have end)
+  pub left : (c : Content) → may_leave directory c → (end : Ending) → c (name key end) ≡ have end
