@@ -1,9 +1,10 @@
 -- What a reader finds under a key, and what recovery makes of it.
-use Rattle.std.specs.Prelude.{◌≡◌, ◌⊎◌, ℕ, List, Option, Some, None}
+use Rattle.std.specs.Prelude.{◌≡◌, ◌⊎◌, ℕ, List, Option, Some, None, is_some}
 use Rattle.dfr_folder.specs.declared.name.Ending.{Ending}
 use Rattle.dfr_folder.specs.declared.name.Ending.TheVariants as ending
 use Rattle.dfr_folder.specs.declared.name.Key.{Key}
 use Rattle.dfr_folder.specs.declared.name.Name.{Name}
+use Rattle.dfr_folder.specs.declared.name.Names.{Names}
 use Rattle.dfr_folder.specs.Directory.{Content, File, IsFresh, on_disk}
 
 -- the files of one key
@@ -29,26 +30,25 @@ found_of (Some cfg) dat = Some (cfg, dat)
 abbrev pub found : Files → Option (List ℕ × Option (List ℕ))
 found files = found_of (files ending.Config) (files ending.Data)
 
--- the pair that recovery makes of a `.cfg`, `.dat`, `.cfg.gone`, `.cfg.part` and `.dat.part`
-abbrev pub recovered_of : Option (List ℕ) → Option (List ℕ) → Option (List ℕ) → Option (List ℕ) → Option (List ℕ) → Option (List ℕ × List ℕ)
-recovered_of (Some cfg) (Some dat) leaving cfg_part dat_part = Some (cfg, dat)
--- the data file had its name first: it gets it again
-recovered_of (Some cfg) None leaving cfg_part (Some dat) = Some (cfg, dat)
-recovered_of (Some cfg) None leaving cfg_part None = None
--- it was being removed
+-- What a reader finds after recovery of a `.cfg`, `.dat`, `.cfg.gone`, `.cfg.part` and `.dat.part`:
+abbrev pub recovered_of : Option (List ℕ) → Option (List ℕ) → Option (List ℕ) → Option (List ℕ) → Option (List ℕ) → Option (List ℕ × Option (List ℕ))
+recovered_of (Some cfg) (Some dat) leaving cfg_part dat_part = Some (cfg, Some dat)
+-- the data file gets its name, if it is there
+recovered_of (Some cfg) None leaving cfg_part dat_part = Some (cfg, dat_part)
+-- a pair that was being removed is removed
 recovered_of None dat (Some cfg) cfg_part dat_part = None
--- both were written before the data file got its name
-recovered_of None (Some dat) None (Some cfg) dat_part = Some (cfg, dat)
+-- both files were written before the data file got its name: the configuration file gets its own
+recovered_of None (Some dat) None (Some cfg) dat_part = Some (cfg, Some dat)
 recovered_of None (Some dat) None None dat_part = None
 recovered_of None None None cfg_part dat_part = None
 
-abbrev pub recovered : Files → Option (List ℕ × List ℕ)
+abbrev pub recovered : Files → Option (List ℕ × Option (List ℕ))
 recovered files = recovered_of (files ending.Config) (files ending.Data) (files ending.Gone) (files ending.ConfigPart) (files ending.DataPart)
 
 -- no pair, or this one: whoever looks finds none or the whole pair, and so does who recovers first
 pub record IsNoneOrWhole (cfg dat : List ℕ) (files : Files) : Type 0 where
   pub shown : (found files ≡ None) ⊎ (found files ≡ Some (cfg, Some dat))
-  pub mended : (recovered files ≡ None) ⊎ (recovered files ≡ Some (cfg, dat))
+  pub mended : (recovered files ≡ None) ⊎ (recovered files ≡ Some (cfg, Some dat))
 
 -- a crash left what it might have left before, but for the files of one key, which have P
 pub record Beside {D : Type 0} (may_leave : D → Content → Type 0) (old : D) (key : Key) (P : Files → Type 0) (c : Content) : Type 0 where
@@ -77,3 +77,37 @@ synced (Some bytes) = on_disk bytes
 pub record Rests {D : Type 0} (files : D → Name → Option File) (may_leave : D → Content → Type 0) (directory : D) (key : Key) (have : Files) : Type 0 where
   pub seen : (end : Ending) → files directory (name key end) ≡ synced (have end)
   pub left : (c : Content) → may_leave directory c → (end : Ending) → c (name key end) ≡ have end
+
+abbrev pub bytes_of : Option File → Option (List ℕ)
+bytes_of None = None
+bytes_of (Some file) = Some file.bytes
+
+-- the files that are seen under a key
+abbrev pub seen : {D : Type 0} → (D → Name → Option File) → D → Key → Files
+seen files directory key end = bytes_of (files directory (name key end))
+
+-- what is seen under the key is on the disk
+abbrev pub IsAtRest : {D : Type 0} → (D → Name → Option File) → (D → Content → Type 0) → D → Key → Type 0
+IsAtRest files may_leave directory key = Rests files may_leave directory key (seen files directory key)
+
+-- Recovery makes the same of both. Who looks finds what there was, or what recovery makes of it.
+pub record IsMending (old new : Files) : Type 0 where
+  pub mended : recovered new ≡ recovered old
+  pub shown : (found new ≡ found old) ⊎ (found new ≡ recovered old)
+
+-- the files of what a reader finds, and no others
+abbrev pub kept : Option (List ℕ × Option (List ℕ)) → Files
+kept None end = None
+kept (Some found) ending.Config = Some found.0
+kept (Some found) ending.Data = found.1
+kept (Some found) ending.ConfigPart = None
+kept (Some found) ending.DataPart = None
+kept (Some found) ending.Gone = None
+
+-- which files of a key there are
+pub record AreNames (have : Files) (names : Names) : Type 0 where
+  pub cfg : names.cfg ≡ is_some (have ending.Config)
+  pub dat : names.dat ≡ is_some (have ending.Data)
+  pub cfg_part : names.cfg_part ≡ is_some (have ending.ConfigPart)
+  pub dat_part : names.dat_part ≡ is_some (have ending.DataPart)
+  pub gone : names.gone ≡ is_some (have ending.Gone)

@@ -1,10 +1,11 @@
 //! A directory as the folder of records uses it: what each name has, and what a crash may leave.
 
-ghost use Rattle.std.specs.Prelude.{◌≡◌, ◌⊎◌, ℕ, List, Option, None, Some, IfOk, OnOk, OnErr, is_some};
+ghost use Rattle.std.specs.Prelude.{◌≡◌, ◌⊎◌, ℕ, List, Option, None, Some, IfOk, OnOk, OnErr};
 ghost use Rattle.dfr_folder.specs.declared.name.Name.{Name};
 ghost use Rattle.dfr_folder.specs.Directory.{File, Content, Follows, SameBut, Moved, Removed, Stays, IsFresh, Elapses, HasCause, unsynced, on_disk};
+ghost use Rattle.dfr_folder.specs.Pairs.{AreNames, seen};
 
-use crate::name::Name;
+use crate::name::{Key, Name, Names};
 
 /// Why a call failed.
 #[derive(Clone, Copy, Debug, PartialEq, Eq)]
@@ -62,7 +63,7 @@ pub trait Directory {
         ensures time { Elapses may_leave left_since self.old self.new }
         ensures cause { HasCause (failures self.old) (failures self.new) result };
 
-    /// Removes a file.
+    /// Removes a file, if there is one.
     fn remove(&mut self, name: Name) -> Result<(), Fault>
         ensures gone { OnOk result (files self.new name ≡ None) }
         ensures elsewhere { (n : Name) → (n ≡ name → ⊥) → files self.new n ≡ files self.old n }
@@ -79,9 +80,9 @@ pub trait Directory {
         ensures time { Elapses may_leave left_since self.old self.new }
         ensures cause { HasCause (failures self.old) (failures self.new) result };
 
-    /// Whether there is a file of this name.
-    fn has(&mut self, name: Name) -> Result<bool, Fault>
-        ensures there { IfOk result (λ there. there ≡ is_some (files self.old name)) }
+    /// Which files of a key there are.
+    fn look(&mut self, key: Key) -> Result<Names, Fault>
+        ensures names { IfOk result (λ names. AreNames (seen files self.old key) names) }
         ensures same { (n : Name) → files self.new n ≡ files self.old n }
         ensures crash { (c : Content) → may_leave self.new c → may_leave self.old c }
         ensures time { Elapses may_leave left_since self.old self.new }

@@ -5,7 +5,9 @@
 mod directory;
 mod name;
 mod pairs;
+mod recovery;
 
 pub use directory::{Directory, Fault};
-pub use name::{Ending, Key, Name};
+pub use name::{Ending, Key, Name, Names};
 pub use pairs::put;
+pub use recovery::tidy;

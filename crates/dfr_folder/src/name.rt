@@ -36,3 +36,13 @@ pub struct Name {
     pub key: Key,
     pub ending: Ending,
 }
+
+/// Which files of a key there are.
+#[derive(Clone, Copy, Debug, PartialEq, Eq)]
+pub struct Names {
+    pub cfg: bool,
+    pub dat: bool,
+    pub cfg_part: bool,
+    pub dat_part: bool,
+    pub gone: bool,
+}
