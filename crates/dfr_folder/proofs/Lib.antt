@@ -5,3 +5,5 @@ mod Stages
 mod Mends
 mod Rest
 mod Thinned
+mod Leaving
+mod Everyone

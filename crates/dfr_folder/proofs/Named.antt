@@ -3,7 +3,7 @@ use Rattle.std.proofs.Common.{◌≡◌, ◌⊎◌, ℕ, List, Option, Some, Non
 use Rattle.dfr_folder.specs.declared.name.Ending.{Ending}
 use Rattle.dfr_folder.specs.declared.name.Ending.TheVariants as ending
 use Rattle.dfr_folder.specs.Directory.{File, on_disk}
-use Rattle.dfr_folder.specs.Pairs.{Files, found_of, recovered_of, IsNoneOrWhole, pair, synced}
+use Rattle.dfr_folder.specs.Pairs.{Files, found_of, recovered_of, IsNoneOr, pair, synced}
 use Rattle.dfr_folder.proofs.Beside.{But, Renamed}
 
 abbrev pub Any : Option (List ℕ) → Type 0
@@ -71,34 +71,34 @@ config_written X Y f but =
 
 module _ (cfg dat : List ℕ) where
   -- no pair, whoever looks
-  pub unnamed : (X Y : Option (List ℕ) → Type 0) (f : Files) → IsUnnamed X Y f → IsNoneOrWhole cfg dat f
+  pub unnamed : (X Y : Option (List ℕ) → Type 0) (f : Files) → IsUnnamed X Y f → IsNoneOr (Some (cfg, Some dat)) f
   unnamed X Y f is = record {
     shown = inl (ap (λ o. found_of o (f ending.Data)) is.config);
     mended = inl (rw (is.config, is.data_file, is.gone) refl);
   }
 
   -- a data file without its configuration
-  lone : (f : Files) → f ending.Config ≡ None → f ending.Gone ≡ None → IsMaybe dat (f ending.Data) → IsMaybe cfg (f ending.ConfigPart) → IsNoneOrWhole cfg dat f
+  lone : (f : Files) → f ending.Config ≡ None → f ending.Gone ≡ None → IsMaybe dat (f ending.Data) → IsMaybe cfg (f ending.ConfigPart) → IsNoneOr (Some (cfg, Some dat)) f
   lone f config gone (inl none) part = record { shown = inl (rw config refl); mended = inl (rw (config, none, gone) refl) }
   lone f config gone (inr some) (inl no_part) = record { shown = inl (rw config refl); mended = inl (rw (config, some, gone, no_part) refl) }
   lone f config gone (inr some) (inr part) = record { shown = inl (rw config refl); mended = inr (rw (config, some, gone, part) refl) }
 
   -- while the data file gets its name
-  pub data_named : (f : Files) → Renamed ending.DataPart ending.Data (IsUnnamed (IsMaybe cfg) (IsMaybe dat)) f → IsNoneOrWhole cfg dat f
+  pub data_named : (f : Files) → Renamed ending.DataPart ending.Data (IsUnnamed (IsMaybe cfg) (IsMaybe dat)) f → IsNoneOr (Some (cfg, Some dat)) f
   data_named f renamed =
       let was = renamed.1 in
       let same = renamed.4 in
       lone f (same ending.Config (λ e. absurd (cc)) (λ e. absurd (cc)) ∙ was.config) (same ending.Gone (λ e. absurd (cc)) (λ e. absurd (cc)) ∙ was.gone)
       (rw renamed.2 was.data_part) (rw (same ending.ConfigPart (λ e. absurd (cc)) (λ e. absurd (cc))) was.config_part)
 
-  pub is_half : (f : Files) → ((e : Ending) → f e ≡ half cfg dat e) → IsNoneOrWhole cfg dat f
+  pub is_half : (f : Files) → ((e : Ending) → f e ≡ half cfg dat e) → IsNoneOr (Some (cfg, Some dat)) f
   is_half f half = lone f (half ending.Config) (half ending.Gone) (inr (half ending.Data)) (inr (half ending.ConfigPart))
 
-  pub whole : (f : Files) → f ending.Config ≡ Some cfg → f ending.Data ≡ Some dat → IsNoneOrWhole cfg dat f
+  pub whole : (f : Files) → f ending.Config ≡ Some cfg → f ending.Data ≡ Some dat → IsNoneOr (Some (cfg, Some dat)) f
   whole f config data_file = record { shown = inr (rw (config, data_file) refl); mended = inr (rw (config, data_file) refl) }
 
   -- while the configuration file gets its name
-  pub config_named : (f : Files) → Renamed ending.ConfigPart ending.Config (λ f. (e : Ending) → f e ≡ half cfg dat e) f → IsNoneOrWhole cfg dat f
+  pub config_named : (f : Files) → Renamed ending.ConfigPart ending.Config (λ f. (e : Ending) → f e ≡ half cfg dat e) f → IsNoneOr (Some (cfg, Some dat)) f
   config_named f renamed =
       whole f (renamed.2 ∙ renamed.1 ending.ConfigPart) (renamed.4 ending.Data (λ e. absurd (cc)) (λ e. absurd (cc)) ∙ renamed.1 ending.Data)
 

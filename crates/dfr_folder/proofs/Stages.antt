@@ -5,7 +5,7 @@ use Rattle.dfr_folder.specs.declared.name.Ending.TheVariants as ending
 use Rattle.dfr_folder.specs.declared.name.Key.{Key}
 use Rattle.dfr_folder.specs.declared.name.Name.{Name}
 use Rattle.dfr_folder.specs.Directory.{Content, File, SameBut, Moved, Stays, LeavesOnly}
-use Rattle.dfr_folder.specs.Pairs.{Files, name, under, synced, IsFree, IsNoneOrWhole, Beside, Rests, pair}
+use Rattle.dfr_folder.specs.Pairs.{Files, name, under, synced, IsFree, IsNoneOr, Beside, Rests, pair}
 use Rattle.dfr_folder.proofs.Moments.{weaker, joined}
 use Rattle.dfr_folder.proofs.Beside.{But, Renamed, Leaves, free_leaves, implied, touched, renamed}
 use Rattle.dfr_folder.proofs.Named.{Any, IsNothing, IsMaybe, IsUnnamed, half, nothing_unnamed, data_written, config_written, unnamed, data_named, is_half, whole, config_named}
@@ -13,7 +13,7 @@ use Rattle.dfr_folder.proofs.Named.{Any, IsNothing, IsMaybe, IsUnnamed, half, no
 module _ {D : Type 0} (files : D → Name → Option File) (may_leave : D → Content → Type 0) (left_since : D → D → Content → Type 0) (key : Key) (cfg dat : List ℕ) (start : D) where
   -- what the whole call promises
   abbrev pub Promise : Content → Type 0
-  Promise = Beside may_leave start key (IsNoneOrWhole cfg dat)
+  Promise = Beside may_leave start key (IsNoneOr (Some (cfg, Some dat)))
 
   abbrev pub At : D → (Files → Type 0) → Type 0
   At new P = (c : Content) → may_leave new c → Beside may_leave start key P c

@@ -45,10 +45,10 @@ recovered_of None None None cfg_part dat_part = None
 abbrev pub recovered : Files → Option (List ℕ × Option (List ℕ))
 recovered files = recovered_of (files ending.Config) (files ending.Data) (files ending.Gone) (files ending.ConfigPart) (files ending.DataPart)
 
--- no pair, or this one: whoever looks finds none or the whole pair, and so does who recovers first
-pub record IsNoneOrWhole (cfg dat : List ℕ) (files : Files) : Type 0 where
-  pub shown : (found files ≡ None) ⊎ (found files ≡ Some (cfg, Some dat))
-  pub mended : (recovered files ≡ None) ⊎ (recovered files ≡ Some (cfg, Some dat))
+-- No pair, or this one: who looks finds none or the whole pair, and so does who recovers first.
+pub record IsNoneOr (pair : Option (List ℕ × Option (List ℕ))) (files : Files) : Type 0 where
+  pub shown : (found files ≡ None) ⊎ (found files ≡ pair)
+  pub mended : (recovered files ≡ None) ⊎ (recovered files ≡ pair)
 
 -- a crash left what it might have left before, but for the files of one key, which have P
 pub record Beside {D : Type 0} (may_leave : D → Content → Type 0) (old : D) (key : Key) (P : Files → Type 0) (c : Content) : Type 0 where
@@ -111,3 +111,11 @@ pub record AreNames (have : Files) (names : Names) : Type 0 where
   pub cfg_part : names.cfg_part ≡ is_some (have ending.ConfigPart)
   pub dat_part : names.dat_part ≡ is_some (have ending.DataPart)
   pub gone : names.gone ≡ is_some (have ending.Gone)
+
+-- there is what a reader finds, and no leftover
+abbrev pub IsTidy : Files → Type 0
+IsTidy have = (end : Ending) → have end ≡ kept (found have) end
+
+-- recovery makes the same of each key's files
+abbrev pub AllMend : {D : Type 0} → (D → Name → Option File) → D → Content → Type 0
+AllMend files old c = (key : Key) → IsMending (seen files old key) (under c key)

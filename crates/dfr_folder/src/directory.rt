@@ -1,11 +1,12 @@
 //! A directory as the folder of records uses it: what each name has, and what a crash may leave.
 
-ghost use Rattle.std.specs.Prelude.{◌≡◌, ◌⊎◌, ℕ, List, Option, None, Some, IfOk, OnOk, OnErr};
+ghost use Rattle.std.specs.Prelude.{◌≡◌, ◌⊎◌, ℕ, List, Option, None, Some, IfOk, OnOk, OnErr, Contains};
 ghost use Rattle.dfr_folder.specs.declared.name.Name.{Name};
 ghost use Rattle.dfr_folder.specs.Directory.{File, Content, Follows, SameBut, Moved, Removed, Stays, IsFresh, Elapses, HasCause, unsynced, on_disk};
 ghost use Rattle.dfr_folder.specs.Pairs.{AreNames, seen};
 
 use crate::name::{Key, Name, Names};
+use std::alloc::Global;
 
 /// Why a call failed.
 #[derive(Clone, Copy, Debug, PartialEq, Eq)]
@@ -83,6 +84,14 @@ pub trait Directory {
     /// Which files of a key there are.
     fn look(&mut self, key: Key) -> Result<Names, Fault>
         ensures names { IfOk result (λ names. AreNames (seen files self.old key) names) }
+        ensures same { (n : Name) → files self.new n ≡ files self.old n }
+        ensures crash { (c : Content) → may_leave self.new c → may_leave self.old c }
+        ensures time { Elapses may_leave left_since self.old self.new }
+        ensures cause { HasCause (failures self.old) (failures self.new) result };
+
+    /// The keys of all files.
+    fn list(&mut self, alloc: Global) -> Result<Vec<Key>, Fault>
+        ensures keys { IfOk result (λ keys. (n : Name) → (files self.old n ≡ None → ⊥) → Contains keys.items n.key) }
         ensures same { (n : Name) → files self.new n ≡ files self.old n }
         ensures crash { (c : Content) → may_leave self.new c → may_leave self.old c }
         ensures time { Elapses may_leave left_since self.old self.new }

@@ -6,8 +6,10 @@ mod directory;
 mod name;
 mod pairs;
 mod recovery;
+mod room;
 
 pub use directory::{Directory, Fault};
 pub use name::{Ending, Key, Name, Names};
 pub use pairs::put;
-pub use recovery::tidy;
+pub use recovery::{recover, tidy};
+pub use room::give_up;

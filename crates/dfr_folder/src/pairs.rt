@@ -4,7 +4,7 @@
 ghost use Rattle.std.specs.Prelude.{◌≡◌, ◌⊎◌, None, Some, OnOk, OnErr};
 ghost use Rattle.dfr_folder.specs.declared.name.Name.{Name};
 ghost use Rattle.dfr_folder.specs.Directory.{Content, SameBut, Moved, Stays, IsFresh, LeavesOnly, HasCause, on_disk};
-ghost use Rattle.dfr_folder.specs.Pairs.{IsFree, IsNoneOrWhole, Beside, Rests, pair};
+ghost use Rattle.dfr_folder.specs.Pairs.{IsFree, IsNoneOr, Beside, Rests, pair};
 
 use crate::directory::{Directory, Fault};
 use crate::name::{Ending, Key, Name};
@@ -43,7 +43,7 @@ pub fn put<D: Directory>(directory: &mut D, key: Key, cfg: &[u8], dat: &[u8]) ->
     requires free { IsFree D.files D.may_leave directory.old key }
     // A crash at any moment leaves the whole pair or none, and all other files as before the call.
     ensures any_moment { LeavesOnly D.may_leave D.left_since directory.old directory.new
-        (Beside D.may_leave directory.old key (IsNoneOrWhole cfg.now dat.now)) }
+        (Beside D.may_leave directory.old key (IsNoneOr (Some (cfg.now, Some dat.now)))) }
     ensures stored { OnOk result (Rests D.files D.may_leave directory.new key (pair cfg.now dat.now)) }
     ensures elsewhere { (n : Name) → (n.key ≡ key → ⊥) → D.files directory.new n ≡ D.files directory.old n }
     // It doesn't give up by itself.

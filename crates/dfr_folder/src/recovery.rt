@@ -4,14 +4,16 @@
 ghost use Rattle.std.specs.Prelude.{◌≡◌, true, false, None, IfOk, OnOk, is_some};
 ghost use Rattle.dfr_folder.specs.declared.name.Ending.{Ending};
 ghost use Rattle.dfr_folder.specs.declared.name.Ending.TheVariants as ending;
+ghost use Rattle.dfr_folder.specs.declared.name.Key.{Key};
 ghost use Rattle.dfr_folder.specs.declared.name.Name.{Name};
 ghost use Rattle.dfr_folder.specs.declared.recovery.Recovery.TheVariants as recovery;
 ghost use Rattle.dfr_folder.specs.Directory.{LeavesOnly, HasCause};
-ghost use Rattle.dfr_folder.specs.Pairs.{AreNames, IsAtRest, IsMending, Beside, found, recovered, seen, kept};
+ghost use Rattle.dfr_folder.specs.Pairs.{AllMend, AreNames, IsAtRest, IsMending, Beside, found, recovered, seen, kept};
 
 use crate::directory::{Directory, Fault};
 use crate::name::{Ending, Key, Name, Names};
 use crate::pairs::settle;
+use std::alloc::Global;
 
 /// Which file of a pair gets its name.
 #[derive(Clone, Copy, Debug, PartialEq, Eq)]
@@ -181,4 +183,24 @@ pub fn tidy<D: Directory>(directory: &mut D, key: Key) -> Result<(), Fault>
     let is_there = complete(directory, key, names)?;
     clear_parts(directory, key)?;
     clear_rest(directory, key, is_there)
+}
+
+/// Completes or removes whatever a crash left in the folder. It may crash too.
+pub fn recover<D: Directory>(directory: &mut D, alloc: Global) -> Result<(), Fault>
+    // After a restart, what is seen is what is on the disk.
+    requires rests { (key : Key) → IsAtRest D.files D.may_leave directory.old key }
+    // A crash at any moment leaves what recovery makes the same of.
+    ensures any_moment { LeavesOnly D.may_leave D.left_since directory.old directory.new (AllMend D.files directory.old) }
+    ensures rests { OnOk result ((key : Key) → IsAtRest D.files D.may_leave directory.new key) }
+    // No leftover stays.
+    ensures clean { OnOk result ((key : Key) (end : Ending)
+        → seen D.files directory.new key end ≡ kept (recovered (seen D.files directory.old key)) end) }
+    // It doesn't give up by itself, whatever it finds.
+    ensures cause { HasCause (D.failures directory.old) (D.failures directory.new) result }
+{
+    let mut keys = directory.list(alloc)?;
+    while let Some(key) = keys.pop() {
+        tidy(directory, key)?;
+    }
+    Ok(())
 }
