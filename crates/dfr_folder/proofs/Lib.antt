@@ -7,3 +7,4 @@ mod Rest
 mod Thinned
 mod Leaving
 mod Everyone
+mod Oldest

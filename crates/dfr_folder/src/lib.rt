@@ -12,4 +12,4 @@ pub use directory::{Directory, Fault};
 pub use name::{Ending, Key, Name, Names};
 pub use pairs::put;
 pub use recovery::{recover, tidy};
-pub use room::give_up;
+pub use room::{give_up, give_up_oldest};
