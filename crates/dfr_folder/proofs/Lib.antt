@@ -8,3 +8,4 @@ mod Thinned
 mod Leaving
 mod Everyone
 mod Oldest
+mod Whole

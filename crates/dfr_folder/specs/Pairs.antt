@@ -1,5 +1,5 @@
 -- What a reader finds under a key, and what recovery makes of it.
-use Rattle.std.specs.Prelude.{◌≡◌, ◌⊎◌, ℕ, List, Option, Some, None, is_some}
+use Rattle.std.specs.Prelude.{◌≡◌, ◌⊎◌, ℕ, List, Option, Some, None, is_some, Contains}
 use Rattle.dfr_folder.specs.declared.name.Ending.{Ending}
 use Rattle.dfr_folder.specs.declared.name.Ending.TheVariants as ending
 use Rattle.dfr_folder.specs.declared.name.Key.{Key}
@@ -119,3 +119,17 @@ IsTidy have = (end : Ending) → have end ≡ kept (found have) end
 -- recovery makes the same of each key's files
 abbrev pub AllMend : {D : Type 0} → (D → Name → Option File) → D → Content → Type 0
 AllMend files old c = (key : Key) → IsMending (seen files old key) (under c key)
+
+-- what a reader finds under a key is nothing, or the whole pair of one of these records
+abbrev pub IsRecord : List (Key × List ℕ × List ℕ) → Key → Option (List ℕ × Option (List ℕ)) → Type 0
+IsRecord records key None = Unit {0}
+IsRecord records key (Some found) = (dat : List ℕ) × (found.1 ≡ Some dat) × Contains records (key, found.0, dat)
+
+-- Each configuration file has its whole pair, and the pair is one of these records, for whoever looks and for whoever recovers first.
+pub record AllWhole (records : List (Key × List ℕ × List ℕ)) (c : Content) : Type 0 where
+  pub shown : (key : Key) → IsRecord records key (found (under c key))
+  pub mended : (key : Key) → IsRecord records key (recovered (under c key))
+
+-- what is seen now
+abbrev pub content : {D : Type 0} → (D → Name → Option File) → D → Content
+content files directory n = bytes_of (files directory n)

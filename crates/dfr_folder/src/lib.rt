@@ -3,13 +3,12 @@
 #![tactic(auto)]
 
 mod directory;
+mod folder;
 mod name;
 mod pairs;
 mod recovery;
-mod room;
+mod removal;
 
 pub use directory::{Directory, Fault};
+pub use folder::{give_up, give_up_oldest, put, recover};
 pub use name::{Ending, Key, Name, Names};
-pub use pairs::put;
-pub use recovery::{recover, tidy};
-pub use room::{give_up, give_up_oldest};

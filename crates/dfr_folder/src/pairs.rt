@@ -1,4 +1,4 @@
-//! A pair is put into the folder: both files are written and synced under other names. Then each
+//! A pair is written: both files are written and synced under other names. Then each
 //! gets its name, the data file first, and the folder is synced after each.
 
 ghost use Rattle.std.specs.Prelude.{◌≡◌, ◌⊎◌, None, Some, OnOk, OnErr};
@@ -38,8 +38,13 @@ pub(crate) fn settle<D: Directory>(directory: &mut D, from: Name, to: Name) -> R
     directory.sync_names()
 }
 
-/// Puts a pair into the folder under a key that is not in use. At `Ok` the pair is there for good.
-pub fn put<D: Directory>(directory: &mut D, key: Key, cfg: &[u8], dat: &[u8]) -> Result<(), Fault>
+/// Writes a pair under a key that is not in use.
+pub(crate) fn write_pair<D: Directory>(
+    directory: &mut D,
+    key: Key,
+    cfg: &[u8],
+    dat: &[u8],
+) -> Result<(), Fault>
     requires free { IsFree D.files D.may_leave directory.old key }
     // A crash at any moment leaves the whole pair or none, and all other files as before the call.
     ensures any_moment { LeavesOnly D.may_leave D.left_since directory.old directory.new

@@ -163,7 +163,7 @@ fn is_clean(names: Names) -> bool
 }
 
 /// Completes or removes what a crash left of a pair. It may crash too.
-pub fn tidy<D: Directory>(directory: &mut D, key: Key) -> Result<(), Fault>
+pub(crate) fn tidy<D: Directory>(directory: &mut D, key: Key) -> Result<(), Fault>
     // After a restart, what is seen is what is on the disk.
     requires rests { IsAtRest D.files D.may_leave directory.old key }
     // A crash at any moment leaves what recovery makes the same of, and all other files as before.
@@ -186,7 +186,7 @@ pub fn tidy<D: Directory>(directory: &mut D, key: Key) -> Result<(), Fault>
 }
 
 /// Completes or removes whatever a crash left in the folder. It may crash too.
-pub fn recover<D: Directory>(directory: &mut D, alloc: Global) -> Result<(), Fault>
+pub(crate) fn tidy_all<D: Directory>(directory: &mut D, alloc: Global) -> Result<(), Fault>
     // After a restart, what is seen is what is on the disk.
     requires rests { (key : Key) → IsAtRest D.files D.may_leave directory.old key }
     // A crash at any moment leaves what recovery makes the same of.

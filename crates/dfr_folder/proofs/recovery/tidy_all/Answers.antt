@@ -7,7 +7,7 @@ use Rattle.dfr_folder.proofs.Moments.{begins, joined}
 use Rattle.dfr_folder.proofs.Mends.{same_mends}
 use Rattle.dfr_folder.proofs.Rest.{rests_on, seen_is, at_rest}
 use Rattle.dfr_folder.proofs.Everyone.{IsDone, listed, all_mend, all_rest, all_made, all_done, none_contained}
-use Rattle.dfr_folder.proofs.recovery.recover.Goals as goal
+use Rattle.dfr_folder.proofs.recovery.tidy_all.Goals as goal
 
 pub returns-in_err-keys-clause-any_moment : goal.returns-in_err-keys-clause-any_moment
 returns-in_err-keys-clause-any_moment g c =

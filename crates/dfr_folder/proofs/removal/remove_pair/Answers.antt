@@ -8,7 +8,7 @@ use Rattle.dfr_folder.proofs.Beside.{apart, stayed, implied}
 use Rattle.dfr_folder.proofs.Thinned.{is_rest}
 use Rattle.dfr_folder.proofs.Rest.{removed}
 use Rattle.dfr_folder.proofs.Leaving.{after_gone, see_gone, no_gone, removing, removing_is, losing_name, thin_from, see_nothing}
-use Rattle.dfr_folder.proofs.room.give_up.Goals as goal
+use Rattle.dfr_folder.proofs.removal.remove_pair.Goals as goal
 
 pub settle-requires : goal.settle-requires
 settle-requires g c =

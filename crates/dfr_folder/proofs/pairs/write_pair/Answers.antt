@@ -5,7 +5,7 @@ use Rattle.dfr_folder.specs.Pairs.{name, synced, pair}
 use Rattle.dfr_folder.proofs.Beside.{apart, stayed}
 use Rattle.dfr_folder.proofs.Named.{half, parts, see_parts, see_half, see_pair}
 use Rattle.dfr_folder.proofs.Stages.{first, after_first, second, after_second, third, exact, fourth}
-use Rattle.dfr_folder.proofs.pairs.put.Goals as goal
+use Rattle.dfr_folder.proofs.pairs.write_pair.Goals as goal
 
 pub store-requires : goal.store-requires
 store-requires g c =

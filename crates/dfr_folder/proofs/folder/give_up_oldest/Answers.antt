@@ -4,7 +4,7 @@ use Rattle.dfr_folder.specs.declared.name.Key.{Key}
 use Rattle.dfr_folder.specs.Directory.{LeavesOnly}
 use Rattle.dfr_folder.specs.Pairs.{seen, found, Beside, IsNoneOr}
 use Rattle.dfr_folder.proofs.Oldest.{is_first, is_in, rest_is, same_first}
-use Rattle.dfr_folder.proofs.room.give_up_oldest.Goals as goal
+use Rattle.dfr_folder.proofs.folder.give_up_oldest.Goals as goal
 
 pub give_up-requires : goal.give_up-requires
 give_up-requires g c =

@@ -4,7 +4,7 @@ use Rattle.dfr_folder.specs.declared.name.Key.{Key}
 use Rattle.dfr_folder.specs.Directory.{LeavesOnly}
 use Rattle.dfr_folder.specs.Pairs.{seen, IsAtRest, IsMending, AllMend}
 use Rattle.dfr_folder.proofs.Everyone.{IsDone}
-use Rattle.dfr_folder.proofs.recovery.recover.Given as goal
+use Rattle.dfr_folder.proofs.recovery.tidy_all.Given as goal
 
 abbrev pub invariant-loop-key : goal.invariant-loop-key
 invariant-loop-key g l =
