@@ -8,4 +8,5 @@ mod Thinned
 mod Leaving
 mod Everyone
 mod Oldest
+mod Keeping
 mod Whole

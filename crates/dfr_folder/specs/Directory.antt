@@ -60,6 +60,10 @@ pub record LeavesOnly {D : Type 0} (may_leave : D → Content → Type 0) (left_
   pub passing : (start : D) (c : Content) → left_since start new c → left_since start old c ⊎ P c
   pub after : (c : Content) → may_leave new c → P c
 
+-- a crash at this moment leaves what has P
+abbrev pub LeavesNow : (Content → Type 0) → (Content → Type 0) → Type 0
+LeavesNow may_leave P = (c : Content) → may_leave c → P c
+
 -- an error comes only if the directory has failed since
 pub record HasCause {T : Type 0} (before now : ℕ) (result : Result T Fault) : Type 0 where
   pub later : before ≤ now

@@ -1,5 +1,5 @@
 -- What a reader finds under a key, and what recovery makes of it.
-use Rattle.std.specs.Prelude.{◌≡◌, ◌⊎◌, ℕ, List, Option, Some, None, is_some, Contains}
+use Rattle.std.specs.Prelude.{◌≡◌, ◌⊎◌, ℕ, List, [], ◌∷◌, ◌++◌, Option, Some, None, is_some, Contains}
 use Rattle.dfr_folder.specs.declared.name.Ending.{Ending}
 use Rattle.dfr_folder.specs.declared.name.Ending.TheVariants as ending
 use Rattle.dfr_folder.specs.declared.name.Key.{Key}
@@ -119,6 +119,26 @@ IsTidy have = (end : Ending) → have end ≡ kept (found have) end
 -- recovery makes the same of each key's files
 abbrev pub AllMend : {D : Type 0} → (D → Name → Option File) → D → Content → Type 0
 AllMend files old c = (key : Key) → IsMending (seen files old key) (under c key)
+
+-- no key comes twice
+abbrev pub IsDistinct : List Key → Type 0
+IsDistinct [] = Unit {0}
+IsDistinct (key ∷ keys) = (Contains keys key → ⊥) × IsDistinct keys
+
+abbrev pub IsHead : List Key → Key → Type 0
+IsHead [] key = ⊥
+IsHead (first ∷ keys) key = key ≡ first
+
+-- Some of the oldest pairs are given up. The next is there, whole, or not at all. All else is as before.
+pub record GivesUp {D : Type 0} (files : D → Name → Option File) (may_leave : D → Content → Type 0) (old : D) (keys : List Key) (c : Content) : Type 0 where
+  pub front : List Key
+  pub younger : List Key
+  pub split : keys ≡ front ++ younger
+  pub gone : (key : Key) → Contains front key → (found (under c key) ≡ None) × (recovered (under c key) ≡ None)
+  pub next : (key : Key) → IsHead younger key → IsNoneOr (found (seen files old key)) (under c key)
+  pub before : Content
+  pub left : may_leave old before
+  pub elsewhere : (n : Name) → (Contains front n.key → ⊥) → (IsHead younger n.key → ⊥) → c n ≡ before n
 
 -- what a reader finds under a key is nothing, or the whole pair of one of these records
 abbrev pub IsRecord : List (Key × List ℕ × List ℕ) → Key → Option (List ℕ × Option (List ℕ)) → Type 0

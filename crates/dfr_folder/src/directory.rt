@@ -19,8 +19,8 @@ pub enum Fault {
     Failed,
 }
 
-/// A directory. Until it is synced, a crash may undo each write, rename and removal, each by itself.
-/// A file's bytes may be any after a crash, until the file is synced.
+/// A directory. Until it is synced, a crash may undo each write, rename and removal, each by
+/// itself. A file's bytes may be any after a crash, until the file is synced.
 pub trait Directory {
     /// What each name has now.
     ghost files: { Self → Name → Option File };
@@ -47,7 +47,8 @@ pub trait Directory {
     fn sync(&mut self, name: Name, bytes: &[u8]) -> Result<(), Fault>
         requires written { files self.old name ≡ unsynced bytes.now }
         ensures synced { OnOk result (files self.new name ≡ on_disk bytes.now) }
-        ensures kept { OnOk result ((c : Content) → may_leave self.new c → (c name ≡ None) ⊎ (c name ≡ Some bytes.now)) }
+        ensures kept { OnOk result ((c : Content) → may_leave self.new c
+            → (c name ≡ None) ⊎ (c name ≡ Some bytes.now)) }
         ensures elsewhere { (n : Name) → (n ≡ name → ⊥) → files self.new n ≡ files self.old n }
         ensures crash { (c : Content) → may_leave self.new c → may_leave self.old c }
         ensures time { Elapses may_leave left_since self.old self.new }
@@ -58,7 +59,8 @@ pub trait Directory {
         requires fresh { IsFresh files may_leave self.old to }
         ensures there { OnOk result (files self.new to ≡ files self.old from) }
         ensures left { OnOk result (files self.new from ≡ None) }
-        ensures elsewhere { (n : Name) → (n ≡ from → ⊥) → (n ≡ to → ⊥) → files self.new n ≡ files self.old n }
+        ensures elsewhere { (n : Name) → (n ≡ from → ⊥) → (n ≡ to → ⊥)
+            → files self.new n ≡ files self.old n }
         ensures err { OnErr result ((n : Name) → files self.new n ≡ files self.old n) }
         ensures crash { Follows (Moved from to) (may_leave self.old) (may_leave self.new) }
         ensures time { Elapses may_leave left_since self.old self.new }
@@ -75,7 +77,8 @@ pub trait Directory {
 
     /// Syncs the directory: each name stays as it is.
     fn sync_names(&mut self) -> Result<(), Fault>
-        ensures stays { OnOk result ((c : Content) → may_leave self.new c → (n : Name) → Stays (files self.old n) (c n)) }
+        ensures stays { OnOk result ((c : Content) → may_leave self.new c
+            → (n : Name) → Stays (files self.old n) (c n)) }
         ensures same { (n : Name) → files self.new n ≡ files self.old n }
         ensures crash { (c : Content) → may_leave self.new c → may_leave self.old c }
         ensures time { Elapses may_leave left_since self.old self.new }
@@ -91,15 +94,18 @@ pub trait Directory {
 
     /// The keys of all files.
     fn list(&mut self, alloc: Global) -> Result<Vec<Key>, Fault>
-        ensures keys { IfOk result (λ keys. (n : Name) → (files self.old n ≡ None → ⊥) → Contains keys.items n.key) }
+        ensures keys { IfOk result (λ keys. (n : Name) → (files self.old n ≡ None → ⊥)
+            → Contains keys.items n.key) }
         ensures same { (n : Name) → files self.new n ≡ files self.old n }
         ensures crash { (c : Content) → may_leave self.new c → may_leave self.old c }
         ensures time { Elapses may_leave left_since self.old self.new }
         ensures cause { HasCause (failures self.old) (failures self.new) result };
 
     /// This moment is one of those since any start.
-    ghost counts_now: { (start directory : Self) (c : Content) → may_leave directory c → left_since start directory c };
+    ghost counts_now: { (start directory : Self) (c : Content) → may_leave directory c
+        → left_since start directory c };
 
     /// Since this moment there is no other.
-    ghost only_now: { (directory : Self) (c : Content) → left_since directory directory c → may_leave directory c };
+    ghost only_now: { (directory : Self) (c : Content) → left_since directory directory c
+        → may_leave directory c };
 }

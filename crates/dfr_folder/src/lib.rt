@@ -10,5 +10,5 @@ mod recovery;
 mod removal;
 
 pub use directory::{Directory, Fault};
-pub use folder::{give_up, give_up_oldest, put, recover};
+pub use folder::{give_up, keep, put, recover};
 pub use name::{Ending, Key, Name, Names};

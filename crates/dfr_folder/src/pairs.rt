@@ -15,8 +15,10 @@ pub(crate) fn store<D: Directory>(directory: &mut D, name: Name, bytes: &[u8]) -
     ensures any_moment { LeavesOnly D.may_leave D.left_since directory.old directory.new
         (λ c. (d : Content) × D.may_leave directory.old d × SameBut name d c) }
     ensures synced { OnOk result (D.files directory.new name ≡ on_disk bytes.now) }
-    ensures kept { OnOk result ((c : Content) → D.may_leave directory.new c → (c name ≡ None) ⊎ (c name ≡ Some bytes.now)) }
-    ensures elsewhere { (n : Name) → (n ≡ name → ⊥) → D.files directory.new n ≡ D.files directory.old n }
+    ensures kept { OnOk result ((c : Content) → D.may_leave directory.new c
+        → (c name ≡ None) ⊎ (c name ≡ Some bytes.now)) }
+    ensures elsewhere { (n : Name) → (n ≡ name → ⊥)
+        → D.files directory.new n ≡ D.files directory.old n }
     ensures cause { HasCause (D.failures directory.old) (D.failures directory.new) result }
 {
     directory.write(name, bytes)?;
@@ -27,11 +29,14 @@ pub(crate) fn store<D: Directory>(directory: &mut D, name: Name, bytes: &[u8]) -
 pub(crate) fn settle<D: Directory>(directory: &mut D, from: Name, to: Name) -> Result<(), Fault>
     requires fresh { IsFresh D.files D.may_leave directory.old to }
     ensures any_moment { LeavesOnly D.may_leave D.left_since directory.old directory.new
-        (λ c. D.may_leave directory.old c ⊎ ((d : Content) × D.may_leave directory.old d × Moved from to d c)) }
+        (λ c. D.may_leave directory.old c ⊎ ((d : Content) × D.may_leave directory.old d
+        × Moved from to d c)) }
     ensures there { OnOk result (D.files directory.new to ≡ D.files directory.old from) }
     ensures left { OnOk result (D.files directory.new from ≡ None) }
-    ensures elsewhere { (n : Name) → (n ≡ from → ⊥) → (n ≡ to → ⊥) → D.files directory.new n ≡ D.files directory.old n }
-    ensures stays { OnOk result ((c : Content) → D.may_leave directory.new c → (n : Name) → Stays (D.files directory.new n) (c n)) }
+    ensures elsewhere { (n : Name) → (n ≡ from → ⊥) → (n ≡ to → ⊥)
+        → D.files directory.new n ≡ D.files directory.old n }
+    ensures stays { OnOk result ((c : Content) → D.may_leave directory.new c
+        → (n : Name) → Stays (D.files directory.new n) (c n)) }
     ensures cause { HasCause (D.failures directory.old) (D.failures directory.new) result }
 {
     directory.rename(from, to)?;
@@ -49,8 +54,10 @@ pub(crate) fn write_pair<D: Directory>(
     // A crash at any moment leaves the whole pair or none, and all other files as before the call.
     ensures any_moment { LeavesOnly D.may_leave D.left_since directory.old directory.new
         (Beside D.may_leave directory.old key (IsNoneOr (Some (cfg.now, Some dat.now)))) }
-    ensures stored { OnOk result (Rests D.files D.may_leave directory.new key (pair cfg.now dat.now)) }
-    ensures elsewhere { (n : Name) → (n.key ≡ key → ⊥) → D.files directory.new n ≡ D.files directory.old n }
+    ensures stored { OnOk result (Rests D.files D.may_leave directory.new key
+        (pair cfg.now dat.now)) }
+    ensures elsewhere { (n : Name) → (n.key ≡ key → ⊥)
+        → D.files directory.new n ≡ D.files directory.old n }
     // It doesn't give up by itself.
     ensures cause { HasCause (D.failures directory.old) (D.failures directory.new) result }
 {

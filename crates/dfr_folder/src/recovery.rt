@@ -31,7 +31,8 @@ fn recovery_of(names: Names) -> Recovery
     ensures data_file { result ≡ recovery.NameData
         → (names.cfg ≡ true) × (names.dat ≡ false) × (names.dat_part ≡ true) }
     ensures config { result ≡ recovery.NameConfig
-        → (names.cfg ≡ false) × (names.dat ≡ true) × (names.gone ≡ false) × (names.cfg_part ≡ true) }
+        → (names.cfg ≡ false) × (names.dat ≡ true) × (names.gone ≡ false)
+        × (names.cfg_part ≡ true) }
     ensures no_data { result ≡ recovery.Nothing
         → names.cfg ≡ true → names.dat ≡ false → names.dat_part ≡ false }
     ensures no_config { result ≡ recovery.Nothing
@@ -57,10 +58,14 @@ fn complete<D: Directory>(directory: &mut D, key: Key, names: Names) -> Result<b
     ensures any_moment { LeavesOnly D.may_leave D.left_since directory.old directory.new
         (Beside D.may_leave directory.old key (IsMending (seen D.files directory.old key))) }
     ensures rests { OnOk result (IsAtRest D.files D.may_leave directory.new key) }
-    ensures mends { OnOk result (IsMending (seen D.files directory.old key) (seen D.files directory.new key)) }
-    ensures named { OnOk result (found (seen D.files directory.new key) ≡ recovered (seen D.files directory.new key)) }
-    ensures there { IfOk result (λ there. there ≡ is_some (seen D.files directory.new key ending.Config)) }
-    ensures elsewhere { (n : Name) → (n.key ≡ key → ⊥) → D.files directory.new n ≡ D.files directory.old n }
+    ensures mends { OnOk result (IsMending (seen D.files directory.old key) (seen
+        D.files directory.new key)) }
+    ensures named { OnOk result (found (seen D.files directory.new key) ≡ recovered (seen
+        D.files directory.new key)) }
+    ensures there { IfOk result (λ there. there ≡ is_some (seen
+        D.files directory.new key ending.Config)) }
+    ensures elsewhere { (n : Name) → (n.key ≡ key → ⊥)
+        → D.files directory.new n ≡ D.files directory.old n }
     ensures cause { HasCause (D.failures directory.old) (D.failures directory.new) result }
 {
     match recovery_of(names) {
@@ -95,15 +100,19 @@ fn complete<D: Directory>(directory: &mut D, key: Key, names: Names) -> Result<b
 /// Removes what was being written.
 fn clear_parts<D: Directory>(directory: &mut D, key: Key) -> Result<(), Fault>
     requires rests { IsAtRest D.files D.may_leave directory.old key }
-    requires named { found (seen D.files directory.old key) ≡ recovered (seen D.files directory.old key) }
+    requires named { found (seen D.files directory.old key) ≡ recovered (seen
+        D.files directory.old key) }
     ensures any_moment { LeavesOnly D.may_leave D.left_since directory.old directory.new
         (Beside D.may_leave directory.old key (IsMending (seen D.files directory.old key))) }
     ensures rests { OnOk result (IsAtRest D.files D.may_leave directory.new key) }
-    ensures mends { OnOk result (IsMending (seen D.files directory.old key) (seen D.files directory.new key)) }
-    ensures there { OnOk result (seen D.files directory.new key ending.Config ≡ seen D.files directory.old key ending.Config) }
+    ensures mends { OnOk result (IsMending (seen D.files directory.old key) (seen
+        D.files directory.new key)) }
+    ensures there { OnOk result (seen D.files directory.new key ending.Config ≡ seen
+        D.files directory.old key ending.Config) }
     ensures cfg_part { OnOk result (seen D.files directory.new key ending.ConfigPart ≡ None) }
     ensures dat_part { OnOk result (seen D.files directory.new key ending.DataPart ≡ None) }
-    ensures elsewhere { (n : Name) → (n.key ≡ key → ⊥) → D.files directory.new n ≡ D.files directory.old n }
+    ensures elsewhere { (n : Name) → (n.key ≡ key → ⊥)
+        → D.files directory.new n ≡ D.files directory.old n }
     ensures cause { HasCause (D.failures directory.old) (D.failures directory.new) result }
 {
     let cfg_part = Name {
@@ -129,8 +138,10 @@ fn clear_rest<D: Directory>(directory: &mut D, key: Key, is_there: bool) -> Resu
     ensures any_moment { LeavesOnly D.may_leave D.left_since directory.old directory.new
         (Beside D.may_leave directory.old key (IsMending (seen D.files directory.old key))) }
     ensures rests { OnOk result (IsAtRest D.files D.may_leave directory.new key) }
-    ensures clean { OnOk result ((end : Ending) → seen D.files directory.new key end ≡ kept (recovered (seen D.files directory.old key)) end) }
-    ensures elsewhere { (n : Name) → (n.key ≡ key → ⊥) → D.files directory.new n ≡ D.files directory.old n }
+    ensures clean { OnOk result ((end : Ending) → seen D.files directory.new key end ≡ kept
+        (recovered (seen D.files directory.old key)) end) }
+    ensures elsewhere { (n : Name) → (n.key ≡ key → ⊥)
+        → D.files directory.new n ≡ D.files directory.old n }
     ensures cause { HasCause (D.failures directory.old) (D.failures directory.new) result }
 {
     let gone = Name {
@@ -171,8 +182,10 @@ pub(crate) fn tidy<D: Directory>(directory: &mut D, key: Key) -> Result<(), Faul
         (Beside D.may_leave directory.old key (IsMending (seen D.files directory.old key))) }
     ensures rests { OnOk result (IsAtRest D.files D.may_leave directory.new key) }
     // No leftover stays.
-    ensures clean { OnOk result ((end : Ending) → seen D.files directory.new key end ≡ kept (recovered (seen D.files directory.old key)) end) }
-    ensures elsewhere { (n : Name) → (n.key ≡ key → ⊥) → D.files directory.new n ≡ D.files directory.old n }
+    ensures clean { OnOk result ((end : Ending) → seen D.files directory.new key end ≡ kept
+        (recovered (seen D.files directory.old key)) end) }
+    ensures elsewhere { (n : Name) → (n.key ≡ key → ⊥)
+        → D.files directory.new n ≡ D.files directory.old n }
     // It doesn't give up by itself.
     ensures cause { HasCause (D.failures directory.old) (D.failures directory.new) result }
 {
@@ -190,11 +203,13 @@ pub(crate) fn tidy_all<D: Directory>(directory: &mut D, alloc: Global) -> Result
     // After a restart, what is seen is what is on the disk.
     requires rests { (key : Key) → IsAtRest D.files D.may_leave directory.old key }
     // A crash at any moment leaves what recovery makes the same of.
-    ensures any_moment { LeavesOnly D.may_leave D.left_since directory.old directory.new (AllMend D.files directory.old) }
+    ensures any_moment { LeavesOnly D.may_leave D.left_since directory.old directory.new (AllMend
+        D.files directory.old) }
     ensures rests { OnOk result ((key : Key) → IsAtRest D.files D.may_leave directory.new key) }
     // No leftover stays.
     ensures clean { OnOk result ((key : Key) (end : Ending)
-        → seen D.files directory.new key end ≡ kept (recovered (seen D.files directory.old key)) end) }
+        → seen D.files directory.new key end ≡ kept (recovered (seen
+        D.files directory.old key)) end) }
     // It doesn't give up by itself, whatever it finds.
     ensures cause { HasCause (D.failures directory.old) (D.failures directory.new) result }
 {

@@ -21,7 +21,8 @@ pub(crate) fn remove_pair<D: Directory>(directory: &mut D, key: Key) -> Result<(
     ensures gone { OnOk result ((c : Content) → D.may_leave directory.new c
         → (found (under c key) ≡ None) × (recovered (under c key) ≡ None)) }
     ensures seen { OnOk result ((end : Ending) → seen D.files directory.new key end ≡ None) }
-    ensures elsewhere { (n : Name) → (n.key ≡ key → ⊥) → D.files directory.new n ≡ D.files directory.old n }
+    ensures elsewhere { (n : Name) → (n.key ≡ key → ⊥)
+        → D.files directory.new n ≡ D.files directory.old n }
     // It doesn't give up by itself.
     ensures cause { HasCause (D.failures directory.old) (D.failures directory.new) result }
 {
