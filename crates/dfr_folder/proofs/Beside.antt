@@ -1,9 +1,9 @@
 -- The files of one key after a change, and all others.
-use Rattle.std.proofs.Common.{◌≡◌, ◌⊎◌, ℕ, Bool, true, IsTrue, List, Option, Some, None, refl, sym, ◌∙◌, ap, inl, inr}
+use Rattle.std.proofs.Common.{◌≡◌, ℕ, List, Option, Some, None, refl, sym, ◌∙◌, ap}
 use Rattle.dfr_folder.specs.declared.name.Ending.{Ending}
 use Rattle.dfr_folder.specs.declared.name.Key.{Key}
 use Rattle.dfr_folder.specs.declared.name.Name.{Name}
-use Rattle.dfr_folder.specs.Directory.{Content, File, SameBut, Moved, Stays, IsFresh}
+use Rattle.dfr_folder.specs.Directory.{Content, File, SameBut, Moved, Stays}
 use Rattle.dfr_folder.specs.Pairs.{Files, name, under, synced, IsFree, Beside, Rests}
 
 -- names differ by their endings

@@ -1,5 +1,5 @@
 -- Recovery of all keys, one after the other.
-use Rattle.std.proofs.Common.{◌≡◌, ◌⊎◌, ℕ, Bool, true, false, List, [], ◌∷◌, ◌++◌, length, arith, Option, Some, None, refl, sym, ◌∙◌, ap, subst, inl, inr, ⊎_elim}
+use Rattle.std.proofs.Common.{◌≡◌, ◌⊎◌, ℕ, List, [], ◌∷◌, ◌++◌, length, arith, Option, Some, None, refl, sym, ◌∙◌, ap, subst, inl, inr, ⊎_elim}
 use Rattle.std.specs.Prelude.{Contains}
 use Rattle.std.proofs.lemmas.Bool.{cases_eq}
 use Rattle.std.proofs.lemmas.List.Elements.{Contains-push_cases}
@@ -7,7 +7,7 @@ use Rattle.dfr_folder.specs.declared.name.Ending.{Ending}
 use Rattle.dfr_folder.specs.declared.name.Ending.TheVariants as ending
 use Rattle.dfr_folder.specs.declared.name.Key.{Key}
 use Rattle.dfr_folder.specs.declared.name.Name.{Name}
-use Rattle.dfr_folder.specs.Directory.{Content, File, LeavesOnly}
+use Rattle.dfr_folder.specs.Directory.{Content, File}
 use Rattle.dfr_folder.specs.Pairs.{Files, name, under, bytes_of, synced, found, recovered_of, recovered, seen, Beside, IsAtRest, IsMending, AllMend, kept}
 use Rattle.dfr_folder.proofs.Mends.{same_mends, same_recovered, same_found, mends_on}
 
@@ -136,3 +136,12 @@ module _ {D : Type 0} (files : D → Name → Option File) (may_leave : D → Co
 
 pub none_contained : (keys : List Key) (key : Key) → length keys ≡ 0 → Contains keys key → ⊥
 none_contained keys key none has = omega (arith, has.1)
+
+-- after files of each key that are seen as before
+pub all_from : {D : Type 0} (files : D → Name → Option File) (old mid : D) → ((n : Name) → files mid n ≡ files old n) → (c : Content) → AllMend files mid c → AllMend files old c
+all_from files old mid same c mends k = mends_on (seen files old k) (seen files mid k) (under c k) (same_mends (seen files old k) (seen files mid k) (λ e. ap bytes_of (same (name k e)))) (mends k)
+
+pub clean_from : {D : Type 0} (files : D → Name → Option File) (old mid new : D) → ((n : Name) → files mid n ≡ files old n)
+    → ((key : Key) (end : Ending) → seen files new key end ≡ kept (recovered (seen files mid key)) end) → (key : Key) (end : Ending) → seen files new key end ≡ kept (recovered (seen files old key)) end
+clean_from files old mid new same clean key end =
+    clean key end ∙ ap (λ (o : Option (List ℕ × Option (List ℕ))). kept o end) (same_recovered (seen files old key) (seen files mid key) (λ e. ap bytes_of (same (name key e))))

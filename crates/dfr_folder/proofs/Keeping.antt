@@ -1,12 +1,12 @@
 -- Old pairs are given up, the oldest first.
-use Rattle.std.proofs.Common.{◌≡◌, ◌⊎◌, ℕ, List, [], ◌∷◌, ◌++◌, length, Option, Some, None, refl, sym, ◌∙◌, ap, subst, inl, inr, arith, append_assoc}
+use Rattle.std.proofs.Common.{◌≡◌, ℕ, List, [], ◌∷◌, ◌++◌, Option, None, refl, sym, ◌∙◌, ap, subst, inl, inr, arith, append_assoc}
 use Rattle.std.specs.Prelude.{Contains}
 use Rattle.std.proofs.lemmas.List.Elements.{Contains-append_left, Contains-append_right, Contains-push_cases}
 use Rattle.dfr_folder.specs.declared.name.Ending.{Ending}
 use Rattle.dfr_folder.specs.declared.name.Key.{Key}
 use Rattle.dfr_folder.specs.declared.name.Name.{Name}
-use Rattle.dfr_folder.specs.Directory.{Content, File, LeavesOnly}
-use Rattle.dfr_folder.specs.Pairs.{Files, name, under, synced, bytes_of, found, recovered, seen, Beside, IsAtRest, IsNoneOr, IsTidy, IsDistinct, IsHead, GivesUp, kept}
+use Rattle.dfr_folder.specs.Directory.{Content, File}
+use Rattle.dfr_folder.specs.Pairs.{Files, name, under, synced, bytes_of, found, recovered, seen, Beside, IsAtRest, IsNoneOr, IsTidy, IsDistinct, GivesUp, kept}
 use Rattle.dfr_folder.proofs.Mends.{same_found, same_recovered}
 use Rattle.dfr_folder.proofs.Leaving.{still}
 use Rattle.dfr_folder.proofs.Oldest.{contains_first, contains_later, head_in, not_before, not_after}

@@ -1,12 +1,11 @@
 -- What a crash leaves of the files of a pair that is given up.
-use Rattle.std.proofs.Common.{◌≡◌, ◌⊎◌, ℕ, Bool, true, false, List, Option, Some, None, refl, sym, ◌∙◌, ap, inl, inr, ⊎_elim}
-use Rattle.std.specs.Prelude.{is_some}
+use Rattle.std.proofs.Common.{◌≡◌, ◌⊎◌, ℕ, Bool, List, Option, Some, None, refl, ◌∙◌, ap, inl, inr, ⊎_elim}
 use Rattle.dfr_folder.specs.declared.name.Ending.{Ending}
 use Rattle.dfr_folder.specs.declared.name.Ending.TheVariants as ending
 use Rattle.dfr_folder.specs.declared.name.Key.{Key}
 use Rattle.dfr_folder.specs.declared.name.Name.{Name}
 use Rattle.dfr_folder.specs.Directory.{Content, File, Moved, LeavesOnly}
-use Rattle.dfr_folder.specs.Pairs.{Files, name, under, synced, bytes_of, found_of, found, recovered_of, recovered, seen, Beside, Rests, IsAtRest, IsNoneOr, IsTidy, kept}
+use Rattle.dfr_folder.specs.Pairs.{Files, name, synced, bytes_of, found_of, found, recovered_of, recovered, seen, Beside, Rests, IsAtRest, IsNoneOr, IsTidy, kept}
 use Rattle.dfr_folder.proofs.Moments.{weaker}
 use Rattle.dfr_folder.proofs.Beside.{Renamed, implied, renamed}
 use Rattle.dfr_folder.proofs.Mends.{same_recovered, same_found}

@@ -1,5 +1,5 @@
 -- What a crash leaves after one call more.
-use Rattle.std.proofs.Common.{◌≡◌, ℕ, List, Option, inl, inr, ⊎_elim}
+use Rattle.std.proofs.Common.{inl, inr, ⊎_elim}
 use Rattle.dfr_folder.specs.Directory.{Content, Elapses, LeavesOnly}
 
 module _ {D : Type 0} (may_leave : D → Content → Type 0) (left_since : D → D → Content → Type 0) where

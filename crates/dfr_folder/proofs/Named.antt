@@ -1,9 +1,9 @@
 -- What a crash leaves of the files of a pair that is put.
-use Rattle.std.proofs.Common.{◌≡◌, ◌⊎◌, ℕ, List, Option, Some, None, refl, sym, ◌∙◌, ap, inl, inr}
+use Rattle.std.proofs.Common.{◌≡◌, ◌⊎◌, ℕ, List, Option, Some, None, refl, ◌∙◌, ap, inl, inr}
 use Rattle.dfr_folder.specs.declared.name.Ending.{Ending}
 use Rattle.dfr_folder.specs.declared.name.Ending.TheVariants as ending
 use Rattle.dfr_folder.specs.Directory.{File, on_disk}
-use Rattle.dfr_folder.specs.Pairs.{Files, found_of, recovered_of, IsNoneOr, pair, synced}
+use Rattle.dfr_folder.specs.Pairs.{Files, found_of, IsNoneOr, pair, synced}
 use Rattle.dfr_folder.proofs.Beside.{But, Renamed}
 
 abbrev pub Any : Option (List ℕ) → Type 0

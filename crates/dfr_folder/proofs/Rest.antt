@@ -1,15 +1,14 @@
 -- Steps of recovery, from files that are at rest.
-use Rattle.std.proofs.Common.{◌≡◌, ◌⊎◌, ℕ, Bool, true, false, List, Option, Some, None, refl, sym, ◌∙◌, ap, inl, inr, ⊎_elim}
-use Rattle.std.specs.Prelude.{is_some}
+use Rattle.std.proofs.Common.{◌≡◌, ◌⊎◌, ℕ, Bool, true, List, Option, Some, None, refl, sym, ◌∙◌, ap, inl, inr, ⊎_elim}
 use Rattle.dfr_folder.specs.declared.name.Ending.{Ending}
 use Rattle.dfr_folder.specs.declared.name.Ending.TheVariants as ending
 use Rattle.dfr_folder.specs.declared.name.Key.{Key}
 use Rattle.dfr_folder.specs.declared.name.Name.{Name}
-use Rattle.dfr_folder.specs.Directory.{Content, File, SameBut, Moved, Removed, Stays, Follows, Elapses, LeavesOnly}
-use Rattle.dfr_folder.specs.Pairs.{Files, name, under, synced, Beside, Rests, IsAtRest, IsMending, bytes_of, seen, found, recovered}
+use Rattle.dfr_folder.specs.Directory.{Content, File, Moved, Removed, Stays, Follows, LeavesOnly}
+use Rattle.dfr_folder.specs.Pairs.{Files, name, under, synced, Beside, Rests, IsAtRest, IsMending, bytes_of, seen}
 use Rattle.dfr_folder.proofs.Moments.{weaker}
 use Rattle.dfr_folder.proofs.Beside.{apart, stays_is, Renamed, implied, renamed}
-use Rattle.dfr_folder.proofs.Mends.{same_mends, mends_on, after_data, data_mends, after_config, config_mends}
+use Rattle.dfr_folder.proofs.Mends.{same_mends, mends_on, after_data, after_config}
 use Rattle.dfr_folder.proofs.Thinned.{IsThinned, thinner, is_part, is_gone, is_rest, without}
 
 bytes_synced : (o : Option (List ℕ)) → bytes_of (synced o) ≡ o

@@ -1,14 +1,14 @@
 -- What a crash leaves after each call of `put`.
-use Rattle.std.proofs.Common.{◌≡◌, ◌⊎◌, ℕ, List, Option, Some, None, refl, sym, ◌∙◌, ap, inl, inr, ⊎_elim}
+use Rattle.std.proofs.Common.{◌≡◌, ◌⊎◌, ℕ, List, Option, Some, ⊎_elim}
 use Rattle.dfr_folder.specs.declared.name.Ending.{Ending}
 use Rattle.dfr_folder.specs.declared.name.Ending.TheVariants as ending
 use Rattle.dfr_folder.specs.declared.name.Key.{Key}
 use Rattle.dfr_folder.specs.declared.name.Name.{Name}
-use Rattle.dfr_folder.specs.Directory.{Content, File, SameBut, Moved, Stays, LeavesOnly}
-use Rattle.dfr_folder.specs.Pairs.{Files, name, under, synced, IsFree, IsNoneOr, Beside, Rests, pair}
+use Rattle.dfr_folder.specs.Directory.{Content, File, SameBut, Moved, LeavesOnly}
+use Rattle.dfr_folder.specs.Pairs.{Files, name, IsFree, IsNoneOr, Beside, Rests}
 use Rattle.dfr_folder.proofs.Moments.{weaker, joined}
-use Rattle.dfr_folder.proofs.Beside.{But, Renamed, Leaves, free_leaves, implied, touched, renamed}
-use Rattle.dfr_folder.proofs.Named.{Any, IsNothing, IsMaybe, IsUnnamed, half, nothing_unnamed, data_written, config_written, unnamed, data_named, is_half, whole, config_named}
+use Rattle.dfr_folder.proofs.Beside.{free_leaves, implied, touched, renamed}
+use Rattle.dfr_folder.proofs.Named.{Any, IsNothing, IsMaybe, IsUnnamed, half, nothing_unnamed, data_written, config_written, unnamed, data_named, is_half, config_named}
 
 module _ {D : Type 0} (files : D → Name → Option File) (may_leave : D → Content → Type 0) (left_since : D → D → Content → Type 0) (key : Key) (cfg dat : List ℕ) (start : D) where
   -- what the whole call promises

@@ -1,12 +1,10 @@
 -- Each configuration file has its whole pair, after each call.
-use Rattle.std.proofs.Common.{◌≡◌, ◌⊎◌, ℕ, List, [], ◌∷◌, ◌++◌, Option, Some, None, refl, sym, ◌∙◌, ap, subst, inl, inr, arith}
-use Rattle.std.specs.Prelude.{Contains}
+use Rattle.std.proofs.Common.{◌≡◌, ◌⊎◌, ℕ, List, [], ◌∷◌, Option, Some, None, refl, sym, subst, inl, inr, arith}
 use Rattle.std.proofs.lemmas.List.Elements.{Contains-append_right}
-use Rattle.dfr_folder.specs.declared.name.Ending.{Ending}
 use Rattle.dfr_folder.specs.declared.name.Key.{Key}
 use Rattle.dfr_folder.specs.declared.name.Name.{Name}
 use Rattle.dfr_folder.specs.Directory.{Content, File}
-use Rattle.dfr_folder.specs.Pairs.{Files, name, under, found, recovered, seen, content, Beside, IsAtRest, IsNoneOr, IsMending, AllMend, IsRecord, AllWhole}
+use Rattle.dfr_folder.specs.Pairs.{name, under, found, recovered, seen, content, Beside, IsAtRest, IsNoneOr, AllMend, IsRecord, AllWhole}
 use Rattle.dfr_folder.proofs.Mends.{same_found, same_recovered}
 use Rattle.dfr_folder.proofs.Everyone.{same_key}
 

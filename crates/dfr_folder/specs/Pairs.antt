@@ -86,6 +86,10 @@ bytes_of (Some file) = Some file.bytes
 abbrev pub seen : {D : Type 0} → (D → Name → Option File) → D → Key → Files
 seen files directory key end = bytes_of (files directory (name key end))
 
+-- the bytes of the key's files are on the disk
+abbrev pub AreSynced : {D : Type 0} → (D → Name → Option File) → D → Key → Type 0
+AreSynced files directory key = (end : Ending) → files directory (name key end) ≡ synced (seen files directory key end)
+
 -- what is seen under the key is on the disk
 abbrev pub IsAtRest : {D : Type 0} → (D → Name → Option File) → (D → Content → Type 0) → D → Key → Type 0
 IsAtRest files may_leave directory key = Rests files may_leave directory key (seen files directory key)

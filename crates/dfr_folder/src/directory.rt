@@ -31,7 +31,7 @@ pub trait Directory {
     /// What a crash at some moment since a start might have left, during a call or between two.
     ghost left_since: { Self → Self → Content → Type 0 };
 
-    /// How often the directory has failed.
+    /// How often a call has failed, for want of memory too.
     ghost failures: { Self → ℕ };
 
     /// Writes a new file. After an error there may be a part of it.

@@ -1,11 +1,11 @@
 //! The folder of records: whatever stops the program, each configuration file has its whole pair.
 
-ghost use Rattle.std.specs.Prelude.{◌≡◌, ◌≤◌, ◌∷◌, ◌++◌, ℕ, List, length, None, Some, OnOk, Contains};
+ghost use Rattle.std.specs.Prelude.{◌≡◌, ◌⊎◌, ◌≤◌, ◌∷◌, ◌++◌, ℕ, List, length, None, Some, OnOk, Contains};
 ghost use Rattle.dfr_folder.specs.declared.name.Ending.{Ending};
 ghost use Rattle.dfr_folder.specs.declared.name.Key.{Key};
 ghost use Rattle.dfr_folder.specs.declared.name.Name.{Name};
 ghost use Rattle.dfr_folder.specs.Directory.{Content, LeavesNow, LeavesOnly, HasCause};
-ghost use Rattle.dfr_folder.specs.Pairs.{AllMend, AllWhole, Beside, GivesUp, IsAtRest, IsDistinct, IsFree, IsNoneOr, IsTidy, Rests, content, found, kept, pair, recovered, seen, under};
+ghost use Rattle.dfr_folder.specs.Pairs.{AllMend, AllWhole, AreSynced, Beside, GivesUp, IsAtRest, IsDistinct, IsFree, IsNoneOr, IsTidy, Rests, content, found, kept, pair, recovered, seen, under};
 
 use crate::directory::{Directory, Fault};
 use crate::name::Key;
@@ -87,22 +87,26 @@ pub fn keep<D: Directory>(directory: &mut D, keys: &mut Vec<Key>, most: usize) -
 
 /// Completes or removes whatever a crash left in the folder. It may crash too.
 pub fn recover<D: Directory>(directory: &mut D, alloc: Global) -> Result<(), Fault>
-    // After a restart, what is seen is what is on the disk.
-    requires rests { (key : Key) → IsAtRest D.files D.may_leave directory.old key }
+    // The bytes of each file are on the disk, as after a restart. The names need not be.
+    requires synced { (key : Key) → AreSynced D.files directory.old key }
     // If each pair was whole before, a crash at any moment leaves whole pairs.
-    ensures whole { (records : List (Key × List ℕ × List ℕ)) → AllWhole records (content
-        D.files directory.old)
+    ensures whole { (records : List (Key × List ℕ × List ℕ))
+        → LeavesNow (D.may_leave directory.old) (AllWhole records)
+        → AllWhole records (content D.files directory.old)
         → LeavesOnly D.may_leave D.left_since directory.old directory.new (AllWhole records) }
-    // A crash at any moment leaves what recovery makes the same of.
-    ensures any_moment { LeavesOnly D.may_leave D.left_since directory.old directory.new (AllMend
-        D.files directory.old) }
+    // A crash at any moment leaves what it might have left before, or what recovery makes the same
+    // of as of what is seen.
+    ensures any_moment { LeavesOnly D.may_leave D.left_since directory.old directory.new
+        (λ c. D.may_leave directory.old c ⊎ AllMend D.files directory.old c) }
     ensures rests { OnOk result ((key : Key) → IsAtRest D.files D.may_leave directory.new key) }
     // No leftover stays.
     ensures clean { OnOk result ((key : Key) (end : Ending)
-        → seen D.files directory.new key end ≡ kept (recovered (seen
-        D.files directory.old key)) end) }
+        → seen D.files directory.new key end
+        ≡ kept (recovered (seen D.files directory.old key)) end) }
     // It doesn't give up by itself, whatever it finds.
     ensures cause { HasCause (D.failures directory.old) (D.failures directory.new) result }
 {
-    tidy_all(directory, alloc)
+    directory.sync_names()?;
+    tidy_all(directory, alloc)?;
+    Ok(())
 }

@@ -1,6 +1,5 @@
-use Rattle.std.proofs.Common.{◌≡◌, ◌≤◌, ◌<◌, ℕ, List, [], ◌∷◌, ◌++◌, length, refl, sym, ◌∙◌, subst, inl, arith, append_assoc}
+use Rattle.std.proofs.Common.{◌≡◌, ◌<◌, List, [], ◌∷◌, ◌++◌, length, sym, ◌∙◌, subst, inl, arith, append_assoc}
 use Rattle.dfr_folder.specs.declared.name.Key.{Key}
-use Rattle.dfr_folder.specs.Directory.{Content}
 use Rattle.dfr_folder.specs.Pairs.{GivesUp, AllWhole}
 use Rattle.dfr_folder.proofs.Moments.{joined}
 use Rattle.dfr_folder.proofs.Oldest.{is_first}

@@ -1,4 +1,4 @@
-use Rattle.dfr_folder.proofs.Moments.{begins, goes_on}
+use Rattle.dfr_folder.proofs.Moments.{begins}
 use Rattle.dfr_folder.proofs.pairs.settle.Goals as goal
 
 pub returns-in_err-rename-clause-any_moment : goal.returns-in_err-rename-clause-any_moment

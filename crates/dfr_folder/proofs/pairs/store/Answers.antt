@@ -1,4 +1,4 @@
-use Rattle.std.proofs.Common.{◌≡◌, Option, Some, None, refl, inl, inr, ⊎_elim}
+use Rattle.std.proofs.Common.{refl, ⊎_elim}
 use Rattle.dfr_folder.specs.Directory.{Content, SameBut}
 use Rattle.dfr_folder.proofs.Moments.{begins, goes_on}
 use Rattle.dfr_folder.proofs.pairs.store.Goals as goal

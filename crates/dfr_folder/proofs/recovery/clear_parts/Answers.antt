@@ -1,7 +1,6 @@
-use Rattle.std.proofs.Common.{◌≡◌, Option, Some, None, refl}
+use Rattle.std.proofs.Common.{◌≡◌, refl}
 use Rattle.dfr_folder.specs.declared.name.Ending.{Ending}
 use Rattle.dfr_folder.specs.declared.name.Ending.TheVariants as ending
-use Rattle.dfr_folder.specs.Directory.{Content}
 use Rattle.dfr_folder.specs.Pairs.{name, synced, seen, Beside, IsMending}
 use Rattle.dfr_folder.proofs.Moments.{begins, goes_on}
 use Rattle.dfr_folder.proofs.Beside.{apart, implied}

@@ -1,4 +1,4 @@
-use Rattle.std.proofs.Common.{◌≡◌, Option, Some, None, refl}
+use Rattle.std.proofs.Common.{◌≡◌}
 use Rattle.dfr_folder.specs.declared.name.Ending.{Ending}
 use Rattle.dfr_folder.specs.declared.name.Ending.TheVariants as ending
 use Rattle.dfr_folder.specs.Pairs.{name, synced, seen}

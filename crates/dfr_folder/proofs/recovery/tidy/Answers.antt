@@ -1,5 +1,3 @@
-use Rattle.std.proofs.Common.{◌≡◌, Option, Some, None, refl}
-use Rattle.dfr_folder.specs.Directory.{Content}
 use Rattle.dfr_folder.specs.Pairs.{seen, Beside, IsMending}
 use Rattle.dfr_folder.proofs.Moments.{begins, joined}
 use Rattle.dfr_folder.proofs.Mends.{same_mends, mends_on}

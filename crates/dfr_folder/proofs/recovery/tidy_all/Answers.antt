@@ -1,7 +1,5 @@
-use Rattle.std.proofs.Common.{◌≡◌, ◌⊎◌, ◌++◌, ◌∷◌, [], length, refl, subst, inl, inr, arith}
+use Rattle.std.proofs.Common.{◌⊎◌, subst, inl, inr, arith}
 use Rattle.std.specs.Prelude.{Contains}
-use Rattle.dfr_folder.specs.declared.name.Key.{Key}
-use Rattle.dfr_folder.specs.Directory.{Content}
 use Rattle.dfr_folder.specs.Pairs.{under, seen, AllMend}
 use Rattle.dfr_folder.proofs.Moments.{begins, joined}
 use Rattle.dfr_folder.proofs.Mends.{same_mends}

@@ -1,4 +1,4 @@
-use Rattle.std.proofs.Common.{◌≡◌, ◌⊎◌, ◌≤◌, length}
+use Rattle.std.proofs.Common.{◌⊎◌, ◌≤◌, length}
 use Rattle.std.specs.Prelude.{Contains}
 use Rattle.dfr_folder.specs.declared.name.Key.{Key}
 use Rattle.dfr_folder.specs.Directory.{LeavesOnly}

@@ -1,7 +1,6 @@
-use Rattle.std.proofs.Common.{◌≡◌, Option, Some, None, refl, ◌∙◌, ap}
+use Rattle.std.proofs.Common.{◌≡◌, refl, ◌∙◌, ap}
 use Rattle.dfr_folder.specs.declared.name.Ending.{Ending}
 use Rattle.dfr_folder.specs.declared.name.Ending.TheVariants as ending
-use Rattle.dfr_folder.specs.Directory.{Content}
 use Rattle.dfr_folder.specs.Pairs.{name, under, synced, seen, found, Beside, IsNoneOr}
 use Rattle.dfr_folder.proofs.Moments.{goes_on}
 use Rattle.dfr_folder.proofs.Beside.{apart, stayed, implied}
