@@ -1,17 +1,17 @@
 -- What a crash leaves after one call more.
-use Rattle.std.proofs.Common.{inl, inr, ⊎_elim}
+use Rattle.std.proofs.Common.{ℕ, inl, inr, ⊎_elim}
 use Rattle.dfr_folder.specs.Directory.{Content, Elapses, LeavesOnly}
 
 module _ {D : Type 0} (may_leave : D → Content → Type 0) (left_since : D → D → Content → Type 0) where
   -- the first call of the directory
-  pub begins : (old new : D) (P : Content → Type 0) → Elapses may_leave left_since old new → ((c : Content) → may_leave new c → P c) → LeavesOnly may_leave left_since old new P
+  pub begins : {moment : D → ℕ} (old new : D) (P : Content → Type 0) → Elapses moment may_leave left_since old new → ((c : Content) → may_leave new c → P c) → LeavesOnly may_leave left_since old new P
   begins old new P time here = record {
     passing = λ start c left. ⊎_elim (λ l. inl l) (λ now. inr (here c now)) (time.nothing_else start c left);
     after = here;
   }
 
   -- a call of the directory after others
-  pub goes_on : (old mid new : D) (P : Content → Type 0) → LeavesOnly may_leave left_since old mid P → Elapses may_leave left_since mid new → ((c : Content) → may_leave new c → P c)
+  pub goes_on : {moment : D → ℕ} (old mid new : D) (P : Content → Type 0) → LeavesOnly may_leave left_since old mid P → Elapses moment may_leave left_since mid new → ((c : Content) → may_leave new c → P c)
       → LeavesOnly may_leave left_since old new P
   goes_on old mid new P so_far time here = record {
     passing = λ start c left. ⊎_elim (so_far.passing start c) (λ now. inr (here c now)) (time.nothing_else start c left);

@@ -50,9 +50,10 @@ pub record IsFresh {D : Type 0} (files : D → Name → Option File) (may_leave 
   pub unleft : (c : Content) → may_leave directory c → c name ≡ None
 
 -- Time goes on: a crash since some start might have left what it might have left before, or what it may leave now.
-pub record Elapses {D : Type 0} (may_leave : D → Content → Type 0) (left_since : D → D → Content → Type 0) (old new : D) : Type 0 where
+pub record Elapses {D : Type 0} (moment : D → ℕ) (may_leave : D → Content → Type 0) (left_since : D → D → Content → Type 0) (old new : D) : Type 0 where
+  pub later : moment old ≤ moment new
   pub nothing_else : (start : D) (c : Content) → left_since start new c → left_since start old c ⊎ may_leave new c
-  pub keeps : (start : D) (c : Content) → left_since start old c → left_since start new c
+  pub keeps : (start : D) (c : Content) → moment start ≤ moment old → left_since start old c → left_since start new c
 
 -- A crash at any moment from old to new, also at new, leaves what has P.
 pub record LeavesOnly {D : Type 0} (may_leave : D → Content → Type 0) (left_since : D → D → Content → Type 0) (old new : D) (P : Content → Type 0) : Type 0 where

@@ -1,6 +1,6 @@
 //! A directory as the folder of records uses it: what each name has, and what a crash may leave.
 
-ghost use Rattle.std.specs.Prelude.{◌≡◌, ◌⊎◌, ℕ, List, Option, None, Some, IfOk, OnOk, OnErr, Contains};
+ghost use Rattle.std.specs.Prelude.{◌≡◌, ◌⊎◌, ◌≤◌, ℕ, List, Option, None, Some, IfOk, OnOk, OnErr, Contains};
 ghost use Rattle.dfr_folder.specs.declared.name.Name.{Name};
 ghost use Rattle.dfr_folder.specs.Directory.{File, Content, Follows, SameBut, Moved, Removed, Stays, IsFresh, Elapses, HasCause, unsynced, on_disk};
 ghost use Rattle.dfr_folder.specs.Pairs.{AreNames, seen};
@@ -28,6 +28,9 @@ pub trait Directory {
     /// What a crash at this moment may leave.
     ghost may_leave: { Self → Content → Type 0 };
 
+    /// The moment, as a number that doesn't fall.
+    ghost moment: { Self → ℕ };
+
     /// What a crash at some moment since a start might have left, during a call or between two.
     ghost left_since: { Self → Self → Content → Type 0 };
 
@@ -40,7 +43,7 @@ pub trait Directory {
         ensures written { OnOk result (files self.new name ≡ unsynced bytes.now) }
         ensures elsewhere { (n : Name) → (n ≡ name → ⊥) → files self.new n ≡ files self.old n }
         ensures crash { Follows (SameBut name) (may_leave self.old) (may_leave self.new) }
-        ensures time { Elapses may_leave left_since self.old self.new }
+        ensures time { Elapses moment may_leave left_since self.old self.new }
         ensures cause { HasCause (failures self.old) (failures self.new) result };
 
     /// Syncs a file that was written. After an error nothing is known of its bytes.
@@ -51,7 +54,7 @@ pub trait Directory {
             → (c name ≡ None) ⊎ (c name ≡ Some bytes.now)) }
         ensures elsewhere { (n : Name) → (n ≡ name → ⊥) → files self.new n ≡ files self.old n }
         ensures crash { (c : Content) → may_leave self.new c → may_leave self.old c }
-        ensures time { Elapses may_leave left_since self.old self.new }
+        ensures time { Elapses moment may_leave left_since self.old self.new }
         ensures cause { HasCause (failures self.old) (failures self.new) result };
 
     /// Renames a file to a name that is not in use.
@@ -63,7 +66,7 @@ pub trait Directory {
             → files self.new n ≡ files self.old n }
         ensures err { OnErr result ((n : Name) → files self.new n ≡ files self.old n) }
         ensures crash { Follows (Moved from to) (may_leave self.old) (may_leave self.new) }
-        ensures time { Elapses may_leave left_since self.old self.new }
+        ensures time { Elapses moment may_leave left_since self.old self.new }
         ensures cause { HasCause (failures self.old) (failures self.new) result };
 
     /// Removes a file, if there is one.
@@ -72,7 +75,7 @@ pub trait Directory {
         ensures elsewhere { (n : Name) → (n ≡ name → ⊥) → files self.new n ≡ files self.old n }
         ensures err { OnErr result ((n : Name) → files self.new n ≡ files self.old n) }
         ensures crash { Follows (Removed name) (may_leave self.old) (may_leave self.new) }
-        ensures time { Elapses may_leave left_since self.old self.new }
+        ensures time { Elapses moment may_leave left_since self.old self.new }
         ensures cause { HasCause (failures self.old) (failures self.new) result };
 
     /// Syncs the directory: each name stays as it is.
@@ -81,7 +84,7 @@ pub trait Directory {
             → (n : Name) → Stays (files self.old n) (c n)) }
         ensures same { (n : Name) → files self.new n ≡ files self.old n }
         ensures crash { (c : Content) → may_leave self.new c → may_leave self.old c }
-        ensures time { Elapses may_leave left_since self.old self.new }
+        ensures time { Elapses moment may_leave left_since self.old self.new }
         ensures cause { HasCause (failures self.old) (failures self.new) result };
 
     /// Which files of a key there are.
@@ -89,7 +92,7 @@ pub trait Directory {
         ensures names { IfOk result (λ names. AreNames (seen files self.old key) names) }
         ensures same { (n : Name) → files self.new n ≡ files self.old n }
         ensures crash { (c : Content) → may_leave self.new c → may_leave self.old c }
-        ensures time { Elapses may_leave left_since self.old self.new }
+        ensures time { Elapses moment may_leave left_since self.old self.new }
         ensures cause { HasCause (failures self.old) (failures self.new) result };
 
     /// The keys of all files.
@@ -98,12 +101,12 @@ pub trait Directory {
             → Contains keys.items n.key) }
         ensures same { (n : Name) → files self.new n ≡ files self.old n }
         ensures crash { (c : Content) → may_leave self.new c → may_leave self.old c }
-        ensures time { Elapses may_leave left_since self.old self.new }
+        ensures time { Elapses moment may_leave left_since self.old self.new }
         ensures cause { HasCause (failures self.old) (failures self.new) result };
 
-    /// This moment is one of those since any start.
-    ghost counts_now: { (start directory : Self) (c : Content) → may_leave directory c
-        → left_since start directory c };
+    /// This moment is one of those since an earlier one.
+    ghost counts_now: { (start directory : Self) (c : Content)
+        → moment start ≤ moment directory → may_leave directory c → left_since start directory c };
 
     /// Since this moment there is no other.
     ghost only_now: { (directory : Self) (c : Content) → left_since directory directory c
