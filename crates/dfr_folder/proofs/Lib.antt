@@ -1,0 +1,12 @@
+mod Moments
+mod Beside
+mod Named
+mod Stages
+mod Mends
+mod Rest
+mod Thinned
+mod Leaving
+mod Everyone
+mod Oldest
+mod Keeping
+mod Whole
