@@ -84,6 +84,12 @@ soon two
 soon systemctl is-active dfrd@bay4
 systemctl stop dfrd@bay4
 END
+check "stopped as soon as it is started: in less than 10 s" inside << 'END'
+begin=$(date +%s)
+systemctl start dfrd@bay4
+systemctl stop dfrd@bay4
+[ $(($(date +%s) - begin)) -lt 10 ]
+END
 check "an error in a set-up is in the journal, and mending it is enough" inside << END
 sed 's/^rate 4800/rate much/' /etc/dfrd/example.setup > /etc/dfrd/bay5.setup
 systemctl start dfrd@bay5 || :

@@ -48,7 +48,10 @@ until_told '^[^ ]* start '
 "$station" stop bay2 "$pid"
 ended '^end'
 
+# (the FIFOs have their mode as soon as they are there: under the umask of the unit, with a chmod that does nothing)
 echo "== the FIFO"
+umask 027
+ln -s "$(type -P true)" "$DFRD_ROOT/bin/chmod"
 begin bay3 "options --raw"
 for _ in $(seq 600); do [ -p "$run/input" ] && [ -e "$run/input.pid" ] && break; sleep 0.05; done
 stat -c '%A %n' "$run"/[io]* | sed "s|$run/||; /pid/d"
@@ -56,10 +59,17 @@ stat -c '%A %n' "$run"/[io]* | sed "s|$run/||; /pid/d"
 ended '^record\|^end'
 pairs
 
+# (here the input takes its time to get a process group of its own)
+printf '#!/bin/sh\nsleep 0.5\nexec %s "$@"\n' "$(type -P setsid)" | install -m 755 /dev/stdin "$DFRD_ROOT/bin/setsid"
 echo "== stopped before anything was written to the FIFO"
 begin bay4 "options --raw"
 for _ in $(seq 600); do [ -e "$run/input.pid" ] && break; sleep 0.05; done
 "$station" stop bay4 "$pid"
+ended '^end'
+
+echo "== stopped as soon as it is started"
+begin bay6 "options --raw"
+"$station" stop bay6 "$pid"
 ended '^end'
 
 echo "== errors"

@@ -7,8 +7,9 @@ use comtrade_diagnostics::{
     put_remarks,
 };
 use comtrade_format::File;
-use comtrade_io::{Part as Asked, ToolFault, put, put_safe};
+use comtrade_io::{Part as Asked, ToolFault, put_safe};
 use comtrade_read::{Fault, Part, ReadFault, read};
+use comtrade_values::put;
 use comtrade_views::{Encoding, spell_for_views, spell_in_utf8};
 use std::alloc::{AllocError, Allocator};
 

@@ -4,7 +4,8 @@ use crate::load::{put_notes, read_inputs, refuse_import};
 use crate::write::{is_name, write_named};
 use crate::{out_of_memory, print_bytes, say};
 use comtrade_diagnostics::{Choices, Imported, Key, Order, import, import_single};
-use comtrade_io::{Importing, put, put_quoted};
+use comtrade_io::{Importing, put_quoted};
+use comtrade_values::put;
 use std::alloc::{AllocError, Allocator};
 use std::rt::Files;
 

@@ -3,7 +3,8 @@
 use crate::find::{Pairing, pairing_of};
 use crate::{complain, out_of_memory, read_named, say};
 use comtrade_diagnostics::{Choices, ImportFault, Imported, Note, Pair, import_single};
-use comtrade_io::{Names, ToolFault, put, put_safe};
+use comtrade_io::{Names, ToolFault, put_safe};
+use comtrade_values::put;
 use std::alloc::{AllocError, Allocator};
 use std::rt::Files;
 

@@ -3,7 +3,8 @@
 use crate::part::Taken;
 use crate::view::Room;
 use comtrade_format::File;
-use comtrade_io::{Cursor, Part, ToolFault, Viewed, put, write_out};
+use comtrade_io::{Cursor, Part, ToolFault, Viewed, write_out};
+use comtrade_values::put;
 use comtrade_views::{
     MeasureFault, Measuring, Shown, measure_text, put_outside, times_since_trigger,
 };

@@ -1,7 +1,8 @@
 //! A record, or the part of it that is asked for.
 
 use comtrade_format::File;
-use comtrade_io::{Part, ToolFault, put, put_safe};
+use comtrade_io::{Part, ToolFault, put_safe};
+use comtrade_values::put;
 use comtrade_views::{Cut, PartFault, is_whole, part_of, times_since_trigger};
 use std::alloc::{AllocError, Allocator};
 

@@ -5,7 +5,8 @@ use crate::folder::{Pairs, pairs_of};
 use crate::load::{Inputs, pair_of, read_pair};
 use crate::{complain, print_bytes, say};
 use comtrade_format::File;
-use comtrade_io::{Names, Survey, ToolFault, put, put_safe};
+use comtrade_io::{Names, Survey, ToolFault, put_safe};
+use comtrade_values::put;
 use comtrade_views::{
     Encoding, Event, Summary, add_events, fault_summary, put_events, put_events_json,
     put_summaries, put_summaries_json, sort_events, sort_summaries, summary_of,

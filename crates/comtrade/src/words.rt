@@ -1,7 +1,8 @@
 //! The arguments, and usage errors.
 
 use crate::{out_of_memory, say};
-use comtrade_io::{put, put_number, put_safe};
+use comtrade_io::put_safe;
+use comtrade_values::{put, put_number};
 use std::alloc::{AllocError, Allocator};
 use std::env::FillError;
 use std::io::ErrorKind;

@@ -1,7 +1,7 @@
 -- The file that is written of a head and tables, and what is said of its texts.
 use Rattle.std.specs.Prelude.{◌≡◌, ◌<◌, ◌⊎◌, ℕ, ◌+◌, ◌==◌, ℤ, negsuc, Bool, true, false, not, if◌then◌else◌, Option, Some, None, List, [], ◌∷◌, length, map, take, drop}
 use Rattle.std.specs.Ordering.{int_eq}
-use Rattle.dfr_channels.specs.Faults.{◌or◌}
+use Rattle.comtrade_values.specs.Faults.{◌or◌}
 use Rattle.dfr_channels.specs.declared.scan.Reading.{Reading}
 use Rattle.dfr_channels.specs.declared.scan.Reading.TheVariants.{Value, Missing}
 use Rattle.comtrade_format.specs.declared.fault.WriteFault.{WriteFault}

@@ -11,7 +11,8 @@ use crate::answer::{CFG_FAULT, DONE, Fault, NO_MEMORY, NO_ROOM, head_of};
 use crate::rows::bit_of;
 use crate::texts::texts_of;
 use comtrade_format::{Head, Rate, nearest_f64};
-use dfr_channels::{AnalogChannel, Memory, Side, StatusChannel};
+use comtrade_values::Memory;
+use dfr_channels::{AnalogChannel, Side, StatusChannel};
 use std::alloc::{AllocError, Global};
 
 /// An analogue channel. A sample x, from `min` to `max`, has the value a·x + b. `skew` is in

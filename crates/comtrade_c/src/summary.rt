@@ -8,7 +8,7 @@ ghost use Rattle.comtrade_c.specs.Summaries as spec;
 use crate::answer::{CFG_FAULT, DONE, Fault, NO_MEMORY, head_of};
 use crate::texts::texts_of;
 use comtrade_format::{Head, Kind, Rate, nearest_f64};
-use dfr_channels::Memory;
+use comtrade_values::Memory;
 use std::alloc::Global;
 
 /// The content of a configuration file, except its channels, rates and texts.

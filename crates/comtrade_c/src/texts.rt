@@ -4,7 +4,7 @@ ghost use Rattle.std.specs.Prelude.{◌≡◌, ◌++◌, ◌∷◌, [], length, 
 ghost use Rattle.comtrade_c.specs.Channels as spec;
 
 use comtrade_format::Head;
-use dfr_channels::Items;
+use comtrade_values::Items;
 use std::alloc::{AllocError, Global};
 
 /// The texts one after the other, and the length of each in bytes.

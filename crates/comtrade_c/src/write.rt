@@ -12,7 +12,8 @@ use crate::answer::{
 use crate::rows::{NO_SAMPLE, NO_STAMP};
 use comtrade_format::{File, Head, Kind, Rate, Row, WriteFault, cfg_bytes, dat_bytes};
 use comtrade_read::file_reads_back;
-use dfr_channels::{Items, Reading};
+use comtrade_values::Items;
+use dfr_channels::Reading;
 use std::alloc::{AllocError, Global};
 
 /// The lengths of the two files, in bytes.

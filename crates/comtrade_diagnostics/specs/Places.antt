@@ -1,6 +1,6 @@
 -- What the lines of a configuration file are, by the head that the reader reads of them.
 use Rattle.std.specs.Prelude.{◌≡◌, ℕ, ◌+◌, ◌-◌, ◌<◌, ◌≤◌, nat_lt, if◌then◌else◌, List, length, map, slice_get, Some, Result, Ok, Err}
-use Rattle.dfr_channels.specs.Lines.{fields, line_fields}
+use Rattle.comtrade_values.specs.Lines.{fields, line_fields}
 use Rattle.comtrade_format.specs.Parts.{HeadParts}
 use Rattle.comtrade_read.specs.Head.{names_line, counts_line, analog_line, status_line, rate_line, instant_line, frequency_line, nrates_line, kind_line, timemult_line, head}
 use Rattle.comtrade_read.specs.Line.{Fault, told}

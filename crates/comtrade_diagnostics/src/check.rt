@@ -9,8 +9,9 @@ use crate::describe_data::put_dat_fault;
 use crate::line::put_line;
 use crate::remarks::put_remarks;
 use comtrade_format::File;
-use comtrade_io::{kind_name, put, put_count, put_safe};
+use comtrade_io::{kind_name, put_safe};
 use comtrade_read::{Fault, Part, read_cfg};
+use comtrade_values::{put, put_count};
 use std::alloc::{AllocError, Allocator};
 
 /// The bytes of both files, and the names to print for them.

@@ -9,9 +9,11 @@ use crate::forms::put_other_form;
 use crate::names::{
     Place, field_at, fields_wanted, place_at, place_name, rate_count_line, type_line,
 };
-use comtrade_io::{put, put_count, put_number, put_quoted, put_with};
+use comtrade_io::put_quoted;
 use comtrade_read::ReadFault;
-use dfr_channels::{fields_of, integer_of, lines_of, without_blank_end};
+use comtrade_values::{
+    fields_of, integer_of, lines_of, put, put_count, put_number, put_with, without_blank_end,
+};
 use std::alloc::{AllocError, Allocator};
 
 /// The line with this number, counted from 1; empty if there is none.

@@ -4,9 +4,8 @@ use crate::counts::{Counts, rows_of};
 use crate::describe::{line_at, put_field, put_field_count, put_place};
 use crate::names::{Place, row_field};
 use comtrade_format::Head;
-use comtrade_io::{put, put_count, put_with};
 use comtrade_read::ReadFault;
-use dfr_channels::lines_of;
+use comtrade_values::{lines_of, put, put_count, put_with};
 use std::alloc::{AllocError, Allocator};
 
 /// The number of bytes in a row of a binary data file.

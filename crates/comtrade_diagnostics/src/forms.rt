@@ -6,8 +6,8 @@ ghost use Rattle.comtrade_diagnostics.specs.Places.{AreFew, IsPlace};
 use crate::counts::Counts;
 use crate::describe::{line_at, put_line};
 use crate::names::{Place, place_at, rate_count_line};
-use comtrade_io::{put, put_quoted};
-use dfr_channels::{Decimal, fields_of};
+use comtrade_io::put_quoted;
+use comtrade_values::{Decimal, fields_of, put};
 use std::alloc::{AllocError, Allocator};
 
 /// The kind of a line, judging by its fields alone.

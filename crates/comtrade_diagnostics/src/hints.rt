@@ -8,7 +8,8 @@ use crate::importing::{Imported, import};
 use crate::line::put_line;
 use crate::single::import_single;
 use comtrade_dialects::{Choices, ImportFault, Key, Note};
-use comtrade_io::{put, put_safe};
+use comtrade_io::put_safe;
+use comtrade_values::put;
 use std::alloc::{AllocError, Allocator};
 
 /// The nature of a file, given a repair that it needs.

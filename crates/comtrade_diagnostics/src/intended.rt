@@ -3,7 +3,8 @@
 use crate::check::Pair;
 use comtrade_dialects::{Choices, ImportFault, Key, Note, Notes, is_sound, repaired};
 use comtrade_format::{File, Head, Rate, Row};
-use dfr_channels::{AnalogChannel, Items, StatusChannel};
+use comtrade_values::Items;
+use dfr_channels::{AnalogChannel, StatusChannel};
 use std::alloc::{AllocError, Allocator};
 use std::mem;
 

@@ -3,7 +3,7 @@
 ghost use Rattle.std.specs.Prelude.{◌≡◌, OnErr, OnOk};
 ghost use Rattle.comtrade_diagnostics.specs.Puts.{PutsLine};
 
-use comtrade_io::put;
+use comtrade_values::put;
 use std::alloc::{AllocError, Allocator};
 
 /// Appends the line with a line end; appends nothing if an allocation fails.

@@ -8,8 +8,9 @@ use crate::describe::put_line_of;
 use crate::line::put_line;
 use crate::remarks::sample_in;
 use comtrade_format::{Kind, WriteFault};
-use comtrade_io::{put, put_safe, put_signed, put_with};
+use comtrade_io::put_safe;
 use comtrade_read::read;
+use comtrade_values::{put, put_number, put_with};
 use std::alloc::{AllocError, Allocator};
 
 /// The name of a text field, and what a file can hold there.
@@ -57,7 +58,7 @@ fn put_sample<A: Allocator + Copy>(
     put(out, "): ")?;
     if let Some(sample) = sample_at(alloc, pair, row, channel) {
         put(out, "sample ")?;
-        put_signed(out, sample as i64)?;
+        put_number(out, sample as i64)?;
         put(out, " cannot be written; ")?;
     }
     Ok(())

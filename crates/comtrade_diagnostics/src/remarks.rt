@@ -3,7 +3,8 @@
 use crate::check::Pair;
 use comtrade_dialects::{Doubt, doubts_of};
 use comtrade_format::{Border, File, border_of};
-use comtrade_io::{put, put_safe, put_signed, put_with};
+use comtrade_io::put_safe;
+use comtrade_values::{put, put_number, put_with};
 use dfr_channels::Reading;
 use std::alloc::{AllocError, Allocator};
 
@@ -52,9 +53,9 @@ fn put_range<A: Allocator>(
     let at = usize::try_from(number.saturating_sub(1)).unwrap_or(usize::MAX);
     match file.head.analog.items().get(at) {
         Some(channel) => {
-            put_signed(out, i64::from(channel.min))?;
+            put_number(out, i64::from(channel.min))?;
             put(out, between)?;
-            put_signed(out, i64::from(channel.max))
+            put_number(out, i64::from(channel.max))
         }
         None => Ok(()),
     }
@@ -86,7 +87,7 @@ fn put_samples<A: Allocator>(
     put_front(out, pair.dat_name, ": row ", doubt.row)?;
     put_with(out, " (analogue channel ", doubt.channel)?;
     put(out, before)?;
-    put_signed(out, i64::from(sample))?;
+    put_number(out, i64::from(sample))?;
     put(out, after)?;
     put_range(out, file, doubt.channel, " to ")?;
     put_end(out, doubt, noun)

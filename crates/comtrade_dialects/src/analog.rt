@@ -7,7 +7,8 @@ use crate::key::Key;
 use crate::lines::{Row, at, decimal_of, decimal_or, phase_of, text_of};
 use crate::note::{Notes, Place};
 use crate::range::range_of;
-use dfr_channels::{AnalogChannel, Decimal, Items, Side, integer_of};
+use comtrade_values::{Decimal, Items, integer_of};
+use dfr_channels::{AnalogChannel, Side};
 use std::alloc::Allocator;
 
 /// The layout of a line; the fields after the texts may be shifted to the right.

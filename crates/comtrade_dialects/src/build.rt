@@ -14,7 +14,7 @@ use crate::stamps::{Times, Track, times_of};
 use crate::survey::{Ground, Survey, survey_of};
 use crate::wraps::undo_wraps;
 use comtrade_format::{File, Head, Kind, Rate, Row};
-use dfr_channels::{Decimal, Items};
+use comtrade_values::{Decimal, Items};
 use std::alloc::Allocator;
 
 /// The parts of a file besides the names and numbers of its head.

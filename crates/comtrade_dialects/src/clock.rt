@@ -1,10 +1,9 @@
 //! The times of rows, given the rates or the time stamps. Times are in picoseconds since the
 //! first row.
 
-use crate::exact::Exact;
 use crate::num::Num;
 use comtrade_format::{Border, Rate};
-use dfr_channels::Decimal;
+use comtrade_values::{Decimal, Exact};
 use std::alloc::{AllocError, Allocator};
 
 /// A run of rows at one rate.

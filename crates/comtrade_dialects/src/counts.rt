@@ -4,7 +4,7 @@ use crate::fault::{ImportFault, Why};
 use crate::key::Key;
 use crate::lines::{Reader, Row, at, next_row};
 use crate::note::Place;
-use dfr_channels::{integer_of, trim};
+use comtrade_values::{integer_of, trim};
 use std::alloc::Allocator;
 
 /// A count and its letter, and whether it contains a blank or begins with the letter.

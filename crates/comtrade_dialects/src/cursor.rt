@@ -1,6 +1,6 @@
 //! Iterates over the lines of a text.
 
-use dfr_channels::trim;
+use comtrade_values::trim;
 use memchr::memchr;
 
 /// A line that isn't blank, without its end.

@@ -11,7 +11,7 @@ use crate::note::{Notes, Place};
 use crate::row::{Cells, Counts, Plan};
 use crate::text::{has_only, without_empty_end};
 use crate::text_row::read_line;
-use dfr_channels::trim;
+use comtrade_values::trim;
 use memchr::memchr;
 use std::alloc::{AllocError, Allocator};
 

@@ -1,7 +1,7 @@
 //! Dates and times of day in the forms found in practice.
 
 use crate::text::{DIGITS, has_only, place_of};
-use dfr_channels::{numeral_of, trim};
+use comtrade_values::{numeral_of, trim};
 use jiff_core::civil::Date;
 
 /// Which of day and month comes first in the dates of a file.

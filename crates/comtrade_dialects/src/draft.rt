@@ -3,7 +3,8 @@
 use crate::kinds::Form;
 use crate::row::Counts;
 use comtrade_format::Rate;
-use dfr_channels::{AnalogChannel, Decimal, Items, StatusChannel};
+use comtrade_values::{Decimal, Items};
+use dfr_channels::{AnalogChannel, StatusChannel};
 use std::alloc::Allocator;
 
 /// The revision whose lines a file has.

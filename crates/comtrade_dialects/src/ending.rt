@@ -10,7 +10,7 @@ use crate::key::Key;
 use crate::kinds::{Form, form_of};
 use crate::lines::{Reader, at, decimal_or, next_row};
 use crate::note::Place;
-use dfr_channels::{Decimal, trim};
+use comtrade_values::{Decimal, trim};
 use std::alloc::Allocator;
 
 /// What was found in place of the data type.

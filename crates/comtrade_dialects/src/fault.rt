@@ -4,7 +4,7 @@ ghost use Rattle.std.specs.Prelude.{◌≡◌};
 ghost use Rattle.comtrade_dialects.specs.declared.fault.ImportFault.TheVariants.{Memory};
 
 use comtrade_format::WriteFault;
-use dfr_channels::Memory as NoMemory;
+use comtrade_values::Memory as NoMemory;
 use thiserror::Error;
 
 /// What is wrong with a line, a row or a whole file.

@@ -2,7 +2,7 @@
 
 use crate::cursor::{after, before};
 use crate::text::has_only;
-use dfr_channels::trim;
+use comtrade_values::trim;
 use memchr::memchr;
 
 /// The rest of a line.

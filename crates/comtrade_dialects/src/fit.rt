@@ -1,10 +1,10 @@
 //! Converts samples to whole numbers that a file of 1999 can hold, with the scale that
 //! restores them.
 
-use crate::exact::{Exact, exact_of};
-use crate::num::{Num, size_of_float, ten_to};
+use crate::num::{Num, exact_of, size_of_float, ten_to};
 use crate::scale::{Scale, over};
 use crate::span::{Bounds, Span};
+use comtrade_values::Exact;
 
 /// How the samples of a channel become whole numbers.
 #[derive(Clone, Copy)]

@@ -14,7 +14,7 @@ use crate::lines::{Reader, Row, at, decimal_or, next_row, text_of};
 use crate::note::{Notes, Place};
 use crate::rates::rates_of;
 use crate::status::status_of;
-use dfr_channels::Decimal;
+use comtrade_values::Decimal;
 use std::alloc::Allocator;
 
 /// The revision in the first line.

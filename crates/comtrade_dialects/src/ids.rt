@@ -5,8 +5,8 @@ use crate::key::Key;
 use crate::lines::at;
 use crate::note::{Notes, Place};
 use crate::spelled::cut_to;
-use crate::text::{put, put_number, without_nuls};
-use dfr_channels::Items;
+use crate::text::without_nuls;
+use comtrade_values::{Items, put, put_number};
 use std::alloc::Allocator;
 use std::collections::BTreeMap;
 

@@ -6,7 +6,7 @@ use crate::key::Key;
 use crate::note::Notes;
 use crate::num::Num;
 use crate::stamps::Track;
-use dfr_channels::Decimal;
+use comtrade_values::Decimal;
 use std::alloc::Allocator;
 
 /// The stamps given by the rates, in whole microseconds; none at all if one exceeds the limit of

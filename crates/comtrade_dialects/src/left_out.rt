@@ -4,7 +4,7 @@ use crate::fault::ImportFault;
 use crate::key::Key;
 use crate::note::{Notes, Place};
 use crate::sections::Sections;
-use crate::text::{put, put_number};
+use comtrade_values::{put, put_number};
 use std::alloc::Allocator;
 
 /// Notes what was left out of a single file.

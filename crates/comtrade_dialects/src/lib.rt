@@ -13,7 +13,6 @@ mod doubts;
 mod draft;
 mod encoding;
 mod ending;
-mod exact;
 mod fault;
 mod field;
 mod fit;

@@ -7,8 +7,8 @@ use crate::key::Key;
 use crate::note::{Notes, Place};
 use crate::num::spelled_of;
 use crate::spelled::{cut_to, plain_of};
-use crate::text::{put, put_number, without_nuls};
-use dfr_channels::{Decimal, Items};
+use crate::text::without_nuls;
+use comtrade_values::{Decimal, Items, put, put_number};
 use std::alloc::{AllocError, Allocator};
 
 /// The remaining lines, the separator between their fields, and the notes so far.

@@ -1,7 +1,8 @@
 //! Notes on repairs: one for each key, in the order in which the files are read.
 
 use crate::key::Key;
-use crate::text::{put, put_number, put_quoted};
+use crate::text::put_quoted;
+use comtrade_values::{put, put_number};
 use std::alloc::{AllocError, Allocator, Global};
 
 /// Where something is.

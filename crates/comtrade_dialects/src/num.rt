@@ -1,6 +1,6 @@
 //! Numbers as samples give them: decimals in text, and binary floats.
 
-use dfr_channels::numeral_of;
+use comtrade_values::{Exact, numeral_of};
 
 /// The number mant * 10^ten * 2^two.
 #[derive(Clone, Copy)]
@@ -190,6 +190,23 @@ pub(crate) fn num_of_float(bits: u32) -> Option<Num> {
         return Some(Num::of(mant.wrapping_shl(two.unsigned_abs())));
     }
     Some(Num { mant, ten: 0, two })
+}
+
+/// A sample as an exact number.
+pub(crate) fn exact_of(num: Num) -> Option<Exact> {
+    let mant = i128::from(num.mant);
+    if 0 <= num.two {
+        let two = 2i128.checked_pow(num.two.unsigned_abs())?;
+        return Some(Exact {
+            units: mant.checked_mul(two)?,
+            places: 0i32.saturating_sub(num.ten),
+        });
+    }
+    let five = 5i128.checked_pow(num.two.unsigned_abs())?;
+    Some(Exact {
+        units: mant.checked_mul(five)?,
+        places: num.two.saturating_abs(),
+    })
 }
 
 /// The digits of a decimal, read from the left; at most eighteen are significant.

@@ -5,8 +5,8 @@ use crate::fault::ImportFault;
 use crate::key::Key;
 use crate::note::{Notes, Place};
 use crate::num::Num;
-use crate::text::{put, put_number};
 use comtrade_format::Rate;
+use comtrade_values::{put, put_number};
 use std::alloc::Allocator;
 
 /// A row's number and stamp.

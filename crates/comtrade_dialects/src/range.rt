@@ -7,7 +7,7 @@ use crate::key::Key;
 use crate::lines::{at, tell_empty};
 use crate::note::{Notes, Place};
 use crate::num::spelled_of;
-use dfr_channels::integer_of;
+use comtrade_values::integer_of;
 use std::alloc::Allocator;
 
 /// A bound of the samples: a whole number that 1999 can hold.

@@ -3,14 +3,13 @@
 use crate::cursor::Cursor;
 use crate::dates::is_like_instant;
 use crate::draft::Rates;
-use crate::exact::whole_of;
 use crate::fault::{ImportFault, Why};
 use crate::field::Parts;
 use crate::key::Key;
 use crate::lines::{Reader, Row, at, decimal_of, decimal_or, next_row, tell_empty};
 use crate::note::Place;
 use comtrade_format::Rate;
-use dfr_channels::{Decimal, integer_of};
+use comtrade_values::{Decimal, integer_of, whole_of};
 use std::alloc::Allocator;
 
 /// A whole number of at least 0.

@@ -7,7 +7,8 @@ use crate::row::{Cells, Packed, Rows};
 use crate::scaled::Made;
 use crate::survey::{Ground, next_cells, next_floats};
 use comtrade_format::Row;
-use dfr_channels::{Items, Reading};
+use comtrade_values::Items;
+use dfr_channels::Reading;
 use std::alloc::Allocator;
 
 /// The reading that a sample becomes.

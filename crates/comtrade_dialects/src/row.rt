@@ -6,7 +6,7 @@ use crate::kinds::Form;
 use crate::num::Num;
 use crate::packed_row::read_packed;
 use crate::text_row::read_line;
-use dfr_channels::Memory;
+use comtrade_values::Memory;
 use std::alloc::Allocator;
 
 /// Rows of binary data: only whole rows.

@@ -6,8 +6,8 @@ use crate::fault::{ImportFault, Why};
 use crate::key::Key;
 use crate::lines::{Reader, Row, at, next_row};
 use crate::note::{Notes, Place};
-use crate::text::{place_of, put, put_number, put_quoted};
-use dfr_channels::trim;
+use crate::text::{place_of, put_quoted};
+use comtrade_values::{put, put_number, trim};
 use std::alloc::Allocator;
 
 /// A line with a date and time; either is None if it is missing.

@@ -1,7 +1,6 @@
 //! Decides how the samples of each channel are written, and notes the changes.
 
 use crate::draft::{Range, Said};
-use crate::exact::Exact;
 use crate::fault::{ImportFault, Why};
 use crate::fit::{Fit, fit_of};
 use crate::key::Key;
@@ -9,9 +8,8 @@ use crate::kinds::Form;
 use crate::note::{Notes, Place};
 use crate::span::Span;
 use crate::survey::{Ground, Survey};
-use crate::text::put;
-use comtrade_format::put_decimal;
-use dfr_channels::{AnalogChannel, Decimal};
+use comtrade_values::{Decimal, Exact, put, put_decimal};
+use dfr_channels::AnalogChannel;
 use std::alloc::Allocator;
 
 /// How a channel's samples become whole numbers.

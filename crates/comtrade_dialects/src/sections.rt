@@ -4,7 +4,7 @@ use crate::cursor::{after, before};
 use crate::fault::{ImportFault, Why};
 use crate::kinds::form_of;
 use crate::text::{has_only, place_of};
-use dfr_channels::{integer_of, trim};
+use comtrade_values::{integer_of, trim};
 use memchr::memchr;
 
 /// The kinds of sections.

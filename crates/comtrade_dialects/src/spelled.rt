@@ -1,6 +1,6 @@
 //! Converts texts to what a file of 1999 can hold: short printable ASCII without commas.
 
-use dfr_channels::trim;
+use comtrade_values::trim;
 use std::alloc::{AllocError, Allocator};
 
 /// The ASCII spelling of a character outside printable ASCII; a question mark if there is none.

@@ -9,7 +9,7 @@ use crate::note::{Notes, Place};
 use crate::num::Num;
 use crate::numbers::{Run, Tick, rates_for, run_of, tell_lost, tell_numbers};
 use comtrade_format::{Border, Rate, search_in};
-use dfr_channels::Decimal;
+use comtrade_values::Decimal;
 use std::alloc::Allocator;
 
 /// The times that are written: the stamps, their multiplier, and the rates.

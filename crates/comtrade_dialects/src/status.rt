@@ -6,7 +6,8 @@ use crate::field::{Parts, joint_of};
 use crate::key::Key;
 use crate::lines::{Row, at, phase_of, text_of};
 use crate::note::{Notes, Place};
-use dfr_channels::{StatusChannel, bit_of, free_bit_of};
+use comtrade_values::{bit_of, free_bit_of};
+use dfr_channels::StatusChannel;
 use std::alloc::Allocator;
 
 /// The layout of a line.

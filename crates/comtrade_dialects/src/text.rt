@@ -1,15 +1,7 @@
-//! Pieces of text for notes.
+//! Pieces of text.
 
-use itoa::Buffer;
+use comtrade_values::put;
 use std::alloc::{AllocError, Allocator};
-
-pub(crate) fn put<A: Allocator>(out: &mut Vec<u8, A>, text: &str) -> Result<(), AllocError> {
-    out.extend_from_slice(text.as_bytes())
-}
-
-pub(crate) fn put_number<A: Allocator>(out: &mut Vec<u8, A>, n: u64) -> Result<(), AllocError> {
-    out.extend_from_slice(Buffer::new().format(n).as_bytes())
-}
 
 /// Whether each byte of a text is one of these.
 pub(crate) fn has_only(text: &[u8], bytes: &[u8]) -> bool {

@@ -5,7 +5,7 @@ use crate::field::Fields;
 use crate::num::spelled_of;
 use crate::row::{Cells, Counts, Odd, Stop};
 use crate::text::has_only;
-use dfr_channels::bit_of;
+use comtrade_values::bit_of;
 use std::alloc::Allocator;
 
 /// Whether a text marks a missing value.

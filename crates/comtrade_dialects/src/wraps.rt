@@ -6,7 +6,7 @@ use crate::key::Key;
 use crate::note::{Notes, Place};
 use crate::num::Num;
 use crate::numbers::Tick;
-use dfr_channels::Decimal;
+use comtrade_values::Decimal;
 use std::alloc::Allocator;
 
 /// 2^32, at which stamps overflow.

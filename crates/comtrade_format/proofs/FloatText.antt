@@ -9,7 +9,7 @@ use Rattle.std.proofs.lemmas.Fmt.{decimal_is_IsNumeral_wide}
 use Rattle.std.proofs.lemmas.Str.Parse.{digit_from_value}
 use Rattle.std.proofs.lemmas.Int.{ints}
 use Rattle.std.proofs.lemmas.Bool.Decides.{nat_tests}
-use Rattle.dfr_channels.specs.Spelling.{Number, IsNumber}
+use Rattle.comtrade_values.specs.Spelling.{Number, IsNumber}
 use Rattle.comtrade_format.specs.Floats.{spelled}
 
 digit : (c : ℕ) → digit_value c < 10 → is_ascii_digit c ≡ true

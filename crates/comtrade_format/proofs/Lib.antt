@@ -1,17 +1,12 @@
-pub mod Digits
-pub mod Civil
 pub mod Lines
-pub mod Points
 pub mod Numbered
 pub mod Pairs
 pub mod Bits
 pub mod Refusals
-pub mod Appending
 pub mod Groups
 pub mod Places
 pub mod Writable
 pub mod FloatText
-pub mod Scaled
 pub mod PackedGroups
 pub mod ValuePlaces
 pub mod PointedValues

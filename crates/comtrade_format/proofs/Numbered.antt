@@ -7,7 +7,7 @@ use Rattle.dfr_channels.specs.declared.scan.Reading.{Reading}
 use Rattle.comtrade_format.specs.Parts.{RowParts}
 use Rattle.comtrade_format.specs.declared.fault.WriteFault.{WriteFault}
 use Rattle.comtrade_format.specs.declared.fault.WriteFault.TheVariants as faults
-use Rattle.dfr_channels.specs.Faults.{◌or◌, fault_unless}
+use Rattle.comtrade_values.specs.Faults.{◌or◌, fault_unless}
 use Rattle.comtrade_format.specs.Numbered.{first_from, numbered}
 use Rattle.comtrade_format.specs.Refusals.{takes_reading, takes_times, takes_row, rows_refusal, WritesTaken, values_from, rows_from, stamps_from, values_refusal, value_refusal, stamp_refusal}
 use Rattle.comtrade_format.specs.declared.bounds.Bounds.{Bounds}

@@ -11,9 +11,9 @@ use Rattle.std.specs.Fmt.{decimal}
 use Rattle.byteorder.proofs.Bytes.{take-bytes_low_first}
 use borrow.Rule.Slice.PartMut.{mid_of, post_of, put_mid}
 use Rattle.byteorder.proofs.Slices.{write_step}
-use Rattle.dfr_channels.specs.Written.{filled, padded}
+use Rattle.comtrade_values.specs.Written.{filled, padded}
 use Rattle.comtrade_format.specs.Lines.{bit_text}
-use Rattle.comtrade_format.proofs.Digits.{padded_one, padded_two, padded_pair}
+use Rattle.comtrade_values.proofs.Digits.{padded_one, padded_two, padded_pair}
 
 -- what stood before the place, and then the first n of the bytes that were written there
 pub stored : (dst bs rest post : List ℕ) (at n : ℕ) → at ≤ length dst → n ≤ length bs

@@ -6,8 +6,8 @@ use Rattle.std.specs.List.{repeat}
 use Rattle.std.specs.Fmt.{decimal}
 use Rattle.std.proofs.lemmas.Bool.{cases_lt}
 use Rattle.std.proofs.lemmas.Fmt.{decimal_digit, decimal_step, length-decimal-le}
-use Rattle.dfr_channels.specs.Written.{filled, padded, pointed, with_point}
-use Rattle.comtrade_format.proofs.Digits.{padded_one, padded_more}
+use Rattle.comtrade_values.specs.Written.{filled, padded, pointed, with_point}
+use Rattle.comtrade_values.proofs.Digits.{padded_one, padded_more}
 use Rattle.comtrade_format.proofs.Places.{length_zeros}
 
 -- a number has one digit at least

@@ -7,7 +7,7 @@ use Rattle.comtrade_format.specs.declared.bounds.Bounds.{Bounds}
 use Rattle.comtrade_format.specs.Parts.{HeadParts, RowParts, FileParts}
 use Rattle.comtrade_format.specs.declared.fault.WriteFault.{WriteFault}
 use Rattle.comtrade_format.specs.declared.fault.WriteFault.TheVariants as faults
-use Rattle.dfr_channels.specs.Faults.{◌or◌, fault_unless}
+use Rattle.comtrade_values.specs.Faults.{◌or◌, fault_unless}
 use Rattle.comtrade_format.specs.Shape.{channels_fit, rates_counted, rates_end, is_some_of, is_writable, has_bounds, head_shaped, row_shaped, rows_shaped, is_shaped}
 use Rattle.comtrade_format.specs.Refusals.{value_refusal, stamp_refusal, data_refusal, cfg_refusal, text_refusal}
 use Rattle.comtrade_format.proofs.Numbered.{or-none, unless_none}

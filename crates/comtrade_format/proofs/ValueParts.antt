@@ -5,11 +5,11 @@ use Rattle.std.proofs.lemmas.Bool.{cases_lt}
 use Rattle.std.proofs.lemmas.List.{append-nil}
 use Rattle.std.proofs.lemmas.Nat.{div-add-mod', div_below, pow-add}
 use Rattle.std.specs.Fmt.{decimal}
-use Rattle.dfr_channels.specs.Written.{decimal_text, minus, pointed}
+use Rattle.comtrade_values.specs.Written.{decimal_text, minus, pointed}
 use Rattle.comtrade_format.specs.Places.{IsShown, places_text}
-use Rattle.comtrade_format.specs.Values.{number_of, IsTrimmed}
+use Rattle.comtrade_values.specs.Arithmetic.{number_of, IsTrimmed}
 use Rattle.comtrade_format.proofs.PointedValues.{pointed_parts}
-use Rattle.comtrade_format.proofs.Points.{pointed_none}
+use Rattle.comtrade_values.proofs.Points.{pointed_none}
 use Rattle.comtrade_format.proofs.ValuePlaces.{no_rest}
 
 some : (k : ℕ) → 0 < 10 ^ k

@@ -7,10 +7,10 @@ use Rattle.std.proofs.lemmas.Nat.{div-add-mod', pow-add}
 use Rattle.std.specs.Int.{bytes_low_first}
 use Rattle.byteorder.proofs.Bytes.{take-bytes_low_first}
 use borrow.Rule.Slice.PartMut.{mid_of, post_of, put_mid}
-use Rattle.dfr_channels.specs.Written.{padded}
+use Rattle.comtrade_values.specs.Written.{padded}
 use Rattle.comtrade_format.specs.Places.{IsShown, WritesPlaces, places_text}
 use Rattle.comtrade_format.proofs.Places.{stored}
-use Rattle.comtrade_format.proofs.Digits.{padded_two, padded_pair, padded_four, padded_more}
+use Rattle.comtrade_values.proofs.Digits.{padded_two, padded_pair, padded_four, padded_more}
 use Rattle.comtrade_format.proofs.PointedValues.{length_padded}
 
 -- ---- digits as bytes

@@ -1,7 +1,7 @@
 -- Which rate gives the interval between the last row of one rate and the first row of the next: what the stamps of a file show.
 use Rattle.std.specs.Prelude.{◌≡◌, ℕ, zero, suc, ◌-◌, ◌/◌, ◌≤◌, ◌==◌, ◌&&◌, ◌||◌, Bool, true, false, not, nat_lt, nat_le, List, [], ◌∷◌, length, slice_get, Option, Some, None, option_and_then, if◌then◌else◌}
 use Rattle.std.specs.Int.{abs_diff}
-use Rattle.dfr_channels.specs.Spelling.{Number}
+use Rattle.comtrade_values.specs.Spelling.{Number}
 use Rattle.comtrade_format.specs.Parts.{HeadParts, RowParts, FileParts}
 use Rattle.comtrade_format.specs.Times.{span, stamp_time, rates_decide, time_with}
 use Rattle.comtrade_format.specs.declared.file.Rate.{Rate}

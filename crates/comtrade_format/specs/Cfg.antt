@@ -2,8 +2,8 @@
 use Rattle.std.specs.Prelude.{ℤ, ℕ, ◌+◌, List, [], ◌∷◌, ◌++◌, length, map, codes}
 use Rattle.std.specs.List.{flat_map}
 use Rattle.std.specs.Fmt.{decimal, signed_decimal}
-use Rattle.dfr_channels.specs.Spelling.{Number}
-use Rattle.dfr_channels.specs.Written.{decimal_text}
+use Rattle.comtrade_values.specs.Spelling.{Number}
+use Rattle.comtrade_values.specs.Written.{decimal_text}
 use Rattle.dfr_channels.specs.Parts.{AnalogParts, StatusParts}
 use Rattle.dfr_channels.specs.declared.channel.Side.{Side}
 use Rattle.dfr_channels.specs.declared.channel.Side.TheVariants.{Primary, Secondary}
@@ -12,7 +12,7 @@ use Rattle.comtrade_format.specs.declared.file.Kind.TheVariants.{Ascii, Binary}
 use Rattle.comtrade_format.specs.declared.file.Rate.{Rate}
 use Rattle.comtrade_format.specs.Parts.{HeadParts}
 use Rattle.comtrade_format.specs.Lines.{line, bit_text}
-use Rattle.comtrade_format.specs.Dates.{instant_fields}
+use Rattle.comtrade_values.specs.Dates.{instant_fields}
 use Rattle.comtrade_format.specs.Numbered.{numbered}
 
 abbrev pub side_text : Side → List ℕ

@@ -4,7 +4,7 @@ use Rattle.std.specs.Fmt.{decimal, signed_decimal}
 use Rattle.std.specs.Float.{Float, binary64}
 use lib.Ieee.{add, mul, of_int}
 use Rattle.fast_float.specs.Parse.{parse_float}
-use Rattle.dfr_channels.specs.Spelling.{Number}
+use Rattle.comtrade_values.specs.Spelling.{Number}
 use Rattle.dfr_channels.specs.Parts.{AnalogParts}
 use Rattle.comtrade_format.specs.declared.values.scale.Scale.{Scale}
 

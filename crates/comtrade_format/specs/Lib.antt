@@ -1,6 +1,5 @@
 pub mod Parts
 pub mod Lines
-pub mod Dates
 pub mod Numbered
 pub mod Cfg
 pub mod Ascii

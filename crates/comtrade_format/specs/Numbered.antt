@@ -1,6 +1,6 @@
 -- Lists whose items are numbered from n.
 use Rattle.std.specs.Prelude.{ℕ, ◌+◌, Option, None, List, [], ◌∷◌}
-use Rattle.dfr_channels.specs.Faults.{◌or◌}
+use Rattle.comtrade_values.specs.Faults.{◌or◌}
 
 -- the first answer that f gives of an item and its number, counted from n
 abbrev pub first_from : {X F : Type 0} → (ℕ → X → Option F) → ℕ → List X → Option F

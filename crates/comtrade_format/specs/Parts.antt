@@ -1,6 +1,6 @@
 -- What contracts see of a pair of files, whatever their allocator is.
 use Rattle.std.specs.Prelude.{ℕ, ℤ, Bool, Option, List}
-use Rattle.dfr_channels.specs.Spelling.{Number}
+use Rattle.comtrade_values.specs.Spelling.{Number}
 use Rattle.dfr_channels.specs.Parts.{AnalogParts, StatusParts}
 use Rattle.dfr_channels.specs.declared.scan.Reading.{Reading}
 use Rattle.comtrade_format.specs.declared.file.Kind.{Kind}

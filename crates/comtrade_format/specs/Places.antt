@@ -1,6 +1,6 @@
 -- The places of a value that are shown: those up to the last that isn't 0.
 use Rattle.std.specs.Prelude.{◌≡◌, ◌≢◌, List, [], ◌∷◌, ◌++◌, ℕ, zero, suc, ◌+◌, ◌-◌, ◌/◌, ◌%◌, ◌^◌, ◌≤◌, take}
-use Rattle.dfr_channels.specs.Written.{padded}
+use Rattle.comtrade_values.specs.Written.{padded}
 
 -- of so many digits of n, zeros in front among them, the first k are those up to the last that isn't 0
 pub record IsShown (digits n k : ℕ) : Type 0 where

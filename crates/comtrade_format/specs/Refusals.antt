@@ -1,8 +1,8 @@
 -- What isn't written, and how that is answered.
 use Rattle.std.specs.Prelude.{◌≡◌, ℕ, ◌+◌, Bool, true, false, ◌&&◌, nat_le, int_le, Option, Some, None, Result, Ok, Err, pos, neg_ℤ, List, length}
 use Rattle.std.specs.List.{list_all}
-use Rattle.dfr_channels.specs.Faults.{◌or◌, fault_unless}
-use Rattle.dfr_channels.specs.Texts.{is_name, is_phase, is_unit}
+use Rattle.comtrade_values.specs.Faults.{◌or◌, fault_unless}
+use Rattle.comtrade_values.specs.Texts.{is_name, is_phase, is_unit}
 use Rattle.dfr_channels.specs.Parts.{AnalogParts, StatusParts}
 use Rattle.dfr_channels.specs.declared.scan.Reading.{Reading}
 use Rattle.dfr_channels.specs.declared.scan.Reading.TheVariants.{Value, Missing}

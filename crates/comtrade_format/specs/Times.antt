@@ -2,7 +2,7 @@
 use Rattle.std.specs.Prelude.{⊤, ℕ, ◌+◌, ◌-◌, ◌*◌, ◌/◌, ◌^◌, ◌<◌, ◌==◌, ◌&&◌, Bool, true, not, nat_lt, List, [], ◌∷◌, Option, Some, None, option_and_then, ℤ, pos, negsuc, if◌then◌else◌}
 use Rattle.std.specs.Borrow.{Bor}
 use Rattle.std.specs.Int.RustNames.{int_lt}
-use Rattle.dfr_channels.specs.Spelling.{Number}
+use Rattle.comtrade_values.specs.Spelling.{Number}
 use Rattle.comtrade_format.specs.Parts.{HeadParts}
 use Rattle.comtrade_format.specs.declared.file.Rate.{Rate}
 use Rattle.comtrade_format.specs.declared.values.border.Border.{Border}

@@ -3,21 +3,20 @@
 ghost use Rattle.std.specs.Prelude.{◌≡◌, ◌++◌, ◌∷◌, ◌<◌, ◌+◌, [], OnOk, length, map, decimal, true};
 ghost use Rattle.std.specs.List.{flat_map};
 ghost use Rattle.std.specs.Fmt.{signed_decimal};
-ghost use Rattle.dfr_channels.specs.Written.{decimal_text};
+ghost use Rattle.comtrade_values.specs.Written.{decimal_text};
 ghost use Rattle.comtrade_format.specs.Lines.{line, field};
-ghost use Rattle.comtrade_format.specs.Dates.{instant_fields};
+ghost use Rattle.comtrade_values.specs.Dates.{instant_fields};
 ghost use Rattle.comtrade_format.specs.Numbered.{numbered};
 ghost use Rattle.comtrade_format.specs.Shape.{is_writable};
 ghost use Rattle.comtrade_format.specs.Cfg as spec;
 
-use crate::dates::put_instant;
 use crate::fields::{
     decimal_field, decimal_line, end_line, number_field, number_line, signed_field, text_field,
 };
 use crate::file::{Head, Kind, Rate};
-use crate::number::put_number;
 use crate::parts::{analog_of, device_of, station_of, status_of};
-use dfr_channels::{AnalogChannel, Decimal, Side, StatusChannel};
+use comtrade_values::{Decimal, put_instant, put_number};
+use dfr_channels::{AnalogChannel, Side, StatusChannel};
 use std::alloc::{AllocError, Allocator};
 
 fn put_station<A: Allocator>(
@@ -214,7 +213,7 @@ fn put_rate_lines<A: Allocator>(
     put_rates(out, rates)
 }
 
-#[tactic(auto, unfolding(crate::specs::Lines::line, crate::specs::Dates::instant_text, crate::specs::Dates::instant_fields))]
+#[tactic(auto, unfolding(crate::specs::Lines::line, comtrade_values::specs::Dates::instant_text, comtrade_values::specs::Dates::instant_fields))]
 fn instant_line<A: Allocator>(out: &mut Vec<u8, A>, instant: i64) -> Result<(), AllocError>
     requires { is_writable instant ≡ true }
     ensures { OnOk result (out.new.items ≡ out.old.items ++ line (instant_fields instant)) }

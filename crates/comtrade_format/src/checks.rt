@@ -3,7 +3,7 @@
 ghost use Rattle.std.specs.Prelude.{◌≡◌, ◌<◌, ◌+◌, true, length};
 ghost use Rattle.std.specs.List.{list_all};
 ghost use Rattle.comtrade_format.specs.declared.fault.WriteFault.TheVariants.{Stamp};
-ghost use Rattle.dfr_channels.specs.Faults.{◌or◌, fault_unless};
+ghost use Rattle.comtrade_values.specs.Faults.{◌or◌, fault_unless};
 ghost use Rattle.comtrade_format.specs.Refusals as spec;
 ghost use Rattle.comtrade_format.specs.Shape.{row_shaped};
 

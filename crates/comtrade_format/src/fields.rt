@@ -2,12 +2,10 @@
 
 ghost use Rattle.std.specs.Prelude.{◌≡◌, ◌++◌, ◌∷◌, [], OnOk, decimal};
 ghost use Rattle.std.specs.Fmt.{signed_decimal};
-ghost use Rattle.dfr_channels.specs.Written.{decimal_text};
+ghost use Rattle.comtrade_values.specs.Written.{decimal_text};
 ghost use Rattle.comtrade_format.specs.Lines.{line, field};
 
-use crate::decimal::put_decimal;
-use crate::number::{put_number, put_signed};
-use dfr_channels::Decimal;
+use comtrade_values::{Decimal, put_decimal, put_number};
 use std::alloc::{AllocError, Allocator};
 
 pub(crate) fn end_line<A: Allocator>(out: &mut Vec<u8, A>) -> Result<(), AllocError>
@@ -51,7 +49,7 @@ pub(crate) fn number_field<A: Allocator>(out: &mut Vec<u8, A>, n: u64) -> Result
 pub(crate) fn signed_field<A: Allocator>(out: &mut Vec<u8, A>, n: i32) -> Result<(), AllocError>
     ensures { OnOk result (out.new.items ≡ out.old.items ++ field (signed_decimal n)) }
 {
-    put_signed(out, n)?;
+    put_number(out, n)?;
     out.push(b',')?;
     Ok(())
 }

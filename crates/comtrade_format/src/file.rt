@@ -1,6 +1,7 @@
 //! The content of a configuration file and its data file.
 
-use dfr_channels::{AnalogChannel, Decimal, Items, Reading, StatusChannel};
+use comtrade_values::{Decimal, Items};
+use dfr_channels::{AnalogChannel, Reading, StatusChannel};
 use std::alloc::{Allocator, Global};
 use std::marker::Model;
 

@@ -6,13 +6,9 @@ mod bounds;
 mod bytes;
 mod cfg;
 mod checks;
-mod dates;
-mod decimal;
 mod fault;
 mod fields;
 mod file;
-mod number;
-mod output;
 mod packed;
 mod parts;
 mod rows_ascii;
@@ -23,13 +19,12 @@ mod value_text;
 mod values;
 
 pub use bytes::{ascii_bytes, binary_bytes, cfg_bytes, dat_bytes};
-pub use decimal::put_decimal;
+pub use comtrade_values::{civil_of, exact_value, put_decimal, without_zeros, write_all_of};
 pub use fault::WriteFault;
 pub use file::{File, Head, Kind, Rate, Row};
-pub use output::write_all_of;
 pub use packed::{packed_bits, packed_values};
 pub use values::{
     AlignedScale, Border, BorderSearch, Clock, Cycle, CycleFault, LONGEST_VALUE, Scale,
-    aligned_scale_of, border_of, civil_of, clock_in, clock_of, clock_with, cycle_of, exact_value,
-    nearest_f64, scale_of, search_in, search_of, without_zeros, write_shortened,
+    aligned_scale_of, border_of, clock_in, clock_of, clock_with, cycle_of, nearest_f64, scale_of,
+    search_in, search_of, write_shortened,
 };

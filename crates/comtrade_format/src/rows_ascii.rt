@@ -12,9 +12,9 @@ ghost use Rattle.comtrade_format.specs.Shape.{row_shaped};
 use crate::bounds::ascii_bounds;
 use crate::checks::takes_row;
 use crate::file::Row;
-use crate::number::put_number;
 use crate::value_text::write_reading;
 use byteorder::{ByteOrder, LittleEndian};
+use comtrade_values::put_number;
 use dfr_channels::Reading;
 use std::alloc::{AllocError, Allocator};
 

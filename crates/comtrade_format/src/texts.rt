@@ -1,14 +1,15 @@
 //! Finds the first text that a configuration file can't hold.
 
 ghost use Rattle.std.specs.Prelude.{◌≡◌, ◌<◌, ◌+◌, true, length};
-ghost use Rattle.dfr_channels.specs.Texts.{is_plain};
+ghost use Rattle.comtrade_values.specs.Texts.{is_plain};
 ghost use Rattle.comtrade_format.specs.Numbered.{first_from};
 ghost use Rattle.comtrade_format.specs.Refusals as spec;
 
 use crate::fault::WriteFault;
 use crate::file::Head;
 use crate::parts::{analog_of, status_of};
-use dfr_channels::{AnalogChannel, StatusChannel, is_plain};
+use comtrade_values::is_plain;
+use dfr_channels::{AnalogChannel, StatusChannel};
 use std::alloc::Allocator;
 
 fn text_fault(low: usize, high: usize, text: &[u8], line: u64, field: u32) -> Option<WriteFault>

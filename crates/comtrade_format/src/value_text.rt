@@ -3,7 +3,7 @@
 ghost use Rattle.std.specs.Prelude.{◌≡◌, ◌++◌, ◌∷◌, [], ◌+◌, ◌*◌, ◌/◌, ◌%◌, ◌<◌, ◌≤◌, true, if◌then◌else◌, unsigned_abs, length, take, decimal};
 ghost use Rattle.std.specs.Fmt.{signed_decimal};
 ghost use Rattle.byteorder.specs.Endian.{little_bytes};
-ghost use Rattle.dfr_channels.specs.Written.{padded};
+ghost use Rattle.comtrade_values.specs.Written.{padded};
 ghost use Rattle.comtrade_format.specs.Ascii.{reading_text};
 ghost use Rattle.comtrade_format.specs.Refusals.{ascii_bounds, takes_reading};
 

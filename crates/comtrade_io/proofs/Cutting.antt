@@ -13,7 +13,7 @@ use Rattle.std.proofs.lemmas.List.Elements.{All-append, All-cons}
 use Rattle.std.proofs.lemmas.List.Sums.{position_or_len_is}
 use Rattle.std.proofs.lemmas.Bool.{lt-ltb, and_from}
 use Rattle.std.proofs.lemmas.Bool.Decides.{nat_tests}
-use Rattle.dfr_channels.specs.Spelling.{capped_size, is_numeral}
+use Rattle.comtrade_values.specs.Spelling.{capped_size, is_numeral}
 use Rattle.comtrade_io.specs.Pieces.{is_feed, is_space}
 use Rattle.comtrade_io.specs.Replayed.{IsOneLine, sized, Answer, answer_line, answers_text, Taken, IsRecord, record_text, extent_words, files_text, Ending, Record, Fault, Nothing, IsEnding, ending_text}
 

@@ -4,7 +4,7 @@ ghost use Rattle.std.specs.Prelude.{◌≡◌};
 ghost use Rattle.comtrade_io.specs.declared.fault.ToolFault.TheVariants as fault;
 ghost use Rattle.comtrade_io.specs.Faults as Faults;
 
-use dfr_channels::Memory;
+use comtrade_values::Memory;
 use std::io::ErrorKind;
 use thiserror::Error;
 

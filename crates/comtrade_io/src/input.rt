@@ -1,26 +1,14 @@
-//! What comes in, up to a limit.
+//! Reads input, up to a limit.
 
-ghost use Rattle.std.specs.Prelude.{◌≡◌, ◌⊎◌, ◌<◌, ◌≤◌, ◌++◌, length, Err, IfOk, IfErr, IfSome};
+ghost use Rattle.std.specs.Prelude.{◌≡◌, ◌⊎◌, ◌<◌, ◌≤◌, length, Err, IfOk, IfErr, IfSome};
 
 use crate::fault::ToolFault;
-use std::alloc::{AllocError, Allocator};
+use comtrade_values::InputFault;
+use std::alloc::Allocator;
 use std::io::Read;
 
-/// How many bytes are copied at once: a C library moves so few by vectors, more by a string instruction.
-const PART: usize = 2_048;
-
-/// Appends the piece.
-fn append<A: Allocator>(bytes: &mut Vec<u8, A>, piece: &[u8]) -> Result<(), AllocError>
-    ensures { IfOk result (λ _. bytes.new.items ≡ bytes.old.items ++ piece.now) }
-{
-    for part in piece.chunks(PART) {
-        bytes.extend_from_slice(part)?;
-    }
-    Ok(())
-}
-
-/// All that the reader has, where it is at most so many bytes; more is `Long`. A read that failed is
-/// `Input`, for whatever cause: none is tried again. `Memory`: an allocation failed here.
+/// Reads all that the reader has, at most `limit` bytes; more is `Long`. A read that failed is
+/// `Input`, for whatever cause: it is not tried again. `Memory`: an allocation failed here.
 pub fn read_up_to<A: Allocator, R: Read>(
     alloc: A,
     r: &mut R,
@@ -33,14 +21,10 @@ pub fn read_up_to<A: Allocator, R: Read>(
     ensures fault { IfErr result (λ fault. (fault ≡ ToolFault.Long)
         ⊎ (fault ≡ ToolFault.Input) ⊎ (fault ≡ ToolFault.Memory)) }
 {
-    let mut bytes = Vec::new(alloc);
-    let mut piece = [0u8; 16_384];
-    while bytes.len() <= limit {
-        match r.read(&mut piece) {
-            Ok(0) => return Ok(bytes),
-            Ok(count) => append(&mut bytes, &piece[..count])?,
-            Err(_) => return Err(ToolFault::Input),
-        }
+    match comtrade_values::read_up_to(alloc, r, limit) {
+        Ok(bytes) => Ok(bytes),
+        Err(InputFault::Long) => Err(ToolFault::Long),
+        Err(InputFault::Failed) => Err(ToolFault::Input),
+        Err(InputFault::Memory) => Err(ToolFault::Memory),
     }
-    Err(ToolFault::Long)
 }

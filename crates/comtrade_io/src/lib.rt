@@ -19,7 +19,7 @@ pub use input::read_up_to;
 pub use output::{flush_if_full, write_out};
 pub use records::{Next, Printed, next_record};
 pub use seen::seen_len;
-pub use text::{kind_name, put, put_count, put_number, put_quoted, put_safe, put_signed, put_with};
+pub use text::{kind_name, put_quoted, put_safe};
 pub use version::VERSION;
 pub use words::{
     Asked, Compared, Converted, Cursor, Form, Importing, Names, Part, Picture, Survey, View,

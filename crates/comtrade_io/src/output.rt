@@ -5,7 +5,7 @@ ghost use Rattle.std.specs.Io.KnownBytes.{Appends};
 ghost use Rattle.comtrade_io.specs.Written.{AppendsFront};
 
 use crate::fault::{ToolFault, fault_of};
-use comtrade_format::write_all_of;
+use comtrade_values::write_all_of;
 use std::alloc::Allocator;
 use std::io::Write;
 

@@ -5,7 +5,7 @@ ghost use Rattle.std.specs.List.{before_first, after_first};
 ghost use Rattle.comtrade_io.specs.Replayed as Replayed;
 ghost use Rattle.comtrade_io.specs.Pieces.{is_feed, is_space, Holds, Answers, Ends};
 
-use dfr_channels::numeral_of;
+use comtrade_values::numeral_of;
 
 /// A record's number and the bytes of its two files.
 #[derive(Clone, Copy, Debug)]
@@ -36,7 +36,7 @@ fn place_of_feed(text: &[u8]) -> Option<usize>
 }
 
 /// The first line, and what stands after it; None at the end.
-#[tactic(auto, using(dfr_channels::proofs::Cuts::cuts))]
+#[tactic(auto, using(comtrade_values::proofs::Cuts::cuts))]
 fn line_of(text: &[u8]) -> Option<(&[u8], &[u8])>
     ensures none { MatchOption result (text.now ≡ []) (λ p. text.now ≢ []) }
     ensures line { IfSome result (λ p. p.0.now ≡ before_first is_feed text.now) }
@@ -88,7 +88,7 @@ fn place_of_space(text: &[u8]) -> Option<usize>
 }
 
 /// What stands before the first blank.
-#[tactic(auto, using(dfr_channels::proofs::Cuts::cuts))]
+#[tactic(auto, using(comtrade_values::proofs::Cuts::cuts))]
 fn word_of(text: &[u8]) -> &[u8]
     ensures { result.now ≡ before_first is_space text.now }
 {

@@ -1,22 +1,14 @@
 //! Printed text, buffered before it is written. Texts of a file come out as characters that are seen, and no others.
 
-ghost use Rattle.std.specs.Prelude.{◌≡◌, ◌<◌, ◌==◌, ◌++◌, ℕ, OnOk, decimal, if◌then◌else◌};
+ghost use Rattle.std.specs.Prelude.{◌≡◌, ◌<◌, ◌++◌, OnOk};
 ghost use Rattle.std.specs.Char.{digit_char};
-ghost use Rattle.std.specs.Fmt.{signed_decimal};
 ghost use Rattle.comtrade_format.specs.Cfg.{kind_text};
 ghost use Rattle.comtrade_io.specs.Safe.{in_hex, quoted, safe};
 
 use crate::seen::seen_len;
 use comtrade_format::Kind;
-use itoa::Buffer;
+use comtrade_values::put;
 use std::alloc::{AllocError, Allocator};
-
-/// Appends the text.
-pub fn put<A: Allocator>(out: &mut Vec<u8, A>, text: &str) -> Result<(), AllocError>
-    ensures { OnOk result (out.new.items ≡ out.old.items ++ text.now) }
-{
-    out.extend_from_slice(text.as_bytes())
-}
 
 /// What a kind of data is called.
 pub fn kind_name(kind: Kind) -> &'static str
@@ -26,40 +18,6 @@ pub fn kind_name(kind: Kind) -> &'static str
         Kind::Ascii => "ASCII",
         Kind::Binary => "BINARY",
     }
-}
-
-/// A number in decimal digits.
-pub fn put_number<A: Allocator>(out: &mut Vec<u8, A>, n: u64) -> Result<(), AllocError>
-    ensures { OnOk result (out.new.items ≡ out.old.items ++ decimal n) }
-{
-    out.extend_from_slice(Buffer::new().format(n).as_bytes())
-}
-
-pub fn put_signed<A: Allocator>(out: &mut Vec<u8, A>, n: i64) -> Result<(), AllocError>
-    ensures { OnOk result (out.new.items ≡ out.old.items ++ signed_decimal n) }
-{
-    out.extend_from_slice(Buffer::new().format(n).as_bytes())
-}
-
-/// The text, and a number after it.
-pub fn put_with<A: Allocator>(out: &mut Vec<u8, A>, text: &str, n: u64) -> Result<(), AllocError>
-    ensures { OnOk result (out.new.items ≡ out.old.items ++ text.now ++ decimal n) }
-{
-    put(out, text)?;
-    put_number(out, n)
-}
-
-/// A number, and its noun in the singular or the plural.
-pub fn put_count<A: Allocator>(
-    out: &mut Vec<u8, A>,
-    n: u64,
-    one: &str,
-    more: &str,
-) -> Result<(), AllocError>
-    ensures { OnOk result (out.new.items ≡ out.old.items ++ decimal n ++ (if n == 1 then one.now else more.now)) }
-{
-    put_number(out, n)?;
-    put(out, if n == 1 { one } else { more })
 }
 
 fn hex_digit(n: u8) -> u8

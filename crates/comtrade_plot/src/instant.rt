@@ -1,24 +1,16 @@
 //! Instants as dates, and spans of time.
 
 use crate::sheet::Sheet;
-use comtrade_format::civil_of;
+use comtrade_values::{Exact, has_date};
 use std::alloc::Allocator;
 
 /// Microseconds since 1970-01-01 00:00:00 as `yyyy-mm-dd hh:mm:ss.ssssss`.
 pub(crate) fn put_instant<A: Allocator>(sheet: &mut Sheet<A>, instant: i64) {
-    let Some(civil) = civil_of(instant) else {
+    if has_date(instant) {
+        sheet.civil(instant);
+    } else {
         sheet.text("?");
-        return;
-    };
-    sheet.padded(civil.date.year.unsigned_abs() as u64, 4);
-    let (date, time) = (civil.date, civil.time);
-    let parts = [date.month, date.day, time.hour, time.minute, time.second];
-    for (before, n) in ["-", "-", " ", ":", ":"].iter().zip(parts.iter()) {
-        sheet.text(before);
-        sheet.padded(u64::from(*n), 2);
     }
-    sheet.text(".");
-    sheet.padded((civil.time.subsec_nanosecond / 1000) as u64, 6);
 }
 
 /// A unit of time: its nanoseconds, its decimal places, its name.
@@ -60,27 +52,10 @@ pub(crate) fn time_unit(span: u64) -> TimeUnit {
 
 /// Units of a decimal with this many places, without trailing zeros.
 pub(crate) fn put_places<A: Allocator>(sheet: &mut Sheet<A>, units: i64, places: u32) {
-    if units < 0 {
-        sheet.text("-");
-    }
-    let mut left = units.unsigned_abs();
-    let mut kept = places;
-    for _ in 0..places {
-        if left % 10 != 0 || kept == 0 {
-            break;
-        }
-        left /= 10;
-        kept = kept.saturating_sub(1);
-    }
-    let mut power = 1u64;
-    for _ in 0..kept {
-        power = power.saturating_mul(10);
-    }
-    sheet.number(left / power.max(1));
-    if kept != 0 {
-        sheet.text(".");
-        sheet.padded(left % power.max(1), kept);
-    }
+    sheet.exact(Exact {
+        units: i128::from(units),
+        places: i32::try_from(places).unwrap_or(0),
+    });
 }
 
 /// Nanoseconds, rounded to about a thousandth of the unit.

@@ -1,9 +1,11 @@
 //! Text that is built piece by piece, and the elements of an SVG picture. A failed allocation is
 //! remembered until the end.
 
-use comtrade_format::put_decimal;
-use comtrade_io::{ToolFault, put, put_number, put_safe, put_signed, seen_len, write_out};
-use dfr_channels::Decimal;
+ghost use Rattle.std.specs.Prelude.{pos, neg_ℤ};
+ghost use Rattle.jiff_core.specs.Calendar.{IsBetween};
+
+use comtrade_io::{ToolFault, put_safe, seen_len, write_out};
+use comtrade_values::{Decimal, Exact, put, put_civil, put_decimal, put_exact, put_number};
 use std::alloc::{AllocError, Allocator};
 use std::io::Write;
 
@@ -64,7 +66,7 @@ impl<A: Allocator> Sheet<A> {
     }
 
     pub(crate) fn signed(&mut self, n: i64) {
-        let outcome = put_signed(&mut self.bytes, n);
+        let outcome = put_number(&mut self.bytes, n);
         self.keep(outcome);
     }
 
@@ -74,16 +76,18 @@ impl<A: Allocator> Sheet<A> {
         self.keep(outcome);
     }
 
-    /// Adds a number with leading zeros, at least `width` digits.
-    pub(crate) fn padded(&mut self, n: u64, width: u32) {
-        let mut bound = 10u64;
-        for _ in 1..width {
-            if n < bound {
-                self.text("0");
-            }
-            bound = bound.saturating_mul(10);
-        }
-        self.number(n);
+    /// Adds a number without trailing zeros.
+    pub(crate) fn exact(&mut self, number: Exact) {
+        let outcome = put_exact(&mut self.bytes, number);
+        self.keep(outcome);
+    }
+
+    /// Adds an instant as `yyyy-mm-dd hh:mm:ss.ssssss`. Its year is from 1 to 9999.
+    pub(crate) fn civil(&mut self, instant: i64)
+        requires { IsBetween (neg_ℤ (pos 62135596800000000)) (pos 253402300799999999) instant }
+    {
+        let outcome = put_civil(&mut self.bytes, instant, b' ');
+        self.keep(outcome);
     }
 
     /// Adds tenths of a pixel as pixels.

@@ -6,8 +6,8 @@ use Rattle.std.proofs.lemmas.List.{append-nil, reverse-append, reverse-reverse, 
 use Rattle.std.proofs.lemmas.List.Elements.{All-from_recursion}
 use Rattle.std.proofs.lemmas.List.Splits.{slice_split_none}
 use Rattle.std.proofs.lemmas.Bool.{eqb-true, cond_both}
-use Rattle.dfr_channels.specs.Spelling.{is_blank, trim_start, trimmed}
-use Rattle.dfr_channels.specs.Lines.{fields, is_blank_line, drop_front, drop_end}
+use Rattle.comtrade_values.specs.Spelling.{is_blank, trim_start, trimmed}
+use Rattle.comtrade_values.specs.Lines.{fields, is_blank_line, drop_front, drop_end}
 use Rattle.comtrade_read.specs.Joined.{AreBlank}
 use Rattle.comtrade_read.proofs.AllOf.{All-append, All-reverse, All-none}
 

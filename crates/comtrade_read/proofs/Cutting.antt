@@ -4,8 +4,8 @@ use Rattle.std.specs.List.{slice_split, join_with_byte, AllByRecursion}
 use Rattle.std.proofs.lemmas.List.{append-nil, take_at, drop_at, take_all, take_more, drop_more, take-map, drop-map, take-append-drop}
 use Rattle.std.proofs.lemmas.List.Splits.{join_with_byte-slice_split, length-slice_split}
 use Rattle.std.proofs.lemmas.Bool.{eqb-true}
-use Rattle.dfr_channels.specs.Spelling.{trimmed}
-use Rattle.dfr_channels.specs.Lines.{lines, fields, without_cr, is_blank_line, drop_end}
+use Rattle.comtrade_values.specs.Spelling.{trimmed}
+use Rattle.comtrade_values.specs.Lines.{lines, fields, without_cr, is_blank_line, drop_end}
 use Rattle.comtrade_read.specs.Joined.{AreBlank, HasNone, Field, field_bytes, IsField, Line, carriage_return, line_bytes, field_texts, IsLine, BlankLine, blank_bytes, IsJoined}
 use Rattle.comtrade_read.proofs.AllOf.{All-parts, All-map, map-map, map-back}
 use Rattle.comtrade_read.proofs.Parts.{parts_keep, parts_none}

@@ -10,7 +10,7 @@ use Rattle.std.proofs.Math.Nat.{pow-le-pow_right, mul-lt-mul_of_pos_right}
 use Rattle.std.proofs.lemmas.Nat.{pow-add}
 use Rattle.std.proofs.lemmas.Bool.{lt-ltb, le-leb, leb-true, and_parts, and_right, cond_both}
 use Rattle.std.proofs.lemmas.Str.Parse.{numerals_by_value, tells_all_ascii_digits}
-use Rattle.dfr_channels.specs.Spelling.{capped_size}
+use Rattle.comtrade_values.specs.Spelling.{capped_size}
 use Rattle.jiff_core.specs.Calendar.{IsDate, days_from_civil, days_in_month}
 use Rattle.std.specs.Prelude.{◌↔◌, IsSome, IfSome, unsigned_abs, is_some, position}
 use Rattle.std.specs.List.{before_first, after_first}

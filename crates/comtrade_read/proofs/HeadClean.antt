@@ -5,14 +5,14 @@ use Rattle.std.specs.List.{AllByRecursion}
 use Rattle.std.specs.Fmt.{decimal, signed_decimal}
 use Rattle.std.proofs.lemmas.Int.{ints}
 use Rattle.std.proofs.lemmas.Bool.{and_parts}
-use Rattle.dfr_channels.specs.Spelling.{Number, IsNumber}
-use Rattle.dfr_channels.specs.Written.{decimal_text}
+use Rattle.comtrade_values.specs.Spelling.{Number, IsNumber}
+use Rattle.comtrade_values.specs.Written.{decimal_text}
 use Rattle.dfr_channels.specs.Parts.{AnalogParts, StatusParts}
 use Rattle.comtrade_format.specs.declared.file.Rate.{Rate}
 use Rattle.comtrade_format.specs.Parts.{HeadParts}
 use Rattle.comtrade_format.specs.Lines.{bit_text}
 use Rattle.comtrade_format.specs.Numbered.{numbered}
-use Rattle.comtrade_format.specs.Dates.{day_number, time_of_day}
+use Rattle.comtrade_values.specs.Dates.{day_number, time_of_day}
 use Rattle.comtrade_format.specs.Cfg.{side_text, kind_text}
 use Rattle.comtrade_format.specs.Shape as shape
 use Rattle.comtrade_read.proofs.AllOf.{All-append}
@@ -21,7 +21,7 @@ use Rattle.comtrade_read.proofs.WrittenLines.{IsCleanLine}
 use Rattle.comtrade_read.proofs.WrittenDates.{Instant, date_printed, time_printed}
 use Rattle.comtrade_read.proofs.WrittenRows.{int_le-is}
 use Rattle.comtrade_format.specs.Cfg.{names_fields, counts_fields, analog_fields, status_fields, rate_fields}
-use Rattle.comtrade_format.specs.Dates.{instant_fields}
+use Rattle.comtrade_values.specs.Dates.{instant_fields}
 use Rattle.comtrade_read.proofs.HeadLines.{ends, tail, all_lines}
 use Rattle.comtrade_read.proofs.HeadTaken.{AnalogTaken, StatusTaken, rate_taken, HeadTaken}
 

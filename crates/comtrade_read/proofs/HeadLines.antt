@@ -2,11 +2,11 @@
 use Rattle.std.proofs.Common.{◌≡◌, ℕ, List, [], ◌∷◌, ◌++◌, length, map, ap, append_assoc}
 use Rattle.std.specs.List.{flat_map}
 use Rattle.std.specs.Fmt.{decimal}
-use Rattle.dfr_channels.specs.Written.{decimal_text}
+use Rattle.comtrade_values.specs.Written.{decimal_text}
 use Rattle.comtrade_format.specs.Parts.{HeadParts}
 use Rattle.comtrade_format.specs.Lines.{line}
 use Rattle.comtrade_format.specs.Numbered.{numbered}
-use Rattle.comtrade_format.specs.Dates.{instant_fields}
+use Rattle.comtrade_values.specs.Dates.{instant_fields}
 use Rattle.comtrade_format.specs.Cfg.{kind_text, names_fields, counts_fields, analog_fields, status_fields, rate_fields, channel_lines, rate_lines, last_lines, head_lines, cfg}
 
 abbrev pub ends : HeadParts → List (List (List ℕ))

@@ -3,10 +3,10 @@ use Rattle.std.proofs.Common.{◌≡◌, ℕ, ◌+◌, ◌<◌, ◌≤◌, max, 
 use Rattle.std.specs.Prelude.{◌≢◌, ◌&&◌, Result, Ok, Err, ℤ, pos, negsuc}
 use Rattle.std.specs.List.{AllByRecursion}
 use Rattle.std.proofs.lemmas.Bool.{and_parts, eqb-true, leb-true}
-use Rattle.dfr_channels.specs.Spelling.{whole_number, decimal_number, Number}
-use Rattle.dfr_channels.specs.Lines.{field}
-use Rattle.dfr_channels.specs.Fields.{up_to, free_scale, side, free_bit}
-use Rattle.dfr_channels.specs.LineFields.{many, need, analog_from, status_from}
+use Rattle.comtrade_values.specs.Spelling.{whole_number, decimal_number, Number}
+use Rattle.comtrade_values.specs.Lines.{field}
+use Rattle.comtrade_values.specs.Fields.{up_to, free_scale, free_bit}
+use Rattle.dfr_channels.specs.LineFields.{side, many, need, analog_from, status_from}
 use Rattle.dfr_channels.specs.Parts.{AnalogParts, StatusParts}
 use Rattle.comtrade_format.specs.declared.file.Kind.{Kind}
 use Rattle.comtrade_format.specs.declared.file.Rate.{Rate}

@@ -3,8 +3,8 @@ use Rattle.std.proofs.Common.{◌≡◌, ℕ, suc, ◌-◌, ◌<◌, get_or, Boo
 use Rattle.std.specs.List.{join_with_byte, AllByRecursion}
 use Rattle.std.proofs.lemmas.Bool.{false_from_ne_true}
 use Rattle.std.proofs.lemmas.List.{map-append}
-use Rattle.dfr_channels.specs.Spelling.{is_blank, trimmed}
-use Rattle.dfr_channels.specs.Lines.{lines, fields, without_cr, is_blank_line, drop_end}
+use Rattle.comtrade_values.specs.Spelling.{is_blank, trimmed}
+use Rattle.comtrade_values.specs.Lines.{lines, fields, without_cr, is_blank_line, drop_end}
 use Rattle.comtrade_read.specs.Joined.{AreBlank, HasNone, Field, field_bytes, IsField, Line, carriage_return, line_bytes, field_texts, IsLine, BlankLine, blank_bytes, IsJoined}
 use Rattle.comtrade_read.proofs.LineEnds.{HasNoReturn, EndsPlain, EndsFull, Bodies, return_none, return-append, return-back, end_off}
 use Rattle.comtrade_read.proofs.AllOf.{All-append, All-map, All-none, map-map}

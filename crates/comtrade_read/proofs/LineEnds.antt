@@ -4,7 +4,7 @@ use Rattle.std.specs.Prelude.{◌≢◌}
 use Rattle.std.specs.List.{join_with_byte}
 use Rattle.std.proofs.lemmas.List.{take_at, append-nil, get_or_at, get_or-append-add}
 use Rattle.std.proofs.lemmas.List.Elements.{All-from_recursion}
-use Rattle.dfr_channels.specs.Lines.{without_cr}
+use Rattle.comtrade_values.specs.Lines.{without_cr}
 use Rattle.comtrade_read.specs.Joined.{HasNone, field_bytes, Line, carriage_return}
 
 -- the last byte, if there is one, isn't a carriage return

@@ -9,16 +9,17 @@ use Rattle.std.proofs.lemmas.Bool.Decides.{eqb_tells, nat_tests}
 use Rattle.std.proofs.lemmas.List.{nil_from_length, take_all}
 use Rattle.std.proofs.lemmas.List.Sums.{split_at_first, passes_at_first}
 use Rattle.std.proofs.lemmas.Slice.Eq.{bytes_eq-Decides}
-use Rattle.dfr_channels.specs.Spelling.{whole_number, decimal_of, number, shifted, exponent, exponent_text, is_numeral, is_point, is_exponent_mark, Number}
-use Rattle.dfr_channels.specs.Lines.{field}
-use Rattle.dfr_channels.proofs.Cuts.{after_none}
+use Rattle.comtrade_values.specs.Spelling.{whole_number, decimal_of, number, shifted, exponent, exponent_text, is_numeral, is_point, is_exponent_mark, Number}
+use Rattle.comtrade_values.specs.Lines.{field}
+use Rattle.comtrade_values.proofs.Cuts.{after_none}
 use Rattle.dfr_channels.specs.declared.channel.Side.{Side}
 use Rattle.dfr_channels.specs.declared.channel.Side.TheVariants.{Primary, Secondary}
 use Rattle.dfr_channels.specs.declared.scan.Reading.{Reading}
 use Rattle.dfr_channels.specs.declared.scan.Reading.TheVariants as readings
 use Rattle.comtrade_format.specs.declared.file.Kind.{Kind}
 use Rattle.comtrade_format.specs.declared.file.Kind.TheVariants.{Ascii, Binary}
-use Rattle.dfr_channels.specs.Fields.{zero_number, up_to, within, free_scale, side, is_letter, as_bit, bit, free_bit}
+use Rattle.comtrade_values.specs.Fields.{zero_number, up_to, within, free_scale, as_bit, bit, free_bit}
+use Rattle.dfr_channels.specs.LineFields.{side, is_letter}
 use Rattle.comtrade_read.specs.Fields.{whole, natural, small, scale, count, before_letter}
 use Rattle.comtrade_read.specs.Instant.{digits, is_colon, is_dot, given, micros, seconds, time_at, time}
 use Rattle.comtrade_read.specs.Head.{kind}

@@ -13,8 +13,8 @@ use Rattle.std.proofs.lemmas.List.Sums.{position_or_len_is}
 use Rattle.jiff_core.proofs.SignedLemmas.{signed_arith, one_part}
 use Rattle.std.proofs.lemmas.Bool.{lt-ltb, le-ltb, le-leb, and_from}
 use Rattle.std.proofs.lemmas.Bool.Decides.{nat_tests}
-use Rattle.dfr_channels.specs.Spelling.{whole_number, decimal_number, number, is_numeral, is_point, is_exponent_mark, Number, IsNumber}
-use Rattle.dfr_channels.specs.Written.{filled, padded, with_point, pointed, minus, decimal_text}
+use Rattle.comtrade_values.specs.Spelling.{whole_number, decimal_number, number, is_numeral, is_point, is_exponent_mark, Number, IsNumber}
+use Rattle.comtrade_values.specs.Written.{filled, padded, with_point, pointed, minus, decimal_text}
 use Rattle.comtrade_read.proofs.AllOf.{All-append, All-parts, All-digits}
 use Rattle.comtrade_read.proofs.Digits.{digits_tested}
 

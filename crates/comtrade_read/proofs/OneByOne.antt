@@ -6,9 +6,9 @@ use Rattle.std.proofs.lemmas.List.{length-map, drop-drop, get_or-drop}
 use Rattle.std.proofs.lemmas.List.Elements.{All-from_recursion}
 use Rattle.std.proofs.lemmas.List.Splits.{length-slice_split, slice_split_first, slice_split_none}
 use Rattle.std.proofs.lemmas.Bool.{ltb-true, ltb-false}
-use Rattle.dfr_channels.specs.Spelling.{trimmed}
-use Rattle.dfr_channels.specs.Lines.{fields, field}
-use Rattle.dfr_channels.proofs.Cuts.{before_some, after_some}
+use Rattle.comtrade_values.specs.Spelling.{trimmed}
+use Rattle.comtrade_values.specs.Lines.{fields, field}
+use Rattle.comtrade_values.proofs.Cuts.{before_some, after_some}
 
 abbrev is_comma : ℕ → Bool
 is_comma b = eqb b 44

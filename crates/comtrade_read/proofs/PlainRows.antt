@@ -4,11 +4,11 @@ use Rattle.std.specs.Prelude.{◌==◌, Ok, ℤ, pos, negsuc, option_map}
 use Rattle.std.proofs.lemmas.Bool.{lt-ltb, ltb-true, ltb-false}
 use Rattle.std.proofs.lemmas.List.{append-nil, map-append, drop_more, drop_all, take_all, take_more_set}
 use Rattle.std.proofs.lemmas.Bool.Decides.{nat_tests}
-use Rattle.dfr_channels.specs.Spelling.{whole_number}
-use Rattle.dfr_channels.specs.Lines.{fields}
-use Rattle.dfr_channels.specs.PlainNumbers.{Begins, fields_behind}
+use Rattle.comtrade_values.specs.Spelling.{whole_number}
+use Rattle.comtrade_values.specs.Lines.{fields}
+use Rattle.comtrade_values.specs.PlainNumbers.{Begins, fields_behind}
 use Rattle.dfr_channels.specs.declared.scan.Reading.{Reading}
-use Rattle.dfr_channels.specs.Fields.{within, up_to, bit}
+use Rattle.comtrade_values.specs.Fields.{within, up_to, bit}
 use Rattle.comtrade_read.specs.Fields.{natural, small}
 use Rattle.comtrade_read.specs.Ascii.{stamp, value, reading, row_line}
 use Rattle.comtrade_read.specs.Inner.PlainRows.{IsNext, AreNext, AreBits}

@@ -2,7 +2,7 @@
 use Rattle.std.proofs.Common.{◌≡◌, true, length, None, sym}
 use Rattle.std.specs.Prelude.{◌&&◌}
 use Rattle.std.specs.List.{AllByRecursion}
-use Rattle.dfr_channels.specs.Faults.{fault_unless}
+use Rattle.comtrade_values.specs.Faults.{fault_unless}
 use Rattle.comtrade_format.specs.declared.bounds.Bounds.{Bounds}
 use Rattle.comtrade_format.specs.declared.fault.WriteFault.TheVariants as faults
 use Rattle.comtrade_format.specs.declared.file.Kind.{Kind}

@@ -4,8 +4,8 @@ use Rattle.std.specs.Prelude.{◌≢◌, Bool, Result, Ok, Err}
 use Rattle.std.proofs.Math.Seq.{drop-append_seam}
 use Rattle.std.proofs.lemmas.Bool.Decides.{nat_tests}
 use Rattle.std.proofs.lemmas.List.{append-nil, drop-drop, get_or-drop, length-map}
-use Rattle.dfr_channels.specs.Lines.{field}
-use Rattle.dfr_channels.specs.Fields.{bit}
+use Rattle.comtrade_values.specs.Lines.{field}
+use Rattle.comtrade_values.specs.Fields.{bit}
 use Rattle.dfr_channels.specs.declared.scan.Reading.{Reading}
 use Rattle.comtrade_format.specs.Parts.{RowParts}
 use Rattle.comtrade_read.specs.Line.{Fault, number, need_each}

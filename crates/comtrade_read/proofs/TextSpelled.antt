@@ -2,7 +2,7 @@
 use Rattle.std.proofs.Common.{◌≡◌, ℕ, List, [], ◌∷◌, length, map, ap, arith}
 use Rattle.std.specs.Prelude.{◌≢◌, Result, Ok, Err, IfOk, IfErr}
 use Rattle.std.specs.List.{before_first, AllByRecursion}
-use Rattle.dfr_channels.specs.Lines.{fields, lines}
+use Rattle.comtrade_values.specs.Lines.{fields, lines}
 use Rattle.comtrade_format.specs.Parts.{HeadParts, RowParts}
 use Rattle.comtrade_read.specs.declared.fault.ReadFault.{ReadFault}
 use Rattle.comtrade_read.specs.declared.fault.ReadFault.TheVariants as faults

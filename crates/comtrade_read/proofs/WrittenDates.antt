@@ -9,8 +9,8 @@ use Rattle.jiff_core.specs.Calendar.{IsCivilDate, day_count, days_from_civil, da
 use Rattle.jiff_core.proofs.CalendarLemmas.{days_from_civil-day_count, day_count-day, day_count-next_month, day_count-last_of_year, day_count-next_year, day_count-end, days_in_month_bounds}
 use Rattle.jiff_core.proofs.MarchLemmas.{day_count-early}
 use Rattle.jiff_core.proofs.SignedLemmas.{signed_arith, one_part}
-use Rattle.dfr_channels.specs.Written.{padded}
-use Rattle.comtrade_format.specs.Dates.{last_that, year_of, month_of, civil_of, day_number, time_of_day, date_text, time_text}
+use Rattle.comtrade_values.specs.Written.{padded}
+use Rattle.comtrade_values.specs.Dates.{last_that, year_of, month_of, civil_of, day_number, time_of_day, date_text, time_text}
 use Rattle.comtrade_read.specs.Instant.{digits, is_slash, is_colon, is_dot, day_at, date, micros, seconds, time_at, time, instant_at}
 use Rattle.comtrade_read.proofs.AllOf.{All-append, All-digits}
 use Rattle.comtrade_read.proofs.Digits.{digits_tested}

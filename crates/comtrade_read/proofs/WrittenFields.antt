@@ -12,9 +12,9 @@ use Rattle.std.proofs.lemmas.Int.{ints}
 use Rattle.jiff_core.proofs.SignedLemmas.{signed_arith, one_part}
 use Rattle.std.proofs.lemmas.Bool.{lt-ltb, le-leb, eq-eqb, and_parts, or_parts, or_from, not-true, cond_both}
 use Rattle.std.proofs.lemmas.Bool.Decides.{nat_tests, Decides-int_eq}
-use Rattle.dfr_channels.specs.Spelling.{is_blank, trimmed, decimal_number, Number, IsNumber}
-use Rattle.dfr_channels.specs.Written.{decimal_text}
-use Rattle.dfr_channels.specs.Texts.{is_plain, is_printable, has_blank_end, has_length}
+use Rattle.comtrade_values.specs.Spelling.{is_blank, trimmed, decimal_number, Number, IsNumber}
+use Rattle.comtrade_values.specs.Written.{decimal_text}
+use Rattle.comtrade_values.specs.Texts.{is_plain, is_printable, has_blank_end, has_length}
 use Rattle.dfr_channels.specs.declared.channel.Side.{Side}
 use Rattle.dfr_channels.specs.declared.channel.Side.TheVariants.{Primary, Secondary}
 use Rattle.dfr_channels.specs.declared.scan.Reading.{Reading}
@@ -24,7 +24,8 @@ use Rattle.comtrade_format.specs.declared.file.Kind.TheVariants.{Ascii, Binary}
 use Rattle.comtrade_format.specs.Lines.{bit_text}
 use Rattle.comtrade_format.specs.Cfg.{side_text, kind_text}
 use Rattle.comtrade_format.specs.Ascii.{reading_text, stamp_text}
-use Rattle.dfr_channels.specs.Fields.{free_scale, side, bit, free_bit}
+use Rattle.comtrade_values.specs.Fields.{free_scale, bit, free_bit}
+use Rattle.dfr_channels.specs.LineFields.{side}
 use Rattle.comtrade_read.specs.Fields.{whole, natural, small, scale, count}
 use Rattle.comtrade_read.specs.Head.{kind}
 use Rattle.comtrade_read.specs.Ascii.{stamp, value, reading}

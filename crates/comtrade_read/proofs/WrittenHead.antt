@@ -6,15 +6,15 @@ use Rattle.std.specs.Fmt.{decimal, signed_decimal}
 use Rattle.std.proofs.lemmas.List.{append-nil}
 use Rattle.std.proofs.lemmas.Bool.{and_parts, le-leb, lt-ltb}
 use Rattle.std.proofs.lemmas.Bool.Decides.{nat_tests}
-use Rattle.dfr_channels.specs.Spelling.{IsNumber, Number}
-use Rattle.dfr_channels.specs.Written.{decimal_text}
+use Rattle.comtrade_values.specs.Spelling.{IsNumber, Number}
+use Rattle.comtrade_values.specs.Written.{decimal_text}
 use Rattle.dfr_channels.specs.LineFields.{analog_from, status_from}
 use Rattle.dfr_channels.specs.Parts.{AnalogParts, StatusParts}
 use Rattle.comtrade_format.specs.declared.file.Kind.{Kind}
 use Rattle.comtrade_format.specs.declared.file.Rate.{Rate}
 use Rattle.comtrade_format.specs.Parts.{HeadParts}
 use Rattle.comtrade_format.specs.Numbered.{numbered}
-use Rattle.comtrade_format.specs.Dates.{day_number, time_of_day, instant_fields}
+use Rattle.comtrade_values.specs.Dates.{day_number, time_of_day, instant_fields}
 use Rattle.comtrade_format.specs.Cfg.{kind_text, names_fields, counts_fields, analog_fields, status_fields, rate_fields, cfg}
 use Rattle.comtrade_format.specs.Shape as shape
 use Rattle.comtrade_read.specs.Fields.{small, scale}

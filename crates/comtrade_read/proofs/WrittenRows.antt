@@ -17,7 +17,7 @@ use Rattle.comtrade_format.specs.Ascii.{reading_text, stamp_text, fields_line, r
 use Rattle.comtrade_format.specs.Binary.{reading_number, stamp_number, bits_number, group_bytes, status_bytes, row_bytes, binary}
 use Rattle.comtrade_format.specs.Shape.{row_shaped}
 use Rattle.comtrade_format.specs.Refusals.{ascii_bounds, binary_bounds, takes_reading, takes_stamp, takes_times, values_from, rows_from, stamps_from}
-use Rattle.dfr_channels.specs.Fields.{bit}
+use Rattle.comtrade_values.specs.Fields.{bit}
 use Rattle.comtrade_read.specs.declared.fault.ReadFault.{ReadFault}
 use Rattle.comtrade_read.specs.Line.{Left, taken, next, each, end}
 use Rattle.comtrade_read.specs.Ascii.{stamp, value, is_end_mark, row_line as read_line, rows}

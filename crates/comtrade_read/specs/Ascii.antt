@@ -2,8 +2,8 @@
 use Rattle.std.specs.Prelude.{ℕ, ◌+◌, Bool, ◌==◌, if◌then◌else◌, List, [], length, Option, Some, None, option_map, Result, Ok, ℤ, pos}
 use Rattle.std.specs.List.{before_first}
 use Rattle.std.specs.Ordering.{int_eq}
-use Rattle.dfr_channels.specs.Lines.{lines, field}
-use Rattle.dfr_channels.specs.Fields.{bit}
+use Rattle.comtrade_values.specs.Lines.{lines, field}
+use Rattle.comtrade_values.specs.Fields.{bit}
 use Rattle.dfr_channels.specs.LineFields.{many, need}
 use Rattle.dfr_channels.specs.declared.scan.Reading.{Reading}
 use Rattle.dfr_channels.specs.declared.scan.Reading.TheVariants.{Value, Missing}

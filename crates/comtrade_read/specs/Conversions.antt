@@ -1,6 +1,6 @@
 -- A pair of files as a pair of another kind.
 use Rattle.std.specs.Prelude.{◌≡◌, ℕ, List, Some}
-use Rattle.dfr_channels.specs.Faults.{◌or◌}
+use Rattle.comtrade_values.specs.Faults.{◌or◌}
 use Rattle.comtrade_format.specs.Parts.{FileParts}
 use Rattle.comtrade_format.specs.declared.file.Kind.{Kind}
 use Rattle.comtrade_format.specs.declared.fault.WriteFault.{WriteFault}

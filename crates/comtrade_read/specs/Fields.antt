@@ -1,7 +1,7 @@
 -- What the numbers of a configuration file and of rows say, where they can be read.
 use Rattle.std.specs.Prelude.{ℕ, ◌+◌, ◌-◌, ◌||◌, ◌&&◌, ◌==◌, nat_lt, if◌then◌else◌, List, length, take, Option, Some, None, ℤ, pos, negsuc, slice_index_or, option_and_then}
-use Rattle.dfr_channels.specs.Spelling.{whole_number, decimal_number, Number}
-use Rattle.dfr_channels.specs.Fields.{up_to, within}
+use Rattle.comtrade_values.specs.Spelling.{whole_number, decimal_number, Number}
+use Rattle.comtrade_values.specs.Fields.{up_to, within}
 
 -- a whole number
 unfoldable pub whole : List ℕ → Option ℤ

@@ -1,9 +1,9 @@
 -- The kinds of line of a configuration file (C37.111-1999, clause 5), and where they stand.
 use Rattle.std.specs.Prelude.{ℕ, ◌+◌, ◌-◌, max, Bool, false, ◌&&◌, ◌==◌, nat_lt, nat_le, if◌then◌else◌, List, [], length, slice_get, Option, Some, None, option_map, unwrap_or, Result, Ok, Err, ℤ, pos, negsuc, codes}
 use Rattle.std.specs.Str.{str_eq_ignore_ascii_case}
-use Rattle.dfr_channels.specs.Spelling.{Number}
-use Rattle.dfr_channels.specs.Lines.{field}
-use Rattle.dfr_channels.specs.Fields.{free_scale}
+use Rattle.comtrade_values.specs.Spelling.{Number}
+use Rattle.comtrade_values.specs.Lines.{field}
+use Rattle.comtrade_values.specs.Fields.{free_scale}
 use Rattle.dfr_channels.specs.LineFields.{many, need, analog_from, status_from}
 use Rattle.dfr_channels.specs.Parts.{AnalogParts, StatusParts}
 use Rattle.comtrade_format.specs.declared.file.Kind.{Kind}

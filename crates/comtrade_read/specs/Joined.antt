@@ -1,7 +1,7 @@
 -- A text as lines with their ends, and a line as fields with blanks around them and commas between.
 use Rattle.std.specs.Prelude.{◌≡◌, ℕ, Bool, true, false, ◌==◌, List, [], ◌∷◌, ◌++◌, map}
 use Rattle.std.specs.List.{join_with_byte, AllByRecursion}
-use Rattle.dfr_channels.specs.Spelling.{is_blank, trimmed}
+use Rattle.comtrade_values.specs.Spelling.{is_blank, trimmed}
 
 abbrev pub AreBlank : List ℕ → Type 0
 AreBlank bytes = AllByRecursion (λ b. is_blank b ≡ true) bytes

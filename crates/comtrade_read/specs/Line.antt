@@ -1,6 +1,6 @@
 -- What the fields of a line say, and what the lines of a file say, or their first fault.
 use Rattle.std.specs.Prelude.{ℕ, ◌+◌, zero, suc, List, [], ◌∷◌, ◌++◌, Option, Result, Ok, Err}
-use Rattle.dfr_channels.specs.Lines.{field}
+use Rattle.comtrade_values.specs.Lines.{field}
 use Rattle.dfr_channels.specs.LineFields.{many, need}
 use Rattle.comtrade_read.specs.declared.fault.ReadFault.{ReadFault}
 use Rattle.comtrade_read.specs.declared.fault.ReadFault.TheVariants as faults

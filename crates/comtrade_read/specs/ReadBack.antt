@@ -1,7 +1,7 @@
 -- What is written is read.
 use Rattle.std.specs.Prelude.{◌≡◌, None}
 use Rattle.std.specs.List.{AllByRecursion}
-use Rattle.dfr_channels.specs.Spelling.{IsNumber}
+use Rattle.comtrade_values.specs.Spelling.{IsNumber}
 use Rattle.dfr_channels.specs.Decimals.{HasDecimals}
 use Rattle.comtrade_format.specs.Parts.{HeadParts, FileParts}
 use Rattle.comtrade_format.specs.Cfg.{cfg}

@@ -1,7 +1,7 @@
 -- Which texts read to which files, and the first fault of those that read to none: the grammar of both files.
 use Rattle.std.specs.Prelude.{◌≡◌, ◌≢◌, ℕ, ◌+◌, ◌-◌, ◌*◌, ◌/◌, ◌<◌, ◌^◌, ◌≤ℤ◌, Bool, List, ◌++◌, length, map, Option, Some, None, Ok, Err, pos, neg_ℤ}
 use Rattle.std.specs.List.{before_first, concat, AllByRecursion, AllZip}
-use Rattle.dfr_channels.specs.Lines.{lines, fields}
+use Rattle.comtrade_values.specs.Lines.{lines, fields}
 use Rattle.dfr_channels.specs.declared.scan.Reading.{Reading}
 use Rattle.dfr_channels.specs.declared.scan.Reading.TheVariants.{Value, Missing}
 use Rattle.comtrade_format.specs.declared.file.Kind.{Kind}

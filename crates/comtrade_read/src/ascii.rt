@@ -2,7 +2,7 @@
 
 ghost use Rattle.std.specs.Prelude.{◌≡◌, ◌+◌, ◌<◌, [], length, map};
 ghost use Rattle.std.specs.List.{before_first};
-ghost use Rattle.dfr_channels.specs.Lines.{fields};
+ghost use Rattle.comtrade_values.specs.Lines.{fields};
 ghost use Rattle.comtrade_read.specs.Line.{told, next, each};
 ghost use Rattle.comtrade_read.specs.Ascii as spec;
 ghost use Rattle.comtrade_read.specs.Inner.LineFaults.{Is};
@@ -13,7 +13,8 @@ use crate::fields::{natural, needed, within};
 use crate::left::Left;
 use crate::plain_rows::plain_row;
 use comtrade_format::Row;
-use dfr_channels::{Items, Reading, bit_of, integer_of};
+use comtrade_values::{Items, bit_of, integer_of};
+use dfr_channels::Reading;
 use memchr::memchr;
 use std::alloc::Allocator;
 

@@ -8,7 +8,7 @@ ghost use Rattle.comtrade_read.specs.Reads.{row_size};
 use crate::fault::ReadFault;
 use byteorder::{ByteOrder, LittleEndian};
 use comtrade_format::{Row, packed_bits, packed_values};
-use dfr_channels::Items;
+use comtrade_values::Items;
 use std::alloc::{AllocError, Allocator};
 
 /// The time stamp in the first four bytes. The highest number means none.

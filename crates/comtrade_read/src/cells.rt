@@ -1,10 +1,10 @@
 //! Splits a line into fields, one after the other.
 
 ghost use Rattle.std.specs.Prelude.{◌≡◌, ◌<◌, ◌≤◌, ◌==◌, count_by, length, drop};
-ghost use Rattle.dfr_channels.specs.Lines.{fields, field};
+ghost use Rattle.comtrade_values.specs.Lines.{fields, field};
 
 use crate::instant::place_of;
-use dfr_channels::trim;
+use comtrade_values::trim;
 
 /// The number of commas in the line.
 fn comma_count(line: &[u8]) -> usize

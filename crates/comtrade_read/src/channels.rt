@@ -1,7 +1,7 @@
 //! Reads the channel lines of a configuration file.
 
 ghost use Rattle.std.specs.Prelude.{◌≡◌, [], length, IfOk};
-ghost use Rattle.dfr_channels.specs.Lines.{texts, field};
+ghost use Rattle.comtrade_values.specs.Lines.{texts, field};
 ghost use Rattle.comtrade_read.specs.Line.{told, next, each};
 ghost use Rattle.comtrade_read.specs.Head.{analog_line, status_line, next_analog, next_status};
 ghost use Rattle.comtrade_read.specs.Inner.LineFaults.{Is};
@@ -9,7 +9,8 @@ ghost use Rattle.comtrade_read.specs.Inner.LineFaults.{Is};
 use crate::fault::ReadFault;
 use crate::fields::{free_bit_of, free_scale_of, scale_of, side_of, small_of, text_of, whole_of};
 use crate::left::{Left, Line};
-use dfr_channels::{AnalogChannel, Decimal, Side, StatusChannel};
+use comtrade_values::Decimal;
+use dfr_channels::{AnalogChannel, Side, StatusChannel};
 use std::alloc::Allocator;
 
 /// The numbers in an analogue channel's line.

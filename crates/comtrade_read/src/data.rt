@@ -11,7 +11,7 @@ use crate::ascii::ascii_rows;
 use crate::binary::binary_rows;
 use crate::fault::ReadFault;
 use comtrade_format::{File, Head, Kind, Rate, Row};
-use dfr_channels::Items;
+use comtrade_values::Items;
 use std::alloc::Allocator;
 
 /// The `endsamp` of the last rate, or 0 if there is none.

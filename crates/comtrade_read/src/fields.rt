@@ -3,15 +3,16 @@
 ghost use Rattle.std.specs.Prelude.{◌≡◌, ◌<◌, ◌+◌, ◌^◌, length, pos, negsuc, IfOk, IfErr, IfSome, ◌≤◌, ◌≤ℤ◌, Some, Ok};
 ghost use Rattle.std.specs.Option.{option_copied};
 ghost use Rattle.comtrade_read.specs.declared.fault.ReadFault.TheVariants as faults;
-ghost use Rattle.dfr_channels.specs.Lines.{texts, field};
-ghost use Rattle.dfr_channels.specs.Fields as shared;
+ghost use Rattle.comtrade_values.specs.Lines.{texts, field};
+ghost use Rattle.comtrade_values.specs.Fields as shared;
 ghost use Rattle.comtrade_read.specs.Fields as spec;
 ghost use Rattle.comtrade_read.specs.Head as head;
 ghost use Rattle.comtrade_read.specs.Inner.LineFaults.{GivesField};
 
 use crate::fault::ReadFault;
 use comtrade_format::Kind;
-use dfr_channels::{Decimal, Items, Side, integer_of};
+use comtrade_values::{Decimal, Items, integer_of};
+use dfr_channels::Side;
 use std::alloc::Allocator;
 
 /// The value that was read, or the `Number` error of field `i`, which counts from 0.
@@ -101,7 +102,7 @@ pub(crate) fn free_scale_of(line: u64, fields: &[&[u8]], i: u32) -> Result<Decim
     requires in_line { i < length fields.now }
     ensures { GivesField (shared.free_scale (field (texts fields.now) i)) (faults.Number line (i + 1)) result }
 {
-    needed(dfr_channels::free_scale_of(fields[i as usize]), line, i)
+    needed(comtrade_values::free_scale_of(fields[i as usize]), line, i)
 }
 
 /// The text before this letter at its end, in upper or lower case.
@@ -152,7 +153,7 @@ pub(crate) fn free_bit_of(line: u64, fields: &[&[u8]], i: u32) -> Result<bool, R
     requires in_line { i < length fields.now }
     ensures { GivesField (shared.free_bit (field (texts fields.now) i)) (faults.Number line (i + 1)) result }
 {
-    needed(dfr_channels::free_bit_of(fields[i as usize]), line, i)
+    needed(comtrade_values::free_bit_of(fields[i as usize]), line, i)
 }
 
 /// The data type that the text names, in upper or lower case.

@@ -1,7 +1,7 @@
 //! Writes a file and reads it back.
 
 ghost use Rattle.std.specs.Prelude.{◌≡◌, IfOk, IfErr};
-ghost use Rattle.dfr_channels.specs.Faults.{◌or◌};
+ghost use Rattle.comtrade_values.specs.Faults.{◌or◌};
 ghost use Rattle.comtrade_format.specs.Cfg.{cfg};
 ghost use Rattle.comtrade_format.specs.Data.{dat, dat_refusal};
 ghost use Rattle.comtrade_format.specs.Refusals.{Fails, cfg_refusal};

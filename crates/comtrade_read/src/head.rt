@@ -2,7 +2,7 @@
 
 ghost use Rattle.std.specs.Prelude.{◌≡◌, ◌≢◌, ◌+◌, ◌<◌, ◌≤◌, length, map, IfOk, IfErr};
 ghost use Rattle.comtrade_read.specs.declared.fault.ReadFault.TheVariants as faults;
-ghost use Rattle.dfr_channels.specs.Lines.{lines, fields};
+ghost use Rattle.comtrade_values.specs.Lines.{lines, fields};
 ghost use Rattle.comtrade_read.specs.Head as spec;
 ghost use Rattle.comtrade_read.specs.Inner.LineFaults.{Is};
 ghost use Rattle.comtrade_read.specs.Reads.{ReadsHead, FaultyHead, Nothing};
@@ -14,7 +14,7 @@ use crate::settings::{
     counts_of, frequency_of, instant_of, kind_in, names_of, nrates_of, rates_of, timemult_of,
 };
 use comtrade_format::{Head, Kind, Rate};
-use dfr_channels::{Decimal, Items};
+use comtrade_values::{Decimal, Items};
 use std::alloc::Allocator;
 
 /// The part of a head after its rates.

@@ -6,10 +6,10 @@ ghost use Rattle.jiff_core.specs.Calendar.{IsBetween, IsDate, days_from_civil};
 ghost use Rattle.comtrade_read.specs.declared.fault.ReadFault.TheVariants as faults;
 ghost use Rattle.comtrade_read.specs.Instant as spec;
 ghost use Rattle.comtrade_read.specs.Inner.LineFaults.{GivesField};
-ghost use Rattle.dfr_channels.specs.Lines.{texts, field};
+ghost use Rattle.comtrade_values.specs.Lines.{texts, field};
 
 use crate::fault::ReadFault;
-use dfr_channels::numeral_of;
+use comtrade_values::numeral_of;
 use jiff_core::civil::Date;
 
 /// The position of the first such byte.
@@ -20,7 +20,7 @@ pub(crate) fn place_of(text: &[u8], byte: u8) -> Option<usize>
 }
 
 /// The text before and the text after the first such byte, if there is one.
-#[tactic(auto, using(dfr_channels::proofs::Cuts::cuts))]
+#[tactic(auto, using(comtrade_values::proofs::Cuts::cuts))]
 fn cut_at(text: &[u8], byte: u8) -> Option<(&[u8], &[u8])>
     ensures found { IsSome result ↔ IsSome (position (λ b. b == byte) text.now) }
     ensures front { IfSome result (λ x. x.0.now ≡ before_first (λ b. b == byte) text.now) }
@@ -103,7 +103,7 @@ fn micros(text: &[u8]) -> Option<u32>
 }
 
 /// Reads seconds, and the microseconds after the point if there is one.
-#[tactic(auto, unfolding(crate::specs::Instant::seconds), using(dfr_channels::proofs::Cuts::cuts))]
+#[tactic(auto, unfolding(crate::specs::Instant::seconds), using(comtrade_values::proofs::Cuts::cuts))]
 fn seconds(text: &[u8]) -> Option<(u32, u32)>
     ensures value { result ≡ spec.seconds text.now }
     ensures bound { IfSome result (λ x. (x.0 < 100) × (x.1 < 1000000)) }

@@ -1,12 +1,12 @@
 //! The lines of a file that are still to be read.
 
 ghost use Rattle.std.specs.Prelude.{◌≡◌, map};
-ghost use Rattle.dfr_channels.specs.Lines.{texts, fields, lines};
+ghost use Rattle.comtrade_values.specs.Lines.{texts, fields, lines};
 ghost use Rattle.comtrade_read.specs.Line as spec;
 ghost use Rattle.comtrade_read.specs.Inner.LineFaults.{Is};
 
 use crate::fault::ReadFault;
-use dfr_channels::{Lines, fields_of};
+use comtrade_values::{Lines, fields_of};
 use std::alloc::Allocator;
 use std::marker::Model;
 
@@ -26,7 +26,7 @@ pub(crate) struct Left<'a> {
 
 impl<'a> Model for Left<'a> {
     ghost use Rattle.std.specs.Prelude.{map, length, ◌+◌, ◌<◌, ◌^◌};
-    ghost use Rattle.dfr_channels.specs.Lines.{fields};
+    ghost use Rattle.comtrade_values.specs.Lines.{fields};
     ghost use Rattle.comtrade_read.specs.Line.{Left};
 
     ghost Value = { Left };

@@ -1,11 +1,12 @@
 //! What holds for the numbers of every head.
 
 ghost use Rattle.std.specs.List.{All};
-ghost use Rattle.dfr_channels.specs.Spelling.{IsNumber};
+ghost use Rattle.comtrade_values.specs.Spelling.{IsNumber};
 ghost use Rattle.comtrade_read.specs.ReadBack.{HasNumbers};
 
 use comtrade_format::{Head, Rate};
-use dfr_channels::{channels_have_numbers, decimal_is_number};
+use comtrade_values::decimal_is_number;
+use dfr_channels::channels_have_numbers;
 use std::alloc::Allocator;
 
 fn samps(rates: &[Rate])

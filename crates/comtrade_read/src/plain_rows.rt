@@ -1,15 +1,16 @@
 //! Reads rows that have a stamp and are spelled as the writers spell them, in one pass.
 
 ghost use Rattle.std.specs.Prelude.{◌≡◌, ◌<◌, ◌<ℤ◌, ◌+◌, ◌-◌, ◌*◌, ◌^◌, [], IfOk, IfSome, option_copied, option_map, Some, Ok, true, pos, negsuc, length};
-ghost use Rattle.dfr_channels.specs.Lines.{fields};
-ghost use Rattle.dfr_channels.specs.PlainNumbers.{Begins, fields_behind};
-ghost use Rattle.dfr_channels.specs.Fields.{within, up_to, bit as read_bit};
+ghost use Rattle.comtrade_values.specs.Lines.{fields};
+ghost use Rattle.comtrade_values.specs.PlainNumbers.{Begins, fields_behind};
+ghost use Rattle.comtrade_values.specs.Fields.{within, up_to, bit as read_bit};
 ghost use Rattle.comtrade_read.specs.Fields.{natural, ten_digits};
 ghost use Rattle.comtrade_read.specs.Ascii as spec;
 ghost use Rattle.comtrade_read.specs.Inner.PlainRows.{IsNext, AreNext, AreBits};
 
 use comtrade_format::Row;
-use dfr_channels::{Items, Reading, plain_number, sample_number};
+use comtrade_values::{Items, plain_number, sample_number};
+use dfr_channels::Reading;
 use std::alloc::{AllocError, Allocator};
 
 /// The number, if it is possible as a row's number or stamp.

@@ -12,7 +12,7 @@ use crate::fields::{count_of, free_scale_of, kind_of, natural_of, scale_of, text
 use crate::instant::{date_of, instant_at, time_of};
 use crate::left::{Left, Line};
 use comtrade_format::{Kind, Rate};
-use dfr_channels::{Decimal, Items, integer_of};
+use comtrade_values::{Decimal, Items, integer_of};
 use std::alloc::Allocator;
 
 /// The names of station and device.

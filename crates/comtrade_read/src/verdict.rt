@@ -5,7 +5,7 @@ ghost use Rattle.comtrade_read.specs.Verdicts.{IsFile, IsFaultyPair};
 
 use crate::fault::ReadFault;
 use crate::pair::{Part, read};
-use dfr_channels::Memory;
+use comtrade_values::Memory;
 use std::alloc::Allocator;
 use thiserror::Error;
 

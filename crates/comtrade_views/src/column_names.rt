@@ -1,7 +1,8 @@
 //! The column names of comma-separated values: the first line.
 
 use comtrade_format::Head;
-use comtrade_io::{ToolFault, fault_of, put, put_safe, put_with};
+use comtrade_io::{ToolFault, fault_of, put_safe};
+use comtrade_values::{put, put_with};
 use csv::{Error, ErrorKind, Terminator, Writer, WriterBuilder};
 use std::alloc::{AllocError, Allocator};
 use std::collections::BTreeMap;

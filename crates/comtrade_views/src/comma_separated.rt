@@ -6,7 +6,8 @@ use crate::number::{Scale, put_sample, put_shortened, scale_of};
 use crate::spelling::Spelling;
 use crate::value_cells::{ValueCells, set_decimal_sign, value_cells_of};
 use comtrade_format::{File, Row};
-use comtrade_io::{ToolFault, flush_if_full, put, put_number, write_out};
+use comtrade_io::{ToolFault, flush_if_full, write_out};
+use comtrade_values::{put, put_number};
 use dfr_channels::{AnalogChannel, Reading};
 use std::alloc::{AllocError, Allocator};
 use std::io::Write;
@@ -16,7 +17,7 @@ use std::io::Write;
 #[derive(Drop)]
 struct Lines<A: Allocator> {
     text: Vec<u8, A>,
-    instant: InstantText,
+    instant: InstantText<A>,
     cell: Vec<u8, A>,
     values: ValueCells<A>,
     bits: Vec<u8, A>,
@@ -47,7 +48,7 @@ impl<A: Allocator> Lines<A> {
 
     /// The cell of an instant in microseconds, in quotation marks if it contains the separator.
     fn put_instant(&mut self, micros: i128) -> Result<(), AllocError> {
-        let text = self.instant.of(micros);
+        let text = self.instant.of(micros)?;
         if !text.contains(&self.spelling.separator) {
             return self.text.extend_from_slice(text);
         }
@@ -151,7 +152,7 @@ pub fn csv_over<A: Allocator + Copy, W: Write>(
     write_names(alloc, &file.head, spelling.separator, w)?;
     let mut lines = Lines {
         text: Vec::new(alloc),
-        instant: InstantText::new(),
+        instant: InstantText::new(alloc),
         cell: Vec::new(alloc),
         values: value_cells_of(alloc, file.head.analog.items(), spelling)?,
         bits: bit_cells(alloc, file.head.status.items().len(), spelling.separator)?,

@@ -3,7 +3,8 @@
 use crate::peaks::{Peaks, peaks_at, peaks_of};
 use comtrade_format::{File, nearest_f64, scale_of};
 use comtrade_io::ToolFault;
-use dfr_channels::{AnalogChannel, Decimal, Side};
+use comtrade_values::Decimal;
+use dfr_channels::{AnalogChannel, Side};
 use std::alloc::Allocator;
 
 /// The ratio of a channel's greatest current to its nominal one, and the current.

@@ -3,7 +3,8 @@
 use crate::events::Event;
 use crate::instant::{put_instant, put_millis};
 use crate::table::{end_cell, end_row, put_table, table_of};
-use comtrade_io::{ToolFault, put_safe, put_with};
+use comtrade_io::{ToolFault, put_safe};
+use comtrade_values::put_with;
 use std::alloc::{AllocError, Allocator};
 
 /// The columns of the table of one record.

@@ -3,7 +3,8 @@
 use crate::peaks::bit_at;
 use crate::times::times_since_trigger;
 use comtrade_format::File;
-use comtrade_io::{ToolFault, put, put_count, put_safe, put_with};
+use comtrade_io::{ToolFault, put_safe};
+use comtrade_values::{put, put_count, put_with};
 use dfr_channels::Reading;
 use std::alloc::{AllocError, Allocator, Global};
 

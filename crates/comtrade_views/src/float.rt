@@ -1,12 +1,12 @@
 //! Floats as decimals.
 
-use crate::number::{Number, put_value, rounded};
+use comtrade_values::{Exact, put_exact};
 use ryu::Buffer;
 use std::alloc::{AllocError, Allocator};
 use std::num::saturating_f64_to_i64;
 
 /// A float as its shortest decimal; None where it is not a number.
-fn number_of(x: f64) -> Option<Number> {
+fn number_of(x: f64) -> Option<Exact> {
     let size = x.abs();
     if !size.is_finite() {
         return None;
@@ -24,13 +24,13 @@ fn number_of(x: f64) -> Option<Number> {
                 .saturating_add(i128::from(b.saturating_sub(b'0')));
         }
     }
-    Some(Number {
+    Some(Exact {
         units: if x < 0.0 {
             units.saturating_mul(-1)
         } else {
             units
         },
-        exponent: exponent.saturating_sub(i32::try_from(places.len()).ok()?),
+        places: i32::try_from(places.len()).ok()?.saturating_sub(exponent),
     })
 }
 
@@ -59,7 +59,7 @@ pub(crate) fn put_float<A: Allocator>(
         return out.extend_from_slice(b"0");
     }
     match number_of(x) {
-        Some(number) => put_value(out, rounded(number)),
+        Some(number) => put_exact(out, number.to_six_digits()),
         None => out.extend_from_slice(b"-"),
     }
 }
@@ -75,11 +75,11 @@ pub(crate) fn put_places<A: Allocator>(
         scaled *= 10.0;
     }
     let half = if scaled < 0.0 { -0.5 } else { 0.5 };
-    put_value(
+    put_exact(
         out,
-        Number {
+        Exact {
             units: i128::from(saturating_f64_to_i64(scaled + half)),
-            exponent: -i32::from(places),
+            places: i32::from(places),
         },
     )
 }

@@ -8,7 +8,8 @@ use crate::show::Clock;
 use crate::show_analog::analog_table;
 use crate::show_status::contact_table;
 use comtrade_format::{File, Head};
-use comtrade_io::{ToolFault, kind_name, put, put_with};
+use comtrade_io::{ToolFault, kind_name};
+use comtrade_values::{put, put_with};
 use std::alloc::{AllocError, Allocator, Global};
 
 const ANALOG: &str =

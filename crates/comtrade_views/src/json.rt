@@ -1,7 +1,8 @@
 //! Tables as JSON: an array with an object for each row, whose members are the cells.
 
 use crate::table::CELL;
-use comtrade_io::{put, put_safe};
+use comtrade_io::put_safe;
+use comtrade_values::put;
 use std::alloc::{AllocError, Global};
 
 /// A text from a file in quotation marks. Its bytes outside 20 to 7E are written in hexadecimal, as

@@ -12,7 +12,8 @@ use crate::show::put_row_time;
 use crate::shown::{Shown, put_cycle};
 use crate::table::put_table;
 use comtrade_format::File;
-use comtrade_io::{put, put_safe, put_with};
+use comtrade_io::put_safe;
+use comtrade_values::{put, put_with};
 use std::alloc::{AllocError, Allocator, Global};
 
 /// What to measure.

@@ -3,7 +3,7 @@
 use crate::json::put_rows_json;
 use crate::measure::Measures;
 use crate::shown::Shown;
-use comtrade_io::{put, put_number, put_with};
+use comtrade_values::{put, put_number, put_with};
 use std::alloc::{AllocError, Allocator, Global};
 
 const CHANNELS: &str = "n# id phase unit rms# magnitude# angle# dc# peak# peak_ms# residual#";

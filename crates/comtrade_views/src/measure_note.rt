@@ -5,7 +5,8 @@ use crate::float::put_places;
 use crate::measure_tables::Found;
 use crate::number::put_decimal;
 use comtrade_format::File;
-use comtrade_io::{put, put_safe};
+use comtrade_io::put_safe;
+use comtrade_values::put;
 use std::alloc::{AllocError, Allocator};
 
 /// The least share of the magnitude that is noted.

@@ -4,7 +4,8 @@ use crate::cycles::first_cycle_end;
 use crate::instant::put_millis;
 use crate::part::{Reach, reach_of};
 use comtrade_format::File;
-use comtrade_io::{put, put_safe, put_with};
+use comtrade_io::put_safe;
+use comtrade_values::{put, put_with};
 use std::alloc::{AllocError, Allocator};
 
 /// Where a moment is if no cycle of the record ends there.

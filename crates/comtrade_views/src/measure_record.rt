@@ -8,7 +8,7 @@ use crate::show::put_row_time;
 use crate::shown::{Shown, put_channel, put_cycle_of};
 use crate::table::{end_cell, end_row, put_number_cell, put_table};
 use comtrade_format::{File, nearest_f64};
-use comtrade_io::{put, put_with};
+use comtrade_values::{put, put_with};
 use std::alloc::{AllocError, Allocator, Global};
 
 /// The cells of a fault inception: when and where it is, and the current before and after it.

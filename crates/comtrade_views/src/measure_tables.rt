@@ -6,7 +6,7 @@ use crate::show::put_row_time;
 use crate::shown::{Shown, put_channel};
 use crate::table::{end_cell, end_row};
 use comtrade_format::File;
-use comtrade_io::{put, put_with};
+use comtrade_values::{put, put_with};
 use std::alloc::{AllocError, Allocator};
 
 /// What was measured of a record's channels, the reference phasor of angles, and how it is shown.

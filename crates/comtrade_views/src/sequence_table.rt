@@ -4,7 +4,8 @@ use crate::cycles::{Phasor, Sequence, Three, sequence_of, threes_of};
 use crate::measure_tables::{Found, MISSING, put_angle_cell, put_float_cell};
 use crate::shown::Shown;
 use crate::table::{end_cell, end_row};
-use comtrade_io::{put, put_safe};
+use comtrade_io::put_safe;
+use comtrade_values::put;
 use dfr_channels::AnalogChannel;
 use std::alloc::{AllocError, Allocator};
 

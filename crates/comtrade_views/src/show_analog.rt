@@ -1,11 +1,12 @@
 //! The table of analogue channels, with their extremes.
 
-use crate::number::{put_decimal, put_value, rounded, scale_of, value_of};
+use crate::number::{put_decimal, scale_of, value_of};
 use crate::peaks::{Peak, Peaks, peaks_at};
 use crate::show::{Clock, put_row_time};
 use crate::table::{end_cell, end_row, put_cell, put_number_cell, put_table, table_of};
 use comtrade_format::File;
-use comtrade_io::{put, put_count, put_number, put_safe, put_signed};
+use comtrade_io::put_safe;
+use comtrade_values::{put, put_count, put_exact, put_number};
 use dfr_channels::{AnalogChannel, Side};
 use std::alloc::{AllocError, Allocator};
 
@@ -49,9 +50,9 @@ fn put_scale<A: Allocator>(
         put_decimal(table, number)?;
         end_cell(table)?;
     }
-    put_signed(table, channel.min as i64)?;
+    put_number(table, channel.min as i64)?;
     put(table, " to ")?;
-    put_signed(table, channel.max as i64)?;
+    put_number(table, channel.max as i64)?;
     end_cell(table)?;
     put_decimal(table, channel.primary)?;
     put(table, ":")?;
@@ -84,7 +85,7 @@ fn put_extremes<A: Allocator>(
     };
     for peak in peaks {
         let value = value_of(scale_of(channel), peak.sample);
-        put_value(table, rounded(value))?;
+        put_exact(table, value.to_six_digits())?;
         end_cell(table)?;
         put_row_time(table, clock, peak.row)?;
         end_cell(table)?;

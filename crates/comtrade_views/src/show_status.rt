@@ -5,7 +5,7 @@ use crate::show::{Clock, put_row_time};
 use crate::show_analog::put_names;
 use crate::table::{end_row, put_cell, put_table, table_of};
 use comtrade_format::{File, Row};
-use comtrade_io::{put, put_count, put_with};
+use comtrade_values::{put, put_count, put_with};
 use dfr_channels::StatusChannel;
 use std::alloc::{AllocError, Allocator};
 

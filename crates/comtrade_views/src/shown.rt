@@ -4,7 +4,7 @@ use crate::cycles::Window;
 use crate::float::{Digits, put_float};
 use crate::show::Clock;
 use crate::table::{put_number_cell, put_safe_cell};
-use comtrade_io::put;
+use comtrade_values::put;
 use dfr_channels::AnalogChannel;
 use std::alloc::{AllocError, Allocator};
 use std::num::nearest_u64_to_f64;

@@ -2,12 +2,13 @@
 
 use crate::currents::{greatest_current, nominal_of};
 use crate::instant::{put_instant, put_millis};
-use crate::number::{put_decimal, put_value, rounded, scale_of, value_of};
+use crate::number::{put_decimal, scale_of, value_of};
 use crate::peaks::changes_of;
 use crate::table::{end_cell, end_row, put_number_cell, put_safe_cell, put_table, table_of};
 use crate::times::times_of;
 use comtrade_format::File;
-use comtrade_io::{ToolFault, put, put_count, put_number, put_safe, put_with};
+use comtrade_io::{ToolFault, put_safe};
+use comtrade_values::{put, put_count, put_exact, put_number, put_with};
 use std::alloc::{AllocError, Allocator, Global};
 
 /// The columns of the table.
@@ -58,7 +59,7 @@ fn put_current<A: Allocator + Copy>(
             put_safe(text, channel.id.items())?;
             put(text, " ")?;
             let value = value_of(scale_of(channel), current.sample);
-            put_value(text, rounded(value))?;
+            put_exact(text, value.to_six_digits())?;
             put(text, " A, of nominal ")?;
             put_decimal(text, nominal_of(channel))?;
         }

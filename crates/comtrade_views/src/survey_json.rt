@@ -4,7 +4,8 @@ use crate::event_table::event_table;
 use crate::events::Event;
 use crate::json::{put_rows_json, put_text};
 use crate::summary::{Summary, summary_table};
-use comtrade_io::{ToolFault, put};
+use comtrade_io::ToolFault;
+use comtrade_values::put;
 use std::alloc::{AllocError, Global};
 
 /// The members of an event of one record.

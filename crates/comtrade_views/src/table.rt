@@ -1,6 +1,7 @@
 //! Tables of text in columns.
 
-use comtrade_io::{put, put_number, put_safe};
+use comtrade_io::put_safe;
+use comtrade_values::{put, put_number};
 use std::alloc::{AllocError, Allocator};
 
 /// Ends a cell. Printable texts of a file contain no such byte.

@@ -7,8 +7,8 @@ use Rattle.std.proofs.lemmas.Int.{ints}
 use Rattle.std.proofs.lemmas.Bool.{and_parts, and_from}
 use Rattle.std.proofs.lemmas.Bool.Decides.{nat_tests}
 use Rattle.std.specs.List.{list_all}
-use Rattle.dfr_channels.specs.Spelling.{Number}
-use Rattle.dfr_channels.specs.Texts.{is_plain}
+use Rattle.comtrade_values.specs.Spelling.{Number}
+use Rattle.comtrade_values.specs.Texts.{is_plain}
 use Rattle.dfr_channels.specs.Parts.{AnalogParts, StatusParts, ScanParts, SetupParts}
 use Rattle.dfr_channels.specs.Setups.{has_span, has_analog_texts, has_status_texts, IsLawful}
 use Rattle.dfr_channels.specs.Scans.{micros, is_within, has_shape, lowest_out, scan_fault}

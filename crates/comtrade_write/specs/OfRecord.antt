@@ -1,6 +1,6 @@
 -- The File of a record.
 use Rattle.std.specs.Prelude.{◌≡◌, Result, Ok, Err, ℕ, ◌-◌, ℤ, pos, ◌+ℤ◌, Bool, true, false, Some, [], ◌∷◌, length}
-use Rattle.dfr_channels.specs.Spelling.{Number}
+use Rattle.comtrade_values.specs.Spelling.{Number}
 use Rattle.dfr_channels.specs.Parts.{ScanParts, SetupParts}
 use Rattle.dfr_channels.specs.Scans.{micros}
 use Rattle.dfr_recorder.specs.Parts.{RecordParts}

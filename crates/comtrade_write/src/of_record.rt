@@ -12,7 +12,8 @@ ghost use Rattle.comtrade_write.specs.OfRecord.{FileAnswers};
 ghost use Rattle.comtrade_format.specs.Data.{IsWritable};
 
 use comtrade_format::{File, Head, Kind, Rate, Row};
-use dfr_channels::{Decimal, Items, Layout, Memory, Scan, copies_of};
+use comtrade_values::{Decimal, Items, Memory, copies_of};
+use dfr_channels::{Layout, Scan};
 use dfr_recorder::Record;
 use std::alloc::Allocator;
 use thiserror::Error;

@@ -6,9 +6,9 @@ use Rattle.std.proofs.lemmas.List.{take_all}
 use Rattle.std.proofs.lemmas.Bool.{and_parts}
 use Rattle.std.proofs.lemmas.Bool.Decides.{nat_tests}
 use Rattle.std.proofs.lemmas.Int.{ints}
-use Rattle.dfr_channels.specs.Faults.{◌or◌, fault_unless}
+use Rattle.comtrade_values.specs.Faults.{◌or◌, fault_unless}
 use Rattle.dfr_channels.specs.Parts.{SetupParts}
-use Rattle.dfr_channels.specs.Texts.{is_name}
+use Rattle.comtrade_values.specs.Texts.{is_name}
 use Rattle.dfr_channels.specs.Setups.{has_analog_texts, has_status_texts, place_fault, has_span, setup_fault, IsLawful}
 
 -- neither of two faults is there

@@ -1,11 +1,4 @@
-pub mod Faults
-pub mod Spelling
-pub mod Written
-pub mod Lines
-pub mod PlainNumbers
-pub mod Fields
 pub mod LineFields
-pub mod Texts
 pub mod Parts
 pub mod Decimals
 pub mod Setups

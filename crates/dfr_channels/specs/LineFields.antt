@@ -1,9 +1,21 @@
 -- What the fields of a line say, read from the left, or the line's first fault, of a type F of faults.
-use Rattle.std.specs.Prelude.{ℕ, ◌+◌, ◌==◌, if◌then◌else◌, List, length, Option, Some, None, ℤ, Result, Ok, Err}
-use Rattle.dfr_channels.specs.Spelling.{decimal_number}
-use Rattle.dfr_channels.specs.Lines.{field}
-use Rattle.dfr_channels.specs.Fields.{free_scale, free_bit, side}
+use Rattle.std.specs.Prelude.{ℕ, ◌+◌, Bool, false, ◌||◌, ◌==◌, if◌then◌else◌, List, [], ◌∷◌, length, Option, Some, None, ℤ, Result, Ok, Err}
+use Rattle.comtrade_values.specs.Spelling.{decimal_number}
+use Rattle.comtrade_values.specs.Lines.{field}
+use Rattle.comtrade_values.specs.Fields.{free_scale, free_bit}
 use Rattle.dfr_channels.specs.Parts.{AnalogParts, StatusParts}
+use Rattle.dfr_channels.specs.declared.channel.Side.{Side}
+use Rattle.dfr_channels.specs.declared.channel.Side.TheVariants.{Primary, Secondary}
+
+-- this letter alone, in upper or lower case
+abbrev pub is_letter : ℕ → List ℕ → Bool
+is_letter letter [] = false
+is_letter letter (b ∷ []) = (b == letter) || (b == letter + 32)
+is_letter letter (b ∷ c ∷ bs) = false
+
+-- P or S: the side of the values
+unfoldable pub side : List ℕ → Option Side
+side f = if is_letter 80 f then Some Primary else if is_letter 83 f then Some Secondary else None
 
 -- fields that are so many
 abbrev pub many : {A F : Type 0} → ℕ → F → List (List ℕ) → Result A F → Result A F

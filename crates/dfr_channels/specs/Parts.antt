@@ -1,6 +1,6 @@
 -- What contracts see of channels, set-ups and scans, whatever their allocator is.
 use Rattle.std.specs.Prelude.{ℕ, ℤ, Bool, List}
-use Rattle.dfr_channels.specs.Spelling.{Number}
+use Rattle.comtrade_values.specs.Spelling.{Number}
 use Rattle.dfr_channels.specs.declared.channel.Side.{Side}
 use Rattle.dfr_channels.specs.declared.scan.Reading.{Reading}
 

@@ -1,6 +1,6 @@
 -- Which scans fit a layout, and when each was taken.
 use Rattle.std.specs.Prelude.{◌≡◌, ℕ, ℤ, pos, ◌+ℤ◌, ◌+◌, ◌*◌, ◌/◌, ◌==◌, Bool, true, ◌&&◌, int_le, if◌then◌else◌, Option, Some, None, List, [], ◌∷◌, length, option_map}
-use Rattle.dfr_channels.specs.Faults.{◌or◌, fault_unless}
+use Rattle.comtrade_values.specs.Faults.{◌or◌, fault_unless}
 use Rattle.dfr_channels.specs.Parts.{AnalogParts, SetupParts, ScanParts}
 use Rattle.dfr_channels.specs.Setups.{end_of_time}
 use Rattle.dfr_channels.specs.declared.scan.Reading.{Reading}

@@ -1,8 +1,8 @@
 -- Which set-ups are valid.
 use Rattle.std.specs.Prelude.{◌≡◌, ℕ, ◌≤◌, ◌+◌, ℤ, pos, neg_ℤ, ◌≤ℤ◌, int_le, Bool, true, ◌&&◌, not, nat_le, Option, length, take, position, option_map}
 use Rattle.std.specs.List.{list_all}
-use Rattle.dfr_channels.specs.Faults.{◌or◌, fault_unless}
-use Rattle.dfr_channels.specs.Texts.{is_name, is_phase, is_unit}
+use Rattle.comtrade_values.specs.Faults.{◌or◌, fault_unless}
+use Rattle.comtrade_values.specs.Texts.{is_name, is_phase, is_unit}
 use Rattle.dfr_channels.specs.Parts.{AnalogParts, StatusParts, SetupParts}
 use Rattle.dfr_channels.specs.declared.setup.Place.{Place}
 use Rattle.dfr_channels.specs.declared.setup.Place.TheVariants.{Station, Device, Analog, Status}

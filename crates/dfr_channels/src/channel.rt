@@ -1,9 +1,10 @@
 //! Analogue and status channels.
 
 ghost use Rattle.std.specs.Prelude.{◌≡◌, IfOk};
+ghost use Rattle.dfr_channels.specs.LineFields as line_fields;
 ghost use Rattle.dfr_channels.specs.Setups as spec;
 
-use crate::{Decimal, Items, Memory, TryClone, is_plain};
+use comtrade_values::{Decimal, Items, Memory, TryClone, is_plain};
 use std::alloc::{Allocator, Global};
 use std::marker::Model;
 
@@ -150,4 +151,16 @@ pub(crate) fn has_span<A: Allocator>(channel: &AnalogChannel<A>) -> bool
     ensures { result ≡ spec.has_span channel.now }
 {
     -32_767 <= channel.min && channel.min <= channel.max && channel.max <= 32_767
+}
+
+/// Reads a transformer side: P or S, in upper or lower case. None otherwise.
+#[tactic(auto, unfolding(crate::specs::LineFields::side))]
+pub fn side_of(text: &[u8]) -> Option<Side>
+    ensures { result ≡ line_fields.side text.now }
+{
+    match text {
+        [b'P' | b'p'] => Some(Side::Primary),
+        [b'S' | b's'] => Some(Side::Secondary),
+        _ => None,
+    }
 }

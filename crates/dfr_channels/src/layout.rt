@@ -7,7 +7,8 @@ ghost use Rattle.dfr_channels.specs.Scans as spec;
 
 use crate::channel::{AnalogChannel, StatusChannel};
 use crate::setup::{Setup, SetupFault, setup_fault};
-use crate::{Decimal, Memory, Reading, Scan};
+use crate::{Reading, Scan};
+use comtrade_values::{Decimal, Memory};
 use std::alloc::{Allocator, Global};
 use std::marker::Model;
 use thiserror::Error;

@@ -1,39 +1,24 @@
-//! What the recorder and file crates share: channels, scans, trigger rules, and how texts and
-//! numbers are spelled.
+//! What the recorder and the file crates share: channels, scans and trigger rules, and the basic
+//! values of `comtrade_values`.
 #![tactic(auto)]
 
 mod channel;
-mod decimal;
-mod fields;
-mod items;
 mod layout;
-mod lines;
-mod memory;
-mod number;
 mod numbers;
-mod plain;
-mod plain_numbers;
 mod rule;
 mod rules;
-mod sample_numbers;
 mod scan;
 mod setup;
-mod text;
 
-pub use channel::{AnalogChannel, Side, StatusChannel};
-pub use decimal::{Decimal, numeral_of};
-pub use fields::{bit_of, free_bit_of, free_scale_of, side_of};
-pub use items::{Items, TryClone, copies_of};
+pub use channel::{AnalogChannel, Side, StatusChannel, side_of};
+pub use comtrade_values::{
+    Decimal, Items, Lines, Memory, TryClone, bit_of, copies_of, decimal_is_number, fields_of,
+    free_bit_of, free_scale_of, integer_of, is_plain, lines_of, numeral_of, plain_number,
+    sample_number, trim, without_blank_end,
+};
 pub use layout::{Layout, ScanFault};
-pub use lines::{Lines, fields_of, lines_of, without_blank_end};
-pub use memory::Memory;
-pub use number::integer_of;
-pub use numbers::{channels_have_numbers, decimal_is_number, layout_has_numbers};
-pub use plain::is_plain;
-pub use plain_numbers::plain_number;
+pub use numbers::{channels_have_numbers, layout_has_numbers};
 pub use rule::Rule;
 pub use rules::{RuleFault, Rules};
-pub use sample_numbers::sample_number;
 pub use scan::{Reading, Scan};
 pub use setup::{Place, Setup, SetupFault};
-pub use text::trim;

@@ -1,21 +1,14 @@
-//! Bounds on the numbers in decimals, channels and layouts. These functions compute nothing: their
+//! Bounds on the numbers in channels and layouts. These functions compute nothing: their
 //! contracts state the bounds.
 
 ghost use Rattle.std.specs.List.{All};
-ghost use Rattle.dfr_channels.specs.Spelling.{IsNumber};
+ghost use Rattle.comtrade_values.specs.Spelling.{IsNumber};
 ghost use Rattle.dfr_channels.specs.Decimals.{HasDecimals};
 
 use crate::channel::AnalogChannel;
-use crate::decimal::Decimal;
 use crate::layout::Layout;
+use comtrade_values::decimal_is_number;
 use std::alloc::Allocator;
-
-/// A decimal has units strictly between -10^36 and 10^36, and at most 80 places.
-pub fn decimal_is_number(decimal: Decimal)
-    ensures { IsNumber decimal }
-{
-    let _units = decimal.units();
-}
 
 fn channel_has_numbers<A: Allocator>(channel: &AnalogChannel<A>)
     ensures { HasDecimals channel.now }

@@ -3,7 +3,8 @@
 ghost use Rattle.std.specs.Prelude.{◌≡◌, ◌<◌, length, position, not, option_copied, IfSome};
 ghost use Rattle.dfr_channels.specs.Firing as spec;
 
-use crate::{Items, Layout, Memory, Rule, Scan};
+use crate::{Layout, Rule, Scan};
+use comtrade_values::{Items, Memory};
 use std::alloc::{Allocator, Global};
 use std::marker::Model;
 use thiserror::Error;

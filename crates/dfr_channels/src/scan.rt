@@ -2,7 +2,7 @@
 
 ghost use Rattle.std.specs.Prelude.{◌≡◌, IfOk};
 
-use crate::{Items, Memory};
+use comtrade_values::{Items, Memory};
 use std::alloc::{Allocator, Global};
 use std::marker::Model;
 
@@ -54,6 +54,16 @@ impl<A: Allocator> Scan<A> {
         ensures { result.now ≡ self.now.status }
     {
         self.status.items()
+    }
+}
+
+impl<A: Allocator> Scan<A> {
+    /// The readings and the bits. Their memory can serve another scan.
+    pub fn into_parts(self) -> (Vec<Reading, A>, Vec<bool, A>)
+        ensures readings { result.0.items ≡ self.analog }
+        ensures bits { result.1.items ≡ self.status }
+    {
+        (self.analog.into_vec(), self.status.into_vec())
     }
 }
 

@@ -4,7 +4,8 @@ ghost use Rattle.std.specs.Prelude.{◌≡◌, ◌≤◌, ◌<◌, ◌+◌, ◌&
 ghost use Rattle.dfr_channels.specs.Setups as spec;
 
 use crate::channel::{has_analog_texts, has_span, has_status_texts};
-use crate::{AnalogChannel, Decimal, Items, Memory, StatusChannel, copies_of, is_plain};
+use crate::{AnalogChannel, StatusChannel};
+use comtrade_values::{Decimal, Items, Memory, copies_of, is_plain};
 use std::alloc::{Allocator, Global};
 use std::fmt::{self, Display, Formatter, Write};
 use std::marker::Model;

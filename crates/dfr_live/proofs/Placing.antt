@@ -3,7 +3,7 @@ use Rattle.std.proofs.Common.{◌≡◌, ◌⊎◌, inl, inr, ℕ, ◌≤◌, tr
 use Rattle.std.specs.Prelude.{min, max, All, IfOk, IfErr, IfSome, IsErrAnd}
 use Rattle.std.proofs.lemmas.List.{map-append, append-nil}
 use Rattle.std.proofs.lemmas.List.Elements.{All-append, All-cons, All-nil}
-use Rattle.dfr_channels.specs.declared.memory.Memory.{Memory as Want}
+use Rattle.comtrade_values.specs.declared.memory.Memory.{Memory as Want}
 use Rattle.dfr_channels.specs.Parts.{SetupParts}
 use Rattle.dfr_recorder.specs.Parts.{RecordParts}
 use Rattle.dfr_recorder.specs.declared.record.Extent.{Extent}

@@ -28,7 +28,7 @@ use Rattle.dfr_live.specs.declared.station.Order.{Order}
 use Rattle.dfr_live.specs.declared.station.Order.TheVariants as order
 use Rattle.dfr_live.specs.declared.report.LiveFault.{LiveFault}
 use Rattle.dfr_live.specs.declared.report.LiveFault.TheVariants as fault
-use Rattle.dfr_channels.specs.declared.memory.Memory.{Memory as Want}
+use Rattle.comtrade_values.specs.declared.memory.Memory.{Memory as Want}
 use Rattle.dfr_live.specs.declared.export.Taken.{Taken}
 use Rattle.dfr_live.specs.declared.export.Taken.TheVariants as taken
 use Rattle.dfr_live.specs.declared.devices.Asked.{Asked}

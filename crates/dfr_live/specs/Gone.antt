@@ -1,6 +1,6 @@
 -- The records that are taken in a list of steps, and what is remembered of them.
 use Rattle.std.specs.Prelude.{◌≡◌, ℕ, ◌<◌, List, [], ◌∷◌, ◌++◌, Option, Some, None, Result, Ok, Err, IfSome, option_to_list}
-use Rattle.dfr_channels.specs.declared.memory.Memory.{Memory as Want}
+use Rattle.comtrade_values.specs.declared.memory.Memory.{Memory as Want}
 use Rattle.dfr_recorder.specs.Parts.{RecordParts}
 use Rattle.dfr_recorder.specs.Steps.{StepParts}
 use Rattle.dfr_recorder.specs.Answers.{AnswerParts}

@@ -6,7 +6,7 @@ use crate::gone::Outgoing;
 use crate::inner::Inner;
 use crate::session::Session;
 use crate::token::Token;
-use dfr_channels::Memory;
+use comtrade_values::Memory;
 use dfr_recorder::Record;
 use std::alloc::Allocator;
 

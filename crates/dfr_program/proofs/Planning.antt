@@ -2,7 +2,7 @@
 use Rattle.std.proofs.Common.{◌≡◌, refl, ℕ, suc, ◌+◌, List, [], ◌∷◌, ◌++◌, length, Option, Some, None, Result, Ok, Err, sym, ap, ◌∙◌, subst, append_assoc, arith}
 use Rattle.std.specs.Prelude.{option_map, MatchResult}
 use Rattle.std.proofs.lemmas.List.{append-nil}
-use Rattle.dfr_channels.specs.Faults.{◌or◌}
+use Rattle.comtrade_values.specs.Faults.{◌or◌}
 use Rattle.dfr_channels.specs.Parts.{SetupParts}
 use Rattle.dfr_recorder.specs.Steps.{StepParts}
 use Rattle.dfr_script.specs.Parts.{CommandParts}

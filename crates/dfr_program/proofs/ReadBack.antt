@@ -5,7 +5,7 @@ use Rattle.std.proofs.lemmas.Int.{ints}
 use Rattle.std.proofs.lemmas.List.Elements.{recursion_from_All}
 use Rattle.dfr_channels.specs.Parts.{SetupParts}
 use Rattle.dfr_channels.specs.Setups.{IsLawful}
-use Rattle.dfr_channels.specs.Spelling.{IsNumber}
+use Rattle.comtrade_values.specs.Spelling.{IsNumber}
 use Rattle.dfr_recorder.specs.Parts.{RecordParts}
 use Rattle.dfr_recorder.specs.Limits.{has_stamps}
 use Rattle.dfr_recorder.specs.History.{Opening}

@@ -1,7 +1,7 @@
 -- What is wrong with a script or with the set-up that it says.
 use Rattle.std.specs.Prelude.{◌≡◌, ℕ, List, Option, Some, option_map}
-use Rattle.dfr_channels.specs.Faults.{◌or◌}
-use Rattle.dfr_channels.specs.Lines.{lines}
+use Rattle.comtrade_values.specs.Faults.{◌or◌}
+use Rattle.comtrade_values.specs.Lines.{lines}
 use Rattle.dfr_recorder.specs.Kept.{Kept}
 use Rattle.dfr_script.specs.Parts.{ScriptParts, set_up_in}
 use Rattle.dfr_script.specs.Recorders as recorders

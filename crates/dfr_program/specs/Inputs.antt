@@ -1,6 +1,6 @@
 -- What a reading that stopped means for a run.
-use Rattle.dfr_program.specs.declared.fault.InputFault.{InputFault}
-use Rattle.dfr_program.specs.declared.fault.InputFault.TheVariants as input
+use Rattle.comtrade_values.specs.declared.input.InputFault.{InputFault}
+use Rattle.comtrade_values.specs.declared.input.InputFault.TheVariants as input
 use Rattle.dfr_program.specs.declared.fault.RunFault.{RunFault}
 use Rattle.dfr_program.specs.declared.fault.RunFault.TheVariants as run
 

@@ -4,7 +4,7 @@ ghost use Rattle.std.specs.Prelude.{◌≡◌, ◌≢◌, ◌++◌, OnOk, Err};
 ghost use Rattle.dfr_program.specs.FaultTexts as words;
 ghost use Rattle.dfr_program.specs.Texts as spec;
 
-use crate::text::{put, put_number, put_with};
+use comtrade_values::{put, put_number, put_with};
 use dfr_channels::RuleFault;
 use dfr_recorder::{Cause, Extent, Hit, LostRefusal, ScanRefusal, Scanned, TriggerFault};
 use std::alloc::{AllocError, Allocator};

@@ -13,7 +13,7 @@ use crate::answers::{put_lost, put_rules_refused, put_scan_refusal, put_scanned,
 use crate::fault::RunFault;
 use crate::output::flush_if_full;
 use crate::records::answer_take;
-use crate::text::put;
+use comtrade_values::put;
 use comtrade_write::Kind;
 use dfr_channels::{Rule, Rules, Scan};
 use dfr_recorder::Recorder;

@@ -2,10 +2,9 @@
 
 ghost use Rattle.std.specs.Prelude.{◌≡◌};
 ghost use Rattle.dfr_program.specs.Inputs.{run_fault};
-ghost use Rattle.dfr_program.specs.declared.fault.InputFault.TheVariants as input;
 ghost use Rattle.dfr_program.specs.declared.fault.RunFault.TheVariants.{Memory};
 
-use dfr_channels::Memory;
+use comtrade_values::{InputFault, Memory};
 use std::alloc::AllocError;
 use thiserror::Error;
 
@@ -21,25 +20,6 @@ pub enum RunFault {
     /// An allocation failed.
     #[error("dfr: memory")]
     Memory,
-}
-
-/// Why input was not read in full.
-#[derive(Clone, Copy, Debug, PartialEq, Eq)]
-pub enum InputFault {
-    /// A read failed.
-    Failed,
-    /// The input has more bytes than the limit.
-    Long,
-    /// An allocation failed.
-    Memory,
-}
-
-impl From<AllocError> for InputFault {
-    ghost from_gives = { λ _ e. e ≡ input.Memory };
-
-    fn from(_error: AllocError) -> InputFault {
-        InputFault::Memory
-    }
 }
 
 impl From<InputFault> for RunFault {

@@ -5,7 +5,7 @@ ghost use Rattle.dfr_program.specs.FaultTexts as spec;
 
 use crate::answers::rule_word;
 use crate::prepared::Fault;
-use crate::text::{put, put_both, put_with};
+use comtrade_values::{put, put_both, put_with};
 use dfr_channels::SetupFault;
 use dfr_recorder::LimitFault;
 use dfr_script::{RecorderFault, Word};

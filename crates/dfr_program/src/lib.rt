@@ -18,10 +18,10 @@ mod reading;
 mod records;
 mod replay;
 mod report;
-mod text;
 
 pub use command::{Command, command_of};
-pub use fault::{InputFault, RunFault};
+pub use comtrade_values::InputFault;
+pub use fault::RunFault;
 pub use input::read_all;
 pub use law::as_one_thread;
 pub use live::live_of;

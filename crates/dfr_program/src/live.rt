@@ -3,7 +3,7 @@
 #![tactic(auto, using(crate::proofs::Growing::growing))]
 
 ghost use Rattle.std.specs.Prelude.{List, map, ◌≡◌, ◌≢◌, false, is_some, true, Err, IfOk, IfErr};
-ghost use Rattle.dfr_channels.specs.Lines.{lines};
+ghost use Rattle.comtrade_values.specs.Lines.{lines};
 ghost use Rattle.dfr_script.specs.Parts.{ScriptParts};
 ghost use Rattle.dfr_script.specs.Scripts.{script_value};
 ghost use Rattle.dfr_live.specs.Seen.{InnerParts, SourceParts, TokenParts, opening_of};

@@ -7,7 +7,7 @@ ghost use Rattle.std.specs.Io.KnownBytes.{Appends};
 ghost use Rattle.dfr_program.specs.Writing.{Cut, Grows, Printed};
 
 use crate::fault::RunFault;
-use comtrade_write::write_all_of;
+use comtrade_values::write_all_of;
 use std::alloc::Allocator;
 use std::io::Write;
 

@@ -17,8 +17,9 @@ ghost use Rattle.comtrade_read.specs.Reads.{Reads};
 ghost use Rattle.dfr_program.specs.ReadBack.{RecordsReadBack, file_taken};
 
 use comtrade_read::read_of_file;
+use comtrade_values::Memory;
 use comtrade_write::{File, FileFault, Kind, WriteFault, file_of};
-use dfr_channels::{Layout, Memory, layout_has_numbers};
+use dfr_channels::{Layout, layout_has_numbers};
 use dfr_recorder::{Answer, Ran, Record, Recorder, Step, run};
 use std::alloc::Allocator;
 use std::collections::VecDeque;

@@ -10,8 +10,8 @@ ghost use Rattle.dfr_program.specs.Writing.{Cut};
 
 use crate::fault::RunFault;
 use crate::output::write_out;
-use crate::text::{put, put_number, put_with};
 use comtrade_read::{Part, ReadFault, read};
+use comtrade_values::{put, put_number, put_with};
 use comtrade_write::{File, Head, Row};
 use std::alloc::{AllocError, Allocator};
 use std::io::Write;

@@ -9,7 +9,7 @@ ghost use Rattle.dfr_program.specs.Writing.{Printed};
 use crate::answers::{put_extent, put_length};
 use crate::fault::RunFault;
 use crate::output::{is_much, send, write_out};
-use crate::text::put;
+use comtrade_values::put;
 use comtrade_write::{Kind, Pair, pair_of};
 use dfr_recorder::{Extent, Recorder};
 use std::alloc::{AllocError, Allocator};

@@ -4,7 +4,7 @@
 
 ghost use Rattle.std.specs.Prelude.{◌≡◌, ◌≢◌, ◌<◌, ◌⊎◌, true, false, not, is_some, length, map, Err, Some, IfOk, IfErr, IfSome, OnOk};
 ghost use Rattle.std.specs.Io.KnownBytes.{Appends};
-ghost use Rattle.dfr_channels.specs.Lines.{lines};
+ghost use Rattle.comtrade_values.specs.Lines.{lines};
 ghost use Rattle.dfr_script.specs.Commands.{parts_of};
 ghost use Rattle.dfr_script.specs.Scripts.{script_value};
 ghost use Rattle.dfr_program.specs.Faults.{script_fault};

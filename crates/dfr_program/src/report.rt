@@ -5,7 +5,7 @@ ghost use Rattle.std.specs.List.{flat_map};
 ghost use Rattle.dfr_program.specs.Reports as spec;
 
 use crate::answers::put_trigger;
-use crate::text::{put, put_number, put_with};
+use comtrade_values::{put, put_number, put_with};
 use dfr_live::{EndFault, Entry, Left, LiveFault, LiveReport, OpenFault, Reply};
 use std::alloc::{AllocError, Allocator};
 

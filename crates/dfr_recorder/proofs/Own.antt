@@ -7,7 +7,7 @@ use Rattle.std.proofs.lemmas.Bool.{leb-true, le-leb, eqb-true, eq-eqb, and_from,
 use Rattle.std.proofs.lemmas.List.{length-map, length-replicate}
 use Rattle.std.proofs.lemmas.Nat.{le-div}
 use Rattle.std.proofs.Math.Nat.{div-mul-le_self, div-zero}
-use Rattle.dfr_channels.specs.Faults.{◌or◌, fault_unless}
+use Rattle.comtrade_values.specs.Faults.{◌or◌, fault_unless}
 use Rattle.dfr_channels.specs.Parts.{AnalogParts, StatusParts, SetupParts, ScanParts}
 use Rattle.dfr_channels.specs.declared.scan.Reading.TheVariants as reading
 use Rattle.dfr_channels.specs.Scans.{scan_fault, has_shape, lowest_out, micros}

@@ -1,6 +1,6 @@
 -- Worked examples, computed by the definitions.
 use Rattle.std.proofs.Common.{ℕ, ◌≡◌, refl, Bool, true, false, List, [], ◌∷◌, ◌++◌, Some, None, Ok, Err, Option, ℤ, pos, negsuc, lit≤, map}
-use Rattle.dfr_channels.specs.Spelling.{Number}
+use Rattle.comtrade_values.specs.Spelling.{Number}
 use Rattle.dfr_channels.specs.Parts.{AnalogParts, StatusParts, SetupParts, ScanParts}
 use Rattle.dfr_channels.specs.Scans.{scan_fault}
 use Rattle.dfr_channels.specs.Firing.{holds, lowest_holding, names_channel, rules_fit}

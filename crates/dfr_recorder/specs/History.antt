@@ -1,6 +1,6 @@
 -- A history of steps, and what each step is answered after it. Every scan and every record stays here for ever.
 use Rattle.std.specs.Prelude.{ℕ, zero, suc, ◌+◌, ◌-◌, Bool, if◌then◌else◌, ◌==◌, nat_lt, nat_le, List, [], ◌∷◌, ◌++◌, length, map, replicate, slice_range, slice_get, Option, Some, None, is_some, option_map, option_to_list, Result, Ok, Err}
-use Rattle.dfr_channels.specs.Faults.{◌or◌, fault_unless}
+use Rattle.comtrade_values.specs.Faults.{◌or◌, fault_unless}
 use Rattle.dfr_channels.specs.Parts.{SetupParts, StatusParts, ScanParts}
 use Rattle.dfr_channels.specs.declared.scan.Reading.TheVariants as reading
 use Rattle.dfr_channels.specs.declared.layout.ScanFault.{ScanFault}

@@ -1,6 +1,6 @@
 -- Which limits are valid.
 use Rattle.std.specs.Prelude.{ℕ, ◌+◌, ◌-◌, Bool, ◌&&◌, nat_le, Option}
-use Rattle.dfr_channels.specs.Faults.{◌or◌, fault_unless}
+use Rattle.comtrade_values.specs.Faults.{◌or◌, fault_unless}
 use Rattle.dfr_channels.specs.Scans.{micros}
 use Rattle.dfr_recorder.specs.declared.limits.LimitFault.{LimitFault}
 use Rattle.dfr_recorder.specs.declared.limits.LimitFault.TheVariants.{Pre, Post, Longest, Shelf, Stamp}

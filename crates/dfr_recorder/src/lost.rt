@@ -8,7 +8,8 @@ ghost use Rattle.dfr_recorder.specs.History.{lost_refusal, bits_after, lost_scan
 
 use crate::LostRefusal;
 use circular_buffer::HeapCircularBuffer;
-use dfr_channels::{Layout, Memory, Reading, Scan, StatusChannel};
+use comtrade_values::Memory;
+use dfr_channels::{Layout, Reading, Scan, StatusChannel};
 use std::alloc::Allocator;
 
 /// Why a lost scan numbered `k` would be refused, apart from lack of memory.

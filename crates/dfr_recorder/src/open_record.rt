@@ -12,7 +12,8 @@ use crate::ring::copies;
 use crate::shelf::is_full;
 use crate::{Extent, Limits, Record};
 use circular_buffer::HeapCircularBuffer;
-use dfr_channels::{Memory, Scan};
+use comtrade_values::Memory;
+use dfr_channels::Scan;
 use std::alloc::Allocator;
 use std::collections::VecDeque;
 

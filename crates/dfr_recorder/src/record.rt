@@ -1,6 +1,7 @@
 //! Records: the scans around a trigger.
 
-use dfr_channels::{Items, Scan};
+use comtrade_values::Items;
+use dfr_channels::Scan;
 use std::alloc::{Allocator, Global};
 use std::marker::Model;
 

@@ -1,7 +1,8 @@
 //! The open record, whose last scan has yet to come.
 
 use crate::{Extent, Record};
-use dfr_channels::{Memory, Scan};
+use comtrade_values::Memory;
+use dfr_channels::Scan;
 use std::alloc::{Allocator, Global};
 use std::marker::Model;
 

@@ -5,7 +5,8 @@ ghost use Rattle.dfr_channels.specs.Firing.{lowest_holding};
 ghost use Rattle.dfr_recorder.specs.Kept.{latest, leaving_of};
 
 use circular_buffer::HeapCircularBuffer;
-use dfr_channels::{Memory, Rules, Scan};
+use comtrade_values::Memory;
+use dfr_channels::{Rules, Scan};
 use std::alloc::Allocator;
 
 /// The lowest rule that a scan fires, given the ring's newest scan as the one before it.

@@ -2,8 +2,8 @@
 use Rattle.std.proofs.Common.{◌≡◌, ℕ, ◌<◌, ◌≤◌, get_or, Bool, true, false, List, [], ◌∷◌, length, reverse, ne_eqb, refl, arith}
 use Rattle.std.proofs.lemmas.List.{length-reverse}
 use mathlib.Core.List.{reverse_aux}
-use Rattle.dfr_channels.specs.Spelling.{is_blank, trim_start}
-use Rattle.dfr_channels.specs.Lines.{is_blank_line}
+use Rattle.comtrade_values.specs.Spelling.{is_blank, trim_start}
+use Rattle.comtrade_values.specs.Lines.{is_blank_line}
 
 more : (t : Bool) (x : ℕ) (acc : List ℕ) → is_blank x ≡ t → 0 < length (trim_start acc) → 0 < length (trim_start (x ∷ acc))
 more true x acc e some = rw e some

@@ -7,9 +7,9 @@ use Rattle.std.proofs.lemmas.List.{get_or-map, take_more, length-map}
 use Rattle.std.proofs.lemmas.List.Folds.{list_all_at, list_all_more}
 use Rattle.std.proofs.lemmas.List.Elements.{filter_map-append}
 use Rattle.std.proofs.lemmas.List.Splits.{slice_split_first}
-use Rattle.dfr_channels.specs.Spelling.{trimmed}
-use Rattle.dfr_channels.specs.Lines.{texts}
-use Rattle.dfr_channels.proofs.Cuts.{before_some, after_some}
+use Rattle.comtrade_values.specs.Spelling.{trimmed}
+use Rattle.comtrade_values.specs.Lines.{texts}
+use Rattle.comtrade_values.proofs.Cuts.{before_some, after_some}
 use Rattle.dfr_script.specs.ScanLines.{is_comma, fields}
 
 -- without an element that passes there is one part

@@ -1,7 +1,7 @@
 -- The set-up of a draft to which each line came.
 use Rattle.std.proofs.Common.{◌≡◌, ℕ, List, [], Some, unwrap_or, refl}
 use Rattle.std.specs.Prelude.{ℤ, Ok}
-use Rattle.dfr_channels.specs.Spelling.{Number}
+use Rattle.comtrade_values.specs.Spelling.{Number}
 use Rattle.dfr_script.specs.declared.limit_line.LimitNumbers.{LimitNumbers}
 use Rattle.dfr_script.specs.Parts.{DraftParts}
 use Rattle.dfr_script.specs.Drafts.{whole}

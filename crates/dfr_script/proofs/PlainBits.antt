@@ -4,7 +4,7 @@ use Rattle.std.specs.Prelude.{◌==◌}
 use Rattle.std.specs.List.{filter_map}
 use Rattle.std.proofs.lemmas.Bool.{lt-ltb, ltb-true, ltb-false, eqb-true}
 use Rattle.std.proofs.lemmas.List.{drop_more, drop_all, append_assoc, take_more_set}
-use Rattle.dfr_channels.specs.Fields.{bit}
+use Rattle.comtrade_values.specs.Fields.{bit}
 use Rattle.dfr_script.specs.Fields.{reads_all}
 use Rattle.dfr_script.specs.ScanLines.{fields}
 use Rattle.dfr_script.specs.PlainBits.{AreBits}

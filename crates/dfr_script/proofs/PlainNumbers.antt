@@ -4,10 +4,10 @@ use Rattle.std.specs.Prelude.{◌&&◌, ℤ, pos, negsuc, ◌≤ℤ◌}
 use Rattle.std.specs.Str.Parse.{digits_value, signed_digits_value}
 use Rattle.std.proofs.lemmas.Bool.{eqb-true, le-leb}
 use Rattle.std.proofs.lemmas.Int.{ints}
-use Rattle.dfr_channels.specs.Spelling.{whole_number}
-use Rattle.dfr_channels.specs.PlainNumbers as numbers
+use Rattle.comtrade_values.specs.Spelling.{whole_number}
+use Rattle.comtrade_values.specs.PlainNumbers as numbers
 use Rattle.dfr_channels.specs.declared.scan.Reading.TheVariants.{Value}
-use Rattle.dfr_channels.specs.Fields.{within}
+use Rattle.comtrade_values.specs.Fields.{within}
 use Rattle.dfr_script.specs.Fields.{small}
 use Rattle.dfr_script.specs.ScanLines.{fields, fields_behind, reading}
 use Rattle.dfr_script.specs.Plain.{Begins}

@@ -1,6 +1,6 @@
 -- The channels that lines of a set-up say.
 use Rattle.std.specs.Prelude.{ℕ, List, Result}
-use Rattle.dfr_channels.specs.Lines.{fields}
+use Rattle.comtrade_values.specs.Lines.{fields}
 use Rattle.dfr_channels.specs.LineFields.{many, analog_from, status_from}
 use Rattle.dfr_channels.specs.Parts.{AnalogParts, StatusParts}
 use Rattle.dfr_script.specs.declared.fault.LineFault.{LineFault}

@@ -1,7 +1,7 @@
 -- What the lines of a set-up say, one after the other.
 use Rattle.std.specs.Prelude.{ℕ, ℤ, Bool, true, false, if◌then◌else◌, List, [], ◌∷◌, ◌++◌, Option, Some, None, is_some, unwrap_or, Result, Ok, Err}
 use Rattle.dfr_channels.specs.LineFields.{need}
-use Rattle.dfr_channels.specs.Spelling.{decimal_number}
+use Rattle.comtrade_values.specs.Spelling.{decimal_number}
 use Rattle.dfr_script.specs.declared.fault.LineFault.{LineFault}
 use Rattle.dfr_script.specs.declared.fault.LineFault.TheVariants as fault
 use Rattle.dfr_script.specs.declared.setting.Setting.{Setting}

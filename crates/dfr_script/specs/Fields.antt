@@ -2,8 +2,8 @@
 use Rattle.std.specs.Prelude.{ℕ, ◌==◌, Bool, if◌then◌else◌, List, Option, is_some, Result, Ok, Err, ℤ, pos, negsuc}
 use Rattle.std.specs.List.{list_all, list_any, filter_map}
 use Rattle.dfr_channels.specs.LineFields.{need}
-use Rattle.dfr_channels.specs.Spelling.{whole_number}
-use Rattle.dfr_channels.specs.Fields.{up_to, within}
+use Rattle.comtrade_values.specs.Spelling.{whole_number}
+use Rattle.comtrade_values.specs.Fields.{up_to, within}
 use Rattle.dfr_script.specs.declared.fault.LineFault.{LineFault}
 use Rattle.dfr_script.specs.declared.fault.LineFault.TheVariants as fault
 

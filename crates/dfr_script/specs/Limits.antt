@@ -1,7 +1,7 @@
 -- The numbers of a line of limits, and its choice.
 use Rattle.std.specs.Prelude.{ℕ, Bool, true, false, ◌==◌, if◌then◌else◌, codes, List, length, Result, Ok, Err}
 use Rattle.std.specs.Str.{bytes_eq}
-use Rattle.dfr_channels.specs.Lines.{field, fields}
+use Rattle.comtrade_values.specs.Lines.{field, fields}
 use Rattle.dfr_channels.specs.LineFields.{many, need}
 use Rattle.dfr_script.specs.declared.fault.LineFault.{LineFault}
 use Rattle.dfr_script.specs.declared.fault.LineFault.TheVariants as fault

@@ -1,6 +1,6 @@
 -- What contracts see of a script, whatever its allocator is.
 use Rattle.std.specs.Prelude.{ℕ, ℤ, Bool, List, Option}
-use Rattle.dfr_channels.specs.Spelling.{Number}
+use Rattle.comtrade_values.specs.Spelling.{Number}
 use Rattle.dfr_channels.specs.Parts.{AnalogParts, StatusParts, SetupParts, ScanParts}
 use Rattle.dfr_channels.specs.declared.rule.Rule.{Rule}
 use Rattle.dfr_script.specs.declared.limit_line.LimitNumbers.{LimitNumbers}

@@ -1,7 +1,7 @@
 -- Bits in their plain spelling.
 use Rattle.std.specs.Prelude.{◌≡◌, ℕ, ◌+◌, ◌*◌, ◌<◌, ◌⊎◌, Bool, true, List, slice_index}
 use Rattle.std.specs.List.{filter_map}
-use Rattle.dfr_channels.specs.Fields.{bit}
+use Rattle.comtrade_values.specs.Fields.{bit}
 use Rattle.dfr_script.specs.Fields.{reads_all}
 use Rattle.dfr_script.specs.ScanLines.{fields}
 

@@ -1,6 +1,6 @@
 -- The recorder that a set-up says, or what is wrong with the set-up.
 use Rattle.std.specs.Prelude.{◌≡◌, ℕ, List, [], Option, Some, option_map}
-use Rattle.dfr_channels.specs.Faults.{◌or◌}
+use Rattle.comtrade_values.specs.Faults.{◌or◌}
 use Rattle.dfr_channels.specs.Firing.{rules_fault}
 use Rattle.dfr_channels.specs.Parts.{SetupParts}
 use Rattle.dfr_channels.specs.Setups.{setup_fault}

@@ -2,7 +2,7 @@
 use Rattle.std.specs.Prelude.{ℕ, ◌==◌, Bool, true, false, ◌&&◌, not, if◌then◌else◌, List, [], length, filter, Option, Some, None, Result, Ok, Err, ℤ, codes}
 use Rattle.std.specs.List.{slice_split, list_all}
 use Rattle.std.specs.Str.{bytes_eq}
-use Rattle.dfr_channels.specs.Lines.{field}
+use Rattle.comtrade_values.specs.Lines.{field}
 use Rattle.dfr_channels.specs.declared.rule.Rule.{Rule}
 use Rattle.dfr_channels.specs.declared.rule.Rule.TheVariants.{Level, Edge}
 use Rattle.dfr_script.specs.declared.fault.LineFault.{LineFault}

@@ -2,14 +2,14 @@
 use Rattle.std.specs.Prelude.{ℕ, ◌==◌, Bool, ◌&&◌, not, if◌then◌else◌, List, [], length, Option, Some, None, is_some, Result, Ok, Err, position, codes, option_map}
 use Rattle.std.specs.List.{before_first, after_first}
 use Rattle.std.specs.Str.{bytes_eq}
-use Rattle.dfr_channels.specs.Spelling.{trimmed}
-use Rattle.dfr_channels.specs.Lines as lines
+use Rattle.comtrade_values.specs.Spelling.{trimmed}
+use Rattle.comtrade_values.specs.Lines as lines
 use Rattle.dfr_channels.specs.Parts.{ScanParts}
 use Rattle.dfr_channels.specs.declared.scan.Reading.{Reading}
 use Rattle.dfr_channels.specs.declared.scan.Reading.TheVariants.{Value, Missing}
 use Rattle.dfr_script.specs.declared.fault.LineFault.{LineFault}
 use Rattle.dfr_script.specs.declared.fault.LineFault.TheVariants as fault
-use Rattle.dfr_channels.specs.Fields.{bit}
+use Rattle.comtrade_values.specs.Fields.{bit}
 use Rattle.dfr_script.specs.Faults.{and_then}
 use Rattle.dfr_script.specs.Fields.{small, all_said}
 

@@ -3,7 +3,7 @@ use Rattle.std.specs.Prelude.{◌≡◌, ℕ, ℤ, zero, suc, ◌+◌, ◌==◌,
 use Rattle.std.specs.List.{position_or_len}
 use Rattle.std.specs.Result.{result_err, result_unwrap_or}
 use Rattle.std.specs.Str.{bytes_eq}
-use Rattle.dfr_channels.specs.Fields.{zero_number}
+use Rattle.comtrade_values.specs.Fields.{zero_number}
 use Rattle.dfr_script.specs.declared.fault.Word.{Word}
 use Rattle.dfr_script.specs.declared.fault.Word.TheVariants as word
 use Rattle.dfr_script.specs.declared.fault.LineFault.{LineFault}

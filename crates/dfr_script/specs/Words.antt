@@ -1,8 +1,8 @@
 -- A line of a script: its word, and what stands after it.
 use Rattle.std.specs.Prelude.{ℕ, ◌==◌, Bool, false, ◌||◌, List, [], ◌∷◌}
 use Rattle.std.specs.List.{before_first, after_first}
-use Rattle.dfr_channels.specs.Spelling as spelling
-use Rattle.dfr_channels.specs.Lines.{is_blank_line}
+use Rattle.comtrade_values.specs.Spelling as spelling
+use Rattle.comtrade_values.specs.Lines.{is_blank_line}
 
 -- a space or a tab
 abbrev pub is_blank : ℕ → Bool

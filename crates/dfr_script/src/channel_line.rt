@@ -3,11 +3,12 @@
 ghost use Rattle.std.specs.Prelude.{◌≡◌, length, IfOk};
 ghost use Rattle.dfr_script.specs.Faults.{Is};
 ghost use Rattle.dfr_script.specs.Channels as spec;
-ghost use Rattle.dfr_channels.specs.Lines.{texts, field};
+ghost use Rattle.comtrade_values.specs.Lines.{texts, field};
 
 use crate::fault::{LineFault, LineRefusal};
 use crate::fields::{free_bit_at, free_scale_at, scale_at, side_at, small_at, text_at};
-use dfr_channels::{AnalogChannel, Decimal, Side, StatusChannel, fields_of};
+use comtrade_values::{Decimal, fields_of};
+use dfr_channels::{AnalogChannel, Side, StatusChannel};
 use std::alloc::Allocator;
 
 /// The numbers of an analogue channel's line, and its side.

@@ -11,7 +11,8 @@ use crate::limit_line::{LimitNumbers, limits_of};
 use crate::rule_line::rules_of;
 use crate::set_up::RecorderSetup;
 use crate::setting::Setting;
-use dfr_channels::{AnalogChannel, Decimal, Items, Rule, Setup, StatusChannel};
+use comtrade_values::{Decimal, Items};
+use dfr_channels::{AnalogChannel, Rule, Setup, StatusChannel};
 use std::alloc::{Allocator, Global};
 use std::marker::Model;
 

@@ -1,14 +1,15 @@
 //! Reads the fields of a line, one by one. A field that can't be read has the fault `Number`.
 
 ghost use Rattle.std.specs.Prelude.{◌≡◌, IfOk, IfErr, length, ◌<◌};
-ghost use Rattle.dfr_channels.specs.Lines.{texts, field};
-ghost use Rattle.dfr_channels.specs.Spelling.{decimal_number};
-ghost use Rattle.dfr_channels.specs.Fields as shared;
+ghost use Rattle.comtrade_values.specs.Lines.{texts, field};
+ghost use Rattle.comtrade_values.specs.Spelling.{decimal_number};
+ghost use Rattle.comtrade_values.specs.Fields as shared;
 ghost use Rattle.dfr_script.specs.Fields as spec;
 ghost use Rattle.dfr_script.specs.Faults.{Field, OnlyMemory};
 
 use crate::fault::{LineFault, LineRefusal};
-use dfr_channels::{Decimal, Items, Side, free_bit_of, free_scale_of, integer_of, side_of};
+use comtrade_values::{Decimal, Items, free_bit_of, free_scale_of, integer_of};
+use dfr_channels::{Side, side_of};
 use std::alloc::Allocator;
 
 /// The value that was read, or the fault `Number` if there is none.

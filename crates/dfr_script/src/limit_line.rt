@@ -4,12 +4,12 @@ ghost use Rattle.std.specs.Prelude.{◌≡◌, if◌then◌else◌, length, Ok, 
 ghost use Rattle.dfr_script.specs.declared.fault.LineFault.TheVariants as line_fault;
 ghost use Rattle.dfr_script.specs.Faults.{Is};
 ghost use Rattle.dfr_script.specs.Limits as spec;
-ghost use Rattle.dfr_channels.specs.Lines.{texts};
+ghost use Rattle.comtrade_values.specs.Lines.{texts};
 
 use crate::fault::{LineFault, LineRefusal};
 use crate::fields::natural_at;
 use crate::line::is_word;
-use dfr_channels::fields_of;
+use comtrade_values::fields_of;
 use std::alloc::Allocator;
 
 /// The numbers of a `limits` line. They are not checked here: `Limits::new` of `dfr_recorder` does

@@ -2,10 +2,10 @@
 
 ghost use Rattle.std.specs.Prelude.{◌≡◌, position};
 ghost use Rattle.std.specs.Str.{bytes_eq};
-ghost use Rattle.dfr_channels.specs.Lines.{is_blank_line};
+ghost use Rattle.comtrade_values.specs.Lines.{is_blank_line};
 ghost use Rattle.dfr_script.specs.Words as spec;
 
-use dfr_channels::trim;
+use comtrade_values::trim;
 
 /// Whether the byte is a space or a tab.
 pub(crate) fn is_blank(b: u8) -> bool
@@ -42,7 +42,7 @@ pub(crate) fn cut(line: &[u8]) -> (&[u8], &[u8])
 }
 
 /// The same, for a line that begins with any word.
-#[tactic(auto, using(dfr_channels::proofs::Cuts::cuts), unfolding(crate::specs::Words::word, crate::specs::Words::rest))]
+#[tactic(auto, using(comtrade_values::proofs::Cuts::cuts), unfolding(crate::specs::Words::word, crate::specs::Words::rest))]
 fn cut_at_blank(line: &[u8]) -> (&[u8], &[u8])
     ensures word { result.0.now ≡ spec.word line.now }
     ensures rest { result.1.now ≡ spec.rest line.now }

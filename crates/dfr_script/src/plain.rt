@@ -3,7 +3,7 @@
 ghost use Rattle.std.specs.Prelude.{◌≡◌, ◌<◌, IfSome, option_copied, length};
 ghost use Rattle.dfr_script.specs.Plain.{Begins};
 
-use dfr_channels::{plain_number, sample_number};
+use comtrade_values::{plain_number, sample_number};
 
 /// The reading in the first field of a text, and the text after that field's comma, if it has one.
 /// The field is one to ten digits, with or without a minus sign. None means no more than that the

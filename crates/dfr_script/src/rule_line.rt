@@ -4,7 +4,7 @@ ghost use Rattle.std.specs.Prelude.{◌≡◌, if◌then◌else◌, IfOk, length
 ghost use Rattle.dfr_script.specs.declared.fault.LineFault.TheVariants as line_fault;
 ghost use Rattle.dfr_script.specs.Faults.{Is};
 ghost use Rattle.dfr_script.specs.RuleLines as spec;
-ghost use Rattle.dfr_channels.specs.Lines.{texts};
+ghost use Rattle.comtrade_values.specs.Lines.{texts};
 
 use crate::fault::{LineFault, LineRefusal};
 use crate::fields::{natural_of, needed, small_of};

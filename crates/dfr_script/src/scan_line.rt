@@ -2,7 +2,7 @@
 
 ghost use Rattle.std.specs.Prelude.{◌≡◌, ◌<◌, ◌∷◌, ◌++◌, ◌&&◌, IfSome, None, is_some, length, position, option_copied, option_to_list};
 ghost use Rattle.std.specs.List.{filter_map};
-ghost use Rattle.dfr_channels.specs.Fields.{bit};
+ghost use Rattle.comtrade_values.specs.Fields.{bit};
 ghost use Rattle.dfr_script.specs.Faults.{Is};
 ghost use Rattle.dfr_script.specs.Fields.{reads_all};
 ghost use Rattle.dfr_script.specs.PlainBits.{ReadsBits};
@@ -13,7 +13,8 @@ use crate::fields::{needed, small_of};
 use crate::line::{is_bare, is_word};
 use crate::plain::plain_field;
 use crate::plain_bits::plain_bits;
-use dfr_channels::{Reading, Scan, bit_of, trim};
+use comtrade_values::{bit_of, trim};
+use dfr_channels::{Reading, Scan};
 use memchr::memchr;
 use std::alloc::Allocator;
 

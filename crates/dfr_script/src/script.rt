@@ -1,7 +1,7 @@
 //! Reads a whole script.
 
 ghost use Rattle.std.specs.Prelude.{◌≡◌, ◌+◌, ◌<◌, ◌^◌, MatchResult, None, length, map};
-ghost use Rattle.dfr_channels.specs.Lines.{lines};
+ghost use Rattle.comtrade_values.specs.Lines.{lines};
 ghost use Rattle.dfr_script.specs.Faults as of_line;
 ghost use Rattle.dfr_script.specs.Commands.{parts_of, with_command};
 ghost use Rattle.dfr_script.specs.Scripts as spec;
@@ -12,7 +12,8 @@ use crate::fault::{LineRefusal, ScriptRefusal, Word, fault_at, refused_at};
 use crate::limit_line::LimitNumbers;
 use crate::scan_line::ScanSize;
 use crate::set_up::{Opening, RecorderSetup, opening_of, set_up_at_go};
-use dfr_channels::{Lines, Rule, Setup};
+use comtrade_values::Lines;
+use dfr_channels::{Rule, Setup};
 use std::alloc::{Allocator, Global};
 use std::marker::Model;
 

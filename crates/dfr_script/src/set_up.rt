@@ -2,7 +2,7 @@
 
 ghost use Rattle.std.specs.Prelude.{◌≡◌, ◌+◌, ◌<◌, ◌^◌, [], ◌∷◌, MatchOption, IfOk, IfErr, length, drop};
 ghost use Rattle.std.specs.List.{position_or_len};
-ghost use Rattle.dfr_channels.specs.Lines.{lines};
+ghost use Rattle.comtrade_values.specs.Lines.{lines};
 ghost use Rattle.dfr_script.specs.Faults as of_line;
 ghost use Rattle.dfr_script.specs.Drafts.{with_line, whole};
 ghost use Rattle.dfr_script.specs.Scripts as spec;
@@ -12,7 +12,8 @@ use crate::fault::{LineFault, LineRefusal, ScriptRefusal, Word, fault_at, refuse
 use crate::limit_line::LimitNumbers;
 use crate::line::{cut, is_silent, is_word};
 use crate::setting::setting_of;
-use dfr_channels::{Lines, Rule, Setup};
+use comtrade_values::Lines;
+use dfr_channels::{Rule, Setup};
 use std::alloc::{Allocator, Global};
 use std::marker::Model;
 

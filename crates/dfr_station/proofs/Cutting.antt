@@ -3,7 +3,7 @@ use Rattle.std.proofs.Common.{◌≡◌, ℕ, ◌+◌, ◌<◌, true, false, Lis
 use Rattle.std.proofs.lemmas.Bool.{cases_Bool, eqb-true}
 use Rattle.std.proofs.lemmas.List.{take-append-drop, drop_more, get_or_default, get_or-take, length-take-le}
 use Rattle.memchr.specs.Find.{IsFirstByte, is_byte}
-use Rattle.dfr_channels.specs.Lines.{without_cr}
+use Rattle.comtrade_values.specs.Lines.{without_cr}
 use Rattle.dfr_station.specs.Lines.{is_feed, HasNoFeed, IsFirstLine}
 
 fails_at : (bytes : List ℕ) (k d : ℕ) → k < length bytes → ¬ (is_byte 10 (slice_index bytes k) ≡ true) → is_feed (slice_index_or bytes k d) ≡ false

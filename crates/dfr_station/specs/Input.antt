@@ -2,7 +2,7 @@
 use Rattle.std.specs.Prelude.{◌≡◌, ◌⊎◌, ℕ, ◌+◌, ◌-◌, ◌^◌, ◌≤◌, ◌<◌, min, Bool, true, false, List, [], ◌∷◌, ◌++◌, length, take, drop, Option, Some, None}
 use Rattle.std.specs.List.{slice_split}
 use Rattle.std.specs.Io.KnownBytes.{Keeps, Consumes, IsAtEnd}
-use Rattle.dfr_channels.specs.Lines.{without_cr}
+use Rattle.comtrade_values.specs.Lines.{without_cr}
 use Rattle.dfr_channels.specs.Parts.{SetupParts}
 use Rattle.dfr_station.specs.Frames.{frame_len}
 use Rattle.dfr_station.specs.Lines.{ArrivalParts, Scan, Lost, Order, Skips, parts_of, FrameMeans, LineMeans, refused, is_feed}

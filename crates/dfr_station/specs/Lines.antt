@@ -2,7 +2,7 @@
 use Rattle.std.specs.Prelude.{◌≡◌, ◌⊎◌, ℕ, ◌+◌, ◌==◌, Bool, false, not, ◌&&◌, ◌||◌, nat_lt, if◌then◌else◌, List, [], ◌∷◌, ◌++◌, length, All, Option, Some, None, Result, Ok, Err, codes}
 use Rattle.std.specs.List.{before_first, list_all, list_any}
 use Rattle.std.specs.Str.{bytes_eq}
-use Rattle.dfr_channels.specs.Lines.{without_cr}
+use Rattle.comtrade_values.specs.Lines.{without_cr}
 use Rattle.dfr_channels.specs.Parts.{ScanParts, SetupParts}
 use Rattle.dfr_channels.specs.Scans.{scan_fault}
 use Rattle.dfr_channels.specs.Firing.{rules_fault}

@@ -11,7 +11,7 @@ use crate::reading::Given;
 use crate::station::{Input, Printer};
 use crate::telling::now;
 use crate::watch::{Watch, millis};
-use dfr_channels::Lines;
+use comtrade_values::Lines;
 use std::alloc::{AllocError, Allocator, Global};
 use std::io::Read;
 use std::sync::atomic::{AtomicBool, Ordering};

@@ -2,7 +2,7 @@
 
 ghost use Rattle.std.specs.Prelude.{◌≡◌};
 
-use itoa::Buffer;
+use comtrade_values::put_padded;
 use jiff_core::civil::DateTime;
 use std::alloc::{AllocError, Allocator};
 
@@ -55,20 +55,6 @@ pub fn key_at(instant: i64, number: u64) -> Key
             copy: 1,
         },
     }
-}
-
-/// Appends a number with leading zeros, with at least `width` digits.
-pub(crate) fn put_padded<A: Allocator>(
-    out: &mut Vec<u8, A>,
-    n: u64,
-    width: usize,
-) -> Result<(), AllocError> {
-    let mut buffer = Buffer::new();
-    let digits = buffer.format(n).as_bytes();
-    for _ in digits.len()..width {
-        out.extend_from_slice(b"0")?;
-    }
-    out.extend_from_slice(digits)
 }
 
 /// Appends a name as text.

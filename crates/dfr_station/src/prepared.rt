@@ -1,7 +1,7 @@
 //! Makes a recorder from a set-up file.
 
 ghost use Rattle.std.specs.Prelude.{◌≡◌, MatchResult, None};
-ghost use Rattle.dfr_channels.specs.Lines.{lines};
+ghost use Rattle.comtrade_values.specs.Lines.{lines};
 ghost use Rattle.dfr_script.specs.Recorders.{IsMadeOf};
 ghost use Rattle.dfr_script.specs.Scripts.{set_up};
 ghost use Rattle.dfr_station.specs.SetupFiles as spec;

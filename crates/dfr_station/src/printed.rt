@@ -4,43 +4,19 @@ ghost use Rattle.std.specs.Prelude.{◌≡◌, ◌+◌, ◌/◌, unsigned_abs};
 
 use crate::event::{Asked, Event, Replied, Skipped, Trouble};
 use crate::intake::Why;
-use crate::key::{put_key, put_padded};
+use crate::key::put_key;
+use comtrade_values::{has_date, put, put_civil, put_padded, put_with};
 use dfr_recorder::{Cause, Extent, Hit, TriggerFault};
-use itoa::Buffer;
-use jiff_core::civil::DateTime;
 use std::alloc::{AllocError, Allocator};
-
-/// Appends a text.
-fn put<A: Allocator>(out: &mut Vec<u8, A>, text: &str) -> Result<(), AllocError> {
-    out.extend_from_slice(text.as_bytes())
-}
-
-/// Appends a text and a number.
-fn put_with<A: Allocator>(out: &mut Vec<u8, A>, text: &str, n: u64) -> Result<(), AllocError> {
-    put(out, text)?;
-    put(out, Buffer::new().format(n))
-}
-
-/// Appends a separator and a number with two digits.
-fn put_two<A: Allocator>(out: &mut Vec<u8, A>, before: &str, n: u8) -> Result<(), AllocError> {
-    put(out, before)?;
-    put_padded(out, n as u64, 2)
-}
 
 /// Appends an instant, in microseconds since 1970-01-01 00:00:00 UTC,
 /// as `yyyy-mm-ddThh:mm:ss.ffffff`.
 fn put_instant<A: Allocator>(out: &mut Vec<u8, A>, instant: i64) -> Result<(), AllocError> {
-    let Ok(civil) = DateTime::from_nanosecond(instant as i128 * 1000) else {
-        return put(out, "?");
-    };
-    put_padded(out, civil.date.year.unsigned_abs() as u64, 4)?;
-    put_two(out, "-", civil.date.month)?;
-    put_two(out, "-", civil.date.day)?;
-    put_two(out, "T", civil.time.hour)?;
-    put_two(out, ":", civil.time.minute)?;
-    put_two(out, ":", civil.time.second)?;
-    put(out, ".")?;
-    put_padded(out, (civil.time.subsec_nanosecond / 1000) as u64, 6)
+    if has_date(instant) {
+        put_civil(out, instant, b'T')
+    } else {
+        put(out, "?")
+    }
 }
 
 /// The size of a number of microseconds in milliseconds, to the nearest.

@@ -23,6 +23,9 @@ use std::time::Clock;
 /// The most scans that may wait for the trigger thread.
 const LANE: usize = 65_536;
 
+/// The most scans that may wait for the acquisition to use their memory again.
+const RETURNING: usize = 32_768;
+
 /// Records while another thread prints the events. If a thread can't be started, nothing is recorded.
 pub(crate) fn record_printing<
     A: Allocator + Copy + Send + Sync,
@@ -112,6 +115,7 @@ fn record_beside<
         alloc,
         recorder,
         LANE,
+        RETURNING,
         kind,
         &pace,
         &mut *intake,

@@ -2,13 +2,12 @@
 
 ghost use Rattle.std.specs.Prelude.{◌≡◌, ◌+◌, ◌*◌, ◌/◌, ◌%◌, ◌^◌, ◌<◌, ◌≤◌, ◌++◌, ◌+ℤ◌, ◌*ℤ◌, FitsSigned, IfNone, IfSome, length, take};
 ghost use Rattle.std.specs.Int.{w64};
-ghost use Rattle.dfr_channels.specs.Written.{minus};
-ghost use Rattle.comtrade_format.specs.Values.{number_of};
+ghost use Rattle.comtrade_values.specs.Written.{minus};
+ghost use Rattle.comtrade_values.specs.Arithmetic.{number_of, with_places as longer};
 ghost use Rattle.comtrade_format.specs.Values as Values;
 
-use crate::values::exact::with_places;
 use crate::values::places::{write_front, write_places};
-use dfr_channels::Decimal;
+use comtrade_values::{Decimal, with_places};
 
 /// A channel's factors a and b (C37.111-1999, 5.3.3) with the same number of decimal places. Each
 /// is an integer over 10^`places`.
@@ -36,9 +35,9 @@ fn units_of(number: Decimal, places: u8) -> Option<i64>
     requires more { number.places ≤ places }
     requires few { places ≤ 16 }
     ensures value { IfSome result (λ units. number_of units places
-        ≡ Values.with_places places number) }
+        ≡ longer places number) }
     ensures none { IfNone result
-        (FitsSigned w64 (Values.with_places places number).units → ⊥) }
+        (FitsSigned w64 (longer places number).units → ⊥) }
 {
     let longer = with_places(number, places)?;
     i64::try_from(longer.units()).ok()

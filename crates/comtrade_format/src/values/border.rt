@@ -9,7 +9,7 @@ ghost use Rattle.comtrade_format.specs.Times as Times;
 use crate::file::{File, Head, Rate};
 use crate::parts::{head_of, rows_of};
 use crate::values::clock::{are_rates, nanos_of_stamp, span_of};
-use dfr_channels::Decimal;
+use comtrade_values::Decimal;
 use std::alloc::Allocator;
 
 /// Which rate gives the interval between the last row of one rate and the first row of the next.

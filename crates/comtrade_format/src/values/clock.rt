@@ -7,7 +7,7 @@ ghost use Rattle.comtrade_format.specs.Times as Times;
 use crate::file::{File, Head, Rate};
 use crate::parts::head_of;
 use crate::values::border::{Border, border_of};
-use dfr_channels::Decimal;
+use comtrade_values::Decimal;
 use std::alloc::Allocator;
 
 /// 10^zeros. Rates have few places, and computing a power for each row would cost much.

@@ -4,7 +4,7 @@ ghost use Rattle.std.specs.Prelude.{◌≡◌, ◌+◌, ◌-◌, ◌*◌, ◌/�
 ghost use Rattle.std.specs.Int.{IsGcd};
 ghost use Rattle.comtrade_format.specs.Cycles.{Lasts};
 
-use dfr_channels::Decimal;
+use comtrade_values::Decimal;
 use std::num::nearest_u64_to_f64;
 
 /// Why `cycle_of` has no result.

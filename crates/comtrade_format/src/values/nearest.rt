@@ -3,7 +3,7 @@
 ghost use Rattle.std.specs.Prelude.{◌≡◌, IfOk};
 ghost use Rattle.comtrade_format.specs.Floats.{IsNearest, spelled};
 
-use dfr_channels::{Decimal, Memory};
+use comtrade_values::{Decimal, Memory};
 use itoa::Buffer;
 use std::alloc::Allocator;
 

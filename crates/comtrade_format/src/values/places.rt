@@ -2,7 +2,7 @@
 
 ghost use Rattle.std.specs.Prelude.{◌≡◌, ◌++◌, ◌+◌, ◌*◌, ◌^◌, ◌<◌, ◌≤◌, length, take, decimal};
 ghost use Rattle.byteorder.specs.Endian.{little_bytes};
-ghost use Rattle.dfr_channels.specs.Written.{padded};
+ghost use Rattle.comtrade_values.specs.Written.{padded};
 ghost use Rattle.comtrade_format.specs.Places.{IsShown, WritesPlaces};
 
 use crate::value_text::pair_of;

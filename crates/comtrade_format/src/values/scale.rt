@@ -4,7 +4,8 @@ ghost use Rattle.std.specs.Prelude.{◌≡◌, IfOk};
 ghost use Rattle.comtrade_format.specs.Floats.{IsScale, scaled};
 
 use crate::values::nearest_f64;
-use dfr_channels::{AnalogChannel, Memory};
+use comtrade_values::Memory;
+use dfr_channels::AnalogChannel;
 use std::alloc::Allocator;
 
 /// A channel's factors as floats: a sample x has the value a·x + b in the channel's unit

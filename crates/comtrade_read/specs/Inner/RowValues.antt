@@ -1,6 +1,6 @@
 -- What the reader's functions answer of data, in words that no public contract needs.
 use Rattle.std.specs.Prelude.{ℕ, ◌*◌, ◌==◌, if◌then◌else◌, List, length, map, Result, Ok, Err}
-use Rattle.dfr_channels.specs.Lines.{fields}
+use Rattle.comtrade_values.specs.Lines.{fields}
 use Rattle.comtrade_format.specs.declared.file.Kind.{Kind}
 use Rattle.comtrade_format.specs.declared.file.Kind.TheVariants.{Ascii, Binary}
 use Rattle.comtrade_format.specs.Parts.{HeadParts, RowParts}

@@ -1,7 +1,7 @@
 //! Why rows cannot be measured.
 
 use comtrade_format::CycleFault;
-use dfr_channels::Memory;
+use comtrade_values::Memory;
 use std::alloc::AllocError;
 use thiserror::Error;
 

@@ -2,7 +2,8 @@
 
 use crate::cycles::fit::{Measured, measured_at};
 use crate::cycles::phasor::Phasor;
-use dfr_channels::{AnalogChannel, trim};
+use comtrade_values::trim;
+use dfr_channels::AnalogChannel;
 use std::alloc::{AllocError, Allocator};
 
 /// The square root of 3, over 2.

@@ -2,7 +2,7 @@
 
 use crate::cycles::fault::MeasureFault;
 use comtrade_format::{Cycle, File, Head, cycle_of};
-use dfr_channels::Decimal;
+use comtrade_values::Decimal;
 use std::alloc::Allocator;
 
 /// Whole cycles of rows of one rate, by their indices from 0: from `from` up to but without `to`.

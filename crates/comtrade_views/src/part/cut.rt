@@ -3,7 +3,8 @@
 use crate::part::names::Channels;
 use crate::part::rows::Rows;
 use comtrade_format::{File, Head, Rate, Row, clock_in};
-use dfr_channels::{AnalogChannel, Items, Memory, StatusChannel, TryClone};
+use comtrade_values::{Items, Memory, TryClone};
+use dfr_channels::{AnalogChannel, StatusChannel};
 use std::alloc::Allocator;
 
 /// The items at these indices.

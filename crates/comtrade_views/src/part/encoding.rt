@@ -1,7 +1,8 @@
 //! Texts in Latin-1 (ISO 8859-1) as UTF-8, and texts of no known encoding as they are shown.
 
 use comtrade_format::File;
-use dfr_channels::{AnalogChannel, Items, StatusChannel};
+use comtrade_values::Items;
+use dfr_channels::{AnalogChannel, StatusChannel};
 use std::alloc::{AllocError, Allocator};
 use std::mem;
 

@@ -1,6 +1,6 @@
 //! Why the part that is asked for cannot be taken.
 
-use dfr_channels::Memory;
+use comtrade_values::Memory;
 use std::alloc::{AllocError, AllocFailed};
 use thiserror::Error;
 

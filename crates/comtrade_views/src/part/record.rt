@@ -7,7 +7,8 @@ use crate::part::rows::rows_between;
 use crate::part::side::turn;
 use comtrade_format::File;
 use comtrade_io::Part;
-use dfr_channels::{AnalogChannel, Items, Side};
+use comtrade_values::Items;
+use dfr_channels::{AnalogChannel, Side};
 use std::alloc::{Allocator, Global};
 use std::mem;
 

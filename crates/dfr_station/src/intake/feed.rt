@@ -3,7 +3,8 @@
 ghost use Rattle.std.specs.Prelude.{◌≡◌, replicate, IfOk};
 ghost use Rattle.dfr_channels.specs.declared.scan.Reading.TheVariants as reading;
 
-use dfr_channels::{Memory, Reading, Scan};
+use comtrade_values::Memory;
+use dfr_channels::{Reading, Scan};
 use std::alloc::Allocator;
 
 /// Why a scan is lost.

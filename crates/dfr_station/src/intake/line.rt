@@ -4,7 +4,7 @@ ghost use Rattle.std.specs.Prelude.{◌≡◌, MatchOption, position};
 ghost use Rattle.std.specs.List.{list_all, list_any};
 ghost use Rattle.std.specs.Str.{bytes_eq};
 ghost use Rattle.dfr_channels.specs.Firing.{rules_fault};
-ghost use Rattle.dfr_channels.specs.Lines.{without_cr};
+ghost use Rattle.comtrade_values.specs.Lines.{without_cr};
 ghost use Rattle.dfr_script.specs.Commands.{parts_of};
 ghost use Rattle.dfr_script.specs.Words as words;
 ghost use Rattle.dfr_station.specs.Lines as spec;
@@ -65,7 +65,7 @@ fn word_end(line: &[u8]) -> Option<usize>
 }
 
 /// The first word of a line.
-#[tactic(auto, using(dfr_channels::proofs::Cuts::cuts))]
+#[tactic(auto, using(comtrade_values::proofs::Cuts::cuts))]
 fn first_word(line: &[u8]) -> &[u8]
     ensures { result.now ≡ spec.first_word line.now }
 {

@@ -1,7 +1,7 @@
 //! The two texts of a file, with a contract: they read back to that file.
 
 ghost use Rattle.std.specs.Prelude.{IfOk, IfErr};
-ghost use Rattle.dfr_channels.specs.Faults.{◌or◌};
+ghost use Rattle.comtrade_values.specs.Faults.{◌or◌};
 ghost use Rattle.comtrade_format.specs.Data.{dat_refusal};
 ghost use Rattle.comtrade_format.specs.Refusals.{Fails, cfg_refusal};
 ghost use Rattle.comtrade_read.specs.Reads.{Reads};

@@ -1,5 +1,5 @@
 use Rattle.std.proofs.Common.{◌≡◌, ◌+◌, drop}
-use Rattle.dfr_channels.specs.Faults.{◌or◌}
+use Rattle.comtrade_values.specs.Faults.{◌or◌}
 use Rattle.comtrade_format.specs.Refusals.{rows_refusal, rows_from, stamps_from}
 use Rattle.comtrade_format.proofs.checks.rows_fault.Given as goal
 

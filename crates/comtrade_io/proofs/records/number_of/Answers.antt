@@ -1,5 +1,5 @@
 use Rattle.std.proofs.Common.{◌≡◌, Some, ap, ◌∙◌, rules}
-use Rattle.dfr_channels.specs.Spelling.{capped_size}
+use Rattle.comtrade_values.specs.Spelling.{capped_size}
 use Rattle.comtrade_io.proofs.Cutting.{read_again}
 use Rattle.comtrade_io.proofs.records.number_of.Goals as goal
 

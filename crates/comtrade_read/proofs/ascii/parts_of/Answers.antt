@@ -1,8 +1,8 @@
 use Rattle.std.proofs.Common.{◌≡◌, ◌+◌, ◌-◌, ◌<◌, suc, length, sym, ap, ◌∙◌, arith}
 use Rattle.std.specs.Prelude.{Err}
 use Rattle.std.proofs.lemmas.Result.{err_from_is_err_and}
-use Rattle.dfr_channels.specs.Lines.{fields}
-use Rattle.dfr_channels.specs.Fields.{bit}
+use Rattle.comtrade_values.specs.Lines.{fields}
+use Rattle.comtrade_values.specs.Fields.{bit}
 use Rattle.comtrade_read.specs.Line.{told}
 use Rattle.comtrade_read.specs.Fields.{natural}
 use Rattle.comtrade_read.specs.Ascii.{stamp, value}

@@ -1,7 +1,7 @@
 use Rattle.std.proofs.Common.{◌≡◌, ◌<◌, ◌+◌, ◌-◌}
 use Rattle.std.specs.Prelude.{drop, length}
-use Rattle.dfr_channels.specs.Lines.{fields}
-use Rattle.dfr_channels.specs.Fields.{bit}
+use Rattle.comtrade_values.specs.Lines.{fields}
+use Rattle.comtrade_values.specs.Fields.{bit}
 use Rattle.comtrade_read.specs.Line.{need_each}
 use Rattle.comtrade_read.specs.Ascii.{value, row_line}
 use Rattle.comtrade_read.proofs.RowLine.{with_bits, with_values}

@@ -1,6 +1,6 @@
 use Rattle.std.proofs.Common.{◌≡◌, [], ◌+◌, length, sym, ap, ◌∙◌, arith}
 use Rattle.std.specs.Prelude.{slice_index_or}
-use Rattle.dfr_channels.specs.Lines.{fields}
+use Rattle.comtrade_values.specs.Lines.{fields}
 use Rattle.comtrade_read.proofs.Outcomes.{part_is}
 use Rattle.comtrade_read.proofs.OneByOne.{cut_some, cut_none}
 use Rattle.comtrade_read.proofs.cells.first_field.Goals as goal

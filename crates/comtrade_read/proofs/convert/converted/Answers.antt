@@ -1,5 +1,5 @@
 use Rattle.std.proofs.Common.{◌≡◌, Some, subst, rules}
-use Rattle.dfr_channels.specs.Faults.{◌or◌}
+use Rattle.comtrade_values.specs.Faults.{◌or◌}
 use Rattle.comtrade_format.specs.Data.{dat_refusal}
 use Rattle.comtrade_format.specs.Parts.{FileParts}
 use Rattle.comtrade_format.specs.Refusals.{cfg_refusal}

@@ -1,6 +1,6 @@
 use Rattle.std.proofs.lemmas.Result.{IfOk-weaker, IfErr-weaker}
 use Rattle.std.proofs.Common.{map}
-use Rattle.dfr_channels.specs.Lines.{lines, fields}
+use Rattle.comtrade_values.specs.Lines.{lines, fields}
 use Rattle.comtrade_read.proofs.HeadSays.{head_said}
 use Rattle.comtrade_read.proofs.TextSpelled.{cfg_spelled, cfg_found, cfg_fault}
 use Rattle.comtrade_read.proofs.OneFile.{no_head}

@@ -1,6 +1,6 @@
 use Rattle.std.proofs.Common.{All, List, subst}
 use Rattle.std.proofs.lemmas.List.Elements.{recursion_from_All}
-use Rattle.dfr_channels.specs.Spelling.{IsNumber}
+use Rattle.comtrade_values.specs.Spelling.{IsNumber}
 use Rattle.dfr_channels.specs.Parts.{AnalogParts}
 use Rattle.comtrade_format.specs.declared.file.Rate.{Rate}
 use Rattle.dfr_channels.specs.Decimals.{HasDecimals}

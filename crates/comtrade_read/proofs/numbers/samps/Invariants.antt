@@ -1,5 +1,5 @@
 use Rattle.std.proofs.Common.{All, take}
-use Rattle.dfr_channels.specs.Spelling.{IsNumber}
+use Rattle.comtrade_values.specs.Spelling.{IsNumber}
 use Rattle.comtrade_read.proofs.numbers.samps.Given as goal
 
 abbrev pub invariant-loop-rate : goal.invariant-loop-rate

@@ -1,5 +1,5 @@
 use Rattle.std.proofs.Common.{[]}
-use Rattle.dfr_channels.specs.Fields.{bit}
+use Rattle.comtrade_values.specs.Fields.{bit}
 use Rattle.comtrade_read.proofs.PlainRows.{none_yet}
 use Rattle.comtrade_read.proofs.plain_rows.last_bits.Goals as goal
 

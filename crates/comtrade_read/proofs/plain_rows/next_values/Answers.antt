@@ -1,6 +1,6 @@
 use Rattle.std.proofs.Common.{arith, ◌∙◌}
 use Rattle.std.specs.Prelude.{option_copied}
-use Rattle.dfr_channels.specs.PlainNumbers.{fields_behind}
+use Rattle.comtrade_values.specs.PlainNumbers.{fields_behind}
 use Rattle.comtrade_read.specs.Ascii.{value}
 use Rattle.comtrade_read.proofs.PlainRows.{none_yet, one_more}
 use Rattle.comtrade_read.proofs.plain_rows.next_values.Goals as goal

@@ -1,6 +1,6 @@
 use Rattle.std.proofs.Common.{◌≡◌, vec_len}
 use Rattle.std.specs.Prelude.{option_copied, vec_capacity}
-use Rattle.dfr_channels.specs.PlainNumbers.{fields_behind}
+use Rattle.comtrade_values.specs.PlainNumbers.{fields_behind}
 use Rattle.comtrade_read.specs.Ascii.{value}
 use Rattle.comtrade_read.specs.Inner.PlainRows.{AreNext}
 use Rattle.comtrade_read.proofs.plain_rows.next_values.Given as goal

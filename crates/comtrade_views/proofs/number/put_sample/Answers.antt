@@ -1,7 +1,7 @@
 use Rattle.std.proofs.Common.{ℤ, subst, w32}
 use Rattle.std.proofs.lemmas.Int.{to_z-of_z}
-use Rattle.comtrade_format.specs.Values.{IsShort}
-use Rattle.comtrade_format.proofs.Scaled.{nothing_promised}
+use Rattle.comtrade_values.specs.Arithmetic.{IsShort}
+use Rattle.comtrade_values.proofs.Scaled.{nothing_promised}
 use Rattle.comtrade_views.proofs.number.put_sample.Goals as goal
 
 pub returns-in-None : goal.returns-in-None

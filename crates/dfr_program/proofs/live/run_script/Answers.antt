@@ -1,5 +1,5 @@
 use Rattle.std.proofs.Common.{ap}
-use Rattle.dfr_channels.specs.Lines.{lines}
+use Rattle.comtrade_values.specs.Lines.{lines}
 use Rattle.dfr_recorder.specs.Kept.{Kept}
 use Rattle.dfr_script.specs.Scripts.{script_value}
 use Rattle.dfr_program.proofs.Living.{if_ok_map, tells_run}

@@ -1,7 +1,7 @@
 use Rattle.std.proofs.Common.{All, subst}
 use Rattle.dfr_channels.specs.Parts.{SetupParts}
 use Rattle.dfr_channels.specs.Setups.{IsLawful}
-use Rattle.dfr_channels.specs.Spelling.{IsNumber}
+use Rattle.comtrade_values.specs.Spelling.{IsNumber}
 use Rattle.dfr_recorder.specs.History.{opening}
 use Rattle.dfr_channels.specs.Decimals.{HasDecimals}
 use Rattle.dfr_program.proofs.ReadBack.{records_read}

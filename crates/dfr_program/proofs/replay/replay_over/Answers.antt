@@ -1,5 +1,5 @@
 use Rattle.std.proofs.Common.{◌≡◌, ◌<◌, true, length, arith}
-use Rattle.dfr_channels.specs.Lines.{lines}
+use Rattle.comtrade_values.specs.Lines.{lines}
 use Rattle.dfr_script.specs.Scripts.{script_value}
 use Rattle.dfr_program.specs.Faults.{script_fault}
 use Rattle.dfr_program.specs.Replays.{PrintsAnswers, PrintsFirst, CutAt, IsUnread}

@@ -1,5 +1,5 @@
 use Rattle.std.proofs.Common.{inl, inr, rules}
-use Rattle.dfr_channels.specs.Lines.{lines}
+use Rattle.comtrade_values.specs.Lines.{lines}
 use Rattle.dfr_script.specs.Scripts.{script_value}
 use Rattle.dfr_program.specs.Faults.{script_fault}
 use Rattle.dfr_program.proofs.Replaying.{replayed, replayed_grows, replayed_fault, replayed_answers, replayed_memory, replayed_output, faulted_output, never_done}

@@ -3,7 +3,7 @@ use Rattle.std.specs.Prelude.{Some}
 use Rattle.std.proofs.lemmas.List.{length-map}
 use Rattle.std.proofs.lemmas.Result.{err_from_is_err_and}
 use Rattle.std.proofs.lemmas.Int.{to_z-of_z}
-use Rattle.dfr_channels.specs.Lines.{texts}
+use Rattle.comtrade_values.specs.Lines.{texts}
 use Rattle.dfr_channels.specs.LineFields.{analog_from}
 use Rattle.dfr_script.proofs.channel_line.scaling_in.Goals as goal
 

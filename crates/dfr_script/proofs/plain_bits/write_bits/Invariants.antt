@@ -1,6 +1,6 @@
 use Rattle.std.proofs.Common.{◌≡◌, ◌++◌, take, length}
 use Rattle.std.specs.List.{filter_map}
-use Rattle.dfr_channels.specs.Fields.{bit}
+use Rattle.comtrade_values.specs.Fields.{bit}
 use Rattle.dfr_script.specs.Fields.{reads_all}
 use Rattle.dfr_script.specs.ScanLines.{fields}
 use Rattle.dfr_script.proofs.PlainBits.{fields_from}

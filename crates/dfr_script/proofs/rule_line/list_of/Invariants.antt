@@ -1,7 +1,7 @@
 use Rattle.std.proofs.Common.{◌≡◌, true, take}
 use Rattle.std.specs.Prelude.{is_some}
 use Rattle.std.specs.List.{list_all, filter_map}
-use Rattle.dfr_channels.specs.Lines.{texts}
+use Rattle.comtrade_values.specs.Lines.{texts}
 use Rattle.dfr_script.specs.RuleLines.{rule, words}
 use Rattle.dfr_script.proofs.rule_line.list_of.Given as goal
 

@@ -1,6 +1,6 @@
 use Rattle.std.proofs.Common.{◌≡◌, true, take}
 use Rattle.std.specs.List.{list_all}
-use Rattle.dfr_channels.specs.Lines.{texts}
+use Rattle.comtrade_values.specs.Lines.{texts}
 use Rattle.dfr_script.specs.RuleLines.{has_shape, words}
 use Rattle.dfr_script.proofs.rule_line.shapes_of.Given as goal
 

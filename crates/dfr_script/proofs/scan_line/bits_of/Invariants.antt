@@ -1,7 +1,7 @@
 use Rattle.std.proofs.Common.{◌≡◌, ◌++◌}
 use Rattle.std.specs.Prelude.{is_some, option_copied}
 use Rattle.std.specs.List.{list_all, filter_map}
-use Rattle.dfr_channels.specs.Fields.{bit}
+use Rattle.comtrade_values.specs.Fields.{bit}
 use Rattle.dfr_script.specs.ScanLines.{fields, fields_behind}
 use Rattle.dfr_script.proofs.CutFields.{left_length}
 use Rattle.dfr_script.proofs.scan_line.bits_of.Given as goal

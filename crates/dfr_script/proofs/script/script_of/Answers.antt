@@ -1,6 +1,6 @@
 use Rattle.std.proofs.Common.{◌≡◌, ℕ, List, None, refl, subst, ap, ◌∙◌}
 use Rattle.std.specs.Prelude.{Result, Ok, Err, MatchResult}
-use Rattle.dfr_channels.specs.Lines.{drop_end, is_blank_line}
+use Rattle.comtrade_values.specs.Lines.{drop_end, is_blank_line}
 use Rattle.dfr_script.specs.declared.fault.ScriptRefusal.{ScriptRefusal}
 use Rattle.dfr_script.specs.declared.fault.ScriptRefusal.TheVariants.{Fault, Memory}
 use Rattle.dfr_script.specs.Parts.{ScriptParts}

@@ -1,6 +1,6 @@
 use Rattle.std.proofs.Common.{rules, ◌≡◌, None, Result, Ok}
 use Rattle.std.specs.Prelude.{MatchResult}
-use Rattle.dfr_channels.specs.Lines.{lines}
+use Rattle.comtrade_values.specs.Lines.{lines}
 use Rattle.dfr_recorder.specs.Kept.{Kept}
 use Rattle.dfr_script.specs.Parts.{RecorderSetupParts}
 use Rattle.dfr_script.specs.Recorders.{IsMadeOf}

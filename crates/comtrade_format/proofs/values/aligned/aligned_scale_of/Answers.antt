@@ -1,6 +1,6 @@
 use Rattle.std.proofs.Common.{◌≡◌, w64, FitsSigned, max, rules}
 use Rattle.std.proofs.lemmas.Int.{to_z-of_z}
-use Rattle.comtrade_format.proofs.Scaled.{aligned_value_of}
+use Rattle.comtrade_values.proofs.Scaled.{aligned_value_of}
 use Rattle.comtrade_format.proofs.values.aligned.aligned_scale_of.Goals as goal
 
 pub returns-clause-value : goal.returns-clause-value

@@ -1,9 +1,9 @@
 use Rattle.std.proofs.Common.{◌≡◌, ℕ, ◌+◌, ◌-◌, ◌*◌, ◌/◌, ◌%◌, ◌^◌, ◌<◌, ◌≤◌, w64, FitsSigned, unsigned_abs, List, ◌++◌, take, decimal, ap, ◌∙◌, subst, arith, rules}
 use Rattle.std.proofs.Math.Nat.{one-le-pow, le-mul_of_pos_right}
 use Rattle.std.proofs.lemmas.Int.{to_z-of_z}
-use Rattle.dfr_channels.specs.Written.{minus}
+use Rattle.comtrade_values.specs.Written.{minus}
 use Rattle.comtrade_format.specs.Places.{IsShown, places_text}
-use Rattle.comtrade_format.specs.Values.{number_of}
+use Rattle.comtrade_values.specs.Arithmetic.{number_of}
 use Rattle.comtrade_format.proofs.ValueParts.{after_below, after_fits, few_places, shown_last_digit, signed, three_parts, trimmed_value, units_whole, value_text}
 use Rattle.comtrade_format.proofs.values.aligned.write_shortened.Goals as goal
 

@@ -2,7 +2,7 @@ use Rattle.std.proofs.Common.{◌≡◌, ℕ, ◌-◌, ◌+◌, ◌*◌, List, �
 use Rattle.std.specs.Int.{bytes_low_first}
 use Rattle.std.proofs.lemmas.List.{take_all}
 use borrow.Rule.Slice.PartMut.{mid_of, post_of, put_mid}
-use Rattle.dfr_channels.specs.Written.{padded}
+use Rattle.comtrade_values.specs.Written.{padded}
 use Rattle.comtrade_format.proofs.Places.{stored}
 use Rattle.comtrade_format.proofs.ValuePlaces.{after_eight, point_stored, shown_last, written}
 use Rattle.comtrade_format.proofs.values.places.write_sixteen.Goals as goal

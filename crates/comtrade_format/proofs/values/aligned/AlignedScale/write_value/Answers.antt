@@ -1,6 +1,7 @@
 use Rattle.std.proofs.Common.{◌≡◌, ℕ, ℤ, ◌+ℤ◌, ◌*ℤ◌, w32, w64, FitsSigned, to_z, of_z, ap, ◌∙◌, subst, rules, IfSome}
 use Rattle.std.proofs.lemmas.Int.{to_z-of_z}
-use Rattle.comtrade_format.specs.Values.{number_of, WritesValue}
+use Rattle.comtrade_values.specs.Arithmetic.{number_of}
+use Rattle.comtrade_format.specs.Values.{WritesValue}
 use Rattle.comtrade_format.proofs.values.aligned.AlignedScale.write_value.Goals as goal
 
 pub returns-clause-value : goal.returns-clause-value

@@ -1,7 +1,0 @@
-use Rattle.std.proofs.Common.{arith}
-use Rattle.std.proofs.lemmas.Grind.{common_steps}
-use Rattle.comtrade_format.proofs.Digits.{padded_two}
-use Rattle.comtrade_format.proofs.dates.put_two.Goals as goal
-
-pub returns : goal.returns
-returns g c = grind (arith, common_steps, padded_two)

@@ -1,7 +1,0 @@
-use Rattle.std.proofs.Common.{arith}
-use Rattle.std.proofs.lemmas.Grind.{common_steps}
-use Rattle.comtrade_format.proofs.Points.{repeat_more}
-use Rattle.comtrade_format.proofs.decimal.put_zeros.Goals as goal
-
-pub loop-preserved : goal.loop-preserved
-loop-preserved g c = grind (arith, common_steps, repeat_more)

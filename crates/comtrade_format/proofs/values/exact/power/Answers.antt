@@ -1,7 +1,0 @@
-use Rattle.std.proofs.Common.{arith}
-use Rattle.std.proofs.lemmas.Int.{ints}
-use Rattle.comtrade_format.proofs.Scaled.{few_zeros}
-use Rattle.comtrade_format.proofs.values.exact.power.Goals as goal
-
-pub pow-requires : goal.pow-requires
-pow-requires c = let f = few_zeros c.args.zeros (omega arith) in omega (arith, ints)

@@ -1,6 +1,0 @@
-use Rattle.std.proofs.Common.{rules}
-use Rattle.comtrade_format.proofs.Scaled.{long_product}
-use Rattle.comtrade_format.proofs.values.exact.product.Goals as goal
-
-pub returns-in_err-units : goal.returns-in_err-units
-returns-in_err-units c = search (rules, long_product)

@@ -1,0 +1,14 @@
+pub mod Appending
+pub mod Capped
+pub mod Civil
+pub mod Cuts
+pub mod Digits
+pub mod FourDigits
+pub mod LineCuts
+pub mod PlainNumbers
+pub mod Points
+mod Rows
+pub mod SampleNumbers
+pub mod Scale
+pub mod Scaled
+pub mod Short

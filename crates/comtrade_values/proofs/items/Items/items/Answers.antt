@@ -1,0 +1,5 @@
+use Rattle.std.proofs.Common.{rules, tests}
+use Rattle.comtrade_values.proofs.items.Items.items.Goals as goal
+
+pub returns : goal.returns
+returns g c = search (tests, rules)

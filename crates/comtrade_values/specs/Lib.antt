@@ -1,0 +1,10 @@
+pub mod Faults
+pub mod Spelling
+pub mod Written
+pub mod Lines
+pub mod PlainNumbers
+pub mod Fields
+pub mod Texts
+pub mod Arithmetic
+pub mod Exact
+pub mod Dates

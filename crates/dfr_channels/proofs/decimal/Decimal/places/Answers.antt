@@ -1,5 +1,0 @@
-use Rattle.std.proofs.Common.{rules, tests}
-use Rattle.dfr_channels.proofs.decimal.Decimal.places.Goals as goal
-
-pub returns : goal.returns
-returns c = search (tests, rules)

@@ -1,5 +1,0 @@
-use Rattle.std.proofs.Common.{rules, tests}
-use Rattle.dfr_channels.proofs.decimal.Decimal.units.Goals as goal
-
-pub returns-clause-value : goal.returns-clause-value
-returns-clause-value c = search (tests, rules)

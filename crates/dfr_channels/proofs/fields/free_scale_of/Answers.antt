@@ -1,7 +1,0 @@
-use Rattle.std.proofs.Common.{rules, tests}
-use Rattle.dfr_channels.specs.Fields.{free_scale}
-use Rattle.dfr_channels.proofs.fields.free_scale_of.Goals as goal
-
-pub returns-then-is_empty : goal.returns-then-is_empty
-unfolding free_scale
-returns-then-is_empty c = search (tests, rules)

@@ -1,5 +1,0 @@
-use Rattle.std.proofs.Common.{rules, tests}
-use Rattle.dfr_channels.proofs.items.Items.try_clone.Goals as goal
-
-pub returns : goal.returns
-returns g c = search (tests, rules)
