@@ -156,12 +156,11 @@ impl<I: Read, R: Wait + Clock, A: Allocator + Copy> Intake<A, Recording>
 
     ghost loses = { λ s t. AcquisitionLoses s t };
 
-    fn next(&mut self, spare: Option<Scan<A>>) -> Result<Fed<A>, u32> {
-        let mut spare = spare;
+    fn next(&mut self, spare: &mut Option<Scan<A>>) -> Result<Fed<A>, u32> {
         self.scans.begin();
         self.scans.settle();
         for _ in self.rt.forever() {
-            match self.arrivals.next(self.rt, &mut spare) {
+            match self.arrivals.next(self.rt, spare) {
                 Next::Arrival(arrival) => {
                     if let Some(fed) = self.step_of(arrival) {
                         return Ok(fed);
