@@ -20,7 +20,7 @@ returns-2 g c =
       rw c.saturating_add.ensures refl,
       refl,
       elim c.else-is_closed.branch [
-        | else-is_closed-via-else-is_closed w ↦ inl (one_open _ w.if-is_closed.ensures.closed, w.recorder-is)
+        | else-is_closed-via-else-is_closed w ↦ inl (one_open _ w.if-is_closed.ensures.closed, w.if-is_closed.ensures.lost.2, w.recorder-is)
         | else-is_closed-via-then-is_closed+in-None-1 w ↦ inr (search rules)
       ],
     ))
