@@ -78,9 +78,9 @@ module _ {K : Type 0} (Stores : StoresOf K) where
       let last = no_more o kind h.1 t h.3 in
       (h.0, h.1, subst (λ (x : Exporting K). Got (PutsPair Stores) Lacks o kind x h.0 h.1) begins h.2, ap (λ (x : Exporting K). x.store) (sym last) ∙ ends)
 
-  pub stored_all : (o : Opening) (kind : Kind) (s t : Exporting K) (made : List EntryParts) (store left : K) → s ≡ unasked store → t.store ≡ left
-      → GotAll (PutsPair Stores) Lacks o kind s made t → StoredSome Stores o kind store left
-  stored_all o kind s t made store left begins ends h =
+  pub stored_all : (o : Opening) (kind : Kind) (s t : Exporting K) (made : List EntryParts) (out : Option (List RecordParts)) (store left : K)
+      → s ≡ unasked store → t.store ≡ left → GotAll (PutsPair Stores) Lacks o kind s made out t → StoredSome Stores o kind store left
+  stored_all o kind s t made out store left begins ends h =
       (h.0, t, subst (λ (x : Exporting K). Got (PutsPair Stores) Lacks o kind x h.0 t) begins h.1, ends)
 
   module _ {F O I : Type 0} (o : Opening) (kind : Kind) (refused : Option OpenFault) (old new : F × O × Exporting K) (input input_left : I) (store store_left : K)

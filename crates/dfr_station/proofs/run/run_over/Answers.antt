@@ -82,6 +82,6 @@ returns-clause-failed g c =
     let left : run.new.intake.incoming.input ≡ c.into_input.result = rw (c.into_input.ensures, c.all_made-report.ensures.same.0) refl in
     let fails = run_fails g.K.Store.stores o c.args.how.kind _ _ _ c.args.input c.into_input.result c.args.store c.into_store.result begins ends
     (λ is. sym left ∙ same_input _ _ c.args.input begun is) in
-    out_fails _ _ (λ report recorded. inr (stored_all g.K.Store.stores o c.args.how.kind c.new-outlet.result run.new.outlet _ c.args.store c.into_store.result begins ends recorded.handed_on))
+    out_fails _ _ (λ report recorded. inr (stored_all g.K.Store.stores o c.args.how.kind c.new-outlet.result run.new.outlet _ _ c.args.store c.into_store.result begins ends recorded.handed_on))
     run.result c.all_made-report.result c.recorded_of.result c.recorded_of.ensures.failed c.all_made-report.ensures.failed
     (if_err run.result _ _ fails run.ensures.failed) run.ensures.recorded
