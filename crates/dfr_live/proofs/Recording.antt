@@ -1,5 +1,5 @@
 -- A run from the intake to the files, put together.
-use Rattle.std.proofs.Common.{◌≡◌, ℕ, List, [], ◌∷◌, Option, Some, Result, sym, ◌∙◌, ap, subst, arith, length-append, map}
+use Rattle.std.proofs.Common.{◌≡◌, ◌++◌, refl, ℕ, List, [], ◌∷◌, Option, Some, Result, sym, ◌∙◌, ap, subst, arith, length-append, map}
 use Rattle.std.specs.Prelude.{All, IfOk, Ok, Err, filter, length, sum_by}
 use Rattle.std.proofs.lemmas.List.Elements.{All-head, All-tail}
 use Rattle.dfr_recorder.specs.History.{Opening}
@@ -78,3 +78,9 @@ module _ {A F O K : Type 0} (Gives : GivesOf A F) (Loses : LosesOf F) (Asks : As
   recorded_in (Ok r) tokens h t zero one none gave given made takes got empty =
       recorded r h.0 h.1 h.2 (h.3 ∙ t) zero one none gave given made takes got empty
   recorded_in (Err f) tokens h t zero one none gave given made takes got empty = tt
+
+-- of two tokens that were taken out none is left
+pub two_gone : (all rest none : List TokenParts) (a b : TokenParts) → length all ≡ 2 → all ≡ rest ++ b ∷ [] → rest ≡ none ++ a ∷ [] → none ≡ []
+two_gone all rest [] a b n e f = refl
+two_gone all rest (x ∷ none) a b n e f =
+    absurd (omega (arith, n, ap length e, length-append rest (b ∷ []), ap length f, length-append (x ∷ none) (a ∷ [])))
