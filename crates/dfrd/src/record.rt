@@ -149,7 +149,7 @@ pub(crate) fn record<
     store: K,
     printer: &mut P,
 ) -> u8 {
-    let how = (asked.input, plan.frame, !asked.is_quiet);
+    let how = (asked.input, plan.frame, asked.has_minutes());
     let Ok(first) = read_first(rt, rt.alloc(), &mut input, printer, how) else {
         return out_of_memory(rt);
     };
@@ -163,7 +163,7 @@ pub(crate) fn record<
                 recorder,
                 input: asked.input,
                 kind: asked.kind,
-                minutes: !asked.is_quiet,
+                minutes: asked.has_minutes(),
                 operator,
             };
             let Run {

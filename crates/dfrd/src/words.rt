@@ -23,6 +23,8 @@ pub struct Asked<'a> {
     pub start: Option<i64>,
     /// The path of an operator's FIFO or file.
     pub orders: Option<&'a str>,
+    /// The path of the file of the recording's health.
+    pub health: Option<&'a str>,
     /// The most records to keep. None if there is no such limit.
     pub pairs: Option<u64>,
     /// The most bytes of records to keep. None if there is no such limit.
@@ -31,6 +33,16 @@ pub struct Asked<'a> {
     pub is_check: bool,
     /// Do not print a line each minute.
     pub is_quiet: bool,
+    /// Begin each line with its syslog level.
+    pub is_journal: bool,
+}
+
+impl Asked<'_> {
+    /// Whether the station is to make a line each minute. The counts in it are part of the health,
+    /// also where it isn't printed.
+    pub(crate) fn has_minutes(&self) -> bool {
+        !self.is_quiet || self.health.is_some()
+    }
 }
 
 /// The answer to a command line.
@@ -116,10 +128,12 @@ fn asked_of<'a>(found: &ArgMatches<'a>) -> Result<Asked<'a>, &'static str> {
         input: input_of(found),
         start,
         orders: found.get_str("orders"),
+        health: found.get_str("health"),
         pairs,
         bytes,
         is_check: found.get_flag("check"),
         is_quiet: found.get_flag("quiet"),
+        is_journal: found.get_flag("journal"),
     })
 }
 
