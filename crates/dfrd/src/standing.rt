@@ -186,6 +186,7 @@ impl Standing {
             "end" => {
                 self.hear_counts(what);
                 self.waiting = Some(0);
+                self.is_shelf_full = false;
                 self.is_recording = false;
             }
             "lost" => self.lost.add(number_after(what, "lost").unwrap_or(0)),
