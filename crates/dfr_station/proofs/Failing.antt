@@ -6,8 +6,7 @@ use Rattle.dfr_recorder.specs.History.{Opening}
 use Rattle.dfr_recorder.specs.Parts.{RecordParts}
 use Rattle.comtrade_format.specs.declared.file.Kind.{Kind}
 use Rattle.dfr_live.specs.Causes.{HasCause}
-use Rattle.dfr_live.specs.Devices.{GivesOf, LosesOf, PutsOf, LacksOf, Got, GotFront, GotNoMore, GotAll, Stopped}
-use Rattle.dfr_live.specs.Parts.{EntryParts}
+use Rattle.dfr_live.specs.Devices.{GivesOf, LosesOf, PutsOf, LacksOf, Handed, Got, GotFront, GotNoMore, Stopped}
 use Rattle.dfr_live.specs.declared.ended.EndFault.{EndFault}
 use Rattle.dfr_live.specs.declared.ended.EndFault.TheVariants as unended
 use Rattle.dfr_live.specs.declared.outcome.OpenFault.{OpenFault}
@@ -23,6 +22,7 @@ use Rattle.dfr_station.specs.declared.intake.ended.RunFault.TheVariants as run
 module _ {A F O K : Type 0} (Gives : GivesOf A F) (Loses : LosesOf F) (Puts : PutsOf K) (Lacks : LacksOf K) (o : Opening) (kind : Kind)
     (refused : Option OpenFault) (old new : F × O × K) where
   short_fails : (r : RunFault) → IsShort r → DevicesFail Puts Lacks o kind refused old new r
+  unfolding DevicesFail
   short_fails r (inl is) = subst (DevicesFail Puts Lacks o kind refused old new) (sym is) tt
   short_fails r (inr is) = subst (DevicesFail Puts Lacks o kind refused old new) (sym is) (inl refl)
 
@@ -32,6 +32,7 @@ module _ {A F O K : Type 0} (Gives : GivesOf A F) (Loses : LosesOf F) (Puts : Pu
 
   devices_fail : (fault : LiveFault) (r : RunFault) → IsToldAs fault r → HasCause Gives Loses Puts Lacks o kind refused old new fault
       → (fault ≡ live.Memory) ⊎ GotFront Puts Lacks o kind old.2 new.2 → DevicesFail Puts Lacks o kind refused old new r
+  unfolding DevicesFail
   devices_fail (live.Open why) r is cause front = subst (DevicesFail Puts Lacks o kind refused old new) (sym is) cause
   devices_fail (live.End why) r is cause front =
       subst (DevicesFail Puts Lacks o kind refused old new) (sym is) (inr (got_front (live.End why) (λ e. cc) front))
@@ -78,10 +79,10 @@ module _ {K : Type 0} (Stores : StoresOf K) where
       let last = no_more o kind h.1 t h.3 in
       (h.0, h.1, subst (λ (x : Exporting K). Got (PutsPair Stores) Lacks o kind x h.0 h.1) begins h.2, ap (λ (x : Exporting K). x.store) (sym last) ∙ ends)
 
-  pub stored_all : (o : Opening) (kind : Kind) (s t : Exporting K) (made : List EntryParts) (store left : K) → s ≡ unasked store → t.store ≡ left
-      → GotAll (PutsPair Stores) Lacks o kind s made t → StoredSome Stores o kind store left
-  stored_all o kind s t made store left begins ends h =
-      (h.0, t, subst (λ (x : Exporting K). Got (PutsPair Stores) Lacks o kind x h.0 t) begins h.1, ends)
+  pub stored_all : (o : Opening) (kind : Kind) (s t : Exporting K) (records : List Handed) (store left : K) → s ≡ unasked store → t.store ≡ left
+      → Got (PutsPair Stores) Lacks o kind s records t → StoredSome Stores o kind store left
+  stored_all o kind s t records store left begins ends got =
+      (records, t, subst (λ (x : Exporting K). Got (PutsPair Stores) Lacks o kind x records t) begins got, ends)
 
   module _ {F O I : Type 0} (o : Opening) (kind : Kind) (refused : Option OpenFault) (old new : F × O × Exporting K) (input input_left : I) (store store_left : K)
       (begins : old.2 ≡ unasked store) (ends : new.2.store ≡ store_left) (same : new ≡ old → input_left ≡ input) where
@@ -100,6 +101,7 @@ module _ {K : Type 0} (Stores : StoresOf K) where
 
     pub run_fails : (r : RunFault) → DevicesFail (PutsPair Stores) Lacks o kind refused old new r
         → RunFails Stores o kind refused (input, store) (input_left, store_left) r
+    unfolding DevicesFail
     run_fails run.Memory fails = unchanged fails
     run_fails run.Thread fails = tt
     run_fails (run.Open why) fails = (unchanged fails.0, fails.1)

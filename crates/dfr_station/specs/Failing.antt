@@ -29,7 +29,7 @@ IsToldAs (live.Sink code) r = IsShort r
 -- The devices before and after a run that failed, whose recorder has that reason not to be opened, or none: they are as they were where
 -- the run did not begin, and else the outlet got the files of some records. Where a thread could not be started, or there was no memory
 -- at the end, nothing is known.
-abbrev pub DevicesFail : {F O K : Type 0} → PutsOf K → LacksOf K → Opening → Kind → Option OpenFault → F × O × K → F × O × K → RunFault → Type 0
+unfoldable pub DevicesFail : {F O K : Type 0} → PutsOf K → LacksOf K → Opening → Kind → Option OpenFault → F × O × K → F × O × K → RunFault → Type 0
 DevicesFail Puts Lacks o kind refused old new run.Memory = new ≡ old
 DevicesFail Puts Lacks o kind refused old new run.Thread = ⊤
 DevicesFail Puts Lacks o kind refused old new (run.Open why) = (new ≡ old) × ((refused ≡ Some why) ⊎ (why ≡ unopened.Memory))

@@ -1,6 +1,6 @@
 //! Records over the devices of a station, while another thread prints the events.
 
-ghost use Rattle.std.specs.Prelude.{◌≡◌, Ok, Err, IfOk, IfErr};
+ghost use Rattle.std.specs.Prelude.{◌≡◌, Ok, Err, IfOk, IfErr, MatchResult};
 ghost use Rattle.dfr_live.specs.Calls.{open_fault};
 ghost use Rattle.dfr_live.specs.Seen.{opening_of};
 ghost use Rattle.dfr_live.specs.Report.{Recorded as RecordedLive};
@@ -48,12 +48,13 @@ pub(crate) fn record_printing<
     desk: &mut O,
     outlet: &mut K,
 ) -> Result<LiveReport<A>, RunFault>
-    ensures recorded { IfOk result (λ report. RecordedLive F.gives F.loses O.asks O.hears
-        K.puts K.lacks (opening_of recorder) kind (intake.old, desk.old, outlet.old)
-        (intake.new, desk.new, outlet.new) report) }
-    ensures failed { IfErr result (DevicesFail K.puts K.lacks (opening_of recorder) kind
+    ensures { MatchResult result
+        (λ report. RecordedLive F.gives F.loses O.asks O.hears K.puts K.lacks
+        (opening_of recorder) kind (intake.old, desk.old, outlet.old)
+        (intake.new, desk.new, outlet.new) report)
+        (λ fault. DevicesFail K.puts K.lacks (opening_of recorder) kind
         (open_fault recorder.scans 65_536 2) (intake.old, desk.old, outlet.old)
-        (intake.new, desk.new, outlet.new)) }
+        (intake.new, desk.new, outlet.new) fault) }
 {
     let rt = pace.rt;
     let devices = (intake, desk, outlet);
@@ -64,14 +65,15 @@ pub(crate) fn record_printing<
             ensures names { (result.1.0.ghost_name ≡ devices.entry.0.ghost_name)
                 × (result.1.1.ghost_name ≡ devices.entry.1.ghost_name)
                 × (result.1.2.ghost_name ≡ devices.entry.2.ghost_name) }
-            ensures recorded { IfOk result.0 (λ report. RecordedLive F.gives F.loses O.asks O.hears
-                K.puts K.lacks (opening_of recorder) kind
+            ensures recorded { MatchResult result.0
+                (λ report. RecordedLive F.gives F.loses O.asks O.hears K.puts K.lacks
+                (opening_of recorder) kind
                 (devices.entry.0.now, devices.entry.1.now, devices.entry.2.now)
-                (result.1.0.now, result.1.1.now, result.1.2.now) report) }
-            ensures failed { IfErr result.0 (DevicesFail K.puts K.lacks (opening_of recorder) kind
+                (result.1.0.now, result.1.1.now, result.1.2.now) report)
+                (λ fault. DevicesFail K.puts K.lacks (opening_of recorder) kind
                 (open_fault recorder.scans 65_536 2)
                 (devices.entry.0.now, devices.entry.1.now, devices.entry.2.now)
-                (result.1.0.now, result.1.1.now, result.1.2.now)) }
+                (result.1.0.now, result.1.1.now, result.1.2.now) fault) }
         { record_beside(scope, pace, alloc, recorder, kind, telling, devices) },
     );
     take_back(intake);
@@ -82,6 +84,7 @@ pub(crate) fn record_printing<
 
 /// Starts the thread that prints the events, and records. Then says that all other threads have
 /// ended.
+#[tactic(auto, unfolding(crate::specs::Failing::DevicesFail))]
 fn record_beside<
     's,
     'x,
@@ -109,14 +112,15 @@ fn record_beside<
     ensures names { (result.1.0.ghost_name ≡ devices.entry.0.ghost_name)
         × (result.1.1.ghost_name ≡ devices.entry.1.ghost_name)
         × (result.1.2.ghost_name ≡ devices.entry.2.ghost_name) }
-    ensures recorded { IfOk result.0 (λ report. RecordedLive F.gives F.loses O.asks O.hears
-        K.puts K.lacks (opening_of recorder) kind
+    ensures recorded { MatchResult result.0
+        (λ report. RecordedLive F.gives F.loses O.asks O.hears K.puts K.lacks
+        (opening_of recorder) kind
         (devices.entry.0.now, devices.entry.1.now, devices.entry.2.now)
-        (result.1.0.now, result.1.1.now, result.1.2.now) report) }
-    ensures failed { IfErr result.0 (DevicesFail K.puts K.lacks (opening_of recorder) kind
+        (result.1.0.now, result.1.1.now, result.1.2.now) report)
+        (λ fault. DevicesFail K.puts K.lacks (opening_of recorder) kind
         (open_fault recorder.scans 65_536 2)
         (devices.entry.0.now, devices.entry.1.now, devices.entry.2.now)
-        (result.1.0.now, result.1.1.now, result.1.2.now)) }
+        (result.1.0.now, result.1.1.now, result.1.2.now) fault) }
 {
     let Napping { rt, signals } = pace;
     let (intake, desk, outlet) = devices;

@@ -1,5 +1,5 @@
 use Rattle.std.proofs.Common.{◌≡◌, Result, Ok, Err, inr, refl, sym, ◌∙◌, ap, subst}
-use Rattle.std.specs.Prelude.{IfOk, IfErr}
+use Rattle.std.specs.Prelude.{IfOk, IfErr, MatchResult}
 use Rattle.dfr_live.specs.Devices.{taken_in}
 use Rattle.dfr_live.specs.Seen.{opening_of}
 use Rattle.dfr_station.specs.Acquiring.{Acquired}
@@ -9,7 +9,14 @@ use Rattle.dfr_station.proofs.Hearers.{heard_all}
 use Rattle.dfr_station.proofs.Orders.{made_lane}
 use Rattle.dfr_station.proofs.run.run_over.Goals as goal
 
--- in place of what is known of an error, what follows from it
+when_ok : {T E : Type 0} (r : Result T E) (P : T → Type 0) (Q : E → Type 0) → MatchResult r P Q → IfOk r P
+when_ok (Ok x) P Q h = h
+when_ok (Err e) P Q h = tt
+
+when_err : {T E : Type 0} (r : Result T E) (P : T → Type 0) (Q : E → Type 0) → MatchResult r P Q → IfErr r Q
+when_err (Ok x) P Q h = tt
+when_err (Err e) P Q h = h
+
 if_err : {T E : Type 0} (r : Result T E) (P Q : E → Type 0) → ((e : E) → P e → Q e) → IfErr r P → IfErr r Q
 if_err (Ok x) P Q then h = tt
 if_err (Err e) P Q then h = then e h
@@ -36,7 +43,8 @@ all_made-report-requires g c =
       one = if_ok c.record_printing-report.result _ _ (λ report recorded.
           let heard = heard_all g.I.Read.remaining (opening_of c.args.recorder).layout c.new-intake.result c.record_printing-report.new.intake (taken_in recorded.report.source)
           (rw (c.new-intake.ensures, c.requires.parts.1, s.1, s.2) refl) (rw c.new-intake.ensures (s.0 ∙ c.requires.layout)) recorded.fed in
-          heard.lane ∙ start ∙ sym (made_lane c.new-desk.result c.record_printing-report.new.desk _ _ recorded.ordered)) c.record_printing-report.ensures.recorded;
+          heard.lane ∙ start ∙ sym (made_lane c.new-desk.result c.record_printing-report.new.desk _ _ recorded.ordered))
+          (when_ok c.record_printing-report.result _ _ c.record_printing-report.ensures);
     }
 
 pub returns-clause-ran : goal.returns-clause-ran
@@ -44,7 +52,8 @@ returns-clause-ran g c =
     let s = c.new-scans.ensures in
     let bits = rw c.requires.layout at c.requires.parts.0 in
     if_ok c.recorded_of.result _ _ (λ left made.
-    let known = behind c.record_printing-report.result c.all_made-report.result _ _ made.0 made.1 c.all_made-report.ensures.all c.record_printing-report.ensures.recorded in
+    let known = behind c.record_printing-report.result c.all_made-report.result _ _ made.0 made.1 c.all_made-report.ensures.all
+    (when_ok c.record_printing-report.result _ _ c.record_printing-report.ensures) in
     let recorded = rw c.new-outlet.ensures at known.0 in (
       c.new-arrivals.result,
       c.new-arrivals.ensures,
@@ -82,6 +91,6 @@ returns-clause-failed g c =
     let left : run.new.intake.incoming.input ≡ c.into_input.result = rw (c.into_input.ensures, c.all_made-report.ensures.same.0) refl in
     let fails = run_fails g.K.Store.stores o c.args.how.kind _ _ _ c.args.input c.into_input.result c.args.store c.into_store.result begins ends
     (λ is. sym left ∙ same_input _ _ c.args.input begun is) in
-    out_fails _ _ (λ report recorded. inr (stored_all g.K.Store.stores o c.args.how.kind c.new-outlet.result run.new.outlet _ c.args.store c.into_store.result begins ends recorded.handed_on))
+    out_fails _ _ (λ report recorded. inr (stored_all g.K.Store.stores o c.args.how.kind c.new-outlet.result run.new.outlet recorded.handed_on.0 c.args.store c.into_store.result begins ends recorded.handed_on.1))
     run.result c.all_made-report.result c.recorded_of.result c.recorded_of.ensures.failed c.all_made-report.ensures.failed
-    (if_err run.result _ _ fails run.ensures.failed) run.ensures.recorded
+    (if_err run.result _ _ fails (when_err run.result _ _ run.ensures)) (when_ok run.result _ _ run.ensures)
