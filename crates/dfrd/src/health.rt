@@ -1,7 +1,7 @@
 //! The health of a recording as Prometheus reads it: metrics, each with its help and its type.
 
-ghost use Rattle.std.specs.Prelude.{◌≡◌, ◌++◌, OnOk};
-ghost use Rattle.std.specs.Fmt.{decimal};
+ghost use Rattle.std.specs.Prelude.{◌≡◌, ◌++◌, OnOk, codes};
+ghost use Rattle.dfrd.specs.Health.{head_text, value_text};
 
 use crate::heard::Known;
 use crate::standing::Standing;
@@ -17,8 +17,7 @@ fn put_head<A: Allocator>(
     kind: &str,
     help: &str,
 ) -> Result<(), AllocError>
-    ensures { OnOk result (out.new.items ≡ out.old.items ++ ("# HELP " ++ name.now ++ " " ++ help.now
-        ++ "\n# TYPE " ++ name.now ++ " " ++ kind.now ++ "\n")) }
+    ensures { OnOk result (out.new.items ≡ out.old.items ++ head_text name.now kind.now help.now) }
 {
     put(out, "# HELP ")?;
     put(out, name)?;
@@ -33,7 +32,7 @@ fn put_head<A: Allocator>(
 
 /// Appends a name and its value.
 fn put_value<A: Allocator>(out: &mut Vec<u8, A>, name: &str, value: u64) -> Result<(), AllocError>
-    ensures { OnOk result (out.new.items ≡ out.old.items ++ (name.now ++ " " ++ decimal value ++ "\n")) }
+    ensures { OnOk result (out.new.items ≡ out.old.items ++ value_text name.now value) }
 {
     put(out, name)?;
     put_with(out, " ", value)?;
@@ -46,7 +45,10 @@ fn put_counter<A: Allocator>(
     name: &str,
     help: &str,
     value: u64,
-) -> Result<(), AllocError> {
+) -> Result<(), AllocError>
+    ensures { OnOk result (out.new.items ≡ out.old.items
+        ++ (head_text name.now (codes "counter") help.now ++ value_text name.now value)) }
+{
     put_head(out, name, "counter", help)?;
     put_value(out, name, value)
 }
@@ -57,7 +59,10 @@ fn put_gauge<A: Allocator>(
     name: &str,
     help: &str,
     value: u64,
-) -> Result<(), AllocError> {
+) -> Result<(), AllocError>
+    ensures { OnOk result (out.new.items ≡ out.old.items
+        ++ (head_text name.now (codes "gauge") help.now ++ value_text name.now value)) }
+{
     put_head(out, name, "gauge", help)?;
     put_value(out, name, value)
 }

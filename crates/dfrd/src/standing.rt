@@ -1,5 +1,7 @@
 //! How a recording stands, as its printed lines tell.
 
+ghost use Rattle.std.specs.Prelude.{◌≡◌, max};
+
 use dfr_station::Trouble;
 
 /// A count of which one kind of line tells what is new, and another the sum. Lines that report what
@@ -22,7 +24,9 @@ impl Tally {
     }
 
     /// The count.
-    pub(crate) fn total(self) -> u64 {
+    pub(crate) fn total(self) -> u64
+        ensures { result ≡ max self.new self.sum }
+    {
         self.new.max(self.sum)
     }
 }
