@@ -29,13 +29,16 @@ pub(crate) struct HealthFile {
     reported: Option<Reason>,
 }
 
+/// The file, for two threads.
+type Shared = Arc<Mutex<HealthFile>, Global>;
+
 /// The file with this path.
-pub(crate) fn health_file_of(
+fn health_file_of(
     alloc: Global,
     path: &str,
     heard: &Arc<Heard, Global>,
     frame: Option<u64>,
-) -> Result<Arc<Mutex<HealthFile>, Global>, AllocError> {
+) -> Result<Shared, AllocError> {
     let mut part = String::from_str(alloc, path)?;
     part.push_str(".part")?;
     let file = HealthFile {
@@ -50,6 +53,22 @@ pub(crate) fn health_file_of(
         Ok(file) => Ok(file),
         Err(_) => Err(AllocError),
     }
+}
+
+/// What is known, and the file, if there is a path: one for the thread that keeps it written, and one
+/// for the end.
+pub(crate) fn health_of(
+    alloc: Global,
+    path: Option<&str>,
+    frame: Option<u64>,
+) -> Result<(Arc<Heard, Global>, Option<(Shared, Shared)>), AllocError> {
+    let heard = Heard::new(alloc)?;
+    let Some(path) = path else {
+        return Ok((heard, None));
+    };
+    let file = health_file_of(alloc, path, &heard, frame)?;
+    let other = Arc::try_clone(&file)?;
+    Ok((heard, Some((file, other))))
 }
 
 /// Writes a file under the name `part` and renames it.

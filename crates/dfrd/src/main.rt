@@ -18,26 +18,23 @@ mod standing;
 mod words;
 
 use crate::folder::{Folder, Records};
-use crate::health_file::{HealthFile, health_file_of, keep_written, write_last};
-use crate::heard::{Heard, Heeded};
+use crate::health_file::{health_of, keep_written, write_last};
+use crate::heard::Heeded;
 use crate::operator::{Follower, WAITING, Waker, follower_of, open_orders};
 use crate::outcome::{complain, out_of_memory};
-use crate::output::{How, lines_of, write_lines};
+use crate::output::{lines_of, write_lines};
 use crate::place::{Place, watch};
 use crate::record::{Plan, keep_of, plan_of, record};
 use crate::words::{Answer, Asked, answer_of};
 use comtrade_io::{ToolFault, fault_of, put_safe};
 use comtrade_values::put;
-use dfr_station::{Input, Store};
 use rtrb::{Consumer, RingBuffer};
 use std::alloc::{AllocError, Global};
 use std::fs::File;
-use std::io::{ErrorKind, Read};
+use std::io::ErrorKind;
 use std::process::ExitCode;
 use std::rt::{Env, Files};
-use std::sync::{Arc, Mutex, Wait};
-use std::thread::Threads;
-use std::time::Clock;
+use std::sync::Arc;
 use std::{env, io, thread};
 
 /// Prints a usage error in printable characters. Returns the exit status.
@@ -168,115 +165,15 @@ fn made_ready<'a, K: Records, R: Files<File = File> + Print + Eprint + AllocGlob
     Ok(ready)
 }
 
-/// Starts the threads that look after the folder and follow an operator. They have copies of the
-/// runtime, and aren't waited for: they end with the program.
-fn have_started<
-    R: Files<File = File>
-        + Eprint
-        + AllocGlobal
-        + Clone
-        + Threads
-        + Wait
-        + Clock
-        + Send
-        + Drop
-        + 'static,
->(
-    rt: &R,
-    place: Arc<Place, Global>,
-    following: Option<(Follower, Waker)>,
-) -> Result<bool, AllocError> {
-    let (one, two, three) = (rt.clone()?, rt.clone()?, rt.clone()?);
-    let mut started = thread::spawn(rt, move || watch(&one, &place)).is_ok();
-    if let Some((mut follower, waker)) = following {
-        started = started && thread::spawn(rt, move || follower.follow(&two)).is_ok();
-        started = started && thread::spawn(rt, move || waker.wake(&three)).is_ok();
+/// A copy of the runtime for a thread that is not waited for: it ends with the program.
+fn copy_of<R: Eprint + Clone>(rt: &R) -> Option<R> {
+    match rt.clone() {
+        Ok(copy) => Some(copy),
+        Err(_) => {
+            out_of_memory(rt);
+            None
+        }
     }
-    Ok(started)
-}
-
-/// What is known of the recording's health, and the file that a thread writes, if it is asked for.
-/// Err if there is no memory or no thread.
-fn health_of<
-    R: Files<File = File>
-        + Eprint
-        + AllocGlobal
-        + Clone
-        + Threads
-        + Wait
-        + Clock
-        + Send
-        + Drop
-        + 'static,
->(
-    rt: &R,
-    path: Option<&str>,
-    heard: &Arc<Heard, Global>,
-    frame: Option<u64>,
-) -> Result<Option<Arc<Mutex<HealthFile>, Global>>, AllocError> {
-    let Some(path) = path else {
-        return Ok(None);
-    };
-    let file = health_file_of(rt.alloc(), path, heard, frame)?;
-    let other = Arc::try_clone(&file)?;
-    let copy = rt.clone()?;
-    match thread::spawn(rt, move || keep_written(&copy, &other)) {
-        Ok(_) => Ok(Some(file)),
-        Err(_) => Err(AllocError),
-    }
-}
-
-/// Records as it is asked for. Returns the exit status. Err if something can't be allocated or
-/// a thread can't be started.
-fn recorded<
-    I: Read + Send + Drop,
-    K: Store + Send + Drop,
-    R: Files<File = File>
-        + Print
-        + Eprint
-        + AllocGlobal
-        + Clone
-        + Threads
-        + Wait
-        + Clock
-        + Send
-        + Sync
-        + Drop
-        + 'static,
->(rt: &R, ready: Ready<'_>, input: I, store: K) -> Result<u8, AllocError> {
-    let Ready {
-        asked,
-        plan,
-        place,
-        operator,
-        following,
-    } = ready;
-    let how = How {
-        is_quiet: asked.is_quiet,
-        is_journal: asked.is_journal,
-    };
-    let frame = matches!(asked.input, Input::Frames).then_some(plan.frame as u64);
-    let heard = Heard::new(rt.alloc())?;
-    let (mut lines, mut waiting, progress) = lines_of(rt, &heard, how)?;
-    let copy = rt.clone()?;
-    if thread::spawn(rt, move || write_lines(&copy, &mut waiting, &progress)).is_err()
-        || !have_started(rt, place, following)?
-    {
-        return Err(AllocError);
-    }
-    let health = health_of(rt, asked.health, &heard, frame)?;
-    let input = Heeded {
-        rt,
-        input,
-        heard,
-        frame,
-    };
-    let status = record(rt, &asked, &plan, operator, input, store, &mut lines);
-    lines.finish();
-    if let Some(file) = health {
-        write_last(rt, &file);
-    }
-    Ok(status)
 }
 
 fn main(rt: HostRuntime) -> ExitCode {
@@ -292,8 +189,56 @@ fn main(rt: HostRuntime) -> ExitCode {
         Ok(ready) => ready,
         Err(status) => return ExitCode::from(status),
     };
-    match recorded(&rt, ready, rt.reader(), folder) {
-        Ok(status) => ExitCode::from(status),
-        Err(_) => ExitCode::from(out_of_memory(&rt)),
+    let Ready {
+        asked,
+        plan,
+        place,
+        operator,
+        following,
+    } = ready;
+    let frame = plan.frame_in(asked.input);
+    let Ok((heard, health)) = health_of(rt.alloc(), asked.health, frame) else {
+        return ExitCode::from(out_of_memory(&rt));
+    };
+    let Ok((mut lines, mut waiting, progress)) = lines_of(&rt, &heard, asked.how()) else {
+        return ExitCode::from(out_of_memory(&rt));
+    };
+    let (Some(one), Some(two), Some(three), Some(four), Some(five)) = (
+        copy_of(&rt),
+        copy_of(&rt),
+        copy_of(&rt),
+        copy_of(&rt),
+        copy_of(&rt),
+    ) else {
+        return ExitCode::from(1);
+    };
+    let mut started = thread::spawn(
+        &rt,
+        move || write_lines(&one, &mut waiting, &progress),
+    ).is_ok();
+    started = started && thread::spawn(&rt, move || watch(&two, &place)).is_ok();
+    if let Some((mut follower, waker)) = following {
+        started = started && thread::spawn(&rt, move || follower.follow(&three)).is_ok();
+        started = started && thread::spawn(&rt, move || waker.wake(&four)).is_ok();
     }
+    let mut last = None;
+    if let Some((file, other)) = health {
+        started = started && thread::spawn(&rt, move || keep_written(&five, &file)).is_ok();
+        last = Some(other);
+    }
+    if !started {
+        return ExitCode::from(out_of_memory(&rt));
+    }
+    let input = Heeded {
+        rt: &rt,
+        input: rt.reader(),
+        heard,
+        frame,
+    };
+    let status = record(&rt, &asked, &plan, operator, input, folder, &mut lines);
+    lines.finish();
+    if let Some(file) = last {
+        write_last(&rt, &file);
+    }
+    ExitCode::from(status)
 }

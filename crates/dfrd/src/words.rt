@@ -1,6 +1,7 @@
 //! What the command line asks for.
 
 use crate::options::dfrd;
+use crate::output::How;
 use clap::error::ErrorKind;
 use clap::{ArgMatches, Error};
 use comtrade_write::Kind;
@@ -42,6 +43,14 @@ impl Asked<'_> {
     /// also where it isn't printed.
     pub(crate) fn has_minutes(&self) -> bool {
         !self.is_quiet || self.health.is_some()
+    }
+
+    /// How lines are printed.
+    pub(crate) fn how(&self) -> How {
+        How {
+            is_quiet: self.is_quiet,
+            is_journal: self.is_journal,
+        }
     }
 }
 
