@@ -19,4 +19,4 @@ until_told "$work/told" 'record 2'
 exec 3>&-
 wait
 sed 's/^\(<[0-9]>\)[0-9]*-[0-9]*-[0-9]*T[0-9:.]* /\1 /; s/ clock.*//' "$work/told" | grep -v 'shelf f'
-sed -n 's/>.* shelf/> shelf/p' "$work/told" | sort -u
+sed -n 's/>[^ ]* shelf/> shelf/p' "$work/told" | sort -u
