@@ -27,6 +27,7 @@ _dfrd() {
         --kind) word='ascii binary' ;;
         --start) word='now' ;;
         --orders) return ;;
+        --health) return ;;
         *) compopt +o default 2> /dev/null; return ;;
         esac
     elif [[ -z $only && $cur == -* ]]; then

@@ -21,7 +21,7 @@ complete -c dfrd -l kind -x -a 'ascii binary' -d 'The form of the data files; as
 complete -c dfrd -l raw -d 'Read scans as frames of bytes, not as lines'
 complete -c dfrd -l start -x -a 'now' -d 'The time of the first scan: now (default) or microseconds since 1970-01-01 00:00:00 UTC'
 complete -c dfrd -l orders -r -F -d 'Read an operator\'s orders (`trigger`, `rules ..`) from a FIFO or a growing file'
-complete -c dfrd -l health -x -d 'Write the recording\'s health into FILE every ten seconds, for Prometheus'
+complete -c dfrd -l health -r -F -d 'Write the recording\'s health into FILE every ten seconds, for Prometheus'
 complete -c dfrd -l keep -x -d 'Keep at most N records; delete the oldest'
 complete -c dfrd -l keep-bytes -x -d 'Keep at most this many bytes of records; delete the oldest'
 complete -c dfrd -l check -d 'Check SETUP and DIR, then exit'

@@ -55,8 +55,8 @@ fn health_file_of(
     }
 }
 
-/// What is known, and the file, if there is a path: one for the thread that keeps it written, and one
-/// for the end.
+/// What is known, and the file, if there is a path: one for the thread that keeps it written, and
+/// one for the end.
 pub(crate) fn health_of(
     alloc: Global,
     path: Option<&str>,

@@ -170,7 +170,7 @@ impl Standing {
         }
     }
 
-    /// Takes a line, given without its instant, at an instant in milliseconds on the monotonic clock.
+    /// Takes a line, given without its instant. `millis` is when, on the monotonic clock.
     pub(crate) fn hear(&mut self, what: &str, millis: u64) {
         let word = match what.split_once(' ') {
             Some((word, _)) => word,
