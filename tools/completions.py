@@ -4,6 +4,7 @@ import re
 MADE = "Made by tools/manuals; do not edit."
 KINDS = {"DIR": "folders", "SETUP": "files", "SCRIPT": "files", "COMMAND": "commands"}  # all others: records
 WORDS = {"START": ("now",)}  # values that the help gives in words
+PATHS = "PATH", "FILE"  # the values that are names of files
 
 class Part:
     """What may follow a command, or a program without commands."""
@@ -118,7 +119,7 @@ def bash(top, parts):
         for option, words in part.options:
             if words:
                 values[option.flags[-1]] = f"word='{wrapped(words, ' ' * 12)}'"
-            elif option.value == "PATH":
+            elif option.value in PATHS:
                 values[option.flags[-1]] = "return"
     lines = "\n".join(f"        {flag}) {text} ;;" for flag, text in values.items())
     used = kinds_of(top, parts)
@@ -140,7 +141,7 @@ def zsh_specs(part, name):
     for option, words in part.options:
         text = re.sub(r"([\\\[\]:])", r"\\\1", option.text)
         value = f":{option.value}:" if option.value else ""
-        value += f"({' '.join(words)})" if words else "_files" if option.value == "PATH" else " " if value else ""
+        value += f"({' '.join(words)})" if words else "_files" if option.value in PATHS else " " if value else ""
         for flag in option.flags:
             rest = "" if flag not in ("-h", "--help", "-V", "--version") else "(- *)"
             yield quoted(f"{'*' if option.many else ''}{rest}{flag}{'=' if option.value else ''}[{text}]{value}")
@@ -245,7 +246,7 @@ def fish(top, parts):
         everywhere = not parts or names[0] == "" != names[-1]
         line += "" if everywhere else f" -n {fish_text(' '.join([f'__{name}_has', *filter(None, names)]))}"
         line += "".join(f" -l {flag[2:]}" if flag.startswith("--") else f" -s {flag[1:]}" for flag in option.flags)
-        line += " -r -F" if option.value == "PATH" else " -x" if option.value else ""
+        line += " -r -F" if option.value in PATHS else " -x" if option.value else ""
         line += f" -a {fish_text(' '.join(words))}" if words else ""
         text += line + f" -d {fish_text(option.text)}\n"
     for (kind, at), names in arguments.items():

@@ -5,8 +5,9 @@ _dfrd() {
     local i word
     COMPREPLY=()
     [ "$cur" != = ] || cur=''
-    flags='--kind --raw --start --orders --keep --keep-bytes --check --quiet -h --help -V --version'
-    valued='--kind --start --orders --keep --keep-bytes'
+    flags='--kind --raw --start --orders --health --keep --keep-bytes --check --quiet --journal -h
+           --help -V --version'
+    valued='--kind --start --orders --health --keep --keep-bytes'
     places=(files folders)
     for ((i = first; i < COMP_CWORD; i++)); do
         word=${COMP_WORDS[i]} option=''
@@ -26,6 +27,7 @@ _dfrd() {
         --kind) word='ascii binary' ;;
         --start) word='now' ;;
         --orders) return ;;
+        --health) return ;;
         *) compopt +o default 2> /dev/null; return ;;
         esac
     elif [[ -z $only && $cur == -* ]]; then

@@ -6,7 +6,7 @@ function __dfrd_at
     set -e words[1]
     set -l place 0
     while set -q words[1]
-        if contains -- $words[1] --kind --start --orders --keep --keep-bytes
+        if contains -- $words[1] --kind --start --orders --health --keep --keep-bytes
             set -e words[1]
         else if not string match -q -- '-*' $words[1]
             set place (math $place + 1)
@@ -21,10 +21,12 @@ complete -c dfrd -l kind -x -a 'ascii binary' -d 'The form of the data files; as
 complete -c dfrd -l raw -d 'Read scans as frames of bytes, not as lines'
 complete -c dfrd -l start -x -a 'now' -d 'The time of the first scan: now (default) or microseconds since 1970-01-01 00:00:00 UTC'
 complete -c dfrd -l orders -r -F -d 'Read an operator\'s orders (`trigger`, `rules ..`) from a FIFO or a growing file'
+complete -c dfrd -l health -r -F -d 'Write the recording\'s health into FILE every ten seconds, for Prometheus'
 complete -c dfrd -l keep -x -d 'Keep at most N records; delete the oldest'
 complete -c dfrd -l keep-bytes -x -d 'Keep at most this many bytes of records; delete the oldest'
 complete -c dfrd -l check -d 'Check SETUP and DIR, then exit'
 complete -c dfrd -l quiet -d 'Do not print a line each minute'
+complete -c dfrd -l journal -d 'Begin each line with its syslog level, as <6>, for journald'
 complete -c dfrd -s h -l help -d 'Print help'
 complete -c dfrd -s V -l version -d 'Print version'
 complete -c dfrd -n '__dfrd_at 0' -F

@@ -3,6 +3,10 @@
 
 mod folder;
 mod found;
+mod health;
+mod health_file;
+mod heard;
+mod level;
 mod operator;
 mod options;
 mod outcome;
@@ -10,9 +14,12 @@ mod output;
 mod pair;
 mod place;
 mod record;
+mod standing;
 mod words;
 
 use crate::folder::{Folder, Records};
+use crate::health_file::{health_of, keep_written, write_last};
+use crate::heard::Heeded;
 use crate::operator::{Follower, WAITING, Waker, follower_of, open_orders};
 use crate::outcome::{complain, out_of_memory};
 use crate::output::{lines_of, write_lines};
@@ -189,10 +196,15 @@ fn main(rt: HostRuntime) -> ExitCode {
         operator,
         following,
     } = ready;
-    let Ok((mut lines, mut waiting, progress)) = lines_of(&rt) else {
+    let frame = plan.frame_in(asked.input);
+    let Ok((heard, health)) = health_of(rt.alloc(), asked.health, frame) else {
         return ExitCode::from(out_of_memory(&rt));
     };
-    let (Some(one), Some(two), Some(three), Some(four)) = (
+    let Ok((mut lines, mut waiting, progress)) = lines_of(&rt, &heard, asked.how()) else {
+        return ExitCode::from(out_of_memory(&rt));
+    };
+    let (Some(one), Some(two), Some(three), Some(four), Some(five)) = (
+        copy_of(&rt),
         copy_of(&rt),
         copy_of(&rt),
         copy_of(&rt),
@@ -209,18 +221,24 @@ fn main(rt: HostRuntime) -> ExitCode {
         started = started && thread::spawn(&rt, move || follower.follow(&three)).is_ok();
         started = started && thread::spawn(&rt, move || waker.wake(&four)).is_ok();
     }
+    let mut last = None;
+    if let Some((file, other)) = health {
+        started = started && thread::spawn(&rt, move || keep_written(&five, &file)).is_ok();
+        last = Some(other);
+    }
     if !started {
         return ExitCode::from(out_of_memory(&rt));
     }
-    let status = record(
-        &rt,
-        &asked,
-        &plan,
-        operator,
-        rt.reader(),
-        folder,
-        &mut lines,
-    );
+    let input = Heeded {
+        rt: &rt,
+        input: rt.reader(),
+        heard,
+        frame,
+    };
+    let status = record(&rt, &asked, &plan, operator, input, folder, &mut lines);
     lines.finish();
+    if let Some(file) = last {
+        write_last(&rt, &file);
+    }
     ExitCode::from(status)
 }

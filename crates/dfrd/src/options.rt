@@ -70,10 +70,15 @@ fn with_forms<'a>(alloc: Global, command: Command<'a>) -> Result<Command<'a>, Al
     with(two, choice(alloc, "start", "START", start))
 }
 
-/// Adds `--orders`, `--keep` and `--keep-bytes`.
+/// Adds `--orders`, `--health`, `--keep` and `--keep-bytes`.
 fn with_paths<'a>(alloc: Global, command: Command<'a>) -> Result<Command<'a>, AllocError> {
     let orders = "Read an operator's orders (`trigger`, `rules ..`) from a FIFO or a growing file";
-    let one = with(command, choice(alloc, "orders", "PATH", orders))?;
+    let orders = choice(alloc, "orders", "PATH", orders);
+    let health = "Write the recording's health into FILE every ten seconds, for Prometheus";
+    let one = with(
+        with(command, orders)?,
+        choice(alloc, "health", "FILE", health),
+    )?;
     let two = with(
         one,
         choice(
@@ -87,11 +92,13 @@ fn with_paths<'a>(alloc: Global, command: Command<'a>) -> Result<Command<'a>, Al
     with(two, choice(alloc, "keep-bytes", "BYTES", bytes))
 }
 
-/// Adds `--check` and `--quiet`.
+/// Adds `--check`, `--quiet` and `--journal`.
 fn with_flags<'a>(alloc: Global, command: Command<'a>) -> Result<Command<'a>, AllocError> {
     let check = flag(alloc, "check", "Check SETUP and DIR, then exit");
     let quiet = flag(alloc, "quiet", "Do not print a line each minute");
-    with(with(command, check)?, quiet)
+    let journal = "Begin each line with its syslog level, as <6>, for journald";
+    let journal = flag(alloc, "journal", journal);
+    with(with(with(command, check)?, quiet)?, journal)
 }
 
 /// Adds the arguments SETUP and DIR.

@@ -64,6 +64,9 @@ pub(crate) enum FileFault {
     /// The operator's file.
     #[error("cannot be read: {0}")]
     Read(Reason),
+    /// The file of the recording's health.
+    #[error("cannot be written: {0}")]
+    Written(Reason),
     /// The folder, which another `dfrd` may then use too.
     #[error("cannot be locked: {0}")]
     Locked(Reason),

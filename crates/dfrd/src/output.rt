@@ -1,6 +1,9 @@
 //! Standard output, on which events are printed. A thread of its own writes to it, since a pipe that
 //! nobody reads holds up whoever writes.
 
+use crate::heard::Heard;
+use crate::level::{Level, level_of, what_of};
+use comtrade_values::put;
 use dfr_station::{Event, Printer, now, put_event};
 use rtrb::{Consumer, Producer, RingBuffer};
 use std::alloc::{AllocError, Global};
@@ -46,11 +49,25 @@ pub(crate) struct Lines<'a, R> {
     missed: u64,
     /// The line that reports them.
     report: Vec<u8>,
+    /// Who hears of each line, printed or not.
+    heard: Arc<Heard, Global>,
+    how: How,
+}
+
+/// How lines are printed.
+#[derive(Clone, Copy, Debug)]
+pub(crate) struct How {
+    /// The line of each minute is left out.
+    pub(crate) is_quiet: bool,
+    /// Each line begins with its syslog level.
+    pub(crate) is_journal: bool,
 }
 
 /// The lines, and what the thread needs that writes them.
 pub(crate) fn lines_of<'a, R: AllocGlobal>(
     rt: &'a R,
+    heard: &Arc<Heard, Global>,
+    how: How,
 ) -> Result<(Lines<'a, R>, Consumer<u8>, Arc<Progress, Global>), AllocError> {
     let (queue, waiting) = RingBuffer::new(rt.alloc(), WAITING)?;
     let progress = Arc::new(
@@ -68,36 +85,59 @@ pub(crate) fn lines_of<'a, R: AllocGlobal>(
         given: 0,
         missed: 0,
         report: Vec::new(rt.alloc()),
+        heard: Arc::try_clone(heard)?,
+        how,
     };
     Ok((lines, waiting, shared))
 }
 
 impl<R: Clock> Lines<'_, R> {
-    /// Puts a line into the queue, after a report of the lines that were missed. If there is no room
-    /// for both, the line is missed.
-    fn put(&mut self, line: &[u8]) {
-        self.report.clear();
-        let missed = Event::Missed(self.missed);
-        if self.missed > 0 && put_event(&mut self.report, now(self.rt), missed).is_err() {
-            self.missed = self.missed.saturating_add(1);
-            return;
+    /// What a line of this level begins with.
+    fn prefix(&self, level: Level) -> &'static str {
+        if self.how.is_journal {
+            level.prefix()
+        } else {
+            ""
         }
-        let (first, second) = (self.report.len() as u64, line.len() as u64);
+    }
+
+    /// Makes the line that reports missed lines, if there are any.
+    fn make_report(&mut self) -> Result<(), AllocError> {
+        self.report.clear();
+        if self.missed == 0 {
+            return Ok(());
+        }
+        let prefix = self.prefix(Level::Loss);
+        put(&mut self.report, prefix)?;
+        put_event(&mut self.report, now(self.rt), Event::Missed(self.missed))
+    }
+
+    /// Puts a line into the queue, after a report of the lines that were missed. If there is no room
+    /// for both, the line is missed. Returns whether there was.
+    fn put(&mut self, prefix: &str, line: &[u8]) -> bool {
+        if self.make_report().is_err() {
+            self.missed = self.missed.saturating_add(1);
+            return false;
+        }
+        let first = self.report.len() as u64;
+        let second = (prefix.len() as u64).saturating_add(line.len() as u64);
         if (self.queue.slots() as u64) < first.saturating_add(second) {
             self.missed = self.missed.saturating_add(1);
-            return;
+            return false;
         }
         let _ = self.queue.push_entire_slice(&self.report);
+        let _ = self.queue.push_entire_slice(prefix.as_bytes());
         let _ = self.queue.push_entire_slice(line);
         self.given = self.given.saturating_add(first).saturating_add(second);
         self.missed = 0;
+        true
     }
 
     /// Whether all lines are written, those that report missed ones too.
     fn is_done(&mut self) -> bool {
         let missed = self.missed;
         if missed > 0 {
-            self.put(&[]);
+            self.put("", &[]);
         }
         if self.missed > missed {
             // there was no room for the report: it is no line that was missed
@@ -120,7 +160,22 @@ impl<R: Clock> Lines<'_, R> {
     }
 }
 
-impl<R: Clock> Printer for Lines<'_, R> {
+impl<R: Wait + Clock> Lines<'_, R> {
+    /// Prints a line, unless it is to be left out.
+    fn print_line(&mut self, line: &[u8]) {
+        let what = what_of(line);
+        self.heard.hear(self.rt, what);
+        if self.how.is_quiet && what.starts_with("minute ") {
+            return;
+        }
+        let prefix = self.prefix(level_of(what));
+        if !self.put(prefix, line) {
+            self.heard.miss_lines(self.rt, 1);
+        }
+    }
+}
+
+impl<R: Wait + Clock> Printer for Lines<'_, R> {
     fn print(&mut self, text: &[u8]) {
         let mut rest = text;
         for _ in 0..text.len() {
@@ -131,7 +186,7 @@ impl<R: Clock> Printer for Lines<'_, R> {
                 Some(at) => at.saturating_add(1),
                 None => rest.len(),
             };
-            self.put(rest.get(..end).unwrap_or(&[]));
+            self.print_line(rest.get(..end).unwrap_or(&[]));
             rest = rest.get(end..).unwrap_or(&[]);
         }
     }

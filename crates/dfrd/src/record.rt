@@ -6,7 +6,8 @@ use crate::words::Asked;
 use comtrade_io::{ToolFault, fault_of, read_up_to};
 use dfr_recorder::Recorder;
 use dfr_station::{
-    Printer, Run, Station, Store, finish_station, frame_len, read_first, recorder_of, run_station,
+    Input, Printer, Run, Station, Store, finish_station, frame_len, read_first, recorder_of,
+    run_station,
 };
 use rtrb::Consumer;
 use std::alloc::Global;
@@ -35,6 +36,13 @@ pub(crate) struct Plan {
     pub(crate) frame: usize,
     /// The scans per second.
     pub(crate) rate: u32,
+}
+
+impl Plan {
+    /// The size of a frame, if the input has frames.
+    pub(crate) fn frame_in(&self, input: Input) -> Option<u64> {
+        matches!(input, Input::Frames).then_some(self.frame as u64)
+    }
 }
 
 /// Reads the set-up file.
@@ -149,7 +157,7 @@ pub(crate) fn record<
     store: K,
     printer: &mut P,
 ) -> u8 {
-    let how = (asked.input, plan.frame, !asked.is_quiet);
+    let how = (asked.input, plan.frame, asked.has_minutes());
     let Ok(first) = read_first(rt, rt.alloc(), &mut input, printer, how) else {
         return out_of_memory(rt);
     };
@@ -163,7 +171,7 @@ pub(crate) fn record<
                 recorder,
                 input: asked.input,
                 kind: asked.kind,
-                minutes: !asked.is_quiet,
+                minutes: asked.has_minutes(),
                 operator,
             };
             let Run {

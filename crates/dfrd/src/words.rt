@@ -1,6 +1,7 @@
 //! What the command line asks for.
 
 use crate::options::dfrd;
+use crate::output::How;
 use clap::error::ErrorKind;
 use clap::{ArgMatches, Error};
 use comtrade_write::Kind;
@@ -23,6 +24,8 @@ pub struct Asked<'a> {
     pub start: Option<i64>,
     /// The path of an operator's FIFO or file.
     pub orders: Option<&'a str>,
+    /// The path of the file of the recording's health.
+    pub health: Option<&'a str>,
     /// The most records to keep. None if there is no such limit.
     pub pairs: Option<u64>,
     /// The most bytes of records to keep. None if there is no such limit.
@@ -31,6 +34,24 @@ pub struct Asked<'a> {
     pub is_check: bool,
     /// Do not print a line each minute.
     pub is_quiet: bool,
+    /// Begin each line with its syslog level.
+    pub is_journal: bool,
+}
+
+impl Asked<'_> {
+    /// Whether the station is to make a line each minute. The counts in it are part of the health,
+    /// also where it isn't printed.
+    pub(crate) fn has_minutes(&self) -> bool {
+        !self.is_quiet || self.health.is_some()
+    }
+
+    /// How lines are printed.
+    pub(crate) fn how(&self) -> How {
+        How {
+            is_quiet: self.is_quiet,
+            is_journal: self.is_journal,
+        }
+    }
 }
 
 /// The answer to a command line.
@@ -116,10 +137,12 @@ fn asked_of<'a>(found: &ArgMatches<'a>) -> Result<Asked<'a>, &'static str> {
         input: input_of(found),
         start,
         orders: found.get_str("orders"),
+        health: found.get_str("health"),
         pairs,
         bytes,
         is_check: found.get_flag("check"),
         is_quiet: found.get_flag("quiet"),
+        is_journal: found.get_flag("journal"),
     })
 }
 
