@@ -3,20 +3,39 @@
 bay3=/var/lib/dfrd/bay3
 log_of() { echo "journalctl --no-pager -u dfrd@$1"; }
 
-check "the previous version is installed, and records" inside << 'END'
+check "an earlier package is installed, and records" inside << 'END'
 apt-get install -y ../previous/*.deb
 systemctl start dfrd@example
-echo "# mine" >> /etc/dfrd/example.setup
+cd /var/lib/dfrd/example
+is_there() { ls *.cfg; }
+soon is_there
+ls | xargs sha256sum > /tmp/recorded
+cat /tmp/recorded
 END
 check "docs/INSTALL.md, A station" inside <<< "$(block 'A station')"
 check "the version is today's" inside << END
 dpkg-query -Wf '\${Version}' dfr | grep -x '$version'
 dfrd --version | grep -F ' $version '
 END
-check "the upgrade restarted the running recorder, and kept the changed set-up" inside << END
+check "the upgrade restarted the running recorder, and changed no record" inside << END
 systemctl is-active dfrd@example
 [ "\$($(log_of example) | grep -c 'start 20')" = 2 ]
-grep -x '# mine' /etc/dfrd/example.setup
+cd /var/lib/dfrd/example
+sha256sum -c /tmp/recorded
+END
+check "the upgrade brought today's set-up of the example, which nobody had changed" inside << 'END'
+dpkg-deb --fsys-tarfile dfr_*.deb | tar -xO ./etc/dfrd/example.setup > /tmp/today
+dpkg-deb --fsys-tarfile ../previous/*.deb | tar -xO ./etc/dfrd/example.setup > /tmp/then
+cmp /tmp/today /etc/dfrd/example.setup
+no cmp /tmp/then /etc/dfrd/example.setup
+END
+check "an upgrade keeps a set-up that somebody changed, with --force-confold" inside << 'END'
+apt-get install -y --allow-downgrades ../previous/*.deb
+echo '# mine' >> /etc/dfrd/example.setup
+apt-get install -y -o Dpkg::Options::=--force-confold ./dfr_*.deb
+tail -n 1 /etc/dfrd/example.setup | grep -x '# mine'
+cmp /tmp/today /etc/dfrd/example.setup.dpkg-dist
+systemctl is-active dfrd@example
 END
 check "systemd-analyze verify" inside <<< \
     '[ -z "$(systemd-analyze verify dfrd@bay3.service 2>&1)" ]'
