@@ -1,10 +1,12 @@
-# Sourced by packaging/try: the rpm, in the same system, after the deb was purged. Debian's rpm knows
-# no package that it could need, so it is installed with --nodeps after a look at what it asks for.
+# Sourced by packaging/try: the rpm, in the same system, after the deb was purged. Debian's rpm finds
+# no other package installed, hence --nodeps, after a look at what it asks for.
 check "the rpm: its checksums, and what it needs" inside << 'END'
 rpm -K --nosignature dfr-*.rpm
 no rpm -i --test dfr-*.rpm
-rpm -qp --requires dfr-*.rpm | grep -v '^rpmlib\|^libgcc_s' | sed 's/ .*//; s/GLIBC_[0-9.]*/GLIBC/' | sort -u |
-    tr '\n' ' ' | grep -x '/bin/sh bash coreutils findutils libc.so.6(GLIBC)(64bit) systemd util-linux '
+rpm -qp --requires dfr-*.rpm > /tmp/needed
+cat /tmp/needed
+known='^(rpmlib|/bin/sh$|lib.*64bit|bash|coreutils|findutils|util-linux|systemd)'
+[ -z "$(grep -vE "$known" /tmp/needed)" ]
 END
 check "an earlier rpm is installed, and records" inside << 'END'
 rpm -i --nodeps ../previous/*.rpm
