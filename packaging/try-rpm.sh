@@ -1,4 +1,4 @@
-# Sourced by packaging/try: the rpm, in the same system, after the deb was purged. Debian's rpm finds
+# Sourced by packaging/try: the rpm, in the same system, after the deb was purged. Debian's rpm sees
 # no other package installed, hence --nodeps, after a look at what it asks for.
 check "the rpm: its checksums, and what it needs" inside << 'END'
 rpm -K --nosignature dfr-*.rpm
