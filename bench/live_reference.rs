@@ -1,4 +1,4 @@
-//! The measures of `measure live` over the reference: put it beside the reference's own `bench` (src/bin/live_reference.rs), and run
+//! The measures of `benchmarks live` over the reference: put it beside the reference's own `bench` (src/bin/live_reference.rs), and run
 //! `cargo build --release && target/release/live_reference RUNS`.
 
 // a refused call hands its owned arguments back
@@ -58,7 +58,7 @@ fn recorder() -> Recorder {
     Recorder::new(layout, limits, rules)
 }
 
-/// The same 64 scans as `measure live` has.
+/// The same 64 scans as `benchmarks live` has.
 fn set() -> Vec<Scan> {
     let mut state = 1_u64;
     let mut next = move |range: u64| {

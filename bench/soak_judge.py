@@ -1,4 +1,4 @@
-"""Judges what `measure soak` printed, from the definitions of the recorder alone.
+"""Judges what `benchmarks soak` printed, from the definitions of the recorder alone.
 
 The script says what was given; the transcript what each caller saw and what the end left. The recorder here keeps every scan and
 every interval for ever and cuts records out by their places: it has no ring, no shelf and no open record.

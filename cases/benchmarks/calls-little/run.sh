@@ -1,2 +1,2 @@
-"$measure" calls
-"$measure" live
+"$benchmarks" calls
+"$benchmarks" live

@@ -2,13 +2,12 @@
 
 use crate::around::rms_of;
 use crate::content::{Reading, file_spelled};
-use crate::load::{Inputs, pair_of, read_pair};
+use crate::load::{Inputs, read_record};
 use crate::part::{Taken, taken_of};
 use crate::survey::say_repairs;
 use crate::view::{NO_SIZE, options_of};
 use crate::{complain, note_size, say};
 use bumpalo::Bump;
-use comtrade_diagnostics::Pair;
 use comtrade_format::File;
 use comtrade_io::{Compared, Names, Part, ToolFault};
 use comtrade_plot::{By, CompareOptions, PlotOptions, Timed, compare_over};
@@ -38,16 +37,17 @@ fn part_beside<'a>(part: Part<'a>) -> Part<'a> {
     }
 }
 
-/// The file of a record; None if it cannot be read, which is printed.
+/// The file of a record; the bytes of its files are released. None if it cannot be read, which is
+/// printed.
 fn file_in<R: Eprint + AllocGlobal, A: Allocator + Copy>(
     rt: &R,
     lists: A,
     name: &str,
-    reading: Reading<'_>,
-    pair: Pair<'_>,
+    part: Part<'_>,
+    inputs: Inputs,
 ) -> Result<Option<File<A>>, ToolFault> {
     let mut said = Vec::new(lists);
-    match file_spelled(lists, pair, reading, &mut said)? {
+    match file_spelled(lists, &inputs, Reading::to_show(part, false), &mut said)? {
         Some(loaded) => {
             say_repairs(rt, name, &said)?;
             Ok(Some(loaded.file))
@@ -57,18 +57,6 @@ fn file_in<R: Eprint + AllocGlobal, A: Allocator + Copy>(
             Ok(None)
         }
     }
-}
-
-/// The file of a record; the bytes of its files are released.
-fn file_from<R: Eprint + AllocGlobal, A: Allocator + Copy>(
-    rt: &R,
-    lists: A,
-    name: &str,
-    part: Part<'_>,
-    inputs: Inputs,
-) -> Result<Option<File<A>>, ToolFault> {
-    let reading = Reading::to_show(inputs.is_single(), part, false);
-    file_in(rt, lists, name, reading, pair_of(&inputs))
 }
 
 /// The record with this name; None if it cannot be read or has no such part, which is printed.
@@ -83,12 +71,11 @@ fn record_of<R: Files + Input + Eprint + AllocGlobal + Clone + Drop, A: Allocato
         file: name,
         dat: None,
     };
-    let Some(inputs) = read_pair(rt, names, part.strict) else {
+    let Some(inputs) = read_record(rt, names, part.strict) else {
         return Ok(None);
     };
-    say_repairs(rt, name, &inputs.said)?;
     note_size(rt, is_watched, &inputs);
-    let Some(file) = file_from(rt, lists, name, part, inputs)? else {
+    let Some(file) = file_in(rt, lists, name, part, inputs)? else {
         return Ok(None);
     };
     let mut said = Vec::new(lists);

@@ -1,17 +1,17 @@
 //! Reads the `File` that a pair holds. What the exact reader refuses, or what means something else
 //! than it reads as, is read as `import` reads it, with notes on the repairs.
 
-use crate::load::{put_import_fault, put_notes};
+use crate::load::{Inputs, REFUSED, pair_of, put_import_fault, put_notes};
 use comtrade_diagnostics::{
-    Choices, ImportFault, Imported, Intended, Pair, Texts, import, intended_of, put_fault,
-    put_remarks,
+    Choices, ImportFault, Intended, Pair, Repaired, Texts, intended_of, put_fault, put_remarks,
+    repaired_pair, repaired_single,
 };
 use comtrade_format::File;
-use comtrade_io::{Part as Asked, ToolFault, put_safe};
+use comtrade_io::{Part as Asked, ToolFault};
 use comtrade_read::{Fault, Part, ReadFault, read};
 use comtrade_values::put;
 use comtrade_views::{Encoding, spell_for_views, spell_in_utf8};
-use std::alloc::{AllocError, Allocator};
+use std::alloc::Allocator;
 
 /// Whether an error is in the first line, where files of other editions are refused.
 fn is_first(part: Part, fault: ReadFault) -> bool {
@@ -31,10 +31,10 @@ pub(crate) struct Reading<'a> {
 }
 
 impl<'a> Reading<'a> {
-    /// How a record is read to be shown. A single file has been imported already.
-    pub(crate) fn to_show(is_imported: bool, asked: Asked<'a>, has_remarks: bool) -> Reading<'a> {
+    /// How a record is read to be shown.
+    pub(crate) fn to_show(asked: Asked<'a>, has_remarks: bool) -> Reading<'a> {
         Reading {
-            is_strict: is_imported || asked.strict,
+            is_strict: asked.strict,
             encoding: asked.encoding,
             is_view: true,
             has_remarks,
@@ -42,21 +42,17 @@ impl<'a> Reading<'a> {
     }
 
     /// How a record is read to be written as a new pair.
-    pub(crate) fn to_write(is_imported: bool, asked: Asked<'a>) -> Reading<'a> {
+    pub(crate) fn to_write(asked: Asked<'a>) -> Reading<'a> {
         Reading {
             is_view: false,
-            ..Reading::to_show(is_imported, asked, false)
+            ..Reading::to_show(asked, false)
         }
     }
 
     /// How a record among many is read.
-    pub(crate) fn to_list(
-        is_imported: bool,
-        encoding: Option<&'a str>,
-        has_remarks: bool,
-    ) -> Reading<'a> {
+    pub(crate) fn to_list(encoding: Option<&'a str>, has_remarks: bool) -> Reading<'a> {
         Reading {
-            is_strict: is_imported,
+            is_strict: false,
             encoding,
             is_view: true,
             has_remarks,
@@ -67,7 +63,7 @@ impl<'a> Reading<'a> {
 /// Where the content of a file comes from.
 #[derive(Clone, Copy, PartialEq, Eq)]
 pub(crate) enum Origin {
-    /// The pair reads to it.
+    /// The pair reads to it, or a single file that becomes the equivalent pair.
     Literal,
     /// The pair reads exactly, but means something else.
     Repaired,
@@ -82,6 +78,34 @@ pub(crate) struct Loaded<A: Allocator> {
     pub(crate) origin: Origin,
 }
 
+/// The repaired file; `said` gets each repair, one line each.
+fn told<A: Allocator + Copy>(
+    repaired: Repaired<A>,
+    origin: Origin,
+    said: &mut Vec<u8, A>,
+) -> Result<Loaded<A>, ToolFault> {
+    let Repaired { file, notes } = repaired;
+    put_notes(said, &notes)?;
+    Ok(Loaded { file, origin })
+}
+
+/// The file of the pair in a single file, as `import` reads it. `said` gets each repair, one line
+/// each, or for None why it cannot be read.
+fn single_in<A: Allocator + Copy>(
+    alloc: A,
+    pair: Pair<'_>,
+    said: &mut Vec<u8, A>,
+) -> Result<Option<Loaded<A>>, ToolFault> {
+    match repaired_single(alloc, pair.cfg, Choices::default()) {
+        Ok(repaired) => Ok(Some(told(repaired, Origin::Literal, said)?)),
+        Err(ImportFault::Memory) => Err(ToolFault::Memory),
+        Err(fault) => {
+            put_import_fault(said, REFUSED, pair.cfg_name, fault)?;
+            Ok(None)
+        }
+    }
+}
+
 /// The file of a pair that the exact reader refused, as `import` reads it. `said` gets each repair,
 /// one line each, or for None why the pair cannot be read.
 fn imported_in<A: Allocator + Copy>(
@@ -90,37 +114,25 @@ fn imported_in<A: Allocator + Copy>(
     found: Fault,
     said: &mut Vec<u8, A>,
 ) -> Result<Option<Loaded<A>>, ToolFault> {
-    match import(alloc, pair.cfg, pair.dat, Choices::default()) {
-        Ok(Imported { file, notes, .. }) => {
-            put_notes(said, &notes)?;
-            return Ok(Some(Loaded {
-                file,
-                origin: Origin::Imported,
-            }));
-        }
+    match repaired_pair(alloc, pair.cfg, pair.dat, Choices::default()) {
+        Ok(repaired) => return Ok(Some(told(repaired, Origin::Imported, said)?)),
         Err(ImportFault::Memory) => return Err(ToolFault::Memory),
         Err(fault)
             if is_first(found.part, found.fault) && !matches!(fault, ImportFault::Cfg(1, _)) => {
-            put_import_fault(said, pair.cfg_name, fault)?;
+            put_import_fault(said, REFUSED, pair.cfg_name, fault)?;
         }
         Err(_) => put_fault(alloc, said, pair, found)?,
     }
     Ok(None)
 }
 
-/// That a pair means something else than it reads as, but cannot be imported.
-fn put_unclear<A: Allocator + Copy>(
-    out: &mut Vec<u8, A>,
-    name: &[u8],
-    fault: ImportFault,
-) -> Result<(), AllocError> {
-    let text = format!(in *out.allocator(); "{fault}")?;
-    put(out, "note: ")?;
-    put_safe(out, name)?;
-    put(out, ": `comtrade import` cannot read it: ")?;
-    put_safe(out, text.as_str().as_bytes())?;
-    put(out, "; this is its literal content\n")
-}
+/// The texts of a line on a pair that means something else than it reads as, but cannot be
+/// imported.
+const UNCLEAR: (&str, &str, &str) = (
+    "note: ",
+    ": `comtrade import` cannot read it: ",
+    "; this is its literal content\n",
+);
 
 /// What a pair means that reads exactly to this file. `said` gets each repair, one line each.
 fn intended_in<A: Allocator + Copy>(
@@ -137,7 +149,7 @@ fn intended_in<A: Allocator + Copy>(
             (file, Origin::Repaired)
         }
         Intended::Unclear(file, fault) => {
-            put_unclear(said, pair.cfg_name, fault)?;
+            put_import_fault(said, UNCLEAR, pair.cfg_name, fault)?;
             (file, Origin::Literal)
         }
     };
@@ -177,14 +189,28 @@ fn file_in<A: Allocator + Copy>(
     imported_in(alloc, pair, found, said)
 }
 
+/// The file of a record, as `file_in`; of a single file as `import` reads it.
+fn record_in<A: Allocator + Copy>(
+    alloc: A,
+    inputs: &Inputs,
+    reading: Reading<'_>,
+    said: &mut Vec<u8, A>,
+) -> Result<Option<Loaded<A>>, ToolFault> {
+    if inputs.is_single() {
+        single_in(alloc, pair_of(inputs), said)
+    } else {
+        file_in(alloc, pair_of(inputs), reading, said)
+    }
+}
+
 /// The error for an unknown encoding.
 pub(crate) const NO_ENCODING: &str = "comtrade: --encoding expects utf-8 or latin1\n";
 
-/// The file of a pair, as `file_in`, with its texts spelled; None also for an unknown encoding, with
-/// the error in `said`.
+/// The file of a record, as `record_in`, with its texts spelled; None also for an unknown encoding,
+/// with the error in `said`.
 pub(crate) fn file_spelled<A: Allocator + Copy>(
     alloc: A,
-    pair: Pair<'_>,
+    inputs: &Inputs,
     reading: Reading<'_>,
     said: &mut Vec<u8, A>,
 ) -> Result<Option<Loaded<A>>, ToolFault> {
@@ -192,11 +218,11 @@ pub(crate) fn file_spelled<A: Allocator + Copy>(
         put(said, NO_ENCODING)?;
         return Ok(None);
     };
-    let mut found = file_in(alloc, pair, reading, said)?;
+    let mut found = record_in(alloc, inputs, reading, said)?;
     if let Some(loaded) = &mut found {
         spell_in_utf8(alloc, &mut loaded.file, encoding)?;
         if reading.has_remarks && loaded.origin != Origin::Imported {
-            put_remarks(said, pair, &loaded.file)?;
+            put_remarks(said, pair_of(inputs), &loaded.file)?;
         }
         if reading.is_view {
             spell_for_views(alloc, &mut loaded.file)?;

@@ -1,8 +1,8 @@
 //! Cuts the records out of what a replay printed.
 
 use crate::write::write_named;
-use crate::{complain, out_of_memory, read_named, say};
-use comtrade_io::{Next, Printed, ToolFault, fault_of, next_record, put_safe};
+use crate::{complain, message_on, read_named, refuse};
+use comtrade_io::{Next, Printed, ToolFault, fault_of, next_record};
 use std::fs;
 use std::rt::Files;
 
@@ -23,17 +23,12 @@ fn write_record<R: Files + Print + Eprint + AllocGlobal>(
     status
 }
 
-/// Prints a line that no replay prints, or the error that ended the replay.
-fn refuse_line<R: Eprint + AllocGlobal>(rt: &R, what: &str, line: &[u8]) {
-    let mut text = Vec::new(rt.alloc());
-    if put_safe(&mut text, line).is_err() {
-        out_of_memory(rt);
-        return;
-    }
-    let _ = eprint!(rt; "comtrade: standard input: {what}: ");
-    say(rt, &text);
-    let _ = eprintln!(rt; "");
-}
+/// What is printed before a line that no replay prints.
+const FOREIGN: &str = "comtrade: standard input: \
+not a line that dfr replay prints, or a truncated record: ";
+
+/// What is printed before the error that ended a replay.
+const ENDED: &str = "comtrade: standard input: the replay ended with: ";
 
 /// Prints how many records were written before the error.
 fn stop<R: Eprint>(rt: &R, written: u64) -> u8 {
@@ -69,15 +64,11 @@ fn extract_all<R: Files + Print + Eprint + AllocGlobal>(
                 return u8::from(written == 0);
             }
             Next::Foreign(line) => {
-                refuse_line(
-                    rt,
-                    "not a line that dfr replay prints, or a truncated record",
-                    line,
-                );
+                refuse(rt, 1, message_on(rt.alloc(), FOREIGN, line, "\n"));
                 return stop(rt, written);
             }
             Next::Fault(line) => {
-                refuse_line(rt, "the replay ended with", line);
+                refuse(rt, 1, message_on(rt.alloc(), ENDED, line, "\n"));
                 return stop(rt, written);
             }
         }

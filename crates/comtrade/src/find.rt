@@ -1,8 +1,9 @@
 //! Finds the other file of a pair.
 
 use crate::folder::{is_file, refuse_folder};
-use crate::{is_folder, out_of_memory, say};
+use crate::{is_folder, message_on, out_of_memory, refuse};
 use comtrade_io::{Names, put_safe};
+use comtrade_values::put;
 use std::alloc::{AllocError, Global};
 use std::fs;
 use std::rt::Files;
@@ -155,27 +156,24 @@ fn file_for<R: Files + AllocGlobal + Clone + Drop>(
     found_in(rt, folder, stem, ending)
 }
 
-/// Prints that the other file is missing, and what was looked for.
-fn refuse_partner<R: Eprint + AllocGlobal>(rt: &R, name: &str, ending: Ending) -> Option<Pairing> {
+/// That the other file is missing, and what was looked for.
+fn partner_refusal(alloc: Global, name: &str, ending: Ending) -> Result<Vec<u8>, AllocError> {
     let (_, whole) = stem_of(name);
     let (folder, stem) = folder_of(whole);
-    let mut text = Vec::new(rt.alloc());
-    let mut place = Vec::new(rt.alloc());
     let folder = if folder.is_empty() { "." } else { folder };
-    if put_safe(&mut text, stem.as_bytes()).is_err()
-        || put_safe(&mut place, folder.as_bytes()).is_err()
-    {
-        out_of_memory(rt);
-        return None;
-    }
-    let _ = eprint!(rt; "comtrade: ");
-    say(rt, &text);
-    let _ = eprint!(rt;
-        "{}: no such file, in upper or lower case, in the folder ",
-        ending.text()
-    );
-    say(rt, &place);
-    let _ = eprintln!(rt; "");
+    let mut said = message_on(alloc, "comtrade: ", stem.as_bytes(), ending.text())?;
+    put(
+        &mut said,
+        ": no such file, in upper or lower case, in the folder ",
+    )?;
+    put_safe(&mut said, folder.as_bytes())?;
+    put(&mut said, "\n")?;
+    Ok(said)
+}
+
+/// Prints that the other file is missing.
+fn refuse_partner<R: Eprint + AllocGlobal>(rt: &R, name: &str, ending: Ending) -> Option<Pairing> {
+    refuse(rt, 1, partner_refusal(rt.alloc(), name, ending));
     None
 }
 

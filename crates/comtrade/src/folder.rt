@@ -1,9 +1,10 @@
 //! Folders: the records in them, and names that are not those of files.
 
 use crate::words::put_escaped;
-use crate::{LIMIT, complain, is_folder, out_of_memory, say};
+use crate::{LIMIT, complain, is_folder, message_on, refuse};
 use comtrade_io::{ToolFault, fault_of, put_safe, read_up_to};
-use std::alloc::AllocError;
+use comtrade_values::put;
+use std::alloc::{AllocError, Global};
 use std::fs;
 use std::rt::Files;
 
@@ -102,18 +103,18 @@ pub(crate) fn pairs_of<R: Files + Eprint + AllocGlobal>(
     Ok(pairs)
 }
 
-/// Prints that a name is that of a folder, and how to look at it.
+/// That a name is that of a folder, and how to look at it.
+fn folder_refusal(alloc: Global, name: &[u8]) -> Result<Vec<u8>, AllocError> {
+    let after = ": is a folder: use comtrade list ";
+    let mut said = message_on(alloc, "comtrade: ", name, after)?;
+    put_safe(&mut said, name)?;
+    put(&mut said, "\n")?;
+    Ok(said)
+}
+
+/// Prints that a name is that of a folder.
 pub(crate) fn refuse_folder<R: Eprint + AllocGlobal>(rt: &R, name: &str) {
-    let mut text = Vec::new(rt.alloc());
-    if put_safe(&mut text, name.as_bytes()).is_err() {
-        out_of_memory(rt);
-        return;
-    }
-    let _ = eprint!(rt; "comtrade: ");
-    say(rt, &text);
-    let _ = eprint!(rt; ": is a folder: use comtrade list ");
-    say(rt, &text);
-    let _ = eprintln!(rt; "");
+    refuse(rt, 1, folder_refusal(rt.alloc(), name.as_bytes()));
 }
 
 /// Whether there is a file with this name; if not, it prints why.

@@ -1,12 +1,12 @@
 //! `comtrade import`: files as relays write them become a pair of 1999.
 
-use crate::load::{put_notes, read_inputs, refuse_import};
+use crate::load::{import_refusal, put_notes, read_inputs};
 use crate::write::{is_name, write_named};
-use crate::{out_of_memory, print_bytes, say};
+use crate::{out_of_memory, print_bytes, refuse};
 use comtrade_diagnostics::{Choices, Imported, Key, Order, import, import_single};
 use comtrade_io::{Importing, put_quoted};
 use comtrade_values::put;
-use std::alloc::{AllocError, Allocator};
+use std::alloc::{AllocError, Global};
 use std::rt::Files;
 
 /// Choices that an option named, or the value that it does not have.
@@ -41,29 +41,20 @@ fn keys_of<'a, R: AllocGlobal>(
 }
 
 /// Why a value of an option is refused: a usage error.
-fn put_unknown<A: Allocator>(
-    out: &mut Vec<u8, A>,
+fn value_refusal(
+    alloc: Global,
     value: &str,
     option: &str,
     expected: &str,
-) -> Result<(), AllocError> {
-    put(out, "error: invalid value ")?;
-    put_quoted(out, value.as_bytes())?;
-    put(out, " for '")?;
-    put(out, option)?;
-    put(out, "'\n  ")?;
-    put(out, expected)?;
-    put(out, "\n\nFor more information, try '--help'.\n")
-}
-
-/// Prints why a value of an option is refused.
-fn refuse_value<R: Eprint + AllocGlobal>(rt: &R, value: &str, option: &str, expected: &str) -> u8 {
-    let mut text = Vec::new(rt.alloc());
-    if put_unknown(&mut text, value, option, expected).is_err() {
-        return out_of_memory(rt);
+) -> Result<Vec<u8>, AllocError> {
+    let mut said = Vec::new(alloc);
+    put(&mut said, "error: invalid value ")?;
+    put_quoted(&mut said, value.as_bytes())?;
+    for text in [" for '", option, "'\n  ", expected] {
+        put(&mut said, text)?;
     }
-    say(rt, &text);
-    2
+    put(&mut said, "\n\nFor more information, try '--help'.\n")?;
+    Ok(said)
 }
 
 /// The first repair that the user refuses.
@@ -121,7 +112,7 @@ fn import_with<R: Files + Input + Print + Eprint + AllocGlobal + Clone + Drop>(
     };
     match done {
         Ok(imported) => write(rt, &imported, refused, made.name),
-        Err(fault) => refuse_import(rt, made.names.file, fault),
+        Err(fault) => refuse(rt, 1, import_refusal(rt.alloc(), made.names.file, fault)),
     }
 }
 
@@ -135,7 +126,8 @@ fn import_dated<R: Files + Input + Print + Eprint + AllocGlobal + Clone + Drop>(
         Ok(Parsed::Chosen(refused)) => import_with(rt, made, choices, &refused),
         Ok(Parsed::Unknown(value)) => {
             let expected = "no repair has this key; the manual lists the keys";
-            refuse_value(rt, value, "--refuse <KEY>", expected)
+            let refusal = value_refusal(rt.alloc(), value, "--refuse <KEY>", expected);
+            refuse(rt, 2, refusal)
         }
         Err(_) => out_of_memory(rt),
     }
@@ -150,7 +142,8 @@ pub(crate) fn run_import<R: Files + Input + Print + Eprint + AllocGlobal + Clone
         Parsed::Chosen(dates) => import_dated(rt, made, Choices { dates }),
         Parsed::Unknown(value) => {
             let expected = "[possible values: mdy, dmy]";
-            refuse_value(rt, value, "--dates <ORDER>", expected)
+            let refusal = value_refusal(rt.alloc(), value, "--dates <ORDER>", expected);
+            refuse(rt, 2, refusal)
         }
     }
 }

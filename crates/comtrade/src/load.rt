@@ -1,11 +1,11 @@
 //! Reads the files of the record that the arguments name.
 
 use crate::find::{Pairing, pairing_of};
-use crate::{complain, out_of_memory, read_named, say};
-use comtrade_diagnostics::{Choices, ImportFault, Imported, Note, Pair, import_single};
+use crate::{complain, read_named};
+use comtrade_diagnostics::{ImportFault, Note, Pair};
 use comtrade_io::{Names, ToolFault, put_safe};
 use comtrade_values::put;
-use std::alloc::{AllocError, Allocator};
+use std::alloc::{AllocError, Allocator, Global};
 use std::rt::Files;
 
 /// The names of a record's files and their bytes; a single file has no separate data.
@@ -14,8 +14,6 @@ pub(crate) struct Inputs {
     names: Pairing,
     pub(crate) cfg: Vec<u8>,
     pub(crate) dat: Vec<u8>,
-    /// The repairs of a single file that became a pair, one line each.
-    pub(crate) said: Vec<u8>,
 }
 
 impl Inputs {
@@ -70,12 +68,7 @@ pub(crate) fn read_inputs<R: Files + Input + Eprint + AllocGlobal + Clone + Drop
         Some(name) => read_input(rt, name.as_str())?,
         None => Vec::new(rt.alloc()),
     };
-    Some(Inputs {
-        names,
-        cfg,
-        dat,
-        said: Vec::new(rt.alloc()),
-    })
+    Some(Inputs { names, cfg, dat })
 }
 
 /// The repairs, one line each.
@@ -90,74 +83,49 @@ pub(crate) fn put_notes<A: Allocator>(
     Ok(())
 }
 
-/// Why files cannot be imported, as a line.
+/// The texts around the name and the reason in a line on files that cannot be imported.
+pub(crate) const REFUSED: (&str, &str, &str) = ("comtrade: ", ": ", "\n");
+
+/// Why files cannot be imported, as a line with these texts.
 pub(crate) fn put_import_fault<A: Allocator + Copy>(
     out: &mut Vec<u8, A>,
+    (before, between, after): (&str, &str, &str),
     name: &[u8],
     fault: ImportFault,
 ) -> Result<(), AllocError> {
     let text = format!(in *out.allocator(); "{fault}")?;
-    put(out, "comtrade: ")?;
+    put(out, before)?;
     put_safe(out, name)?;
-    put(out, ": ")?;
+    put(out, between)?;
     put_safe(out, text.as_str().as_bytes())?;
-    put(out, "\n")
+    put(out, after)
 }
 
-/// Prints why files cannot be imported.
-pub(crate) fn refuse_import<R: Eprint + AllocGlobal>(rt: &R, name: &str, fault: ImportFault) -> u8 {
+/// Why files cannot be imported, unless that is a failed allocation.
+pub(crate) fn import_refusal(
+    alloc: Global,
+    name: &str,
+    fault: ImportFault,
+) -> Result<Vec<u8>, AllocError> {
     if let ImportFault::Memory = fault {
-        return out_of_memory(rt);
+        return Err(AllocError);
     }
-    let mut text = Vec::new(rt.alloc());
-    if put_import_fault(&mut text, name.as_bytes(), fault).is_err() {
-        return out_of_memory(rt);
-    }
-    say(rt, &text);
-    1
+    let mut said = Vec::new(alloc);
+    put_import_fault(&mut said, REFUSED, name.as_bytes(), fault)?;
+    Ok(said)
 }
 
-/// The repairs, one line each; None if an allocation failed, which is printed.
-fn notes_of<R: Eprint + AllocGlobal>(rt: &R, notes: &[Note]) -> Option<Vec<u8>> {
-    let mut said = Vec::new(rt.alloc());
-    if put_notes(&mut said, notes).is_err() {
-        out_of_memory(rt);
-        return None;
-    }
-    Some(said)
-}
-
-/// A single file as a pair.
-fn as_pair<R: Eprint + AllocGlobal>(rt: &R, inputs: Inputs, imported: Imported) -> Option<Inputs> {
-    let said = notes_of(rt, &imported.notes)?;
-    Some(Inputs {
-        names: inputs.names,
-        cfg: imported.cfg,
-        dat: imported.dat,
-        said,
-    })
-}
-
-/// Reads a record as a pair. A single file becomes the equivalent pair. None if that fails, which is
-/// printed.
-pub(crate) fn read_pair<R: Files + Input + Eprint + AllocGlobal + Clone + Drop>(
+/// Reads the files of a record that is shown or converted. None if that fails, or if a single file
+/// is read strictly, which is printed.
+pub(crate) fn read_record<R: Files + Input + Eprint + AllocGlobal + Clone + Drop>(
     rt: &R,
     names: Names<'_>,
     is_strict: bool,
 ) -> Option<Inputs> {
     let inputs = read_inputs(rt, names)?;
-    if !inputs.is_single() {
-        return Some(inputs);
-    }
-    if is_strict {
+    if is_strict && inputs.is_single() {
         complain(rt, name_of(&inputs), ToolFault::Single);
         return None;
     }
-    match import_single(rt.alloc(), &inputs.cfg, Choices::default()) {
-        Ok(imported) => as_pair(rt, inputs, imported),
-        Err(fault) => {
-            refuse_import(rt, name_of(&inputs), fault);
-            None
-        }
-    }
+    Some(inputs)
 }

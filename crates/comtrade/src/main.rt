@@ -1,5 +1,6 @@
-//! The program `comtrade`: it parses its arguments, reads the files that they name, and hands the work
-//! to the libraries. Each command prints its errors on standard error and returns the exit status.
+//! The program `comtrade`: it parses its arguments, reads the files that they name, and hands the
+//! work to the libraries. Each command prints its errors on standard error and returns the exit
+//! status.
 #![tactic(auto)]
 
 mod around;
@@ -20,17 +21,19 @@ mod write;
 use crate::compare::run_compare;
 use crate::extract::run_extract;
 use crate::import::run_import;
-use crate::load::{Inputs, pair_of, read_inputs, read_pair};
+use crate::load::{Inputs, pair_of, read_inputs, read_record};
 use crate::survey::run_survey;
-use crate::view::{Room, view_over};
-use crate::words::{refuse_start, refuse_words, words_of};
+use crate::view::{Room, check, shown_file, view_file};
+use crate::words::{invalid_argument, safe_lines, words_of};
 use crate::write::run_convert;
 use bumpalo::Bump;
 use comtrade_diagnostics::{Pair, put_single};
 use comtrade_io::{
     Answer, Asked, ToolFault, View, Viewed, answer_of, fault_of, put_safe, read_up_to, write_out,
 };
-use comtrade_read::{read_cfg, verdict_of};
+use comtrade_read::read_cfg;
+use comtrade_values::put;
+use std::alloc::{AllocError, Allocator, Global};
 use std::fs::File;
 use std::io::IsTerminal;
 use std::process::ExitCode;
@@ -54,6 +57,32 @@ pub(crate) fn say<R: Eprint>(rt: &R, bytes: &[u8]) {
 pub(crate) fn out_of_memory<R: Eprint>(rt: &R) -> u8 {
     let _ = eprintln!(rt; "comtrade: out of memory");
     1
+}
+
+/// Prints a message on standard error, or that there was no memory for it. Returns the exit status:
+/// this one, or 1 without memory.
+pub(crate) fn refuse<R: Eprint>(rt: &R, status: u8, said: Result<Vec<u8>, AllocError>) -> u8 {
+    match said {
+        Ok(said) => {
+            say(rt, &said);
+            status
+        }
+        Err(_) => out_of_memory(rt),
+    }
+}
+
+/// A message with a name, as printable characters, between two texts.
+pub(crate) fn message_on(
+    alloc: Global,
+    before: &str,
+    name: &[u8],
+    after: &str,
+) -> Result<Vec<u8>, AllocError> {
+    let mut said = Vec::new(alloc);
+    put(&mut said, before)?;
+    put_safe(&mut said, name)?;
+    put(&mut said, after)?;
+    Ok(said)
 }
 
 /// Prints `comtrade: `, a name and its error on standard error. A reader that has gone away is no
@@ -107,13 +136,32 @@ pub(crate) fn print_bytes<R: Print + Eprint + AllocGlobal>(rt: &R, bytes: &[u8])
     }
 }
 
-/// Prints what is asked of a pair. The status of `check` is its verdict, even if nobody reads the text.
+/// Prints what is asked of a part of a record; false if the record has an error, or no such part,
+/// which is put to `said`. What was repaired in a single file is printed first.
+fn print_file<R: Print + Eprint + AllocGlobal, A: Allocator + Copy>(
+    rt: &R,
+    room: Room<A>,
+    view: View,
+    viewed: Viewed<'_>,
+    inputs: &Inputs,
+    said: &mut Vec<u8, A>,
+) -> Result<bool, ToolFault> {
+    let Some((asked, file)) = shown_file(room, view, viewed, inputs, said)? else {
+        return Ok(false);
+    };
+    if inputs.is_single() {
+        say(rt, said);
+        said.clear();
+    }
+    view_file(&asked, file, &mut io::writer(rt), said)
+}
+
+/// Prints what is asked of a record.
 fn print_view<R: Print + Eprint + AllocGlobal>(
     rt: &R,
     view: View,
     viewed: Viewed<'_>,
-    is_imported: bool,
-    pair: Pair<'_>,
+    inputs: &Inputs,
 ) -> u8 {
     let lists = Bump::new(rt.alloc());
     let mut said = Vec::new(&lists);
@@ -121,18 +169,18 @@ fn print_view<R: Print + Eprint + AllocGlobal>(
         texts: rt.alloc(),
         lists: &lists,
     };
-    let mut w = io::writer(rt);
-    match view_over(room, view, viewed, is_imported, pair, &mut w, &mut said) {
-        Ok(true) => {
-            say(rt, &said);
-            0
-        }
+    let shown = if view == View::Check {
+        check(room, viewed, pair_of(inputs), &mut io::writer(rt))
+    } else {
+        print_file(rt, room, view, viewed, inputs, &mut said)
+    };
+    say(rt, &said);
+    match shown {
+        Ok(true) => 0,
         Ok(false) => {
-            say(rt, &said);
-            note_swapped(rt, pair);
+            note_swapped(rt, pair_of(inputs));
             1
         }
-        Err(ToolFault::Closed) if view == View::Check => verdict(rt, pair),
         Err(fault) => complain(rt, "standard output", fault),
     }
 }
@@ -143,15 +191,6 @@ fn note_swapped<R: Eprint + AllocGlobal>(rt: &R, pair: Pair<'_>) {
         let _ = eprintln!(rt;
             "comtrade: the files are swapped: the configuration file comes first"
         );
-    }
-}
-
-/// The status of a check whose text nobody reads.
-fn verdict<R: Eprint + AllocGlobal>(rt: &R, pair: Pair<'_>) -> u8 {
-    match verdict_of(rt.alloc(), pair.cfg, pair.dat) {
-        Ok(None) => 0,
-        Ok(Some(_)) => 1,
-        Err(_) => out_of_memory(rt),
     }
 }
 
@@ -176,7 +215,7 @@ fn check_single<R: Print + Eprint + AllocGlobal>(rt: &R, inputs: &Inputs) -> u8 
     }
 }
 
-/// Reads a pair, and prints what is asked of it.
+/// Reads a record, and prints what is asked of it.
 fn run_view<R: Files + Input + Print + Eprint + AllocGlobal + Clone + Drop>(
     rt: &R,
     is_watched: bool,
@@ -186,14 +225,13 @@ fn run_view<R: Files + Input + Print + Eprint + AllocGlobal + Clone + Drop>(
     let inputs = if view == View::Check {
         read_inputs(rt, viewed.names)
     } else {
-        read_pair(rt, viewed.names, viewed.part.strict)
+        read_record(rt, viewed.names, viewed.part.strict)
     };
     match inputs {
         Some(inputs) if inputs.is_single() && view == View::Check => check_single(rt, &inputs),
         Some(inputs) => {
-            say(rt, &inputs.said);
             note_size(rt, is_watched, &inputs);
-            print_view(rt, view, viewed, inputs.is_single(), pair_of(&inputs))
+            print_view(rt, view, viewed, &inputs)
         }
         None => 1,
     }
@@ -231,7 +269,7 @@ fn answer<R: Files + Input + Print + Eprint + AllocGlobal + Clone + Drop>(
     match answer_of(rt.alloc(), &texts) {
         Ok(Answer::Do(asked)) => run(rt, is_watched, asked),
         Ok(Answer::Print(text)) => print_bytes(rt, text.as_str().as_bytes()),
-        Ok(Answer::Refuse(text)) => refuse_words(rt, text.as_str()),
+        Ok(Answer::Refuse(text)) => refuse(rt, 2, safe_lines(rt.alloc(), text.as_str())),
         Err(_) => out_of_memory(rt),
     }
 }
@@ -240,6 +278,6 @@ fn main(rt: HostRuntime) -> ExitCode {
     let is_watched = rt.stderr().is_terminal();
     ExitCode::from(match words_of(&rt) {
         Ok(words) => answer(&rt, is_watched, &words),
-        Err(error) => refuse_start(&rt, error.kind()),
+        Err(error) => refuse(&rt, 2, invalid_argument(&rt, error.kind())),
     })
 }

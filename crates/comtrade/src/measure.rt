@@ -13,8 +13,8 @@ use std::io::Write;
 
 const TWICE: &str = "comtrade: --at cannot be combined with --from or --to\n";
 
-/// What is measured of a part: its last whole cycle with `--at`, its whole cycles in a window, else the
-/// fault inceptions of currents.
+/// What is measured of a part: its last whole cycle with `--at`, its whole cycles in a window, else
+/// the fault inceptions of currents.
 fn measuring_of<'a>(part: Part<'a>, cursor: Cursor<'a>) -> Measuring<'a> {
     if cursor.at.is_some() {
         return Measuring::LastCycle(cursor.reference);
@@ -26,8 +26,8 @@ fn measuring_of<'a>(part: Part<'a>, cursor: Cursor<'a>) -> Measuring<'a> {
     }
 }
 
-/// The part that is measured; with `--at` it ends at that moment. None if a window is given as well,
-/// with the error in `said`.
+/// The part that is measured; with `--at` it ends at that moment. None if a window is given as
+/// well, with the error in `said`.
 pub(crate) fn measured_part<'a, A: Allocator>(
     viewed: Viewed<'a>,
     said: &mut Vec<u8, A>,

@@ -6,8 +6,8 @@ use comtrade_values::put;
 use comtrade_views::{Cut, PartFault, is_whole, part_of, times_since_trigger};
 use std::alloc::{AllocError, Allocator};
 
-/// A record or a part of it, the times of its rows (nanoseconds since its trigger), and the number of
-/// rows before the part.
+/// A record or a part of it, the times of its rows (nanoseconds since its trigger), and the number
+/// of rows before the part.
 #[derive(Drop)]
 pub(crate) struct Taken<A: Allocator> {
     pub(crate) file: File<A>,
@@ -15,19 +15,18 @@ pub(crate) struct Taken<A: Allocator> {
     pub(crate) before: usize,
 }
 
-/// Puts why a record has no such part. A failed allocation is an error of the tool.
+/// Puts why a record has no such part, unless that is a failed allocation.
 pub(crate) fn put_part_fault<A: Allocator + Copy>(
     said: &mut Vec<u8, A>,
     fault: PartFault<'_>,
-) -> Result<(), ToolFault> {
+) -> Result<(), AllocError> {
     if fault == PartFault::Memory {
-        return Err(ToolFault::Memory);
+        return Err(AllocError);
     }
     let text = format!(in *said.allocator(); "{fault}")?;
     put(said, "comtrade: ")?;
     put_safe(said, text.as_str().as_bytes())?;
-    put(said, "\n")?;
-    Ok(())
+    put(said, "\n")
 }
 
 /// The part, with its times among those of all rows.

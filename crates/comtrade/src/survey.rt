@@ -2,7 +2,7 @@
 
 use crate::content::{NO_ENCODING, Reading, file_spelled};
 use crate::folder::{Pairs, pairs_of};
-use crate::load::{Inputs, pair_of, read_pair};
+use crate::load::{Inputs, read_record};
 use crate::{complain, print_bytes, say};
 use comtrade_format::File;
 use comtrade_io::{Names, Survey, ToolFault, put_safe};
@@ -95,13 +95,16 @@ fn add_pair<R: AllocGlobal + Eprint>(
 ) -> Result<(), ToolFault> {
     let alloc = rt.alloc();
     let mut said = Vec::new(alloc);
-    say_repairs(rt, name, &inputs.said)?;
     let survey = asked.survey;
-    let reading = Reading::to_list(inputs.is_single(), asked.encoding, survey == Survey::List);
-    match file_spelled(alloc, pair_of(inputs), reading, &mut said)? {
+    let reading = Reading::to_list(asked.encoding, survey == Survey::List);
+    match file_spelled(alloc, inputs, reading, &mut said)? {
         Some(loaded) => {
             say_repairs(rt, name, &said)?;
             add_file(alloc, survey, found, &loaded.file, name)?;
+        }
+        None if inputs.is_single() => {
+            found.is_sound = false;
+            say(rt, &said);
         }
         None => add_fault(rt, survey, found, said, name.as_bytes())?,
     }
@@ -138,7 +141,7 @@ fn add_pairs<R: Files + Input + Eprint + AllocGlobal + Clone + Drop>(
             file: pair.as_str(),
             dat: None,
         };
-        match read_pair(rt, name, false) {
+        match read_record(rt, name, false) {
             Some(inputs) => add_pair(rt, asked, found, &inputs, pair.as_str())?,
             None => found.is_sound = false,
         }

@@ -2,6 +2,7 @@
 
 use crate::around::rms_of;
 use crate::content::{Reading, file_spelled};
+use crate::load::Inputs;
 use crate::measure::{is_outside, measure_over, measured_part};
 use crate::part::{Taken, taken_of};
 use comtrade_diagnostics::{Pair, check_over};
@@ -14,8 +15,8 @@ use std::alloc::{AllocError, Allocator, Global};
 use std::io::Write;
 
 const NO_SPELLING: &str = "\
-comtrade: --separator expects tab or one character that is not a letter, digit, minus or quotation mark; \
---decimal expects . or , and not the separator\n";
+comtrade: --separator expects tab or one character that is not a letter, digit, minus or \
+quotation mark; --decimal expects . or , and not the separator\n";
 
 pub(crate) const NO_SIZE: &str =
     "comtrade: --width and --height expect a whole number of pixels from 1 to 100000\n";
@@ -33,6 +34,15 @@ struct Look {
     spelling: Spelling,
     options: PlotOptions,
     json: bool,
+}
+
+/// What is asked of a record, and how it is shown.
+#[derive(Clone, Copy)]
+pub(crate) struct Request<'a, A: Allocator> {
+    room: Room<A>,
+    view: View,
+    viewed: Viewed<'a>,
+    look: Look,
 }
 
 /// A number of pixels; None if the text is not one.
@@ -66,31 +76,30 @@ pub(crate) fn options_of(picture: Picture<'_>) -> Option<PlotOptions> {
 
 /// Prints what is asked of a file whose rows have these times, in nanoseconds since the trigger.
 fn put_view<A: Allocator + Copy, W: Write>(
-    room: Room<A>,
-    view: View,
-    look: Look,
+    asked: &Request<'_, A>,
     file: &File<A>,
     times: &[Option<i64>],
     w: &mut W,
 ) -> Result<(), ToolFault> {
-    match view {
-        View::Csv => csv_over(room.lists, file, times, look.spelling, w),
+    let (lists, look) = (asked.room.lists, asked.look);
+    match asked.view {
+        View::Csv => csv_over(lists, file, times, look.spelling, w),
         View::Plot => {
-            let list = rms_of(room.lists, file, times)?;
+            let list = rms_of(lists, file, times)?;
             let rms = list.as_slice();
-            plot_over(room.lists, Timed { file, times, rms }, look.options, w)
+            plot_over(lists, Timed { file, times, rms }, look.options, w)
         }
         View::Page => {
             let rms: &[Rms] = &[];
-            page_over(room.lists, Timed { file, times, rms }, w)
+            page_over(lists, Timed { file, times, rms }, w)
         }
-        _ if look.json => write_out(w, &show_json(room.texts, room.lists, file, times)?),
-        _ => show_over(room.lists, file, times, w),
+        _ if look.json => write_out(w, &show_json(asked.room.texts, lists, file, times)?),
+        _ => show_over(lists, file, times, w),
     }
 }
 
 /// Prints the verdict on a pair, as text or as JSON.
-fn check<A: Allocator + Copy, W: Write>(
+pub(crate) fn check<A: Allocator + Copy, W: Write>(
     room: Room<A>,
     viewed: Viewed<'_>,
     pair: Pair<'_>,
@@ -102,8 +111,10 @@ fn check<A: Allocator + Copy, W: Write>(
     let mut text = Vec::new(room.lists);
     let is_sound = check_over(room.lists, pair, &mut text)?;
     let out = verdict_json(room.texts, is_sound, &text)?;
-    write_out(w, &out)?;
-    Ok(is_sound)
+    match write_out(w, &out) {
+        Ok(()) | Err(ToolFault::Closed) => Ok(is_sound),
+        Err(fault) => Err(fault),
+    }
 }
 
 /// A verdict as a JSON object.
@@ -130,8 +141,8 @@ fn verdict_json(alloc: Global, is_sound: bool, text: &[u8]) -> Result<Vec<u8>, A
     Ok(out)
 }
 
-/// How values are spelled and pictures drawn; None if a separator or size is not valid, with the error
-/// in `said`.
+/// How values are spelled and pictures drawn; None if a separator or size is not valid, with the
+/// error in `said`.
 fn look_of<A: Allocator>(
     viewed: Viewed<'_>,
     said: &mut Vec<u8, A>,
@@ -153,47 +164,40 @@ fn look_of<A: Allocator>(
 
 /// The part that is asked for; None if it cannot be measured, with the error in `said`.
 fn part_in<'a, A: Allocator>(
-    view: View,
-    viewed: Viewed<'a>,
+    asked: &Request<'a, A>,
     said: &mut Vec<u8, A>,
 ) -> Result<Option<Part<'a>>, ToolFault> {
-    if view == View::Measure {
-        measured_part(viewed, said)
+    if asked.view == View::Measure {
+        measured_part(asked.viewed, said)
     } else {
-        Ok(Some(viewed.part))
+        Ok(Some(asked.viewed.part))
     }
 }
 
 /// Prints what is asked of a part; false if it cannot be measured, with the error in `said`.
 fn view_taken<A: Allocator + Copy, W: Write>(
-    room: Room<A>,
-    view: View,
-    viewed: Viewed<'_>,
-    look: Look,
+    asked: &Request<'_, A>,
     taken: &Taken<A>,
     w: &mut W,
     said: &mut Vec<u8, A>,
 ) -> Result<bool, ToolFault> {
-    if view == View::Measure {
-        return measure_over(room, viewed, taken, w, said);
+    if asked.view == View::Measure {
+        return measure_over(asked.room, asked.viewed, taken, w, said);
     }
-    put_view(room, view, look, &taken.file, &taken.times, w)?;
+    put_view(asked, &taken.file, &taken.times, w)?;
     Ok(true)
 }
 
 /// Prints what is asked of a part; false if it is refused, with the error in `said`.
 fn view_part<A: Allocator + Copy, W: Write>(
-    room: Room<A>,
-    view: View,
-    viewed: Viewed<'_>,
-    look: Look,
+    asked: &Request<'_, A>,
     file: File<A>,
     part: Part<'_>,
     w: &mut W,
     said: &mut Vec<u8, A>,
 ) -> Result<bool, ToolFault> {
-    match taken_of(room.lists, file, part, said)? {
-        Some(taken) => view_taken(room, view, viewed, look, &taken, w, said),
+    match taken_of(asked.room.lists, file, part, said)? {
+        Some(taken) => view_taken(asked, &taken, w, said),
         None => Ok(false),
     }
 }
@@ -201,59 +205,55 @@ fn view_part<A: Allocator + Copy, W: Write>(
 /// Whether a measurement is asked for at a moment that the record does not have, with the error in
 /// `said`.
 fn is_off<A: Allocator + Copy>(
-    room: Room<A>,
-    view: View,
-    viewed: Viewed<'_>,
+    asked: &Request<'_, A>,
     file: &File<A>,
     said: &mut Vec<u8, A>,
 ) -> Result<bool, ToolFault> {
-    if view != View::Measure {
+    if asked.view != View::Measure {
         return Ok(false);
     }
-    is_outside(room.lists, file, viewed.cursor, said)
+    is_outside(asked.room.lists, file, asked.viewed.cursor, said)
 }
 
-/// Prints what is asked of the part that is asked for; false if it is refused, with the error in `said`.
-fn view_file<A: Allocator + Copy, W: Write>(
-    room: Room<A>,
-    view: View,
-    viewed: Viewed<'_>,
-    look: Look,
+/// Prints what is asked of the part that is asked for; false if it is refused, with the error in
+/// `said`.
+pub(crate) fn view_file<A: Allocator + Copy, W: Write>(
+    asked: &Request<'_, A>,
     file: File<A>,
     w: &mut W,
     said: &mut Vec<u8, A>,
 ) -> Result<bool, ToolFault> {
-    if is_off(room, view, viewed, &file, said)? {
+    if is_off(asked, &file, said)? {
         return Ok(false);
     }
-    match part_in(view, viewed, said)? {
-        Some(part) => view_part(room, view, viewed, look, file, part, w, said),
+    match part_in(asked, said)? {
+        Some(part) => view_part(asked, file, part, w, said),
         None => Ok(false),
     }
 }
 
-/// Prints what is asked of a part of a pair; false if the pair has an error, or no such part. `Check`
-/// prints the error; the other commands put it to `said` and print nothing. `said` also gets the
-/// repairs of a pair, and what is doubtful about one that is shown and reads exactly. `is_imported` if
-/// the pair was a single file.
-pub(crate) fn view_over<A: Allocator + Copy, W: Write>(
+/// What is asked of a record, and its file; None if a separator, size or encoding is not valid or
+/// the record has an error, which is put to `said`. `said` also gets the repairs of a record, and
+/// what is doubtful about one that is shown and reads exactly.
+pub(crate) fn shown_file<'a, A: Allocator + Copy>(
     room: Room<A>,
     view: View,
-    viewed: Viewed<'_>,
-    is_imported: bool,
-    pair: Pair<'_>,
-    w: &mut W,
+    viewed: Viewed<'a>,
+    inputs: &Inputs,
     said: &mut Vec<u8, A>,
-) -> Result<bool, ToolFault> {
-    if view == View::Check {
-        return check(room, viewed, pair, w);
-    }
+) -> Result<Option<(Request<'a, A>, File<A>)>, ToolFault> {
     let Some(look) = look_of(viewed, said)? else {
-        return Ok(false);
+        return Ok(None);
     };
-    let reading = Reading::to_show(is_imported, viewed.part, view == View::Show);
-    match file_spelled(room.lists, pair, reading, said)? {
-        Some(loaded) => view_file(room, view, viewed, look, loaded.file, w, said),
-        None => Ok(false),
-    }
+    let reading = Reading::to_show(viewed.part, view == View::Show);
+    let Some(loaded) = file_spelled(room.lists, inputs, reading, said)? else {
+        return Ok(None);
+    };
+    let asked = Request {
+        room,
+        view,
+        viewed,
+        look,
+    };
+    Ok(Some((asked, loaded.file)))
 }

@@ -1,6 +1,5 @@
 //! The arguments, and usage errors.
 
-use crate::{out_of_memory, say};
 use comtrade_io::put_safe;
 use comtrade_values::{put, put_number};
 use std::alloc::{AllocError, Allocator};
@@ -10,7 +9,7 @@ use std::rt::Env;
 use std::{env, io};
 
 /// The lines of a text, as printable characters.
-fn safe_lines<A: Allocator>(alloc: A, text: &str) -> Result<Vec<u8, A>, AllocError> {
+pub(crate) fn safe_lines<A: Allocator>(alloc: A, text: &str) -> Result<Vec<u8, A>, AllocError> {
     let mut safe = Vec::new(alloc);
     for line in text.lines() {
         put_safe(&mut safe, line.as_bytes())?;
@@ -29,17 +28,6 @@ pub(crate) fn put_escaped<A: Allocator>(
         put_safe(out, &[*b])?;
     }
     Ok(())
-}
-
-/// Prints a usage error.
-pub(crate) fn refuse_words<R: Eprint + AllocGlobal>(rt: &R, text: &str) -> u8 {
-    match safe_lines(rt.alloc(), text) {
-        Ok(lines) => {
-            say(rt, &lines);
-            2
-        }
-        Err(_) => out_of_memory(rt),
-    }
 }
 
 /// Whether an argument is a number below 0.
@@ -66,8 +54,8 @@ fn join(words: &mut [String], value: &str) -> Result<(), AllocError> {
     }
 }
 
-/// The arguments. A negative number after an option that takes a moment is joined to the option, since
-/// it would be read as an option itself.
+/// The arguments. A negative number after an option that takes a moment is joined to the option,
+/// since it would be read as an option itself.
 pub(crate) fn words_of<R: Env + AllocGlobal>(rt: &R) -> io::Result<Vec<String>> {
     let mut rest: Vec<String> = Vec::new(rt.alloc());
     let mut is_moment = false;
@@ -125,14 +113,17 @@ fn put_invalid<R: Env + AllocGlobal>(rt: &R, out: &mut Vec<u8>) -> Result<(), Al
     Ok(())
 }
 
-/// Prints why the arguments cannot be read.
-pub(crate) fn refuse_start<R: Env + Eprint + AllocGlobal>(rt: &R, kind: ErrorKind) -> u8 {
-    let mut text = Vec::new(rt.alloc());
-    if kind == ErrorKind::OutOfMemory || put_invalid(rt, &mut text).is_err() {
-        return out_of_memory(rt);
+/// Why the arguments cannot be read.
+pub(crate) fn invalid_argument<R: Env + AllocGlobal>(
+    rt: &R,
+    kind: ErrorKind,
+) -> Result<Vec<u8>, AllocError> {
+    if kind == ErrorKind::OutOfMemory {
+        return Err(AllocError);
     }
-    let _ = eprint!(rt; "error: argument");
-    say(rt, &text);
-    let _ = eprintln!(rt; " is not valid UTF-8");
-    2
+    let mut said = Vec::new(rt.alloc());
+    put(&mut said, "error: argument")?;
+    put_invalid(rt, &mut said)?;
+    put(&mut said, " is not valid UTF-8\n")?;
+    Ok(said)
 }

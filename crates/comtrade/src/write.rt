@@ -1,16 +1,16 @@
 //! Writes pairs of files that do not exist yet.
 
 use crate::content::{Loaded, Origin, Reading, file_spelled};
-use crate::load::{Inputs, pair_of, read_pair};
+use crate::load::{Inputs, pair_of, read_record};
 use crate::part::put_part_fault;
-use crate::{complain, note_size, out_of_memory, say};
+use crate::{complain, message_on, note_size, out_of_memory, refuse, say};
 use bumpalo::Bump;
 use comtrade_diagnostics::{Pair, put_refusal};
-use comtrade_format::{File as Record, Kind, WriteFault};
-use comtrade_io::{Converted, ToolFault, fault_of, put_safe, write_out};
+use comtrade_format::{File as Record, WriteFault};
+use comtrade_io::{Converted, ToolFault, fault_of, write_out};
 use comtrade_read::written_of;
 use comtrade_views::{PartFault, is_whole, part_of};
-use std::alloc::Allocator;
+use std::alloc::{AllocError, Allocator, Global};
 use std::fs;
 use std::fs::File;
 use std::io::Write;
@@ -42,7 +42,8 @@ fn write_new<R: Files + Eprint + AllocGlobal>(rt: &R, name: &str, bytes: &[u8]) 
     true
 }
 
-/// Writes the files of this name with `.cfg` and `.dat`, or neither; what happens to each is printed.
+/// Writes the files of this name with `.cfg` and `.dat`, or neither; what happens to each is
+/// printed.
 pub(crate) fn write_named<R: Files + Eprint + AllocGlobal>(
     rt: &R,
     name: &str,
@@ -65,36 +66,23 @@ pub(crate) fn write_named<R: Files + Eprint + AllocGlobal>(
     0
 }
 
-/// Prints why a pair cannot be converted.
-fn refuse_pair<R: Eprint + AllocGlobal>(
-    rt: &R,
-    kind: Kind,
+/// Why a file that a pair reads to cannot be written.
+fn pair_refusal<A: Allocator>(
+    alloc: Global,
     pair: Pair<'_>,
+    file: &Record<A>,
     fault: WriteFault,
-) -> u8 {
-    let mut said = Vec::new(rt.alloc());
-    match put_refusal(rt.alloc(), &mut said, pair, kind, fault) {
-        Ok(()) => {
-            say(rt, &said);
-            1
-        }
-        Err(_) => out_of_memory(rt),
-    }
+) -> Result<Vec<u8>, AllocError> {
+    let mut said = Vec::new(alloc);
+    put_refusal(alloc, &mut said, pair, file, fault)?;
+    Ok(said)
 }
 
-/// Prints why a part of a record cannot be written.
-fn refuse_part<R: Eprint + AllocGlobal>(rt: &R, fault: PartFault<'_>) -> u8 {
-    if fault == PartFault::Memory {
-        return out_of_memory(rt);
-    }
-    let mut said = Vec::new(rt.alloc());
-    match put_part_fault(&mut said, fault) {
-        Ok(()) => {
-            say(rt, &said);
-            1
-        }
-        Err(_) => out_of_memory(rt),
-    }
+/// Why a part of a record cannot be written.
+fn part_refusal(alloc: Global, fault: PartFault<'_>) -> Result<Vec<u8>, AllocError> {
+    let mut said = Vec::new(alloc);
+    put_part_fault(&mut said, fault)?;
+    Ok(said)
 }
 
 /// Writes a record under a name. What is written reads back to the record.
@@ -116,7 +104,7 @@ fn write_part<R: Files + Eprint + AllocGlobal>(rt: &R, asked: Converted<'_>, fil
             cut.file.head.kind = asked.kind;
             write_record(rt, asked.name, &cut.file)
         }
-        Err(fault) => refuse_part(rt, fault),
+        Err(fault) => refuse(rt, 1, part_refusal(rt.alloc(), fault)),
     }
 }
 
@@ -128,8 +116,7 @@ fn file_of<R: Eprint + AllocGlobal, A: Allocator + Copy>(
     inputs: &Inputs,
 ) -> Option<Loaded<A>> {
     let mut said = Vec::new(lists);
-    let reading = Reading::to_write(inputs.is_single(), asked.part);
-    match file_spelled(lists, pair_of(inputs), reading, &mut said) {
+    match file_spelled(lists, inputs, Reading::to_write(asked.part), &mut said) {
         Ok(found) => {
             say(rt, &said);
             found
@@ -167,7 +154,8 @@ fn write_whole<R: Files + Eprint + AllocGlobal, A: Allocator + Copy>(
         Ok(made) => write_named(rt, asked.name, &made.cfg, &made.dat),
         Err(WriteFault::Memory) => out_of_memory(rt),
         Err(fault) if origin == Origin::Literal => {
-            refuse_pair(rt, asked.kind, pair_of(inputs), fault)
+            let refusal = pair_refusal(rt.alloc(), pair_of(inputs), &file, fault);
+            refuse(rt, 1, refusal)
         }
         Err(fault) => {
             let _ = eprintln!(rt; "comtrade: nothing was written: {fault}");
@@ -209,14 +197,8 @@ pub(crate) fn is_name<R: Eprint + AllocGlobal>(rt: &R, name: &str) -> bool {
     let Some(stem) = without_ending(name) else {
         return true;
     };
-    let mut text = Vec::new(rt.alloc());
-    if put_safe(&mut text, stem.as_bytes()).is_err() {
-        out_of_memory(rt);
-        return false;
-    }
-    let _ = eprint!(rt; "error: give the name of the new pair without .cfg or .dat: ");
-    say(rt, &text);
-    let _ = eprintln!(rt; "");
+    let words = "error: give the name of the new pair without .cfg or .dat: ";
+    refuse(rt, 2, message_on(rt.alloc(), words, stem.as_bytes(), "\n"));
     false
 }
 
@@ -228,10 +210,9 @@ pub(crate) fn run_convert<R: Files + Input + Eprint + AllocGlobal + Clone + Drop
     if !is_name(rt, asked.name) {
         return 2;
     }
-    let Some(inputs) = read_pair(rt, asked.names, asked.part.strict) else {
+    let Some(inputs) = read_record(rt, asked.names, asked.part.strict) else {
         return 1;
     };
-    say(rt, &inputs.said);
     note_size(rt, is_watched, &inputs);
     if is_whole(asked.part) && asked.part.encoding.is_none() {
         convert_whole(rt, asked, &inputs)

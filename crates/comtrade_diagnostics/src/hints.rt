@@ -4,10 +4,10 @@ ghost use Rattle.std.specs.Prelude.{◌≡◌, OnErr, OnOk};
 ghost use Rattle.comtrade_diagnostics.specs.Puts.{PutsLine};
 
 use crate::check::Pair;
-use crate::importing::{Imported, import};
+use crate::importing::{Repaired, repaired_pair};
 use crate::line::put_line;
-use crate::single::import_single;
-use comtrade_dialects::{Choices, ImportFault, Key, Note};
+use crate::single::repaired_single;
+use comtrade_dialects::{Choices, ImportFault, Key, Note, narrow};
 use comtrade_io::put_safe;
 use comtrade_values::put;
 use std::alloc::{AllocError, Allocator};
@@ -23,14 +23,14 @@ fn nature_of(key: Key) -> Option<&'static str> {
     }
 }
 
-/// The nature of a text, given its bytes; None for ordinary text.
-fn nature_of_text(text: &[u8]) -> Option<&'static str> {
-    match text {
-        [0xff, 0xfe, ..] | [0xfe, 0xff, ..] | [_, 0, _, 0, ..] | [0, _, 0, _, ..] => {
-            return Some("UTF-16");
-        }
-        _ => {}
-    }
+/// Whether a text is UTF-16, as `import` decides by its first four bytes.
+fn is_utf16<A: Allocator>(alloc: A, text: &[u8]) -> Result<bool, AllocError> {
+    let first = text.get(..4).unwrap_or(text); // a shorter text is all of them
+    Ok(narrow(alloc, first)?.is_some())
+}
+
+/// The nature of a text, given its line ends; None for ordinary text.
+fn nature_of_lines(text: &[u8]) -> Option<&'static str> {
     let mut before = (0u8, 0u8);
     for b in text {
         if *b == b'\n' && before == (b'\r', b'\r') {
@@ -87,15 +87,20 @@ fn put_reads<A: Allocator>(out: &mut Vec<u8, A>, notes: &[Note<A>]) -> Result<()
     put(out, ")")
 }
 
-/// Appends a line on a pair with an error, if `import` reads the pair or its text is unusual.
+/// Appends a line on a pair that the exact reader refuses, if it can be repaired or its text is
+/// unusual.
 pub fn put_hint<A: Allocator + Copy>(
     alloc: A,
     out: &mut Vec<u8, A>,
     pair: Pair<'_>,
 ) -> Result<(), AllocError> {
-    let text = nature_of_text(pair.cfg);
-    let notes = match import(alloc, pair.cfg, pair.dat, Choices::default()) {
-        Ok(imported) => Some(imported.notes),
+    let text = if is_utf16(alloc, pair.cfg)? {
+        Some("UTF-16")
+    } else {
+        nature_of_lines(pair.cfg)
+    };
+    let notes = match repaired_pair(alloc, pair.cfg, pair.dat, Choices::default()) {
+        Ok(repaired) => Some(repaired.notes),
         Err(ImportFault::Memory) => return Err(AllocError),
         Err(_) => None,
     };
@@ -128,8 +133,8 @@ fn put_single_words<A: Allocator + Copy>(
 ) -> Result<(), AllocError> {
     put_safe(out, pair.cfg_name)?;
     put(out, ": a single file; ")?;
-    match import_single(alloc, pair.cfg, Choices::default()) {
-        Ok(Imported { notes, .. }) => put_reads(out, &notes),
+    match repaired_single(alloc, pair.cfg, Choices::default()) {
+        Ok(Repaired { notes, .. }) => put_reads(out, &notes),
         Err(ImportFault::Memory) => Err(AllocError),
         Err(fault) => {
             let text = format!(in alloc; "{fault}")?;

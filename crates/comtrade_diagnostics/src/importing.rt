@@ -3,10 +3,18 @@
 ghost use Rattle.std.specs.Prelude.{◌≡◌, [], true, false, IfOk, IfSome};
 ghost use Rattle.comtrade_read.specs.Reads.{Reads};
 
+use crate::single::repaired_single;
 use comtrade_dialects::{Choices, ImportFault, Note, Notes, Why, is_sound, repaired};
 use comtrade_format::{File, WriteFault};
 use comtrade_read::{ReadFault, Written, read, written_of};
 use std::alloc::{Allocator, Global};
+
+/// A file of 1999, and notes on the repairs that gave it. There are no texts of it yet.
+#[derive(Drop)]
+pub struct Repaired<A: Allocator = Global> {
+    pub file: File<A>,
+    pub notes: Vec<Note<A>, A>,
+}
 
 /// A file of 1999, its two texts, and notes on the repairs.
 #[derive(Drop)]
@@ -22,15 +30,15 @@ pub struct Imported<A: Allocator = Global> {
 /// A file with both its texts; an error if no file of 1999 can hold it.
 fn finished<A: Allocator + Copy>(
     alloc: A,
-    file: File<A>,
-    notes: Vec<Note<A>, A>,
+    repaired: Repaired<A>,
     is_exact: bool,
 ) -> Result<Imported<A>, ImportFault>
     ensures reads { IfOk result (λ done. Reads done.cfg.items done.dat.items done.file) }
-    ensures file { IfOk result (λ done. done.file ≡ file) }
-    ensures notes { IfOk result (λ done. done.notes.items ≡ notes.items) }
+    ensures file { IfOk result (λ done. done.file ≡ repaired.file) }
+    ensures notes { IfOk result (λ done. done.notes.items ≡ repaired.notes.items) }
     ensures exact { IfOk result (λ done. done.is_exact ≡ is_exact) }
 {
+    let Repaired { file, notes } = repaired;
     match written_of(alloc, &file) {
         Ok(written) => {
             let Written { cfg, dat } = written;
@@ -53,19 +61,19 @@ fn unwritten(fault: WriteFault) -> ImportFault {
     }
 }
 
-/// Reads the pair with all repairs that it needs.
-pub(crate) fn loose<A: Allocator + Copy>(
+/// Reads a pair with all repairs that it needs. It does not try to read it exactly first.
+pub fn repaired_pair<A: Allocator + Copy>(
     alloc: A,
-    mut notes: Notes<A>,
     cfg: &[u8],
     dat: &[u8],
     choices: Choices,
-) -> Result<Imported<A>, ImportFault>
-    ensures reads { IfOk result (λ done. Reads done.cfg.items done.dat.items done.file) }
-    ensures inexact { IfOk result (λ done. done.is_exact ≡ false) }
-{
+) -> Result<Repaired<A>, ImportFault> {
+    let mut notes = Notes::new(alloc);
     let file = repaired(alloc, &mut notes, cfg, dat, choices)?;
-    finished(alloc, file, notes.into_list(), false)
+    Ok(Repaired {
+        file,
+        notes: notes.into_list(),
+    })
 }
 
 /// Reads the pair exactly. None if it cannot be read so, needs a repair, or does not fit a file
@@ -87,7 +95,8 @@ fn exact<A: Allocator + Copy>(
     if !is_sound(alloc, &file, dat)? {
         return Ok(None);
     }
-    match finished(alloc, file, Vec::new(alloc), true) {
+    let notes = Vec::new(alloc);
+    match finished(alloc, Repaired { file, notes }, true) {
         Ok(imported) => Ok(Some(imported)),
         Err(ImportFault::Memory) => Err(ImportFault::Memory),
         Err(_) => Ok(None),
@@ -109,5 +118,17 @@ pub fn import<A: Allocator + Copy>(
     if let Some(imported) = exact(alloc, cfg, dat)? {
         return Ok(imported);
     }
-    loose(alloc, Notes::new(alloc), cfg, dat, choices)
+    finished(alloc, repaired_pair(alloc, cfg, dat, choices)?, false)
+}
+
+/// Converts a single file to a file of 1999 with the same contents, and notes each repair. Both
+/// resulting texts read back to that file.
+pub fn import_single<A: Allocator + Copy>(
+    alloc: A,
+    cff: &[u8],
+    choices: Choices,
+) -> Result<Imported<A>, ImportFault>
+    ensures { IfOk result (λ done. Reads done.cfg.items done.dat.items done.file) }
+{
+    finished(alloc, repaired_single(alloc, cff, choices)?, false)
 }

@@ -1,12 +1,12 @@
 //! Reads what a pair means that reads exactly, but whose own signs show that it means something else.
 
 use crate::check::Pair;
-use comtrade_dialects::{Choices, ImportFault, Key, Note, Notes, is_sound, repaired};
+use crate::importing::{Repaired, repaired_pair};
+use comtrade_dialects::{Choices, ImportFault, Key, Note, is_sound};
 use comtrade_format::{File, Head, Rate, Row};
 use comtrade_values::Items;
 use dfr_channels::{AnalogChannel, StatusChannel};
 use std::alloc::{AllocError, Allocator};
-use std::mem;
 
 /// Whose texts a repaired file has.
 #[derive(Clone, Copy, Debug, PartialEq, Eq)]
@@ -50,43 +50,48 @@ fn without_texts<A: Allocator + Copy>(
     Ok(kept)
 }
 
-/// Gives analogue channels the texts of others.
-fn rename_analog<A: Allocator + Copy>(
-    alloc: A,
-    list: &mut Items<AnalogChannel<A>, A>,
+/// Analogue channels with the texts of others.
+fn renamed_analog<A: Allocator>(
+    list: Items<AnalogChannel<A>, A>,
     others: Items<AnalogChannel<A>, A>,
-) {
-    let mut channels = mem::replace(list, Items::of(Vec::new(alloc))).into_vec();
+) -> Items<AnalogChannel<A>, A> {
+    let mut channels = list.into_vec();
     for (channel, other) in channels.iter_mut().zip(others.into_vec()) {
         channel.id = other.id;
         channel.phase = other.phase;
         channel.component = other.component;
         channel.unit = other.unit;
     }
-    *list = Items::of(channels);
+    Items::of(channels)
 }
 
-/// Gives status channels the texts of others.
-fn rename_status<A: Allocator + Copy>(
-    alloc: A,
-    list: &mut Items<StatusChannel<A>, A>,
+/// Status channels with the texts of others.
+fn renamed_status<A: Allocator>(
+    list: Items<StatusChannel<A>, A>,
     others: Items<StatusChannel<A>, A>,
-) {
-    let mut channels = mem::replace(list, Items::of(Vec::new(alloc))).into_vec();
+) -> Items<StatusChannel<A>, A> {
+    let mut channels = list.into_vec();
     for (channel, other) in channels.iter_mut().zip(others.into_vec()) {
         channel.id = other.id;
         channel.phase = other.phase;
         channel.component = other.component;
     }
-    *list = Items::of(channels);
+    Items::of(channels)
 }
 
-/// Gives a file the texts of a head with as many channels.
-fn rename<A: Allocator + Copy>(alloc: A, file: &mut File<A>, literal: Head<A>) {
-    file.head.station = literal.station;
-    file.head.device = literal.device;
-    rename_analog(alloc, &mut file.head.analog, literal.analog);
-    rename_status(alloc, &mut file.head.status, literal.status);
+/// A file with the texts of a head that has as many channels.
+fn renamed<A: Allocator>(file: File<A>, literal: Head<A>) -> File<A> {
+    let File { head, rows } = file;
+    let analog = renamed_analog(head.analog, literal.analog);
+    let status = renamed_status(head.status, literal.status);
+    let head = Head {
+        station: literal.station,
+        device: literal.device,
+        analog,
+        status,
+        ..head
+    };
+    File { head, rows }
 }
 
 /// Whether both heads have the same numbers of channels.
@@ -159,19 +164,19 @@ fn is_same<A: Allocator>(one: &File<A>, other: &File<A>) -> bool {
 /// values and times.
 fn repaired_as<A: Allocator + Copy>(
     alloc: A,
-    mut file: File<A>,
-    notes: Vec<Note<A>, A>,
+    repaired: Repaired<A>,
     literal: File<A>,
     texts: Texts,
 ) -> Result<Intended<A>, AllocError> {
+    let Repaired { file, notes } = repaired;
     if texts == Texts::Literal && is_same(&literal, &file) {
         return Ok(Intended::Literal(literal));
     }
     if texts == Texts::Imported || !are_alike(&file.head, &literal.head) {
         return Ok(Intended::Repaired(file, notes));
     }
-    rename(alloc, &mut file, literal.head);
-    Ok(Intended::Repaired(file, without_texts(alloc, notes)?))
+    let notes = without_texts(alloc, notes)?;
+    Ok(Intended::Repaired(renamed(file, literal.head), notes))
 }
 
 /// What a pair means that reads exactly to this file: the same, unless a sign in the pair shows
@@ -185,9 +190,8 @@ pub fn intended_of<A: Allocator + Copy>(
     if is_sound(alloc, &file, pair.dat)? {
         return Ok(Intended::Literal(file));
     }
-    let mut notes = Notes::new(alloc);
-    match repaired(alloc, &mut notes, pair.cfg, pair.dat, Choices::default()) {
-        Ok(meant) => repaired_as(alloc, meant, notes.into_list(), file, texts),
+    match repaired_pair(alloc, pair.cfg, pair.dat, Choices::default()) {
+        Ok(meant) => repaired_as(alloc, meant, file, texts),
         Err(ImportFault::Memory) => Err(AllocError),
         Err(fault) => Ok(Intended::Unclear(file, fault)),
     }

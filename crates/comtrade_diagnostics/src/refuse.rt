@@ -7,9 +7,8 @@ use crate::check::Pair;
 use crate::describe::put_line_of;
 use crate::line::put_line;
 use crate::remarks::sample_in;
-use comtrade_format::{Kind, WriteFault};
+use comtrade_format::{File, Kind, WriteFault};
 use comtrade_io::put_safe;
-use comtrade_read::read;
 use comtrade_values::{put, put_number, put_with};
 use std::alloc::{AllocError, Allocator};
 
@@ -39,24 +38,16 @@ fn put_text<A: Allocator + Copy>(
     put(out, " in this field")
 }
 
-/// The sample in a row and a channel (both counted from 1) of the file that a pair reads to.
-fn sample_at<A: Allocator + Copy>(alloc: A, pair: Pair<'_>, row: u64, channel: u32) -> Option<i32> {
-    match read(alloc, pair.cfg, pair.dat) {
-        Ok(file) => sample_in(&file, row, u64::from(channel)),
-        Err(_) => None,
-    }
-}
-
-fn put_sample<A: Allocator + Copy>(
-    alloc: A,
+/// Appends the sample in a row and a channel, both counted from 1.
+fn put_sample<A: Allocator, B: Allocator>(
     out: &mut Vec<u8, A>,
-    pair: Pair<'_>,
+    file: &File<B>,
     (row, channel): (u64, u32),
 ) -> Result<(), AllocError> {
     put_with(out, "row ", row)?;
     put_with(out, " (analogue channel ", channel as u64)?;
     put(out, "): ")?;
-    if let Some(sample) = sample_at(alloc, pair, row, channel) {
+    if let Some(sample) = sample_in(file, row, u64::from(channel)) {
         put(out, "sample ")?;
         put_number(out, sample as i64)?;
         put(out, " cannot be written; ")?;
@@ -64,14 +55,15 @@ fn put_sample<A: Allocator + Copy>(
     Ok(())
 }
 
-/// Describes what a file of this kind cannot hold of a pair, and where it is.
-fn put_refused<A: Allocator + Copy>(
+/// Describes what cannot be written of a file that a pair reads to, and where it is.
+fn put_refused<A: Allocator + Copy, B: Allocator>(
     alloc: A,
     out: &mut Vec<u8, A>,
     pair: Pair<'_>,
-    kind: Kind,
+    file: &File<B>,
     fault: WriteFault,
 ) -> Result<(), AllocError> {
+    let kind = file.head.kind;
     match fault {
         WriteFault::Text(line, field) => {
             put_safe(out, pair.cfg_name)?;
@@ -81,7 +73,7 @@ fn put_refused<A: Allocator + Copy>(
         WriteFault::Value(row, channel) => {
             put_safe(out, pair.dat_name)?;
             put(out, ": ")?;
-            put_sample(alloc, out, pair, (row, channel))?;
+            put_sample(out, file, (row, channel))?;
             let held = match kind {
                 Kind::Ascii => "ASCII data can hold -99999 to 99998",
                 Kind::Binary => "BINARY data can hold -32767 to 32767",
@@ -106,18 +98,19 @@ fn put_refused<A: Allocator + Copy>(
     Ok(())
 }
 
-/// Appends a line on what a file of this kind cannot hold of a pair, and where it is.
-pub fn put_refusal<A: Allocator + Copy>(
+/// Appends a line on what cannot be written, in the kind of the file's head, of a file that a pair
+/// reads to, and where it is.
+pub fn put_refusal<A: Allocator + Copy, B: Allocator>(
     alloc: A,
     out: &mut Vec<u8, A>,
     pair: Pair<'_>,
-    kind: Kind,
+    file: &File<B>,
     fault: WriteFault,
 ) -> Result<(), AllocError>
     ensures line { OnOk result (PutsLine out.old.items out.new.items) }
     ensures kept { OnErr result (out.new.items ≡ out.old.items) }
 {
     let mut line = Vec::new(alloc);
-    put_refused(alloc, &mut line, pair, kind, fault)?;
+    put_refused(alloc, &mut line, pair, file, fault)?;
     put_line(out, &mut line)
 }

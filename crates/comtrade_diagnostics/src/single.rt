@@ -1,11 +1,8 @@
-//! Converts a single file to a file of 1999 with the same contents.
+//! Reads a single file, which holds a pair.
 
-ghost use Rattle.std.specs.Prelude.{IfOk};
-ghost use Rattle.comtrade_read.specs.Reads.{Reads};
-
-use crate::importing::{Imported, loose};
+use crate::importing::Repaired;
 use comtrade_dialects::{
-    Choices, ImportFault, Key, Notes, Place, cut, narrow, tell_sections, unmarked,
+    Choices, ImportFault, Key, Notes, Place, cut, narrow, repaired, tell_sections, unmarked,
 };
 use std::alloc::Allocator;
 
@@ -15,23 +12,22 @@ fn single<A: Allocator + Copy>(
     mut notes: Notes<A>,
     text: &[u8],
     choices: Choices,
-) -> Result<Imported<A>, ImportFault>
-    ensures { IfOk result (λ done. Reads done.cfg.items done.dat.items done.file) }
-{
+) -> Result<Repaired<A>, ImportFault> {
     let sections = cut(text)?;
     tell_sections(alloc, &mut notes, sections)?;
-    loose(alloc, notes, sections.cfg, sections.dat, choices)
+    let file = repaired(alloc, &mut notes, sections.cfg, sections.dat, choices)?;
+    Ok(Repaired {
+        file,
+        notes: notes.into_list(),
+    })
 }
 
-/// Converts a single file to a file of 1999 with the same contents, and notes each repair. Both
-/// resulting texts read back to that file.
-pub fn import_single<A: Allocator + Copy>(
+/// Reads the pair in a single file with all repairs that it needs.
+pub fn repaired_single<A: Allocator + Copy>(
     alloc: A,
     cff: &[u8],
     choices: Choices,
-) -> Result<Imported<A>, ImportFault>
-    ensures { IfOk result (λ done. Reads done.cfg.items done.dat.items done.file) }
-{
+) -> Result<Repaired<A>, ImportFault> {
     let mut notes = Notes::new(alloc);
     match narrow(alloc, cff)? {
         Some(text) => {

@@ -40,7 +40,7 @@ fn put_verdict<A: Allocator + Copy>(
 
 /// Prints the first error of a pair and whether `import` reads it, or that it has none and what is
 /// odd about it. Returns true if it has none: the pair then reads to a file. Returns false if it
-/// has one: the pair then reads to no file.
+/// has one: the pair then reads to no file. The verdict stands even if nobody reads the text.
 pub fn check_over<A: Allocator + Copy, W: Write>(
     alloc: A,
     pair: Pair<'_>,
@@ -51,6 +51,8 @@ pub fn check_over<A: Allocator + Copy, W: Write>(
 {
     let mut out = Vec::new(alloc);
     let is_sound = put_verdict(alloc, &mut out, pair)?;
-    write_out(w, &out)?;
-    Ok(is_sound)
+    match write_out(w, &out) {
+        Ok(()) | Err(ToolFault::Closed) => Ok(is_sound),
+        Err(fault) => Err(fault),
+    }
 }

@@ -7,6 +7,7 @@ use crate::key::Key;
 use crate::lines::{Reader, at};
 use crate::note::{Notes, Place};
 use crate::said_instant::{Said, said_of};
+use comtrade_values::has_date;
 use std::alloc::Allocator;
 
 /// Both times, in microseconds since 1970-01-01.
@@ -119,5 +120,14 @@ pub(crate) fn instants_of<A: Allocator + Copy>(
     let first = said_of(reader)?;
     let trigger = said_of(reader)?;
     let order = order_of(reader.notes, (first, trigger), revision, asked)?;
-    settled(reader.notes, first, trigger, order)
+    let instants = settled(reader.notes, first, trigger, order)?;
+    for (instant, line) in [
+        (instants.first, first.line),
+        (instants.trigger, trigger.line),
+    ] {
+        if !has_date(instant) {
+            return Err(at(line, Why::NoDate)); // 24:00 on the last day of the year 9999
+        }
+    }
+    Ok(instants)
 }

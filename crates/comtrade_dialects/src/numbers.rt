@@ -7,7 +7,7 @@ use crate::note::{Notes, Place};
 use crate::num::Num;
 use comtrade_format::Rate;
 use comtrade_values::{put, put_number};
-use std::alloc::Allocator;
+use std::alloc::{AllocError, Allocator};
 
 /// A row's number and stamp.
 #[derive(Clone, Copy)]
@@ -104,6 +104,20 @@ pub(crate) fn tell_numbers<A: Allocator + Copy>(
     Ok(())
 }
 
+/// Notes that the data have another number of rows than the configuration file says.
+fn tell_rows<A: Allocator + Copy>(
+    notes: &mut Notes<A>,
+    key: Key,
+    rows: u64,
+    last: u64,
+) -> Result<(), AllocError> {
+    let mut piece = Vec::new(notes.allocator());
+    put_number(&mut piece, rows)?;
+    put(&mut piece, " rows, endsamp ")?;
+    put_number(&mut piece, last)?;
+    notes.tell(key, Place::Whole("data file"), &piece)
+}
+
 /// The rates for this many rows. Notes a different last row in the configuration file.
 pub(crate) fn rates_for<A: Allocator + Copy>(
     alloc: A,
@@ -112,22 +126,9 @@ pub(crate) fn rates_for<A: Allocator + Copy>(
     rows: u64,
     is_told: bool,
 ) -> Result<Vec<Rate, A>, ImportFault> {
-    let place = Place::Whole("data file");
     match draft.rates.last {
-        Some(last) if rows < last && !is_told => {
-            let mut piece = Vec::new(alloc);
-            put_number(&mut piece, rows)?;
-            put(&mut piece, " rows, endsamp ")?;
-            put_number(&mut piece, last)?;
-            notes.tell(Key::RowsFewer, place, &piece)?;
-        }
-        Some(last) if last < rows => {
-            let mut piece = Vec::new(alloc);
-            put_number(&mut piece, rows)?;
-            put(&mut piece, " rows, endsamp ")?;
-            put_number(&mut piece, last)?;
-            notes.tell(Key::RowsMore, place, &piece)?;
-        }
+        Some(last) if rows < last && !is_told => tell_rows(notes, Key::RowsFewer, rows, last)?,
+        Some(last) if last < rows => tell_rows(notes, Key::RowsMore, rows, last)?,
         _ => {}
     }
     let mut list: Vec<Rate, A> = Vec::new(alloc);

@@ -54,24 +54,17 @@ fn tell_clock<A: Allocator + Copy>(
     clock: Clock,
     text: &[u8],
 ) -> Result<(), ImportFault> {
-    let place = Place::Cfg(line);
-    if clock.is_24 {
-        notes.tell_text(Key::Time24, place, text)?;
-    }
-    if clock.is_leap {
-        notes.tell_text(Key::LeapSecond, place, text)?;
-    }
-    if clock.is_long {
-        notes.tell_text(Key::FractionLong, place, text)?;
-    }
-    if clock.is_odd {
-        notes.tell_text(Key::FractionForm, place, text)?;
-    }
-    if clock.has_colon {
-        notes.tell_text(Key::FractionColon, place, text)?;
-    }
-    if clock.has_comma {
-        notes.tell_text(Key::DecimalComma, place, text)?;
+    for (is_odd, key) in [
+        (clock.is_24, Key::Time24),
+        (clock.is_leap, Key::LeapSecond),
+        (clock.is_long, Key::FractionLong),
+        (clock.is_odd, Key::FractionForm),
+        (clock.has_colon, Key::FractionColon),
+        (clock.has_comma, Key::DecimalComma),
+    ] {
+        if is_odd {
+            notes.tell_text(key, Place::Cfg(line), text)?;
+        }
     }
     Ok(())
 }

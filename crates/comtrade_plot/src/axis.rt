@@ -1,7 +1,7 @@
 //! Times at round numbers with their lines through the panels, cycles, the trigger, gaps.
 
 use crate::gaps::Gap;
-use crate::instant::{TimeUnit, put_places, put_span, time_unit};
+use crate::instant::{TimeUnit, put_span, time_unit};
 use crate::layout::{Band, Chart};
 use crate::legend::NAMES;
 use crate::plan::{Frame, LEFT, RIGHT};
@@ -98,7 +98,7 @@ pub(crate) fn put_times<A: Allocator>(sheet: &mut Sheet<A>, chart: &Chart<'_, A>
             break;
         }
         sheet.begin_text(chart.frame.across(tick), y, " text-anchor=\"middle\"");
-        put_places(sheet, tick, unit.places);
+        sheet.scaled(tick, unit.places);
         sheet.end_text();
         tick = tick.saturating_add(step);
     }
@@ -224,8 +224,7 @@ pub(crate) fn put_gap_names<A: Allocator>(sheet: &mut Sheet<A>, chart: &Chart<'_
             if chart.is_timed {
                 put_span(sheet, gap.to.saturating_sub(gap.from));
             } else {
-                sheet.number(gap.rows);
-                sheet.text(if gap.rows == 1 { " row" } else { " rows" });
+                sheet.count(gap.rows, " row", " rows");
             }
             sheet.end_text();
             end = middle.saturating_add(800);

@@ -2,7 +2,7 @@
 
 use crate::compare::By;
 use crate::differing::{Beside, is_exact};
-use crate::head::{STYLE, put_count, put_facts, put_station};
+use crate::head::{STYLE, put_facts, put_station};
 use crate::instant::{put_range, put_span};
 use crate::layers::Layer;
 use crate::layout::{Chart, NOWHERE, panel_count};
@@ -22,9 +22,8 @@ const NAMED: usize = 60;
 fn put_description<A: Allocator>(sheet: &mut Sheet<A>, beside: &Beside<'_, A>) {
     sheet.text("<desc id=\"desc\">Two records, A and B, in one picture. ");
     let pairs = panel_count(beside.one.panels);
-    put_count(
-        sheet,
-        pairs,
+    sheet.count(
+        pairs as u64,
         " channel that both have",
         " channels that both have",
     );

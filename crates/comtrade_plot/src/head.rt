@@ -44,12 +44,6 @@ pub(crate) fn put_station<A: Allocator>(sheet: &mut Sheet<A>, head: &Head<A>) {
     }
 }
 
-/// A count with its noun.
-pub(crate) fn put_count<A: Allocator>(sheet: &mut Sheet<A>, n: usize, one: &str, more: &str) {
-    sheet.number(n as u64);
-    sheet.text(if n == 1 { one } else { more });
-}
-
 /// The peaks of the first channels, in words.
 fn put_peaks<A: Allocator>(sheet: &mut Sheet<A>, chart: &Chart<'_, A>) {
     let file = chart.file;
@@ -80,16 +74,13 @@ fn put_description<A: Allocator>(sheet: &mut Sheet<A>, chart: &Chart<'_, A>) {
     sheet.text("<desc id=\"desc\">Trigger ");
     put_instant(sheet, head.trigger);
     sheet.text(". ");
-    put_count(
-        sheet,
-        head.analog.items().len(),
-        " analogue channel",
-        " analogue channels",
-    );
+    let analog = head.analog.items().len() as u64;
+    sheet.count(analog, " analogue channel", " analogue channels");
     sheet.text(" in ");
-    put_count(sheet, panel_count(chart.panels), " panel", " panels");
+    sheet.count(panel_count(chart.panels) as u64, " panel", " panels");
     sheet.text(", ");
-    put_count(sheet, head.status.items().len(), " contact", " contacts");
+    let status = head.status.items().len() as u64;
+    sheet.count(status, " contact", " contacts");
     if chart.is_timed {
         sheet.text(", from ");
         put_range(sheet, chart.frame.from, chart.frame.to);
@@ -107,7 +98,7 @@ pub(crate) fn put_facts<A: Allocator>(sheet: &mut Sheet<A>, file: &File<A>, y: u
     sheet.text("trigger ");
     put_instant(sheet, head.trigger);
     sheet.text(", ");
-    put_count(sheet, file.rows.items().len(), " row", " rows");
+    sheet.count(file.rows.items().len() as u64, " row", " rows");
     if let [rate] = head.rates.items() {
         if rate.samp.units() != 0 {
             sheet.text(" at ");

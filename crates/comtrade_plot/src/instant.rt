@@ -1,10 +1,11 @@
 //! Instants as dates, and spans of time.
 
 use crate::sheet::Sheet;
-use comtrade_values::{Exact, has_date};
+use comtrade_values::has_date;
 use std::alloc::Allocator;
 
-/// Microseconds since 1970-01-01 00:00:00 as `yyyy-mm-dd hh:mm:ss.ssssss`.
+/// Microseconds since 1970-01-01 00:00:00 as `yyyy-mm-dd hh:mm:ss.ssssss`. Both readers refuse
+/// files whose trigger is not in the years 1 to 9999.
 pub(crate) fn put_instant<A: Allocator>(sheet: &mut Sheet<A>, instant: i64) {
     if has_date(instant) {
         sheet.civil(instant);
@@ -17,7 +18,7 @@ pub(crate) fn put_instant<A: Allocator>(sheet: &mut Sheet<A>, instant: i64) {
 #[derive(Clone, Copy)]
 pub(crate) struct TimeUnit {
     pub(crate) nanos: u64,
-    pub(crate) places: u32,
+    pub(crate) places: i32,
     pub(crate) name: &'static str,
 }
 
@@ -50,14 +51,6 @@ pub(crate) fn time_unit(span: u64) -> TimeUnit {
     }
 }
 
-/// Units of a decimal with this many places, without trailing zeros.
-pub(crate) fn put_places<A: Allocator>(sheet: &mut Sheet<A>, units: i64, places: u32) {
-    sheet.exact(Exact {
-        units: i128::from(units),
-        places: i32::try_from(places).unwrap_or(0),
-    });
-}
-
 /// Nanoseconds, rounded to about a thousandth of the unit.
 fn rounded(nanos: i64, unit: TimeUnit) -> i64 {
     let grain = (unit.nanos / 1000).max(1);
@@ -74,15 +67,15 @@ fn rounded(nanos: i64, unit: TimeUnit) -> i64 {
 /// A time with its unit, to a thousandth of it.
 pub(crate) fn put_span<A: Allocator>(sheet: &mut Sheet<A>, nanos: i64) {
     let unit = time_unit(nanos.unsigned_abs());
-    put_places(sheet, rounded(nanos, unit), unit.places);
+    sheet.scaled(rounded(nanos, unit), unit.places);
     sheet.texts(&[" ", unit.name]);
 }
 
 /// A span `from .. to`, both in the unit of the longer one.
 pub(crate) fn put_range<A: Allocator>(sheet: &mut Sheet<A>, from: i64, to: i64) {
     let unit = time_unit(from.unsigned_abs().max(to.unsigned_abs()));
-    put_places(sheet, rounded(from, unit), unit.places);
+    sheet.scaled(rounded(from, unit), unit.places);
     sheet.text(" to ");
-    put_places(sheet, rounded(to, unit), unit.places);
+    sheet.scaled(rounded(to, unit), unit.places);
     sheet.texts(&[" ", unit.name]);
 }

@@ -11,8 +11,8 @@ use dfr_channels::{AnalogChannel, StatusChannel};
 use std::alloc::Allocator;
 
 /// What is drawn: a file; the scales of samples; the number of each channel's panel; the survey of
-/// the drawn rows; the rms values of channels; the times that are drawn; the position of each row; the gaps; whether times are
-/// known; when the trigger was; which record of the picture it is.
+/// the drawn rows; the rms values of channels; the times that are drawn; the position of each row;
+/// the gaps; whether times are known; when the trigger was; which record of the picture it is.
 #[derive(Drop)]
 pub(crate) struct Chart<'a, A: Allocator> {
     pub(crate) alloc: A,

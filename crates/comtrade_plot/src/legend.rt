@@ -72,7 +72,8 @@ pub(crate) fn peak_of(survey: Survey, scale: Scale) -> Option<f64> {
     Some(if high.abs() < low.abs() { low } else { high })
 }
 
-/// The rms values of a current or voltage before and after the fault inception, where they are known.
+/// The rms values of a current or voltage before and after the fault inception, where they are
+/// known.
 fn put_rms<A: Allocator>(sheet: &mut Sheet<A>, rms: Rms, unit: &[u8]) {
     let base = unit_of(unit).base;
     if base != b"A".as_slice() && base != b"V".as_slice() {

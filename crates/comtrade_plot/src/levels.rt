@@ -1,6 +1,5 @@
 //! The labels of values at the left of a panel, at round numbers.
 
-use crate::instant::put_places;
 use crate::plan::{LEFT, Panel, RIGHT};
 use crate::sheet::Sheet;
 use crate::units::power_of_ten;
@@ -55,11 +54,8 @@ fn put_level<A: Allocator + Copy>(sheet: &mut Sheet<A>, step: Step, tick: i64, y
     sheet.along("H", RIGHT);
     sheet.text("\"/>");
     let mut label = sheet.another();
-    let mut units = tick.saturating_mul(step.digit);
-    for _ in 0..step.exponent {
-        units = units.saturating_mul(10);
-    }
-    put_places(&mut label, units, step.exponent.min(0).unsigned_abs());
+    let units = tick.saturating_mul(step.digit);
+    label.scaled(units, step.exponent.saturating_neg());
     let narrow = " text-anchor=\"end\" textLength=\"68\" lengthAdjust=\"spacingAndGlyphs\"";
     let rest = if 10 < label.len() {
         narrow

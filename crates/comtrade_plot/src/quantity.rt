@@ -1,6 +1,5 @@
 //! Values with their unit, to four digits.
 
-use crate::instant::put_places;
 use crate::sheet::Sheet;
 use crate::units::{power_of_ten, put_unit, shown_exponent, unit_of};
 use std::alloc::Allocator;
@@ -24,11 +23,8 @@ pub(crate) fn put_quantity<A: Allocator>(sheet: &mut Sheet<A>, value: f64, unit:
         0
     };
     let half = if number < 0.0 { -0.5 } else { 0.5 };
-    put_places(
-        sheet,
-        saturating_f64_to_i64(number * power_of_ten(places) + half),
-        places.unsigned_abs(),
-    );
+    let units = saturating_f64_to_i64(number * power_of_ten(places) + half);
+    sheet.scaled(units, places);
     sheet.text(" ");
     put_unit(sheet, unit, exponent);
 }

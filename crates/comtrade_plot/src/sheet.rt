@@ -5,7 +5,9 @@ ghost use Rattle.std.specs.Prelude.{pos, neg_ℤ};
 ghost use Rattle.jiff_core.specs.Calendar.{IsBetween};
 
 use comtrade_io::{ToolFault, put_safe, seen_len, write_out};
-use comtrade_values::{Decimal, Exact, put, put_civil, put_decimal, put_exact, put_number};
+use comtrade_values::{
+    Decimal, Exact, put, put_civil, put_count, put_decimal, put_exact, put_number,
+};
 use std::alloc::{AllocError, Allocator};
 use std::io::Write;
 
@@ -65,8 +67,9 @@ impl<A: Allocator> Sheet<A> {
         self.keep(outcome);
     }
 
-    pub(crate) fn signed(&mut self, n: i64) {
-        let outcome = put_number(&mut self.bytes, n);
+    /// Adds a number and its noun, in the singular or the plural.
+    pub(crate) fn count(&mut self, n: u64, one: &str, more: &str) {
+        let outcome = put_count(&mut self.bytes, n, one, more);
         self.keep(outcome);
     }
 
@@ -76,10 +79,18 @@ impl<A: Allocator> Sheet<A> {
         self.keep(outcome);
     }
 
-    /// Adds a number without trailing zeros.
-    pub(crate) fn exact(&mut self, number: Exact) {
+    /// Adds units / 10^places, without trailing zeros after the point.
+    pub(crate) fn scaled(&mut self, units: i64, places: i32) {
+        let number = Exact {
+            units: i128::from(units),
+            places,
+        };
         let outcome = put_exact(&mut self.bytes, number);
         self.keep(outcome);
+    }
+
+    pub(crate) fn signed(&mut self, n: i64) {
+        self.scaled(n, 0);
     }
 
     /// Adds an instant as `yyyy-mm-dd hh:mm:ss.ssssss`. Its year is from 1 to 9999.

@@ -5,6 +5,7 @@ ghost use Rattle.std.specs.Option.{option_copied};
 ghost use Rattle.comtrade_read.specs.declared.fault.ReadFault.TheVariants as faults;
 ghost use Rattle.comtrade_values.specs.Lines.{texts, field};
 ghost use Rattle.comtrade_values.specs.Fields as shared;
+ghost use Rattle.dfr_channels.specs.LineFields as line_fields;
 ghost use Rattle.comtrade_read.specs.Fields as spec;
 ghost use Rattle.comtrade_read.specs.Head as head;
 ghost use Rattle.comtrade_read.specs.Inner.LineFaults.{GivesField};
@@ -142,7 +143,7 @@ pub(crate) fn count_of(line: u64, fields: &[&[u8]], i: u32, letter: u8) -> Resul
 pub(crate) fn side_of(line: u64, fields: &[&[u8]], i: u32) -> Result<Side, ReadFault>
     requires small { i + 1 < 2 ^ 32 }
     requires in_line { i < length fields.now }
-    ensures { GivesField (shared.side (field (texts fields.now) i)) (faults.Number line (i + 1)) result }
+    ensures { GivesField (line_fields.side (field (texts fields.now) i)) (faults.Number line (i + 1)) result }
 {
     needed(dfr_channels::side_of(fields[i as usize]), line, i)
 }

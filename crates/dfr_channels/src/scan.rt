@@ -60,8 +60,8 @@ impl<A: Allocator> Scan<A> {
 impl<A: Allocator> Scan<A> {
     /// The readings and the bits. Their memory can serve another scan.
     pub fn into_parts(self) -> (Vec<Reading, A>, Vec<bool, A>)
-        ensures { result.fst.items ≡ self.analog
-            result.snd.items ≡ self.status }
+        ensures readings { result.0.items ≡ self.analog }
+        ensures bits { result.1.items ≡ self.status }
     {
         (self.analog.into_vec(), self.status.into_vec())
     }

@@ -7,6 +7,7 @@
 use crate::entry::Reply;
 use crate::report::LiveFault;
 use crate::station::{Fed, Feed, Order, Orders, Sink};
+use dfr_channels::Scan;
 use dfr_recorder::Extent;
 use std::alloc::{Allocator, Global};
 
@@ -26,8 +27,9 @@ pub trait Intake<A: Allocator, W> {
 
     ghost loses: { Self → Self → Type 0 };
 
-    /// Returns the next scan, or the source's own error code. It may wait for its input.
-    fn next(&mut self) -> Result<Fed<A>, u32>
+    /// Returns the next scan, or the source's own error code. It may wait for its input. A scan in
+    /// `spare` is not needed any more: it may be taken, and the next one have its memory.
+    fn next(&mut self, spare: &mut Option<Scan<A>>) -> Result<Fed<A>, u32>
         ensures { gives self.old result self.new };
 
     /// The queue has no place for the scan that was given last. True: a lost scan takes its place.
@@ -137,7 +139,7 @@ impl<A: Allocator, F: Feed<A>> Intake<A, Live> for F {
 
     ghost loses = { λ s t. never s t };
 
-    fn next(&mut self) -> Result<Fed<A>, u32> {
+    fn next(&mut self, _spare: &mut Option<Scan<A>>) -> Result<Fed<A>, u32> {
         Feed::next(self)
     }
 

@@ -11,7 +11,7 @@ ghost use Rattle.dfr_live.specs.Weave.{steps_of};
 use crate::closing::{fault_in, first_of, not_started, report};
 use crate::devices::{Desk, Intake, Outlet, Pace};
 use crate::export::hand_rest;
-use crate::opened::{Opened, open};
+use crate::opened::{Opened, open_returning};
 use crate::report::{LiveFault, LiveReport};
 use crate::session::Session;
 use crate::shared::Shared;
@@ -28,7 +28,8 @@ use std::sync::Wait;
 use std::thread::Threads;
 
 /// Records in three threads until the intake and the desk end, as `run_live` does, over devices that
-/// may lose scans, give orders meanwhile and wait for memory. `pace` says what idle threads do.
+/// may lose scans, give orders meanwhile and wait for memory. `pace` says what idle threads do. Up
+/// to `returning` scans that left the pre-trigger memory wait for the intake to use them again.
 ///
 /// What the contract states is as for `run_live`, but:
 ///
@@ -49,6 +50,7 @@ pub fn record_with<
     alloc: A,
     recorder: Recorder<A>,
     lane: usize,
+    returning: usize,
     kind: Kind,
     pace: &P,
     feed: &mut F,
@@ -66,7 +68,7 @@ pub fn record_with<
     ensures front { IfErr result (λ fault. (fault ≡ LiveFault.Memory)
         ⊎ GotFront K.puts K.lacks (opening_of recorder) kind outlet.old outlet.new) }
 {
-    match open(alloc, recorder, lane, 2) {
+    match open_returning(alloc, recorder, lane, returning, 2) {
         Ok(opened) => record_named::<Brand, A, W, F, O, K, P, R>(
             rt, alloc, opened, kind, pace, feed, desk, outlet,
         ),

@@ -159,8 +159,8 @@ fn print_read_fault<A: Allocator, W: Write>(
 }
 
 /// Reads a configuration file and its data file. Returns true where both were read, and printed
-/// what is in them: four lines, as `cases/read` shows. Returns false where the pair is not valid,
-/// and printed the line of its first error.
+/// what is in them: four lines, as `cases/dfr/read` shows. Returns false where the pair is not
+/// valid, and printed the line of its first error.
 ///
 /// - `Output`: a write failed. Only part of the text was written.
 /// - `Memory`: an allocation failed. Nothing was written.

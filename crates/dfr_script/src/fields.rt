@@ -4,6 +4,7 @@ ghost use Rattle.std.specs.Prelude.{◌≡◌, IfOk, IfErr, length, ◌<◌};
 ghost use Rattle.comtrade_values.specs.Lines.{texts, field};
 ghost use Rattle.comtrade_values.specs.Spelling.{decimal_number};
 ghost use Rattle.comtrade_values.specs.Fields as shared;
+ghost use Rattle.dfr_channels.specs.LineFields as line_fields;
 ghost use Rattle.dfr_script.specs.Fields as spec;
 ghost use Rattle.dfr_script.specs.Faults.{Field, OnlyMemory};
 
@@ -98,7 +99,7 @@ pub(crate) fn free_bit_at(fields: &[&[u8]], i: usize) -> Result<bool, LineRefusa
 /// Reads field `i`, from 0, as a side: P or S, in upper or lower case.
 pub(crate) fn side_at(fields: &[&[u8]], i: usize) -> Result<Side, LineRefusal>
     requires { i < length fields.now }
-    ensures { Field (shared.side (field (texts fields.now) i)) result }
+    ensures { Field (line_fields.side (field (texts fields.now) i)) result }
 {
     needed(side_of(fields[i]))
 }

@@ -18,7 +18,7 @@ one_open false h = cc
 
 -- a record was open
 pub finishes_open : {K : Type 0} (Stores : StoresOf K) (kind : Kind) (r : Kept) (c : Counts) (s : K) (t : Kept) (d : Counts) (u : K)
-    → true ≡ is_some r.recording → (lost : List Scanned) (m : Kept) → LosesScans r lost m → EndsOpen Stores r.layout kind m c s t d u
+    → true ≡ is_some r.recording → (lost : List Scanned) (m : Kept) → LosesScans r lost m → EndsOpen Stores kind r lost m c s t d u
     → Finishes Stores kind r c s t d u
 finishes_open Stores kind r c s t d u was lost m loses ends =
     subst (λ (b : Bool). FinishesOpen Stores kind b r c s t d u) was (lost, m, loses, ends)

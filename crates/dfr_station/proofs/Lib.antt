@@ -7,3 +7,4 @@ pub mod Orders
 pub mod Tries
 pub mod Growing
 pub mod Finished
+pub mod Failing

@@ -11,6 +11,7 @@ use crate::event::{Event, Skipped};
 use crate::intake::{Arrival, Arrivals, Counts, Ending, Next};
 use crate::scans::Scans;
 use crate::station::Recording;
+use dfr_channels::Scan;
 use dfr_live::{Fed, Intake};
 use rtrb::Producer;
 use std::alloc::{Allocator, Global};
@@ -155,11 +156,11 @@ impl<I: Read, R: Wait + Clock, A: Allocator + Copy> Intake<A, Recording>
 
     ghost loses = { λ s t. AcquisitionLoses s t };
 
-    fn next(&mut self) -> Result<Fed<A>, u32> {
+    fn next(&mut self, spare: &mut Option<Scan<A>>) -> Result<Fed<A>, u32> {
         self.scans.begin();
         self.scans.settle();
         for _ in self.rt.forever() {
-            match self.arrivals.next(self.rt) {
+            match self.arrivals.next(self.rt, spare) {
                 Next::Arrival(arrival) => {
                     if let Some(fed) = self.step_of(arrival) {
                         return Ok(fed);

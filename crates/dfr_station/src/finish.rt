@@ -1,10 +1,10 @@
 //! The record that is open when the input ends: it is closed with lost scans, and written.
 
-ghost use Rattle.std.specs.Prelude.{◌≡◌, ◌⊎◌, List, Ok, Err, Some, false, true, IsTrue, MatchBool, is_some, not};
+ghost use Rattle.std.specs.Prelude.{◌≡◌, ◌⊎◌, ⊤, List, Ok, Err, Some, false, true, IsTrue, MatchBool, is_some, not};
 ghost use Rattle.dfr_recorder.specs.Own.{is_own};
 ghost use Rattle.dfr_recorder.specs.declared.step.Scanned.{Scanned as Accepted};
 ghost use Rattle.dfr_live.specs.Devices.{files_of};
-ghost use Rattle.dfr_station.specs.Finishing.{LosesScan, LosesScans, TriedLast, TriesLast, WritesLast, FinishesOpen, EndsOpen, Finishes, counted_last};
+ghost use Rattle.dfr_station.specs.Finishing.{LosesScan, LosesScans, LosesNone, StaysOpen, TriedLast, TriesLast, WritesLast, FinishesOpen, EndsOpen, Finishes, counted_last};
 
 use crate::event::{Event, Trouble};
 use crate::intake::{Counts, Recorded};
@@ -23,8 +23,9 @@ use std::time::Clock;
 /// it was made.
 fn is_lost<A: Allocator + Copy, R: Wait + Clock>(rt: &R, recorder: &mut Recorder<A>) -> bool
     ensures lost { MatchBool result ((x : Accepted) × LosesScan recorder.old x recorder.new)
-        (recorder.new ≡ recorder.old) }
-    ensures layout { recorder.new.layout ≡ recorder.old.layout }
+        ((recorder.new ≡ recorder.old) × LosesNone recorder.old) }
+    ensures opening { (recorder.new.layout ≡ recorder.old.layout)
+        × (recorder.new.limits ≡ recorder.old.limits) }
 {
     for tries in 0..LAST_TRIES {
         pause_before(rt, tries);
@@ -41,12 +42,16 @@ fn is_lost<A: Allocator + Copy, R: Wait + Clock>(rt: &R, recorder: &mut Recorder
 /// failed, or the scans would be after the year 9999.
 fn is_closed<A: Allocator + Copy, R: Wait + Clock>(rt: &R, recorder: &mut Recorder<A>) -> bool
     ensures closed { result ≡ not (is_some recorder.new.recording) }
-    ensures lost { (lost : List Accepted) × LosesScans recorder.old lost recorder.new }
+    ensures lost { (lost : List Accepted) × LosesScans recorder.old lost recorder.new
+        × MatchBool result ⊤ (StaysOpen recorder.old lost recorder.new) }
     ensures layout { recorder.new.layout ≡ recorder.old.layout }
 {
-    for _ in 0..recorder.limits().longest() {
-        if !recorder.is_recording() || !is_lost(rt, recorder) {
-            break;
+    for made in 0..recorder.limits().longest() {
+        if !recorder.is_recording() {
+            return true;
+        }
+        if !is_lost(rt, recorder) {
+            return false;
         }
     }
     !recorder.is_recording()

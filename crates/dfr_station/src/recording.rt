@@ -1,8 +1,11 @@
 //! Records over the devices of a station, while another thread prints the events.
 
-ghost use Rattle.std.specs.Prelude.{◌≡◌, Ok, IfOk};
+ghost use Rattle.std.specs.Prelude.{◌≡◌, Ok, Err, IfOk, IfErr, MatchResult};
+ghost use Rattle.dfr_live.specs.Calls.{open_fault};
 ghost use Rattle.dfr_live.specs.Seen.{opening_of};
 ghost use Rattle.dfr_live.specs.Report.{Recorded as RecordedLive};
+ghost use Rattle.dfr_live.specs.declared.report.LiveFault.{LiveFault as FaultOfThreads};
+ghost use Rattle.dfr_station.specs.Failing.{DevicesFail, IsToldAs};
 
 use crate::first::take_back;
 use crate::intake::RunFault;
@@ -23,7 +26,11 @@ use std::time::Clock;
 /// The most scans that may wait for the trigger thread.
 const LANE: usize = 65_536;
 
-/// Records while another thread prints the events. If a thread can't be started, nothing is recorded.
+/// The most scans that may wait for the acquisition to use their memory again.
+const RETURNING: usize = 32_768;
+
+/// Records while another thread prints the events. If a thread can't be started, nothing is
+/// recorded.
 pub(crate) fn record_printing<
     A: Allocator + Copy + Send + Sync,
     F: Intake<A, Recording> + Send,
@@ -41,9 +48,13 @@ pub(crate) fn record_printing<
     desk: &mut O,
     outlet: &mut K,
 ) -> Result<LiveReport<A>, RunFault>
-    ensures { IfOk result (λ report. RecordedLive F.gives F.loses O.asks O.hears K.puts K.lacks
+    ensures { MatchResult result
+        (λ report. RecordedLive F.gives F.loses O.asks O.hears K.puts K.lacks
         (opening_of recorder) kind (intake.old, desk.old, outlet.old)
-        (intake.new, desk.new, outlet.new) report) }
+        (intake.new, desk.new, outlet.new) report)
+        (λ fault. DevicesFail K.puts K.lacks (opening_of recorder) kind
+        (open_fault recorder.scans 65_536 2) (intake.old, desk.old, outlet.old)
+        (intake.new, desk.new, outlet.new) fault) }
 {
     let rt = pace.rt;
     let devices = (intake, desk, outlet);
@@ -54,10 +65,15 @@ pub(crate) fn record_printing<
             ensures names { (result.1.0.ghost_name ≡ devices.entry.0.ghost_name)
                 × (result.1.1.ghost_name ≡ devices.entry.1.ghost_name)
                 × (result.1.2.ghost_name ≡ devices.entry.2.ghost_name) }
-            ensures recorded { IfOk result.0 (λ report. RecordedLive F.gives F.loses O.asks O.hears K.puts
-                K.lacks (opening_of recorder) kind
+            ensures recorded { MatchResult result.0
+                (λ report. RecordedLive F.gives F.loses O.asks O.hears K.puts K.lacks
+                (opening_of recorder) kind
                 (devices.entry.0.now, devices.entry.1.now, devices.entry.2.now)
-                (result.1.0.now, result.1.1.now, result.1.2.now) report) }
+                (result.1.0.now, result.1.1.now, result.1.2.now) report)
+                (λ fault. DevicesFail K.puts K.lacks (opening_of recorder) kind
+                (open_fault recorder.scans 65_536 2)
+                (devices.entry.0.now, devices.entry.1.now, devices.entry.2.now)
+                (result.1.0.now, result.1.1.now, result.1.2.now) fault) }
         { record_beside(scope, pace, alloc, recorder, kind, telling, devices) },
     );
     take_back(intake);
@@ -66,7 +82,9 @@ pub(crate) fn record_printing<
     report
 }
 
-/// Starts the thread that prints the events, and records. Then says that all other threads have ended.
+/// Starts the thread that prints the events, and records. Then says that all other threads have
+/// ended.
+#[tactic(auto, unfolding(crate::specs::Failing::DevicesFail))]
 fn record_beside<
     's,
     'x,
@@ -94,9 +112,15 @@ fn record_beside<
     ensures names { (result.1.0.ghost_name ≡ devices.entry.0.ghost_name)
         × (result.1.1.ghost_name ≡ devices.entry.1.ghost_name)
         × (result.1.2.ghost_name ≡ devices.entry.2.ghost_name) }
-    ensures recorded { IfOk result.0 (λ report. RecordedLive F.gives F.loses O.asks O.hears K.puts K.lacks
-        (opening_of recorder) kind (devices.entry.0.now, devices.entry.1.now, devices.entry.2.now)
-        (result.1.0.now, result.1.1.now, result.1.2.now) report) }
+    ensures recorded { MatchResult result.0
+        (λ report. RecordedLive F.gives F.loses O.asks O.hears K.puts K.lacks
+        (opening_of recorder) kind
+        (devices.entry.0.now, devices.entry.1.now, devices.entry.2.now)
+        (result.1.0.now, result.1.1.now, result.1.2.now) report)
+        (λ fault. DevicesFail K.puts K.lacks (opening_of recorder) kind
+        (open_fault recorder.scans 65_536 2)
+        (devices.entry.0.now, devices.entry.1.now, devices.entry.2.now)
+        (result.1.0.now, result.1.1.now, result.1.2.now) fault) }
 {
     let Napping { rt, signals } = pace;
     let (intake, desk, outlet) = devices;
@@ -112,6 +136,7 @@ fn record_beside<
         alloc,
         recorder,
         LANE,
+        RETURNING,
         kind,
         &pace,
         &mut *intake,
@@ -127,7 +152,9 @@ fn outcome_of<A: Allocator>(
     report: Result<LiveReport<A>, LiveFault>,
     signals: &Signals,
 ) -> Result<LiveReport<A>, RunFault>
-    ensures { IfOk result (λ made. report ≡ Ok made) }
+    ensures made { IfOk result (λ made. report ≡ Ok made) }
+    ensures told { IfErr result (λ told. (fault : FaultOfThreads)
+        × (report ≡ Err fault) × IsToldAs fault told) }
 {
     match report {
         Ok(report) => Ok(report),
@@ -135,9 +162,11 @@ fn outcome_of<A: Allocator>(
     }
 }
 
-/// Why the run failed. The devices have no errors of their own. `Memory` says that a thread could not
-/// be started, or that allocations failed after the input had ended.
-fn fault_of(fault: LiveFault, signals: &Signals) -> RunFault {
+/// Why the run failed. The devices have no errors of their own. `Memory` says that a thread could
+/// not be started, or that allocations failed after the input had ended.
+fn fault_of(fault: LiveFault, signals: &Signals) -> RunFault
+    ensures { IsToldAs fault result }
+{
     match fault {
         LiveFault::Open(fault) => RunFault::Open(fault),
         LiveFault::End(fault) => RunFault::End(fault),

@@ -1,7 +1,9 @@
 //! Runs a station, from its first scan to the end of its input.
 
-ghost use Rattle.std.specs.Prelude.{◌≡◌, ◌-◌, Ok, IfOk, is_some};
+ghost use Rattle.std.specs.Prelude.{◌≡◌, ◌-◌, Ok, Err, IfOk, IfErr, is_some};
+ghost use Rattle.dfr_live.specs.Calls.{open_fault};
 ghost use Rattle.dfr_live.specs.Seen.{opening_of};
+ghost use Rattle.dfr_station.specs.Failing.{IsFaultOf, RunFails};
 ghost use Rattle.dfr_station.specs.Stations.{Begins, IsFresh, Ran};
 ghost use Rattle.dfr_live.specs.declared.report.LiveReport.{LiveReport as LiveReported};
 ghost use Rattle.dfr_station.specs.declared.intake.arrivals.Arrivals.{Arrivals as Arriving};
@@ -62,7 +64,10 @@ pub struct Run<I, K, A: Allocator = Global> {
 /// - The export thread hands each record's pair to the store until the store takes it.
 ///
 /// A fourth thread prints the events. `finish_station` writes the record that is open at the end.
-/// Whatever the end, the input and the store come back.
+/// Whatever the end, the input and the store come back. After `Memory` and `Open` both are
+/// unchanged. `Open` comes only from a recorder that has accepted a scan, or for want of memory.
+/// After `Counter`, and after `End` with another cause than memory, the store got the pairs of some
+/// records and nothing else. Of the other errors nothing is stated.
 pub fn run_station<
     A: Allocator + Copy + Send + Sync,
     I: Read + Send,
@@ -78,10 +83,13 @@ pub fn run_station<
     store: K,
     printer: &mut P,
 ) -> Run<I, K, A>
-    ensures { IfOk result.recorded (λ left. (arrivals : Arriving I A)
+    ensures ran { IfOk result.recorded (λ left. (arrivals : Arriving I A)
         × Begins (opening_of station.recorder).layout station.input first.buffer input arrivals
-        × Ran I.remaining K.stores (opening_of station.recorder) station.kind (is_some station.operator)
-        arrivals store left result.input result.store) }
+        × Ran I.remaining K.stores (opening_of station.recorder) station.kind
+        (is_some station.operator) arrivals store left result.input result.store) }
+    ensures failed { IfErr result.recorded (RunFails K.stores (opening_of station.recorder)
+        station.kind (open_fault station.recorder.scans 65_536 2)
+        (input, store) (result.input, result.store)) }
 {
     let (recorder, how) = how_of(station, first);
     match layout_and_parts(alloc, &recorder) {
@@ -151,10 +159,12 @@ fn run_over<
 ) -> Run<I, K, A>
     requires layout { layout.now ≡ (opening_of recorder).layout }
     requires parts { IsFresh layout.now parts }
-    ensures { IfOk result.recorded (λ left. (arrivals : Arriving I A)
+    ensures ran { IfOk result.recorded (λ left. (arrivals : Arriving I A)
         × Begins layout.now how.form how.read.0 input arrivals
         × Ran I.remaining K.stores (opening_of recorder) how.kind (is_some how.operator)
         arrivals store left result.input result.store) }
+    ensures failed { IfErr result.recorded (RunFails K.stores (opening_of recorder) how.kind
+        (open_fault recorder.scans 65_536 2) (input, store) (result.input, result.store)) }
 {
     let Parts {
         filler,
@@ -218,7 +228,9 @@ fn all_made<I, R, A: Allocator + Copy>(
     desk: &mut Office<'_, A>,
 ) -> Result<LiveReport<A>, RunFault>
     requires one { IfOk report (λ _. intake.old.orders.lane ≡ desk.old.lane) }
-    ensures all { IfOk result (λ made. (report ≡ Ok made) × (desk.old.taken ≡ intake.old.orders.items)) }
+    ensures all { IfOk result (λ made. (report ≡ Ok made)
+        × (desk.old.taken ≡ intake.old.orders.items)) }
+    ensures failed { IfErr result (λ fault. IsFaultOf report fault) }
     ensures same { (intake.new ≡ intake.old) × (desk.new ≡ desk.old) }
 {
     match report {
@@ -234,8 +246,10 @@ fn recorded_of<A: Allocator>(
     counts: Counts,
     text: Vec<u8, A>,
 ) -> Result<Recorded<A>, RunFault>
-    ensures { IfOk result (λ left. (r : LiveReported A) × (report ≡ Ok r) × (left.ended ≡ r.ended)
+    ensures made { IfOk result (λ left. (r : LiveReported A) × (report ≡ Ok r)
+        × (left.ended ≡ r.ended)
         × (left.counts ≡ record counts { left = counts.scans - r.stepped })) }
+    ensures failed { IfErr result (λ fault. report ≡ Err fault) }
 {
     match report {
         Ok(LiveReport { stepped, ended, .. }) => Ok(Recorded {

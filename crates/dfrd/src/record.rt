@@ -20,8 +20,8 @@ use std::time::Clock;
 /// The greatest size of a set-up file: 512 MiB.
 const LIMIT: usize = 536_870_912;
 
-/// How many scans may wait for the trigger thread, with those that left the ring.
-const LANE: u64 = 65_568;
+/// How many scans may wait for the trigger thread, or for the acquisition to use their memory again.
+const LANE: u64 = 98_304;
 
 /// The bytes of what doesn't depend on the set-up: queues of events and of lines.
 const FIXED: u64 = 4_000_000;

@@ -71,6 +71,8 @@ where. The manual lists the keys.
 Exit status: 0 the pair was written, also with repairs; 1 the files cannot be imported, read or
 written; 2 usage error.";
 
+const FILE: &str = "A file of the record, or the name its files share";
+
 const NEW_PAIR: &str =
     "The name of the new pair, without .cfg and .dat; existing files are never overwritten";
 
@@ -88,11 +90,7 @@ fn over_pair<'a>(alloc: Global, name: &'a str, about: &'a str) -> Result<Command
     ensures { IfOk result (IsCommand (Spec.over_pair name.entry.now)) }
 {
     let bare = command(alloc, name, about, STATUS);
-    let file = word(
-        alloc,
-        "FILE",
-        "A file of the record, or the name its files share",
-    );
+    let file = word(alloc, "FILE", FILE);
     let dat = "The data file, if FILE is the configuration file";
     let one = with(bare, file)?;
     with(one, free_word(alloc, "DAT", dat))
@@ -159,21 +157,14 @@ fn measure<'a>(alloc: Global) -> Result<Command<'a>, AllocError>
 }
 
 /// A command that writes a pair. With three names the second is the data file.
-fn over_new<'a>(
-    alloc: Global,
-    bare: Command<'a>,
-    written: &'a str,
-) -> Result<Command<'a>, AllocError>
+fn over_new<'a>(alloc: Global, bare: Command<'a>, usage: &'a str) -> Result<Command<'a>, AllocError>
     ensures { (a : App) → IsCommand a bare.entry → IfOk result (IsCommand (Spec.over_new a)) }
 {
-    let file = word(
-        alloc,
-        "FILE",
-        "A file of the record, or the name its files share",
-    );
+    let file = word(alloc, "FILE", FILE);
     let last = "The name of the new pair, if NAME is the data file";
-    let one = with(bare, file)?;
-    let two = with(one, word(alloc, "NAME", written))?;
+    let used = bare.override_usage(usage);
+    let one = with(used, file)?;
+    let two = with(one, word(alloc, "NAME", NEW_PAIR))?;
     with(two, free_word(alloc, "LAST", last))
 }
 
@@ -183,8 +174,8 @@ fn convert_names<'a>(alloc: Global) -> Result<Command<'a>, AllocError>
 {
     let about = "Write the same record, or a part of it, as a pair with this data format";
     let usage = "comtrade convert --kind <KIND> [OPTIONS] <FILE> [DAT] <NAME>";
-    let bare = command(alloc, "convert", about, STATUS).override_usage(usage);
-    over_new(alloc, bare, NEW_PAIR)
+    let bare = command(alloc, "convert", about, STATUS);
+    over_new(alloc, bare, usage)
 }
 
 /// The same, with the data format.
@@ -211,8 +202,8 @@ fn import_names<'a>(alloc: Global) -> Result<Command<'a>, AllocError>
     let about =
         "Read files of 1991, 1999 or 2013 as relays write them, and write a valid pair of 1999";
     let usage = "comtrade import [OPTIONS] <FILE> [DAT] <NAME>";
-    let bare = command(alloc, "import", about, IMPORT_STATUS).override_usage(usage);
-    over_new(alloc, bare, NEW_PAIR)
+    let bare = command(alloc, "import", about, IMPORT_STATUS);
+    over_new(alloc, bare, usage)
 }
 
 fn importing<'a>(alloc: Global) -> Result<Command<'a>, AllocError>

@@ -133,9 +133,9 @@ fn rms_at<A: Allocator + Copy>(
     Ok(())
 }
 
-/// The rms values of a file's channels before and after the first fault inception of a current; else
-/// before and after the trigger, by the times of rows since it. None is known where no rate gives
-/// cycles.
+/// The rms values of a file's channels before and after the first fault inception of a current;
+/// else before and after the trigger, by the times of rows since it. None is known where no rate
+/// gives cycles.
 pub fn rms_around<A: Allocator + Copy>(
     alloc: A,
     file: &File<A>,

@@ -140,8 +140,8 @@ impl<A: Allocator> Current<A> {
         value_in(row?, self.place, self.scale)
     }
 
-    /// Adds a row to the last cycle, and takes out the one that has left it; returns the mean square
-    /// of the cycle. None where a reading is missing or the cycle is not whole.
+    /// Adds a row to the last cycle, and takes out the one that has left it; returns the mean
+    /// square of the cycle. None where a reading is missing or the cycle is not whole.
     fn slide(
         &mut self,
         place: &Place<'_, A>,
@@ -165,10 +165,10 @@ impl<A: Allocator> Current<A> {
         }
     }
 
-    /// Whether it departs in a row from its waveform. The value differs from that of one cycle before,
-    /// and by more than the waveform turns from cycle to cycle where the frequency is not nominal:
-    /// the difference is not that of the cycle before; half as large again, where that is not
-    /// known.
+    /// Whether it departs in a row from its waveform. The value differs from that of one cycle
+    /// before, and by more than the waveform turns from cycle to cycle where the frequency is not
+    /// nominal: the difference is not that of the cycle before; half as large again, where that is
+    /// not known.
     fn departs(
         &self,
         place: &Place<'_, A>,
@@ -236,8 +236,8 @@ impl<A: Allocator> Current<A> {
         Ok(())
     }
 
-    /// Follows it to a row. A departure ends when the current has neither departed nor been above for
-    /// more than a cycle.
+    /// Follows it to a row. A departure ends when the current has neither departed nor been above
+    /// for more than a cycle.
     pub(crate) fn follow(
         &mut self,
         place: &Place<'_, A>,

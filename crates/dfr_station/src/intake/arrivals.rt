@@ -10,7 +10,7 @@ use crate::intake::cutter::Cutter;
 use crate::reading::Given;
 use crate::station::Input;
 use crate::telling::now;
-use dfr_channels::Layout;
+use dfr_channels::{Layout, Scan};
 use std::alloc::{Allocator, Global};
 use std::io::Read;
 use std::sync::Wait;
@@ -99,12 +99,12 @@ impl<'x, I, A: Allocator + Copy> Arrivals<'x, I, A> {
 
 impl<I: Read, A: Allocator + Copy> Arrivals<'_, I, A> {
     /// What comes next of what was read. None if more has to be read.
-    fn next_read(&mut self) -> Option<Next<A>>
+    fn next_read(&mut self, spare: &mut Option<Scan<A>>) -> Option<Next<A>>
         ensures { MatchOption result (spec.IsDrained I.remaining self.old self.new)
             (λ next. spec.HandsNext I.remaining self.old next self.new) }
     {
         let is_last = matches!(self.ending, Some(Stop::End));
-        if let Some(arrival) = self.cutter.next(is_last) {
+        if let Some(arrival) = self.cutter.next(is_last, spare) {
             self.is_drained = false;
             return Some(Next::Arrival(arrival));
         }
@@ -127,11 +127,11 @@ impl<I: Read, A: Allocator + Copy> Arrivals<'_, I, A> {
         }
     }
 
-    /// What comes next.
-    pub(crate) fn next<R: Wait + Clock>(&mut self, rt: &R) -> Next<A>
+    /// What comes next. A scan of a frame has the memory of the spare one, if there is one.
+    pub(crate) fn next<R: Wait + Clock>(&mut self, rt: &R, spare: &mut Option<Scan<A>>) -> Next<A>
         ensures { spec.HandsNext I.remaining self.old result self.new }
     {
-        if let Some(next) = self.next_read() {
+        if let Some(next) = self.next_read(spare) {
             return next;
         }
         if !self.is_drained {
@@ -139,7 +139,7 @@ impl<I: Read, A: Allocator + Copy> Arrivals<'_, I, A> {
             return Next::Drained;
         }
         self.read(rt);
-        match self.next_read() {
+        match self.next_read(spare) {
             Some(next) => next,
             None => Next::Drained,
         }

@@ -12,7 +12,7 @@ use crate::intake::feed::Why;
 use crate::intake::frame::{arrival_of_frame, frame_len};
 use crate::intake::line::{Line, Meaning, first_line, meaning_of, refused, without_return};
 use crate::station::Input;
-use dfr_channels::Layout;
+use dfr_channels::{Layout, Scan};
 use std::alloc::{Allocator, Global};
 
 /// The bytes that were read and wait, and how far they were cut.
@@ -56,7 +56,7 @@ impl<'x, A: Allocator + Copy> Cutter<'x, A> {
     }
 
     /// The scan of the next frame. None if no whole frame waits.
-    fn next_frame(&mut self) -> Option<Arrival<A>>
+    fn next_frame(&mut self, spare: &mut Option<Scan<A>>) -> Option<Arrival<A>>
         requires { self.old.form ≡ form.Frames }
         ensures { (last : Bool) → spec.Hands last self.old result self.new }
     {
@@ -67,7 +67,7 @@ impl<'x, A: Allocator + Copy> Cutter<'x, A> {
         if bytes.len() < size {
             return None;
         }
-        let arrival = arrival_of_frame(self.alloc, self.layout, &bytes[..size]);
+        let arrival = arrival_of_frame(self.alloc, spare.take(), self.layout, &bytes[..size]);
         self.buffer.use_up(size);
         self.came = self.came.saturating_add(1);
         Some(arrival)
@@ -232,12 +232,13 @@ impl<'x, A: Allocator + Copy> Cutter<'x, A> {
     }
 
     /// What comes next of the bytes that wait; `is_last`: no more bytes come after them. None if
-    /// nothing whole waits. Allocates only what a scan or an order needs.
-    pub(crate) fn next(&mut self, is_last: bool) -> Option<Arrival<A>>
+    /// nothing whole waits. Allocates only what a scan or an order needs; a frame's scan has the memory
+    /// of the spare one, if there is one.
+    pub(crate) fn next(&mut self, is_last: bool, spare: &mut Option<Scan<A>>) -> Option<Arrival<A>>
         ensures { spec.Hands is_last self.old result self.new }
     {
         match self.form {
-            Input::Frames => self.next_frame(),
+            Input::Frames => self.next_frame(spare),
             Input::Lines => {
                 if self.is_owed {
                     self.is_owed = false;

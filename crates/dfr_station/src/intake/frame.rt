@@ -1,14 +1,16 @@
 //! Frames. A frame is one scan, as a row of BINARY data without its number and time stamp
 //! (C37.111-1999, clause 6).
 
-ghost use Rattle.std.specs.Prelude.{◌≡◌, ◌≤◌, length, IfOk};
+ghost use Rattle.std.specs.Prelude.{◌≡◌, ◌≤◌, ◌<◌, ◌*◌, ◌+◌, ◌/◌, ◌++◌, [], length, min, IfOk};
+ghost use Rattle.std.specs.Vec.{vec_len, vec_capacity};
+ghost use Rattle.comtrade_format.specs.Packed as packed;
 ghost use Rattle.dfr_station.specs.Frames as spec;
 ghost use Rattle.dfr_station.specs.Lines.{FrameMeans, parts_of};
 
 use crate::intake::arrival::{Arrival, arrival_of_scan};
 use crate::intake::feed::Why;
-use comtrade_format::{packed_bits, packed_values};
-use dfr_channels::{Layout, Scan};
+use byteorder::{ByteOrder, LittleEndian};
+use dfr_channels::{Layout, Reading, Scan};
 use std::alloc::{AllocError, Allocator};
 
 /// The size of a frame in bytes: two for each analogue channel, and two for each group of up to
@@ -21,10 +23,108 @@ pub fn frame_len(analog: usize, status: usize) -> usize
     2 * analog + 2 * ((status + 15) / 16)
 }
 
-/// The scan of a frame.
+/// The sample in the first two bytes. The lowest value means missing.
+#[inline]
+fn reading_of(bytes: &[u8]) -> Reading
+    requires { 2 ≤ length bytes.now }
+    ensures { result ≡ packed.value_at bytes.now }
+{
+    let value = LittleEndian::read_i16(bytes);
+    if value == -32_768 {
+        Reading::Missing
+    } else {
+        Reading::Value(value as i32)
+    }
+}
+
+/// Puts the samples of a frame into a list.
+fn put_readings<A: Allocator>(
+    readings: &mut Vec<Reading, A>,
+    frame: &[u8],
+    count: usize,
+) -> Result<(), AllocError>
+    requires empty { (readings.old.items ≡ []) × (vec_len readings.old ≡ 0) }
+    requires whole { 2 * count ≤ length frame.now }
+    ensures { IfOk result (λ _. readings.new.items ≡ packed.values_at count frame.now) }
+{
+    readings.reserve(count)?;
+    for i in 0..count {
+        readings.push_reserved(reading_of(&frame[2 * i..]));
+    }
+    Ok(())
+}
+
+/// Appends the lowest `count` bits of a status word. `bits` must have room for them.
+#[inline(always)]
+fn push_word<A: Allocator>(bits: &mut Vec<bool, A>, word: u16, count: usize)
+    requires few { count ≤ 16 }
+    requires room { vec_len bits.old + count ≤ vec_capacity bits.old }
+    ensures items { bits.new.items ≡ bits.old.items ++ packed.group_bits count word }
+    ensures len { vec_len bits.new ≡ vec_len bits.old + count }
+    ensures capacity { vec_capacity bits.new ≡ vec_capacity bits.old }
+{
+    for i in 0..count {
+        bits.push_reserved((word >> i) & 1 == 1);
+    }
+}
+
+/// How many bits of the next status word belong to channels, when `left` channels are left.
+#[inline]
+fn word_len(left: usize) -> usize
+    ensures { result ≡ min left 16 }
+{
+    if left < 16 { left } else { 16 }
+}
+
+/// Puts the bits of the status words of a frame into a list.
+fn put_bits<A: Allocator>(
+    bits: &mut Vec<bool, A>,
+    words: &[u8],
+    count: usize,
+) -> Result<(), AllocError>
+    requires empty { (bits.old.items ≡ []) × (vec_len bits.old ≡ 0) }
+    requires whole { 2 * ((count + 15) / 16) ≤ length words.now }
+    ensures { IfOk result (λ _. bits.new.items ≡ packed.bits_at count words.now) }
+{
+    bits.reserve(count)?;
+    let whole = count / 16;
+    // a variable, since the compiler unrolls a loop of exactly sixteen but vectorizes this one
+    let size = word_len(count);
+    for i in 0..whole {
+        let word = LittleEndian::read_u16(&words[2 * i..]);
+        push_word(bits, word, size);
+    }
+    let left = count - 16 * whole;
+    if left == 0 {
+        return Ok(());
+    }
+    let last = LittleEndian::read_u16(&words[2 * whole..]);
+    push_word(bits, last, left);
+    Ok(())
+}
+
+/// Two empty lists, in the memory of the spare scan, if there is one.
+fn lists_of<A: Allocator + Copy>(
+    alloc: A,
+    spare: Option<Scan<A>>,
+) -> (Vec<Reading, A>, Vec<bool, A>)
+    ensures readings { (result.0.items ≡ []) × (vec_len result.0 ≡ 0) }
+    ensures bits { (result.1.items ≡ []) × (vec_len result.1 ≡ 0) }
+{
+    let Some(scan) = spare else {
+        return (Vec::new(alloc), Vec::new(alloc));
+    };
+    let (mut readings, mut bits) = scan.into_parts();
+    readings.clear();
+    bits.clear();
+    (readings, bits)
+}
+
+/// The scan of a frame. It has the memory of the spare one, if there is one.
 #[tactic(auto, unfolding(crate::specs::Frames::frame_scan))]
 pub fn scan_of_frame<A: Allocator + Copy>(
     alloc: A,
+    spare: Option<Scan<A>>,
     frame: &[u8],
     analog: usize,
     status: usize,
@@ -34,14 +134,16 @@ pub fn scan_of_frame<A: Allocator + Copy>(
     requires whole { spec.frame_len analog status ≤ length frame.now }
     ensures { IfOk result (λ scan. scan ≡ spec.frame_scan analog status frame.now) }
 {
-    let values = packed_values(alloc, frame, analog)?;
-    let bits = packed_bits(alloc, &frame[2 * analog..], status)?;
-    Ok(Scan::new(values, bits))
+    let (mut readings, mut bits) = lists_of(alloc, spare);
+    put_readings(&mut readings, frame, analog)?;
+    put_bits(&mut bits, &frame[2 * analog..], status)?;
+    Ok(Scan::new(readings, bits))
 }
 
 /// What the frame at the front of these bytes is: a scan, or a lost one.
 pub(crate) fn arrival_of_frame<A: Allocator + Copy>(
     alloc: A,
+    spare: Option<Scan<A>>,
     layout: &Layout<A>,
     bytes: &[u8],
 ) -> Arrival<A>
@@ -50,7 +152,8 @@ pub(crate) fn arrival_of_frame<A: Allocator + Copy>(
 {
     // a lawful layout has at most 256 channels of each kind
     let _rate = layout.rate();
-    match scan_of_frame(alloc, bytes, layout.analog().len(), layout.status().len()) {
+    let (analog, status) = (layout.analog().len(), layout.status().len());
+    match scan_of_frame(alloc, spare, bytes, analog, status) {
         Ok(scan) => arrival_of_scan(layout, scan),
         Err(_) => Arrival::Lost(Why::Memory),
     }

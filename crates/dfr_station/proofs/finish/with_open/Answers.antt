@@ -13,14 +13,15 @@ returns g c =
 
 pub returns-2 : goal.returns-2
 returns-2 g c =
-    let closed = c.is_closed.ensures in
-    finishes_open g.K.Store.stores c.args.kind c.args.recorder.now c.args.counts c.args.store.now _ _ _
-    c.if-not-is_recording.ensures.value closed.lost.0 c.is_closed.new.recorder closed.lost.1
-    (inr (
-      rw c.saturating_add.ensures refl,
-      refl,
-      elim c.else-is_closed.branch [
-        | else-is_closed-via-else-is_closed w ↦ inl (one_open _ w.if-is_closed.ensures.closed, w.recorder-is)
-        | else-is_closed-via-then-is_closed+in-None-1 w ↦ inr (search rules)
-      ],
-    ))
+    elim c.else-is_closed.branch [
+      | else-is_closed-via-else-is_closed w ↦
+          let closed = w.if-is_closed.ensures in
+          finishes_open g.K.Store.stores c.args.kind c.args.recorder.now c.args.counts c.args.store.now _ _ _
+          c.if-not-is_recording.ensures.value closed.lost.0 c.is_closed.new.recorder closed.lost.1
+          (inr (rw c.saturating_add.ensures refl, refl, inl (one_open _ closed.closed, closed.lost.2, w.recorder-is)))
+      | else-is_closed-via-then-is_closed+in-None-1 w ↦
+          let closed = c.is_closed.ensures in
+          finishes_open g.K.Store.stores c.args.kind c.args.recorder.now c.args.counts c.args.store.now _ _ _
+          c.if-not-is_recording.ensures.value closed.lost.0 c.is_closed.new.recorder closed.lost.1
+          (inr (rw c.saturating_add.ensures refl, refl, inr (search rules)))
+    ]

@@ -1,4 +1,4 @@
-use Rattle.measure.proofs.soak.shared_run.run.Given as goal
+use Rattle.benchmarks.proofs.soak.shared_run.run.Given as goal
 
 abbrev pub ghosts-named : goal.ghosts-named
 ghosts-named g a = record { lane = a.opened.lane; opening = a.opened.opening; seats = a.opened.seats }

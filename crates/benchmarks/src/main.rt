@@ -1,10 +1,10 @@
 //! What the libraries take of time, and how they stand runs by chance.
 //!
-//! `measure calls RUNS` makes each measure of single calls RUNS times and prints the least time of each; `measure live RUNS` those of
+//! `benchmarks calls RUNS` makes each measure of single calls RUNS times and prints the least time of each; `benchmarks live RUNS` those of
 //! offers, pumps and recordings in three threads, and prints the least and the median time of each. Without a number each is made
 //! once, over little, and nothing is printed.
 //!
-//! `measure soak WAY SEED LANE SEATS THREADS ROUNDS` reads a script and runs a recorder by chance, with calls that are refused memory,
+//! `benchmarks soak WAY SEED LANE SEATS THREADS ROUNDS` reads a script and runs a recorder by chance, with calls that are refused memory,
 //! and prints what each thread saw and what the end left. WAY is `free` (all threads at once), `orderly` (first the scans, then
 //! the calls) or `station` (`run_live`, whose feed and sink may fail). `bench/soak` makes the scripts and judges.
 #![tactic(auto)]
