@@ -54,7 +54,7 @@ echo 'ROWS = len(read("rec1"))' >> sources/python/dfr_comtrade/__init__.py
 editable/bin/python -c 'import dfr_comtrade as d; print(d.ROWS, d.__file__)' |
     grep -x "50 $HOME/sources/python/dfr_comtrade/__init__.py"
 editable/bin/pip uninstall -y dfr-comtrade
-no editable/bin/python -c 'import dfr_comtrade'
+[ -z "$(editable/bin/pip list | grep dfr)" ]
 END
 
 check "docs/INSTALL.md, C, C++ and Rust" inside <<< "$(block 'C, C++ and Rust')"
