@@ -62,12 +62,14 @@ runuser -u analyst -- sh -c 'echo trigger > /run/dfrd/bay3/orders'
 gpasswd -d analyst dfrd
 END
 check "an input that is killed ten times: it is started again" inside << 'END'
-for i in 1 2 3 4 5 6 7 8 9 10; do
-    kill -KILL -- "-$(cat /run/dfrd/bay3/input.pid)" || :
+killed=0
+for i in $(seq 40); do # (now and then there is none to kill yet)
+    if kill -KILL -- "-$(cat /run/dfrd/bay3/input.pid)"; then killed=$((killed + 1)); fi
+    [ $killed -lt 10 ] || break
     sleep 1.5
 done
-sleep 2
-systemctl is-active dfrd@bay3
+[ $killed = 10 ]
+soon systemctl is-active dfrd@bay3
 END
 check "stopped with a record open: it is written, within 3 s" inside << END
 told() { $(log_of bay3) --since "\$since" | grep "\$1"; } # since the restart
