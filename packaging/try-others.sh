@@ -42,6 +42,21 @@ unset DFR_COMTRADE_LIBRARY
 other/bin/python -c 'import dfr_comtrade; print(len(dfr_comtrade.read("rec1")))' | grep -x 50
 END
 
+check "the type hints of the wheel: mypy --strict" as_user << 'END'
+sed -n '/^PROGRAM = /,/^"""$/p' sources/python/tests/test_types.py | sed '1d; $d' > program.py
+mypy --strict --python-executable comtrade/bin/python program.py
+END
+check "an editable install: a change of the sources takes effect at once" as_user << 'END'
+cp comtrade/lib/python3*/site-packages/dfr_comtrade/libcomtrade.so sources/python/dfr_comtrade/
+python3 -m venv editable
+editable/bin/pip install --no-index -e sources/python
+echo 'ROWS = len(read("rec1"))' >> sources/python/dfr_comtrade/__init__.py
+editable/bin/python -c 'import dfr_comtrade as d; print(d.ROWS, d.__file__)' |
+    grep -x "50 $HOME/sources/python/dfr_comtrade/__init__.py"
+editable/bin/pip uninstall -y dfr-comtrade
+[ -z "$(editable/bin/pip list | grep dfr)" ]
+END
+
 check "docs/INSTALL.md, C, C++ and Rust" inside <<< "$(block 'C, C++ and Rust')"
 check "the library: C99, C17, C++17 without a warning" inside << 'END'
 for compiler in 'cc -std=c99' 'cc -std=c17' 'c++ -x c++ -std=c++17'; do

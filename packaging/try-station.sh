@@ -3,20 +3,39 @@
 bay3=/var/lib/dfrd/bay3
 log_of() { echo "journalctl --no-pager -u dfrd@$1"; }
 
-check "the previous version is installed, and records" inside << 'END'
+check "an earlier package is installed, and records" inside << 'END'
 apt-get install -y ../previous/*.deb
 systemctl start dfrd@example
-echo "# mine" >> /etc/dfrd/example.setup
+cd /var/lib/dfrd/example
+is_there() { ls *.cfg; }
+soon is_there
+ls | xargs sha256sum > /tmp/recorded
+cat /tmp/recorded
 END
 check "docs/INSTALL.md, A station" inside <<< "$(block 'A station')"
 check "the version is today's" inside << END
 dpkg-query -Wf '\${Version}' dfr | grep -x '$version'
 dfrd --version | grep -F ' $version '
 END
-check "the upgrade restarted the running recorder, and kept the changed set-up" inside << END
+check "the upgrade restarted the running recorder, and changed no record" inside << END
 systemctl is-active dfrd@example
 [ "\$($(log_of example) | grep -c 'start 20')" = 2 ]
-grep -x '# mine' /etc/dfrd/example.setup
+cd /var/lib/dfrd/example
+sha256sum -c /tmp/recorded
+END
+check "the upgrade brought today's set-up of the example, which nobody had changed" inside << 'END'
+dpkg-deb --fsys-tarfile dfr_*.deb | tar -xO ./etc/dfrd/example.setup > /tmp/today
+dpkg-deb --fsys-tarfile ../previous/*.deb | tar -xO ./etc/dfrd/example.setup > /tmp/then
+cmp /tmp/today /etc/dfrd/example.setup
+no cmp /tmp/then /etc/dfrd/example.setup
+END
+check "an upgrade keeps a set-up that somebody changed, with --force-confold" inside << 'END'
+apt-get install -y --allow-downgrades ../previous/*.deb
+echo '# mine' >> /etc/dfrd/example.setup
+apt-get install -y -o Dpkg::Options::=--force-confold ./dfr_*.deb
+tail -n 1 /etc/dfrd/example.setup | grep -x '# mine'
+cmp /tmp/today /etc/dfrd/example.setup.dpkg-dist
+systemctl is-active dfrd@example
 END
 check "systemd-analyze verify" inside <<< \
     '[ -z "$(systemd-analyze verify dfrd@bay3.service 2>&1)" ]'
@@ -43,12 +62,14 @@ runuser -u analyst -- sh -c 'echo trigger > /run/dfrd/bay3/orders'
 gpasswd -d analyst dfrd
 END
 check "an input that is killed ten times: it is started again" inside << 'END'
-for i in 1 2 3 4 5 6 7 8 9 10; do
-    kill -KILL -- "-$(cat /run/dfrd/bay3/input.pid)" || :
+killed=0
+for i in $(seq 40); do # (now and then there is none to kill yet)
+    if kill -KILL -- "-$(cat /run/dfrd/bay3/input.pid)"; then killed=$((killed + 1)); fi
+    [ $killed -lt 10 ] || break
     sleep 1.5
 done
-sleep 2
-systemctl is-active dfrd@bay3
+[ $killed = 10 ]
+soon systemctl is-active dfrd@bay3
 END
 check "stopped with a record open: it is written, within 3 s" inside << END
 told() { $(log_of bay3) --since "\$since" | grep "\$1"; } # since the restart

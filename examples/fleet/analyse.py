@@ -75,7 +75,7 @@ def analyse(name):
             worst = max(range(len(currents)), key=lambda k: results[k].get("rms_greatest", 0.0))
             said.update(channel=currents[worst].id, unit=currents[worst].unit, **results[worst])
         return said
-    except (OSError, IndexError, ValueError, dfr_comtrade.ComtradeError) as error:
+    except (OSError, IndexError, MemoryError, ValueError, dfr_comtrade.ComtradeError) as error:
         return {"name": name, "error": f"{type(error).__name__}: {error}"}
 
 

@@ -9,5 +9,5 @@ done
 diff <(grep -v '^#' examples/station/setup) <(sed '/^go$/,$d; /^#/d' packaging/dfr/example.setup) && echo "the example's set-up is that of the station"
 diff <(grep -o '^[a-z].*comtrade_[a-z_]*(' examples/embedding/comtrade.h | grep -o 'comtrade_[a-z_]*(' | tr -d '(' | sort) \
     <(sed -n 's/^ *\(comtrade_[a-z_]*\);$/\1/p' packaging/libcomtrade/comtrade.map | sort) && echo "the symbols are the calls of comtrade.h"
-awk '!/^\|/ && length > 100 { print FILENAME ":" FNR ": " length " columns" }' packaging/{README.md,build,common.sh,glibc,release,tree,try*} \
+awk '!/^\|/ && length > 100 { print FILENAME ":" FNR ": " length " columns" }' packaging/{README.md,build,common.sh,glibc,previous,release,seen,tree,try*} \
     packaging/*/* examples/fleet/*.py examples/fleet/measure install examples/embedding/install docs/INSTALL.md examples/fleet/README.md
