@@ -1,0 +1,2 @@
+pub mod MoreRows
+pub mod Ranges

@@ -1,0 +1,4 @@
+pub mod Readings
+pub mod Extremes
+pub mod Gaps
+pub mod Events
