@@ -1,2 +1,3 @@
 pub mod MoreRows
+pub mod MoreSums
 pub mod Ranges

@@ -1,7 +1,7 @@
 -- The changes of contacts. Rows and contacts count from 0.
 use Rattle.std.specs.Prelude.{ℕ, ◌-◌, Bool, true, false, List, length, slice_get, option_map, option_and_then, Option, Some, None}
 use Rattle.std.specs.List.{filter_map, flat_map, range_with_len}
-use Rattle.comtrade_format.specs.Parts.{RowParts, FileParts}
+use Rattle.comtrade_format.specs.Parts.{RowParts}
 use Rattle.comtrade_analysis.specs.declared.events.Event.{Event}
 
 -- the state of a contact in the row of this index, where there is one
@@ -24,12 +24,12 @@ event_at rows row channel =
 
 -- the events of a row, contact by contact
 abbrev pub row_events : List RowParts → ℕ → ℕ → List Event
-row_events rows channels row = filter_map (event_at rows row) (range_with_len 0 channels)
+row_events rows contacts row = filter_map (event_at rows row) (range_with_len 0 contacts)
 
 -- the events of the n rows after the first, row by row
 abbrev pub events_after : List RowParts → ℕ → ℕ → List Event
-events_after rows channels n = flat_map (row_events rows channels) (range_with_len 1 n)
+events_after rows contacts n = flat_map (row_events rows contacts) (range_with_len 1 n)
 
--- all events of a file: the first row has none
-abbrev pub events : FileParts → List Event
-events file = events_after file.rows (length file.head.status) (length file.rows - 1)
+-- the events of so many contacts; the first row has none
+abbrev pub events : List RowParts → ℕ → List Event
+events rows contacts = events_after rows contacts (length rows - 1)

@@ -7,7 +7,7 @@ use Rattle.comtrade_analysis.specs.declared.gaps.Gap.{Gap}
 
 -- how many of these rows come before the first one with a sample: all, where none has one
 abbrev pub run_length : ℕ → List RowParts → ℕ
-run_length channel rows = unwrap_or (position (has_sample channel) rows) (length rows)
+run_length channel rows = unwrap_or (position (λ row. has_sample channel row) rows) (length rows)
 
 -- a gap begins at a row without a sample, where the row before has one or there is none
 abbrev pub begins : List RowParts → ℕ → ℕ → Bool

@@ -2,3 +2,5 @@ pub mod Readings
 pub mod Extremes
 pub mod Gaps
 pub mod Events
+pub mod Sums
+pub mod Windows

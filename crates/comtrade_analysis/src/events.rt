@@ -1,9 +1,9 @@
 //! The changes of contacts.
 
-ghost use Rattle.std.specs.Prelude.{◌≡◌, ◌++◌, ◌<◌, IfOk, OnOk, length};
+ghost use Rattle.std.specs.Prelude.{◌≡◌, ◌++◌, ◌<◌, IfOk, OnOk};
 ghost use Rattle.comtrade_analysis.specs.Events as spec;
 
-use comtrade_format::{File, Row};
+use comtrade_format::Row;
 use comtrade_values::Memory;
 use std::alloc::Allocator;
 
@@ -54,13 +54,13 @@ fn event_at<A: Allocator>(rows: &[Row<A>], row: usize, channel: usize) -> Option
 fn add_row<A: Allocator, B: Allocator>(
     events: &mut Vec<Event, B>,
     rows: &[Row<A>],
-    channels: usize,
+    contacts: usize,
     row: usize,
 ) -> Result<(), Memory>
     requires { 0 < row }
-    ensures { OnOk result (events.new.items ≡ events.old.items ++ spec.row_events rows.now channels row) }
+    ensures { OnOk result (events.new.items ≡ events.old.items ++ spec.row_events rows.now contacts row) }
 {
-    for channel in 0..channels {
+    for channel in 0..contacts {
         if let Some(event) = event_at(rows, row, channel) {
             events.push(event)?;
         }
@@ -68,19 +68,18 @@ fn add_row<A: Allocator, B: Allocator>(
     Ok(())
 }
 
-/// The events of a file, row by row, and contact by contact. What a contact's state is before the
-/// first event, `bit_at` says of row 0. `Memory`: an allocation failed.
+/// The events of so many contacts, row by row, and contact by contact. A contact's state before its
+/// first event is what `bit_at` says of row 0. `Memory`: an allocation failed.
 pub fn events_of<A: Allocator, B: Allocator + Copy>(
     alloc: B,
-    file: &File<A>,
+    rows: &[Row<A>],
+    contacts: usize,
 ) -> Result<Vec<Event, B>, Memory>
-    ensures { IfOk result (λ events. events.items ≡ spec.events file.now) }
+    ensures { IfOk result (λ events. events.items ≡ spec.events rows.now contacts) }
 {
-    let rows = file.rows.items();
-    let channels = file.head.status.items().len();
     let mut events = Vec::new(alloc);
     for row in 1..rows.len() {
-        add_row(&mut events, rows, channels, row)?;
+        add_row(&mut events, rows, contacts, row)?;
     }
     Ok(events)
 }

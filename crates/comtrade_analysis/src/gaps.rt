@@ -1,7 +1,7 @@
 //! Runs of rows in which a channel has no sample.
 
-ghost use Rattle.std.specs.Prelude.{◌≡◌, ◌<◌, ◌≤◌, length, drop, IfOk};
-ghost use Rattle.std.specs.List.{filter_map, range_with_len};
+ghost use Rattle.std.specs.Prelude.{◌≡◌, ◌<◌, length, position, IfOk};
+ghost use Rattle.comtrade_analysis.specs.Readings as reading;
 ghost use Rattle.comtrade_analysis.specs.Gaps as spec;
 
 use crate::readings::{has_sample, sample_at};
@@ -17,11 +17,18 @@ pub struct Gap {
     pub rows: usize,
 }
 
+/// The first of these rows with a sample.
+fn first_with_sample<A: Allocator>(rows: &[Row<A>], channel: usize) -> Option<usize>
+    ensures { result ≡ position (λ row. reading.has_sample channel row) rows.now }
+{
+    rows.iter().position(|row| has_sample(row, channel))
+}
+
 /// How many of these rows come before the first one with a sample.
 fn run_length<A: Allocator>(rows: &[Row<A>], channel: usize) -> usize
     ensures { result ≡ spec.run_length channel rows.now }
 {
-    match rows.iter().position(|row| has_sample(row, channel)) {
+    match first_with_sample(rows, channel) {
         Some(count) => count,
         None => rows.len(),
     }
