@@ -1,5 +1,5 @@
 -- Extremes with one row more.
-use Rattle.std.proofs.Common.{◌≡◌, ℕ, ◌+◌, ◌<◌, Bool, true, false, cond, ℤ, ◌≤ℤ◌, ◌<ℤ◌, List, Option, Some, None, refl, sym, ap, ◌∙◌, subst, arith, below_more}
+use Rattle.std.proofs.Common.{◌≡◌, ℕ, ◌+◌, ◌<◌, true, false, cond, ℤ, ◌≤ℤ◌, ◌<ℤ◌, List, Option, Some, None, sym, ap, ◌∙◌, subst, arith, below_more}
 use Rattle.std.specs.Prelude.{int_lt}
 use Rattle.std.proofs.lemmas.Int.{ints, by_lt_z}
 use Rattle.comtrade_format.specs.Parts.{RowParts}

@@ -1,4 +1,4 @@
-use Rattle.std.proofs.Common.{◌≡◌, ◌+◌, ℤ, FitsSigned, to_z, of_z, w32, Option, Some, None, sym, ap, ◌∙◌, subst, rules}
+use Rattle.std.proofs.Common.{◌≡◌, ◌+◌, ℤ, FitsSigned, to_z, of_z, w32, Some, None, sym, ap, ◌∙◌, subst, rules}
 use Rattle.std.proofs.lemmas.Int.{to_z-of_z}
 use Rattle.comtrade_analysis.specs.Readings.{sample_at}
 use Rattle.comtrade_analysis.specs.Extremes.{AreExtremes}
