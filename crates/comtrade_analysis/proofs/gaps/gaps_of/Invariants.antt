@@ -1,0 +1,6 @@
+use Rattle.std.proofs.Common.{◌≡◌}
+use Rattle.comtrade_analysis.specs.Gaps.{gaps_before}
+use Rattle.comtrade_analysis.proofs.gaps.gaps_of.Given as goal
+
+abbrev pub invariant-loop-row : goal.invariant-loop-row
+invariant-loop-row g l = l.gaps.items ≡ gaps_before l.rows l.channel l.row
