@@ -49,4 +49,4 @@ no rpm -q dfr
 (cd /var/lib/dfrd/example && sha256sum -c /tmp/recorded)
 grep -x '# mine' /etc/dfrd/bay3.setup /etc/dfrd/example.setup.rpmsave
 END
-inside <<< 'rm -rf /etc/dfrd /var/lib/dfrd; userdel dfrd' > "$work/said" 2>&1
+inside <<< 'rm -rf /etc/dfrd /var/lib/dfrd; userdel dfrd; groupdel dfrd || :' > "$work/said" 2>&1

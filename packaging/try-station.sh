@@ -143,12 +143,14 @@ check "purge: what the package made is gone: ${left:-yes}" [ -z "$left" ]
 check "purge: a set-up of somebody's stays, and the user, who owns records" inside <<< \
     '[ -f /etc/dfrd/bay3.setup ]; id dfrd'
 check "purge: no record is removed or changed" [ "$(sums)" = "$before" ]
-check "purge without records: user and folders are gone" inside << 'END'
+check "purge without records: user, group and folders are gone" inside << 'END'
 rm -rf /var/lib/dfrd /etc/dfrd
 apt-get install -y ./dfr_*.deb
 id dfrd
+getent group dfrd # (with the member that an earlier check left)
 apt-get purge -y dfr
 no id dfrd
+no getent group dfrd
 [ ! -e /var/lib/dfrd ]
 [ ! -e /etc/dfrd ]
 END
