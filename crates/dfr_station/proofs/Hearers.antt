@@ -7,7 +7,7 @@ use Rattle.dfr_recorder.specs.Steps as step
 use Rattle.dfr_live.specs.Devices.{Came, TakenFor, GaveOne, GaveAll, all_taken, steps_given, goes_on, call_in}
 use Rattle.dfr_live.specs.declared.station.Fed.{Fed}
 use Rattle.dfr_live.specs.declared.station.Fed.TheVariants as fed
-use Rattle.dfr_live.specs.Lane.{RingName}
+use Rattle.dfr_live.specs.Lane.{LaneName}
 use Rattle.dfr_live.specs.declared.station.Order.{Order}
 use Rattle.dfr_station.specs.Acquiring.{ScansParts, settled, settled_by, dropped, missing, GivesLost, GivesScan, SentOrders, Acquired, Quietly, Steps, AcquisitionGives, AcquisitionLoses}
 use Rattle.dfr_station.specs.Arrivals.{ComesNext, CameFirst, HandsNext}
@@ -44,7 +44,7 @@ module _ {I A : Type 0} where
   abbrev after_drop : Acquired (Arrivals I A) A → Acquired (Arrivals I A) A
   after_drop t = record t { scans = dropped t.scans }
 
-module _ {I A : Type 0} (left : I → Option (List ℕ)) (layout : SetupParts) (named : RingName A) (first : Arrivals I A) (none : Heard) where
+module _ {I A : Type 0} (left : I → Option (List ℕ)) (layout : SetupParts) (named : LaneName A) (first : Arrivals I A) (none : Heard) where
   -- the arrivals up to now, the newest first, before what comes from now on
   pub record SoFar (g : Acquired (Arrivals I A) A) (steps : List StepParts) : Type 0 where
     pub came : List ArrivalParts

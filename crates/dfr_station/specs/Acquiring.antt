@@ -3,7 +3,7 @@ use Rattle.std.specs.Prelude.{◌≡◌, ◌⊎◌, ℕ, ◌+◌, ◌-◌, ◌^�
 use Rattle.dfr_channels.specs.Parts.{ScanParts, SetupParts}
 use Rattle.dfr_channels.specs.declared.scan.Reading.TheVariants as reading
 use Rattle.dfr_live.specs.Devices.{Came}
-use Rattle.dfr_live.specs.Lane.{RingName}
+use Rattle.dfr_live.specs.Lane.{LaneName}
 use Rattle.dfr_live.specs.declared.station.Fed.{Fed}
 use Rattle.dfr_live.specs.declared.station.Fed.TheVariants as fed
 use Rattle.dfr_station.specs.Input.{one_more}
@@ -74,7 +74,7 @@ GivesScan s scan fed.Done t = ⊥
 
 -- the queue of orders, and those that were put into it
 pub record SentOrders (A : Type 0) : Type 0 where
-  pub lane : RingName A
+  pub lane : LaneName A
   pub items : List (Placed A)
 
 -- an input, the scans of it, and the orders that were put into the queue

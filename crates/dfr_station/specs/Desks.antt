@@ -1,7 +1,7 @@
 -- Which orders a station's desk hands out: those of the input in their order, each once, and an operator's between them.
 use Rattle.std.specs.Prelude.{◌≡◌, ◌⊎◌, ℕ, ◌<◌, ◌≤◌, List, [], ◌∷◌, ◌++◌, length, Bool, true, Option, Some, None, IfSome, option_to_list}
 use Rattle.dfr_live.specs.Devices.{AsksOf, HearsOf}
-use Rattle.dfr_live.specs.Lane.{RingName}
+use Rattle.dfr_live.specs.Lane.{LaneName}
 use Rattle.dfr_live.specs.declared.devices.Asked.{Asked}
 use Rattle.dfr_live.specs.declared.devices.Asked.TheVariants as asked
 use Rattle.dfr_live.specs.declared.entry.Reply.{Reply}
@@ -19,7 +19,7 @@ use Rattle.dfr_station.specs.declared.operator.Operator.{Operator}
 -- a desk: the queue of the input's orders, what it took off that queue, of which one may wait for its place, the line of the order
 -- that it handed out last, if the input gave it, and whether there is an operator
 pub record DeskParts (A : Type 0) : Type 0 where
-  pub lane : RingName A
+  pub lane : LaneName A
   pub taken : List (Placed A)
   pub waits : Option (Placed A)
   pub line : Option ℕ

@@ -1,9 +1,5 @@
-use denote.Param.Send.{sendable}
 use Rattle.std.proofs.Common.{rules}
-use Rattle.std.proofs.Crossing.{crosses}
 use Rattle.dfr_live.proofs.Placing.{some_has, err_has, Fails, one_failed, trigger_not_started, acquisition_not_started, handed_up}
-use Rattle.dfr_live.proofs.Sends.{taker-send, triggering-send, exporting-send}
-use Rattle.dfr_live.proofs.works.Finished.TheSendSync.{the_send as finished-send, the_field_send as finished-field-send}
 use Rattle.dfr_live.proofs.engine.run_threads.Goals as goal
 
 pub returns-in_default-triggered-clause-cause : goal.returns-in_default-triggered-clause-cause
@@ -31,13 +27,3 @@ returns-in_err-first_of-clause-cause g c =
     let here = err_has (Fails g.F.Intake.gives g.F.Intake.loses g.K.Outlet.puts g.K.Outlet.lacks c.args.shared.now c.args.kind c.args.feed.now c.args.outlet.now c.in-Some-acquired.acquired.device.now c.in-Some.exported.device.now) c.first_of.result c.in_err-first_of.field-0.0 c.in_err-first_of.was why in
     let h = handed_up c.from_residual.result c.in_err-first_of.field-0.0 (Fails g.F.Intake.gives g.F.Intake.loses g.K.Outlet.puts g.K.Outlet.lacks c.args.shared.now c.args.kind c.args.feed.now c.args.outlet.now c.in-Some-acquired.acquired.device.now c.in-Some.exported.device.now) c.from_residual.ensures.1 here in
     search (rules, h)
-
--- the works and the outcome of the export hold what stands for a record, for which no rule is found by itself
-pub in_three_threads-exported-requires-send-S : goal.in_three_threads-exported-requires-send-S
-in_three_threads-exported-requires-send-S g c κs within = search (sendable, exporting-send) depth 20
-
-pub in_three_threads-exported-requires-send-T : goal.in_three_threads-exported-requires-send-T
-in_three_threads-exported-requires-send-T g c κs within = search (sendable, triggering-send) depth 20
-
-pub in_three_threads-exported-requires-send-X : goal.in_three_threads-exported-requires-send-X
-in_three_threads-exported-requires-send-X g c κs within = search (sendable, crosses, taker-send, finished-send, finished-field-send) depth 40
