@@ -67,17 +67,18 @@ fn put_gauge<A: Allocator>(
     put_value(out, name, value)
 }
 
-/// Appends a gauge in seconds, from milliseconds.
+/// Appends a gauge in seconds, from its sign and its milliseconds.
 fn put_seconds<A: Allocator>(
     out: &mut Vec<u8, A>,
     name: &str,
     help: &str,
-    millis: i64,
+    sign: &str,
+    size: u64,
 ) -> Result<(), AllocError> {
     put_head(out, name, "gauge", help)?;
     put(out, name)?;
-    put(out, if millis < 0 { " -" } else { " " })?;
-    let size = millis.unsigned_abs();
+    put(out, " ")?;
+    put(out, sign)?;
     put_padded(out, size / 1_000, 1)?;
     put(out, ".")?;
     put_padded(out, size % 1_000, 3)?;
@@ -129,12 +130,13 @@ fn put_scans<A: Allocator>(out: &mut Vec<u8, A>, standing: &Standing) -> Result<
 fn put_times<A: Allocator>(out: &mut Vec<u8, A>, known: &Known) -> Result<(), AllocError> {
     if let Some(age) = known.age {
         let help = "Seconds since the newest scan came.";
-        let age = i64::try_from(age).unwrap_or(i64::MAX);
-        put_seconds(out, "dfrd_last_scan_age_seconds", help, age)?;
+        put_seconds(out, "dfrd_last_scan_age_seconds", help, "", age)?;
     }
     if let Some(clock) = known.standing.clock {
         let help = "Seconds that the wall clock was ahead of the time of the newest scan.";
-        put_seconds(out, "dfrd_clock_offset_seconds", help, clock)?;
+        let sign = if clock < 0 { "-" } else { "" };
+        let size = clock.unsigned_abs();
+        put_seconds(out, "dfrd_clock_offset_seconds", help, sign, size)?;
     }
     Ok(())
 }

@@ -24,15 +24,15 @@ pub(crate) struct Heard {
 #[derive(Clone, Copy, Debug)]
 pub(crate) struct Known {
     pub(crate) standing: Standing,
-    /// The milliseconds since the newest scan came. None before the first one.
+    /// The milliseconds since the newest scan came. None before the first one, or without a clock.
     pub(crate) age: Option<u64>,
 }
 
-/// The milliseconds on the monotonic clock; 0 if it can't be read.
-fn millis(clock: &impl Clock) -> u64 {
+/// The milliseconds on the monotonic clock; None if it can't be read.
+fn millis(clock: &impl Clock) -> Option<u64> {
     match clock.monotonic() {
-        Ok(time) => u64::try_from(time.as_millis()).unwrap_or(u64::MAX),
-        Err(_) => 0,
+        Ok(time) => u64::try_from(time.as_millis()).ok(),
+        Err(_) => None,
     }
 }
 
@@ -78,14 +78,15 @@ impl Heard {
             standing.scans = Some(scans);
             standing.has_scan = scans > 0;
         }
-        let since = standing
-            .silent
-            .unwrap_or(self.newest.load(Ordering::SeqCst));
-        let age = millis(rt).saturating_sub(since);
-        Known {
-            standing,
-            age: standing.has_scan.then_some(age),
-        }
+        let since = match standing.silent {
+            Some(since) => since,
+            None => self.newest.load(Ordering::SeqCst),
+        };
+        let age = match millis(rt) {
+            Some(now) if standing.has_scan => now.checked_sub(since),
+            _ => None,
+        };
+        Known { standing, age }
     }
 }
 
@@ -109,8 +110,8 @@ impl<I: Read, R: Clock> Read for Heeded<'_, I, R> {
             Some(_) => frames_in(before, self.frame) == frames_in(after, self.frame),
             None => count == 0,
         };
-        if !is_same {
-            self.heard.newest.store(millis(self.rt), Ordering::SeqCst);
+        if !is_same && let Some(now) = millis(self.rt) {
+            self.heard.newest.store(now, Ordering::SeqCst);
         }
         Ok(count)
     }

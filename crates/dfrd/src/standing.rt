@@ -19,8 +19,11 @@ impl Tally {
         self.new = self.new.saturating_add(count);
     }
 
+    /// A line without the sum says nothing.
     fn know(&mut self, sum: Option<u64>) {
-        self.sum = sum.unwrap_or(self.sum);
+        if let Some(sum) = sum {
+            self.sum = sum;
+        }
     }
 
     /// The count.
@@ -112,6 +115,12 @@ fn trouble_of(word: &str) -> Option<Trouble> {
     }
 }
 
+/// Since when no scan has come, by a line of silence at this time; None where the silence is over.
+fn silent_since(what: &str, millis: Option<u64>) -> Option<u64> {
+    let seconds = number_after(what, "silent")?;
+    millis?.checked_sub(seconds.checked_mul(1_000)?)
+}
+
 impl Standing {
     /// Before anything has come.
     pub(crate) const NONE: Standing = Standing {
@@ -158,8 +167,9 @@ impl Standing {
             }
             "unwritten" | "unfinished" => self.unwritten = self.unwritten.saturating_add(1),
             "removed" => {
-                let count = number_after(what, "removed").unwrap_or(0);
-                self.removed = self.removed.saturating_add(count);
+                if let Some(count) = number_after(what, "removed") {
+                    self.removed = self.removed.saturating_add(count);
+                }
             }
             "shelf" => {
                 self.is_shelf_full = what.starts_with("shelf full");
@@ -170,8 +180,19 @@ impl Standing {
         }
     }
 
-    /// Takes a line, given without its instant. `millis` is when, on the monotonic clock.
-    pub(crate) fn hear(&mut self, what: &str, millis: u64) {
+    /// Takes a line of missed triggers, or of missed lines.
+    fn hear_missed(&mut self, what: &str) {
+        if let Some(triggers) = number_after(what, "triggers") {
+            self.missed_triggers.add(triggers);
+        }
+        if let Some(lines) = number_after(what, "lines") {
+            self.miss_lines(lines);
+        }
+    }
+
+    /// Takes a line, given without its instant. `millis` is when, on the monotonic clock, if it can
+    /// be read.
+    pub(crate) fn hear(&mut self, what: &str, millis: Option<u64>) {
         let word = match what.split_once(' ') {
             Some((word, _)) => word,
             None => what,
@@ -193,16 +214,13 @@ impl Standing {
                 self.is_shelf_full = false;
                 self.is_recording = false;
             }
-            "lost" => self.lost.add(number_after(what, "lost").unwrap_or(0)),
-            "missed" => {
-                let triggers = number_after(what, "triggers").unwrap_or(0);
-                self.missed_triggers.add(triggers);
-                self.miss_lines(number_after(what, "lines").unwrap_or(0));
+            "lost" => {
+                if let Some(count) = number_after(what, "lost") {
+                    self.lost.add(count);
+                }
             }
-            "silent" => {
-                let seconds = number_after(what, "silent");
-                self.silent = seconds.map(|n| millis.saturating_sub(n.saturating_mul(1_000)));
-            }
+            "missed" => self.hear_missed(what),
+            "silent" => self.silent = silent_since(what, millis),
             _ => self.hear_records(word, what),
         }
     }
