@@ -132,13 +132,30 @@ fn is_usual(line: &[u8], section: Section) -> bool {
     is_framed && names_kind && section != Section::Bytes(None) && !has_lowercase(body)
 }
 
+/// Where the first line of a text ends: at its line feed, or at a carriage return that is not part
+/// of such an end.
+fn end_of(text: &[u8]) -> Option<usize> {
+    let feed = memchr(b'\n', text);
+    let Some(back) = memchr(b'\r', text) else {
+        return feed;
+    };
+    if feed.is_some_and(|feed| feed < back) {
+        return feed;
+    }
+    match text.get(back..) {
+        Some([_, b'\n', ..]) => feed,
+        Some([_, b'\r', b'\n', ..]) => feed,
+        _ => Some(back),
+    }
+}
+
 /// The separator at the start of a text.
 fn separator_at(text: &[u8]) -> Option<Separator<'_>> {
     if !text.starts_with(b"--") {
         return None;
     }
     let front = text.get(..LONGEST).unwrap_or(text);
-    let (line, rest) = match memchr(b'\n', front) {
+    let (line, rest) = match end_of(front) {
         Some(at) => (before(front, at), after(text, at)),
         None if text.len() <= LONGEST => (front, &text[text.len()..]),
         None => return None,
@@ -159,7 +176,8 @@ fn separator_at(text: &[u8]) -> Option<Separator<'_>> {
 fn next_place(text: &[u8], is_anywhere: bool) -> usize {
     let mut before = b'\n';
     for (i, b) in text.iter().enumerate() {
-        let can_be = *b == b'-' && before != b'-' && (is_anywhere || before == b'\n');
+        let begins = is_anywhere || before == b'\n' || before == b'\r';
+        let can_be = *b == b'-' && before != b'-' && begins;
         if can_be && separator_at(text.get(i..).unwrap_or(&[])).is_some() {
             return i;
         }
@@ -174,6 +192,7 @@ fn ends_here(text: &[u8]) -> bool {
     let rest = match text {
         [b'\r', b'\n', rest @ ..] => rest,
         [b'\n', rest @ ..] => rest,
+        [b'\r', rest @ ..] => rest,
         _ => text,
     };
     rest.is_empty() || rest == b"\x1a".as_slice() || separator_at(rest).is_some()

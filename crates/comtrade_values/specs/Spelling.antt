@@ -51,7 +51,8 @@ abbrev pub exponent : Option (List ℕ) → Option (Bool × ℕ)
 exponent None = Some (false, 0)
 exponent (Some bs) = if is_numeral (without_leading_sign bs) then Some (starts_with_minus bs, digits_value 10 (without_leading_sign bs)) else None
 
--- the number d / 10^p * 10^e, or * 10^(-e) where `down` holds, by units and places
+-- the number d / 10^p * 10^(-e) where the exponent is negative (true), else * 10^e; by units
+-- and places
 abbrev pub shifted : ℕ → ℕ → Bool × ℕ → ℕ × ℕ
 shifted d p (true, e) = (d, p + e)
 shifted d p (false, e) = (d * 10 ^ (e - p), p - e)
@@ -82,7 +83,7 @@ pub record IsNumber (n : Number) : Type 0 where
 
 -- the same exponent, but at most 10^36
 abbrev pub capped : Bool × ℕ → Bool × ℕ
-capped (down, e) = (down, min e (10 ^ 36))
+capped (negative, e) = (negative, min e (10 ^ 36))
 
 -- the number that digits spell, but at most 10^36
 abbrev pub capped_size : List ℕ → Option ℕ

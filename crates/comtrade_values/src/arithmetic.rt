@@ -45,7 +45,8 @@ fn power(zeros: u8) -> i128
     10i128.pow(zeros as u32)
 }
 
-/// The same number with `places` decimal places; None if it then has more than 36 digits.
+/// The same number with `places` decimal places; None if it then has more than 36 digits or
+/// 80 places.
 pub fn with_places(number: Decimal, places: u8) -> Option<Decimal>
     requires { number.places ≤ places }
     ensures { let longer = spec.with_places places number in

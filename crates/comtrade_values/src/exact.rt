@@ -16,6 +16,9 @@ pub struct Exact {
 /// The least number with 35 digits. No zeros are added to such a number.
 const LONG: u128 = 10_000_000_000_000_000_000_000_000_000_000_000;
 
+/// The least number with 38 digits. The sum of two numbers below it fits 128 bits.
+const MOST: u128 = 10_000_000_000_000_000_000_000_000_000_000_000_000;
+
 fn power(n: i32) -> Option<i128> {
     10i128.checked_pow(u32::try_from(n).ok()?)
 }
@@ -43,8 +46,11 @@ impl Exact {
     }
 
     /// The same number with this many decimal places. None if it has more, or if the units then
-    /// exceed 128 bits.
+    /// exceed 128 bits. Zero may have any number of places.
     fn with_places(self, places: i32) -> Option<Exact> {
+        if self.units == 0 {
+            return Some(Exact { units: 0, places });
+        }
         let more = places.checked_sub(self.places)?;
         Some(Exact {
             units: self.units.checked_mul(power(more)?)?,
@@ -170,13 +176,12 @@ impl Exact {
         short
     }
 
-    /// The sum: exact if it has at most 35 digits; else a number near it.
+    /// The sum, from at most 37 digits of each number. It is exact where the number with fewer
+    /// places has at most 35 digits once it has the places of the other; else digits of the finer
+    /// number are dropped.
     pub fn near_sum(self, other: Exact) -> Exact {
-        let (coarse, fine) = if self.places > other.places {
-            (other, self)
-        } else {
-            (self, other)
-        };
+        let (a, b) = (self.cut(MOST), other.cut(MOST));
+        let (coarse, fine) = if a.places > b.places { (b, a) } else { (a, b) };
         let coarse = coarse.lengthened(fine.places);
         let fine = fine.shortened(coarse.places);
         Exact {

@@ -68,8 +68,8 @@ fn put_date<A: Allocator>(out: &mut Vec<u8, A>, day: i64) -> Result<(), AllocErr
 }
 
 /// Appends the date and time stamp of an instant as a configuration file has it (C37.111-1999,
-/// 5.3.7): `dd/mm/yyyy,hh:mm:ss.ssssss`. The instant is in microseconds since 1970-01-01 00:00:00, and
-/// its year from 1 to 9999.
+/// 5.3.7): `dd/mm/yyyy,hh:mm:ss.ssssss`. The instant is in microseconds since 1970-01-01 00:00:00,
+/// and its year from 1 to 9999.
 pub fn put_instant<A: Allocator>(out: &mut Vec<u8, A>, instant: i64) -> Result<(), AllocError>
     requires { IsBetween (neg_ℤ (pos 62135596800000000)) (pos 253402300799999999) instant }
     ensures { OnOk result (out.new.items ≡ out.old.items ++ instant_text instant) }
@@ -109,8 +109,8 @@ pub fn put_civil<A: Allocator>(
     put_time(out, instant.rem_euclid(DAY).unsigned_abs())
 }
 
-/// Whether the year of an instant is from 1 to 9999. The instant is in microseconds since 1970-01-01
-/// 00:00:00.
+/// Whether the year of an instant is from 1 to 9999. The instant is in microseconds since
+/// 1970-01-01 00:00:00.
 pub fn has_date(instant: i64) -> bool
     ensures { Decides result (IsBetween (neg_ℤ (pos 62135596800000000)) (pos 253402300799999999) instant) }
 {

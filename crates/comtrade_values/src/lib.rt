@@ -1,6 +1,6 @@
-//! The basic values of the recorder and of COMTRADE files: lists and the out-of-memory error; lines
-//! and fields of a text; decimals, how they are spelled, and their arithmetic; instants as text; input
-//! up to a limit, and output.
+//! The basic values of the recorder and of COMTRADE files: lists and the out-of-memory error;
+//! lines and fields of a text; decimals, how they are spelled, and their arithmetic; instants as
+//! text; input up to a limit, and output.
 #![tactic(auto)]
 
 mod arithmetic;
