@@ -25,8 +25,9 @@ use Rattle.dfr_live.specs.Weave.{extent_of}
 use Rattle.dfr_live.specs.Seen.{TokenParts}
 use Rattle.dfr_live.specs.Calls.{with_entry, NotesTake}
 use Rattle.dfr_live.specs.Station.{PumpsOn, PumpsOut}
-use Rattle.dfr_live.specs.Devices.{GivesOf, LosesOf, AsksOf, HearsOf, PutsOf, LacksOf, Came, Noted, noted, noted_of, call_in, Turn, Waits, Makes, Desked, new_desk, TookTurn, AsksDone, MadeAll, IsMade, Waited, MadeOne, Handed, extents_taken, extent_taken, extents_of, IsTaken, HandedOn, HandsTaken, Got, GotAll, GotNoMore, GotFront, GotOne, GotNone, GotOn, SinkFailed, IsTake, is_again, FilesParts, files_of, PutsOnce, Tried, HandsRecord}
+use Rattle.dfr_live.specs.Devices.{GivesOf, LosesOf, AsksOf, HearsOf, PutsOf, LacksOf, Came, Noted, noted, noted_of, call_in, Turn, Waits, Makes, Desked, new_desk, TookTurn, AsksDone, MadeAll, IsMade, Waited, MadeOne, Handed, extents_taken, extent_taken, extents_of, IsTaken, HandedOn, HandsTaken, records_of, Got, GotAll, GotNoMore, GotFront, GotOne, GotNone, GotOn, SinkFailed, IsTake, is_again, FilesParts, files_of, PutsOnce, Tried, HandsRecord}
 use Rattle.dfr_live.specs.Causes.{PutFails, ExportFails, AcquisitionFails, TriggerFails, RunFails, HasCause, IsEnd}
+use Rattle.dfr_live.specs.Gone.{Follows}
 
 -- a token that pumped on keeps its seat
 pub seat_kept : (x : Bool) (t u : TokenParts) → PumpsOut x t u → u.seat ≡ t.seat
@@ -205,16 +206,29 @@ module _ {K : Type 0} (Puts : PutsOf K) (Lacks : LacksOf K) (layout : SetupParts
 pub no_takes : (made : List EntryParts) → made ≡ [] → All IsTake made
 no_takes made none = subst (λ (es : List EntryParts). All IsTake es) (sym none) (All-nil IsTake)
 
+-- the records that came out
+abbrev pub Out : Type 0
+Out = Option (List RecordParts)
+
+follows-none : (v w : Out) → Follows v (Ok None) w → w ≡ v
+follows-none None w h = h
+follows-none (Some out) w h = h ∙ ap (λ (l : List RecordParts). Some l) (append-nil out)
+
+follows-still : (v w : Out) (refused : Want) → Follows v (Err refused) w → w ≡ v
+follows-still None w refused h = h
+follows-still (Some out) w refused h = h
+
 module _ {K : Type 0} (Puts : PutsOf K) (Lacks : LacksOf K) (o : Opening) (kind : Kind) where
   abbrev Fit : Handed → Type 0
   Fit x = IsTaken o x.0
 
-  pub got_first : (f : K) (t : TokenParts) → t.made ≡ [] → GotAll Puts Lacks o kind f t.made f
-  got_first f t none = ([], (All-nil Fit, refl), sym (ap extents_taken none))
+  pub got_first : (f : K) (t : TokenParts) (x : Out) → t.made ≡ [] → x ≡ Some [] → GotAll Puts Lacks o kind f t.made x f
+  got_first f t x none empty = ([], (All-nil Fit, refl), sym (ap extents_taken none), empty)
 
-  got-more : (f g h : K) (t u : TokenParts)
-      → GotAll Puts Lacks o kind f t.made g → GotOne Puts Lacks o kind g t h u → GotAll Puts Lacks o kind f u.made h
-  got-more f g h t u far one =
+  got-more : (f g h : K) (t u : TokenParts) (v w : Out)
+      → GotAll Puts Lacks o kind f t.made v g → (one : GotOne Puts Lacks o kind g t h u) → Follows v (Ok (Some one.0.0)) w
+      → GotAll Puts Lacks o kind f u.made w h
+  got-more f g h t u v w far one follows =
       let x : Handed = one.0 in
       let e : EntryParts = one.1 in
       let extents : extents_taken u.made ≡ extents_taken t.made ++ x.0.extent ∷ [] =
@@ -222,57 +236,60 @@ module _ {K : Type 0} (Puts : PutsOf K) (Lacks : LacksOf K) (o : Opening) (kind 
         x ∷ far.0,
         (All-cons Fit x far.0 one.2 far.1.0, (g, far.1.1, one.3)),
         ap (λ l. l ++ x.0.extent ∷ []) far.2 ∙ sym extents,
+        subst (λ (z : Out). Follows z (Ok (Some x.0)) w) far.3 follows,
       )
 
-  got-none : (f g h : K) (t u : TokenParts)
-      → GotAll Puts Lacks o kind f t.made g → GotNone g t h u → GotAll Puts Lacks o kind f u.made h
-  got-none f g h t u far none =
+  got-none : (f g h : K) (t u : TokenParts) (v w : Out)
+      → GotAll Puts Lacks o kind f t.made v g → GotNone g t h u → w ≡ v → GotAll Puts Lacks o kind f u.made w h
+  got-none f g h t u v w far none still =
       let e : EntryParts = none.0 in
       let extents : extents_taken u.made ≡ extents_taken t.made =
       ap (λ (z : TokenParts). extents_taken z.made) none.2 ∙ extents-more t.made e ∙ ap (λ (r : Reply). extents_taken t.made ++ extent_taken r) none.4 ∙ append-nil (extents_taken t.made) in
-      subst (λ (s : K). GotAll Puts Lacks o kind f u.made s) (sym none.1) (far.0, far.1, far.2 ∙ sym extents)
+      subst (λ (s : K). GotAll Puts Lacks o kind f u.made w s) (sym none.1) (far.0, far.1, far.2 ∙ sym extents, still ∙ far.3)
 
-  on-one : (g h : K) (t u : TokenParts) → GotOne Puts Lacks o kind g t h u → GotOn Puts Lacks o kind g t h u
-  on-one g h t u one = (
+  on-one : (g h : K) (t u : TokenParts) (v w : Out) → (one : GotOne Puts Lacks o kind g t h u) → Follows v (Ok (Some one.0.0)) w
+      → GotOn Puts Lacks o kind g t v h u w
+  on-one g h t u v w one follows = (
     ap (λ (z : TokenParts). z.seat) one.4,
     ap (λ (z : TokenParts). z.pumped) one.4,
-    (λ (f : K) (far : GotAll Puts Lacks o kind f t.made g). got-more f g h t u far one),
+    (λ (f : K) (far : GotAll Puts Lacks o kind f t.made v g). got-more f g h t u v w far one follows),
     takes-more t u one.1 one.4 one.5,
   )
 
-  on-none : (g h : K) (t u : TokenParts) → GotNone g t h u → GotOn Puts Lacks o kind g t h u
-  on-none g h t u none = (
+  on-none : (g h : K) (t u : TokenParts) (v w : Out) → GotNone g t h u → w ≡ v → GotOn Puts Lacks o kind g t v h u w
+  on-none g h t u v w none still = (
     ap (λ (z : TokenParts). z.seat) none.2,
     ap (λ (z : TokenParts). z.pumped) none.2,
-    (λ (f : K) (far : GotAll Puts Lacks o kind f t.made g). got-none f g h t u far none),
+    (λ (f : K) (far : GotAll Puts Lacks o kind f t.made v g). got-none f g h t u v w far none still),
     takes-more t u none.0 none.2 none.3,
   )
 
-  pub on-still : (g h : K) (t u : TokenParts) → u ≡ t → h ≡ g → GotOn Puts Lacks o kind g t h u
-  on-still g h t u same kept = (
+  pub on-still : (g h : K) (t u : TokenParts) (v w : Out) → u ≡ t → h ≡ g → w ≡ v → GotOn Puts Lacks o kind g t v h u w
+  on-still g h t u v w same kept still = (
     ap (λ (z : TokenParts). z.seat) same,
     ap (λ (z : TokenParts). z.pumped) same,
-    (λ (f : K) (far : GotAll Puts Lacks o kind f t.made g). rw (same, kept) far),
+    (λ (f : K) (far : GotAll Puts Lacks o kind f t.made v g). rw (same, kept, still) far),
     (λ (all : All IsTake t.made). subst (λ (z : TokenParts). All IsTake z.made) (sym same) all),
   )
 
-  pub on-on : (g h i : K) (t u v : TokenParts)
-      → GotOn Puts Lacks o kind g t h u → GotOn Puts Lacks o kind h u i v → GotOn Puts Lacks o kind g t i v
-  on-on g h i t u v one two = (
+  pub on-on : (g h i : K) (t u v : TokenParts) (x y z : Out)
+      → GotOn Puts Lacks o kind g t x h u y → GotOn Puts Lacks o kind h u y i v z → GotOn Puts Lacks o kind g t x i v z
+  on-on g h i t u v x y z one two = (
     two.0 ∙ one.0,
     two.1 ∙ one.1,
-    (λ (f : K) (far : GotAll Puts Lacks o kind f t.made g). two.2 f (one.2 f far)),
+    (λ (f : K) (far : GotAll Puts Lacks o kind f t.made x g). two.2 f (one.2 f far)),
     (λ (all : All IsTake t.made). two.3 (one.3 all)),
   )
 
   -- what was taken, and what handing it on came to
-  handed_on-own : (f g : K) (t u : TokenParts) (r : Result (Option RecordParts) Want) (came : Result Taken LiveFault)
-      → NotesTake o t r u → HandsTaken Puts Lacks o.layout kind f r came g → IfOk came (λ c. GotOn Puts Lacks o kind f t g u)
-  handed_on-own f g t u (Ok (Some r)) (Ok c) notes hands =
-      on-one f g t u ((r, hands.1.0), entry t notes.0.0 (Some r), (notes.2, notes.1), hands.1.1, notes.0.1, refl, refl)
-  handed_on-own f g t u (Ok None) (Ok c) notes hands = on-none f g t u (entry t notes.0.0 None, hands.1, notes.0.1, refl, refl)
-  handed_on-own f g t u (Err refused) (Ok c) notes hands = on-still f g t u notes hands.1
-  handed_on-own f g t u r (Err why) notes hands = tt
+  handed_on-own : (f g : K) (t u : TokenParts) (v w : Out) (r : Result (Option RecordParts) Want) (came : Result Taken LiveFault)
+      → NotesTake o t r u → Follows v r w → HandsTaken Puts Lacks o.layout kind f r came g → IfOk came (λ c. GotOn Puts Lacks o kind f t v g u w)
+  handed_on-own f g t u v w (Ok (Some r)) (Ok c) notes follows hands =
+      on-one f g t u v w ((r, hands.1.0), entry t notes.0.0 (Some r), (notes.2, notes.1), hands.1.1, notes.0.1, refl, refl) follows
+  handed_on-own f g t u v w (Ok None) (Ok c) notes follows hands =
+      on-none f g t u v w (entry t notes.0.0 None, hands.1, notes.0.1, refl, refl) (follows-none v w follows)
+  handed_on-own f g t u v w (Err refused) (Ok c) notes follows hands = on-still f g t u v w notes hands.1 (follows-still v w refused follows)
+  handed_on-own f g t u v w r (Err why) notes follows hands = tt
 
   handed_none-own : (f g : K) (t u : TokenParts) (r : Result (Option RecordParts) Want) (came : Result Taken LiveFault)
       → NotesTake o t r u → HandsTaken Puts Lacks o.layout kind f r came g → came ≡ Ok taken.Nothing → GotNone f t g u
@@ -290,10 +307,10 @@ module _ {K : Type 0} (Puts : PutsOf K) (Lacks : LacksOf K) (o : Opening) (kind 
   handed_fails-own f g t u r (Ok c) notes hands = tt
 
   -- so with the layout of the opening
-  pub handed_on : (l : SetupParts) (f g : K) (t u : TokenParts) (r : Result (Option RecordParts) Want) (came : Result Taken LiveFault)
-      → l ≡ o.layout → NotesTake o t r u → HandsTaken Puts Lacks l kind f r came g → IfOk came (λ c. GotOn Puts Lacks o kind f t g u)
-  handed_on l f g t u r came same notes hands =
-      handed_on-own f g t u r came notes (subst (λ (x : SetupParts). HandsTaken Puts Lacks x kind f r came g) same hands)
+  pub handed_on : (l : SetupParts) (f g : K) (t u : TokenParts) (v w : Out) (r : Result (Option RecordParts) Want) (came : Result Taken LiveFault)
+      → l ≡ o.layout → NotesTake o t r u → Follows v r w → HandsTaken Puts Lacks l kind f r came g → IfOk came (λ c. GotOn Puts Lacks o kind f t v g u w)
+  handed_on l f g t u v w r came same notes follows hands =
+      handed_on-own f g t u v w r came notes follows (subst (λ (x : SetupParts). HandsTaken Puts Lacks x kind f r came g) same hands)
 
   pub handed_none : (l : SetupParts) (f g : K) (t u : TokenParts) (r : Result (Option RecordParts) Want) (came : Result Taken LiveFault)
       → l ≡ o.layout → NotesTake o t r u → HandsTaken Puts Lacks l kind f r came g → came ≡ Ok taken.Nothing → GotNone f t g u
@@ -307,28 +324,35 @@ module _ {K : Type 0} (Puts : PutsOf K) (Lacks : LacksOf K) (o : Opening) (kind 
 
   -- ---- what the outlet has where a run stops
 
-  pub front_of_all : (f g : K) (es : List EntryParts) → GotAll Puts Lacks o kind f es g → GotFront Puts Lacks o kind f g
-  front_of_all f g es all = (all.0, g, all.1, inl refl)
+  -- those that came out are these
+  pub got_these : (f g : K) (es : List EntryParts) (v : Out) (rs : List RecordParts)
+      → GotAll Puts Lacks o kind f es v g → IfSome v (λ (out : List RecordParts). out ≡ rs) → GotAll Puts Lacks o kind f es (Some rs) g
+  got_these f g es v rs all is =
+      let same = subst (λ (z : Out). IfSome z (λ (out : List RecordParts). out ≡ rs)) all.3 is in
+      (all.0, all.1, all.2, ap (λ (l : List RecordParts). Some l) (sym same))
 
-  pub front_fails : (f g h : K) (es : List EntryParts) (why : LiveFault)
-      → GotAll Puts Lacks o kind f es g → PutFails Puts Lacks o kind g why h → GotFront Puts Lacks o kind f h
-  front_fails f g h es why all (inl none) = (all.0, g, all.1, inl none.1)
-  front_fails f g h es why all (inr stopped) = (all.0, g, all.1, inr (stopped.0, why, stopped.1, stopped.2))
+  pub front_of_all : (f g : K) (es : List EntryParts) (v : Out) → GotAll Puts Lacks o kind f es v g → GotFront Puts Lacks o kind f g
+  front_of_all f g es v all = (all.0, g, all.1, inl refl)
 
-  pub export_fails : (f g h : K) (es : List EntryParts) (why : LiveFault)
-      → GotAll Puts Lacks o kind f es g → PutFails Puts Lacks o kind g why h → ExportFails Puts Lacks o kind f why h
-  export_fails f g h es (fault.Sink code) all (inr stopped) = (all.0, g, stopped.0, all.1, stopped.1, stopped.2)
-  export_fails f g h es (fault.Sink code) all (inl none) = absurd (not-memory (fault.Sink code) none.0 refl)
-  export_fails f g h es (fault.Feed code) all (inr stopped) = stopped.2
-  export_fails f g h es (fault.Feed code) all (inl none) = absurd (not-memory (fault.Feed code) none.0 refl)
-  export_fails f g h es fault.Turns all stopped = tt
-  export_fails f g h es fault.Memory all stopped = tt
-  export_fails f g h es fault.Counter all (inr stopped) = stopped.2
-  export_fails f g h es fault.Counter all (inl none) = absurd (not-memory fault.Counter none.0 refl)
-  export_fails f g h es (fault.Open why) all (inr stopped) = stopped.2
-  export_fails f g h es (fault.Open why) all (inl none) = absurd (not-memory (fault.Open why) none.0 refl)
-  export_fails f g h es (fault.End why) all (inr stopped) = stopped.2
-  export_fails f g h es (fault.End why) all (inl none) = absurd (not-memory (fault.End why) none.0 refl)
+  pub front_fails : (f g h : K) (es : List EntryParts) (v : Out) (why : LiveFault)
+      → GotAll Puts Lacks o kind f es v g → PutFails Puts Lacks o kind g why h → GotFront Puts Lacks o kind f h
+  front_fails f g h es v why all (inl none) = (all.0, g, all.1, inl none.1)
+  front_fails f g h es v why all (inr stopped) = (all.0, g, all.1, inr (stopped.0, why, stopped.1, stopped.2))
+
+  pub export_fails : (f g h : K) (es : List EntryParts) (v : Out) (why : LiveFault)
+      → GotAll Puts Lacks o kind f es v g → PutFails Puts Lacks o kind g why h → ExportFails Puts Lacks o kind f why h
+  export_fails f g h es v (fault.Sink code) all (inr stopped) = (all.0, g, stopped.0, all.1, stopped.1, stopped.2)
+  export_fails f g h es v (fault.Sink code) all (inl none) = absurd (not-memory (fault.Sink code) none.0 refl)
+  export_fails f g h es v (fault.Feed code) all (inr stopped) = stopped.2
+  export_fails f g h es v (fault.Feed code) all (inl none) = absurd (not-memory (fault.Feed code) none.0 refl)
+  export_fails f g h es v fault.Turns all stopped = tt
+  export_fails f g h es v fault.Memory all stopped = tt
+  export_fails f g h es v fault.Counter all (inr stopped) = stopped.2
+  export_fails f g h es v fault.Counter all (inl none) = absurd (not-memory fault.Counter none.0 refl)
+  export_fails f g h es v (fault.Open why) all (inr stopped) = stopped.2
+  export_fails f g h es v (fault.Open why) all (inl none) = absurd (not-memory (fault.Open why) none.0 refl)
+  export_fails f g h es v (fault.End why) all (inr stopped) = stopped.2
+  export_fails f g h es v (fault.End why) all (inl none) = absurd (not-memory (fault.End why) none.0 refl)
 
 -- a fault that comes after it leaves it so
 pub or_front : {R E : Type 0} {Front : Type 0} (came : Result R E) (IsOther : E → Type 0) → Front → IfErr came (λ e. IsOther e ⊎ Front)

@@ -250,6 +250,11 @@ abbrev pub extents_of : List Handed → List Extent
 extents_of [] = []
 extents_of (x ∷ xs) = extents_of xs ++ x.0.extent ∷ []
 
+-- these records themselves, oldest first
+abbrev pub records_of : List Handed → List RecordParts
+records_of [] = []
+records_of (x ∷ xs) = records_of xs ++ x.0 ∷ []
+
 -- a record that matches the layout, and that the one-thread recorder answers to a take after some
 -- history over the opening
 abbrev pub IsTaken : Opening → RecordParts → Type 0
@@ -323,10 +328,12 @@ abbrev pub Got : {K : Type 0} → PutsOf K → LacksOf K → Opening → Kind �
 Got Puts Lacks o kind f records g =
     All (λ (x : Handed). IsTaken o x.0) records × Came (HandedOn Puts Lacks o.layout kind) f records g
 
--- it got the files of the records that were taken by the calls of these entries, each once and in order
-abbrev pub GotAll : {K : Type 0} → PutsOf K → LacksOf K → Opening → Kind → K → List EntryParts → K → Type 0
-GotAll Puts Lacks o kind f made g =
+-- it got the files of the records that were taken by the calls of these entries, each once and in order; and those that came out
+-- are these records
+abbrev pub GotAll : {K : Type 0} → PutsOf K → LacksOf K → Opening → Kind → K → List EntryParts → Option (List RecordParts) → K → Type 0
+GotAll Puts Lacks o kind f made out g =
     (records : List Handed) × Got Puts Lacks o kind f records g × (extents_of records ≡ extents_taken made)
+    × (out ≡ Some (records_of records))
 
 -- the outlet gets no more files: it stays as it was, or those of one record were refused, or there was no memory for them
 abbrev pub GotNoMore : {K : Type 0} → PutsOf K → LacksOf K → Opening → Kind → K → K → Type 0
@@ -362,10 +369,11 @@ GotNone f t g u =
     (e : EntryParts) × (g ≡ f) × (u ≡ with_entry t e) × IsTake e × (e.reply ≡ replied.Take None)
 
 -- with what the token took from then to now the outlet goes on so: what was handed on in full before is so now, and a token that only took has only taken
-abbrev pub GotOn : {K : Type 0} → PutsOf K → LacksOf K → Opening → Kind → K → TokenParts → K → TokenParts → Type 0
-GotOn {K} Puts Lacks o kind g t h u =
+abbrev pub GotOn : {K : Type 0} → PutsOf K → LacksOf K → Opening → Kind → K → TokenParts → Option (List RecordParts)
+    → K → TokenParts → Option (List RecordParts) → Type 0
+GotOn {K} Puts Lacks o kind g t x h u y =
     (u.seat ≡ t.seat) × (u.pumped ≡ t.pumped)
-    × ((f : K) → GotAll Puts Lacks o kind f t.made g → GotAll Puts Lacks o kind f u.made h)
+    × ((f : K) → GotAll Puts Lacks o kind f t.made x g → GotAll Puts Lacks o kind f u.made y h)
     × (All IsTake t.made → All IsTake u.made)
 
 -- the last of these calls took no record, for none waited

@@ -1,6 +1,6 @@
 //! One recording in three threads, over any devices.
 
-ghost use Rattle.std.specs.Prelude.{◌≡◌, ◌⊎◌, [], length, All, Err, IfOk, IfErr, IfSome};
+ghost use Rattle.std.specs.Prelude.{◌≡◌, ◌⊎◌, [], length, All, Err, Some, IfOk, IfErr, IfSome};
 ghost use Rattle.dfr_live.specs.Calls.{open_fault};
 ghost use Rattle.dfr_live.specs.Seen.{opening_of};
 ghost use Rattle.dfr_live.specs.Devices.{taken_in, GaveAll, MadeAll, GotAll, GotFront, IsTake};
@@ -10,7 +10,9 @@ ghost use Rattle.dfr_live.specs.Weave.{steps_of};
 
 use crate::closing::{fault_in, first_of, not_started, report};
 use crate::devices::{Desk, Intake, Outlet, Pace};
+use crate::ended::EndFault;
 use crate::export::hand_rest;
+use crate::gone::Taker;
 use crate::opened::{Opened, open_returning};
 use crate::report::{LiveFault, LiveReport};
 use crate::session::Session;
@@ -106,12 +108,16 @@ fn record_named<
     ensures front { IfErr result (λ fault. (fault ≡ LiveFault.Memory)
         ⊎ GotFront K.puts K.lacks N.opening kind outlet.old outlet.new) }
 {
-    let (shared, mut source, mut tokens) = opened.share::<N>();
-    let Some(mut second) = tokens.pop() else {
+    let (shared, mut source, mut tokens, gone) = opened.share_with::<N>(true);
+    let Some(second) = tokens.pop() else {
         unreachable!()
     };
     let Some(mut first) = tokens.pop() else {
         unreachable!()
+    };
+    let mut second = Taker {
+        token: second,
+        gone,
     };
     let signals = Signals::new();
     run_threads(
@@ -137,10 +143,15 @@ fn record_named<
         pace,
         &mut inner,
         outlet,
-        &mut second,
+        &mut second.token,
+        &mut second.gone,
     )?;
+    let Taker { token, mut gone } = second;
+    if !inner.is_all_gone(&mut gone) {
+        return Err(LiveFault::End(EndFault::Mismatch));
+    }
     tokens.push_reserved(first);
-    tokens.push_reserved(second);
+    tokens.push_reserved(token);
     report(rt, alloc, pace, inner, source, tokens)
 }
 
@@ -170,21 +181,22 @@ fn run_threads<
     outlet: &mut K,
     source: &mut Source<N, A>,
     first: &mut Token<A>,
-    second: &mut Token<A>,
+    second: &mut Taker<N, A>,
 ) -> Result<(), LiveFault>
     requires source { taken_in source.old ≡ [] }
     requires first { (first.old.made ≡ []) × (first.old.pumped ≡ 0) }
-    requires second { second.old.made ≡ [] }
+    requires second { (second.old.token.made ≡ []) × (second.old.gone ≡ Some []) }
     ensures fed { IfOk result (λ _.
         GaveAll F.gives F.loses feed.old (taken_in source.new) feed.new) }
     ensures all { IfOk result (λ _. length (steps_of source.new.offered) ≡ first.new.pumped) }
     ensures seat { IfOk result (λ _. first.new.seat ≡ first.old.seat) }
     ensures ordered { IfOk result (λ _.
         MadeAll O.asks O.hears desk.old first.new.made first.new.pumped desk.new) }
-    ensures handed_on { IfOk result (λ _. (second.new.seat ≡ second.old.seat)
-        × (second.new.pumped ≡ second.old.pumped)
-        × GotAll K.puts K.lacks shared.now kind outlet.old second.new.made outlet.new
-        × All IsTake second.new.made) }
+    ensures handed_on { IfOk result (λ _. (second.new.token.seat ≡ second.old.token.seat)
+        × (second.new.token.pumped ≡ second.old.token.pumped)
+        × GotAll K.puts K.lacks shared.now kind outlet.old
+        second.new.token.made second.new.gone outlet.new
+        × All IsTake second.new.token.made) }
     ensures cause { IfErr result (RunFails F.gives F.loses K.puts K.lacks shared.now kind
         feed.old outlet.old feed.new outlet.new) }
     ensures front { IfErr result (λ fault. (fault ≡ LiveFault.Memory)
@@ -201,7 +213,7 @@ fn run_threads<
             pace,
             shared,
             outlet,
-            token: second,
+            taker: second,
             family: PhantomData,
         },
         Triggering {

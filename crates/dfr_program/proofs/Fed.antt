@@ -152,6 +152,7 @@ module _ {A : Type 0} where
         fed = gave-all f f' (taken_in h.report.source) h.fed ∙ scans;
         none_left = h.none_left;
         ordered = made-all p p' _ r.stepped h.ordered ∙ ap (calls_made r.stepped 0) orders;
+        one = h.one;
         handed_on = h.handed_on;
         none_waits = h.none_waits;
       }

@@ -3,11 +3,14 @@ use Rattle.std.specs.Prelude.{◌≡◌, ℕ, List, [], map, filter, ⊤, Option
 use Rattle.std.specs.Io.KnownBytes.{Appends}
 use Rattle.dfr_recorder.specs.History.{Opening}
 use Rattle.dfr_recorder.specs.Steps.{StepParts}
+use Rattle.dfr_recorder.specs.Run.{followed_by}
 use Rattle.comtrade_format.specs.declared.file.Kind.{Kind}
 use Rattle.dfr_script.specs.Parts.{ScriptParts}
 use Rattle.dfr_live.specs.Parts.{CallParts, EntryParts}
 use Rattle.dfr_live.specs.Ends.{is_by}
 use Rattle.dfr_live.specs.Devices.{PutsOf, taken_in, stops, GotAll, GotFront, SinkFailed}
+use Rattle.dfr_live.specs.Gone.{records_taken}
+use Rattle.dfr_live.specs.OneList.{OneList, step_from}
 use Rattle.dfr_live.specs.Report.{Reports}
 use Rattle.dfr_live.specs.declared.report.LiveFault.{LiveFault}
 use Rattle.dfr_live.specs.declared.report.LiveFault.TheVariants as fault
@@ -20,12 +23,12 @@ use Rattle.dfr_program.specs.Reports.{report_text, run_word, run_fault_text}
 use Rattle.dfr_program.specs.Recording.{IsOneThread}
 use Rattle.dfr_program.specs.Writing.{Cut}
 
--- what a run is given, and what is known of its sink, over this opening: where the calls of these entries took the records, and where
--- the run ended with this fault
+-- what a run is given, and what is known of its sink, over this opening: where the calls of these entries took the records, in this list
+-- of steps; and where the run ended with this fault
 pub record GivenParts : Type 1 where
   pub scans : List StepParts
   pub orders : List (ℕ × CallParts)
-  pub Sinks : Opening → List EntryParts → Type 0
+  pub Sinks : Opening → List EntryParts → List StepParts → Type 0
   pub Fails : Opening → LiveFault → Type 0
 
 -- why a run over a script ended with a fault that is printed: a script's feed never fails, and its recorder can be opened; a sink refused the
@@ -39,24 +42,27 @@ WhyFailed Puts kind old new o fault.Memory = ⊥
 WhyFailed Puts kind old new o (fault.Open why) = ⊥
 WhyFailed Puts kind old new o (fault.End why) = ⊤
 
--- what the script gives it; the sink got the files of the records that were taken; where the run failed, those of some records, and then
--- at most those of one that it refused
+-- what the script gives it; the sink got the files of the records that the list of steps takes; where the run failed, those of some
+-- records, and then at most those of one that it refused
 abbrev pub given_by : {K : Type 0} → PutsOf K → Kind → K → K → ScriptParts → GivenParts
 given_by Puts kind old new s = record {
   scans = scans_in s.commands;
   orders = orders_in 0 s.commands;
-  Sinks = λ o made. GotAll Puts (λ s _ what t. stops s what t) o kind old made new;
+  Sinks = λ o made steps.
+      GotAll Puts (λ s _ what t. stops s what t) o kind old made (Some (records_taken o (followed_by [] steps))) new;
   Fails = λ o why. WhyFailed Puts kind old new o why × GotFront Puts (λ s _ what t. stops s what t) o kind old new;
 }
 
 -- a report on a run in threads over this opening, of all that it was given: the source took in the steps of its scans, and none is left;
--- the calls of seat 0 are its orders, each at its place; what is known of the sink holds with the calls of seat 1; no finished record waits
+-- the calls of seat 0 are its orders, each at its place; all calls and scan steps are one list, and what is known of the sink holds with
+-- it and the calls of seat 1; no finished record waits
 pub record Ran {A : Type 0} (g : GivenParts) (o : Opening) (report : LiveReport A) : Type 0 where
   pub reports : Reports o report
   pub fed : taken_in reports.source ≡ g.scans
   pub none_left : report.ended.left.items ≡ []
   pub ordered : map call_at (filter (is_by 0) report.ended.log.items) ≡ calls_made report.stepped 0 g.orders
-  pub handed_on : g.Sinks o (filter (is_by 1) report.ended.log.items)
+  pub one : OneList reports.inner reports.source reports.tokens report.ended
+  pub handed_on : g.Sinks o (filter (is_by 1) report.ended.log.items) (map step_from one.list)
   pub none_waits : report.ended.recorder.shelf ≡ []
 
 -- its text; its locked value, source and tokens are a recording as of one thread

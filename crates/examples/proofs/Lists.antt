@@ -11,7 +11,7 @@ use Rattle.dfr_recorder.specs.declared.record.Extent.{Extent}
 use Rattle.comtrade_format.specs.declared.file.Kind.{Kind}
 use Rattle.dfr_live.specs.Parts.{EntryParts}
 use Rattle.dfr_live.specs.Ends.{is_by}
-use Rattle.dfr_live.specs.Devices.{GivesOf, AsksOf, HearsOf, PutsOf, LacksOf, TakenFor, Came, GaveOne, GaveAll, all_taken, steps_given, taken_in, never, asks_plainly, hears_plainly, stops, Noted, noted, Turn, Waits, Makes, Desked, new_desk, TookTurn, MadeAll, FilesParts, files_of, Tried, HandedOn, Handed, IsTaken, extents_of}
+use Rattle.dfr_live.specs.Devices.{GivesOf, AsksOf, HearsOf, PutsOf, LacksOf, TakenFor, Came, GaveOne, GaveAll, all_taken, steps_given, taken_in, never, asks_plainly, hears_plainly, stops, Noted, noted, Turn, Waits, Makes, Desked, new_desk, TookTurn, MadeAll, FilesParts, files_of, extents_taken, Tried, HandedOn, Handed, IsTaken, extents_of, records_of}
 use Rattle.dfr_live.specs.Causes.{HasCause}
 use Rattle.dfr_live.specs.Report.{Recorded}
 use Rattle.dfr_live.specs.declared.devices.Short.{Short}
@@ -26,22 +26,17 @@ use Rattle.dfr_live.specs.declared.report.LiveReport.{LiveReport}
 use Rattle.examples.specs.declared.listed.ListFeed.{ListFeed}
 use Rattle.examples.specs.declared.listed.ListSink.{ListSink}
 use Rattle.examples.specs.declared.listed.NoOrders.{NoOrders}
-use Rattle.examples.specs.Lists.{steps_left, FeedsNext, HandsNone, kept, Keeps, IsRecorded, CanFail}
+use Rattle.examples.specs.Lists.{steps_left, FeedsNext, HandsNone, kept, Keeps, records_in, extents, IsRecorded, CanFail}
 
 abbrev is-stop : Short → Bool
 is-stop short.Again = false
 is-stop short.GiveUp = false
 is-stop short.Stop = true
 
--- the records, the oldest first, of which the newest stands first
-abbrev records_of : List Handed → List RecordParts
-records_of [] = []
-records_of (x ∷ xs) = records_of xs ++ x.0 ∷ []
-
 abbrev extent-of : RecordParts → Extent
 extent-of r = r.extent
 
-same-extents : (xs : List Handed) → map extent-of (records_of xs) ≡ extents_of xs
+same-extents : (xs : List Handed) → extents (records_of xs) ≡ extents_of xs
 same-extents [] = refl
 same-extents (x ∷ xs) =
     map-append extent-of (records_of xs) (x.0 ∷ []) ∙ ap (λ (l : List Extent). l ++ x.0.extent ∷ []) (same-extents xs)
@@ -154,6 +149,10 @@ module _ {A : Type 0} where
       → IsRecorded A o kind steps (kept k')
   recorded o kind steps f f' p p' k k' r h all empty =
       let got = h.handed_on.0 in
+      let handed : records_of got ≡ records_in o h.one.list =
+      sym (subst (λ (v : Option (List RecordParts)). IfSome v (λ (rs : List RecordParts). rs ≡ records_of got)) (sym h.handed_on.3) refl) in
+      let each : extents (records_in o h.one.list) ≡ extents_taken (filter (is_by 1) r.ended.log.items) =
+      ap extents (sym handed) ∙ same-extents got ∙ h.handed_on.2 in
       record {
         report = r;
         reports = h.report;
@@ -162,12 +161,13 @@ module _ {A : Type 0} where
         none_left = h.none_left;
         no_orders = no-calls p p' (filter (is_by 0) r.ended.log.items) r.stepped h.ordered;
         takes = h.takes;
-        records = records_of got;
-        taken = all-taken o got h.handed_on.1.0;
-        each = same-extents got ∙ h.handed_on.2;
-        same = all-kept o.layout kind got k k' h.handed_on.1.1 ∙ ap (λ (l : List FilesParts). l ++ map (files_of o.layout kind) (records_of got)) empty;
+        taken = subst (λ (rs : List RecordParts). All (IsTaken o) rs) handed (all-taken o got h.handed_on.1.0);
+        each = each;
+        same =
+            all-kept o.layout kind got k k' h.handed_on.1.1 ∙ ap (λ (l : List FilesParts). l ++ map (files_of o.layout kind) (records_of got)) empty
+            ∙ ap (map (files_of o.layout kind)) handed;
         none_waits = h.none_waits;
-        all_closed = same-extents got ∙ h.handed_on.2 ∙ h.all_closed;
+        all_closed = each ∙ h.all_closed;
       }
 
   pub can-fail : (o : Opening) (kind : Kind) (refused : Option OpenFault) (f f' : ListFeed A) (p p' : NoOrders) (k k' : ListSink A) (why : LiveFault)

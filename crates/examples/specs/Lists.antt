@@ -5,10 +5,13 @@ use Rattle.dfr_channels.specs.Parts.{ScanParts}
 use Rattle.dfr_recorder.specs.Parts.{RecordParts}
 use Rattle.dfr_recorder.specs.Steps.{StepParts}
 use Rattle.dfr_recorder.specs.Steps as step
+use Rattle.dfr_recorder.specs.declared.record.Extent.{Extent}
 use Rattle.dfr_recorder.specs.History.{Opening}
+use Rattle.dfr_recorder.specs.Run.{followed_by}
 use Rattle.comtrade_format.specs.declared.file.Kind.{Kind}
 use Rattle.dfr_live.specs.Ends.{is_by}
-use Rattle.dfr_live.specs.OneList.{OneList, step_from}
+use Rattle.dfr_live.specs.OneList.{Origin, OneList, step_from}
+use Rattle.dfr_live.specs.Gone.{records_taken}
 use Rattle.dfr_live.specs.Closed.{extents_closed}
 use Rattle.dfr_live.specs.Devices.{FilesParts, files_of, taken_in, extents_taken, IsTaken, IsTake}
 use Rattle.dfr_live.specs.Report.{Reports}
@@ -56,9 +59,16 @@ abbrev pub Keeps : List FilesParts → FilesParts → Result (Unit {0}) ℕ → 
 Keeps old files (Ok done) new = new ≡ old ++ files ∷ []
 Keeps old files (Err code) new = (code ≡ 1) × (new ≡ old)
 
+-- the records that the one-thread recorder takes along a list, in order
+abbrev pub records_in : Opening → List Origin → List RecordParts
+records_in o list = records_taken o (followed_by [] (map step_from list))
+
+abbrev pub extents : List RecordParts → List Extent
+extents records = map (λ (r : RecordParts). r.extent) records
+
 -- A run in threads over this opening took in exactly these steps, and none is left. Seat 0 made no call, and seat 1 only took. These files
--- are those of the records that it took, each once and in order; each is a record that the one-thread recorder answers to a take; their
--- extents are those of all records that closed in the one list of steps
+-- are those of the records that the one list of steps takes, each once and in order; each matches the layout, and their extents are those
+-- of all records that closed in that list
 pub record IsRecorded (A : Type 0) (o : Opening) (kind : Kind) (steps : List StepParts) (files : List FilesParts) : Type 0 where
   pub report : LiveReport A
   pub reports : Reports o report
@@ -67,12 +77,11 @@ pub record IsRecorded (A : Type 0) (o : Opening) (kind : Kind) (steps : List Ste
   pub none_left : report.ended.left.items ≡ []
   pub no_orders : filter (is_by 0) report.ended.log.items ≡ []
   pub takes : All IsTake (filter (is_by 1) report.ended.log.items)
-  pub records : List RecordParts
-  pub taken : All (IsTaken o) records
-  pub each : map (λ (r : RecordParts). r.extent) records ≡ extents_taken (filter (is_by 1) report.ended.log.items)
-  pub same : files ≡ map (files_of o.layout kind) records
+  pub taken : All (IsTaken o) (records_in o one.list)
+  pub each : extents (records_in o one.list) ≡ extents_taken (filter (is_by 1) report.ended.log.items)
+  pub same : files ≡ map (files_of o.layout kind) (records_in o one.list)
   pub none_waits : report.ended.recorder.shelf ≡ []
-  pub all_closed : map (λ (r : RecordParts). r.extent) records ≡ extents_closed o (map step_from one.list)
+  pub all_closed : extents (records_in o one.list) ≡ extents_closed o (map step_from one.list)
 
 -- a feed over a list never fails, and the sink fails only for want of memory
 abbrev pub CanFail : LiveFault → Type 0

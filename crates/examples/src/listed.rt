@@ -77,8 +77,8 @@ impl<A: Allocator + Copy> Sink for ListSink<A> {
 /// Records a list of scans in three threads, and returns the files of the records that were taken.
 ///
 /// By the contract the source took in exactly the scans of the list, lost ones too, and none is
-/// left. The list of files has, in order, those of a record with the extent of each record that
-/// closed. Each is a record that a recorder in one thread gives. No finished record is left. The
+/// left. The list of files has, in order, those of each record that closed: the record that a
+/// recorder in one thread gives at that point of the list of steps. No finished record is left. The
 /// error is never `Feed`, and `Sink` only with the code 1: no memory.
 pub fn record_list<A: Allocator + Copy + Send + Sync, R: Threads + Wait + Sync>(
     rt: &R,

@@ -4,7 +4,7 @@ use Rattle.dfr_live.proofs.Placing.{handed_on, handed_none, handed_fails}
 use Rattle.dfr_live.proofs.export.hand_last.Goals as goal
 
 pub returns-clause-on : goal.returns-clause-on
-returns-clause-on g c = handed_on g.K.Outlet.puts g.K.Outlet.lacks g.N.Session.opening c.args.kind c.layout.result.now c.args.outlet.now c.hand_taken.new.outlet c.args.token.now c.take_noted-taken.new.token c.take_noted-taken.result c.hand_taken.result (c.layout.ensures ∙ ap (λ (x : Opening). x.layout) (c.opening.ensures.value ∙ c.opening.ensures.named.0)) c.take_noted-taken.ensures c.hand_taken.ensures
+returns-clause-on g c = handed_on g.K.Outlet.puts g.K.Outlet.lacks g.N.Session.opening c.args.kind c.layout.result.now c.args.outlet.now c.hand_taken.new.outlet c.args.token.now c.take_noted-taken.new.token c.args.gone.now c.take_noted-taken.new.gone c.take_noted-taken.result c.hand_taken.result (c.layout.ensures ∙ ap (λ (x : Opening). x.layout) (c.opening.ensures.value ∙ c.opening.ensures.named.0)) c.take_noted-taken.ensures.noted c.take_noted-taken.ensures.gone c.hand_taken.ensures
 
 pub returns-clause-fault : goal.returns-clause-fault
-returns-clause-fault g c = handed_fails g.K.Outlet.puts g.K.Outlet.lacks g.N.Session.opening c.args.kind c.layout.result.now c.args.outlet.now c.hand_taken.new.outlet c.args.token.now c.take_noted-taken.new.token c.take_noted-taken.result c.hand_taken.result (c.layout.ensures ∙ ap (λ (x : Opening). x.layout) (c.opening.ensures.value ∙ c.opening.ensures.named.0)) c.take_noted-taken.ensures c.hand_taken.ensures
+returns-clause-fault g c = handed_fails g.K.Outlet.puts g.K.Outlet.lacks g.N.Session.opening c.args.kind c.layout.result.now c.args.outlet.now c.hand_taken.new.outlet c.args.token.now c.take_noted-taken.new.token c.take_noted-taken.result c.hand_taken.result (c.layout.ensures ∙ ap (λ (x : Opening). x.layout) (c.opening.ensures.value ∙ c.opening.ensures.named.0)) c.take_noted-taken.ensures.noted c.hand_taken.ensures
