@@ -1,0 +1,49 @@
+//! Where the clock was set, and where scans are missing.
+
+ghost use Rattle.std.specs.Prelude.{◌≡◌, ◌≤◌, ◌^◌};
+ghost use Rattle.dfr_clock.specs.Following as spec;
+
+use crate::course::since;
+use crate::reading::Jump;
+use crate::settings::Settings;
+
+/// By how much the clock was set if it went on by `clock`, and the monotonic clock by `mono`.
+pub(crate) fn jump_between(step: u32, clock: u128, mono: u128) -> Option<Jump>
+    requires clock { clock ≤ 2 ^ 66 }
+    requires mono { mono ≤ 2 ^ 66 }
+    ensures { result ≡ spec.jump_between step clock mono }
+{
+    let step = u128::from(step);
+    if mono + step < clock {
+        Some(Jump::Forward(clock - mono))
+    } else if clock + step < mono {
+        Some(Jump::Back(mono - clock))
+    } else {
+        None
+    }
+}
+
+/// How many lost scans stand for a gap, if the newest scan was due at an instant and the clock shows
+/// another: those of the time between, if that is more than the limit.
+pub(crate) fn lost_between(settings: &Settings, limit: u32, due: u128, clock: u128) -> u128
+    requires due { due ≤ 2 ^ 90 }
+    requires clock { clock ≤ 2 ^ 90 }
+    requires rate { settings.now.rate ≤ 1_000_000 }
+    ensures value { result ≡ spec.lost_between settings.now limit due clock }
+    ensures bound { result ≤ 2 ^ 32 }
+{
+    if due + u128::from(limit) < clock {
+        let scans = (clock - due) * u128::from(settings.rate) / 1_000_000;
+        scans.min(u128::from(settings.most))
+    } else {
+        0
+    }
+}
+
+/// The instant of a place by a clock that showed this when the scan at another place came.
+pub(crate) fn by_clock(place: u128, newest: u128, wall: u64) -> u128
+    ensures value { result ≡ spec.by_clock place newest wall }
+    ensures bound { result ≤ 2 ^ 64 }
+{
+    since(since(place, newest), u128::from(wall))
+}
