@@ -3,6 +3,7 @@ use Rattle.std.proofs.Common.{◌≡◌, ◌∙◌, sym, ap, ℕ, ◌+◌, ◌<�
 use Rattle.std.proofs.lemmas.List.{append-nil, map-append, length-map, length-append, length-take, length-drop, length-take-le, take_more, drop_more, take_all, drop_all, take_at, get_or_at, set_at}
 use Rattle.std.proofs.lemmas.Option.{slice_get_cases}
 use Rattle.dfr_channels.specs.declared.scan.Reading.{Reading}
+use Rattle.dfr_detect.specs.Lost.{AreAfterLoss}
 use Rattle.dfr_detect.specs.Detection.{Wanted, Detected, detected, fires, all_detected, all_fire, IsDetection, AreDetections}
 
 -- after i of them have taken in a scan
@@ -102,3 +103,7 @@ written old list readings status before after made rest n told same was long ws 
       ap (λ (us : List Bool). us ++ all_fire ws (readings ∷ scans)) (sym was) ∙ t.0,
       t.1 ∙ sym (take_at made rest n long),
     )
+
+pub written_lost : (old list made rest : List Detected) (n : ℕ)
+    → AreAfterLoss list made → list ≡ old → length made ≡ n → AreAfterLoss old (take n (made ++ rest))
+written_lost old list made rest n told same long ws scans h = told ws scans (h ∙ sym same) ∙ sym (take_at made rest n long)

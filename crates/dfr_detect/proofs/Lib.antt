@@ -1,4 +1,12 @@
+pub mod Decimals
+pub mod Leaving
+pub mod Times
+pub mod Fitted
+pub mod Lists
+pub mod Ages
+pub mod Paced
 pub mod Summed
 pub mod Steps
 pub mod Each
 pub mod Runs
+pub mod Forgets

@@ -1,15 +1,15 @@
 -- The sum of the squares of a window, after a sample more.
-use Rattle.std.proofs.Common.{◌≡◌, sym, ap, subst, ℕ, ◌+◌, ◌-◌, ◌*◌, ◌^◌, ◌≤◌, inl, inr, List, ◌∷◌, length, take, Some, None, arith, ℤ, pos}
+use Rattle.std.proofs.Common.{◌≡◌, sym, subst, ℕ, ◌+◌, ◌-◌, ◌*◌, ◌^◌, ◌≤◌, List, ◌∷◌, length, take, Some, None, arith, ℤ, pos}
 use Rattle.std.specs.Prelude.{slice_get, unsigned_abs}
 use Rattle.std.specs.List.{All}
 use Rattle.std.proofs.Math.Nat.{mul-le-mul, mul-le-mul_right}
-use Rattle.std.proofs.lemmas.List.{take_all, length-take, get_or_past}
+use Rattle.std.proofs.lemmas.List.{length-take, get_or_past}
 use Rattle.std.proofs.lemmas.List.Elements.{All-weaker, All-take, All-cons}
-use Rattle.std.proofs.lemmas.List.Sums.{sum_by-le, sum_by_more, sum_by-cons}
-use Rattle.std.proofs.lemmas.Option.{slice_get_cases, slice_get_within, get_or_from_slice_get}
+use Rattle.std.proofs.lemmas.List.Sums.{sum_by-le}
 use Rattle.circular_buffer.specs.Buffer.{Buffer, buffer}
 use Rattle.dfr_detect.specs.Windows.{square, sum_of_squares, ago}
 use Rattle.dfr_detect.specs.Sums.{IsSmall, IsSummed}
+use Rattle.dfr_detect.proofs.Leaving.{past_end, none_leaves, one_leaves}
 
 pub square_small : (x : ℤ) → unsigned_abs x ≤ 2 ^ 39 → square x ≤ 2 ^ 78
 square_small x h = mul-le-mul h h
@@ -27,28 +27,6 @@ squares_bounded xs n s h =
     let wide = mul-le-mul_right (2 ^ 78) h.bounded in
     omega (arith, most, wide, h.summed)
 
-past_end : {X : Type 0} (xs : List X) (i : ℕ) → slice_get xs i ≡ None → length xs ≤ i
-past_end xs i e = elim (slice_get_cases xs i).1 [ inl w ↦ absurd (cc (w.2, e)) | inr w ↦ w.0 ]
-
--- nothing leaves: all samples stay
-pub none_leaves : (x : ℤ) (xs : List ℤ) (n : ℕ) → slice_get (x ∷ xs) n ≡ None → sum_of_squares (take n (x ∷ xs)) ≡ sum_of_squares xs + square x
-none_leaves x xs n e =
-    let all = take_all n (x ∷ xs) (past_end (x ∷ xs) n e) in
-    let more = sum_by-cons square x xs in
-    let same = ap sum_of_squares all in
-    omega (arith, same, more)
-
--- the oldest leaves
-pub one_leaves : (x y : ℤ) (xs : List ℤ) (n : ℕ) → length xs ≤ n → slice_get (x ∷ xs) n ≡ Some y → sum_of_squares (take n (x ∷ xs)) + square y ≡ sum_of_squares xs + square x
-one_leaves x y xs n few e =
-    let at = slice_get_within (x ∷ xs) n y e in
-    let all = take_all (n + 1) (x ∷ xs) (omega arith) in
-    let cut = sum_by_more square (x ∷ xs) n (pos 0) at in
-    let more = sum_by-cons square x xs in
-    let same = ap sum_of_squares all in
-    let leaves = ap square (get_or_from_slice_get (x ∷ xs) n y (pos 0) e) in
-    omega (arith, same, more, cut, leaves)
-
 after : (xs : List ℤ) (b : Buffer ℤ) (n s : ℕ) → b ≡ buffer (take n xs) n → s ≡ sum_of_squares (take n xs) → All IsSmall xs → n ≤ 2 ^ 18 → IsSummed b.items b.capacity s
 after xs b n s e summed small bounded = subst (λ (w : Buffer ℤ). IsSummed w.items w.capacity s) (sym e) (record {
   summed = summed;
@@ -60,13 +38,13 @@ after xs b n s e summed small bounded = subst (λ (w : Buffer ℤ). IsSummed w.i
 -- the window after a sample that pushes none out; p is its square
 pub summed_none : (x : ℤ) (xs : List ℤ) (b : Buffer ℤ) (n s p : ℕ) → IsSummed xs n s → unsigned_abs x ≤ 2 ^ 39 → slice_get (x ∷ xs) n ≡ None → b ≡ buffer (take n (x ∷ xs)) n → p ≡ square x → IsSummed b.items b.capacity (s + p)
 summed_none x xs b n s p h small e took is =
-    let kept = none_leaves x xs n e in
+    let kept = none_leaves square x xs n e in
     after (x ∷ xs) b n (s + p) took (omega (arith, kept, is, h.summed)) (All-cons IsSmall x xs small h.small) h.bounded
 
 -- the window after a sample that pushes one out; q is the square of that one
 pub summed_one : (x y : ℤ) (xs : List ℤ) (b : Buffer ℤ) (n s p q : ℕ) → IsSummed xs n s → unsigned_abs x ≤ 2 ^ 39 → slice_get (x ∷ xs) n ≡ Some y → b ≡ buffer (take n (x ∷ xs)) n → p ≡ square x → q ≡ square y → IsSummed b.items b.capacity ((s + p) - q)
 summed_one x y xs b n s p q h small e took is left =
-    let cut = one_leaves x y xs n h.few e in
+    let cut = one_leaves square x y xs n h.few e in
     after (x ∷ xs) b n ((s + p) - q) took (omega (arith, cut, is, left, h.summed)) (All-cons IsSmall x xs small h.small) h.bounded
 
 pub ago_past : (n : ℕ) (xs : List ℤ) → None ≡ slice_get xs n → pos 0 ≡ ago n xs

@@ -1,35 +1,90 @@
 -- Which settings a detector takes.
-use Rattle.std.specs.Prelude.{ℕ, ◌≤◌, ◌^◌, Bool, ◌&&◌, nat_le, Option}
+use Rattle.std.specs.Prelude.{ℕ, ◌≤◌, ◌^◌, Bool, true, false, ◌&&◌, if◌then◌else◌, nat_le, Option, None}
 use Rattle.comtrade_values.specs.Faults.{◌or◌, fault_unless}
 use Rattle.dfr_detect.specs.declared.settings.Condition.{Condition}
-use Rattle.dfr_detect.specs.declared.settings.Condition.TheVariants.{RmsOver, RmsUnder, Change, Jump}
+use Rattle.dfr_detect.specs.declared.settings.Condition.TheVariants.{RmsOver, RmsUnder, Change, Jump, Frequency}
 use Rattle.dfr_detect.specs.declared.settings.Settings.{Settings}
 use Rattle.dfr_detect.specs.declared.settings.SettingsFault.{SettingsFault}
-use Rattle.dfr_detect.specs.declared.settings.SettingsFault.TheVariants.{Scans, Level, Reset, Row}
+use Rattle.dfr_detect.specs.declared.settings.SettingsFault.TheVariants.{Scans, Cycles, Rate, Least, Level, Reset, Row}
+use Rattle.dfr_detect.specs.declared.settings.FrequencyIs.{FrequencyIs}
+use Rattle.dfr_detect.specs.declared.settings.FrequencyIs.TheVariants.{Over, Under, Changing}
+use Rattle.dfr_detect.specs.declared.settings.FrequencyTest.{FrequencyTest}
 
--- at most 2^40, which is twice the largest sum of 256 samples
-abbrev pub is_level : ℕ → Bool
-is_level level = nat_le 1 level && nat_le level 1_099_511_627_776
+-- a rate of change of the frequency is at most 2^31 mHz a second
+abbrev pub most_of : FrequencyIs → ℕ
+most_of Over = 1_099_511_627_776
+most_of Under = 1_099_511_627_776
+most_of Changing = 2_147_483_648
+
+-- a level is at most 2^40, which is twice the largest sum of 256 samples
+abbrev pub most_level : Condition → ℕ
+most_level RmsOver = 1_099_511_627_776
+most_level RmsUnder = 1_099_511_627_776
+most_level Change = 1_099_511_627_776
+most_level Jump = 1_099_511_627_776
+most_level (Frequency t) = most_of t.test
+
+abbrev pub is_level : ℕ → ℕ → Bool
+is_level most level = nat_le 1 level && nat_le level most
+
+-- the condition is met at or below the level
+abbrev pub is_slow_test : FrequencyIs → Bool
+is_slow_test Over = false
+is_slow_test Under = true
+is_slow_test Changing = false
+
+abbrev pub is_under : Condition → Bool
+is_under RmsOver = false
+is_under RmsUnder = true
+is_under Change = false
+is_under Jump = false
+is_under (Frequency t) = is_slow_test t.test
 
 -- the reset level does not lie beyond the level
 abbrev pub has_reset : Condition → ℕ → ℕ → Bool
-has_reset RmsOver level reset = nat_le reset level
-has_reset RmsUnder level reset = nat_le level reset
-has_reset Change level reset = nat_le reset level
-has_reset Jump level reset = nat_le reset level
+has_reset condition level reset = if is_under condition then nat_le level reset else nat_le reset level
+
+-- the first fault of a test of the frequency
+abbrev pub test_fault : FrequencyTest → Option SettingsFault
+test_fault t =
+    fault_unless (nat_le 1 t.cycles && nat_le t.cycles 64) Cycles
+    or fault_unless (nat_le 1 t.rate && nat_le t.rate 1_000_000) Rate
+    or fault_unless (is_level 1_099_511_627_776 t.least) Least
+
+-- and of a condition
+abbrev pub condition_fault : Condition → Option SettingsFault
+condition_fault RmsOver = None
+condition_fault RmsUnder = None
+condition_fault Change = None
+condition_fault Jump = None
+condition_fault (Frequency t) = test_fault t
 
 -- the first fault
 abbrev pub settings_fault : Settings → Option SettingsFault
 settings_fault s =
     fault_unless (nat_le 1 s.scans && nat_le s.scans 65_536) Scans
-    or fault_unless (is_level s.level) Level
-    or fault_unless (is_level s.reset && has_reset s.condition s.level s.reset) Reset
+    or condition_fault s.condition
+    or fault_unless (is_level (most_level s.condition) s.level) Level
+    or fault_unless (is_level (most_level s.condition) s.reset && has_reset s.condition s.level s.reset) Reset
     or fault_unless (nat_le 1 s.row) Row
+
+-- what a test of the frequency without a fault has
+pub record FitsTest (t : FrequencyTest) : Type 0 where
+  pub few : t.cycles ≤ 64
+  pub rate : t.rate ≤ 1_000_000
+
+abbrev pub FitsCondition : Condition → Type 0
+FitsCondition RmsOver = Unit {0}
+FitsCondition RmsUnder = Unit {0}
+FitsCondition Change = Unit {0}
+FitsCondition Jump = Unit {0}
+FitsCondition (Frequency t) = FitsTest t
 
 -- what settings without a fault have
 pub record Fits (s : Settings) : Type 0 where
   pub some : 1 ≤ s.scans
   pub few : s.scans ≤ 2 ^ 16
-  pub level : s.level ≤ 2 ^ 40
-  pub reset : s.reset ≤ 2 ^ 40
+  pub condition : FitsCondition s.condition
+  pub level : s.level ≤ most_level s.condition
+  pub reset : s.reset ≤ most_level s.condition
   pub row : 1 ≤ s.row

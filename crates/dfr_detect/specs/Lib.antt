@@ -1,7 +1,11 @@
 pub mod Windows
 pub mod Sums
 pub mod Fitting
+pub mod Cycles
+pub mod Crossings
+pub mod Paces
 pub mod Levels
 pub mod Watched
 pub mod Signals
 pub mod Detection
+pub mod Lost

@@ -1,8 +1,11 @@
 -- When a detector's bit is 1.
-use Rattle.std.specs.Prelude.{◌≡◌, ◌≤◌, ℕ, ℤ, min, ◌+◌, Bool, false, ◌&&◌, ◌||◌, if◌then◌else◌, nat_le, List, [], ◌∷◌, take, Option}
-use Rattle.dfr_detect.specs.Windows.{window}
+use Rattle.std.specs.Prelude.{◌≡◌, ◌≤◌, ℕ, ℤ, min, ◌+◌, Bool, false, ◌&&◌, ◌||◌, if◌then◌else◌, nat_le, List, [], ◌∷◌, take, length, Option}
+use Rattle.dfr_detect.specs.Windows.{since_gap, window}
+use Rattle.dfr_detect.specs.Paces.{Pace, paced, no_pace, pace_after, pace_gone, pace_meets}
 use Rattle.dfr_detect.specs.Levels.{span, holds, is_met}
 use Rattle.dfr_detect.specs.Fitting.{Fits}
+use Rattle.dfr_detect.specs.declared.settings.Condition.{Condition}
+use Rattle.dfr_detect.specs.declared.settings.Condition.TheVariants.{RmsOver, RmsUnder, Change, Jump, Frequency}
 use Rattle.dfr_detect.specs.declared.settings.Settings.{Settings}
 
 -- at how many scans in a row, up to the newest, the level is met
@@ -15,38 +18,68 @@ abbrev pub bit : Settings → List (Option ℤ) → Bool
 bit s [] = false
 bit s (now ∷ past) = nat_le s.row (in_row s (now ∷ past)) || (bit s past && holds s.condition s.scans s.reset (now ∷ past))
 
--- what a detector keeps of a history: the last samples since the last gap, the newest first; at how many scans in a row the level is met,
--- up to as many as are asked; the bit
+-- what a detector keeps of a history: the last samples since the last gap, the newest first; what a test of the frequency keeps of them;
+-- at how many scans in a row the level is met, up to as many as are asked; the bit
 pub record Kept : Type 0 where
   pub settings : Settings
   pub samples : List ℤ
+  pub pace : Pace
   pub row : ℕ
   pub on : Bool
 
 -- what is kept, by its parts
-abbrev pub kept_by : Settings → List ℤ → ℕ → Bool → Kept
-kept_by settings samples row on = record { settings = settings; samples = samples; row = row; on = on }
+abbrev pub kept_by : Settings → List ℤ → Pace → ℕ → Bool → Kept
+kept_by settings samples pace row on = record { settings = settings; samples = samples; pace = pace; row = row; on = on }
+
+-- what a condition over n scans keeps of the cycles
+abbrev pub pace_of : Condition → ℕ → List ℤ → Pace
+pace_of RmsOver n samples = no_pace 0 1 0 0
+pace_of RmsUnder n samples = no_pace 0 1 0 0
+pace_of Change n samples = no_pace 0 1 0 0
+pace_of Jump n samples = no_pace 0 1 0 0
+pace_of (Frequency t) n samples = paced t n samples
 
 abbrev pub kept : Settings → List (Option ℤ) → Kept
-kept s past = kept_by s (window (span s.condition s.scans) past) (min s.row (in_row s past)) (bit s past)
+kept s past =
+    kept_by s (window (span s.condition s.scans) past) (pace_of s.condition s.scans (since_gap past)) (min s.row (in_row s past)) (bit s past)
 
 -- for every history of which `old` is kept, the bit is that of the next scan, and `new` is kept after it
 abbrev pub IsStep : Kept → Option ℤ → Bool → Kept → Type 0
 IsStep old sample b new = (s : Settings) (past : List (Option ℤ)) → kept s past ≡ old → (bit s (sample ∷ past) ≡ b) × (kept s (sample ∷ past) ≡ new)
 
 -- the settings are without a fault, the window has as many places as the condition looks at, and the row is not longer than asked
-pub record IsSound (s : Settings) (places row : ℕ) : Type 0 where
+pub record IsSound (s : Settings) (samples : List ℤ) (places row : ℕ) : Type 0 where
   pub fits : Fits s
   pub wide : places ≡ span s.condition s.scans
+  pub few : length samples ≤ places
   pub short : row ≤ s.row
+
+-- what is kept of the cycles after a sample more
+abbrev pub next_pace : Condition → Pace → ℤ → Pace
+next_pace RmsOver pace x = pace
+next_pace RmsUnder pace x = pace
+next_pace Change pace x = pace
+next_pace Jump pace x = pace
+next_pace (Frequency t) pace x = pace_after pace x
+
+-- what is kept meets a level
+abbrev pub met_by : Condition → ℕ → ℕ → List ℤ → Pace → Bool
+met_by RmsOver n level samples pace = is_met RmsOver n level samples
+met_by RmsUnder n level samples pace = is_met RmsUnder n level samples
+met_by Change n level samples pace = is_met Change n level samples
+met_by Jump n level samples pace = is_met Jump n level samples
+met_by (Frequency t) n level samples pace = pace_meets t level pace
 
 -- what a call keeps of what is kept and a sample more
 abbrev pub after_sample : Kept → ℤ → Kept
 after_sample k x =
-    let samples = take (span k.settings.condition k.settings.scans) (x ∷ k.samples) in
-    let row = if is_met k.settings.condition k.settings.scans k.settings.level samples then min k.settings.row (k.row + 1) else 0 in
-    kept_by k.settings samples row (nat_le k.settings.row row || (k.on && is_met k.settings.condition k.settings.scans k.settings.reset samples))
+    let condition = k.settings.condition in
+    let n = k.settings.scans in
+    let samples = take (span condition n) (x ∷ k.samples) in
+    let pace = next_pace condition k.pace x in
+    let row = if met_by condition n k.settings.level samples pace then min k.settings.row (k.row + 1) else 0 in
+    kept_by k.settings samples pace row (nat_le k.settings.row row || (k.on && met_by condition n k.settings.reset samples pace))
 
 -- and of a scan without a sample
 abbrev pub after_gap : Kept → Kept
-after_gap k = kept_by k.settings [] 0 false
+after_gap k = kept_by k.settings [] (pace_gone k.pace) 0 false

@@ -12,7 +12,7 @@ use std::marker::Model;
 /// Detectors of the same scans, in order. Contracts see what each keeps of the scans so far.
 #[derive(Drop)]
 pub struct Detectors<A: Allocator = Global> {
-    list: Vec<Detector<A>, A>,
+    pub(crate) list: Vec<Detector<A>, A>,
 }
 
 impl<A: Allocator> Model for Detectors<A> {

@@ -5,6 +5,32 @@ ghost use Rattle.dfr_detect.specs.Fitting as spec;
 
 use thiserror::Error;
 
+/// What is compared with a level in mHz, or in mHz a second.
+#[derive(Clone, Copy, Debug, PartialEq, Eq)]
+pub enum FrequencyIs {
+    /// The frequency is at least the level.
+    Over,
+    /// It is at most the level.
+    Under,
+    /// It rises or falls by at least the level in a second.
+    Changing,
+}
+
+/// A test of a signal's frequency.
+#[derive(Clone, Copy, Debug, PartialEq, Eq)]
+pub struct FrequencyTest {
+    /// What is compared with the level.
+    pub test: FrequencyIs,
+    /// Over how many cycles the frequency is taken, 1 to 64. A change is that from these cycles
+    /// to as many before.
+    pub cycles: u32,
+    /// Scans a second, 1 to 1,000,000.
+    pub rate: u32,
+    /// How far below 0 a half wave has to go for the crossing after it to count, in samples. At 1
+    /// each crossing counts; a larger one leaves out the noise of a dead line.
+    pub least: u64,
+}
+
 /// What a detector compares with its level. `scans` is that of its settings.
 #[derive(Clone, Copy, Debug, PartialEq, Eq)]
 pub enum Condition {
@@ -17,14 +43,19 @@ pub enum Condition {
     /// This change differs from the change over the `scans` scans before it by at least the level.
     /// A steady wave has no such jump if `scans` is a period, and almost none near it.
     Jump,
+    /// The frequency, or its rate of change, meets the level, if the cycles that are looked at lie
+    /// in the last `scans` scans.
+    Frequency(FrequencyTest),
 }
 
-/// The settings of a detector. Levels are in raw samples.
+/// The settings of a detector. Levels are in raw samples, and those of a frequency in mHz.
 #[derive(Clone, Copy, Debug, PartialEq, Eq)]
 pub struct Settings {
     /// What is compared with the level.
     pub condition: Condition,
-    /// How many scans it is taken over, as a rule those of a period.
+    /// How many scans it is taken over, as a rule those of a period. Of a frequency: those in which
+    /// the cycles and the crossing before them have to lie, twice the cycles for its rate of change.
+    /// Where they can't, as the frequency is too low, the bit stays 0.
     pub scans: u32,
     /// The level at which the bit becomes 1.
     pub level: u64,
@@ -40,8 +71,17 @@ pub enum SettingsFault {
     /// There is no scan to look at, or too many.
     #[error("a detector looks at 1 to 65536 scans")]
     Scans,
-    /// The level is 0, or above what a sum of channels can have.
-    #[error("the level is 1 to 1099511627776 samples")]
+    /// A frequency is taken over no cycle, or over too many.
+    #[error("a frequency is taken over 1 to 64 cycles")]
+    Cycles,
+    /// The rate is 0 or too large.
+    #[error("the rate is 1 to 1000000 scans a second")]
+    Rate,
+    /// The least half wave is 0 or too large.
+    #[error("the least half wave is 1 to 1099511627776 samples")]
+    Least,
+    /// The level is 0 or too large.
+    #[error("the level is 1 to 1099511627776, of a rate of change 1 to 2147483648")]
     Level,
     /// The reset level lies on the wrong side of the level, is 0 or too large.
     #[error("the reset level lies below the level, or above it for `under`")]
@@ -51,24 +91,90 @@ pub enum SettingsFault {
     Row,
 }
 
-/// Whether a level lies in 1 to 2^40.
-fn is_level(level: u64) -> bool
-    ensures { result ≡ spec.is_level level }
+/// Whether a level lies in 1 to this.
+fn is_level(most: u64, level: u64) -> bool
+    ensures { result ≡ spec.is_level most level }
 {
-    1 <= level && level <= 1 << 40
+    1 <= level && level <= most
+}
+
+/// The largest level that fits a sum of samples, and a frequency.
+const MOST: u64 = 1 << 40;
+
+impl FrequencyTest {
+    ghost use Rattle.std.specs.Prelude.{◌≡◌};
+    ghost use Rattle.dfr_detect.specs.Fitting.{most_of, test_fault};
+
+    /// The largest level.
+    fn most(&self) -> u64
+        ensures { result ≡ most_of self.now.test }
+    {
+        match self.test {
+            FrequencyIs::Over | FrequencyIs::Under => MOST,
+            FrequencyIs::Changing => 1 << 31,
+        }
+    }
+
+    /// The first fault, if there is one.
+    fn fault(&self) -> Option<SettingsFault>
+        ensures { result ≡ test_fault self.now }
+    {
+        if self.cycles < 1 || self.cycles > 64 {
+            return Some(SettingsFault::Cycles);
+        }
+        if self.rate < 1 || self.rate > 1_000_000 {
+            return Some(SettingsFault::Rate);
+        }
+        if !is_level(MOST, self.least) {
+            return Some(SettingsFault::Least);
+        }
+        None
+    }
 }
 
 impl Settings {
     ghost use Rattle.std.specs.Prelude.{◌≡◌};
-    ghost use Rattle.dfr_detect.specs.Fitting.{has_reset, settings_fault};
+    ghost use Rattle.dfr_detect.specs.Fitting.{most_level, is_under, has_reset, condition_fault, settings_fault};
+
+    /// The largest level.
+    fn most(&self) -> u64
+        ensures { result ≡ most_level self.now.condition }
+    {
+        match self.condition {
+            Condition::Frequency(test) => test.most(),
+            _ => MOST,
+        }
+    }
+
+    /// Whether the level is to be fallen below.
+    fn is_under(&self) -> bool
+        ensures { result ≡ is_under self.now.condition }
+    {
+        match self.condition {
+            Condition::RmsUnder => true,
+            Condition::Frequency(test) => test.test == FrequencyIs::Under,
+            Condition::RmsOver | Condition::Change | Condition::Jump => false,
+        }
+    }
 
     /// Whether the reset level lies on the right side of the level.
     fn has_reset(&self) -> bool
         ensures { result ≡ has_reset self.now.condition self.now.level self.now.reset }
     {
+        if self.is_under() {
+            self.level <= self.reset
+        } else {
+            self.reset <= self.level
+        }
+    }
+
+    /// The first fault of the condition.
+    fn condition_fault(&self) -> Option<SettingsFault>
+        ensures { result ≡ condition_fault self.now.condition }
+    {
         match self.condition {
-            Condition::RmsUnder => self.level <= self.reset,
-            Condition::RmsOver | Condition::Change | Condition::Jump => self.reset <= self.level,
+            Condition::Frequency(test) => test.fault(),
+            _ => None,
         }
     }
 
@@ -79,10 +185,14 @@ impl Settings {
         if self.scans < 1 || self.scans > 65_536 {
             return Some(SettingsFault::Scans);
         }
-        if !is_level(self.level) {
+        if let Some(fault) = self.condition_fault() {
+            return Some(fault);
+        }
+        let most = self.most();
+        if !is_level(most, self.level) {
             return Some(SettingsFault::Level);
         }
-        if !is_level(self.reset) || !self.has_reset() {
+        if !is_level(most, self.reset) || !self.has_reset() {
             return Some(SettingsFault::Reset);
         }
         if self.row < 1 {

@@ -1,10 +1,16 @@
 //! The bit of one signal, scan after scan.
 
-ghost use Rattle.std.specs.Prelude.{◌≡◌, ◌≤◌, ◌+◌, if◌then◌else◌, min};
+ghost use Rattle.std.specs.Prelude.{◌≡◌, ◌≤◌, ◌+◌, ◌^◌, if◌then◌else◌, min, [], ◌∷◌, take, length, unsigned_abs, IfOk};
+ghost use Rattle.circular_buffer.specs.Buffer.{buffer};
+ghost use Rattle.dfr_detect.specs.Crossings.{cycles_before};
+ghost use Rattle.dfr_detect.specs.Fitting.{Fits, FitsCondition, most_level};
+ghost use Rattle.dfr_detect.specs.Levels.{span as spec_span};
+ghost use Rattle.dfr_detect.specs.Watched.{pace_of, next_pace, met_by};
 
-use crate::Settings;
+use crate::crossings::Crossings;
 use crate::level::{is_met, span};
 use crate::window::Window;
+use crate::{Condition, FrequencyIs, FrequencyTest, Settings};
 use comtrade_values::Memory;
 use std::alloc::{Allocator, Global};
 use std::marker::Model;
@@ -15,6 +21,7 @@ use std::marker::Model;
 pub struct Watch<A: Allocator = Global> {
     settings: Settings,
     window: Window<A>,
+    crossings: Crossings<A>,
     row: u32,
     on: bool,
 }
@@ -24,9 +31,9 @@ impl<A: Allocator> Model for Watch<A> {
 
     ghost Value = { Kept };
 
-    ghost view = { λ a. kept_by a.settings a.window.items a.row a.on };
+    ghost view = { λ a. kept_by a.settings a.window.items a.crossings a.row a.on };
 
-    ghost invariant = { λ a. IsSound a.settings a.window.capacity a.row };
+    ghost invariant = { λ a. IsSound a.settings a.window.items a.window.capacity a.row };
 }
 
 /// At how many scans in a row a level is met, up to as many as are asked.
@@ -42,10 +49,78 @@ fn next_row(row: u32, asked: u32, met: bool) -> u32
     }
 }
 
-impl<A: Allocator> Watch<A> {
-    ghost use Rattle.std.specs.Prelude.{◌≡◌, ◌≤◌, ◌^◌, [], None, Some, IfOk, IfSome, unsigned_abs};
+/// How many cycles are looked at before the newest ones.
+fn cycles_before(test: FrequencyTest) -> u32
+    ensures { result ≡ cycles_before test }
+{
+    match test.test {
+        FrequencyIs::Over | FrequencyIs::Under => 0,
+        FrequencyIs::Changing => test.cycles,
+    }
+}
+
+/// The crossings that a condition looks at.
+fn crossings_of<A: Allocator + Copy>(
+    alloc: A,
+    condition: Condition,
+    scans: u32,
+) -> Result<Crossings<A>, Memory>
+    requires fits { FitsCondition condition }
+    requires some { 1 ≤ scans }
+    requires few { scans ≤ 2 ^ 16 }
+    ensures { IfOk result (λ made. made ≡ pace_of condition scans []) }
+{
+    match condition {
+        Condition::Frequency(test) => {
+            Crossings::with_places(alloc, test.least, scans, test.cycles, cycles_before(test))
+        }
+        _ => Crossings::with_places(alloc, 0, 1, 0, 0),
+    }
+}
+
+/// Takes a sample into what the condition looks at.
+#[inline(always)]
+fn keep<A: Allocator>(
+    settings: &Settings,
+    window: &mut Window<A>,
+    crossings: &mut Crossings<A>,
+    x: i64,
+)
+    requires small { unsigned_abs x ≤ 2 ^ 39 }
+    requires places { window.old.capacity ≡ spec_span settings.now.condition settings.now.scans }
+    requires few { length window.old.items ≤ window.old.capacity }
+    ensures samples { window.new ≡ buffer (take window.old.capacity (x ∷ window.old.items)) window.old.capacity }
+    ensures pace { crossings.new ≡ next_pace settings.now.condition crossings.old x }
+{
+    match settings.condition {
+        Condition::Frequency(_) => crossings.take_in(x),
+        _ => window.push(x),
+    }
+}
+
+/// Whether what is kept meets a level.
+#[inline(always)]
+fn is_met_by<A: Allocator>(
+    settings: &Settings,
+    level: u64,
+    window: &Window<A>,
+    crossings: &Crossings<A>,
+) -> bool
+    requires fits { Fits settings.now }
+    requires level { level ≤ most_level settings.now.condition }
+    requires places { window.now.capacity ≡ spec_span settings.now.condition settings.now.scans }
+    ensures { result ≡ met_by settings.now.condition settings.now.scans level window.now.items crossings.now }
+{
+    match settings.condition {
+        Condition::Frequency(test) => crossings.meet(test, level),
+        condition => is_met(condition, settings.scans, level, window),
+    }
+}
+
+impl<A: Allocator + Copy> Watch<A> {
+    ghost use Rattle.std.specs.Prelude.{◌≡◌, [], None, IfOk};
     ghost use Rattle.dfr_detect.specs.Fitting.{settings_fault};
-    ghost use Rattle.dfr_detect.specs.Watched.{kept, after_sample, after_gap, IsStep};
+    ghost use Rattle.dfr_detect.specs.Watched.{kept};
 
     /// A watch that has seen no scan.
     pub fn new(alloc: A, settings: Settings) -> Result<Watch<A>, Memory>
@@ -53,13 +128,20 @@ impl<A: Allocator> Watch<A> {
         ensures { IfOk result (λ watch. watch ≡ kept settings []) }
     {
         let window = Window::with_places(alloc, span(settings.condition, settings.scans))?;
+        let crossings = crossings_of(alloc, settings.condition, settings.scans)?;
         Ok(Watch {
             settings,
             window,
+            crossings,
             row: 0,
             on: false,
         })
     }
+}
+
+impl<A: Allocator> Watch<A> {
+    ghost use Rattle.std.specs.Prelude.{◌≡◌, ◌≤◌, ◌^◌, IfSome, unsigned_abs};
+    ghost use Rattle.dfr_detect.specs.Watched.{after_sample, after_gap, IsStep};
 
     /// Takes in a sample.
     #[inline(always)]
@@ -68,9 +150,9 @@ impl<A: Allocator> Watch<A> {
         ensures { self.new ≡ after_sample self.old x }
     {
         let s = self.settings;
-        self.window.push(x);
-        let met = is_met(s.condition, s.scans, s.level, &self.window);
-        let stays = self.on && is_met(s.condition, s.scans, s.reset, &self.window);
+        keep(&s, &mut self.window, &mut self.crossings, x);
+        let met = is_met_by(&s, s.level, &self.window, &self.crossings);
+        let stays = self.on && is_met_by(&s, s.reset, &self.window, &self.crossings);
         self.row = next_row(self.row, s.row, met);
         self.on = self.row >= s.row || stays;
     }
@@ -80,6 +162,7 @@ impl<A: Allocator> Watch<A> {
         ensures { self.new ≡ after_gap self.old }
     {
         self.window.clear();
+        self.crossings.clear();
         self.row = 0;
         self.on = false;
     }

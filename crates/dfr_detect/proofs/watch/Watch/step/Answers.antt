@@ -12,7 +12,7 @@ returns g c =
       | in-Some w ↦
           let x : SFits w64 w.in-Some.x = search rules in
           let made = simp to_z-of_z at w.take_in.ensures in
-          subst (λ s. IsStep c.args.self.now s c.self.inside.on c.match-sample.self) (sym w.in-Some.is) (step_sample _ _ _ _ (w.self-is ∙ made) told)
+          subst (λ s. IsStep c.args.self.now s c.self.inside.on c.match-sample.self) (sym w.in-Some.is) (step_sample _ _ _ _ (w.self-is ∙ made) told (search rules))
       | in-None w ↦
           subst (λ s. IsStep c.args.self.now s c.self.inside.on c.match-sample.self) (sym w.in-None.is) (step_gap _ _ _ (w.self-is ∙ w.start_anew.ensures) told (search rules))
     ]

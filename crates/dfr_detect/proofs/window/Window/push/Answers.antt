@@ -2,7 +2,9 @@ use Rattle.std.proofs.Common.{◌≡◌, ◌∷◌, arith, rules, take, SFits, w
 use Rattle.std.specs.Prelude.{slice_get}
 use Rattle.std.proofs.lemmas.Int.{to_z-of_z}
 use Rattle.circular_buffer.specs.Buffer.{buffer}
-use Rattle.dfr_detect.proofs.Summed.{squares_bounded, square_small, one_leaves, summed_none, summed_one}
+use Rattle.dfr_detect.specs.Windows.{square}
+use Rattle.dfr_detect.proofs.Leaving.{one_leaves}
+use Rattle.dfr_detect.proofs.Summed.{squares_bounded, square_small, summed_none, summed_one}
 use Rattle.dfr_detect.proofs.window.Window.push.Goals as goal
 
 pub overflow_add-self : goal.overflow_add-self
@@ -20,7 +22,7 @@ overflow_sub-self g c =
     let added = simp to_z-of_z at c.square.ensures in
     let left = simp to_z-of_z at c.square-in-Some.ensures in
     let was : slice_get (c.args.x ∷ c.self.inside.ring.items) c.self.inside.ring.capacity ≡ Some c.in-Some.oldest = search rules in
-    let cut = one_leaves c.args.x c.in-Some.oldest _ _ c.self.invariant.few was in
+    let cut = one_leaves square c.args.x c.in-Some.oldest _ _ c.self.invariant.few was in
     omega (arith, added, left, cut, c.self.invariant.summed)
 
 pub invariant_of-self : goal.invariant_of-self
