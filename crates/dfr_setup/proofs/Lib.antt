@@ -1,0 +1,4 @@
+pub mod Zeros
+pub mod Made
+pub mod Moved
+pub mod Prepares

@@ -1,0 +1,6 @@
+pub mod Refusing
+pub mod Quantities
+pub mod Wishes
+pub mod Addends
+pub mod Plans
+pub mod SetupFiles

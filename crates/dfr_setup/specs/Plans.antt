@@ -1,0 +1,151 @@
+-- The detectors that the lines of a set-up ask for.
+use Rattle.std.specs.Prelude.{ℕ, ◌+◌, ◌==◌, Bool, false, not, ◌&&◌, ◌||◌, nat_lt, nat_le, is_some, if◌then◌else◌, List, [], ◌∷◌, ◌++◌, length, map, Option, Result, Ok, Err}
+use Rattle.std.specs.List.{slice_split, list_any}
+use Rattle.std.specs.Str.{bytes_eq}
+use Rattle.comtrade_values.specs.Faults.{◌or◌, fault_unless}
+use Rattle.comtrade_values.specs.Lines.{field}
+use Rattle.comtrade_values.specs.Spelling.{Number, whole_number}
+use Rattle.comtrade_values.specs.Texts.{is_plain}
+use Rattle.dfr_channels.specs.LineFields.{need}
+use Rattle.dfr_channels.specs.Parts.{SetupParts, StatusParts}
+use Rattle.dfr_detect.specs.Detection.{Wanted, wanted}
+use Rattle.dfr_detect.specs.Fitting.{most_level, is_level, has_reset}
+use Rattle.dfr_detect.specs.declared.settings.Condition.{Condition}
+use Rattle.dfr_detect.specs.declared.settings.Condition.TheVariants as condition
+use Rattle.dfr_detect.specs.declared.settings.Settings.{Settings}
+use Rattle.dfr_setup.specs.Addends.{SumParts, no_sum}
+use Rattle.dfr_setup.specs.Addends as addends
+use Rattle.dfr_setup.specs.Quantities.{level_in, reach, window_in}
+use Rattle.dfr_setup.specs.Refusing.{and_then, unless}
+use Rattle.dfr_setup.specs.Wishes.{is_detect, is_go, words, wish}
+use Rattle.dfr_setup.specs.declared.fault.DetectorFault.{DetectorFault}
+use Rattle.dfr_setup.specs.declared.fault.DetectorFault.TheVariants as fault
+use Rattle.dfr_setup.specs.declared.tested.Test.{Test}
+use Rattle.dfr_setup.specs.declared.tested.Test.TheVariants.{RmsOver, RmsUnder, Change, Jump}
+use Rattle.dfr_setup.specs.declared.wish.Wish.{Wish}
+
+-- a detector: the name of its status channel, what it is asked, and its levels in the channels' unit
+pub record PlanParts : Type 0 where
+  pub name : List ℕ
+  pub test : Test
+  pub settings : Settings
+  pub channels : List ℕ
+  pub level : Number
+  pub reset : Number
+
+abbrev pub wanted_of : PlanParts → Wanted
+wanted_of p = wanted p.settings p.channels
+
+-- ---- names
+
+-- a contact has this name, or a detector
+abbrev pub is_contact : List StatusParts → List ℕ → Bool
+is_contact status name = list_any (λ c. bytes_eq c.id name) status
+
+abbrev pub is_detector : List PlanParts → List ℕ → Bool
+is_detector have name = list_any (λ p. bytes_eq p.name name) have
+
+abbrev pub is_taken : List StatusParts → List PlanParts → List ℕ → Bool
+is_taken status have name = is_contact status name || is_detector have name
+
+-- why no further detector may have this name
+abbrev pub name_fault : List StatusParts → List PlanParts → List ℕ → Option DetectorFault
+name_fault status have name =
+    fault_unless (is_plain 1 64 name && not (is_some (whole_number name))) fault.Name
+    or fault_unless (not (is_taken status have name)) fault.Twice
+    or fault_unless (nat_lt (length status + length have) 256) fault.Channels
+
+-- the name of a line's only detector is that of the line; each of several has its channels behind it
+abbrev pub name_of : Bool → List ℕ → List ℕ → List ℕ
+name_of is_only base sum = if is_only then base else base ++ 45 ∷ sum
+
+-- ---- one detector
+
+abbrev pub condition_of : Test → Condition
+condition_of RmsOver = condition.RmsOver
+condition_of RmsUnder = condition.RmsUnder
+condition_of Change = condition.Change
+condition_of Jump = condition.Jump
+
+-- the first fault of settings
+abbrev pub fault_of : Settings → Option DetectorFault
+fault_of s =
+    fault_unless (nat_le 1 s.scans && nat_le s.scans 65_536) fault.Window
+    or fault_unless (is_level (most_level s.condition) s.level) fault.Level
+    or fault_unless (is_level (most_level s.condition) s.reset && has_reset s.condition s.level s.reset) fault.Reset
+    or fault_unless (nat_le 1 s.row) fault.Row
+
+abbrev pub checked : Settings → Result Settings DetectorFault
+checked s = unless (fault_of s) s
+
+abbrev pub needed : {A : Type 0} → Option A → DetectorFault → Result A DetectorFault
+needed value fault = need value fault (λ x. Ok x)
+
+-- what a wish makes of channels with this multiplier, and this greatest size of their sum: levels in samples, and a window in scans
+abbrev pub settings_of : SetupParts → Wish → Option Number → ℕ → Result Settings DetectorFault
+settings_of s w multiplier most =
+    need multiplier fault.Channel (λ a.
+    need (level_in w.test w.level a (reach w.test most)) fault.Level (λ level.
+    need (level_in w.test w.reset a (reach w.test most)) fault.Reset (λ reset.
+    need (window_in w.window s.rate s.line_freq) fault.Window (λ scans.
+    checked (record { condition = condition_of w.test; scans = scans; level = level; reset = reset; row = w.row })))))
+
+-- the sum that a text names, by channels between plus signs
+abbrev pub sum_of : SetupParts → Wish → List ℕ → Result SumParts DetectorFault
+sum_of s w text = addends.with_words s.analog w.test no_sum (slice_split (λ b. b == 43) text)
+
+abbrev pub plan_of : SetupParts → Wish → List ℕ → List ℕ → Result PlanParts DetectorFault
+plan_of s w name text =
+    and_then (sum_of s w text) (λ sum.
+    if length sum.channels == 0 then Err fault.Channel else
+    and_then (settings_of s w sum.a sum.most) (λ settings.
+    Ok (record { name = name; test = w.test; settings = settings; channels = sum.channels; level = w.level; reset = w.reset })))
+
+-- ---- the detectors of a line
+
+-- with one detector more, after those that there are
+abbrev pub with_plan : SetupParts → Wish → List PlanParts → List ℕ → List ℕ → Result (List PlanParts) DetectorFault
+with_plan s w have name text =
+    and_then (unless (name_fault s.status have name) name) (λ free.
+    and_then (plan_of s w free text) (λ plan. Ok (have ++ plan ∷ [])))
+
+-- with one for each of these sums
+abbrev pub with_sums : SetupParts → Wish → Bool → List ℕ → List PlanParts → List (List ℕ) → Result (List PlanParts) DetectorFault
+with_sums s w is_only base have [] = Ok have
+with_sums s w is_only base have (text ∷ texts) =
+    and_then (with_plan s w have (name_of is_only base text) text) (λ more. with_sums s w is_only base more texts)
+
+-- with those that a wish asks for: one for each sum between commas
+abbrev pub with_wish : SetupParts → List PlanParts → List (List ℕ) → Wish → Result (List PlanParts) DetectorFault
+with_wish s have ws w =
+    let sums = slice_split (λ b. b == 44) (field ws (w.at + 2)) in
+    with_sums s w (length sums == 1) (field ws 1) have sums
+
+-- with those of the words of a line
+abbrev pub with_words : SetupParts → List PlanParts → List (List ℕ) → Result (List PlanParts) DetectorFault
+with_words s have ws = and_then (wish ws) (λ w. with_wish s have ws w)
+
+-- with those of a line
+abbrev pub with_line : SetupParts → List PlanParts → List ℕ → Result (List PlanParts) DetectorFault
+with_line s have line = if is_detect line then with_words s have (words line) else Ok have
+
+-- ---- the detectors of a set-up
+
+-- the detectors of lines up to `go`, of which the first is line n; or the first fault and its line
+abbrev pub at_line : {A : Type 0} → ℕ → Result A DetectorFault → Result A (ℕ × DetectorFault)
+at_line n (Ok x) = Ok x
+at_line n (Err f) = Err (n, f)
+
+abbrev pub with_lines : SetupParts → ℕ → List PlanParts → List (List ℕ) → Result (List PlanParts) (ℕ × DetectorFault)
+with_lines s n have [] = Ok have
+with_lines s n have (line ∷ lines) =
+    if is_go line then Ok have
+    else and_then (at_line n (with_line s have line)) (λ more. with_lines s (n + 1) more lines)
+
+-- the status channel of a detector
+abbrev pub status_of : PlanParts → StatusParts
+status_of p = record { id = p.name; phase = []; component = []; normal = false }
+
+-- a set-up with the status channels of its detectors behind the contacts
+abbrev pub with_channels : SetupParts → List PlanParts → SetupParts
+with_channels s plans = record s { status = s.status ++ map status_of plans }

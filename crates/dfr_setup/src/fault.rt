@@ -1,0 +1,93 @@
+//! Why a detector is refused.
+
+ghost use Rattle.std.specs.Prelude.{◌≡◌};
+ghost use Rattle.dfr_setup.specs.declared.fault.DetectorRefusal.TheVariants as refusal;
+
+use comtrade_values::Memory;
+use std::alloc::{AllocError, AllocFailed};
+use thiserror::Error;
+
+/// What is wrong with a `detect` line, or with a detector of it.
+#[derive(Clone, Copy, Debug, PartialEq, Eq, Error)]
+pub enum DetectorFault {
+    /// The words are not those of a detector.
+    #[error("detect expects: NAME KIND LEVEL of CHANNELS [for N] [reset LEVEL] [window N]")]
+    Words,
+    /// A number can't be read.
+    #[error("a number of the detector cannot be read")]
+    Number,
+    /// The name can't be that of a status channel, or is a number.
+    #[error("the detector's name is a number, or has over 64 characters or a comma")]
+    Name,
+    /// Another status channel has this name.
+    #[error("another status channel has the detector's name")]
+    Twice,
+    /// There are 256 status channels already.
+    #[error("more than 256 status channels, with the detectors")]
+    Channels,
+    /// No analogue channel has this number or id.
+    #[error("an unknown analogue channel")]
+    Channel,
+    /// The rms value of a channel with an offset.
+    #[error("an rms value of a channel with an offset")]
+    Offset,
+    /// The channels of a sum have different multipliers.
+    #[error("a sum of channels with unequal multipliers")]
+    Unequal,
+    /// A sum of more than 256 channels.
+    #[error("a sum of more than 256 channels")]
+    Wide,
+    /// The level is below one sample, or beyond what samples can reach.
+    #[error("the level is below one sample, or beyond what the samples can reach")]
+    Level,
+    /// The reset level is, or lies on the wrong side of the level.
+    #[error("the reset level is below one sample, beyond the samples, or beyond the level")]
+    Reset,
+    /// The window is not 1 to 65,536 scans.
+    #[error("the window is not 1 to 65536 scans")]
+    Window,
+    /// The level has to be met for no scan.
+    #[error("the level has to be met for at least 1 scan")]
+    Row,
+}
+
+/// Why a detector was not made.
+#[derive(Clone, Copy, Debug, PartialEq, Eq)]
+pub enum DetectorRefusal {
+    /// What is wrong with it.
+    Fault(DetectorFault),
+    /// An allocation failed.
+    Memory,
+}
+
+impl From<DetectorFault> for DetectorRefusal {
+    ghost from_gives = { λ fault e. e ≡ refusal.Fault fault };
+
+    fn from(fault: DetectorFault) -> DetectorRefusal {
+        DetectorRefusal::Fault(fault)
+    }
+}
+
+impl From<Memory> for DetectorRefusal {
+    ghost from_gives = { λ _ e. e ≡ refusal.Memory };
+
+    fn from(_error: Memory) -> DetectorRefusal {
+        DetectorRefusal::Memory
+    }
+}
+
+impl From<AllocError> for DetectorRefusal {
+    ghost from_gives = { λ _ e. e ≡ refusal.Memory };
+
+    fn from(_error: AllocError) -> DetectorRefusal {
+        DetectorRefusal::Memory
+    }
+}
+
+impl<T: Drop> From<AllocFailed<T>> for DetectorRefusal {
+    ghost from_gives = { λ _ e. e ≡ refusal.Memory };
+
+    fn from(_error: AllocFailed<T>) -> DetectorRefusal {
+        DetectorRefusal::Memory
+    }
+}

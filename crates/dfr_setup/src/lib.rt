@@ -1,0 +1,21 @@
+//! The set-up of a station: the lines of a script up to `go`, and lines `detect`, each of which
+//! makes a status channel that a detector computes.
+#![tactic(auto)]
+
+mod addend;
+mod fault;
+mod line;
+mod plan;
+mod plans;
+mod prepared;
+mod quantity;
+mod refusal;
+mod tested;
+mod text;
+mod wish;
+
+pub use fault::{DetectorFault, DetectorRefusal};
+pub use plan::Plan;
+pub use prepared::{Prepared, prepared_of};
+pub use refusal::SetupRefusal;
+pub use tested::Test;

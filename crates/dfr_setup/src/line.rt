@@ -1,0 +1,91 @@
+//! The words of a line.
+
+ghost use Rattle.std.specs.Prelude.{◌≡◌, IfOk, position};
+ghost use Rattle.std.specs.Str.{bytes_eq};
+ghost use Rattle.comtrade_values.specs.Lines.{texts, field};
+ghost use Rattle.comtrade_values.specs.Spelling as spelling;
+ghost use Rattle.dfr_setup.specs.Wishes as spec;
+
+use comtrade_values::integer_of;
+use std::alloc::{AllocError, Allocator};
+
+/// Whether the byte is a space or a tab.
+pub(crate) fn is_blank(b: u8) -> bool
+    ensures { result ≡ spelling.is_blank b }
+{
+    b == b' ' || b == b'\t'
+}
+
+fn word_end(line: &[u8]) -> Option<usize>
+    ensures { result ≡ position spelling.is_blank line.now }
+{
+    line.iter().position(|b| is_blank(*b))
+}
+
+/// The text before the first blank.
+#[tactic(auto, using(comtrade_values::proofs::Cuts::cuts))]
+fn first_word(line: &[u8]) -> &[u8]
+    ensures { result.now ≡ spec.first_word line.now }
+{
+    match word_end(line) {
+        Some(end) => &line[..end],
+        None => line,
+    }
+}
+
+/// Whether the word is exactly this text.
+pub(crate) fn is_word(word: &[u8], text: &str) -> bool
+    ensures { result ≡ bytes_eq word.now text.now }
+{
+    word == text.as_bytes()
+}
+
+/// Whether the line asks for detectors.
+pub(crate) fn is_detect(line: &[u8]) -> bool
+    ensures { result ≡ spec.is_detect line.now }
+{
+    is_word(first_word(line), "detect")
+}
+
+/// Whether the set-up ends at the line.
+pub(crate) fn is_go(line: &[u8]) -> bool
+    ensures { result ≡ spec.is_go line.now }
+{
+    is_word(first_word(line), "go")
+}
+
+/// The words of the line, separated by blanks.
+pub(crate) fn words_of<'a, A: Allocator>(
+    alloc: A,
+    line: &'a [u8],
+) -> Result<Vec<&'a [u8], A>, AllocError>
+    ensures { IfOk result (λ v. texts v.items ≡ spec.words line.now) }
+{
+    line.split(|b| is_blank(*b))
+        .filter(|word| !word.is_empty())
+        .collect(alloc)
+}
+
+/// Word `i`, from 0; empty if there is none.
+pub(crate) fn word_at<'a>(words: &[&'a [u8]], i: usize) -> &'a [u8]
+    ensures { result.now ≡ field (texts words.now) i }
+{
+    if i < words.len() { words[i] } else { &[] }
+}
+
+/// Whether word `i`, from 0, is this text.
+pub(crate) fn says(words: &[&[u8]], i: usize, text: &str) -> bool
+    ensures { result ≡ spec.says (texts words.now) i text.now }
+{
+    is_word(word_at(words, i), text)
+}
+
+/// Reads a whole number that fits a u32; None otherwise.
+pub(crate) fn natural_of(text: &[u8]) -> Option<u32>
+    ensures { result ≡ spec.natural text.now }
+{
+    match integer_of(text) {
+        Some(n) if 0 <= n && n <= u32::MAX as i128 => Some(n as u32),
+        _ => None,
+    }
+}
