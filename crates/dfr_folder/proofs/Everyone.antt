@@ -1,6 +1,6 @@
 -- Recovery of all keys, one after the other.
-use Rattle.std.proofs.Common.{◌≡◌, ◌⊎◌, ℕ, List, [], ◌∷◌, ◌++◌, length, arith, Option, Some, None, refl, sym, ◌∙◌, ap, subst, inl, inr, ⊎_elim}
-use Rattle.std.specs.Prelude.{Contains}
+use Rattle.std.proofs.Common.{◌≡◌, ◌⊎◌, ℕ, true, false, List, [], ◌∷◌, ◌++◌, length, arith, Option, Some, None, refl, sym, ◌∙◌, ap, subst, inl, inr}
+use Rattle.std.specs.Prelude.{Contains, is_some}
 use Rattle.std.proofs.lemmas.Bool.{cases_eq}
 use Rattle.std.proofs.lemmas.List.Elements.{Contains-push_cases}
 use Rattle.dfr_folder.specs.declared.name.Ending.{Ending}
@@ -8,8 +8,8 @@ use Rattle.dfr_folder.specs.declared.name.Ending.TheVariants as ending
 use Rattle.dfr_folder.specs.declared.name.Key.{Key}
 use Rattle.dfr_folder.specs.declared.name.Name.{Name}
 use Rattle.dfr_folder.specs.Directory.{Content, File}
-use Rattle.dfr_folder.specs.Pairs.{Files, name, under, bytes_of, synced, found, recovered_of, recovered, seen, Beside, IsAtRest, IsMending, AllMend, kept}
-use Rattle.dfr_folder.proofs.Mends.{same_mends, same_recovered, same_found, mends_on}
+use Rattle.dfr_folder.specs.Pairs.{Files, name, under, bytes_of, synced, found_of, tidied_of, only, tidied, is_leftover, seen, Beside, IsAtRest, IsMending, AllMend, MendsOne}
+use Rattle.dfr_folder.proofs.Mends.{same_mends, same_recovered, same_found, same_tidied, mends_on, clean}
 
 pub same_key : (a b : Key) → (a ≡ b) ⊎ (a ≡ b → ⊥)
 same_key a b = elim (cases_eq a.date b.date) [
@@ -29,67 +29,49 @@ same_key a b = elim (cases_eq a.date b.date) [
   ]
 ]
 
--- what recovery made stays so
-kept_of : (x : List ℕ) (o : Option (List ℕ)) → recovered_of (Some x) o None None None ≡ Some (x, o)
-kept_of x (Some y) = refl
-kept_of x None = refl
+-- what recovery leaves stays so
+again : (cfg dat : Option (List ℕ)) → tidied_of cfg dat None None None ≡ (cfg, dat)
+again (Some x) (Some y) = refl
+again (Some x) None = refl
+again None (Some y) = refl
+again None None = refl
 
-kept_recovered : (p : Option (List ℕ × Option (List ℕ))) → recovered (kept p) ≡ p
-kept_recovered None = refl
-kept_recovered (Some p) = kept_of p.0 p.1
+pub tidied_again : (h f : Files) → ((e : Ending) → f e ≡ tidied h e) → (e : Ending) → tidied f e ≡ tidied h e
+tidied_again h f is e = same_tidied (tidied h) f is e ∙ ap (λ (b : Option (List ℕ) × Option (List ℕ)). only b e) (again (tidied h ending.Config) (tidied h ending.Data))
 
-kept_found : (p : Option (List ℕ × Option (List ℕ))) → found (kept p) ≡ p
-kept_found None = refl
-kept_found (Some p) = refl
-
-pub kept_mends : (h f : Files) → ((e : Ending) → f e ≡ kept (recovered h) e) → IsMending h f
-kept_mends h f is = record {
-  mended = same_recovered (kept (recovered h)) f is ∙ kept_recovered (recovered h);
-  shown = inr (same_found (kept (recovered h)) f is ∙ kept_found (recovered h));
+pub tidied_mends : (h f : Files) → ((e : Ending) → f e ≡ tidied h e) → IsMending h f
+tidied_mends h f is = record {
+  mended = same_recovered (tidied h) f is ∙ ap (λ (b : Option (List ℕ) × Option (List ℕ)). found_of b.0 b.1) (again (tidied h ending.Config) (tidied h ending.Data));
+  shown = inr (same_found (tidied h) f is);
 }
 
 none_or_not : (o : Option File) → (o ≡ None) ⊎ (o ≡ None → ⊥)
 none_or_not None = inl refl
 none_or_not (Some file) = inr (λ e. absurd (cc))
 
-all_none : (s : Ending → Option File) → s ending.Config ≡ None → s ending.Data ≡ None → s ending.ConfigPart ≡ None → s ending.DataPart ≡ None → s ending.Gone ≡ None → (e : Ending) → s e ≡ None
-all_none s a b c d g ending.Config = a
-all_none s a b c d g ending.Data = b
-all_none s a b c d g ending.ConfigPart = c
-all_none s a b c d g ending.DataPart = d
-all_none s a b c d g ending.Gone = g
-
-some_or_none : {A : Type 0} (s : Ending → Option File) → ((e : Ending) → (s e ≡ None → ⊥) → A) → A ⊎ ((e : Ending) → s e ≡ None)
-some_or_none s some = elim (none_or_not (s ending.Config)) [
-  | inr not ↦ inl (some ending.Config not)
-  | inl a ↦ elim (none_or_not (s ending.Data)) [
-    | inr not ↦ inl (some ending.Data not)
-    | inl b ↦ elim (none_or_not (s ending.ConfigPart)) [
-      | inr not ↦ inl (some ending.ConfigPart not)
-      | inl c ↦ elim (none_or_not (s ending.DataPart)) [
-        | inr not ↦ inl (some ending.DataPart not)
-        | inl d ↦ elim (none_or_not (s ending.Gone)) [ inr not ↦ inl (some ending.Gone not) | inl g ↦ inr (all_none s a b c d g) ]
-      ]
-    ]
-  ]
-]
-
-none_kept : (e : Ending) → kept None e ≡ None
-none_kept e = refl
+no_bytes : (o : Option File) → o ≡ None → is_some (bytes_of o) ≡ false
+no_bytes None none = refl
+no_bytes (Some file) none = absurd (cc)
 
 module _ {D : Type 0} (files : D → Name → Option File) (may_leave : D → Content → Type 0) (old : D) where
   -- the key is as recovery is to make it
   abbrev pub IsDone : D → Key → Type 0
-  IsDone new key = (end : Ending) → seen files new key end ≡ kept (recovered (seen files old key)) end
+  IsDone new key = (end : Ending) → seen files new key end ≡ tidied (seen files old key) end
 
-  -- Each key with a file is listed.
-  pub listed : (mid : D) (keys : List Key) → ((n : Name) → files mid n ≡ files old n) → ((n : Name) → (files old n ≡ None → ⊥) → Contains keys n.key) → (key : Key) → Contains keys key ⊎ IsDone mid key
-  listed mid keys same list key = ⊎_elim (λ (is : Contains keys key). inl is)
-      (λ none.
-      let nothing : (e : Ending) → seen files old key e ≡ None = λ e. ap bytes_of (none e) in
-      let made : recovered (seen files old key) ≡ None = same_recovered (λ e. None) (seen files old key) nothing in
-      inr (λ e. ap bytes_of (same (name key e)) ∙ nothing e ∙ sym (ap (λ (o : Option (List ℕ × Option (List ℕ))). kept o e) made)))
-      (some_or_none (λ e. files old (name key e)) (λ e not. list (name key e) not))
+  -- Each key with a leftover is listed.
+  pub listed : (mid : D) (keys : List Key) → ((n : Name) → files mid n ≡ files old n) → ((n : Name) → is_leftover n.ending ≡ true → (files old n ≡ None → ⊥) → Contains keys n.key)
+      → (key : Key) → Contains keys key ⊎ IsDone mid key
+  listed mid keys same list key = elim (none_or_not (files old (name key ending.ConfigPart))) [
+    | inr not ↦ inl (list (name key ending.ConfigPart) refl not)
+    | inl cfg ↦ elim (none_or_not (files old (name key ending.DataPart))) [
+      | inr not ↦ inl (list (name key ending.DataPart) refl not)
+      | inl dat ↦ elim (none_or_not (files old (name key ending.Gone))) [
+        | inr not ↦ inl (list (name key ending.Gone) refl not)
+        | inl gone ↦ inr (λ e. ap bytes_of (same (name key e)) ∙ clean (seen files old key) (no_bytes (files old (name key ending.ConfigPart)) cfg)
+            (no_bytes (files old (name key ending.DataPart)) dat) (no_bytes (files old (name key ending.Gone)) gone) e)
+      ]
+    ]
+  ]
 
   -- after one key more
   pub all_mend : (mid : D) (key : Key) → ((k : Key) → IsAtRest files may_leave mid k) → ((k : Key) → IsMending (seen files old k) (seen files mid k))
@@ -113,26 +95,45 @@ module _ {D : Type 0} (files : D → Name → Option File) (may_leave : D → Co
   ]
 
   pub all_made : (mid new : D) (key : Key) → ((k : Key) → IsMending (seen files old k) (seen files mid k)) → ((n : Name) → (n.key ≡ key → ⊥) → files new n ≡ files mid n)
-      → ((e : Ending) → seen files new key e ≡ kept (recovered (seen files mid key)) e) → (k : Key) → IsMending (seen files old k) (seen files new k)
+      → ((e : Ending) → seen files new key e ≡ tidied (seen files mid key) e) → (k : Key) → IsMending (seen files old k) (seen files new k)
   all_made mid new key mends same made k = elim (same_key k key) [
     | inl is ↦ subst (λ (x : Key). IsMending (seen files old x) (seen files new x)) (sym is)
-        (mends_on (seen files old key) (seen files mid key) (seen files new key) (mends key) (kept_mends (seen files mid key) (seen files new key) made))
+        (mends_on (seen files old key) (seen files mid key) (seen files new key) (mends key) (tidied_mends (seen files mid key) (seen files new key) made))
     | inr differ ↦ mends_on (seen files old k) (seen files mid k) (seen files new k) (mends k)
         (same_mends (seen files mid k) (seen files new k) (λ e. ap bytes_of (same (name k e) differ)))
   ]
 
-  here_done : (mid new : D) (key : Key) → ((k : Key) → IsMending (seen files old k) (seen files mid k)) → ((e : Ending) → seen files new key e ≡ kept (recovered (seen files mid key)) e) → IsDone new key
-  here_done mid new key mends made e = made e ∙ ap (λ (o : Option (List ℕ × Option (List ℕ))). kept o e) (mends key).mended
+  pub all_same : (mid new : D) (key : Key) → ((k : Key) (e : Ending) → tidied (seen files mid k) e ≡ tidied (seen files old k) e) → ((n : Name) → (n.key ≡ key → ⊥) → files new n ≡ files mid n)
+      → ((e : Ending) → seen files new key e ≡ tidied (seen files mid key) e) → (k : Key) (e : Ending) → tidied (seen files new k) e ≡ tidied (seen files old k) e
+  all_same mid new key alike same made k e = elim (same_key k key) [
+    | inl is ↦ subst (λ (x : Key). tidied (seen files new x) e ≡ tidied (seen files old x) e) (sym is) (tidied_again (seen files mid key) (seen files new key) made e ∙ alike key e)
+    | inr differ ↦ same_tidied (seen files mid k) (seen files new k) (λ end. ap bytes_of (same (name k end) differ)) e ∙ alike k e
+  ]
 
-  pub all_done : (mid new : D) (key : Key) (keys : List Key) → ((k : Key) → IsMending (seen files old k) (seen files mid k)) → ((n : Name) → (n.key ≡ key → ⊥) → files new n ≡ files mid n)
-      → ((e : Ending) → seen files new key e ≡ kept (recovered (seen files mid key)) e) → ((k : Key) → Contains (keys ++ key ∷ []) k ⊎ IsDone mid k) → (k : Key) → Contains keys k ⊎ IsDone new k
-  all_done mid new key keys mends same made todo k = elim (same_key k key) [
-    | inl is ↦ inr (subst (λ (x : Key). IsDone new x) (sym is) (here_done mid new key mends made))
+  pub all_done : (mid new : D) (key : Key) (keys : List Key) → ((k : Key) (e : Ending) → tidied (seen files mid k) e ≡ tidied (seen files old k) e)
+      → ((n : Name) → (n.key ≡ key → ⊥) → files new n ≡ files mid n)
+      → ((e : Ending) → seen files new key e ≡ tidied (seen files mid key) e) → ((k : Key) → Contains (keys ++ key ∷ []) k ⊎ IsDone mid k) → (k : Key) → Contains keys k ⊎ IsDone new k
+  all_done mid new key keys alike same made todo k = elim (same_key k key) [
+    | inl is ↦ inr (subst (λ (x : Key). IsDone new x) (sym is) (λ e. made e ∙ alike key e))
     | inr differ ↦ elim (todo k) [
       | inr was ↦ inr (λ e. ap bytes_of (same (name k e) differ) ∙ was e)
       | inl contains ↦ elim (Contains-push_cases keys key k contains) [ inl rest ↦ inl rest | inr is ↦ absurd (differ (sym is)) ]
     ]
   ]
+
+  -- what a crash leaves comes from what it might have left before
+  pub mends_one : (mid : D) (key : Key) → IsAtRest files may_leave mid key → ((c : Content) → may_leave mid c → MendsOne may_leave old c) → (c : Content) → Beside may_leave mid key (IsMending (seen files mid key)) c
+      → MendsOne may_leave old c
+  mends_one mid key rests from c b =
+      let one = from b.before b.left in (
+        one.0,
+        one.1,
+        λ k. elim (same_key k key) [
+          | inl is ↦ subst (λ (x : Key). IsMending (under one.0 x) (under c x)) (sym is) (mends_on (under one.0 key) (under b.before key) (under c key) (one.2 key)
+              (mends_on (under b.before key) (seen files mid key) (under c key) (same_mends (under b.before key) (seen files mid key) (λ e. sym (rests.left b.before b.left e))) b.there))
+          | inr differ ↦ mends_on (under one.0 k) (under b.before k) (under c k) (one.2 k) (same_mends (under b.before k) (under c k) (λ e. b.elsewhere (name k e) differ))
+        ],
+      )
 
 pub none_contained : (keys : List Key) (key : Key) → length keys ≡ 0 → Contains keys key → ⊥
 none_contained keys key none has = omega (arith, has.1)
@@ -142,6 +143,6 @@ pub all_from : {D : Type 0} (files : D → Name → Option File) (old mid : D) �
 all_from files old mid same c mends k = mends_on (seen files old k) (seen files mid k) (under c k) (same_mends (seen files old k) (seen files mid k) (λ e. ap bytes_of (same (name k e)))) (mends k)
 
 pub clean_from : {D : Type 0} (files : D → Name → Option File) (old mid new : D) → ((n : Name) → files mid n ≡ files old n)
-    → ((key : Key) (end : Ending) → seen files new key end ≡ kept (recovered (seen files mid key)) end) → (key : Key) (end : Ending) → seen files new key end ≡ kept (recovered (seen files old key)) end
+    → ((key : Key) (end : Ending) → seen files new key end ≡ tidied (seen files mid key) end) → (key : Key) (end : Ending) → seen files new key end ≡ tidied (seen files old key) end
 clean_from files old mid new same clean key end =
-    clean key end ∙ ap (λ (o : Option (List ℕ × Option (List ℕ))). kept o end) (same_recovered (seen files old key) (seen files mid key) (λ e. ap bytes_of (same (name key e))))
+    clean key end ∙ same_tidied (seen files old key) (seen files mid key) (λ e. ap bytes_of (same (name key e))) end

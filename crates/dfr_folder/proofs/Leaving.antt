@@ -1,12 +1,11 @@
 -- What a crash leaves of the files of a pair that is given up.
-use Rattle.std.proofs.Common.{◌≡◌, ◌⊎◌, ℕ, Bool, List, Option, Some, None, refl, ◌∙◌, ap, inl, inr, ⊎_elim}
+use Rattle.std.proofs.Common.{◌≡◌, ◌⊎◌, ℕ, Bool, List, Option, Some, None, refl, sym, ◌∙◌, ap, inl, inr}
 use Rattle.dfr_folder.specs.declared.name.Ending.{Ending}
 use Rattle.dfr_folder.specs.declared.name.Ending.TheVariants as ending
 use Rattle.dfr_folder.specs.declared.name.Key.{Key}
 use Rattle.dfr_folder.specs.declared.name.Name.{Name}
-use Rattle.dfr_folder.specs.Directory.{Content, File, Moved, LeavesOnly}
+use Rattle.dfr_folder.specs.Directory.{Content, File, Moved, Follows}
 use Rattle.dfr_folder.specs.Pairs.{Files, name, synced, bytes_of, found_of, found, recovered_of, recovered, seen, Beside, Rests, IsAtRest, IsNoneOr, IsTidy, kept}
-use Rattle.dfr_folder.proofs.Moments.{weaker}
 use Rattle.dfr_folder.proofs.Beside.{Renamed, implied, renamed}
 use Rattle.dfr_folder.proofs.Mends.{same_recovered, same_found}
 use Rattle.dfr_folder.proofs.Rest.{rest_leaves}
@@ -19,7 +18,7 @@ after_gone h ending.ConfigPart = h ending.ConfigPart
 after_gone h ending.DataPart = h ending.DataPart
 after_gone h ending.Gone = h ending.Config
 
-renamed_gone : (h f : Files) → Renamed ending.Config ending.Gone (λ g. (e : Ending) → g e ≡ h e) f → (e : Ending) → f e ≡ after_gone h e
+pub renamed_gone : (h f : Files) → Renamed ending.Config ending.Gone (λ g. (e : Ending) → g e ≡ h e) f → (e : Ending) → f e ≡ after_gone h e
 renamed_gone h f r ending.Config = r.3
 renamed_gone h f r ending.Data = r.4 ending.Data (λ e. absurd (cc)) (λ e. absurd (cc)) ∙ r.1 ending.Data
 renamed_gone h f r ending.ConfigPart = r.4 ending.ConfigPart (λ e. absurd (cc)) (λ e. absurd (cc)) ∙ r.1 ending.ConfigPart
@@ -67,8 +66,16 @@ module _ (h : Files) (tidy : IsTidy h) where
   }
 
   -- without its configuration file
-  nothing_left : (f : Files) → f ending.Config ≡ None → f ending.ConfigPart ≡ None → f ending.DataPart ≡ None → (found f ≡ None) × (recovered f ≡ None)
+  pub nothing_left : (f : Files) → f ending.Config ≡ None → f ending.ConfigPart ≡ None → f ending.DataPart ≡ None → (found f ≡ None) × (recovered f ≡ None)
   nothing_left f config cfg_part dat_part = (rw config refl, rw (config, cfg_part, dat_part) (none_without (f ending.Data) (f ending.Gone)))
+
+  -- the file has its name back
+  pub is_back : (f : Files) → Renamed ending.Gone ending.Config (λ g. (e : Ending) → g e ≡ after_gone h e) f → (e : Ending) → f e ≡ h e
+  is_back f r ending.Config = r.2 ∙ r.1 ending.Gone
+  is_back f r ending.Data = r.4 ending.Data (λ e. absurd (cc)) (λ e. absurd (cc)) ∙ r.1 ending.Data
+  is_back f r ending.ConfigPart = r.4 ending.ConfigPart (λ e. absurd (cc)) (λ e. absurd (cc)) ∙ r.1 ending.ConfigPart
+  is_back f r ending.DataPart = r.4 ending.DataPart (λ e. absurd (cc)) (λ e. absurd (cc)) ∙ r.1 ending.DataPart
+  is_back f r ending.Gone = r.3 ∙ sym no_gone
 
   pub leaving : (f : Files) → Renamed ending.Config ending.Gone (λ g. (e : Ending) → g e ≡ h e) f → IsNoneOr (found h) f
   leaving f r =
@@ -85,12 +92,38 @@ module _ (h : Files) (tidy : IsTidy h) where
   removing_is f thin = record { shown = inl (removing f thin).0; mended = inl (removing f thin).1 }
 
 module _ {D : Type 0} (files : D → Name → Option File) (may_leave : D → Content → Type 0) (key : Key) where
-  pub losing_name : (left_since : D → D → Content → Type 0) (old new : D) → IsAtRest files may_leave old key → IsTidy (seen files old key)
-      → LeavesOnly may_leave left_since old new (λ c. may_leave old c ⊎ ((d : Content) × may_leave old d × Moved (name key ending.Config) (name key ending.Gone) d c))
-      → LeavesOnly may_leave left_since old new (Beside may_leave old key (IsNoneOr (found (seen files old key))))
-  losing_name left_since old new r tidy moments = weaker may_leave left_since old new _ _ moments
-      (λ c settles. ⊎_elim (λ (left : may_leave old c). implied files may_leave key old _ _ (still (seen files old key) tidy) c (rest_leaves files may_leave key old r c left))
-      (λ moved. implied files may_leave key old _ _ (leaving (seen files old key) tidy) c (renamed files may_leave key old old _ ending.Config ending.Gone (rest_leaves files may_leave key old r) c moved)) settles)
+  -- while the configuration file loses its name: it has it, or not
+  abbrev pub IsLosing : Files → Files → Type 0
+  IsLosing h f = ((e : Ending) → f e ≡ h e) ⊎ Renamed ending.Config ending.Gone (λ g. (e : Ending) → g e ≡ h e) f
+
+  pub losing : (old new : D) → IsAtRest files may_leave old key → Follows (Moved (name key ending.Config) (name key ending.Gone)) (may_leave old) (may_leave new)
+      → (c : Content) → may_leave new c → Beside may_leave old key (IsLosing (seen files old key)) c
+  losing old new r crash c left = elim (crash c left) [
+    | inl was ↦ implied files may_leave key old _ (IsLosing (seen files old key)) (λ f is. inl is) c (rest_leaves files may_leave key old r c was)
+    | inr moved ↦ implied files may_leave key old _ (IsLosing (seen files old key)) (λ f is. inr is) c (renamed files may_leave key old old _ ending.Config ending.Gone (rest_leaves files may_leave key old r) c moved)
+  ]
+
+  pub losing_is : (h : Files) → IsTidy h → (f : Files) → IsLosing h f → IsNoneOr (found h) f
+  losing_is h tidy f (inl is) = still h tidy f is
+  losing_is h tidy f (inr r) = leaving h tidy f r
+
+  -- and while it gets it back
+  pub back_is : (h : Files) → IsTidy h → (f : Files) → Renamed ending.Gone ending.Config (IsLosing h) f → IsNoneOr (found h) f
+  back_is h tidy f r = elim r.1 [
+    | inl is ↦
+        let none = nothing_left h tidy f (r.2 ∙ is ending.Gone ∙ no_gone h tidy) (r.4 ending.ConfigPart (λ e. absurd (cc)) (λ e. absurd (cc)) ∙ is ending.ConfigPart ∙ no_cfg_part h tidy)
+        (r.4 ending.DataPart (λ e. absurd (cc)) (λ e. absurd (cc)) ∙ is ending.DataPart ∙ no_dat_part h tidy) in
+        record { shown = inl none.0; mended = inl none.1 }
+    | inr was ↦ still h tidy f (is_back h tidy f (r.0, renamed_gone h r.0 was, r.2, r.3, r.4))
+  ]
+
+  pub giving_back : (old mid new : D) (P : Files → Type 0) → ((c : Content) → may_leave mid c → Beside may_leave old key P c) → ((f : Files) → Renamed ending.Gone ending.Config P f → IsNoneOr (found (seen files old key)) f)
+      → ((f : Files) → P f → IsNoneOr (found (seen files old key)) f) → Follows (Moved (name key ending.Gone) (name key ending.Config)) (may_leave mid) (may_leave new)
+      → (c : Content) → may_leave new c → Beside may_leave old key (IsNoneOr (found (seen files old key))) c
+  giving_back old mid new P so_far back is crash c left = elim (crash c left) [
+    | inl was ↦ implied files may_leave key old _ _ is c (so_far c was)
+    | inr moved ↦ implied files may_leave key old _ _ back c (renamed files may_leave key old mid P ending.Gone ending.Config so_far c moved)
+  ]
 
   -- with files that every crash leaves
   pub thin_from : (S : Ending → Bool) (old new : D) (P : Files → Type 0) (have : Files) → ((c : Content) → may_leave new c → Beside may_leave old key P c) → Rests files may_leave new key have
@@ -98,6 +131,12 @@ module _ {D : Type 0} (files : D → Name → Option File) (may_leave : D → Co
   thin_from S old new P have so_far rests c left =
       let b = so_far c left in
       record { before = b.before; left = b.left; elsewhere = b.elsewhere; there = λ e. inl (rests.left c left e) }
+
+  pub exact_from : (old new : D) (P : Files → Type 0) (have : Files) → ((c : Content) → may_leave new c → Beside may_leave old key P c) → Rests files may_leave new key have
+      → (c : Content) → may_leave new c → Beside may_leave old key (λ f. (e : Ending) → f e ≡ have e) c
+  exact_from old new P have so_far rests c left =
+      let b = so_far c left in
+      record { before = b.before; left = b.left; elsewhere = b.elsewhere; there = λ e. rests.left c left e }
 
 -- what is seen in the end
 pub see_nothing : (h : Files) → IsTidy h → (s1 s2 s3 : Ending → Option File) → ((e : Ending) → s1 e ≡ synced (after_gone h e)) → ((e : Ending) → (e ≡ ending.Data → ⊥) → s2 e ≡ s1 e) → s2 ending.Data ≡ None

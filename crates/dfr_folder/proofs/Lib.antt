@@ -1,3 +1,7 @@
+mod SeenLemmas
+mod RecordedLemmas
+mod Looking
+mod Among
 mod Moments
 mod Beside
 mod Named
@@ -10,3 +14,4 @@ mod Everyone
 mod Oldest
 mod Keeping
 mod Whole
+mod Dropping

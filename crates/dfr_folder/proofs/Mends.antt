@@ -1,9 +1,9 @@
 -- What recovery makes of the files of one key, before and after each of its steps.
-use Rattle.std.proofs.Common.{◌≡◌, ℕ, true, false, List, Option, Some, None, refl, ◌∙◌, inl, inr}
+use Rattle.std.proofs.Common.{◌≡◌, ℕ, true, false, List, Option, Some, None, refl, ◌∙◌, ap, inl, inr}
 use Rattle.std.specs.Prelude.{is_some}
 use Rattle.dfr_folder.specs.declared.name.Ending.{Ending}
 use Rattle.dfr_folder.specs.declared.name.Ending.TheVariants as ending
-use Rattle.dfr_folder.specs.Pairs.{Files, found_of, found, recovered_of, recovered, IsMending, kept}
+use Rattle.dfr_folder.specs.Pairs.{Files, found_of, found, tidied_of, only, tidied, recovered_of, recovered, IsMending}
 
 pub same_recovered : (h f : Files) → ((e : Ending) → f e ≡ h e) → recovered f ≡ recovered h
 same_recovered h f same = rw (same ending.Config, same ending.Data, same ending.Gone, same ending.ConfigPart, same ending.DataPart) refl
@@ -82,22 +82,48 @@ pub nothing_mends : (h : Files) → (is_some (h ending.Config) ≡ true → is_s
 nothing_mends h p q = nothing_of (h ending.Config) (h ending.Data) (h ending.Gone) (h ending.ConfigPart) (h ending.DataPart) p q
 
 -- there is no leftover
-clean_of : (cfg dat leaving cfg_part dat_part : Option (List ℕ)) → is_some cfg_part ≡ false → is_some dat_part ≡ false → is_some leaving ≡ false → (is_some cfg ≡ false → is_some dat ≡ false)
-    → (cfg ≡ kept (recovered_of cfg dat leaving cfg_part dat_part) ending.Config) × (dat ≡ kept (recovered_of cfg dat leaving cfg_part dat_part) ending.Data)
-    × (cfg_part ≡ kept (recovered_of cfg dat leaving cfg_part dat_part) ending.ConfigPart) × (dat_part ≡ kept (recovered_of cfg dat leaving cfg_part dat_part) ending.DataPart)
-    × (leaving ≡ kept (recovered_of cfg dat leaving cfg_part dat_part) ending.Gone)
-clean_of cfg dat leaving (Some x) dat_part p q r s = absurd (cc)
-clean_of cfg dat leaving None (Some y) p q r s = absurd (cc)
-clean_of cfg dat (Some z) None None p q r s = absurd (cc)
-clean_of (Some x) (Some y) None None None p q r s = (refl, refl, refl, refl, refl)
-clean_of (Some x) None None None None p q r s = (refl, refl, refl, refl, refl)
-clean_of None None None None None p q r s = (refl, refl, refl, refl, refl)
-clean_of None (Some y) None None None p q r s = let no = s refl in absurd (cc)
+clean_of : (cfg dat leaving cfg_part dat_part : Option (List ℕ)) → is_some cfg_part ≡ false → is_some dat_part ≡ false → is_some leaving ≡ false
+    → (cfg ≡ (tidied_of cfg dat leaving cfg_part dat_part).0) × (dat ≡ (tidied_of cfg dat leaving cfg_part dat_part).1) × (cfg_part ≡ None) × (dat_part ≡ None) × (leaving ≡ None)
+clean_of cfg dat leaving (Some x) dat_part p q r = absurd (cc)
+clean_of cfg dat leaving None (Some y) p q r = absurd (cc)
+clean_of cfg dat (Some z) None None p q r = absurd (cc)
+clean_of (Some x) (Some y) None None None p q r = (refl, refl, refl, refl, refl)
+clean_of (Some x) None None None None p q r = (refl, refl, refl, refl, refl)
+clean_of None None None None None p q r = (refl, refl, refl, refl, refl)
+clean_of None (Some y) None None None p q r = (refl, refl, refl, refl, refl)
 
-pub clean : (h : Files) → is_some (h ending.ConfigPart) ≡ false → is_some (h ending.DataPart) ≡ false → is_some (h ending.Gone) ≡ false
-    → (is_some (h ending.Config) ≡ false → is_some (h ending.Data) ≡ false) → (e : Ending) → h e ≡ kept (recovered h) e
-clean h p q r s ending.Config = (clean_of (h ending.Config) (h ending.Data) (h ending.Gone) (h ending.ConfigPart) (h ending.DataPart) p q r s).0
-clean h p q r s ending.Data = (clean_of (h ending.Config) (h ending.Data) (h ending.Gone) (h ending.ConfigPart) (h ending.DataPart) p q r s).1
-clean h p q r s ending.ConfigPart = (clean_of (h ending.Config) (h ending.Data) (h ending.Gone) (h ending.ConfigPart) (h ending.DataPart) p q r s).2
-clean h p q r s ending.DataPart = (clean_of (h ending.Config) (h ending.Data) (h ending.Gone) (h ending.ConfigPart) (h ending.DataPart) p q r s).3
-clean h p q r s ending.Gone = (clean_of (h ending.Config) (h ending.Data) (h ending.Gone) (h ending.ConfigPart) (h ending.DataPart) p q r s).4
+pub clean : (h : Files) → is_some (h ending.ConfigPart) ≡ false → is_some (h ending.DataPart) ≡ false → is_some (h ending.Gone) ≡ false → (e : Ending) → h e ≡ tidied h e
+clean h p q r ending.Config = (clean_of (h ending.Config) (h ending.Data) (h ending.Gone) (h ending.ConfigPart) (h ending.DataPart) p q r).0
+clean h p q r ending.Data = (clean_of (h ending.Config) (h ending.Data) (h ending.Gone) (h ending.ConfigPart) (h ending.DataPart) p q r).1
+clean h p q r ending.ConfigPart = (clean_of (h ending.Config) (h ending.Data) (h ending.Gone) (h ending.ConfigPart) (h ending.DataPart) p q r).2
+clean h p q r ending.DataPart = (clean_of (h ending.Config) (h ending.Data) (h ending.Gone) (h ending.ConfigPart) (h ending.DataPart) p q r).3
+clean h p q r ending.Gone = (clean_of (h ending.Config) (h ending.Data) (h ending.Gone) (h ending.ConfigPart) (h ending.DataPart) p q r).4
+
+-- what recovery leaves, of files that are the same
+pub same_tidied : (h f : Files) → ((e : Ending) → f e ≡ h e) → (e : Ending) → tidied f e ≡ tidied h e
+same_tidied h f same e = rw (same ending.Config, same ending.Data, same ending.Gone, same ending.ConfigPart, same ending.DataPart) refl
+
+data_same : (cfg dat leaving cfg_part dat_part : Option (List ℕ)) → is_some cfg ≡ true → is_some dat ≡ false → is_some dat_part ≡ true
+    → tidied_of cfg dat_part leaving cfg_part None ≡ tidied_of cfg dat leaving cfg_part dat_part
+data_same None dat leaving cfg_part dat_part p q r = absurd (cc)
+data_same (Some x) (Some y) leaving cfg_part dat_part p q r = absurd (cc)
+data_same (Some x) None leaving cfg_part None p q r = absurd (cc)
+data_same (Some x) None leaving cfg_part (Some y) p q r = refl
+
+pub data_tidied : (h f : Files) → is_some (h ending.Config) ≡ true → is_some (h ending.Data) ≡ false → is_some (h ending.DataPart) ≡ true → ((e : Ending) → f e ≡ after_data h e)
+    → (e : Ending) → tidied f e ≡ tidied h e
+data_tidied h f p q r is e = same_tidied (after_data h) f is e
+    ∙ ap (λ (b : Option (List ℕ) × Option (List ℕ)). only b e) (data_same (h ending.Config) (h ending.Data) (h ending.Gone) (h ending.ConfigPart) (h ending.DataPart) p q r)
+
+config_same : (cfg dat leaving cfg_part dat_part : Option (List ℕ)) → is_some cfg ≡ false → is_some dat ≡ true → is_some leaving ≡ false → is_some cfg_part ≡ true
+    → tidied_of cfg_part dat leaving None dat_part ≡ tidied_of cfg dat leaving cfg_part dat_part
+config_same (Some x) dat leaving cfg_part dat_part p q r s = absurd (cc)
+config_same None None leaving cfg_part dat_part p q r s = absurd (cc)
+config_same None (Some y) (Some z) cfg_part dat_part p q r s = absurd (cc)
+config_same None (Some y) None None dat_part p q r s = absurd (cc)
+config_same None (Some y) None (Some x) dat_part p q r s = refl
+
+pub config_tidied : (h f : Files) → is_some (h ending.Config) ≡ false → is_some (h ending.Data) ≡ true → is_some (h ending.Gone) ≡ false → is_some (h ending.ConfigPart) ≡ true
+    → ((e : Ending) → f e ≡ after_config h e) → (e : Ending) → tidied f e ≡ tidied h e
+config_tidied h f p q r s is e = same_tidied (after_config h) f is e
+    ∙ ap (λ (b : Option (List ℕ) × Option (List ℕ)). only b e) (config_same (h ending.Config) (h ending.Data) (h ending.Gone) (h ending.ConfigPart) (h ending.DataPart) p q r s)

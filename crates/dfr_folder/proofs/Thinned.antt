@@ -3,7 +3,8 @@ use Rattle.std.proofs.Common.{◌≡◌, ◌⊎◌, ℕ, Bool, true, false, List
 use Rattle.std.specs.Prelude.{is_some}
 use Rattle.dfr_folder.specs.declared.name.Ending.{Ending}
 use Rattle.dfr_folder.specs.declared.name.Ending.TheVariants as ending
-use Rattle.dfr_folder.specs.Pairs.{Files, found_of, found, recovered_of, recovered, IsMending, kept}
+use Rattle.dfr_folder.specs.Pairs.{Files, found_of, found, tidied_of, only, tidied, recovered_of, recovered, IsMending}
+use Rattle.dfr_folder.proofs.Mends.{same_tidied}
 
 pub same_ending : (e f : Ending) → (e ≡ f) ⊎ (e ≡ f → ⊥)
 same_ending ending.Config ending.Config = inl refl
@@ -26,7 +27,7 @@ thinner S h g f end may thin leaving same e = elim (same_ending e end) [
 pub stays : (S : Ending → Bool) (h f : Files) (e : Ending) → S e ≡ false → IsThinned S h f → f e ≡ h e
 stays S h f e not thin = elim (thin e) [ inl same ↦ same | inr removed ↦ absurd (cc (not, removed.0)) ]
 
-thin_either : (S : Ending → Bool) (h f : Files) (e : Ending) → IsThinned S h f → (f e ≡ h e) ⊎ (f e ≡ None)
+pub thin_either : (S : Ending → Bool) (h f : Files) (e : Ending) → IsThinned S h f → (f e ≡ h e) ⊎ (f e ≡ None)
 thin_either S h f e thin = elim (thin e) [ inl same ↦ inl same | inr removed ↦ inr removed.1 ]
 
 -- the files that are being written
@@ -135,33 +136,54 @@ rest_mends h f there no_cfg no_dat thin =
       shown = inl (rw config (no_found (h ending.Config) (f ending.Data) there ∙ sym (no_found (h ending.Config) (h ending.Data) there)));
     }
 
-kept_there : (cfg dat leaving : Option (List ℕ)) → is_some cfg ≡ true
-    → (cfg ≡ kept (recovered_of cfg dat leaving None None) ending.Config) × (dat ≡ kept (recovered_of cfg dat leaving None None) ending.Data)
-    × (None ≡ kept (recovered_of cfg dat leaving None None) ending.ConfigPart) × (None ≡ kept (recovered_of cfg dat leaving None None) ending.DataPart)
-    × (None ≡ kept (recovered_of cfg dat leaving None None) ending.Gone)
-kept_there None dat leaving p = absurd (cc)
-kept_there (Some x) (Some y) leaving p = (refl, refl, refl, refl, refl)
-kept_there (Some x) None leaving p = (refl, refl, refl, refl, refl)
+-- without those that were being written
+parts_same : (cfg dat leaving cfg_part dat_part : Option (List ℕ)) → found_of cfg dat ≡ recovered_of cfg dat leaving cfg_part dat_part
+    → tidied_of cfg dat leaving None None ≡ tidied_of cfg dat leaving cfg_part dat_part
+unfolding second
+parts_same (Some x) (Some y) leaving cfg_part dat_part named = refl
+parts_same (Some x) None leaving cfg_part dat_part named =
+    let none : None ≡ dat_part = ap second named in
+    ap (λ (o : Option (List ℕ)). (Some x, o)) none
+parts_same None dat (Some z) cfg_part dat_part named = refl
+parts_same None None None cfg_part dat_part named = refl
+parts_same None (Some y) None (Some x) dat_part named = absurd (cc)
+parts_same None (Some y) None None dat_part named = refl
+
+pub parts_tidied : (h f : Files) → found h ≡ recovered h → ((e : Ending) → f e ≡ without is_part h e) → (e : Ending) → tidied f e ≡ tidied h e
+parts_tidied h f named is e = same_tidied (without is_part h) f is e
+    ∙ ap (λ (b : Option (List ℕ) × Option (List ℕ)). only b e) (parts_same (h ending.Config) (h ending.Data) (h ending.Gone) (h ending.ConfigPart) (h ending.DataPart) named)
+
+there_same : (cfg dat leaving : Option (List ℕ)) → is_some cfg ≡ true → (cfg, dat) ≡ tidied_of cfg dat leaving None None
+there_same None dat leaving p = absurd (cc)
+there_same (Some x) (Some y) leaving p = refl
+there_same (Some x) None leaving p = refl
+
+gone_same : (cfg dat leaving : Option (List ℕ)) → is_some cfg ≡ false → is_some leaving ≡ true → (None, None) ≡ tidied_of cfg dat leaving None None
+gone_same (Some x) dat leaving p q = absurd (cc)
+gone_same None dat None p q = absurd (cc)
+gone_same None dat (Some z) p q = refl
 
 module _ (h : Files) (no_cfg : h ending.ConfigPart ≡ None) (no_dat : h ending.DataPart ≡ None) where
-  made_there : recovered h ≡ recovered_of (h ending.Config) (h ending.Data) (h ending.Gone) None None
-  made_there = rw (no_cfg, no_dat) refl
+  tidied_there : (e : Ending) → only (tidied_of (h ending.Config) (h ending.Data) (h ending.Gone) None None) e ≡ tidied h e
+  tidied_there e = rw (no_cfg, no_dat) refl
 
-  pub gone_clean : is_some (h ending.Config) ≡ true → (e : Ending) → without is_gone h e ≡ kept (recovered h) e
-  gone_clean there ending.Config = rw made_there (kept_there (h ending.Config) (h ending.Data) (h ending.Gone) there).0
-  gone_clean there ending.Data = rw made_there (kept_there (h ending.Config) (h ending.Data) (h ending.Gone) there).1
-  gone_clean there ending.ConfigPart = no_cfg ∙ rw made_there (kept_there (h ending.Config) (h ending.Data) (h ending.Gone) there).2
-  gone_clean there ending.DataPart = no_dat ∙ rw made_there (kept_there (h ending.Config) (h ending.Data) (h ending.Gone) there).3
-  gone_clean there ending.Gone = rw made_there (kept_there (h ending.Config) (h ending.Data) (h ending.Gone) there).4
+  gone_only : (e : Ending) → without is_gone h e ≡ only (h ending.Config, h ending.Data) e
+  gone_only ending.Config = refl
+  gone_only ending.Data = refl
+  gone_only ending.ConfigPart = no_cfg
+  gone_only ending.DataPart = no_dat
+  gone_only ending.Gone = refl
 
-  rest_none : is_some (h ending.Config) ≡ false → (e : Ending) → without is_rest h e ≡ None
-  rest_none there ending.Config = no_file (h ending.Config) there
-  rest_none there ending.Data = refl
-  rest_none there ending.ConfigPart = no_cfg
-  rest_none there ending.DataPart = no_dat
-  rest_none there ending.Gone = refl
+  pub gone_clean : is_some (h ending.Config) ≡ true → (e : Ending) → without is_gone h e ≡ tidied h e
+  gone_clean there e = gone_only e ∙ ap (λ (b : Option (List ℕ) × Option (List ℕ)). only b e) (there_same (h ending.Config) (h ending.Data) (h ending.Gone) there) ∙ tidied_there e
 
-  pub rest_clean : is_some (h ending.Config) ≡ false → (e : Ending) → without is_rest h e ≡ kept (recovered h) e
-  rest_clean there e =
-      let none : recovered h ≡ None = made_there ∙ none_of (h ending.Config) (h ending.Data) (h ending.Gone) there in
-      rest_none there e ∙ sym (ap (λ (o : Option (List ℕ × Option (List ℕ))). kept o e) none)
+  rest_only : is_some (h ending.Config) ≡ false → (e : Ending) → without is_rest h e ≡ only (None, None) e
+  rest_only there ending.Config = no_file (h ending.Config) there
+  rest_only there ending.Data = refl
+  rest_only there ending.ConfigPart = no_cfg
+  rest_only there ending.DataPart = no_dat
+  rest_only there ending.Gone = refl
+
+  pub rest_clean : is_some (h ending.Config) ≡ false → is_some (h ending.Gone) ≡ true → (e : Ending) → without is_rest h e ≡ tidied h e
+  rest_clean there leaving e =
+      rest_only there e ∙ ap (λ (b : Option (List ℕ) × Option (List ℕ)). only b e) (gone_same (h ending.Config) (h ending.Data) (h ending.Gone) there leaving) ∙ tidied_there e

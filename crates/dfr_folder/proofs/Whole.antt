@@ -4,7 +4,7 @@ use Rattle.std.proofs.lemmas.List.Elements.{Contains-append_right}
 use Rattle.dfr_folder.specs.declared.name.Key.{Key}
 use Rattle.dfr_folder.specs.declared.name.Name.{Name}
 use Rattle.dfr_folder.specs.Directory.{Content, File}
-use Rattle.dfr_folder.specs.Pairs.{name, under, found, recovered, seen, content, Beside, IsAtRest, IsNoneOr, AllMend, IsRecord, AllWhole}
+use Rattle.dfr_folder.specs.Pairs.{name, under, found, recovered, seen, Beside, IsAtRest, IsNoneOr, MendsOne, IsRecord, AllWhole}
 use Rattle.dfr_folder.proofs.Mends.{same_found, same_recovered}
 use Rattle.dfr_folder.proofs.Everyone.{same_key}
 
@@ -50,8 +50,11 @@ module _ {D : Type 0} (files : D → Name → Option File) (may_leave : D → Co
       let same = same_found (seen files old key) (under b.before key) (λ e. rests.left b.before b.left e) in
       whole_beside records records key (found (seen files old key)) (subst (IsRecord records key) same ((all b.before b.left).shown key)) (λ k o is. is) all c b
 
-  pub whole_mended : (records : List (Key × List ℕ × List ℕ)) → AllWhole records (content files old) → (c : Content) → AllMend files old c → AllWhole records c
-  whole_mended records all c mends = record {
-    shown = λ k. one_of records k (found (under c k)) (found (seen files old k)) (recovered (seen files old k)) (all.shown k) (all.mended k) (mends k).shown;
-    mended = λ k. subst (IsRecord records k) (sym (mends k).mended) (all.mended k);
-  }
+  -- recovery made the same of one content that a crash might have left
+  pub whole_mended : (records : List (Key × List ℕ × List ℕ)) → ((c : Content) → may_leave old c → AllWhole records c) → (c : Content) → MendsOne may_leave old c → AllWhole records c
+  whole_mended records all c one =
+      let was = all one.0 one.1 in
+      record {
+        shown = λ k. one_of records k (found (under c k)) (found (under one.0 k)) (recovered (under one.0 k)) (was.shown k) (was.mended k) (one.2 k).shown;
+        mended = λ k. subst (IsRecord records k) (sym (one.2 k).mended) (was.mended k);
+      }

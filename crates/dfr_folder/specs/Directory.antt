@@ -44,6 +44,15 @@ pub record Removed (name : Name) (old new : Content) : Type 0 where
 abbrev pub Follows : (Content → Content → Type 0) → (Content → Type 0) → (Content → Type 0) → Type 0
 Follows change old new = (c : Content) → new c → old c ⊎ ((d : Content) × old d × change d c)
 
+-- each crash leaves the names that there are
+abbrev pub IsSettled : {D : Type 0} → (D → Name → Option File) → (D → Content → Type 0) → D → Type 0
+IsSettled files may_leave directory = (c : Content) → may_leave directory c → (n : Name) → Stays (files directory n) (c n)
+
+-- the files are the same, and a crash leaves no more than before
+pub record IsKept {D : Type 0} (files : D → Name → Option File) (may_leave : D → Content → Type 0) (old new : D) : Type 0 where
+  pub same : (n : Name) → files new n ≡ files old n
+  pub left : (c : Content) → may_leave new c → may_leave old c
+
 -- no file has this name, and no crash leaves one
 pub record IsFresh {D : Type 0} (files : D → Name → Option File) (may_leave : D → Content → Type 0) (directory : D) (name : Name) : Type 0 where
   pub unused : files directory name ≡ None

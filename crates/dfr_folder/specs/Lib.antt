@@ -1,2 +1,5 @@
 pub mod Directory
 pub mod Pairs
+pub mod Events
+pub mod Opened
+pub mod Found

@@ -1,5 +1,5 @@
 -- What a reader finds under a key, and what recovery makes of it.
-use Rattle.std.specs.Prelude.{◌≡◌, ◌⊎◌, ℕ, List, [], ◌∷◌, ◌++◌, Option, Some, None, is_some, Contains}
+use Rattle.std.specs.Prelude.{◌≡◌, ◌⊎◌, ℕ, Bool, true, false, List, [], ◌∷◌, ◌++◌, Option, Some, None, is_some, Contains}
 use Rattle.dfr_folder.specs.declared.name.Ending.{Ending}
 use Rattle.dfr_folder.specs.declared.name.Ending.TheVariants as ending
 use Rattle.dfr_folder.specs.declared.name.Key.{Key}
@@ -30,20 +30,46 @@ found_of (Some cfg) dat = Some (cfg, dat)
 abbrev pub found : Files → Option (List ℕ × Option (List ℕ))
 found files = found_of (files ending.Config) (files ending.Data)
 
--- What a reader finds after recovery of a `.cfg`, `.dat`, `.cfg.gone`, `.cfg.part` and `.dat.part`:
-abbrev pub recovered_of : Option (List ℕ) → Option (List ℕ) → Option (List ℕ) → Option (List ℕ) → Option (List ℕ) → Option (List ℕ × Option (List ℕ))
-recovered_of (Some cfg) (Some dat) leaving cfg_part dat_part = Some (cfg, Some dat)
+-- The configuration file and the data file that recovery leaves of a `.cfg`, `.dat`, `.cfg.gone`, `.cfg.part` and `.dat.part`:
+abbrev pub tidied_of : Option (List ℕ) → Option (List ℕ) → Option (List ℕ) → Option (List ℕ) → Option (List ℕ) → Option (List ℕ) × Option (List ℕ)
+tidied_of (Some cfg) (Some dat) leaving cfg_part dat_part = (Some cfg, Some dat)
 -- the data file gets its name, if it is there
-recovered_of (Some cfg) None leaving cfg_part dat_part = Some (cfg, dat_part)
+tidied_of (Some cfg) None leaving cfg_part dat_part = (Some cfg, dat_part)
 -- a pair that was being removed is removed
-recovered_of None dat (Some cfg) cfg_part dat_part = None
+tidied_of None dat (Some cfg) cfg_part dat_part = (None, None)
 -- both files were written before the data file got its name: the configuration file gets its own
-recovered_of None (Some dat) None (Some cfg) dat_part = Some (cfg, Some dat)
-recovered_of None (Some dat) None None dat_part = None
-recovered_of None None None cfg_part dat_part = None
+tidied_of None (Some dat) None (Some cfg) dat_part = (Some cfg, Some dat)
+-- a data file that is alone stays: it may be all that there is of a fault
+tidied_of None (Some dat) None None dat_part = (None, Some dat)
+tidied_of None None None cfg_part dat_part = (None, None)
+
+-- the two files, and no others
+abbrev pub only : Option (List ℕ) × Option (List ℕ) → Files
+only both ending.Config = both.0
+only both ending.Data = both.1
+only both ending.ConfigPart = None
+only both ending.DataPart = None
+only both ending.Gone = None
+
+-- the files that recovery leaves
+abbrev pub tidied : Files → Files
+tidied files = only (tidied_of (files ending.Config) (files ending.Data) (files ending.Gone) (files ending.ConfigPart) (files ending.DataPart))
+
+-- what a reader finds after recovery
+abbrev pub recovered_of : Option (List ℕ) → Option (List ℕ) → Option (List ℕ) → Option (List ℕ) → Option (List ℕ) → Option (List ℕ × Option (List ℕ))
+recovered_of cfg dat leaving cfg_part dat_part =
+    let both = tidied_of cfg dat leaving cfg_part dat_part in found_of both.0 both.1
 
 abbrev pub recovered : Files → Option (List ℕ × Option (List ℕ))
 recovered files = recovered_of (files ending.Config) (files ending.Data) (files ending.Gone) (files ending.ConfigPart) (files ending.DataPart)
+
+-- what recovery ends
+abbrev pub is_leftover : Ending → Bool
+is_leftover ending.Config = false
+is_leftover ending.Data = false
+is_leftover ending.ConfigPart = true
+is_leftover ending.DataPart = true
+is_leftover ending.Gone = true
 
 -- No pair, or this one: who looks finds none or the whole pair, and so does who recovers first.
 pub record IsNoneOr (pair : Option (List ℕ × Option (List ℕ))) (files : Files) : Type 0 where
@@ -124,6 +150,10 @@ IsTidy have = (end : Ending) → have end ≡ kept (found have) end
 abbrev pub AllMend : {D : Type 0} → (D → Name → Option File) → D → Content → Type 0
 AllMend files old c = (key : Key) → IsMending (seen files old key) (under c key)
 
+-- Recovery makes the same of each key's files as it would have of one content that a crash might have left.
+abbrev pub MendsOne : {D : Type 0} → (D → Content → Type 0) → D → Content → Type 0
+MendsOne may_leave old c = (before : Content) × may_leave old before × ((key : Key) → IsMending (under before key) (under c key))
+
 -- no key comes twice
 abbrev pub IsDistinct : List Key → Type 0
 IsDistinct [] = Unit {0}
@@ -153,7 +183,3 @@ IsRecord records key (Some found) = (dat : List ℕ) × (found.1 ≡ Some dat) �
 pub record AllWhole (records : List (Key × List ℕ × List ℕ)) (c : Content) : Type 0 where
   pub shown : (key : Key) → IsRecord records key (found (under c key))
   pub mended : (key : Key) → IsRecord records key (recovered (under c key))
-
--- what is seen now
-abbrev pub content : {D : Type 0} → (D → Name → Option File) → D → Content
-content files directory n = bytes_of (files directory n)

@@ -1,9 +1,9 @@
 //! A directory as the folder of records uses it: what each name has, and what a crash may leave.
 
-ghost use Rattle.std.specs.Prelude.{◌≡◌, ◌⊎◌, ◌≤◌, ℕ, List, Option, None, Some, IfOk, OnOk, OnErr, Contains};
+ghost use Rattle.std.specs.Prelude.{◌≡◌, ◌⊎◌, ◌≤◌, ℕ, List, Option, None, Some, true, IfOk, OnOk, OnErr, Contains};
 ghost use Rattle.dfr_folder.specs.declared.name.Name.{Name};
 ghost use Rattle.dfr_folder.specs.Directory.{File, Content, Follows, SameBut, Moved, Removed, Stays, IsFresh, Elapses, HasCause, unsynced, on_disk};
-ghost use Rattle.dfr_folder.specs.Pairs.{AreNames, seen};
+ghost use Rattle.dfr_folder.specs.Pairs.{AreNames, AreSynced, is_leftover, seen};
 
 use crate::name::{Key, Name, Names};
 use std::alloc::Global;
@@ -59,7 +59,7 @@ pub trait Directory {
 
     /// Renames a file to a name that is not in use.
     fn rename(&mut self, from: Name, to: Name) -> Result<(), Fault>
-        requires fresh { IsFresh files may_leave self.old to }
+        requires unused { files self.old to ≡ None }
         ensures there { OnOk result (files self.new to ≡ files self.old from) }
         ensures left { OnOk result (files self.new from ≡ None) }
         ensures elsewhere { (n : Name) → (n ≡ from → ⊥) → (n ≡ to → ⊥)
@@ -95,10 +95,18 @@ pub trait Directory {
         ensures time { Elapses moment may_leave left_since self.old self.new }
         ensures cause { HasCause (failures self.old) (failures self.new) result };
 
-    /// The keys of all files.
-    fn list(&mut self, alloc: Global) -> Result<Vec<Key>, Fault>
-        ensures keys { IfOk result (λ keys. (n : Name) → (files self.old n ≡ None → ⊥)
-            → Contains keys.items n.key) }
+    /// Whether the bytes of each file of a key are on the disk.
+    fn are_synced(&mut self, key: Key) -> Result<bool, Fault>
+        ensures synced { IfOk result (λ are. are ≡ true → AreSynced files self.old key) }
+        ensures same { (n : Name) → files self.new n ≡ files self.old n }
+        ensures crash { (c : Content) → may_leave self.new c → may_leave self.old c }
+        ensures time { Elapses moment may_leave left_since self.old self.new }
+        ensures cause { HasCause (failures self.old) (failures self.new) result };
+
+    /// The keys of all files that are being written or removed.
+    fn leftovers(&mut self, alloc: Global) -> Result<Vec<Key>, Fault>
+        ensures keys { IfOk result (λ keys. (n : Name) → is_leftover n.ending ≡ true
+            → (files self.old n ≡ None → ⊥) → Contains keys.items n.key) }
         ensures same { (n : Name) → files self.new n ≡ files self.old n }
         ensures crash { (c : Content) → may_leave self.new c → may_leave self.old c }
         ensures time { Elapses moment may_leave left_since self.old self.new }

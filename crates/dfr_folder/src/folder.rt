@@ -4,8 +4,8 @@ ghost use Rattle.std.specs.Prelude.{◌≡◌, ◌⊎◌, ◌≤◌, ◌∷◌, 
 ghost use Rattle.dfr_folder.specs.declared.name.Ending.{Ending};
 ghost use Rattle.dfr_folder.specs.declared.name.Key.{Key};
 ghost use Rattle.dfr_folder.specs.declared.name.Name.{Name};
-ghost use Rattle.dfr_folder.specs.Directory.{Content, LeavesNow, LeavesOnly, HasCause};
-ghost use Rattle.dfr_folder.specs.Pairs.{AllMend, AllWhole, AreSynced, Beside, GivesUp, IsAtRest, IsDistinct, IsFree, IsNoneOr, IsTidy, Rests, content, found, kept, pair, recovered, seen, under};
+ghost use Rattle.dfr_folder.specs.Directory.{Content, IsSettled, LeavesNow, LeavesOnly, HasCause};
+ghost use Rattle.dfr_folder.specs.Pairs.{AllMend, AllWhole, AreSynced, Beside, GivesUp, IsAtRest, IsDistinct, IsFree, IsNoneOr, IsTidy, Rests, found, pair, recovered, seen, tidied, under};
 
 use crate::directory::{Directory, Fault};
 use crate::name::Key;
@@ -28,6 +28,7 @@ pub fn put<D: Directory>(directory: &mut D, key: Key, cfg: &[u8], dat: &[u8]) ->
         (Beside D.may_leave directory.old key (IsNoneOr (Some (cfg.now, Some dat.now)))) }
     ensures stored { OnOk result (Rests D.files D.may_leave directory.new key
         (pair cfg.now dat.now)) }
+    ensures settled { OnOk result (IsSettled D.files D.may_leave directory.new) }
     ensures elsewhere { (n : Name) → (n.key ≡ key → ⊥)
         → D.files directory.new n ≡ D.files directory.old n }
     // It doesn't give up by itself.
@@ -92,7 +93,6 @@ pub fn recover<D: Directory>(directory: &mut D, alloc: Global) -> Result<(), Fau
     // If each pair was whole before, a crash at any moment leaves whole pairs.
     ensures whole { (records : List (Key × List ℕ × List ℕ))
         → LeavesNow (D.may_leave directory.old) (AllWhole records)
-        → AllWhole records (content D.files directory.old)
         → LeavesOnly D.may_leave D.left_since directory.old directory.new (AllWhole records) }
     // A crash at any moment leaves what it might have left before, or what recovery makes the same
     // of as of what is seen.
@@ -101,8 +101,7 @@ pub fn recover<D: Directory>(directory: &mut D, alloc: Global) -> Result<(), Fau
     ensures rests { OnOk result ((key : Key) → IsAtRest D.files D.may_leave directory.new key) }
     // No leftover stays.
     ensures clean { OnOk result ((key : Key) (end : Ending)
-        → seen D.files directory.new key end
-        ≡ kept (recovered (seen D.files directory.old key)) end) }
+        → seen D.files directory.new key end ≡ tidied (seen D.files directory.old key) end) }
     // It doesn't give up by itself, whatever it finds.
     ensures cause { HasCause (D.failures directory.old) (D.failures directory.new) result }
 {

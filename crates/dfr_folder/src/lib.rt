@@ -2,13 +2,25 @@
 //! stops the writer, whoever sees a configuration file finds its whole pair.
 #![tactic(auto)]
 
+mod call;
+mod checked;
 mod directory;
 mod folder;
+mod log;
 mod name;
+mod opened;
 mod pairs;
+mod recorded;
 mod recovery;
 mod removal;
+mod seen;
+mod system;
 
+pub use call::Call;
+pub use checked::{discard, discard_next, put_new};
 pub use directory::{Directory, Fault};
 pub use folder::{give_up, keep, put, recover};
-pub use name::{Ending, Key, Name, Names};
+pub use name::{Ending, Key, Name, Names, Seen};
+pub use opened::{Put, mend, open_folder, put_for, put_or_mend};
+pub use recorded::Recorded;
+pub use system::{Start, System, Unknown};

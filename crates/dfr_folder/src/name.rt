@@ -46,3 +46,11 @@ pub struct Names {
     pub dat_part: bool,
     pub gone: bool,
 }
+
+/// A file that is there.
+#[derive(Clone, Copy, Debug, PartialEq, Eq)]
+pub struct Seen {
+    pub name: Name,
+    /// Whether its bytes are on the disk.
+    pub synced: bool,
+}

@@ -3,7 +3,7 @@
 
 ghost use Rattle.std.specs.Prelude.{◌≡◌, ◌⊎◌, None, Some, OnOk, OnErr};
 ghost use Rattle.dfr_folder.specs.declared.name.Name.{Name};
-ghost use Rattle.dfr_folder.specs.Directory.{Content, SameBut, Moved, Stays, IsFresh, LeavesOnly, HasCause, on_disk};
+ghost use Rattle.dfr_folder.specs.Directory.{Content, SameBut, Moved, Stays, IsFresh, IsSettled, LeavesOnly, HasCause, on_disk};
 ghost use Rattle.dfr_folder.specs.Pairs.{IsFree, IsNoneOr, Beside, Rests, pair};
 
 use crate::directory::{Directory, Fault};
@@ -56,6 +56,7 @@ pub(crate) fn write_pair<D: Directory>(
         (Beside D.may_leave directory.old key (IsNoneOr (Some (cfg.now, Some dat.now)))) }
     ensures stored { OnOk result (Rests D.files D.may_leave directory.new key
         (pair cfg.now dat.now)) }
+    ensures settled { OnOk result (IsSettled D.files D.may_leave directory.new) }
     ensures elsewhere { (n : Name) → (n.key ≡ key → ⊥)
         → D.files directory.new n ≡ D.files directory.old n }
     // It doesn't give up by itself.

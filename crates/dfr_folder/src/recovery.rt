@@ -1,14 +1,14 @@
 //! What a crash left of a pair is completed or removed. A crash at any moment of that leaves what
 //! recovery makes the same of.
 
-ghost use Rattle.std.specs.Prelude.{◌≡◌, true, false, None, IfOk, OnOk, is_some};
+ghost use Rattle.std.specs.Prelude.{◌≡◌, true, false, None, OnOk};
 ghost use Rattle.dfr_folder.specs.declared.name.Ending.{Ending};
 ghost use Rattle.dfr_folder.specs.declared.name.Ending.TheVariants as ending;
 ghost use Rattle.dfr_folder.specs.declared.name.Key.{Key};
 ghost use Rattle.dfr_folder.specs.declared.name.Name.{Name};
 ghost use Rattle.dfr_folder.specs.declared.recovery.Recovery.TheVariants as recovery;
 ghost use Rattle.dfr_folder.specs.Directory.{LeavesOnly, HasCause};
-ghost use Rattle.dfr_folder.specs.Pairs.{AllMend, AreNames, IsAtRest, IsMending, Beside, found, recovered, seen, kept};
+ghost use Rattle.dfr_folder.specs.Pairs.{AllMend, AreNames, IsAtRest, IsMending, MendsOne, Beside, found, recovered, seen, tidied};
 
 use crate::directory::{Directory, Fault};
 use crate::name::{Ending, Key, Name, Names};
@@ -50,9 +50,8 @@ fn recovery_of(names: Names) -> Recovery
     Recovery::Nothing
 }
 
-/// Gives a file of the pair its name, if it lost the way to it. Returns whether there is a
-/// configuration file.
-fn complete<D: Directory>(directory: &mut D, key: Key, names: Names) -> Result<bool, Fault>
+/// Gives a file of the pair its name, if it lost the way to it.
+fn complete<D: Directory>(directory: &mut D, key: Key, names: Names) -> Result<(), Fault>
     requires rests { IsAtRest D.files D.may_leave directory.old key }
     requires names { AreNames (seen D.files directory.old key) names }
     ensures any_moment { LeavesOnly D.may_leave D.left_since directory.old directory.new
@@ -62,8 +61,8 @@ fn complete<D: Directory>(directory: &mut D, key: Key, names: Names) -> Result<b
         D.files directory.new key)) }
     ensures named { OnOk result (found (seen D.files directory.new key) ≡ recovered (seen
         D.files directory.new key)) }
-    ensures there { IfOk result (λ there. there ≡ is_some (seen
-        D.files directory.new key ending.Config)) }
+    ensures same { OnOk result ((end : Ending) → tidied (seen D.files directory.new key) end
+        ≡ tidied (seen D.files directory.old key) end) }
     ensures elsewhere { (n : Name) → (n.key ≡ key → ⊥)
         → D.files directory.new n ≡ D.files directory.old n }
     ensures cause { HasCause (D.failures directory.old) (D.failures directory.new) result }
@@ -79,7 +78,7 @@ fn complete<D: Directory>(directory: &mut D, key: Key, names: Names) -> Result<b
                 ending: Ending::Data,
             };
             settle(directory, part, name)?;
-            Ok(true)
+            Ok(())
         }
         Recovery::NameConfig => {
             let part = Name {
@@ -91,9 +90,9 @@ fn complete<D: Directory>(directory: &mut D, key: Key, names: Names) -> Result<b
                 ending: Ending::Config,
             };
             settle(directory, part, name)?;
-            Ok(true)
+            Ok(())
         }
-        Recovery::Nothing => Ok(names.cfg),
+        Recovery::Nothing => Ok(()),
     }
 }
 
@@ -107,8 +106,8 @@ fn clear_parts<D: Directory>(directory: &mut D, key: Key) -> Result<(), Fault>
     ensures rests { OnOk result (IsAtRest D.files D.may_leave directory.new key) }
     ensures mends { OnOk result (IsMending (seen D.files directory.old key) (seen
         D.files directory.new key)) }
-    ensures there { OnOk result (seen D.files directory.new key ending.Config ≡ seen
-        D.files directory.old key ending.Config) }
+    ensures same { OnOk result ((end : Ending) → tidied (seen D.files directory.new key) end
+        ≡ tidied (seen D.files directory.old key) end) }
     ensures cfg_part { OnOk result (seen D.files directory.new key ending.ConfigPart ≡ None) }
     ensures dat_part { OnOk result (seen D.files directory.new key ending.DataPart ≡ None) }
     ensures elsewhere { (n : Name) → (n.key ≡ key → ⊥)
@@ -129,26 +128,30 @@ fn clear_parts<D: Directory>(directory: &mut D, key: Key) -> Result<(), Fault>
     Ok(())
 }
 
-/// Removes what was being removed: the data file too, if there is no configuration file.
-fn clear_rest<D: Directory>(directory: &mut D, key: Key, is_there: bool) -> Result<(), Fault>
+/// Ends a removal: the configuration file under its last name goes, and before it the data file if
+/// there is no other configuration file.
+fn clear_rest<D: Directory>(directory: &mut D, key: Key) -> Result<(), Fault>
     requires rests { IsAtRest D.files D.may_leave directory.old key }
-    requires there { is_there ≡ is_some (seen D.files directory.old key ending.Config) }
     requires cfg_part { seen D.files directory.old key ending.ConfigPart ≡ None }
     requires dat_part { seen D.files directory.old key ending.DataPart ≡ None }
     ensures any_moment { LeavesOnly D.may_leave D.left_since directory.old directory.new
         (Beside D.may_leave directory.old key (IsMending (seen D.files directory.old key))) }
     ensures rests { OnOk result (IsAtRest D.files D.may_leave directory.new key) }
-    ensures clean { OnOk result ((end : Ending) → seen D.files directory.new key end ≡ kept
-        (recovered (seen D.files directory.old key)) end) }
+    ensures clean { OnOk result ((end : Ending) → seen D.files directory.new key end ≡ tidied
+        (seen D.files directory.old key) end) }
     ensures elsewhere { (n : Name) → (n.key ≡ key → ⊥)
         → D.files directory.new n ≡ D.files directory.old n }
     ensures cause { HasCause (D.failures directory.old) (D.failures directory.new) result }
 {
+    let there = directory.look(key)?;
+    if !there.gone {
+        return Ok(());
+    }
     let gone = Name {
         key,
         ending: Ending::Gone,
     };
-    if is_there {
+    if there.cfg {
         directory.remove(gone)?;
         directory.sync_names()?;
         return Ok(());
@@ -168,9 +171,8 @@ fn is_clean(names: Names) -> bool
     ensures cfg_part { result ≡ true → names.cfg_part ≡ false }
     ensures dat_part { result ≡ true → names.dat_part ≡ false }
     ensures gone { result ≡ true → names.gone ≡ false }
-    ensures dat { result ≡ true → names.cfg ≡ false → names.dat ≡ false }
 {
-    !names.cfg_part && !names.dat_part && !names.gone && (names.cfg || !names.dat)
+    !names.cfg_part && !names.dat_part && !names.gone
 }
 
 /// Completes or removes what a crash left of a pair. It may crash too.
@@ -182,8 +184,8 @@ pub(crate) fn tidy<D: Directory>(directory: &mut D, key: Key) -> Result<(), Faul
         (Beside D.may_leave directory.old key (IsMending (seen D.files directory.old key))) }
     ensures rests { OnOk result (IsAtRest D.files D.may_leave directory.new key) }
     // No leftover stays.
-    ensures clean { OnOk result ((end : Ending) → seen D.files directory.new key end ≡ kept
-        (recovered (seen D.files directory.old key)) end) }
+    ensures clean { OnOk result ((end : Ending) → seen D.files directory.new key end ≡ tidied
+        (seen D.files directory.old key) end) }
     ensures elsewhere { (n : Name) → (n.key ≡ key → ⊥)
         → D.files directory.new n ≡ D.files directory.old n }
     // It doesn't give up by itself.
@@ -193,9 +195,10 @@ pub(crate) fn tidy<D: Directory>(directory: &mut D, key: Key) -> Result<(), Faul
     if is_clean(names) {
         return Ok(());
     }
-    let is_there = complete(directory, key, names)?;
+    complete(directory, key, names)?;
     clear_parts(directory, key)?;
-    clear_rest(directory, key, is_there)
+    clear_rest(directory, key)?;
+    Ok(())
 }
 
 /// Completes or removes whatever a crash left in the folder. It may crash too.
@@ -205,15 +208,17 @@ pub(crate) fn tidy_all<D: Directory>(directory: &mut D, alloc: Global) -> Result
     // A crash at any moment leaves what recovery makes the same of.
     ensures any_moment { LeavesOnly D.may_leave D.left_since directory.old directory.new (AllMend
         D.files directory.old) }
+    // That is also the same as of what a crash might have left before.
+    ensures from { LeavesOnly D.may_leave D.left_since directory.old directory.new (MendsOne
+        D.may_leave directory.old) }
     ensures rests { OnOk result ((key : Key) → IsAtRest D.files D.may_leave directory.new key) }
     // No leftover stays.
     ensures clean { OnOk result ((key : Key) (end : Ending)
-        → seen D.files directory.new key end ≡ kept (recovered (seen
-        D.files directory.old key)) end) }
+        → seen D.files directory.new key end ≡ tidied (seen D.files directory.old key) end) }
     // It doesn't give up by itself, whatever it finds.
     ensures cause { HasCause (D.failures directory.old) (D.failures directory.new) result }
 {
-    let mut keys = directory.list(alloc)?;
+    let mut keys = directory.leftovers(alloc)?;
     while let Some(key) = keys.pop() {
         tidy(directory, key)?;
     }

@@ -1,8 +1,8 @@
-use Rattle.std.proofs.Common.{◌⊎◌, inl, inr, ⊎_elim}
+use Rattle.std.proofs.Common.{◌⊎◌, inl, inr}
 use Rattle.dfr_folder.specs.declared.name.Key.{Key}
 use Rattle.dfr_folder.specs.Directory.{Content}
 use Rattle.dfr_folder.specs.Pairs.{seen, AllMend, AllWhole, IsAtRest}
-use Rattle.dfr_folder.proofs.Moments.{begins, joined, weaker}
+use Rattle.dfr_folder.proofs.Moments.{begins, joined}
 use Rattle.dfr_folder.proofs.Rest.{at_rest, settled}
 use Rattle.dfr_folder.proofs.Everyone.{all_from, clean_from}
 use Rattle.dfr_folder.proofs.Whole.{whole_mended}
@@ -36,9 +36,9 @@ returns-in_err-sync_names-clause-whole g c =
     let s0 = c.args.directory.now in
     let s1 = c.sync_names.new.self in
     let L = g.D.Directory.left_since in
-    let P : Content → Type 0 = λ d. M s0 d ⊎ AllMend F s0 d in
-    let p1 = begins M L s0 s1 P c.sync_names.ensures.time (λ d left. inl (c.sync_names.ensures.crash d left)) in
-    λ records before now. weaker M L s0 _ P (AllWhole records) p1 (λ d. ⊎_elim (before d) (whole_mended F M s0 records now d))
+    λ records all.
+    let w1 = begins M L s0 s1 (AllWhole records) c.sync_names.ensures.time (λ d left. all d (c.sync_names.ensures.crash d left)) in
+    w1
 
 pub returns-in_err-tidy_all-clause-any_moment : goal.returns-in_err-tidy_all-clause-any_moment
 returns-in_err-tidy_all-clause-any_moment g c =
@@ -49,8 +49,7 @@ returns-in_err-tidy_all-clause-any_moment g c =
     let L = g.D.Directory.left_since in
     let P : Content → Type 0 = λ d. M s0 d ⊎ AllMend F s0 d in
     let p1 = begins M L s0 s1 P c.sync_names.ensures.time (λ d left. inl (c.sync_names.ensures.crash d left)) in
-    let p2 = joined M L s0 s1 c.tidy_all.new.directory P _ p1 c.tidy_all.ensures.any_moment (λ d mends. inr (all_from F s0 s1 c.sync_names.ensures.same d mends)) in
-    p2
+    joined M L s0 s1 c.tidy_all.new.directory P _ p1 c.tidy_all.ensures.any_moment (λ d mends. inr (all_from F s0 s1 c.sync_names.ensures.same d mends))
 
 pub returns-in_err-tidy_all-clause-whole : goal.returns-in_err-tidy_all-clause-whole
 returns-in_err-tidy_all-clause-whole g c =
@@ -59,10 +58,9 @@ returns-in_err-tidy_all-clause-whole g c =
     let s0 = c.args.directory.now in
     let s1 = c.sync_names.new.self in
     let L = g.D.Directory.left_since in
-    let P : Content → Type 0 = λ d. M s0 d ⊎ AllMend F s0 d in
-    let p1 = begins M L s0 s1 P c.sync_names.ensures.time (λ d left. inl (c.sync_names.ensures.crash d left)) in
-    let p2 = joined M L s0 s1 c.tidy_all.new.directory P _ p1 c.tidy_all.ensures.any_moment (λ d mends. inr (all_from F s0 s1 c.sync_names.ensures.same d mends)) in
-    λ records before now. weaker M L s0 _ P (AllWhole records) p2 (λ d. ⊎_elim (before d) (whole_mended F M s0 records now d))
+    λ records all.
+    let w1 = begins M L s0 s1 (AllWhole records) c.sync_names.ensures.time (λ d left. all d (c.sync_names.ensures.crash d left)) in
+    joined M L s0 s1 c.tidy_all.new.directory (AllWhole records) _ w1 c.tidy_all.ensures.from (whole_mended F M s1 records w1.after)
 
 pub returns-clause-any_moment : goal.returns-clause-any_moment
 returns-clause-any_moment g c =
@@ -73,8 +71,7 @@ returns-clause-any_moment g c =
     let L = g.D.Directory.left_since in
     let P : Content → Type 0 = λ d. M s0 d ⊎ AllMend F s0 d in
     let p1 = begins M L s0 s1 P c.sync_names.ensures.time (λ d left. inl (c.sync_names.ensures.crash d left)) in
-    let p2 = joined M L s0 s1 c.tidy_all.new.directory P _ p1 c.tidy_all.ensures.any_moment (λ d mends. inr (all_from F s0 s1 c.sync_names.ensures.same d mends)) in
-    p2
+    joined M L s0 s1 c.tidy_all.new.directory P _ p1 c.tidy_all.ensures.any_moment (λ d mends. inr (all_from F s0 s1 c.sync_names.ensures.same d mends))
 
 pub returns-clause-whole : goal.returns-clause-whole
 returns-clause-whole g c =
@@ -83,10 +80,9 @@ returns-clause-whole g c =
     let s0 = c.args.directory.now in
     let s1 = c.sync_names.new.self in
     let L = g.D.Directory.left_since in
-    let P : Content → Type 0 = λ d. M s0 d ⊎ AllMend F s0 d in
-    let p1 = begins M L s0 s1 P c.sync_names.ensures.time (λ d left. inl (c.sync_names.ensures.crash d left)) in
-    let p2 = joined M L s0 s1 c.tidy_all.new.directory P _ p1 c.tidy_all.ensures.any_moment (λ d mends. inr (all_from F s0 s1 c.sync_names.ensures.same d mends)) in
-    λ records before now. weaker M L s0 _ P (AllWhole records) p2 (λ d. ⊎_elim (before d) (whole_mended F M s0 records now d))
+    λ records all.
+    let w1 = begins M L s0 s1 (AllWhole records) c.sync_names.ensures.time (λ d left. all d (c.sync_names.ensures.crash d left)) in
+    joined M L s0 s1 c.tidy_all.new.directory (AllWhole records) _ w1 c.tidy_all.ensures.from (whole_mended F M s1 records w1.after)
 
 pub returns-clause-clean : goal.returns-clause-clean
 returns-clause-clean g c =

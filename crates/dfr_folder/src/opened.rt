@@ -1,0 +1,188 @@
+//! What is done with what a crash or a call that failed left of pairs.
+
+ghost use Rattle.std.specs.Prelude.{◌≡◌, ◌⊎◌, ◌∷◌, ℕ, List, true, None, IfOk};
+ghost use Rattle.dfr_folder.specs.declared.name.Key.{Key};
+ghost use Rattle.dfr_folder.specs.declared.name.Name.{Name};
+ghost use Rattle.dfr_folder.specs.Directory.{Content, IsSettled, LeavesNow, LeavesOnly, HasCause};
+ghost use Rattle.dfr_folder.specs.Events.{left_since};
+ghost use Rattle.dfr_folder.specs.Opened.{log_of};
+ghost use Rattle.dfr_folder.specs.Pairs.{AllWhole, AreSynced, found, under};
+
+use crate::checked::{discard_next, put_new};
+use crate::directory::{Directory, Fault};
+use crate::folder::recover;
+use crate::name::{Ending, Key, Name};
+use crate::recorded::Recorded;
+use crate::recovery::tidy;
+use crate::system::{Start, System};
+use std::alloc::Global;
+
+/// Removes what was being written under a key.
+fn drop_parts<D: Directory>(directory: &mut D, key: Key) -> Result<(), Fault>
+    ensures whole { (records : List (Key × List ℕ × List ℕ))
+        → LeavesNow (D.may_leave directory.old) (AllWhole records)
+        → LeavesOnly D.may_leave D.left_since directory.old directory.new (AllWhole records) }
+    ensures elsewhere { (n : Name) → (n.key ≡ key → ⊥)
+        → D.files directory.new n ≡ D.files directory.old n }
+    ensures cause { HasCause (D.failures directory.old) (D.failures directory.new) result }
+{
+    let cfg_part = Name {
+        key,
+        ending: Ending::ConfigPart,
+    };
+    directory.remove(cfg_part)?;
+    let dat_part = Name {
+        key,
+        ending: Ending::DataPart,
+    };
+    directory.remove(dat_part)?;
+    Ok(())
+}
+
+/// Completes or removes what a crash or a call that failed left of a pair. Returns whether there is
+/// a pair, for good. Nothing is done if a file has its name and the bytes of another may not be on
+/// the disk: that one may be its other half.
+pub fn mend<D: Directory>(directory: &mut D, key: Key) -> Result<bool, Fault>
+    // If each pair was whole before, a crash at any moment leaves whole pairs.
+    ensures whole { (records : List (Key × List ℕ × List ℕ))
+        → LeavesNow (D.may_leave directory.old) (AllWhole records)
+        → LeavesOnly D.may_leave D.left_since directory.old directory.new (AllWhole records) }
+    ensures there { IfOk result (λ is_there. is_there ≡ true
+        → (c : Content) → D.may_leave directory.new c → found (under c key) ≡ None → ⊥) }
+    ensures elsewhere { (n : Name) → (n.key ≡ key → ⊥)
+        → D.files directory.new n ≡ D.files directory.old n }
+    // It doesn't give up by itself.
+    ensures cause { HasCause (D.failures directory.old) (D.failures directory.new) result }
+{
+    if !directory.are_synced(key)? {
+        let there = directory.look(key)?;
+        if there.cfg || there.dat {
+            return Ok(false);
+        }
+        drop_parts(directory, key)?;
+        return Ok(false);
+    }
+    directory.sync_names()?;
+    tidy(directory, key)?;
+    let names = directory.look(key)?;
+    Ok(names.cfg)
+}
+
+/// What became of a pair that was to be put.
+#[derive(Clone, Copy, Debug, PartialEq, Eq)]
+pub enum Put {
+    /// It is there for good.
+    There,
+    /// It is there for good, though a call failed.
+    Completed,
+    /// Its key is in use.
+    Taken,
+    /// A call failed, and there is no pair.
+    Failed,
+    /// A call failed, and files may be left. `mend` completes or removes them.
+    Left,
+}
+
+/// Puts a pair into the folder, if its key is free. If that fails, completes or removes what is
+/// left of it.
+pub fn put_or_mend<D: Directory>(directory: &mut D, key: Key, cfg: &[u8], dat: &[u8]) -> Put
+    // If each pair was whole before, a crash at any moment leaves whole pairs, this one among them
+    // or not.
+    ensures whole { (records : List (Key × List ℕ × List ℕ))
+        → LeavesNow (D.may_leave directory.old) (AllWhole records)
+        → LeavesOnly D.may_leave D.left_since directory.old directory.new
+        (AllWhole ((key, cfg.now, dat.now) ∷ records)) }
+    ensures there { (result ≡ Put.There) ⊎ (result ≡ Put.Completed)
+        → (c : Content) → D.may_leave directory.new c → found (under c key) ≡ None → ⊥ }
+    ensures settled { result ≡ Put.There → IsSettled D.files D.may_leave directory.new }
+    ensures elsewhere { (n : Name) → (n.key ≡ key → ⊥)
+        → D.files directory.new n ≡ D.files directory.old n }
+{
+    match put_new(directory, key, cfg, dat) {
+        Ok(true) => Put::There,
+        Ok(false) => Put::Taken,
+        Err(_) => match mend(directory, key) {
+            Ok(true) => Put::Completed,
+            Ok(false) => Put::Failed,
+            Err(_) => Put::Left,
+        },
+    }
+}
+
+/// Puts a pair as `put_or_mend` does, and then gives up another one, for which the folder need not be
+/// synced again. Returns whether that was done. It isn't tried if a call failed before.
+pub fn put_for<D: Directory>(
+    directory: &mut D,
+    key: Key,
+    cfg: &[u8],
+    dat: &[u8],
+    oldest: Key,
+) -> (Put, bool)
+    // If each pair was whole before, a crash at any moment leaves whole pairs, this one among them
+    // or not.
+    ensures whole { (records : List (Key × List ℕ × List ℕ))
+        → LeavesNow (D.may_leave directory.old) (AllWhole records)
+        → LeavesOnly D.may_leave D.left_since directory.old directory.new
+        (AllWhole ((key, cfg.now, dat.now) ∷ records)) }
+    // A pair is given up only after the new one is there.
+    ensures first { result.1 ≡ true → result.0 ≡ Put.There }
+    ensures gone { result.1 ≡ true → (c : Content) → D.may_leave directory.new c
+        → found (under c oldest) ≡ None }
+    ensures elsewhere { (n : Name) → (n.key ≡ key → ⊥) → (n.key ≡ oldest → ⊥)
+        → D.files directory.new n ≡ D.files directory.old n }
+{
+    match put_or_mend(directory, key, cfg, dat) {
+        Put::There => match discard_next(directory, oldest) {
+            Ok(is_gone) => (Put::There, is_gone),
+            Err(_) => (Put::There, false),
+        },
+        put => (put, false),
+    }
+}
+
+/// Completes or removes what is left of each pair by itself. What can't be done is left.
+fn mend_each<D: Directory>(directory: &mut D, alloc: Global)
+    ensures whole { (records : List (Key × List ℕ × List ℕ))
+        → LeavesNow (D.may_leave directory.old) (AllWhole records)
+        → LeavesOnly D.may_leave D.left_since directory.old directory.new (AllWhole records) }
+{
+    let Ok(mut keys) = directory.leftovers(alloc) else {
+        return;
+    };
+    while let Some(key) = keys.pop() {
+        let _ = mend(directory, key);
+    }
+}
+
+/// Completes or removes what is left of each pair. What can't be done is left.
+fn recover_all<D: Directory>(directory: &mut D, alloc: Global, are_synced: bool)
+    requires synced { are_synced ≡ true → (key : Key) → AreSynced D.files directory.old key }
+    ensures whole { (records : List (Key × List ℕ × List ℕ))
+        → LeavesNow (D.may_leave directory.old) (AllWhole records)
+        → LeavesOnly D.may_leave D.left_since directory.old directory.new (AllWhole records) }
+{
+    if !are_synced {
+        mend_each(directory, alloc);
+        return;
+    }
+    match recover(directory, alloc) {
+        Ok(()) => {}
+        Err(_) => mend_each(directory, alloc),
+    }
+}
+
+/// Opens a folder, and completes or removes whatever a crash left in it. A file that can't be
+/// renamed or removed is left, with those of its pair. If the folder can't be read, hands it back.
+pub fn open_folder<C: System, S: Start>(
+    alloc: Global,
+    system: C,
+) -> Result<Recorded<C, S>, (Fault, C)>
+    // If each pair was whole before, a crash at any moment since has left whole pairs.
+    ensures whole { IfOk result (λ opened. (records : List (Key × List ℕ × List ℕ))
+        → LeavesNow S.may_leave (AllWhole records)
+        → LeavesNow (left_since S.bytes S.may_leave 0 (log_of opened)) (AllWhole records)) }
+{
+    let (mut opened, are_synced) = Recorded::open(alloc, system)?;
+    recover_all(&mut opened, alloc, are_synced);
+    Ok(opened)
+}
