@@ -1,0 +1,4 @@
+pub mod Digits
+pub mod Asdus
+pub mod ElementsRead
+pub mod OneList

@@ -1,0 +1,10 @@
+pub mod Bytes
+pub mod Readings
+pub mod Ber
+pub mod Ethernets
+pub mod SampledValues
+pub mod Views
+pub mod Captures
+pub mod Elements
+pub mod DataValues
+pub mod Goose
