@@ -1,0 +1,9 @@
+pub mod Bits
+pub mod Huffman
+pub mod Lists
+pub mod Deflate
+pub mod Pairs
+pub mod Faults
+pub mod Crc
+pub mod Gzip
+pub mod Zip
