@@ -1,3 +1,13 @@
+pub mod FirstEvents
+pub mod Floors
+pub mod InPlace
+pub mod MoreContacts
 pub mod MoreRows
+pub mod MoreSquares
 pub mod MoreSums
+pub mod MoreSurveys
+pub mod PhaseFields
+pub mod PhasesFound
 pub mod Ranges
+pub mod ValueOrder
+pub mod WholeCycles

@@ -12,7 +12,7 @@ range_more a n =
     ∙ ap (λ (xs : List ℕ). xs ++ (a + n) ∷ []) (map-id (range_with_len a n))
 
 module _ {X : Type 0} where
-  filter_more : (f : ℕ → Option X) (a n j : ℕ) → a + n ≡ j → filter_map f (range_with_len a (n + 1)) ≡ filter_map f (range_with_len a n) ++ cons_option (f j) []
+  pub filter_more : (f : ℕ → Option X) (a n j : ℕ) → a + n ≡ j → filter_map f (range_with_len a (n + 1)) ≡ filter_map f (range_with_len a n) ++ cons_option (f j) []
   filter_more f a n j at =
       ap (filter_map f) (range_more a n) ∙ filter_map-append f (range_with_len a n) ((a + n) ∷ [])
       ∙ ap (λ (k : ℕ). filter_map f (range_with_len a n) ++ cons_option (f k) []) at

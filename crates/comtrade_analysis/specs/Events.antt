@@ -1,5 +1,5 @@
 -- The changes of contacts. Rows and contacts count from 0.
-use Rattle.std.specs.Prelude.{ℕ, ◌-◌, Bool, true, false, List, length, slice_get, option_map, option_and_then, Option, Some, None}
+use Rattle.std.specs.Prelude.{◌≡◌, ℕ, ◌-◌, ◌<◌, Bool, true, false, List, length, slice_get, option_map, option_and_then, Option, Some, None}
 use Rattle.std.specs.List.{filter_map, flat_map, range_with_len}
 use Rattle.comtrade_format.specs.Parts.{RowParts}
 use Rattle.comtrade_analysis.specs.declared.events.Event.{Event}
@@ -33,3 +33,12 @@ events_after rows contacts n = flat_map (row_events rows contacts) (range_with_l
 -- the events of so many contacts; the first row has none
 abbrev pub events : List RowParts → ℕ → List Event
 events rows contacts = events_after rows contacts (length rows - 1)
+
+-- a contact has no event in the rows after the first and before this one
+abbrev pub IsSteady : List RowParts → ℕ → ℕ → Type 0
+IsSteady rows channel n = (k : ℕ) → 0 < k → k < n → event_at rows k channel ≡ None
+
+-- the first event of a contact in n rows; there is none exactly where it keeps its state in all of them
+abbrev pub IsFirstEvent : List RowParts → ℕ → ℕ → Option Event → Type 0
+IsFirstEvent rows channel n (Some e) = (0 < e.row) × (e.row < n) × (event_at rows e.row channel ≡ Some e) × IsSteady rows channel e.row
+IsFirstEvent rows channel n None = IsSteady rows channel n

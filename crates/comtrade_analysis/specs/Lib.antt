@@ -4,3 +4,12 @@ pub mod Gaps
 pub mod Events
 pub mod Sums
 pub mod Windows
+pub mod Wide
+pub mod MeanSquares
+pub mod Roots
+pub mod ValueExtremes
+pub mod Phases
+pub mod Sequences
+pub mod Surveys
+pub mod Outages
+pub mod Contacts

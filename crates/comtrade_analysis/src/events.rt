@@ -1,6 +1,6 @@
 //! The changes of contacts.
 
-ghost use Rattle.std.specs.Prelude.{◌≡◌, ◌++◌, ◌<◌, IfOk, OnOk};
+ghost use Rattle.std.specs.Prelude.{◌≡◌, ◌++◌, ◌<◌, length, IfOk, OnOk};
 ghost use Rattle.comtrade_analysis.specs.Events as spec;
 
 use comtrade_format::Row;
@@ -35,7 +35,7 @@ fn change(before: Option<bool>, now: Option<bool>) -> Option<bool>
 }
 
 /// The event of a contact in a row, if it changes there.
-fn event_at<A: Allocator>(rows: &[Row<A>], row: usize, channel: usize) -> Option<Event>
+pub(crate) fn event_at<A: Allocator>(rows: &[Row<A>], row: usize, channel: usize) -> Option<Event>
     requires { 0 < row }
     ensures { result ≡ spec.event_at rows.now row channel }
 {
@@ -82,4 +82,16 @@ pub fn events_of<A: Allocator, B: Allocator + Copy>(
         add_row(&mut events, rows, contacts, row)?;
     }
     Ok(events)
+}
+
+/// The first event of a contact, if it changes at all.
+pub fn first_event_of<A: Allocator>(rows: &[Row<A>], channel: usize) -> Option<Event>
+    ensures { spec.IsFirstEvent rows.now channel (length rows.now) result }
+{
+    for row in 1..rows.len() {
+        if let Some(event) = event_at(rows, row, channel) {
+            return Some(event);
+        }
+    }
+    None
 }

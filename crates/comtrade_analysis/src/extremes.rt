@@ -1,6 +1,8 @@
 //! The least and the greatest sample of a channel.
 
-ghost use Rattle.std.specs.Prelude.{◌≡◌, length, int_lt, if◌then◌else◌};
+ghost use Rattle.std.specs.Prelude.{◌≡◌, ◌+◌, ℕ, List, length, int_lt, if◌then◌else◌};
+ghost use Rattle.comtrade_format.specs.Parts.{RowParts};
+ghost use Rattle.comtrade_analysis.specs.Readings.{sample_at};
 ghost use Rattle.comtrade_analysis.specs.Extremes as spec;
 
 use crate::readings::sample_at;
@@ -41,22 +43,34 @@ impl Extremes {
     }
 }
 
+/// The extremes with one row more, in which the channel has this sample.
+pub(crate) fn extremes_with(
+    extremes: Option<Extremes>,
+    row: usize,
+    sample: Option<i32>,
+) -> Option<Extremes>
+    ensures { (rows : List RowParts) → (channel : ℕ) → sample_at rows channel row ≡ sample → spec.AreExtremes rows channel row extremes → spec.AreExtremes rows channel (row + 1) result }
+{
+    let Some(sample) = sample else {
+        return extremes;
+    };
+    let next = Extreme { sample, row };
+    match extremes {
+        None => Some(Extremes {
+            least: next,
+            greatest: next,
+        }),
+        Some(before) => Some(before.with(next)),
+    }
+}
+
 /// The extremes of an analogue channel, counted from 0; None where all its readings are missing.
 pub fn extremes_of<A: Allocator>(rows: &[Row<A>], channel: usize) -> Option<Extremes>
     ensures { spec.AreExtremes rows.now channel (length rows.now) result }
 {
     let mut extremes: Option<Extremes> = None;
     for row in 0..rows.len() {
-        if let Some(sample) = sample_at(rows, channel, row) {
-            let next = Extreme { sample, row };
-            extremes = match extremes {
-                None => Some(Extremes {
-                    least: next,
-                    greatest: next,
-                }),
-                Some(before) => Some(before.with(next)),
-            };
-        }
+        extremes = extremes_with(extremes, row, sample_at(rows, channel, row));
     }
     extremes
 }

@@ -1,32 +1,27 @@
 //! Runs of rows in which a channel has no sample.
 
-ghost use Rattle.std.specs.Prelude.{◌≡◌, ◌<◌, length, position, IfOk};
+ghost use Rattle.std.specs.Prelude.{◌≡◌, ◌+◌, ◌<◌, ◌≤◌, length, map, position, option_map, IfOk, IfSome};
 ghost use Rattle.comtrade_analysis.specs.Readings as reading;
 ghost use Rattle.comtrade_analysis.specs.Gaps as spec;
 
 use crate::readings::{has_sample, sample_at};
+use crate::runs::Gap;
 use comtrade_format::Row;
 use comtrade_values::Memory;
 use std::alloc::Allocator;
 
-/// A run of rows without a sample, which no row before or after it makes longer. Rows count from 0.
-#[derive(Clone, Copy, Debug, PartialEq, Eq)]
-pub struct Gap {
-    pub first: usize,
-    /// The number of rows, at least 1.
-    pub rows: usize,
-}
-
 /// The first of these rows with a sample.
 fn first_with_sample<A: Allocator>(rows: &[Row<A>], channel: usize) -> Option<usize>
-    ensures { result ≡ position (λ row. reading.has_sample channel row) rows.now }
+    ensures value { result ≡ position (λ row. reading.has_sample channel row) rows.now }
+    ensures within { IfSome result (λ k. k < length rows.now) }
 {
     rows.iter().position(|row| has_sample(row, channel))
 }
 
 /// How many of these rows come before the first one with a sample.
 fn run_length<A: Allocator>(rows: &[Row<A>], channel: usize) -> usize
-    ensures { result ≡ spec.run_length channel rows.now }
+    ensures value { result ≡ spec.run_length channel rows.now }
+    ensures within { result ≤ length rows.now }
 {
     match first_with_sample(rows, channel) {
         Some(count) => count,
@@ -50,13 +45,13 @@ fn begins<A: Allocator>(rows: &[Row<A>], channel: usize, row: usize) -> bool
 /// The gap that begins at a row, if one does.
 fn gap_at<A: Allocator>(rows: &[Row<A>], channel: usize, row: usize) -> Option<Gap>
     requires { row < length rows.now }
-    ensures { result ≡ spec.gap_at rows.now channel row }
+    ensures { option_map spec.run_of result ≡ spec.gap_at rows.now channel row }
 {
     if begins(rows, channel, row) {
-        let rest = &rows[row..];
+        let rest = &rows[row + 1..];
         Some(Gap {
             first: row,
-            rows: run_length(rest, channel),
+            rows: run_length(rest, channel) + 1,
         })
     } else {
         None
@@ -70,7 +65,7 @@ pub fn gaps_of<A: Allocator, B: Allocator + Copy>(
     rows: &[Row<A>],
     channel: usize,
 ) -> Result<Vec<Gap, B>, Memory>
-    ensures { IfOk result (λ gaps. gaps.items ≡ spec.gaps rows.now channel) }
+    ensures { IfOk result (λ gaps. map spec.run_of gaps.items ≡ spec.gaps rows.now channel) }
 {
     let mut gaps = Vec::new(alloc);
     for row in 0..rows.len() {
