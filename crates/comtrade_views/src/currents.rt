@@ -1,6 +1,10 @@
 //! The greatest current of a record, relative to its channel's nominal current.
 
-use crate::peaks::{Peaks, peaks_at, peaks_of};
+ghost use Rattle.comtrade_views.specs.Spellings as spec;
+ghost use Rattle.std.specs.Prelude.{◌≡◌};
+
+use crate::show_analog::surveys_in;
+use comtrade_analysis::Survey;
 use comtrade_format::{File, nearest_f64, scale_of};
 use comtrade_io::ToolFault;
 use comtrade_values::Decimal;
@@ -16,7 +20,9 @@ pub(crate) struct Current {
 }
 
 /// The nominal current of a channel.
-pub(crate) fn nominal_of<A: Allocator>(channel: &AnalogChannel<A>) -> Decimal {
+pub(crate) fn nominal_of<A: Allocator>(channel: &AnalogChannel<A>) -> Decimal
+    ensures { result ≡ spec.nominal channel.now }
+{
     match channel.side {
         Side::Primary => channel.primary,
         Side::Secondary => channel.secondary,
@@ -26,18 +32,18 @@ pub(crate) fn nominal_of<A: Allocator>(channel: &AnalogChannel<A>) -> Decimal {
 /// The greatest current of a channel relative to its nominal one, or the greatest before it.
 fn greatest_of<A: Allocator + Copy>(
     alloc: A,
-    peaks: Peaks,
+    survey: Survey,
     channel: &AnalogChannel<A>,
     place: usize,
     before: Option<Current>,
 ) -> Result<Option<Current>, ToolFault> {
-    let Some((least, most)) = peaks.extremes else {
+    let Some(extremes) = survey.extremes else {
         return Ok(before);
     };
     let scale = scale_of(alloc, channel)?;
     let nominal = nearest_f64(alloc, nominal_of(channel))?;
     let mut greatest = before;
-    for sample in [least.sample, most.sample] {
+    for sample in [extremes.least.sample, extremes.greatest.sample] {
         let size = scale.value(sample).abs();
         let times = if 0.0 < nominal { size / nominal } else { 0.0 };
         let known = match greatest {
@@ -60,11 +66,12 @@ pub(crate) fn greatest_current<A: Allocator + Copy>(
     alloc: A,
     file: &File<A>,
 ) -> Result<Option<Current>, ToolFault> {
-    let peaks = peaks_of(alloc, file)?;
+    let surveys = surveys_in(alloc, file)?;
     let mut greatest = None;
-    for (i, channel) in file.head.analog.items().iter().enumerate() {
+    let channels = file.head.analog.items().iter();
+    for (i, (channel, survey)) in channels.zip(surveys.iter()).enumerate() {
         if channel.unit.items() == b"A".as_slice() {
-            greatest = greatest_of(alloc, peaks_at(&peaks, i), channel, i, greatest)?;
+            greatest = greatest_of(alloc, *survey, channel, i, greatest)?;
         }
     }
     Ok(greatest)

@@ -1,11 +1,14 @@
 //! The events of records, in one list: triggers, changes of status channels, gaps.
 
-use crate::peaks::bit_at;
-use crate::times::times_since_trigger;
+ghost use Rattle.std.specs.Prelude.{◌≡◌, ◌+◌, ◌-◌, ◌++◌, ◌==◌, [], OnOk, codes, decimal, if◌then◌else◌};
+ghost use Rattle.comtrade_io.specs.Safe.{safe};
+
+use crate::number::put_ordinal;
+use crate::times::{time_at, times_since_trigger};
+use comtrade_analysis::{Outage, events_of, outages_of};
 use comtrade_format::File;
 use comtrade_io::{ToolFault, put_safe};
 use comtrade_values::{put, put_count, put_with};
-use dfr_channels::Reading;
 use std::alloc::{AllocError, Allocator, Global};
 
 /// An event, with its text.
@@ -36,10 +39,13 @@ struct Source<'a, A: Allocator> {
 }
 
 /// An event at a row, with the text that follows.
-fn event_at<A: Allocator + Copy>(source: &Source<'_, A>, row: usize) -> Event<A> {
-    let since = match source.times.get(row) {
-        Some(Some(nanos)) => Some(*nanos as i128),
-        _ => None,
+fn event_at<A: Allocator + Copy>(source: &Source<'_, A>, row: usize) -> Event<A>
+    ensures place { result.record ≡ source.now.record }
+    ensures text { result.text.items ≡ [] }
+{
+    let since = match time_at(source.times, row) {
+        Some(nanos) => Some(nanos as i128),
+        None => None,
     };
     Event {
         at: since.map(|nanos| source.trigger.saturating_add(nanos)),
@@ -56,96 +62,70 @@ fn put_change<A: Allocator>(
     place: usize,
     id: &[u8],
     bit: bool,
-) -> Result<(), AllocError> {
-    put_with(text, "D", (place as u64).saturating_add(1))?;
+) -> Result<(), AllocError>
+    ensures { OnOk result (text.new.items ≡ text.old.items ++ (codes "D" ++ decimal (place + 1)) ++ codes " " ++ safe id.now
+        ++ (if bit then codes " 1" else codes " 0")) }
+{
+    put_ordinal(text, "D", place)?;
     put(text, " ")?;
     put_safe(text, id)?;
     put(text, if bit { " 1" } else { " 0" })
 }
 
-/// The changes of status channels from one row to the next.
+/// The changes of status channels.
 fn add_changes<A: Allocator + Copy>(
     events: &mut Vec<Event<A>, A>,
     source: &Source<'_, A>,
 ) -> Result<(), ToolFault> {
     let file = source.file;
-    let rows = file.rows.items();
-    for (i, (before, row)) in rows.iter().zip(rows.iter().skip(1)).enumerate() {
-        for (place, channel) in file.head.status.items().iter().enumerate() {
-            let bit = bit_at(row, place);
-            if bit_at(before, place) != bit {
-                let mut event = event_at(source, i.saturating_add(1));
-                put_change(&mut event.text, place, channel.id.items(), bit)?;
-                events.push(event)?;
-            }
+    let contacts = file.head.status.items();
+    for change in events_of(source.alloc, file.rows.items(), contacts.len())?.iter() {
+        if let Some(contact) = contacts.get(change.channel) {
+            let mut event = event_at(source, change.row);
+            put_change(
+                &mut event.text,
+                change.channel,
+                contact.id.items(),
+                change.closed,
+            )?;
+            events.push(event)?;
         }
     }
     Ok(())
 }
 
-/// A run of rows with missing readings.
-#[derive(Clone, Copy)]
-struct Gap {
-    from: usize,
-    to: usize,
-    /// The greatest number of missing readings in one of the rows.
-    channels: u64,
-}
-
 /// The text of a run of rows with missing readings.
-fn put_gap<A: Allocator>(text: &mut Vec<u8, A>, gap: Gap) -> Result<(), AllocError> {
+fn put_outage<A: Allocator>(text: &mut Vec<u8, A>, outage: Outage) -> Result<(), AllocError>
+    ensures { OnOk result (text.new.items ≡ text.old.items ++ codes "readings of " ++ decimal outage.channels
+        ++ (if outage.channels == 1 then codes " channel" else codes " channels")
+        ++ (codes " missing, rows " ++ decimal (outage.first + 1))
+        ++ (codes " to " ++ decimal (outage.first + outage.rows))) }
+{
     put(text, "readings of ")?;
-    put_count(text, gap.channels, " channel", " channels")?;
-    put_with(text, " missing, rows ", (gap.from as u64).saturating_add(1))?;
-    put_with(text, " to ", (gap.to as u64).saturating_add(1))
+    put_count(text, outage.channels as u64, " channel", " channels")?;
+    put_ordinal(text, " missing, rows ", outage.first)?;
+    put_with(text, " to ", (outage.first + outage.rows) as u64)
 }
 
-/// Adds a run of rows with missing readings, if there is one.
-fn add_gap<A: Allocator + Copy>(
+/// The runs of rows with missing readings.
+fn add_outages<A: Allocator + Copy>(
     events: &mut Vec<Event<A>, A>,
     source: &Source<'_, A>,
-    gap: Option<Gap>,
 ) -> Result<(), ToolFault> {
-    if let Some(gap) = gap {
-        let mut event = event_at(source, gap.from);
-        put_gap(&mut event.text, gap)?;
+    let file = source.file;
+    for outage in outages_of(source.alloc, file.rows.items())?.iter() {
+        let mut event = event_at(source, outage.first);
+        put_outage(&mut event.text, *outage)?;
         events.push(event)?;
     }
     Ok(())
 }
 
-/// The runs of rows with missing readings.
-fn add_gaps<A: Allocator + Copy>(
-    events: &mut Vec<Event<A>, A>,
-    source: &Source<'_, A>,
-) -> Result<(), ToolFault> {
-    let file = source.file;
-    let mut begun: Option<Gap> = None;
-    for (i, row) in file.rows.items().iter().enumerate() {
-        let readings = row.values.items().iter();
-        let missing = readings
-            .filter(|reading| **reading == Reading::Missing)
-            .count() as u64;
-        if 0 < missing {
-            let (from, channels) = match begun {
-                Some(gap) => (gap.from, gap.channels.max(missing)),
-                None => (i, missing),
-            };
-            begun = Some(Gap {
-                from,
-                to: i,
-                channels,
-            });
-        } else {
-            add_gap(events, source, begun)?;
-            begun = None;
-        }
-    }
-    add_gap(events, source, begun)
-}
-
 /// The text of a trigger: the names of its record.
-fn put_trigger<A: Allocator>(text: &mut Vec<u8, A>, file: &File<A>) -> Result<(), AllocError> {
+fn put_trigger<A: Allocator>(text: &mut Vec<u8, A>, file: &File<A>) -> Result<(), AllocError>
+    ensures { OnOk result (text.new.items ≡ text.old.items ++ codes "trigger of " ++ safe file.now.head.station
+        ++ codes ", " ++ safe file.now.head.device) }
+{
     put(text, "trigger of ")?;
     put_safe(text, file.head.station.items())?;
     put(text, ", ")?;
@@ -186,7 +166,7 @@ pub fn add_events<A: Allocator + Copy>(
     };
     add_trigger(events, &source)?;
     add_changes(events, &source)?;
-    add_gaps(events, &source)
+    add_outages(events, &source)
 }
 
 /// Sorts the events by time; those without an instant come last.

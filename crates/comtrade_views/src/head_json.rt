@@ -3,9 +3,8 @@
 use crate::instant::put_instant;
 use crate::json::{put_rows_json, put_text};
 use crate::number::put_decimal;
-use crate::peaks::peaks_of;
 use crate::show::Clock;
-use crate::show_analog::analog_table;
+use crate::show_analog::{analog_table, surveys_in};
 use crate::show_status::contact_table;
 use comtrade_format::{File, Head};
 use comtrade_io::{ToolFault, kind_name};
@@ -75,7 +74,7 @@ pub fn show_json<A: Allocator + Copy>(
     let clock = Clock { times, trigger: 0 };
     let mut out = Vec::new(alloc);
     put_head(alloc, &mut out, file)?;
-    let analog = analog_table(lists, file, clock, &peaks_of(lists, file)?)?;
+    let analog = analog_table(lists, file, clock, &surveys_in(lists, file)?)?;
     put_rows_json(alloc, &mut out, ",\"analog\":", ANALOG, &analog)?;
     drop(analog);
     let status = contact_table(lists, file, clock)?;

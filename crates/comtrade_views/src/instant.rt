@@ -1,5 +1,10 @@
 //! Instants as dates, and spans of time.
 
+ghost use Rattle.std.specs.Prelude.{◌≡◌, ◌++◌, ◌<ℤ◌, neg_ℤ, pos, OnOk, codes, int_lt, if◌then◌else◌};
+ghost use Rattle.comtrade_values.specs.Dates.{civil_text};
+ghost use Rattle.jiff_core.specs.Calendar.{IsBetween};
+ghost use Rattle.comtrade_views.specs.Texts.{millis};
+
 use comtrade_values::{has_date, put, put_civil, put_number, put_padded};
 use std::alloc::{AllocError, Allocator};
 
@@ -7,7 +12,9 @@ use std::alloc::{AllocError, Allocator};
 const TO_POINT: usize = 20;
 
 /// The words for an instant outside the years 1 to 9999.
-fn words_of(instant: i128) -> &'static str {
+fn words_of(instant: i128) -> &'static str
+    ensures { result.now ≡ (if int_lt instant (pos 0) then codes "before the year 1" else codes "after the year 9999") }
+{
     if instant < 0 {
         "before the year 1"
     } else {
@@ -20,7 +27,10 @@ fn words_of(instant: i128) -> &'static str {
 pub(crate) fn put_instant<A: Allocator>(
     out: &mut Vec<u8, A>,
     instant: i128,
-) -> Result<(), AllocError> {
+) -> Result<(), AllocError>
+    ensures { OnOk result (IsBetween (neg_ℤ (pos 62135596800000000)) (pos 253402300799999999) instant
+        → out.new.items ≡ out.old.items ++ civil_text 32 instant) }
+{
     if let Ok(micros) = i64::try_from(instant) {
         if has_date(micros) {
             return put_civil(out, micros, b' ');
@@ -74,11 +84,10 @@ impl<A: Allocator> InstantText<A> {
 }
 
 /// Nanoseconds as milliseconds with three places.
-pub(crate) fn put_millis<A: Allocator>(
-    out: &mut Vec<u8, A>,
-    nanos: i128,
-) -> Result<(), AllocError> {
-    let us = nanos.unsigned_abs().saturating_add(500) / 1000;
+pub(crate) fn put_millis<A: Allocator>(out: &mut Vec<u8, A>, nanos: i128) -> Result<(), AllocError>
+    ensures { OnOk result (out.new.items ≡ out.old.items ++ millis nanos) }
+{
+    let us = (nanos.unsigned_abs() + 500) / 1000;
     if nanos < 0 && us != 0 {
         out.extend_from_slice(b"-")?;
     }

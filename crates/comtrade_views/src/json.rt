@@ -1,5 +1,9 @@
 //! Tables as JSON: an array with an object for each row, whose members are the cells.
 
+ghost use Rattle.std.specs.Prelude.{◌≡◌, ◌+◌, ◌<◌, ◌==◌, drop, length, position, take, IfSome};
+ghost use Rattle.comtrade_views.specs.Rows.{place_of};
+ghost use Rattle.comtrade_views.specs.Spellings as spec;
+
 use crate::table::CELL;
 use comtrade_io::put_safe;
 use comtrade_values::put;
@@ -23,7 +27,9 @@ fn put_string(alloc: Global, out: &mut Vec<u8>, text: &[u8]) -> Result<(), Alloc
 }
 
 /// Whether a cell is written as a JSON number or array.
-fn is_number(cell: &[u8]) -> bool {
+fn is_number(cell: &[u8]) -> bool
+    ensures { result ≡ spec.is_number cell.now }
+{
     match cell {
         [b'-', b, ..] => b.is_ascii_digit(),
         [b, ..] => b.is_ascii_digit() || *b == b'[',
@@ -54,12 +60,23 @@ fn put_member(
     put(out, "null")
 }
 
+/// Where the first such byte stands.
+fn first_of(text: &[u8], end: u8) -> Option<usize>
+    ensures value { result ≡ position (λ b. b == end) text.now }
+    ensures within { IfSome result (λ k. k < length text.now) }
+{
+    text.iter().position(|b| *b == end)
+}
+
 /// The text before the first such byte, and the text after it; all and nothing without one.
-fn cut_at(text: &[u8], end: u8) -> (&[u8], &[u8]) {
-    let at = text.iter().position(|b| *b == end).unwrap_or(text.len());
-    let front = text.get(..at).unwrap_or(&[]);
-    let back = text.get(at.saturating_add(1)..).unwrap_or(&[]);
-    (front, back)
+fn cut_at(text: &[u8], end: u8) -> (&[u8], &[u8])
+    ensures front { result.0.now ≡ take (place_of end text.now) text.now }
+    ensures back { result.1.now ≡ drop (place_of end text.now + 1) text.now }
+{
+    match first_of(text, end) {
+        Some(at) => (&text[..at], &text[at + 1..]),
+        None => (text, &[]),
+    }
 }
 
 /// A row of a table as an object.

@@ -20,7 +20,6 @@ mod measure_record;
 mod measure_tables;
 mod number;
 mod part;
-mod peaks;
 mod sequence_table;
 mod show;
 mod show_analog;

@@ -1,13 +1,25 @@
 //! Numbers of a pair as decimals: a number of the file, and a scaled sample, exact where floats
 //! would round.
 
-ghost use Rattle.std.specs.Prelude.{OnOk};
+ghost use Rattle.std.specs.Prelude.{◌≡◌, ◌+◌, ◌++◌, OnOk, decimal};
 ghost use Rattle.comtrade_values.specs.Arithmetic as Values;
 
 use comtrade_format::{LONGEST_VALUE, write_shortened};
-use comtrade_values::{Decimal, Exact, exact_value, put_exact, without_zeros};
+use comtrade_values::{Decimal, Exact, exact_value, put, put_exact, put_number, without_zeros};
 use dfr_channels::AnalogChannel;
 use std::alloc::{AllocError, Allocator};
+
+/// A text, and the number from 1 of what has this index.
+pub(crate) fn put_ordinal<A: Allocator>(
+    out: &mut Vec<u8, A>,
+    text: &str,
+    index: usize,
+) -> Result<(), AllocError>
+    ensures { OnOk result (out.new.items ≡ out.old.items ++ (text.now ++ decimal (index + 1))) }
+{
+    put(out, text)?;
+    put_number(out, index as u128 + 1)
+}
 
 /// The bound of the units of a decimal, so that products with samples and stamps fit.
 const MOST: u128 = 1_000_000_000_000_000_000_000_000_000;
@@ -24,7 +36,10 @@ pub(crate) struct Scale {
     pub(crate) b: Decimal,
 }
 
-pub(crate) fn scale_of<A: Allocator>(channel: &AnalogChannel<A>) -> Scale {
+pub(crate) fn scale_of<A: Allocator>(channel: &AnalogChannel<A>) -> Scale
+    ensures a { result.a ≡ channel.now.a }
+    ensures b { result.b ≡ channel.now.b }
+{
     Scale {
         a: channel.a,
         b: channel.b,
@@ -80,6 +95,8 @@ pub(crate) fn put_shortened<A: Allocator>(
 pub(crate) fn put_decimal<A: Allocator>(
     out: &mut Vec<u8, A>,
     decimal: Decimal,
-) -> Result<(), AllocError> {
+) -> Result<(), AllocError>
+    ensures { OnOk result (Values.AppendsValue out.old.items out.new.items decimal) }
+{
     comtrade_values::put_decimal(out, without_zeros(decimal))
 }

@@ -1,6 +1,7 @@
 //! A part of a record: the rows between two moments, channels by name, values of one side of the
 //! transformers; and the encoding of its texts.
 
+mod code_pages;
 mod cut;
 mod encoding;
 mod fault;

@@ -1,15 +1,17 @@
 //! What a pair of files contains, as text.
 
+ghost use Rattle.std.specs.Prelude.{◌≡◌, ◌+◌, ◌-◌, ◌++◌, ◌∷◌, [], OnOk, codes, decimal};
+ghost use Rattle.comtrade_views.specs.Texts.{row_time};
+
 use crate::instant::{put_instant, put_millis};
-use crate::number::put_decimal;
-use crate::peaks::{LISTED, Peaks, peaks_at, peaks_of};
-use crate::show_analog::put_analog;
-use crate::show_status::{put_more, put_status};
-use crate::times::trigger_since_first;
+use crate::number::{put_decimal, put_ordinal};
+use crate::show_analog::{put_analog, surveys_in};
+use crate::show_status::{LISTED, put_more, put_status};
+use crate::times::{time_at, trigger_since_first};
+use comtrade_analysis::{Gap, Survey, gaps_of};
 use comtrade_format::{File, Head, Row};
 use comtrade_io::{ToolFault, kind_name, put_safe, write_out};
-use comtrade_values::{put, put_count, put_with};
-use dfr_channels::Reading;
+use comtrade_values::{Memory, put, put_count, put_with};
 use std::alloc::{AllocError, Allocator};
 use std::io::Write;
 
@@ -26,10 +28,12 @@ pub(crate) fn put_row_time<A: Allocator>(
     out: &mut Vec<u8, A>,
     clock: Clock<'_>,
     row: usize,
-) -> Result<(), AllocError> {
-    match clock.times.get(row) {
-        Some(Some(nanos)) => put_millis(out, *nanos as i128),
-        _ => put_with(out, "row ", (row as u64).saturating_add(1)),
+) -> Result<(), AllocError>
+    ensures { OnOk result (out.new.items ≡ out.old.items ++ row_time clock.entry.times.now row) }
+{
+    match time_at(clock.times, row) {
+        Some(nanos) => put_millis(out, nanos as i128),
+        None => put_ordinal(out, "row ", row),
     }
 }
 
@@ -92,77 +96,53 @@ fn put_data<A: Allocator>(
     put(out, "\n")
 }
 
-/// The gaps of a channel so far: how many have ended, and the first row of the open one.
-#[derive(Clone, Copy)]
-struct Gaps {
-    count: u64,
-    begun: Option<usize>,
-}
-
-/// Ends the open gap before this row: prints its first and last row, with their times.
-fn end_gap<A: Allocator>(
-    out: &mut Vec<u8, A>,
-    clock: Clock<'_>,
-    gaps: Gaps,
-    row: usize,
-) -> Result<Gaps, AllocError> {
-    let Some(first) = gaps.begun else {
-        return Ok(gaps);
-    };
-    let last = row.saturating_sub(1);
-    if gaps.count < LISTED {
-        put(out, "  ")?;
-        put_row_time(out, clock, first)?;
-        put(out, " to ")?;
-        put_row_time(out, clock, last)?;
-        put_with(out, ", rows ", (first as u64).saturating_add(1))?;
-        put_with(out, " to ", (last as u64).saturating_add(1))?;
-        put(out, "\n")?;
-    }
-    Ok(Gaps {
-        count: gaps.count.saturating_add(1),
-        begun: None,
-    })
-}
-
-/// Prints the runs of rows in which a channel's reading is missing.
-fn put_gaps_of<A: Allocator>(
-    out: &mut Vec<u8, A>,
-    rows: &[Row<A>],
-    clock: Clock<'_>,
-    at: usize,
-) -> Result<(), AllocError> {
-    let mut gaps = Gaps {
-        count: 0,
-        begun: None,
-    };
-    for (i, row) in rows.iter().enumerate() {
-        if let Some(Reading::Value(_)) = row.values.items().get(at) {
-            gaps = end_gap(out, clock, gaps, i)?;
-        } else {
-            gaps.begun = gaps.begun.or(Some(i));
-        }
-    }
-    let gaps = end_gap(out, clock, gaps, rows.len())?;
-    if gaps.count <= LISTED {
-        return Ok(());
-    }
-    put(out, " ")?;
-    put_more(out, gaps.count)?;
+/// Prints the first and the last row of a gap, with their times.
+fn put_gap<A: Allocator>(out: &mut Vec<u8, A>, clock: Clock<'_>, gap: Gap) -> Result<(), AllocError>
+    ensures { OnOk result (out.new.items ≡ out.old.items
+        ++ codes "  " ++ row_time clock.entry.times.now gap.first
+        ++ codes " to " ++ row_time clock.entry.times.now (gap.first + (gap.rows - 1))
+        ++ (codes ", rows " ++ decimal (gap.first + 1))
+        ++ (codes " to " ++ decimal (gap.first + (gap.rows - 1) + 1)) ++ 10 ∷ []) }
+{
+    let last = gap.first + (gap.rows - 1);
+    put(out, "  ")?;
+    put_row_time(out, clock, gap.first)?;
+    put(out, " to ")?;
+    put_row_time(out, clock, last)?;
+    put_ordinal(out, ", rows ", gap.first)?;
+    put_ordinal(out, " to ", last)?;
     put(out, "\n")
 }
 
+/// Prints the first gaps of a channel, and how many more there are.
+fn put_gaps_of<A: Allocator + Copy>(
+    out: &mut Vec<u8, A>,
+    rows: &[Row<A>],
+    clock: Clock<'_>,
+    channel: usize,
+) -> Result<(), Memory> {
+    let gaps = gaps_of(*out.allocator(), rows, channel)?;
+    for gap in gaps.iter().take(LISTED) {
+        put_gap(out, clock, *gap)?;
+    }
+    if LISTED < gaps.len() {
+        put(out, " ")?;
+        put_more(out, gaps.len())?;
+        put(out, "\n")?;
+    }
+    Ok(())
+}
+
 /// Prints the gaps of each channel that has any, under a line with its name.
-fn put_gaps<A: Allocator>(
+fn put_gaps<A: Allocator + Copy>(
     out: &mut Vec<u8, A>,
     file: &File<A>,
     clock: Clock<'_>,
-    peaks: &[Peaks],
-) -> Result<(), AllocError> {
+    surveys: &[Survey],
+) -> Result<(), Memory> {
     for (i, channel) in file.head.analog.items().iter().enumerate() {
-        if peaks_at(peaks, i).missing != 0 {
-            let n = (i as u64).saturating_add(1);
-            put_with(out, "\nmissing readings of analogue channel ", n)?;
+        if matches!(surveys.get(i), Some(survey) if survey.missing != 0) {
+            put_ordinal(out, "\nmissing readings of analogue channel ", i)?;
             put(out, ", ")?;
             put_safe(out, channel.id.items())?;
             put(out, ", ms since the trigger\n")?;
@@ -178,14 +158,14 @@ fn put_all<A: Allocator + Copy>(
     out: &mut Vec<u8, A>,
     file: &File<A>,
     clock: Clock<'_>,
-) -> Result<(), AllocError> {
+) -> Result<(), Memory> {
     put_head(out, &file.head, clock.trigger)?;
     put_rates(out, &file.head)?;
     put_data(out, file, clock)?;
-    let peaks = peaks_of(alloc, file)?;
-    put_analog(out, file, clock, &peaks)?;
+    let surveys = surveys_in(alloc, file)?;
+    put_analog(out, file, clock, &surveys)?;
     put_status(out, file, clock)?;
-    put_gaps(out, file, clock, &peaks)
+    put_gaps(out, file, clock, &surveys)
 }
 
 /// Prints what a file contains. The rows were taken at these times, in nanoseconds since the

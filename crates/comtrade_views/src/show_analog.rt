@@ -1,12 +1,16 @@
 //! The table of analogue channels, with their extremes.
 
-use crate::number::{put_decimal, scale_of, value_of};
-use crate::peaks::{Peak, Peaks, peaks_at};
+ghost use Rattle.std.specs.Prelude.{◌≡◌, ◌+◌, ◌++◌, length, IfOk, OnOk, decimal};
+ghost use Rattle.comtrade_analysis.specs.Surveys.{AreSurveys};
+ghost use Rattle.comtrade_views.specs.Texts.{cell, short};
+
+use crate::number::{put_decimal, put_ordinal, scale_of, value_of};
 use crate::show::{Clock, put_row_time};
-use crate::table::{end_cell, end_row, put_cell, put_number_cell, put_table, table_of};
+use crate::table::{end_cell, end_row, put_cell, put_table, table_of};
+use comtrade_analysis::{Extremes, Factors, Survey, surveys_of};
 use comtrade_format::File;
 use comtrade_io::put_safe;
-use comtrade_values::{put, put_count, put_exact, put_number};
+use comtrade_values::{Memory, put, put_count, put_exact, put_number};
 use dfr_channels::{AnalogChannel, Side};
 use std::alloc::{AllocError, Allocator};
 
@@ -15,14 +19,16 @@ const LONGEST: usize = 64;
 
 /// A text from the file. One that is longer than the standard allows is cut to its first bytes and
 /// three dots.
-fn put_text_cell<A: Allocator>(table: &mut Vec<u8, A>, text: &[u8]) -> Result<(), AllocError> {
-    match text.get(..LONGEST) {
-        Some(front) if front.len() < text.len() => {
-            put_safe(table, front)?;
-            put(table, "...")?;
-        }
-        _ => put_safe(table, text)?,
+fn put_text_cell<A: Allocator>(table: &mut Vec<u8, A>, text: &[u8]) -> Result<(), AllocError>
+    ensures { OnOk result (table.new.items ≡ table.old.items ++ cell (short text.now)) }
+{
+    if LONGEST < text.len() {
+        let (front, _) = text.split_at(LONGEST);
+        put_safe(table, front)?;
+        put(table, "...")?;
+        return end_cell(table);
     }
+    put_safe(table, text)?;
     end_cell(table)
 }
 
@@ -33,8 +39,12 @@ pub(crate) fn put_names<A: Allocator>(
     id: &[u8],
     phase: &[u8],
     component: &[u8],
-) -> Result<(), AllocError> {
-    put_number_cell(table, (place as u64).saturating_add(1))?;
+) -> Result<(), AllocError>
+    ensures { OnOk result (table.new.items ≡ table.old.items ++ cell (decimal (place + 1))
+        ++ cell (short id.now) ++ cell (short phase.now) ++ cell (short component.now)) }
+{
+    put_ordinal(table, "", place)?;
+    end_cell(table)?;
     put_text_cell(table, id)?;
     put_text_cell(table, phase)?;
     put_text_cell(table, component)
@@ -67,27 +77,22 @@ fn put_scale<A: Allocator>(
     )
 }
 
-/// A channel's least and greatest value, and when they occurred. Where a is negative, that of the
-/// greatest sample comes first.
+/// A channel's least and greatest value, and when they occurred.
 fn put_extremes<A: Allocator>(
     table: &mut Vec<u8, A>,
     clock: Clock<'_>,
     channel: &AnalogChannel<A>,
-    extremes: Option<(Peak, Peak)>,
+    extremes: Option<Extremes>,
 ) -> Result<(), AllocError> {
-    let Some((least, greatest)) = extremes else {
+    let Some(extremes) = extremes else {
         return put(table, "\x1F\x1F\x1F\x1F");
     };
-    let peaks = if channel.a.units() < 0 {
-        [greatest, least]
-    } else {
-        [least, greatest]
-    };
-    for peak in peaks {
-        let value = value_of(scale_of(channel), peak.sample);
+    let extremes = extremes.by_value(&Factors::of(channel));
+    for extreme in [extremes.least, extremes.greatest] {
+        let value = value_of(scale_of(channel), extreme.sample);
         put_exact(table, value.to_six_digits())?;
         end_cell(table)?;
-        put_row_time(table, clock, peak.row)?;
+        put_row_time(table, clock, extreme.row)?;
         end_cell(table)?;
     }
     Ok(())
@@ -98,29 +103,42 @@ fn put_row<A: Allocator>(
     table: &mut Vec<u8, A>,
     clock: Clock<'_>,
     (place, channel): (usize, &AnalogChannel<A>),
-    peaks: Peaks,
+    survey: Survey,
 ) -> Result<(), AllocError> {
     let (id, phase) = (channel.id.items(), channel.phase.items());
     put_names(table, place, id, phase, channel.component.items())?;
     put_scale(table, channel)?;
-    put_extremes(table, clock, channel, peaks.extremes)?;
-    put_number(table, peaks.missing)?;
+    put_extremes(table, clock, channel, survey.extremes)?;
+    put_number(table, survey.missing as u64)?;
     end_row(table)
 }
 
-/// The table of the analogue channels, which have these peaks, below a line of column names.
+/// What the rows hold of each analogue channel.
+pub(crate) fn surveys_in<A: Allocator + Copy>(
+    alloc: A,
+    file: &File<A>,
+) -> Result<Vec<Survey, A>, Memory>
+    ensures count { IfOk result (λ surveys. length surveys.items ≡ length file.now.head.analog) }
+    ensures each { IfOk result (λ surveys. AreSurveys file.now.rows (length file.now.rows) surveys.items) }
+{
+    surveys_of(alloc, file.rows.items(), file.head.analog.items().len())
+}
+
+/// The table of the analogue channels, of which the rows hold this, below a line of column names.
 pub(crate) fn analog_table<A: Allocator + Copy>(
     alloc: A,
     file: &File<A>,
     clock: Clock<'_>,
-    peaks: &[Peaks],
+    surveys: &[Survey],
 ) -> Result<Vec<u8, A>, AllocError> {
     let mut table = table_of(
         alloc,
         "n\x1Fid\x1Fphase\x1Fcomponent\x1Funit\x1Fa\x1Fb\x1Frange\x1Fratio\x1Fside\x1Fleast\x1Fat\x1Fgreatest\x1Fat\x1Fmissing\n",
     )?;
     for (i, channel) in file.head.analog.items().iter().enumerate() {
-        put_row(&mut table, clock, (i, channel), peaks_at(peaks, i))?;
+        if let Some(survey) = surveys.get(i) {
+            put_row(&mut table, clock, (i, channel), *survey)?;
+        }
     }
     Ok(table)
 }
@@ -130,7 +148,7 @@ pub(crate) fn put_analog<A: Allocator + Copy>(
     out: &mut Vec<u8, A>,
     file: &File<A>,
     clock: Clock<'_>,
-    peaks: &[Peaks],
+    surveys: &[Survey],
 ) -> Result<(), AllocError> {
     let count = file.head.analog.items().len() as u64;
     put(out, "\n")?;
@@ -139,6 +157,6 @@ pub(crate) fn put_analog<A: Allocator + Copy>(
         out,
         "; values are a*x + b, times are ms since the trigger\n",
     )?;
-    let table = analog_table(*out.allocator(), file, clock, peaks)?;
+    let table = analog_table(*out.allocator(), file, clock, surveys)?;
     put_table(out, &table)
 }

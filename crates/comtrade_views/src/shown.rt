@@ -1,9 +1,14 @@
 //! The rows of a record that are measured, and the names of its channels.
 
+ghost use Rattle.std.specs.Prelude.{◌≡◌, ◌+◌, ◌++◌, OnOk, decimal};
+ghost use Rattle.comtrade_io.specs.Safe.{safe};
+ghost use Rattle.comtrade_views.specs.Texts.{cell};
+
 use crate::cycles::Window;
 use crate::float::{Digits, put_float};
+use crate::number::put_ordinal;
 use crate::show::Clock;
-use crate::table::{put_number_cell, put_safe_cell};
+use crate::table::{end_cell, put_safe_cell};
 use comtrade_values::put;
 use dfr_channels::AnalogChannel;
 use std::alloc::{AllocError, Allocator};
@@ -70,8 +75,12 @@ pub(crate) fn put_channel<A: Allocator>(
     table: &mut Vec<u8, A>,
     place: usize,
     channel: &AnalogChannel<A>,
-) -> Result<(), AllocError> {
-    put_number_cell(table, (place as u64).saturating_add(1))?;
+) -> Result<(), AllocError>
+    ensures { OnOk result (table.new.items ≡ table.old.items ++ cell (decimal (place + 1)) ++ cell (safe channel.now.id)
+        ++ cell (safe channel.now.phase) ++ cell (safe channel.now.unit)) }
+{
+    put_ordinal(table, "", place)?;
+    end_cell(table)?;
     put_safe_cell(table, channel.id.items())?;
     put_safe_cell(table, channel.phase.items())?;
     put_safe_cell(table, channel.unit.items())

@@ -1,5 +1,8 @@
 //! How tables of values are written.
 
+ghost use Rattle.std.specs.Prelude.{◌≡◌};
+ghost use Rattle.comtrade_views.specs.Spellings as spec;
+
 /// The separator of cells, and the decimal sign.
 #[derive(Clone, Copy, Debug, PartialEq, Eq)]
 pub struct Spelling {
@@ -29,6 +32,8 @@ impl Spelling {
 }
 
 /// A printable character that cannot be part of a number and is not a quotation mark.
-fn is_sign(b: u8) -> bool {
+fn is_sign(b: u8) -> bool
+    ensures { result ≡ spec.is_sign b }
+{
     33 <= b && b <= 126 && !b.is_ascii_alphanumeric() && b != b'"' && b != b'-'
 }

@@ -1,14 +1,16 @@
 //! A record in one line.
 
+ghost use Rattle.std.specs.Prelude.{◌≡◌, Some, None, IfOk};
+
 use crate::currents::{greatest_current, nominal_of};
 use crate::instant::{put_instant, put_millis};
 use crate::number::{put_decimal, scale_of, value_of};
-use crate::peaks::changes_of;
 use crate::table::{end_cell, end_row, put_number_cell, put_safe_cell, put_table, table_of};
 use crate::times::times_of;
+use comtrade_analysis::event_counts_of;
 use comtrade_format::File;
 use comtrade_io::{ToolFault, put_safe};
-use comtrade_values::{put, put_count, put_exact, put_number, put_with};
+use comtrade_values::{Memory, put, put_count, put_exact, put_number, put_with};
 use std::alloc::{AllocError, Allocator, Global};
 
 /// The columns of the table.
@@ -37,16 +39,14 @@ fn put_length<A: Allocator + Copy>(text: &mut Vec<u8, A>, file: &File<A>) -> Res
 }
 
 /// How many channels there are, and how many status channels change.
-fn put_channels<A: Allocator + Copy>(
-    text: &mut Vec<u8, A>,
-    file: &File<A>,
-) -> Result<(), AllocError> {
+fn put_channels<A: Allocator + Copy>(text: &mut Vec<u8, A>, file: &File<A>) -> Result<(), Memory> {
     put_number(text, file.head.analog.items().len() as u64)?;
-    put_with(text, "A ", file.head.status.items().len() as u64)?;
+    let contacts = file.head.status.items().len();
+    put_with(text, "A ", contacts as u64)?;
     put(text, "D\x1F")?;
-    let changes = changes_of(*text.allocator(), file)?;
-    let changed = changes.iter().filter(|contact| contact.count != 0).count();
-    put_number_cell(text, changed as u64)
+    let counts = event_counts_of(*text.allocator(), file.rows.items(), contacts)?;
+    let changed = counts.iter().filter(|count| **count != 0).count();
+    Ok(put_number_cell(text, changed as u64)?)
 }
 
 /// `IB -10648.5 A, of nominal 600`
@@ -89,7 +89,10 @@ pub fn summary_of<A: Allocator + Copy>(
     alloc: A,
     file: &File<A>,
     name: &[u8],
-) -> Result<Summary<A>, ToolFault> {
+) -> Result<Summary<A>, ToolFault>
+    ensures trigger { IfOk result (λ summary. summary.trigger ≡ Some file.now.head.trigger) }
+    ensures name { IfOk result (λ summary. summary.name.items ≡ name.now) }
+{
     let mut text = Vec::new(alloc);
     put_cells(&mut text, file)?;
     let name = Vec::from_slice(alloc, name)?;
@@ -105,7 +108,11 @@ pub fn fault_summary<A: Allocator + Copy>(
     alloc: A,
     fault: Vec<u8, A>,
     name: &[u8],
-) -> Result<Summary<A>, ToolFault> {
+) -> Result<Summary<A>, ToolFault>
+    ensures trigger { IfOk result (λ summary. summary.trigger ≡ None) }
+    ensures name { IfOk result (λ summary. summary.name.items ≡ name.now) }
+    ensures text { IfOk result (λ summary. summary.text.items ≡ fault.items) }
+{
     Ok(Summary {
         trigger: None,
         name: Vec::from_slice(alloc, name)?,

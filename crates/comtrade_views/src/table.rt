@@ -1,5 +1,9 @@
 //! Tables of text in columns.
 
+ghost use Rattle.std.specs.Prelude.{◌≡◌, ◌++◌, ◌∷◌, [], IfOk, OnOk, decimal};
+ghost use Rattle.comtrade_io.specs.Safe.{safe};
+ghost use Rattle.comtrade_views.specs.Texts.{cell};
+
 use comtrade_io::put_safe;
 use comtrade_values::{put, put_number};
 use std::alloc::{AllocError, Allocator};
@@ -8,22 +12,30 @@ use std::alloc::{AllocError, Allocator};
 pub(crate) const CELL: u8 = 0x1F;
 
 /// A table that so far has only its column names.
-pub(crate) fn table_of<A: Allocator>(alloc: A, names: &str) -> Result<Vec<u8, A>, AllocError> {
+pub(crate) fn table_of<A: Allocator>(alloc: A, names: &str) -> Result<Vec<u8, A>, AllocError>
+    ensures { IfOk result (λ table. table.items ≡ names.now) }
+{
     let mut table = Vec::new(alloc);
     put(&mut table, names)?;
     Ok(table)
 }
 
-pub(crate) fn end_cell<A: Allocator>(table: &mut Vec<u8, A>) -> Result<(), AllocError> {
+pub(crate) fn end_cell<A: Allocator>(table: &mut Vec<u8, A>) -> Result<(), AllocError>
+    ensures { OnOk result (table.new.items ≡ table.old.items ++ 31 ∷ []) }
+{
     table.extend_from_slice(&[CELL])
 }
 
-pub(crate) fn end_row<A: Allocator>(table: &mut Vec<u8, A>) -> Result<(), AllocError> {
+pub(crate) fn end_row<A: Allocator>(table: &mut Vec<u8, A>) -> Result<(), AllocError>
+    ensures { OnOk result (table.new.items ≡ table.old.items ++ 10 ∷ []) }
+{
     table.extend_from_slice(b"\n")
 }
 
 /// Adds a cell of plain text.
-pub(crate) fn put_cell<A: Allocator>(table: &mut Vec<u8, A>, text: &str) -> Result<(), AllocError> {
+pub(crate) fn put_cell<A: Allocator>(table: &mut Vec<u8, A>, text: &str) -> Result<(), AllocError>
+    ensures { OnOk result (table.new.items ≡ table.old.items ++ cell text.now) }
+{
     put(table, text)?;
     end_cell(table)
 }
@@ -32,7 +44,9 @@ pub(crate) fn put_cell<A: Allocator>(table: &mut Vec<u8, A>, text: &str) -> Resu
 pub(crate) fn put_safe_cell<A: Allocator>(
     table: &mut Vec<u8, A>,
     text: &[u8],
-) -> Result<(), AllocError> {
+) -> Result<(), AllocError>
+    ensures { OnOk result (table.new.items ≡ table.old.items ++ cell (safe text.now)) }
+{
     put_safe(table, text)?;
     end_cell(table)
 }
@@ -41,7 +55,9 @@ pub(crate) fn put_safe_cell<A: Allocator>(
 pub(crate) fn put_number_cell<A: Allocator>(
     table: &mut Vec<u8, A>,
     n: u64,
-) -> Result<(), AllocError> {
+) -> Result<(), AllocError>
+    ensures { OnOk result (table.new.items ≡ table.old.items ++ cell (decimal n)) }
+{
     put_number(table, n)?;
     end_cell(table)
 }

@@ -1,5 +1,8 @@
 //! When each row was taken.
 
+ghost use Rattle.std.specs.Prelude.{◌≡◌, ◌-ℤ◌, ◌*ℤ◌, pos, length, IfOk};
+ghost use Rattle.comtrade_views.specs.Texts as spec;
+
 use comtrade_format::{File, clock_in};
 use comtrade_io::ToolFault;
 use std::alloc::Allocator;
@@ -9,7 +12,9 @@ use std::alloc::Allocator;
 pub(crate) fn times_of<A: Allocator + Copy>(
     alloc: A,
     file: &File<A>,
-) -> Result<Vec<Option<i64>, A>, ToolFault> {
+) -> Result<Vec<Option<i64>, A>, ToolFault>
+    ensures { IfOk result (λ times. length times.items ≡ length file.now.rows) }
+{
     let mut times = Vec::with_capacity(alloc, file.rows.items().len())?;
     let mut clock = clock_in(file);
     for (i, row) in file.rows.items().iter().enumerate() {
@@ -22,8 +27,20 @@ pub(crate) fn times_of<A: Allocator + Copy>(
     Ok(times)
 }
 
+/// When a row was taken, by the times of all rows, if that is known.
+pub(crate) fn time_at(times: &[Option<i64>], row: usize) -> Option<i64>
+    ensures { result ≡ spec.time_at times.now row }
+{
+    match times.get(row) {
+        Some(time) => *time,
+        None => None,
+    }
+}
+
 /// When the trigger was, in nanoseconds since the first row.
-pub(crate) fn trigger_since_first<A: Allocator>(file: &File<A>) -> i128 {
+pub(crate) fn trigger_since_first<A: Allocator>(file: &File<A>) -> i128
+    ensures { result ≡ (file.now.head.trigger -ℤ file.now.head.first) *ℤ pos 1000 }
+{
     (file.head.trigger as i128 - file.head.first as i128) * 1000
 }
 
@@ -32,7 +49,9 @@ pub(crate) fn trigger_since_first<A: Allocator>(file: &File<A>) -> i128 {
 pub fn times_since_trigger<A: Allocator + Copy>(
     alloc: A,
     file: &File<A>,
-) -> Result<Vec<Option<i64>, A>, ToolFault> {
+) -> Result<Vec<Option<i64>, A>, ToolFault>
+    ensures { IfOk result (λ times. length times.items ≡ length file.now.rows) }
+{
     let trigger = trigger_since_first(file);
     let mut times = times_of(alloc, file)?;
     for time in times.iter_mut() {

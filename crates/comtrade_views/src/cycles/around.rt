@@ -1,9 +1,13 @@
 //! The rms values of channels before and after a fault inception.
 
+ghost use Rattle.std.specs.Prelude.{◌≡◌, IfSome};
+ghost use Rattle.comtrade_views.specs.Stretches.{AreCycles};
+
 use crate::cycles::course::courses_of;
 use crate::cycles::fault::MeasureFault;
 use crate::cycles::fit::measures_of;
 use crate::cycles::window::{Window, spans_of};
+use comtrade_analysis::{window_before, window_from};
 use comtrade_format::File;
 use std::alloc::Allocator;
 
@@ -21,33 +25,38 @@ const TRIED: u64 = 5;
 const LEAST: u128 = 8;
 
 /// The cycle that ends before a row.
-fn cycle_to(spans: &[Window], end: usize) -> Option<Window> {
+fn cycle_to(spans: &[Window], end: usize) -> Option<Window>
+    ensures one { IfSome result (λ window. window.cycles ≡ 1) }
+    ensures rows { IfSome result (λ window. AreCycles window.cycle 1 window.from window.to) }
+    ensures last { IfSome result (λ window. window.to ≡ end) }
+{
     for span in spans {
         if span.from < end && end <= span.to {
-            let rows = usize::try_from(span.cycle.rows_in(1)).ok()?;
-            let from = end.checked_sub(rows)?;
-            return if span.from <= from {
-                Some(Window {
-                    from,
-                    to: end,
-                    cycles: 1,
-                    cycle: span.cycle,
-                })
-            } else {
-                None
-            };
+            let window = window_before(span.cycle, 1, end)?;
+            if window.first < span.from {
+                return None;
+            }
+            return Some(Window {
+                from: window.first,
+                to: end,
+                cycles: 1,
+                cycle: span.cycle,
+            });
         }
     }
     None
 }
 
 /// The cycle that begins some cycles after a row.
-fn cycle_from(spans: &[Window], row: usize, cycles: u64) -> Option<Window> {
+fn cycle_from(spans: &[Window], row: usize, cycles: u64) -> Option<Window>
+    ensures one { IfSome result (λ window. window.cycles ≡ 1) }
+    ensures rows { IfSome result (λ window. AreCycles window.cycle 1 window.from window.to) }
+{
     for span in spans {
         if span.from <= row && row < span.to {
-            let skipped = usize::try_from(span.cycle.rows_in(cycles)).ok()?;
-            let rows = usize::try_from(span.cycle.rows_in(1)).ok()?;
-            return cycle_to(spans, row.checked_add(skipped)?.checked_add(rows)?);
+            let skipped = window_from(span.cycle, cycles, row, usize::MAX)?;
+            let window = window_from(span.cycle, 1, row + skipped.rows, usize::MAX)?;
+            return cycle_to(spans, window.first + window.rows);
         }
     }
     None

@@ -1,5 +1,8 @@
 //! Sums over rows, weighted by the cosines and sines of the harmonics.
 
+ghost use Rattle.std.specs.Prelude.{◌≡◌, ◌-◌, ◌*◌, ◌^◌, ◌<◌, ◌≤◌};
+ghost use Rattle.comtrade_views.specs.Angles.{next_angle};
+
 use crate::cycles::matrix::{Matrix, at, zeros};
 use crate::cycles::phasor::Phasor;
 use crate::cycles::window::Window;
@@ -16,7 +19,10 @@ pub(crate) struct Turning {
 }
 
 impl Turning {
-    pub(crate) fn new(cycle: Cycle) -> Turning {
+    pub(crate) fn new(cycle: Cycle) -> Turning
+        ensures cycle { result.cycle ≡ cycle }
+        ensures start { result.at ≡ 0 }
+    {
         Turning { cycle, at: 0 }
     }
 
@@ -27,10 +33,13 @@ impl Turning {
     }
 
     /// The angle of the next row.
-    pub(crate) fn next(self) -> Turning {
+    pub(crate) fn next(self) -> Turning
+        ensures cycle { result.cycle ≡ self.cycle }
+        ensures angle { self.at < self.cycle.rows → self.cycle.cycles ≤ self.cycle.rows → result.at ≡ next_angle self.cycle.cycles self.cycle.rows self.at }
+    {
         let left = self.cycle.rows.saturating_sub(self.at);
         let at = if self.cycle.cycles < left {
-            self.at.saturating_add(self.cycle.cycles)
+            self.at + self.cycle.cycles
         } else {
             self.cycle.cycles - left
         };
@@ -49,7 +58,9 @@ fn add_to(list: &mut [f64], place: usize, number: f64) {
 
 /// The index of the sum weighted by the cosine of an order; that by the sine follows it. Index 0
 /// has the plain sum.
-pub(crate) fn place_of(order: usize) -> usize {
+pub(crate) fn place_of(order: usize) -> usize
+    ensures { order < 2 ^ 63 → result ≡ 2 * order - 1 }
+{
     order.saturating_mul(2).saturating_sub(1)
 }
 

@@ -1,5 +1,8 @@
 //! Units of currents.
 
+ghost use Rattle.std.specs.Prelude.{◌≡◌};
+ghost use Rattle.comtrade_views.specs.Spellings as spec;
+
 /// The names of the unit of currents.
 const NAMES: [&str; 8] = [
     "A", "Amp", "Amps", "Ampere", "Amperes", "Arms", "Apri", "Asec",
@@ -62,7 +65,9 @@ fn has_words(text: &[u8]) -> bool {
 }
 
 /// A unit without the sign of micro at its start, in UTF-8 or Latin-1.
-fn without_micro(unit: &[u8]) -> &[u8] {
+fn without_micro(unit: &[u8]) -> &[u8]
+    ensures { result.now ≡ spec.without_micro unit.now }
+{
     match unit {
         [0xC2, 0xB5, rest @ ..] => rest,
         [0xB5, rest @ ..] => rest,

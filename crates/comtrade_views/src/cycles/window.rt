@@ -1,7 +1,12 @@
 //! The rows that are measured.
 
+ghost use Rattle.std.specs.Prelude.{◌≡◌, ◌+◌, ◌*◌, ◌<◌, ◌≤◌, ℕ, length, IfOk, MatchOption};
+ghost use Rattle.comtrade_analysis.specs.Windows.{rows_in};
+ghost use Rattle.comtrade_views.specs.Stretches.{ends_at, IsLastStretch, AreCycles};
+
 use crate::cycles::fault::MeasureFault;
-use comtrade_format::{Cycle, File, Head, cycle_of};
+use comtrade_analysis::{cycles_within, window_before, window_from};
+use comtrade_format::{Cycle, File, Head, Rate, cycle_of};
 use comtrade_values::Decimal;
 use std::alloc::Allocator;
 
@@ -13,6 +18,8 @@ pub struct Window {
     /// The number of cycles.
     pub cycles: u64,
     pub cycle: Cycle,
+    ghost some: { 0 < cycle.cycles },
+    ghost long: { 3 * cycle.cycles ≤ cycle.rows },
 }
 
 /// The highest order that is measured.
@@ -26,80 +33,131 @@ impl Window {
     }
 }
 
-/// The last rate that applies to rows of a file, and the index of its first row.
+/// The number of the last row of a rate.
+fn end_of(rates: &[Rate], rate: usize) -> usize
+    requires { rate < length rates.now }
+    ensures { result ≡ ends_at rates.now rate }
+{
+    rates[rate].endsamp as usize
+}
+
+/// The rate of the last of so many rows, by its index, and the index of its first row.
 #[derive(Clone, Copy)]
 struct Stretch {
-    rate: Decimal,
+    rate: usize,
     from: usize,
 }
 
-/// The rate of the last of these rows.
-fn last_stretch<A: Allocator>(head: &Head<A>, rows: usize) -> Result<Stretch, MeasureFault> {
-    let mut from = 0usize;
-    if head.nrates == 0 {
-        return Err(MeasureFault::NoRate);
-    }
-    for rate in head.rates.items() {
-        let to = usize::try_from(rate.endsamp).unwrap_or(usize::MAX);
+/// The rate of the last of so many rows: the first one that reaches to it. None where none does.
+fn last_stretch(rates: &[Rate], rows: usize) -> Option<Stretch>
+    ensures { MatchOption result ((k : ℕ) → k < length rates.now → ends_at rates.now k < rows) (λ s. IsLastStretch rates.now rows s.rate s.from) }
+{
+    let mut from = 0;
+    for i in 0..rates.len() {
+        let to = end_of(rates, i);
         if rows <= to {
-            return Ok(Stretch {
-                rate: rate.samp,
-                from,
-            });
+            return Some(Stretch { rate: i, from });
         }
         from = to;
     }
-    Err(MeasureFault::NoRate)
+    None
 }
 
-/// The window of at most this many cycles, from one row on or up to another.
-fn window_of(
-    cycle: Cycle,
-    from: usize,
-    to: usize,
-    most: u128,
-    is_last: bool,
-) -> Result<Window, MeasureFault> {
-    let rows = to.saturating_sub(from);
-    let cycles = cycle.cycles_in(rows as u64).min(most);
-    let cycles = u64::try_from(cycles).unwrap_or(u64::MAX);
-    let kept = usize::try_from(cycle.rows_in(cycles)).unwrap_or(usize::MAX);
-    if cycles == 0 || rows < kept {
-        let wanted = u64::try_from(cycle.rows_in(1)).unwrap_or(u64::MAX);
-        return Err(MeasureFault::Short(rows as u64, wanted));
+/// There are fewer rows than a cycle has.
+fn too_short(cycle: Cycle, from: usize, to: usize) -> MeasureFault {
+    let wanted = u64::try_from(cycle.rows_in(1)).unwrap_or(u64::MAX);
+    MeasureFault::Short(to.saturating_sub(from) as u64, wanted)
+}
+
+/// The last cycle of these rows.
+fn last_of(cycle: Cycle, from: usize, to: usize) -> Result<Window, MeasureFault>
+    requires some { 0 < cycle.cycles }
+    requires long { 3 * cycle.cycles ≤ cycle.rows }
+    ensures cycle { IfOk result (λ window. (window.cycle ≡ cycle) × (window.cycles ≡ 1)) }
+    ensures rows { IfOk result (λ window. AreCycles cycle 1 window.from window.to × (from ≤ window.from)) }
+    ensures last { IfOk result (λ window. window.to ≡ to) }
+{
+    match window_before(cycle, 1, to) {
+        Some(window) if from <= window.first => Ok(Window {
+            from: window.first,
+            to,
+            cycles: 1,
+            cycle,
+        }),
+        _ => Err(too_short(cycle, from, to)),
     }
-    let from = if is_last {
-        to.saturating_sub(kept)
-    } else {
-        from
-    };
-    Ok(Window {
-        from,
-        to: from.saturating_add(kept),
-        cycles,
-        cycle,
-    })
+}
+
+/// The whole cycles of these rows, from the first one on.
+fn all_of(cycle: Cycle, from: usize, to: usize) -> Result<Window, MeasureFault>
+    requires some { 0 < cycle.cycles }
+    requires long { 3 * cycle.cycles ≤ cycle.rows }
+    ensures cycle { IfOk result (λ window. window.cycle ≡ cycle) }
+    ensures rows { IfOk result (λ window. AreCycles cycle window.cycles from window.to × (window.to ≤ to)) }
+    ensures most { IfOk result (λ window. (n : ℕ) → from + rows_in cycle n ≤ to → n ≤ window.cycles) }
+    ensures first { IfOk result (λ window. window.from ≡ from) }
+{
+    let cycles = cycles_within(cycle, to.saturating_sub(from));
+    match window_from(cycle, cycles, from, to) {
+        Some(window) if cycles != 0 => Ok(Window {
+            from,
+            to: from + window.rows,
+            cycles,
+            cycle,
+        }),
+        _ => Err(too_short(cycle, from, to)),
+    }
+}
+
+/// The rate of the last of a file's rows.
+fn last_rate<A: Allocator>(head: &Head<A>, rows: usize) -> Result<Stretch, MeasureFault>
+    ensures { IfOk result (λ s. IsLastStretch head.now.rates rows s.rate s.from) }
+{
+    if head.nrates == 0 {
+        return Err(MeasureFault::NoRate);
+    }
+    match last_stretch(head.rates.items(), rows) {
+        Some(stretch) => Ok(stretch),
+        None => Err(MeasureFault::NoRate),
+    }
+}
+
+/// The cycle at the rate of this index.
+fn cycle_at<A: Allocator>(head: &Head<A>, rate: usize) -> Result<Cycle, MeasureFault>
+    requires { rate < length head.now.rates }
+    ensures { IfOk result (λ cycle. (0 < cycle.cycles) × (3 * cycle.cycles ≤ cycle.rows)) }
+{
+    let rates = head.rates.items();
+    Ok(cycle_of(head.line_freq, rates[rate].samp)?)
 }
 
 /// The last whole cycle of a file, at the rate of its last row. `NoFrequency`, `NoRate`, `Digits`,
 /// `Slow`: as for `cycle_of`. `Short`: that rate has fewer rows than a cycle.
-pub fn last_cycle<A: Allocator>(file: &File<A>) -> Result<Window, MeasureFault> {
+pub fn last_cycle<A: Allocator>(file: &File<A>) -> Result<Window, MeasureFault>
+    ensures one { IfOk result (λ window. window.cycles ≡ 1) }
+    ensures rows { IfOk result (λ window. AreCycles window.cycle 1 window.from window.to) }
+    ensures last { IfOk result (λ window. window.to ≡ length file.now.rows) }
+{
     let rows = file.rows.items().len();
-    let stretch = last_stretch(&file.head, rows)?;
-    let cycle = cycle_of(file.head.line_freq, stretch.rate)?;
-    window_of(cycle, stretch.from, rows, 1, true)
+    let stretch = last_rate(&file.head, rows)?;
+    let cycle = cycle_at(&file.head, stretch.rate)?;
+    last_of(cycle, stretch.from, rows)
 }
 
 /// The whole cycles of a file from its first row on. `ManyRates`: its rows have several rates.
 /// Other errors are those of `last_cycle`.
-pub fn whole_cycles<A: Allocator>(file: &File<A>) -> Result<Window, MeasureFault> {
+pub fn whole_cycles<A: Allocator>(file: &File<A>) -> Result<Window, MeasureFault>
+    ensures rows { IfOk result (λ window. AreCycles window.cycle window.cycles 0 window.to × (window.to ≤ length file.now.rows)) }
+    ensures most { IfOk result (λ window. (n : ℕ) → rows_in window.cycle n ≤ length file.now.rows → n ≤ window.cycles) }
+    ensures first { IfOk result (λ window. window.from ≡ 0) }
+{
     let rows = file.rows.items().len();
-    let stretch = last_stretch(&file.head, rows)?;
+    let stretch = last_rate(&file.head, rows)?;
     if stretch.from != 0 {
         return Err(MeasureFault::ManyRates);
     }
-    let cycle = cycle_of(file.head.line_freq, stretch.rate)?;
-    window_of(cycle, 0, rows, u128::MAX, false)
+    let cycle = cycle_at(&file.head, stretch.rate)?;
+    all_of(cycle, 0, rows)
 }
 
 /// The rows of one rate, of which a cycle has at least this many. `Coarse`: it has fewer. Other
@@ -110,13 +168,20 @@ fn span_of(
     from: usize,
     to: usize,
     least: u128,
-) -> Result<Window, MeasureFault> {
+) -> Result<Window, MeasureFault>
+    ensures { IfOk result (λ window. (window.from ≡ from) × (window.to ≡ to)) }
+{
     let cycle = cycle_of(frequency, rate)?;
-    let window = window_of(cycle, from, to, u128::MAX, false)?;
+    let window = all_of(cycle, from, to)?;
     if cycle.rows_in(1) < least {
         return Err(MeasureFault::Coarse);
     }
-    Ok(Window { to, ..window })
+    Ok(Window {
+        from,
+        to,
+        cycles: window.cycles,
+        cycle,
+    })
 }
 
 /// The rows of each rate, where they are at least a cycle and a cycle has at least this many. If no
@@ -127,15 +192,12 @@ pub fn spans_of<A: Allocator + Copy>(
     least: u128,
 ) -> Result<Vec<Window, A>, MeasureFault> {
     let count = file.rows.items().len();
-    last_stretch(&file.head, count)?;
+    last_rate(&file.head, count)?;
     let mut spans = Vec::new(alloc);
     let mut refused: Option<MeasureFault> = None;
     let mut from = 0usize;
     for rate in file.head.rates.items() {
-        let to = match usize::try_from(rate.endsamp) {
-            Ok(to) => to.min(count),
-            Err(_) => count,
-        };
+        let to = count.min(rate.endsamp as usize);
         match span_of(file.head.line_freq, rate.samp, from, to, least) {
             Ok(span) => spans.push(span)?,
             Err(fault) if refused.is_none() => refused = Some(fault),

@@ -1,5 +1,7 @@
-//! Texts in Latin-1 (ISO 8859-1) as UTF-8, and texts of no known encoding as they are shown.
+//! Texts in Latin-1 (ISO 8859-1) or a code page as UTF-8, and texts of no known encoding as they
+//! are shown.
 
+use super::code_pages::{CP437, CP850, CP866, WINDOWS_1251, WINDOWS_1252};
 use comtrade_format::File;
 use comtrade_values::Items;
 use dfr_channels::{AnalogChannel, StatusChannel};
@@ -11,7 +13,29 @@ use std::mem;
 pub enum Encoding {
     Utf8,
     Latin1,
+    Windows1251,
+    Windows1252,
+    Cp437,
+    Cp850,
+    Cp866,
 }
+
+/// The names of the encodings.
+const NAMES: [(&str, Encoding); 13] = [
+    ("utf-8", Encoding::Utf8),
+    ("utf8", Encoding::Utf8),
+    ("latin1", Encoding::Latin1),
+    ("latin-1", Encoding::Latin1),
+    ("iso-8859-1", Encoding::Latin1),
+    ("windows-1251", Encoding::Windows1251),
+    ("cp1251", Encoding::Windows1251),
+    ("windows-1252", Encoding::Windows1252),
+    ("cp1252", Encoding::Windows1252),
+    ("cp437", Encoding::Cp437),
+    ("cp850", Encoding::Cp850),
+    ("cp866", Encoding::Cp866),
+    ("ibm866", Encoding::Cp866),
+];
 
 impl Encoding {
     /// The encoding with this name; UTF-8 without a name, None for an unknown one.
@@ -19,13 +43,24 @@ impl Encoding {
         let Some(name) = name else {
             return Some(Encoding::Utf8);
         };
-        if name.eq_ignore_ascii_case("utf-8") || name.eq_ignore_ascii_case("utf8") {
-            return Some(Encoding::Utf8);
+        for (known, encoding) in NAMES {
+            if name.eq_ignore_ascii_case(known) {
+                return Some(encoding);
+            }
         }
-        if name.eq_ignore_ascii_case("latin1") || name.eq_ignore_ascii_case("latin-1") {
-            Some(Encoding::Latin1)
-        } else {
-            None
+        None
+    }
+
+    /// The letter of a byte from 80 (hexadecimal) on; 0 if it has none.
+    fn letter(self, b: u8) -> u16 {
+        let place = usize::from(b & 0x7F);
+        match self {
+            Encoding::Utf8 | Encoding::Latin1 => u16::from(b),
+            Encoding::Windows1251 => WINDOWS_1251[place],
+            Encoding::Windows1252 => WINDOWS_1252[place],
+            Encoding::Cp437 => CP437[place],
+            Encoding::Cp850 => CP850[place],
+            Encoding::Cp866 => CP866[place],
         }
     }
 }
@@ -33,20 +68,44 @@ impl Encoding {
 /// How texts are changed.
 #[derive(Clone, Copy, PartialEq, Eq)]
 enum Change {
-    /// From Latin-1 to UTF-8.
-    FromLatin1,
+    /// From this encoding, of one byte for each letter, to UTF-8.
+    From(Encoding),
     /// To what is shown of them.
     Shown,
 }
 
-/// The text in UTF-8 of a text in Latin-1: a byte from 80 (hexadecimal) on becomes two.
-fn from_latin1<A: Allocator>(alloc: A, text: &[u8]) -> Result<Vec<u8, A>, AllocError> {
+/// Appends a letter from 80 (hexadecimal) on in UTF-8.
+fn put_letter<A: Allocator>(out: &mut Vec<u8, A>, letter: u16) -> Result<(), AllocError> {
+    let last = 0x80 | (letter & 0x3F) as u8;
+    let middle = (letter >> 6 & 0x3F) as u8;
+    if letter < 0x800 {
+        out.extend_from_slice(&[0xC0 | middle, last])
+    } else {
+        out.extend_from_slice(&[0xE0 | (letter >> 12) as u8, 0x80 | middle, last])
+    }
+}
+
+/// Appends a byte as `\xNN`.
+fn put_escaped<A: Allocator>(out: &mut Vec<u8, A>, b: u8) -> Result<(), AllocError> {
+    out.extend_from_slice(&[b'\\', b'x', hex_digit(b >> 4), hex_digit(b & 0xF)])
+}
+
+/// The text in UTF-8 of a text in an encoding of one byte for each letter. A byte without a letter
+/// becomes `\xNN`.
+fn from_encoding<A: Allocator>(
+    alloc: A,
+    text: &[u8],
+    encoding: Encoding,
+) -> Result<Vec<u8, A>, AllocError> {
     let mut made = Vec::new(alloc);
     for b in text {
         if *b < 0x80 {
             made.push(*b)?;
-        } else {
-            made.extend_from_slice(&[0xC0 | *b >> 6, 0x80 | *b & 0x3F])?;
+            continue;
+        }
+        match encoding.letter(*b) {
+            0 => put_escaped(&mut made, *b)?,
+            letter => put_letter(&mut made, letter)?,
         }
     }
     Ok(made)
@@ -85,7 +144,7 @@ fn shown<A: Allocator>(alloc: A, text: &[u8]) -> Result<Vec<u8, A>, AllocError> 
         if *b < 0x80 {
             made.push(*b)?;
         } else {
-            made.extend_from_slice(&[b'\\', b'x', hex_digit(*b >> 4), hex_digit(*b & 0xF)])?;
+            put_escaped(&mut made, *b)?;
         }
     }
     Ok(made)
@@ -94,7 +153,7 @@ fn shown<A: Allocator>(alloc: A, text: &[u8]) -> Result<Vec<u8, A>, AllocError> 
 /// Changes a text.
 fn turn<A: Allocator>(alloc: A, text: &mut Items<u8, A>, change: Change) -> Result<(), AllocError> {
     let made = match change {
-        Change::FromLatin1 => from_latin1(alloc, text.items())?,
+        Change::From(encoding) => from_encoding(alloc, text.items(), encoding)?,
         Change::Shown => shown(alloc, text.items())?,
     };
     *text = Items::of(made);
@@ -161,7 +220,7 @@ pub fn spell_in_utf8<A: Allocator + Copy>(
     if encoding == Encoding::Utf8 {
         return Ok(());
     }
-    turn_file(alloc, file, Change::FromLatin1)
+    turn_file(alloc, file, Change::From(encoding))
 }
 
 /// Converts the texts of a file to what is shown of them: without the NULs at their ends, and with
