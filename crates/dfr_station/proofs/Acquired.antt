@@ -1,9 +1,9 @@
 -- How what comes becomes the acquisition's steps.
-use Rattle.std.proofs.Common.{◌≡◌, List, ◌∷◌, Some, None, Ok}
+use Rattle.std.proofs.Common.{◌≡◌, List, ◌∷◌, true, Some, None, Ok}
 use Rattle.dfr_live.specs.Devices.{Came}
 use Rattle.dfr_live.specs.declared.station.Fed.{Fed}
 use Rattle.dfr_live.specs.declared.station.Fed.TheVariants as fed
-use Rattle.dfr_station.specs.Acquiring.{Acquired, ComesOf, QuietlyBy, Quietly, Steps, Gave, settled, AcquisitionGives}
+use Rattle.dfr_station.specs.Acquiring.{Acquired, ComesOf, QuietlyBy, Quietly, Steps, Gave, GivesLost, settled, AcquisitionGives}
 use Rattle.dfr_station.specs.declared.intake.arrival.Arrival.TheVariants as arrival
 use Rattle.dfr_station.specs.declared.intake.arrivals.Ending.{Ending}
 use Rattle.dfr_station.specs.declared.intake.arrivals.Next.{Next}
@@ -19,6 +19,8 @@ module _ {C A : Type 0} where
   quietly_at s i (coming.Arrival (arrival.Lost why)) t h = h
   quietly_at s i (coming.Arrival (arrival.Order line place order)) t h = h
   quietly_at s i (coming.Arrival (arrival.Skipped line why)) t h = h
+  quietly_at s i coming.Gap t h = h
+  quietly_at s i coming.Read t h = h
   quietly_at s i coming.Drained t h = h
   quietly_at s i (coming.End ending) t h = h
 
@@ -27,6 +29,8 @@ module _ {C A : Type 0} where
   steps_at s i (coming.Arrival (arrival.Lost why)) f t h = h
   steps_at s i (coming.Arrival (arrival.Order line place order)) f t h = h
   steps_at s i (coming.Arrival (arrival.Skipped line why)) f t h = h
+  steps_at s i coming.Gap f t h = h
+  steps_at s i coming.Read f t h = h
   steps_at s i coming.Drained f t h = h
   steps_at s i (coming.End ending) f t h = h
 
@@ -36,6 +40,8 @@ module _ {C A : Type 0} where
   never_yet s (coming.Arrival (arrival.Lost why)) t h = h.0
   never_yet s (coming.Arrival (arrival.Order line place order)) t h = h
   never_yet s (coming.Arrival (arrival.Skipped line why)) t h = h
+  never_yet s coming.Gap t h = h.1
+  never_yet s coming.Read t h = h
   never_yet s coming.Drained t h = h
   never_yet s (coming.End ending) t h = h
 
@@ -44,6 +50,8 @@ module _ {C A : Type 0} where
   never_done s (coming.Arrival (arrival.Lost why)) t h = h.0
   never_done s (coming.Arrival (arrival.Order line place order)) t h = h
   never_done s (coming.Arrival (arrival.Skipped line why)) t h = h
+  never_done s coming.Gap t h = h.1
+  never_done s coming.Read t h = h
   never_done s coming.Drained t h = h
   never_done s (coming.End ending) t h = h
 
@@ -70,6 +78,15 @@ module _ {C A : Type 0} where
         → AcquisitionGives Comes s (Ok f) t
     gives_some s v m t i x f e far comes gave =
         gives_step s v t x f (rw e far) (rw gave.1 comes) (steps_at v i x f t gave.0)
+
+    pub gives_gap : (s v m t : Acquired C A) (f : Fed A)
+        → v ≡ m → QuietSoFar (record s { scans = settled s.scans }) m → Comes v.incoming coming.Gap t.incoming → v.scans.by_clock ≡ true
+        → GivesLost v.scans f t.scans → t.orders ≡ v.orders → AcquisitionGives Comes s (Ok f) t
+    gives_gap s v m t f e far comes dated lost orders = gives_step s v t coming.Gap f (rw e far) comes (dated, lost, orders)
+
+    pub reads_more : (s v m t : Acquired C A) → v ≡ m → QuietSoFar s m → Comes v.incoming coming.Read t.incoming → t.scans ≡ v.scans
+        → t.orders ≡ v.orders → QuietSoFar s t
+    reads_more s v m t e far comes scans orders = (coming.Read ∷ far.0, (v, rw e far.1, (comes, scans, orders)))
 
     pub gives_end : (s v m t : Acquired C A) (ending : Ending)
         → v ≡ m → QuietSoFar (record s { scans = settled s.scans }) m → Comes v.incoming (coming.End ending) t.incoming

@@ -12,6 +12,7 @@ use Rattle.dfr_script.specs.Words.{is_silent}
 use Rattle.dfr_station.specs.declared.intake.arrival.Arrival.{Arrival}
 use Rattle.dfr_station.specs.declared.intake.cutter.Cutter.{Cutter}
 use Rattle.dfr_station.specs.declared.station.Input.TheVariants as form
+use Rattle.dfr_station.specs.declared.station.Lowest.{Lowest}
 use Rattle.dfr_station.specs.declared.event.Skipped.TheVariants as skipped
 use Rattle.dfr_station.specs.declared.intake.feed.Why.TheVariants as why
 
@@ -179,15 +180,15 @@ pays last c lines owes = record { first = λ more none xs comes. rw (lines, owes
 
 -- ---- frames
 
-pub no_frame : (layout : SetupParts) (s : ReadingParts) (bytes : List ℕ) → s.form ≡ form.Frames → length bytes < frame_size layout → Comes layout s (bytes ++ []) []
+pub no_frame : (layout : SetupParts) (l : Lowest) (s : ReadingParts) (bytes : List ℕ) → s.form ≡ form.Frames l → length bytes < frame_size layout → Comes layout s (bytes ++ []) []
 unfolding Comes FramesGive
-no_frame layout s bytes frames short = rw (frames, append-nil bytes) short
+no_frame layout l s bytes frames short = rw (frames, append-nil bytes) short
 
-pub frame_leads : (layout : SetupParts) (s t : ReadingParts) (bytes more : List ℕ) (a : ArrivalParts) (xs : List ArrivalParts)
-    → s.form ≡ form.Frames → t.form ≡ form.Frames → frame_size layout ≤ length bytes → FrameMeans layout (take (frame_size layout) bytes) a
+pub frame_leads : (layout : SetupParts) (l : Lowest) (s t : ReadingParts) (bytes more : List ℕ) (a : ArrivalParts) (xs : List ArrivalParts)
+    → s.form ≡ form.Frames l → t.form ≡ form.Frames l → frame_size layout ≤ length bytes → FrameMeans layout l (take (frame_size layout) bytes) a
     → Comes layout t (drop (frame_size layout) bytes ++ more) xs → Comes layout s (bytes ++ more) (a ∷ xs)
 unfolding Comes FramesGive
-frame_leads layout s t bytes more a xs frames still whole means comes =
+frame_leads layout l s t bytes more a xs frames still whole means comes =
     rw frames (
       omega (arith, length-append bytes more),
       rw (take-append-le (frame_size layout) bytes more whole) means,

@@ -1,5 +1,5 @@
 -- What is known of a run that failed.
-use Rattle.std.proofs.Common.{◌≡◌, ◌⊎◌, List, Option, Result, Ok, Err, inl, inr, refl, sym, ◌∙◌, ap, subst}
+use Rattle.std.proofs.Common.{◌≡◌, ◌⊎◌, Bool, List, Option, Result, Ok, Err, inl, inr, refl, sym, ◌∙◌, ap, subst}
 use Rattle.std.specs.Prelude.{IfOk, IfErr}
 use Rattle.dfr_channels.specs.Parts.{SetupParts}
 use Rattle.dfr_recorder.specs.History.{Opening}
@@ -12,8 +12,8 @@ use Rattle.dfr_live.specs.declared.ended.EndFault.TheVariants as unended
 use Rattle.dfr_live.specs.declared.outcome.OpenFault.{OpenFault}
 use Rattle.dfr_live.specs.declared.report.LiveFault.{LiveFault}
 use Rattle.dfr_live.specs.declared.report.LiveFault.TheVariants as live
-use Rattle.dfr_station.specs.Failing.{NothingKnown, IsToldAs, DevicesFail, IsFaultOf, unasked, StoredSome, StationFails}
-use Rattle.dfr_station.specs.Storing.{StoresOf, Exporting, PutsPair, LacksPair}
+use Rattle.dfr_station.specs.Failing.{NothingKnown, IsToldAs, DevicesFail, IsFaultOf, StoredSome, StationFails}
+use Rattle.dfr_station.specs.Storing.{StoresOf, Exporting, unasked, PutsPair, LacksPair}
 use Rattle.dfr_station.specs.declared.intake.ended.RunFault.{RunFault}
 use Rattle.dfr_station.specs.declared.intake.ended.RunFault.TheVariants as run
 
@@ -73,34 +73,34 @@ module _ {K : Type 0} (Stores : StoresOf K) where
   no_more o kind s t (inl same) = same
   no_more o kind s t (inr h) = absurd (never_stopped o.layout kind s h.0 h.1 t h.3)
 
-  stored_some : (o : Opening) (kind : Kind) (s t : Exporting K) (store left : K) → s ≡ unasked store → t.store ≡ left
-      → GotFront (PutsPair Stores) Lacks o kind s t → StoredSome Stores o kind store left
-  stored_some o kind s t store left begins ends h =
+  stored_some : (o : Opening) (kind : Kind) (by_clock : Bool) (s t : Exporting K) (store left : K) → s ≡ unasked o kind by_clock store → t.store ≡ left
+      → GotFront (PutsPair Stores) Lacks o kind s t → StoredSome Stores o kind by_clock store left
+  stored_some o kind by_clock s t store left begins ends h =
       let last = no_more o kind h.1 t h.3 in
       (h.0, h.1, subst (λ (x : Exporting K). Got (PutsPair Stores) Lacks o kind x h.0 h.1) begins h.2, ap (λ (x : Exporting K). x.store) (sym last) ∙ ends)
 
-  pub stored_all : (o : Opening) (kind : Kind) (s t : Exporting K) (records : List Handed) (store left : K) → s ≡ unasked store → t.store ≡ left
-      → Got (PutsPair Stores) Lacks o kind s records t → StoredSome Stores o kind store left
-  stored_all o kind s t records store left begins ends got =
+  pub stored_all : (o : Opening) (kind : Kind) (by_clock : Bool) (s t : Exporting K) (records : List Handed) (store left : K) → s ≡ unasked o kind by_clock store → t.store ≡ left
+      → Got (PutsPair Stores) Lacks o kind s records t → StoredSome Stores o kind by_clock store left
+  stored_all o kind by_clock s t records store left begins ends got =
       (records, t, subst (λ (x : Exporting K). Got (PutsPair Stores) Lacks o kind x records t) begins got, ends)
 
-  module _ {F O I : Type 0} (o : Opening) (kind : Kind) (refused : Option OpenFault) (old new : F × O × Exporting K) (input input_left : I) (store store_left : K)
-      (begins : old.2 ≡ unasked store) (ends : new.2.store ≡ store_left) (same : new ≡ old → input_left ≡ input) where
+  module _ {F O I : Type 0} (o : Opening) (kind : Kind) (by_clock : Bool) (refused : Option OpenFault) (old new : F × O × Exporting K) (input input_left : I) (store store_left : K)
+      (begins : old.2 ≡ unasked o kind by_clock store) (ends : new.2.store ≡ store_left) (same : new ≡ old → input_left ≡ input) where
     unchanged : new ≡ old → ◌≡◌ {A = I × K} (input_left, store_left) (input, store)
     unchanged is =
         let kept : store_left ≡ store = sym ends ∙ ap (λ (d : F × O × Exporting K). d.2.store) is ∙ ap (λ (x : Exporting K). x.store) begins in
         rw (same is, kept) refl
 
-    stored : GotFront (PutsPair Stores) Lacks o kind old.2 new.2 → StoredSome Stores o kind store store_left
-    stored = stored_some o kind old.2 new.2 store store_left begins ends
+    stored : GotFront (PutsPair Stores) Lacks o kind old.2 new.2 → StoredSome Stores o kind by_clock store store_left
+    stored = stored_some o kind by_clock old.2 new.2 store store_left begins ends
 
     stored_but : (why : EndFault) → (why ≡ unended.Memory) ⊎ GotFront (PutsPair Stores) Lacks o kind old.2 new.2
-        → (why ≡ unended.Memory) ⊎ StoredSome Stores o kind store store_left
+        → (why ≡ unended.Memory) ⊎ StoredSome Stores o kind by_clock store store_left
     stored_but why (inl is) = inl is
     stored_but why (inr got) = inr (stored got)
 
     pub run_fails : (r : RunFault) → DevicesFail (PutsPair Stores) Lacks o kind refused old new r
-        → StationFails Stores o kind refused (input, store) (input_left, store_left) r
+        → StationFails Stores o kind by_clock refused (input, store) (input_left, store_left) r
     unfolding DevicesFail
     run_fails run.Memory fails = unchanged fails
     run_fails run.Thread fails = tt

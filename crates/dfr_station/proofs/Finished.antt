@@ -1,6 +1,7 @@
 -- How the record that is open at the end of the input ends.
 use Rattle.std.proofs.Common.{◌≡◌, Bool, true, false, List, refl, subst}
-use Rattle.std.specs.Prelude.{not, is_some}
+use Rattle.std.specs.Prelude.{not, is_some, Option}
+use Rattle.dfr_clock.specs.Dating.{Kept as Times}
 use Rattle.dfr_recorder.specs.Kept.{Kept}
 use Rattle.dfr_recorder.specs.declared.step.Scanned.{Scanned}
 use Rattle.comtrade_format.specs.declared.file.Kind.{Kind}
@@ -17,8 +18,8 @@ one_open true h = refl
 one_open false h = cc
 
 -- a record was open
-pub finishes_open : {K : Type 0} (Stores : StoresOf K) (kind : Kind) (r : Kept) (c : Counts) (s : K) (t : Kept) (d : Counts) (u : K)
-    → true ≡ is_some r.recording → (lost : List Scanned) (m : Kept) → LosesScans r lost m → EndsOpen Stores r.layout kind m c s t d u
-    → Finishes Stores kind r c s t d u
-finishes_open Stores kind r c s t d u was lost m loses ends =
-    subst (λ (b : Bool). FinishesOpen Stores kind b r c s t d u) was (lost, m, loses, ends)
+pub finishes_open : {K : Type 0} (Stores : StoresOf K) (kind : Kind) (times : Option Times) (r : Kept) (c : Counts) (s : K) (t : Kept) (d : Counts) (u : K)
+    → true ≡ is_some r.recording → (lost : List Scanned) (m : Kept) → LosesScans r lost m → EndsOpen Stores r.layout kind times m c s t d u
+    → Finishes Stores kind times r c s t d u
+finishes_open Stores kind times r c s t d u was lost m loses ends =
+    subst (λ (b : Bool). FinishesOpen Stores kind times b r c s t d u) was (lost, m, loses, ends)

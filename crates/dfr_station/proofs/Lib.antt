@@ -3,8 +3,13 @@ pub mod Coming
 pub mod Handing
 pub mod Acquired
 pub mod Hearers
+pub mod Lanes
 pub mod Orders
 pub mod Tries
+pub mod Redating
+pub mod Settled
 pub mod Growing
 pub mod Finished
 pub mod Failing
+pub mod Hours
+pub mod Behind

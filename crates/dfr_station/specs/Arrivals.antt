@@ -36,9 +36,11 @@ EndsWith ending.Whole waiting = waiting ≡ []
 EndsWith (ending.Cut count) waiting = (0 < count) × (length waiting ≡ count)
 EndsWith ending.Broken waiting = ⊥
 
--- What was handed out came next. At its end nothing comes any more; what an input gave that can't be read to its end came first.
+-- What was handed out came next; a gap is nothing that came. At its end nothing comes any more; what an input gave that can't be read to its end came first.
 abbrev pub HandsNext : {I A : Type 0} → (I → Option (List ℕ)) → Arrivals I A → Next A → Arrivals I A → Type 0
 HandsNext left s (next.Arrival a) t = CameFirst left s (parts_of a ∷ []) t
+HandsNext left s next.Gap t = CameFirst left s [] t
+HandsNext left s next.Read t = CameFirst left s [] t
 HandsNext left s next.Drained t = CameFirst left s [] t
 HandsNext left s (next.End ending.Broken) t = CameFirst left s [] t
 HandsNext left s (next.End ending.Whole) t = ComesNext left s [] × EndsWith ending.Whole t.cutter.buffer

@@ -1,9 +1,10 @@
 -- Which orders a station's desk hands out: those of the input in their order, each once, and an operator's between them.
-use Rattle.std.specs.Prelude.{◌≡◌, ◌⊎◌, ℕ, ◌<◌, ◌≤◌, List, [], ◌∷◌, ◌++◌, length, Bool, true, Option, Some, None, IfSome, option_to_list}
+use Rattle.std.specs.Prelude.{◌≡◌, ◌⊎◌, ⊤, ℕ, ◌+◌, ◌-◌, ◌<◌, ◌≤◌, min, List, [], ◌∷◌, ◌++◌, length, Bool, true, false, Option, Some, None, IfSome, option_to_list}
 use Rattle.dfr_live.specs.Devices.{AsksOf, HearsOf}
-use Rattle.dfr_live.specs.Lane.{LaneName}
+use Rattle.dfr_live.specs.Lane.{RingName}
 use Rattle.dfr_live.specs.declared.devices.Asked.{Asked}
 use Rattle.dfr_live.specs.declared.devices.Asked.TheVariants as asked
+use Rattle.dfr_live.specs.declared.devices.Standing.{Standing}
 use Rattle.dfr_live.specs.declared.entry.Reply.{Reply}
 use Rattle.dfr_live.specs.declared.entry.Reply.TheVariants as replied
 use Rattle.dfr_station.specs.declared.desk.Placed.{Placed}
@@ -17,18 +18,21 @@ use Rattle.dfr_station.specs.declared.event.Skipped.TheVariants as skipped
 use Rattle.dfr_station.specs.declared.operator.Operator.{Operator}
 
 -- a desk: the queue of the input's orders, what it took off that queue, of which one may wait for its place, the line of the order
--- that it handed out last, if the input gave it, and whether there is an operator
+-- that it handed out last, if the input gave it, whether there is an operator, and how many records have room on the shelf, if steps
+-- wait for that
 pub record DeskParts (A : Type 0) : Type 0 where
-  pub lane : LaneName A
+  pub lane : RingName A
   pub taken : List (Placed A)
   pub waits : Option (Placed A)
   pub line : Option ℕ
   pub has_operator : Bool
+  pub shelf : Option ℕ
 
 -- these orders of the input were handed out: they are what waited and what was taken, but for what waits then
 pub record HandsOut {A : Type 0} (s : DeskParts A) (out : List (Placed A)) (t : DeskParts A) : Type 0 where
   pub lane : t.lane ≡ s.lane
   pub same : t.has_operator ≡ s.has_operator
+  pub shelf : t.shelf ≡ s.shelf
   pub more : List (Placed A)
   pub taken : t.taken ≡ s.taken ++ more
   pub rest : option_to_list s.waits ++ more ≡ out ++ option_to_list t.waits
@@ -47,8 +51,39 @@ Answers pumped s (asked.Order place o) t =
 Answers pumped s (asked.NotYet steps) t = HandsOut s [] t × IsEarly pumped t × IfSome t.waits (λ p. steps ≤ p.at)
 Answers pumped s asked.Done t = HandsOut s [] t × (t.waits ≡ None)
 
+-- the shelf is waited for, and it is full
+abbrev pub IsHeld : Option ℕ → Standing → Type 0
+IsHeld None standing = ⊥
+IsHeld (Some shelf) standing = shelf ≤ standing.waiting
+
+-- it isn't, or it has room, and there are no more steps than that: each closes at most one record
+abbrev pub HasRoom : {A : Type 0} → Option ℕ → Standing → Asked A → Type 0
+HasRoom None standing answer = ⊤
+HasRoom (Some shelf) standing (asked.Order place o) = standing.waiting < shelf
+HasRoom (Some shelf) standing (asked.NotYet steps) = (standing.waiting < shelf) × (steps ≤ standing.pumped + (shelf - standing.waiting))
+HasRoom (Some shelf) standing asked.Done = standing.waiting < shelf
+
+-- so many steps have room
+abbrev pub IsRoom : Option ℕ → Standing → ℕ → Type 0
+IsRoom None standing most = ⊤
+IsRoom (Some shelf) standing most = (standing.waiting < shelf) × (most ≤ standing.pumped + (shelf - standing.waiting))
+
+-- an answer, but with no more than so many steps
+abbrev pub within : {A : Type 0} → ℕ → Asked A → Asked A
+within most (asked.Order place o) = asked.Order place o
+within most (asked.NotYet steps) = asked.NotYet (min steps most)
+within most asked.Done = asked.Done
+
+-- how many records have room on the shelf, if steps wait for that
+abbrev pub awaited : Bool → ℕ → Option ℕ
+awaited true shelf = Some shelf
+awaited false shelf = None
+
+-- what a desk answers: nothing is done while the shelf is full and waited for
 abbrev pub DeskAsks : {A : Type 0} → AsksOf A (DeskParts A)
-DeskAsks s standing asked t = Answers standing.pumped s asked t
+DeskAsks s standing answer t =
+    (IsHeld s.shelf standing × (answer ≡ asked.NotYet standing.pumped) × (t ≡ s))
+    ⊎ (HasRoom s.shelf standing answer × Answers standing.pumped s answer t)
 
 -- it goes on, whatever the reply
 abbrev pub DeskHears : {A : Type 0} → HearsOf (DeskParts A)

@@ -1,5 +1,5 @@
 -- Why a run of a station failed, and what its store got before.
-use Rattle.std.specs.Prelude.{◌≡◌, ◌⊎◌, List, Option, Some, Result, Ok, Err, ⊤}
+use Rattle.std.specs.Prelude.{◌≡◌, ◌⊎◌, Bool, List, Option, Some, Result, Ok, Err, ⊤}
 use Rattle.dfr_recorder.specs.History.{Opening}
 use Rattle.comtrade_format.specs.declared.file.Kind.{Kind}
 use Rattle.dfr_live.specs.Devices.{PutsOf, LacksOf, Handed, Got, GotFront}
@@ -8,7 +8,7 @@ use Rattle.dfr_live.specs.declared.outcome.OpenFault.{OpenFault}
 use Rattle.dfr_live.specs.declared.outcome.OpenFault.TheVariants as unopened
 use Rattle.dfr_live.specs.declared.report.LiveFault.{LiveFault}
 use Rattle.dfr_live.specs.declared.report.LiveFault.TheVariants as live
-use Rattle.dfr_station.specs.Storing.{StoresOf, Exporting, PutsPair, LacksPair}
+use Rattle.dfr_station.specs.Storing.{StoresOf, Exporting, unasked, PutsPair, LacksPair}
 use Rattle.dfr_station.specs.declared.intake.ended.RunFault.{RunFault}
 use Rattle.dfr_station.specs.declared.intake.ended.RunFault.TheVariants as run
 
@@ -40,22 +40,18 @@ DevicesFail Puts Lacks o kind refused old new (run.End why) = (why ≡ unended.M
 abbrev pub IsFaultOf : {T : Type 0} → Result T RunFault → RunFault → Type 0
 IsFaultOf {T} report r = (report ≡ Err r) ⊎ ((r ≡ run.End unended.Mismatch) × ((made : T) × (report ≡ Ok made)))
 
--- a store that has not been asked yet
-abbrev pub unasked : {K : Type 0} → K → Exporting K
-unasked store = record { store = store; records = 0; unwritten = 0 }
-
 -- the store got the pairs of some records, one after the other, each until it took it or the record was given up, and nothing else
-abbrev pub StoredSome : {K : Type 0} → StoresOf K → Opening → Kind → K → K → Type 0
-StoredSome {K} Stores o kind store left =
+abbrev pub StoredSome : {K : Type 0} → StoresOf K → Opening → Kind → Bool → K → K → Type 0
+StoredSome {K} Stores o kind by_clock store left =
     (records : List Handed) × (e : Exporting K)
-    × Got (PutsPair Stores) (λ s extent short t. LacksPair s short t) o kind (unasked store) records e × (e.store ≡ left)
+    × Got (PutsPair Stores) (λ s extent short t. LacksPair s short t) o kind (unasked o kind by_clock store) records e × (e.store ≡ left)
 
 -- A run that failed, from an input and a store to those that are left. For want of memory before it began, or where the recorder was not
 -- opened, nothing was read or stored; if the recorder has accepted no scan, only want of memory keeps it from being opened. Else the store got
 -- the pairs of some records. Where a thread could not be started, or there was no memory at the end, nothing is known.
-abbrev pub StationFails : {I K : Type 0} → StoresOf K → Opening → Kind → Option OpenFault → I × K → I × K → RunFault → Type 0
-StationFails Stores o kind refused old left run.Memory = left ≡ old
-StationFails Stores o kind refused old left run.Thread = ⊤
-StationFails Stores o kind refused old left (run.Open why) = (left ≡ old) × ((refused ≡ Some why) ⊎ (why ≡ unopened.Memory))
-StationFails Stores o kind refused old left run.Counter = StoredSome Stores o kind old.1 left.1
-StationFails Stores o kind refused old left (run.End why) = (why ≡ unended.Memory) ⊎ StoredSome Stores o kind old.1 left.1
+abbrev pub StationFails : {I K : Type 0} → StoresOf K → Opening → Kind → Bool → Option OpenFault → I × K → I × K → RunFault → Type 0
+StationFails Stores o kind by_clock refused old left run.Memory = left ≡ old
+StationFails Stores o kind by_clock refused old left run.Thread = ⊤
+StationFails Stores o kind by_clock refused old left (run.Open why) = (left ≡ old) × ((refused ≡ Some why) ⊎ (why ≡ unopened.Memory))
+StationFails Stores o kind by_clock refused old left run.Counter = StoredSome Stores o kind by_clock old.1 left.1
+StationFails Stores o kind by_clock refused old left (run.End why) = (why ≡ unended.Memory) ⊎ StoredSome Stores o kind by_clock old.1 left.1

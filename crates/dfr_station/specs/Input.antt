@@ -14,6 +14,7 @@ use Rattle.dfr_station.specs.declared.reading.Given.{Given}
 use Rattle.dfr_station.specs.declared.reading.Given.TheVariants as given
 use Rattle.dfr_station.specs.declared.station.Input.{Input}
 use Rattle.dfr_station.specs.declared.station.Input.TheVariants as form
+use Rattle.dfr_station.specs.declared.station.Lowest.{Lowest}
 
 -- ---- one read
 
@@ -32,6 +33,11 @@ count_of given.Broken = 0
 abbrev pub Fills : {I : Type 0} → (I → Option (List ℕ)) → List ℕ → I → Given → List ℕ → I → Type 0
 Fills left waiting input given grown later =
     (bytes : List ℕ) × (grown ≡ waiting ++ bytes) × Reads (left input) given (left later) bytes
+
+-- so many bytes left a queue, and were put after those that wait
+abbrev pub Takes : List ℕ → List ℕ → ℕ → List ℕ → List ℕ → Type 0
+Takes received waiting count grown later =
+    (bytes : List ℕ) × (length bytes ≡ count) × (grown ≡ waiting ++ bytes) × (later ≡ received ++ bytes)
 
 -- bytes came next, one read after the other, and wait after those that waited
 pub record Grows {I : Type 0} (left : I → Option (List ℕ)) (waiting : List ℕ) (input : I) (grown : List ℕ) (later : I) : Type 0 where
@@ -58,11 +64,11 @@ abbrev pub frame_size : SetupParts → ℕ
 frame_size layout = frame_len (length layout.analog) (length layout.status)
 
 -- the arrivals of bytes that are frames: one of each whole frame, in order
-unfoldable pub FramesGive : SetupParts → List ℕ → List ArrivalParts → Type 0
-FramesGive layout bytes [] = length bytes < frame_size layout
-FramesGive layout bytes (a ∷ xs) =
-    (frame_size layout ≤ length bytes) × FrameMeans layout (take (frame_size layout) bytes) a
-    × FramesGive layout (drop (frame_size layout) bytes) xs
+unfoldable pub FramesGive : SetupParts → Lowest → List ℕ → List ArrivalParts → Type 0
+FramesGive layout l bytes [] = length bytes < frame_size layout
+FramesGive layout l bytes (a ∷ xs) =
+    (frame_size layout ≤ length bytes) × FrameMeans layout l (take (frame_size layout) bytes) a
+    × FramesGive layout l (drop (frame_size layout) bytes) xs
 
 -- ---- lines
 
@@ -109,7 +115,7 @@ OwedGive layout s pieces true xs =
 OwedGive layout s pieces false xs = LinesGive layout (one_more s.lines) s.came pieces xs
 
 abbrev pub FormGives : SetupParts → ReadingParts → List ℕ → Input → List ArrivalParts → Type 0
-FormGives layout s bytes form.Frames xs = FramesGive layout bytes xs
+FormGives layout s bytes (form.Frames l) xs = FramesGive layout l bytes xs
 FormGives layout s bytes form.Lines xs = OwedGive layout s (lines_left s.skipping bytes) s.owed xs
 
 -- what the bytes that are to come give, all up to the input's end

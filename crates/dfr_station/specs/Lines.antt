@@ -29,6 +29,7 @@ use Rattle.dfr_station.specs.declared.intake.arrival.Arrival.{Arrival}
 use Rattle.dfr_station.specs.declared.intake.arrival.Arrival.TheVariants as arrival
 use Rattle.dfr_station.specs.declared.intake.line.Meaning.{Meaning}
 use Rattle.dfr_station.specs.declared.intake.line.Meaning.TheVariants as meaning
+use Rattle.dfr_station.specs.declared.station.Lowest.{Lowest}
 
 -- what came: a scan that fits, a lost one, an order with the number of its line and of the scans before it, a line that is skipped
 pub data ArrivalParts : Type 0 where
@@ -59,12 +60,12 @@ abbrev pub of_scan : SetupParts → ScanParts → ArrivalParts
 of_scan layout scan = judged (scan_fault layout scan) scan
 
 -- the scan of the frame at the front of these bytes
-abbrev pub of_frame : SetupParts → List ℕ → ArrivalParts
-of_frame layout bytes = of_scan layout (frame_scan (length layout.analog) (length layout.status) bytes)
+abbrev pub of_frame : SetupParts → Lowest → List ℕ → ArrivalParts
+of_frame layout l bytes = of_scan layout (frame_scan l (length layout.analog) (length layout.status) bytes)
 
 -- so a frame means that scan; where an allocation failed, it is lost
-abbrev pub FrameMeans : SetupParts → List ℕ → ArrivalParts → Type 0
-FrameMeans layout bytes a = (a ≡ of_frame layout bytes) ⊎ (a ≡ Lost why.Memory)
+abbrev pub FrameMeans : SetupParts → Lowest → List ℕ → ArrivalParts → Type 0
+FrameMeans layout l bytes a = (a ≡ of_frame layout l bytes) ⊎ (a ≡ Lost why.Memory)
 
 -- ---- how lines are cut
 

@@ -4,11 +4,11 @@
 ghost use Rattle.std.specs.Prelude.{◌≡◌, ◌≤◌, ◌+◌, length, IsTrue};
 ghost use Rattle.rtrb.specs.Ring.{sent, known_free};
 ghost use Rattle.dfr_live.specs.Lane.{lane_in};
-ghost use Rattle.dfr_station.specs.Acquiring.{Gave};
+ghost use Rattle.dfr_station.specs.Acquiring.{Gave, FindsGap};
 
 use crate::desk::{Office, Placed};
 use crate::event::{Event, Skipped};
-use crate::intake::{Arrival, Arrivals, Counts, Ending, Next};
+use crate::intake::{Arrival, Arrivals, Counts, Ending, Next, Why};
 use crate::scans::Scans;
 use crate::station::Recording;
 use dfr_channels::Scan;
@@ -118,7 +118,8 @@ impl<'s, 'x, I, R, A: Allocator + Copy> Acquisition<'s, 'x, I, R, A> {
         match arrival {
             Arrival::Scan(scan) => Some(self.scans.give(scan)),
             Arrival::Lost(why) => Some(self.scans.lose(why)),
-            Arrival::Order { line, at, order } => {
+            Arrival::Order { line, at: _, order } => {
+                let at = self.scans.came();
                 if self.orders.push(Placed { line, at, order }).is_err() {
                     self.skip(line, Skipped::Busy);
                 }
@@ -129,6 +130,15 @@ impl<'s, 'x, I, R, A: Allocator + Copy> Acquisition<'s, 'x, I, R, A> {
                 None
             }
         }
+    }
+
+    /// Bytes have come. If the clock says that scans are missing before them, lost ones come first.
+    fn find_gap(&mut self)
+        ensures { FindsGap self.old self.new }
+    {
+        let more = self.arrivals.waiting();
+        let lost = self.scans.follow(self.arrivals.at(), more);
+        self.arrivals.stand_still(lost);
     }
 
     /// The input has ended.
@@ -166,6 +176,12 @@ impl<I: Read, R: Wait + Clock, A: Allocator + Copy> Intake<A, Recording>
                         return Ok(fed);
                     }
                 }
+                Next::Gap => {
+                    if self.scans.is_dated() {
+                        return Ok(self.scans.lose(Why::Silent));
+                    }
+                }
+                Next::Read => self.find_gap(),
                 Next::Drained => self.scans.publish(self.arrivals.at()),
                 Next::End(ending) => {
                     self.scans.publish(self.arrivals.at());
@@ -178,6 +194,9 @@ impl<I: Read, R: Wait + Clock, A: Allocator + Copy> Intake<A, Recording>
     }
 
     fn is_lost(&mut self) -> bool {
+        if self.scans.waits() {
+            return false;
+        }
         self.scans.drop_given();
         true
     }

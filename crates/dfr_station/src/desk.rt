@@ -1,6 +1,6 @@
 //! The orders: those of the input come at their places, an operator's as they arrive.
 
-ghost use Rattle.std.specs.Prelude.{◌≡◌, ℕ, ◌≤◌, [], ⊤, is_some, IsTrue, IfSome, MatchBool, MatchOption};
+ghost use Rattle.std.specs.Prelude.{◌≡◌, ℕ, ◌≤◌, [], ⊤, None, is_some, IsTrue, IfSome, MatchBool, MatchOption};
 ghost use Rattle.rtrb.specs.Ring.{sent, received, known_free};
 ghost use Rattle.dfr_live.specs.Lane.{lane_in, lane_out};
 ghost use Rattle.dfr_station.specs.Desks as spec;
@@ -8,7 +8,7 @@ ghost use Rattle.dfr_station.specs.Desks as spec;
 use crate::event::{Asked, Event, Replied, Skipped};
 use crate::operator::Operator;
 use crate::signals::Signals;
-use crate::station::Recording;
+use crate::station::{Control, Recording};
 use crate::teller::Teller;
 use dfr_channels::Layout;
 use dfr_live as live;
@@ -42,12 +42,14 @@ pub(crate) struct Office<'s, A: Allocator = Global> {
     line: Option<u64>,
     /// How many finished records may wait.
     shelf: u32,
+    /// The same, if steps wait for room on the shelf.
+    awaited: Option<u32>,
     /// Whether the shelf was full when it was last looked at.
     is_full: bool,
     /// At how many scans a rule fired while the shelf was full, as far as that has been reported.
     told: u64,
     /// How many steps had been made when the desk was asked last.
-    steps: u64,
+    pub(crate) steps: u64,
 }
 
 impl<'s, A: Allocator> Model for Office<'s, A> {
@@ -63,6 +65,7 @@ impl<'s, A: Allocator> Model for Office<'s, A> {
       waits = o.next;
       line = o.line;
       has_operator = o.has_operator;
+      shelf = o.awaited;
     } };
 }
 
@@ -72,9 +75,10 @@ impl<'s, A: Allocator + Copy> Office<'s, A> {
         layout: &'s Layout<A>,
         signals: &'s Signals,
         orders: Consumer<Placed<A>, A>,
-        operator: Option<Consumer<u8, A>>,
+        operator: Option<Control<A>>,
         teller: Teller<A>,
         shelf: u32,
+        waits: bool,
     ) -> Office<'s, A>
         ensures { result ≡ record {
           lane = lane_out orders;
@@ -82,6 +86,7 @@ impl<'s, A: Allocator + Copy> Office<'s, A> {
           waits = None;
           line = None;
           has_operator = is_some operator;
+          shelf = spec.awaited waits shelf;
         } }
     {
         Office {
@@ -91,10 +96,11 @@ impl<'s, A: Allocator + Copy> Office<'s, A> {
             orders,
             next: None,
             has_operator: operator.is_some(),
-            operator: operator.map(|bytes| Operator::new(alloc, bytes)),
+            operator: operator.map(|control| Operator::new(alloc, control)),
             teller,
             line: None,
             shelf,
+            awaited: waits.then_some(shelf),
             is_full: false,
             told: 0,
             steps: 0,
@@ -207,7 +213,7 @@ impl<A: Allocator + Copy> Office<'_, A> {
     }
 
     /// Publishes the numbers of waiting records and missed triggers. Reports when the shelf gets
-    /// full or has room again.
+    /// full or has room again, unless that is waited for.
     fn watch_shelf(&mut self, standing: Standing)
         ensures { self.new ≡ self.old }
     {
@@ -219,12 +225,35 @@ impl<A: Allocator + Copy> Office<'_, A> {
             return;
         }
         self.is_full = is_full;
+        if self.awaited.is_some() {
+            return;
+        }
         if is_full {
             self.teller.tell(Event::ShelfFull(waiting));
         } else {
             self.teller.tell(Event::ShelfFree);
             self.tell_missed(standing.missed);
         }
+    }
+
+    /// How many steps there may have been before the desk is asked again, if the shelf is waited for
+    /// or not. None while it is full.
+    fn most_steps(&self, standing: Standing) -> Option<u64>
+        ensures held { result ≡ None → spec.IsHeld self.now.shelf standing }
+        ensures room { IfSome result (λ most. spec.IsRoom self.now.shelf standing most) }
+    {
+        let Some(shelf) = self.awaited else {
+            return Some(u64::MAX);
+        };
+        if standing.waiting >= shelf {
+            return None;
+        }
+        // fewer steps at the greatest u64 are few enough
+        Some(
+            standing
+                .pumped
+                .saturating_add((shelf - standing.waiting) as u64),
+        )
     }
 
     /// What to do after so many steps: an order that is due, or of the operator; more steps, up to
@@ -248,6 +277,16 @@ impl<A: Allocator + Copy> Office<'_, A> {
         }
         self.turn_operator();
         live::Asked::NotYet(self.free_steps(ready))
+    }
+}
+
+/// An answer, but with no more than `most` steps.
+fn within<A: Allocator>(asked: live::Asked<A>, most: u64) -> live::Asked<A>
+    ensures { result ≡ spec.within most asked }
+{
+    match asked {
+        live::Asked::NotYet(steps) => live::Asked::NotYet(steps.min(most)),
+        other => other,
     }
 }
 
@@ -283,11 +322,14 @@ impl<A: Allocator + Copy> Desk<A, Recording> for Office<'_, A> {
     fn next(&mut self, standing: Standing) -> live::Asked<A> {
         self.steps = standing.pumped;
         self.watch_shelf(standing);
+        let Some(most) = self.most_steps(standing) else {
+            return live::Asked::NotYet(standing.pumped);
+        };
         let asked = self.asked_at(standing.pumped);
         if let live::Asked::Done = asked {
             self.tell_missed(standing.missed);
         }
-        asked
+        within(asked, most)
     }
 
     fn answered(&mut self, at: u64, reply: Option<Reply>) -> bool {

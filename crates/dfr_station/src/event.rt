@@ -38,6 +38,19 @@ pub enum Trouble {
     Memory,
     /// Any other error of the system.
     Other,
+    /// As many pairs of this hour were stored as may be. Such a pair is not tried again.
+    Storm,
+}
+
+impl Trouble {
+    ghost use Rattle.std.specs.Prelude.{◌≡◌, ◌≢◌, MatchBool};
+
+    /// Whether it is a storm.
+    pub(crate) fn is_storm(self) -> bool
+        ensures { MatchBool result (self ≡ Trouble.Storm) (self ≢ Trouble.Storm) }
+    {
+        matches!(self, Trouble::Storm)
+    }
 }
 
 /// Who gave an order.
@@ -56,6 +69,28 @@ pub enum Replied {
     Trigger(Result<Hit, TriggerFault>),
     /// Whether the rules were set. If not, a rule names a missing channel.
     Rules(bool),
+    /// The input is ended.
+    Stop,
+}
+
+/// How the wall clock is followed.
+#[derive(Clone, Copy, Debug, PartialEq, Eq)]
+pub struct Followed {
+    /// By how many microseconds the newest scan is later than by the rate alone.
+    pub offset: i64,
+    /// By how many parts per billion scans come faster than the rate says; below 0 if they come
+    /// slower. None in the first seconds.
+    pub drift: Option<i64>,
+}
+
+/// How the wall clock and the scans stand to each other.
+#[derive(Clone, Copy, Debug, PartialEq, Eq)]
+pub struct ClockState {
+    /// How many microseconds the wall clock was ahead of the time of the newest scan by the rate alone
+    /// when that scan was read.
+    pub ahead: i64,
+    /// None if the clock doesn't date records.
+    pub followed: Option<Followed>,
 }
 
 /// An event.
@@ -67,8 +102,8 @@ pub enum Event {
         start: i64,
         rate: u32,
     },
-    /// Of the scans from `first` to `last`, `count` were lost; `why` is the reason for the
-    /// first one.
+    /// Of the scans from `first` to `last`, `count` were lost for the reason `why`. Of values that are
+    /// out of range it names the channel of the first one.
     Lost {
         first: u64,
         last: u64,
@@ -93,11 +128,16 @@ pub enum Event {
     Record {
         extent: Extent,
         key: Key,
-        clock: Option<i64>,
+        clock: Option<ClockState>,
         is_cut: bool,
     },
-    /// A record was given up, since the store did not take it before the end.
-    Unwritten(Extent),
+    /// A record was given up, whose pair would have had this name. `why` is the reason for which the
+    /// store did not take it last.
+    Unwritten {
+        extent: Extent,
+        key: Key,
+        why: Trouble,
+    },
     /// So many finished records wait, as many as may. No trigger opens a record.
     ShelfFull(u32),
     /// The shelf has room again.
@@ -125,16 +165,17 @@ pub enum Event {
     /// Scans come again.
     Heard,
     /// The counts of each minute: scans, lost scans among them, records written, records that wait,
-    /// and scans at which a rule fired while the shelf was full. When the newest scan was read, the
-    /// wall clock was `clock` microseconds ahead of its time; None before the first scan.
+    /// and scans at which a rule fired while the shelf was full. `clock` is None before the first scan.
     Minute {
         scans: u64,
         lost: u64,
         records: u64,
         waiting: u64,
         missed: u64,
-        clock: Option<i64>,
+        clock: Option<ClockState>,
     },
+    /// The wall clock was set, by so many microseconds; below 0 if it was set back.
+    ClockSet(i64),
     /// Recording ended: scans, lost scans among them, records written, and `left`, the scans for
     /// which no step was made.
     Ended {

@@ -1,20 +1,24 @@
 //! The record that is open when the input ends: it is closed with lost scans, and written.
 
-ghost use Rattle.std.specs.Prelude.{◌≡◌, ◌⊎◌, List, Ok, Err, Some, false, true, IsTrue, MatchBool, is_some, not};
+ghost use Rattle.std.specs.Prelude.{◌≡◌, ◌⊎◌, List, Ok, Err, Some, false, true, IsTrue, MatchBool, IfSome, is_some, not};
 ghost use Rattle.dfr_recorder.specs.Own.{is_own};
 ghost use Rattle.dfr_recorder.specs.declared.step.Scanned.{Scanned as Accepted};
 ghost use Rattle.dfr_live.specs.Devices.{files_of};
+ghost use Rattle.dfr_station.specs.Dated.{layout_under, last_shown, Changes};
 ghost use Rattle.dfr_station.specs.Finishing.{LosesScan, LosesScans, TriedLast, TriesLast, WritesLast, FinishesOpen, EndsOpen, Finishes, counted_last};
 
-use crate::event::{Event, Trouble};
+use crate::event::{ClockState, Event, Trouble};
 use crate::intake::{Counts, Recorded};
 use crate::key::Key;
 use crate::outlet::{LAST_TRIES, key_of, pause_before};
 use crate::run::{ended_event, print_one};
+use crate::shown::{Redated, redated_by, shown_cfg};
 use crate::station::{Printer, Store, Stored};
+use crate::times::followed_by;
 use comtrade_write::{Kind, pair_of};
 use dfr_channels::Layout;
-use dfr_recorder::{LostRefusal, Record, Recorder};
+use dfr_clock::Timebase;
+use dfr_recorder::{Extent, LostRefusal, Record, Recorder};
 use std::alloc::Allocator;
 use std::sync::Wait;
 use std::time::Clock;
@@ -52,26 +56,64 @@ fn is_closed<A: Allocator + Copy, R: Wait + Clock>(rt: &R, recorder: &mut Record
     !recorder.is_recording()
 }
 
-/// Makes a record's pair and hands it to the store, once.
+/// How the wall clock and the scans stood to each other at the end.
+fn clock_state<A: Allocator>(
+    counts: Counts,
+    start: i64,
+    times: Option<&Timebase<A>>,
+) -> Option<ClockState> {
+    let ahead = counts.clock?;
+    let followed = match times {
+        Some(timebase) => followed_by(timebase, start),
+        None => None,
+    };
+    Some(ClockState { ahead, followed })
+}
+
+/// How the last record is shown. None: as by the set-up.
+fn last_redated<A: Allocator>(
+    layout: &Layout<A>,
+    extent: Extent,
+    times: &mut Option<Timebase<A>>,
+) -> Option<Redated>
+    ensures { result ≡ last_shown times.old layout.now extent }
+{
+    match times {
+        Some(timebase) => redated_by(layout, extent, timebase.date(extent.trigger)),
+        None => None,
+    }
+}
+
+/// Makes a record's pair as it is shown, and hands it to the store, once.
 fn hand_over<K: Store, A: Allocator + Copy>(
     alloc: A,
     layout: &Layout<A>,
     kind: Kind,
     taken: &Record<A>,
     key: Key,
+    redated: Option<Redated>,
     store: &mut K,
 ) -> Result<Stored, Trouble>
-    requires { IsTrue (is_own layout.now taken.now) }
-    ensures { TriedLast K.stores key (files_of layout.now kind taken.now) store.old result store.new }
+    requires own { IsTrue (is_own layout.now taken.now) }
+    requires redated { IfSome redated (λ r. Changes layout.now taken.now.extent r) }
+    ensures { TriedLast K.stores key
+        (files_of (layout_under layout.now redated) kind taken.now)
+        store.old result store.new }
 {
-    match pair_of(alloc, layout, taken, kind) {
-        Ok(pair) => store.put(key, pair.cfg.as_slice(), pair.dat.as_slice()),
-        Err(_) => Err(Trouble::Memory),
+    let Ok(pair) = pair_of(alloc, layout, taken, kind) else {
+        return Err(Trouble::Memory);
+    };
+    match redated {
+        None => store.put(key, pair.cfg.as_slice(), pair.dat.as_slice()),
+        Some(redated) => match shown_cfg(alloc, kind, redated, pair.cfg.as_slice()) {
+            Ok(cfg) => store.put(key, cfg.as_slice(), pair.dat.as_slice()),
+            Err(_) => Err(Trouble::Memory),
+        },
     }
 }
 
-/// Hands a record's pair to the store, again each second, a few times. Reports what the store
-/// answers. None if it did not take the pair.
+/// Hands a record's pair to the store, again each second, ten times in all, but once in a storm.
+/// Reports what the store answers. The error is why it did not take the pair last.
 fn stored<A: Allocator + Copy, K: Store, P: Printer, R: Wait + Clock>(
     rt: &R,
     alloc: A,
@@ -79,32 +121,49 @@ fn stored<A: Allocator + Copy, K: Store, P: Printer, R: Wait + Clock>(
     kind: Kind,
     taken: &Record<A>,
     key: Key,
+    redated: Option<Redated>,
     store: &mut K,
     printer: &mut P,
-    text: &mut Vec<u8, A>,
-) -> Option<Stored>
-    requires { IsTrue (is_own layout.now taken.now) }
-    ensures { TriesLast K.stores key (files_of layout.now kind taken.now) store.old result store.new }
+) -> Result<Stored, Trouble>
+    requires own { IsTrue (is_own layout.now taken.now) }
+    requires redated { IfSome redated (λ r. Changes layout.now taken.now.extent r) }
+    ensures { TriesLast K.stores key
+        (files_of (layout_under layout.now redated) kind taken.now)
+        store.old result store.new }
 {
-    let mut is_in_trouble = false;
-    for tries in 0..LAST_TRIES {
-        pause_before(rt, tries);
-        match hand_over(alloc, layout, kind, taken, key, store) {
+    let mut told = None;
+    for tries in 1..LAST_TRIES {
+        match hand_over(alloc, layout, kind, taken, key, redated, store) {
             Ok(stored) => {
-                if is_in_trouble {
-                    print_one(rt, text, printer, Event::Over);
-                }
-                return Some(stored);
+                tell_over(rt, told, printer);
+                return Ok(stored);
             }
             Err(trouble) => {
-                if !is_in_trouble {
-                    print_one(rt, text, printer, Event::Trouble(trouble));
+                if trouble.is_storm() {
+                    return Err(trouble);
                 }
-                is_in_trouble = true;
+                if told != Some(trouble) {
+                    print_one(rt, printer, Event::Trouble(trouble));
+                }
+                told = Some(trouble);
+                pause_before(rt, tries);
             }
         }
     }
-    None
+    match hand_over(alloc, layout, kind, taken, key, redated, store) {
+        Ok(stored) => {
+            tell_over(rt, told, printer);
+            Ok(stored)
+        }
+        Err(last) => Err(last),
+    }
+}
+
+/// Reports that the trouble that was told is over, if there was any.
+fn tell_over<P: Printer, R: Clock>(rt: &R, told: Option<Trouble>, printer: &mut P) {
+    if told.is_some() {
+        print_one(rt, printer, Event::Over);
+    }
 }
 
 /// Writes a record that was closed after the input had ended. Returns the counts with this record.
@@ -114,35 +173,38 @@ fn written<A: Allocator + Copy, K: Store, P: Printer, R: Wait + Clock>(
     layout: &Layout<A>,
     kind: Kind,
     taken: &Record<A>,
+    redated: Option<Redated>,
+    clock: Option<ClockState>,
     counts: Counts,
     store: &mut K,
     printer: &mut P,
-    text: &mut Vec<u8, A>,
 ) -> Counts
-    requires { IsTrue (is_own layout.now taken.now) }
-    ensures { WritesLast K.stores layout.now kind taken.now counts store.old result store.new }
+    requires own { IsTrue (is_own layout.now taken.now) }
+    requires redated { IfSome redated (λ r. Changes layout.now taken.now.extent r) }
+    ensures { WritesLast K.stores layout.now kind redated taken.now
+        counts store.old result store.new }
 {
     let extent = taken.extent();
-    let key = key_of(layout, extent);
-    match stored(rt, alloc, layout, kind, taken, key, store, printer, text) {
-        Some(stored) => {
+    let key = key_of(layout, extent, redated);
+    match stored(rt, alloc, layout, kind, taken, key, redated, store, printer) {
+        Ok(stored) => {
             let record = Event::Record {
                 extent,
                 key: stored.key,
-                clock: counts.clock,
+                clock,
                 is_cut: true,
             };
-            print_one(rt, text, printer, record);
+            print_one(rt, printer, record);
             if stored.removed > 0 {
-                print_one(rt, text, printer, Event::Removed(stored.removed));
+                print_one(rt, printer, Event::Removed(stored.removed));
             }
             Counts {
                 records: counts.records.saturating_add(1),
                 ..counts
             }
         }
-        None => {
-            print_one(rt, text, printer, Event::Unwritten(extent));
+        Err(why) => {
+            print_one(rt, printer, Event::Unwritten { extent, key, why });
             Counts {
                 unwritten: counts.unwritten.saturating_add(1),
                 ..counts
@@ -158,12 +220,12 @@ fn with_open<A: Allocator + Copy, K: Store, P: Printer, R: Wait + Clock>(
     alloc: A,
     kind: Kind,
     recorder: &mut Recorder<A>,
+    times: &mut Option<Timebase<A>>,
     counts: Counts,
     store: &mut K,
     printer: &mut P,
-    text: &mut Vec<u8, A>,
 ) -> Counts
-    ensures { Finishes K.stores kind recorder.old counts store.old recorder.new result store.new }
+    ensures { Finishes K.stores kind times.old recorder.old counts store.old recorder.new result store.new }
 {
     if !recorder.is_recording() {
         return counts;
@@ -172,11 +234,13 @@ fn with_open<A: Allocator + Copy, K: Store, P: Printer, R: Wait + Clock>(
         && let Some(taken) = recorder.take()
     {
         let layout = recorder.layout();
+        let redated = last_redated(layout, taken.extent(), times);
+        let clock = clock_state(counts, layout.start(), times.as_ref());
         return written(
-            rt, alloc, layout, kind, &taken, counts, store, printer, text,
+            rt, alloc, layout, kind, &taken, redated, clock, counts, store, printer,
         );
     }
-    print_one(rt, text, printer, Event::Unfinished);
+    print_one(rt, printer, Event::Unfinished);
     Counts {
         unwritten: counts.unwritten.saturating_add(1),
         ..counts
@@ -193,14 +257,14 @@ pub fn finish_station<A: Allocator + Copy, K: Store, P: Printer, R: Wait + Clock
     store: &mut K,
     printer: &mut P,
 )
-    ensures finished { Finishes K.stores kind left.old.ended.recorder left.old.counts store.old
+    ensures finished { Finishes K.stores kind left.old.times left.old.ended.recorder left.old.counts store.old
         left.new.ended.recorder left.new.counts store.new }
     ensures same { (left.new.ended.log ≡ left.old.ended.log) × (left.new.ended.left ≡ left.old.ended.left) }
 {
     let counts = left.counts;
     let recorder = &mut left.ended.recorder;
-    let text = &mut left.text;
-    let counts = with_open(rt, alloc, kind, recorder, counts, store, printer, text);
-    print_one(rt, text, printer, ended_event(counts));
+    let times = &mut left.times;
+    let counts = with_open(rt, alloc, kind, recorder, times, counts, store, printer);
+    print_one(rt, printer, ended_event(counts));
     left.counts = counts;
 }

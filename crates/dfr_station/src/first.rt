@@ -7,9 +7,9 @@ ghost use Rattle.dfr_station.specs.Input.{Grows};
 
 use crate::intake::{Buffer, ROOM, is_damaged, is_scan_line};
 use crate::meanwhile::{Before, Meanwhile, report};
+use crate::moment::Moment;
 use crate::reading::Given;
 use crate::station::{Input, Printer};
-use crate::telling::now;
 use crate::watch::{Watch, millis};
 use comtrade_values::Lines;
 use std::alloc::{AllocError, Allocator, Global};
@@ -20,18 +20,18 @@ use std::thread;
 use std::thread::Threads;
 use std::time::Clock;
 
-/// Room in bytes for the lines that it prints at once.
-const LINES: usize = 1_024;
-
 /// What came before the recorder was made.
 #[derive(Drop)]
 pub struct First<A: Allocator = Global> {
     pub(crate) buffer: Buffer<A>,
-    /// The instant of the last read, in microseconds since 1970-01-01 00:00:00 UTC.
-    pub(crate) at: i64,
+    /// The moment of the last read.
+    pub(crate) at: Moment,
     /// How many scans came up to then.
     pub(crate) scans: u64,
     pub(crate) watch: Watch,
+    /// What the clocks showed then; from there on they are followed. None: records have the instants
+    /// of the set-up.
+    pub clocks: Option<dfr_clock::Reading>,
     /// The input has ended, or can't be read.
     pub is_all: bool,
 }
@@ -52,15 +52,15 @@ impl<A: Allocator> First<A> {
     /// The instant of scan 0, in microseconds since 1970-01-01 00:00:00 UTC. The newest scan that
     /// came with it has the instant of the read.
     pub fn start(&self, rate: u32) -> i64 {
-        let Ok(at) = u64::try_from(self.at) else {
+        let Ok(at) = u64::try_from(self.at.at) else {
             return 0;
         };
         if rate == 0 || self.scans > 65_536 {
-            return self.at;
+            return self.at.at;
         }
         match i64::try_from(dated_back(at, self.scans, rate)) {
             Ok(start) => start,
-            Err(_) => self.at,
+            Err(_) => self.at.at,
         }
     }
 }
@@ -80,9 +80,9 @@ fn scans_in_lines(text: &[u8]) -> u64 {
 }
 
 /// How many scans have come whole. `frame` is the size of a frame in bytes.
-fn scans_in(form: Input, frame: usize, bytes: &[u8]) -> u64 {
+pub(crate) fn scans_in(form: Input, frame: usize, bytes: &[u8]) -> u64 {
     match form {
-        Input::Frames => {
+        Input::Frames(_) => {
             if frame == 0 {
                 0
             } else {
@@ -122,11 +122,12 @@ fn read_on<A: Allocator, I: Read, R: Wait + Clock>(
         }
         Given::Bytes(_) => {}
     }
-    reading.first.at = now(rt);
+    reading.first.at = Moment::now(rt);
     let bytes = reading.first.buffer.waiting();
     let len = bytes.len();
     let scans = scans_in(form, frame, bytes);
     reading.first.scans = scans;
+    reading.first.clocks = reading.first.at.reading(scans);
     scans == 0 && len < ROOM / 2
 }
 
@@ -162,7 +163,7 @@ fn read_reporting<
     rt: &R,
     form: Input,
     frame: usize,
-    meanwhile: &Meanwhile<'_, P, A>,
+    meanwhile: &Meanwhile<'_, P>,
     reading: Reading<'x, I, A>,
 ) -> (bool, Reading<'x, I, A>)
     ensures read { Grows I.remaining reading.entry.first.buffer reading.entry.input.now
@@ -201,7 +202,7 @@ fn read_lent<
     rt: &R,
     form: Input,
     frame: usize,
-    meanwhile: &Meanwhile<'_, P, A>,
+    meanwhile: &Meanwhile<'_, P>,
     input: &mut I,
     first: First<A>,
 ) -> (bool, First<A>)
@@ -220,9 +221,10 @@ fn begun<A: Allocator>(alloc: A, clock: &impl Clock) -> Result<First<A>, AllocEr
 {
     Ok(First {
         buffer: Buffer::new(alloc)?,
-        at: now(clock),
+        at: Moment::now(clock),
         scans: 0,
         watch: Watch::new(millis(clock)),
+        clocks: None,
         is_all: false,
     })
 }
@@ -245,13 +247,11 @@ pub fn read_first<
 {
     let (form, frame, minutes) = how;
     let first = begun(alloc, rt)?;
-    let text = Vec::with_capacity(alloc, LINES)?;
     let watch = first.watch;
     let meanwhile = Meanwhile {
         has_come: AtomicBool::new(false),
         before: Mutex::new(Before {
             printer,
-            text,
             watch,
             minutes,
         }),

@@ -14,11 +14,11 @@ mod line;
 
 pub(crate) use arrival::Arrival;
 pub(crate) use arrivals::{Arrivals, Ending, Next};
-pub(crate) use buffer::{Buffer, ROOM};
+pub use buffer::{Buffer, ROOM};
 pub use ended::{Counts, Recorded, RunFault};
 pub use feed::Why;
 pub(crate) use feed::missing_scan;
 pub use frame::{frame_len, scan_of_frame};
 pub use keep::surplus_bytes;
 pub use line::{is_damaged, is_scan_line};
-pub(crate) use line::{skipped_of_line, skipped_of_rules};
+pub(crate) use line::{is_word, skipped_of_line, skipped_of_rules};

@@ -1,9 +1,10 @@
 //! The names of a record's files, from the instant of its trigger and its number.
 
-ghost use Rattle.std.specs.Prelude.{◌≡◌};
+ghost use Rattle.std.specs.Prelude.{◌≡◌, ◌*ℤ◌, pos};
+ghost use Rattle.jiff_core.specs.DateTime.{IsCivilNanos};
+ghost use Rattle.dfr_station.specs.Names as spec;
 
-use comtrade_values::put_padded;
-use jiff_core::civil::DateTime;
+use comtrade_values::{civil_of, put_padded};
 use std::alloc::{AllocError, Allocator};
 
 /// The parts of a pair's name, `yyyymmddThhmmss.ffffff-N`. Names are ordered by instant, then by
@@ -22,21 +23,22 @@ pub struct Key {
     pub copy: u64,
 }
 
-/// Three numbers in one, the last two with two digits each. The result is far below the end of
-/// `u32`; with saturating arithmetic this needs no proof.
-fn packed(first: u16, second: u8, third: u8) -> u32 {
-    let whole = (first as u32).saturating_mul(10_000);
-    let hundreds = (second as u32).saturating_mul(100);
-    whole.saturating_add(hundreds).saturating_add(third as u32)
+/// Three numbers in one, the last two with two digits each.
+fn packed(first: u16, second: u8, third: u8) -> u32
+    ensures { result ≡ spec.packed first second third }
+{
+    first as u32 * 10_000 + second as u32 * 100 + third as u32
 }
 
 /// The name of record `number`, triggered at an instant in microseconds since 1970-01-01
-/// 00:00:00 UTC.
+/// 00:00:00 UTC. It is all zeros for an instant outside the years -9999 to 9999.
 pub fn key_at(instant: i64, number: u64) -> Key
-    ensures { result.number ≡ number }
+    ensures number { result.number ≡ number }
+    ensures first { result.copy ≡ 1 }
+    ensures dated { IsCivilNanos (instant *ℤ pos 1000) → spec.IsDated instant result }
 {
-    match DateTime::from_nanosecond(instant as i128 * 1000) {
-        Ok(civil) => Key {
+    match civil_of(instant) {
+        Some(civil) => Key {
             date: packed(
                 civil.date.year.unsigned_abs(),
                 civil.date.month,
@@ -47,7 +49,7 @@ pub fn key_at(instant: i64, number: u64) -> Key
             number,
             copy: 1,
         },
-        Err(_) => Key {
+        None => Key {
             date: 0,
             time: 0,
             micros: 0,

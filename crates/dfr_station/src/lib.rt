@@ -5,40 +5,44 @@
 
 mod acquisition;
 mod desk;
+mod detection;
 mod event;
 mod filler;
 mod finish;
 mod first;
 mod intake;
 mod key;
+mod limited;
 mod losses;
 mod meanwhile;
+mod moment;
 mod operator;
 mod outlet;
 mod pace;
 mod parts;
-mod prepared;
 mod printed;
 mod reading;
 mod recording;
 mod run;
 mod scans;
+mod shown;
 mod signals;
 mod station;
 mod teller;
 mod telling;
+mod times;
 mod watch;
 
-pub use event::{Asked, Event, Replied, Skipped, Trouble};
+pub use event::{Asked, ClockState, Event, Followed, Replied, Skipped, Trouble};
 pub use finish::finish_station;
 pub use first::{First, read_first};
 pub use intake::{
-    Counts, Recorded, RunFault, Why, frame_len, is_damaged, is_scan_line, scan_of_frame,
-    surplus_bytes,
+    Buffer, Counts, ROOM, Recorded, RunFault, Why, frame_len, is_damaged, is_scan_line,
+    scan_of_frame, surplus_bytes,
 };
 pub use key::{Key, key_at, key_in, put_key};
-pub use prepared::{SetupRefusal, recorder_of};
+pub use limited::{HourLimit, Limited, hours_have_most};
 pub use printed::put_event;
 pub use run::{Run, run_station};
-pub use station::{Input, Printer, Station, Store, Stored};
+pub use station::{Control, Input, Lowest, Printer, Station, Store, Stored};
 pub use telling::now;

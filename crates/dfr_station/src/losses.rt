@@ -1,7 +1,10 @@
-//! Lost scans that are reported together.
+//! Lost scans that are reported together: those of each reason apart.
 
 use crate::event::Event;
 use crate::intake::Why;
+
+/// How many kinds of reasons there are.
+pub(crate) const KINDS: usize = 7;
 
 /// Lost scans: the places of the first and the last, how many there are, and why the first was
 /// lost.
@@ -44,7 +47,7 @@ impl Losses {
 }
 
 /// Losses, and later ones.
-pub(crate) fn joined(losses: Option<Losses>, later: Losses) -> Losses {
+fn joined(losses: Option<Losses>, later: Losses) -> Losses {
     match losses {
         Some(before) => Losses {
             last: later.last,
@@ -52,5 +55,66 @@ pub(crate) fn joined(losses: Option<Losses>, later: Losses) -> Losses {
             ..before
         },
         None => later,
+    }
+}
+
+/// Losses that wait to be reported, those of each reason apart.
+#[derive(Clone, Copy, Debug, PartialEq, Eq)]
+pub(crate) struct Pending {
+    told: Option<Losses>,
+    unread: Option<Losses>,
+    shape: Option<Losses>,
+    range: Option<Losses>,
+    full: Option<Losses>,
+    memory: Option<Losses>,
+    silent: Option<Losses>,
+}
+
+impl Pending {
+    /// None wait.
+    pub(crate) const NONE: Pending = Pending {
+        told: None,
+        unread: None,
+        shape: None,
+        range: None,
+        full: None,
+        memory: None,
+        silent: None,
+    };
+
+    /// Adds losses to those of the same reason.
+    pub(crate) fn add(&mut self, later: Losses) {
+        match later.why {
+            Why::Told => self.told = Some(joined(self.told, later)),
+            Why::Unread => self.unread = Some(joined(self.unread, later)),
+            Why::Shape => self.shape = Some(joined(self.shape, later)),
+            Why::Range(_) => self.range = Some(joined(self.range, later)),
+            Why::Full => self.full = Some(joined(self.full, later)),
+            Why::Memory => self.memory = Some(joined(self.memory, later)),
+            Why::Silent => self.silent = Some(joined(self.silent, later)),
+        }
+    }
+
+    /// Takes the losses of one reason, if any wait.
+    pub(crate) fn take(&mut self) -> Option<Losses> {
+        if self.told.is_some() {
+            return self.told.take();
+        }
+        if self.unread.is_some() {
+            return self.unread.take();
+        }
+        if self.shape.is_some() {
+            return self.shape.take();
+        }
+        if self.range.is_some() {
+            return self.range.take();
+        }
+        if self.full.is_some() {
+            return self.full.take();
+        }
+        if self.memory.is_some() {
+            return self.memory.take();
+        }
+        self.silent.take()
     }
 }

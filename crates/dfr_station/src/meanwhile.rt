@@ -2,10 +2,8 @@
 
 use crate::event::Event;
 use crate::station::Printer;
-use crate::teller::put_line;
-use crate::telling::{now, print_lines};
+use crate::telling::now;
 use crate::watch::{Watch, millis};
-use std::alloc::Allocator;
 use std::sync::atomic::{AtomicBool, Ordering};
 use std::sync::{Mutex, Wait};
 use std::thread;
@@ -14,7 +12,7 @@ use std::time::{Clock, Duration};
 /// How long the thread sleeps that reports meanwhile, in milliseconds.
 const NAP: u64 = 20;
 
-/// The line of a minute before the first scan.
+/// The event of a minute before the first scan.
 const NOTHING: Event = Event::Minute {
     scans: 0,
     lost: 0,
@@ -26,40 +24,34 @@ const NOTHING: Event = Event::Minute {
 
 /// What the thread works on that reports while no scan has come.
 #[derive(Drop)]
-pub(crate) struct Before<'x, P, A: Allocator> {
+pub(crate) struct Before<'x, P> {
     pub(crate) printer: &'x mut P,
-    pub(crate) text: Vec<u8, A>,
     pub(crate) watch: Watch,
     pub(crate) minutes: bool,
 }
 
-impl<P: Printer, A: Allocator> Before<'_, P, A> {
-    /// Prints the lines that are due.
+impl<P: Printer> Before<'_, P> {
+    /// Prints the events that are due.
     fn print(&mut self, clock: &impl Clock) {
         let millis = millis(clock);
-        self.text.clear();
         if let Some(event) = self.watch.silence(0, millis) {
-            put_line(&mut self.text, now(clock), event);
+            self.printer.print(now(clock), event);
         }
         if self.watch.is_minute(millis) && self.minutes {
-            put_line(&mut self.text, now(clock), NOTHING);
+            self.printer.print(now(clock), NOTHING);
         }
-        print_lines(self.printer, &self.text);
     }
 }
 
 /// What both threads know. The one that reports holds the lock throughout.
 #[derive(Drop)]
-pub(crate) struct Meanwhile<'y, P, A: Allocator> {
+pub(crate) struct Meanwhile<'y, P> {
     pub(crate) has_come: AtomicBool,
-    pub(crate) before: Mutex<Before<'y, P, A>>,
+    pub(crate) before: Mutex<Before<'y, P>>,
 }
 
-/// Prints the lines that are due, until the first scan has come.
-pub(crate) fn report<P: Printer, A: Allocator, R: Wait + Clock>(
-    rt: &R,
-    meanwhile: &Meanwhile<'_, P, A>,
-) {
+/// Prints the events that are due, until the first scan has come.
+pub(crate) fn report<P: Printer, R: Wait + Clock>(rt: &R, meanwhile: &Meanwhile<'_, P>) {
     let mut held = meanwhile.before.lock(rt);
     for _ in rt.forever() {
         if meanwhile.has_come.load(Ordering::SeqCst) {

@@ -1,16 +1,20 @@
 //! An operator's lines, which come while scans are recorded.
 
-ghost use Rattle.std.specs.Prelude.{◌≡◌, true, IfSome};
+ghost use Rattle.std.specs.Prelude.{◌≡◌, true, IfSome, codes};
+ghost use Rattle.std.specs.Str.{bytes_eq};
 ghost use Rattle.dfr_station.specs.Desks.{TakesByte};
 
 use crate::desk::Office;
-use crate::event::{Event, Skipped};
-use crate::intake::{skipped_of_line, skipped_of_rules};
+use crate::event::{Asked, Event, Replied, Skipped};
+use crate::intake::{is_word, skipped_of_line, skipped_of_rules};
+use crate::station::Control;
 use dfr_channels::{Rule, Rules};
 use dfr_live::Order;
 use dfr_script::{Command, LineRefusal, ScanSize, command_of_line};
 use rtrb::Consumer;
 use std::alloc::{Allocator, Global};
+use std::sync::Arc;
+use std::sync::atomic::{AtomicBool, Ordering};
 
 /// The greatest length of an operator's line, in bytes.
 const LONGEST: usize = 4_096;
@@ -18,10 +22,29 @@ const LONGEST: usize = 4_096;
 /// The most bytes read in one turn: as many as the operator's queue has.
 const TURN: usize = 65_536;
 
+/// What an operator's line says.
+#[derive(Drop)]
+enum Said<A: Allocator> {
+    /// Nothing: it is blank, or a comment.
+    Nothing,
+    /// The input is to end.
+    Stop,
+    Order(Order<A>),
+}
+
+/// Whether a line ends the input.
+fn is_stop(line: &[u8]) -> bool
+    ensures { result ≡ bytes_eq line.now (codes "stop") }
+{
+    is_word(line, "stop")
+}
+
 /// The queue of an operator's bytes, and the line that is being read.
 #[derive(Drop)]
 pub(crate) struct Operator<A: Allocator = Global> {
-    pub(crate) bytes: Consumer<u8, A>,
+    bytes: Consumer<u8, A>,
+    /// Set by a line `stop`: the input is to end.
+    stop: Arc<AtomicBool, Global>,
     /// What of the current line has come.
     line: Vec<u8, A>,
     /// Why the line is refused.
@@ -31,9 +54,11 @@ pub(crate) struct Operator<A: Allocator = Global> {
 }
 
 impl<A: Allocator> Operator<A> {
-    pub(crate) fn new(alloc: A, bytes: Consumer<u8, A>) -> Operator<A> {
+    pub(crate) fn new(alloc: A, control: Control<A>) -> Operator<A> {
+        let Control { bytes, stop } = control;
         Operator {
             bytes,
+            stop,
             line: Vec::new(alloc),
             refused: None,
             left: TURN,
@@ -95,18 +120,33 @@ impl<A: Allocator + Copy> Office<'_, A> {
         }
     }
 
-    /// The order of an operator's line, if it has one, or why it is refused.
-    fn order_in(&self, line: &[u8]) -> Result<Option<Order<A>>, Skipped> {
+    /// What an operator's line says, or why it is refused.
+    fn said_in(&self, line: &[u8]) -> Result<Said<A>, Skipped> {
+        if is_stop(line) {
+            return Ok(Said::Stop);
+        }
         let size = ScanSize {
             analog: self.layout.analog().len(),
             status: self.layout.status().len(),
         };
         match command_of_line(self.alloc, 1, line, size) {
-            Ok(None) => Ok(None),
-            Ok(Some(command)) => Ok(Some(self.order_of(command)?)),
+            Ok(None) => Ok(Said::Nothing),
+            Ok(Some(command)) => Ok(Said::Order(self.order_of(command)?)),
             Err(LineRefusal::Fault(fault)) => Err(skipped_of_line(fault)),
             Err(LineRefusal::Memory) => Err(Skipped::Memory),
         }
+    }
+
+    /// Ends the input, and reports that.
+    fn end_input(&mut self, stop: &AtomicBool)
+        ensures { self.new ≡ self.old }
+    {
+        stop.store(true, Ordering::SeqCst);
+        self.teller.tell(Event::Reply {
+            asked: Asked::Operator,
+            at: self.steps,
+            reply: Replied::Stop,
+        });
     }
 
     /// The next order of the operator whose line has come whole. Refused lines are reported.
@@ -123,17 +163,18 @@ impl<A: Allocator + Copy> Office<'_, A> {
             let Some(read) = operator.next_line() else {
                 break;
             };
-            let order = match read {
-                Ok(()) => self.order_in(&operator.line),
+            let said = match read {
+                Ok(()) => self.said_in(&operator.line),
                 Err(why) => Err(why),
             };
             operator.line.clear();
-            match order {
-                Ok(None) => {}
-                Ok(order) => {
-                    heard = order;
+            match said {
+                Ok(Said::Nothing) => {}
+                Ok(Said::Order(order)) => {
+                    heard = Some(order);
                     break;
                 }
+                Ok(Said::Stop) => self.end_input(&operator.stop),
                 Err(why) => self.teller.tell(Event::Order(why)),
             }
         }

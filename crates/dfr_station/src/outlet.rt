@@ -1,21 +1,26 @@
 //! Where finished records go: the pair of each is handed to the store until the store takes it.
 
-ghost use Rattle.std.specs.Prelude.{◌≡◌, MatchBool};
+ghost use Rattle.std.specs.Prelude.{◌≡◌, MatchBool, IfSome, Some, false};
+ghost use Rattle.dfr_station.specs.Dated.{Shows, AreWritable, changed_cfg};
 ghost use Rattle.dfr_station.specs.Input.{one_more};
-ghost use Rattle.dfr_station.specs.Storing.{TriedPair};
+ghost use Rattle.dfr_station.specs.Storing.{TriedPair, StoredOrGivenUp};
 
-use crate::event::{Event, Trouble};
+use crate::event::{ClockState, Event, Trouble};
 use crate::key::{Key, key_at};
+use crate::shown::{Redated, redated_by, shown_cfg};
 use crate::signals::Signals;
 use crate::station::{Recording, Store, Stored};
 use crate::teller::Teller;
+use crate::times::followed_by;
+use comtrade_write::Kind;
 use dfr_channels::Layout;
+use dfr_clock::Timebase;
 use dfr_live::{Outlet, Short};
 use dfr_recorder::Extent;
 use std::alloc::{Allocator, Global};
 use std::marker::Model;
-use std::sync::Wait;
 use std::sync::atomic::Ordering;
+use std::sync::{Mutex, Wait};
 use std::thread;
 use std::time::{Clock, Duration};
 
@@ -38,7 +43,11 @@ pub(crate) fn pause_before(rt: &(impl Wait + Clock), tries: u32) {
 #[derive(Drop)]
 pub(crate) struct Exports<'s, K, R, A: Allocator = Global> {
     rt: &'s R,
+    alloc: A,
     layout: &'s Layout<A>,
+    kind: Kind,
+    /// What dates the records, if the clock does.
+    times: Option<&'s Mutex<Timebase<A>>>,
     signals: &'s Signals,
     store: K,
     teller: Teller<A>,
@@ -53,6 +62,7 @@ pub(crate) struct Exports<'s, K, R, A: Allocator = Global> {
 }
 
 impl<'s, K, R, A: Allocator> Model for Exports<'s, K, R, A> {
+    ghost use Rattle.std.specs.Prelude.{is_some};
     ghost use Rattle.dfr_station.specs.Storing.{Exporting};
 
     ghost Value = { Exporting K };
@@ -61,22 +71,36 @@ impl<'s, K, R, A: Allocator> Model for Exports<'s, K, R, A> {
       store = e.store;
       records = e.records;
       unwritten = e.unwritten;
+      dating = record { layout = e.layout.now; kind = e.kind; by_clock = is_some e.times };
     } };
 }
 
 impl<'s, K, R, A: Allocator> Exports<'s, K, R, A> {
+    ghost use Rattle.std.specs.Prelude.{is_some};
+
     pub(crate) fn new(
         rt: &'s R,
+        alloc: A,
         layout: &'s Layout<A>,
+        kind: Kind,
+        times: Option<&'s Mutex<Timebase<A>>>,
         signals: &'s Signals,
         store: K,
         teller: Teller<A>,
     ) -> Exports<'s, K, R, A>
-        ensures { result ≡ record { store = store; records = 0; unwritten = 0 } }
+        ensures { result ≡ record {
+          store = store;
+          records = 0;
+          unwritten = 0;
+          dating = record { layout = layout.now; kind = kind; by_clock = is_some times.entry };
+        } }
     {
         Exports {
             rt,
+            alloc,
             layout,
+            kind,
+            times,
             signals,
             store,
             teller,
@@ -109,12 +133,19 @@ impl<'s, K, R, A: Allocator> Exports<'s, K, R, A> {
     }
 }
 
-/// The name of a record's pair.
-pub(crate) fn key_of<A: Allocator>(layout: &Layout<A>, extent: Extent) -> Key
+/// The name of a record's pair, from the instant of its trigger as it is shown.
+pub(crate) fn key_of<A: Allocator>(
+    layout: &Layout<A>,
+    extent: Extent,
+    redated: Option<Redated>,
+) -> Key
     ensures { result.number ≡ extent.number }
 {
-    // a scan without an instant is refused, so the scan of a record's trigger has one
-    let instant = layout.instant(extent.trigger).unwrap_or(0);
+    let instant = match redated {
+        Some(redated) => redated.is.trigger,
+        // a scan without an instant is refused, so the scan of a record's trigger has one
+        None => layout.instant(extent.trigger).unwrap_or(0),
+    };
     key_at(instant, extent.number)
 }
 
@@ -130,6 +161,16 @@ pub(crate) enum Tried {
 }
 
 impl<K, R: Wait + Clock, A: Allocator> Exports<'_, K, R, A> {
+    /// How the wall clock and the scans stand to each other.
+    fn clock_state(&self) -> Option<ClockState> {
+        let ahead = self.signals.clock()?;
+        let followed = match self.times {
+            Some(times) => followed_by(&times.lock(self.rt), self.layout.start()),
+            None => None,
+        };
+        Some(ClockState { ahead, followed })
+    }
+
     /// Reports that the store took a pair, and counts it.
     fn tell_stored(&mut self, extent: Extent, stored: Stored)
         ensures { self.new ≡ record self.old { records = one_more self.old.records } }
@@ -140,10 +181,11 @@ impl<K, R: Wait + Clock, A: Allocator> Exports<'_, K, R, A> {
         }
         self.records = self.records.saturating_add(1);
         self.signals.records.store(self.records, Ordering::SeqCst);
+        let clock = self.clock_state();
         self.teller.tell(Event::Record {
             extent,
             key: stored.key,
-            clock: self.signals.clock(),
+            clock,
             is_cut: false,
         });
         if stored.removed > 0 {
@@ -151,20 +193,61 @@ impl<K, R: Wait + Clock, A: Allocator> Exports<'_, K, R, A> {
         }
     }
 
+    /// The files of a record were made: a want of memory is over.
+    fn tell_memory(&mut self)
+        ensures { self.new ≡ self.old }
+    {
+        if self.trouble == Some(Trouble::Memory) {
+            self.trouble = None;
+            self.teller.tell(Event::Over);
+        }
+    }
+
+    /// Reports that a record is given up, and counts it.
+    fn give_up(&mut self, key: Key, extent: Extent, why: Trouble)
+        ensures { self.new ≡ record self.old { unwritten = one_more self.old.unwritten } }
+    {
+        self.unwritten = self.unwritten.saturating_add(1);
+        self.teller.tell(Event::Unwritten { extent, key, why });
+    }
+
     /// Reports why a pair wasn't stored, unless that was done. After a second it is tried again; but
-    /// after the input has ended, only a few times in all. Returns whether it is tried again. If not,
-    /// the record is counted.
-    fn tries_again(&mut self, extent: Extent, trouble: Trouble) -> bool
-        ensures { MatchBool result (self.new ≡ self.old)
+    /// after the input has ended, only a few times in all, and in a storm never. Returns whether it is
+    /// tried again. If not, the record is counted.
+    fn tries_again(&mut self, key: Key, extent: Extent, trouble: Trouble) -> bool
+        ensures counted { MatchBool result (self.new ≡ self.old)
             (self.new ≡ record self.old { unwritten = one_more self.old.unwritten }) }
+        ensures storm { trouble ≡ Trouble.Storm → result ≡ false }
+    {
+        match trouble {
+            Trouble::Storm => {
+                self.tell_memory();
+                self.give_up(key, extent, trouble);
+                false
+            }
+            _ => self.waits(key, extent, trouble),
+        }
+    }
+
+    /// Reports a trouble, unless that was done.
+    fn tell_trouble(&mut self, trouble: Trouble)
+        ensures { self.new ≡ self.old }
     {
         if self.trouble != Some(trouble) {
             self.trouble = Some(trouble);
             self.teller.tell(Event::Trouble(trouble));
         }
+    }
+
+    /// Reports a trouble, unless that was done, and waits for a second. After the input has ended the
+    /// record is given up in the end. Returns whether its pair is tried again.
+    fn waits(&mut self, key: Key, extent: Extent, trouble: Trouble) -> bool
+        ensures { MatchBool result (self.new ≡ self.old)
+            (self.new ≡ record self.old { unwritten = one_more self.old.unwritten }) }
+    {
+        self.tell_trouble(trouble);
         if self.is_last() {
-            self.unwritten = self.unwritten.saturating_add(1);
-            self.teller.tell(Event::Unwritten(extent));
+            self.give_up(key, extent, trouble);
             return false;
         }
         thread::sleep(self.rt, Duration::from_millis(RETRY));
@@ -186,6 +269,51 @@ impl<K, R: Wait + Clock, A: Allocator> Exports<'_, K, R, A> {
     }
 }
 
+impl<K, R: Wait + Clock, A: Allocator + Copy> Exports<'_, K, R, A> {
+    /// How a record is shown. None: as by the set-up.
+    fn dated(&self, extent: Extent) -> Option<Redated>
+        ensures { Shows self.now.dating extent result }
+    {
+        let times = self.times?;
+        let date = times.lock(self.rt).date(extent.trigger);
+        redated_by(self.layout, extent, date)
+    }
+
+    /// A configuration file after this change. As long as there is no memory, it is tried again; after
+    /// the input has ended, a few times in all.
+    fn changed(&mut self, redated: Redated, cfg: &[u8]) -> Option<Vec<u8, A>>
+        requires was { AreWritable redated.was }
+        requires is { AreWritable redated.is }
+        ensures same { self.new ≡ self.old }
+        ensures changed { IfSome result (λ changed.
+            changed.items ≡ changed_cfg self.old.dating.kind redated cfg.now) }
+    {
+        for _ in self.rt.forever() {
+            if let Ok(changed) = shown_cfg(self.alloc, self.kind, redated, cfg) {
+                return Some(changed);
+            }
+            if self.is_last() {
+                return None;
+            }
+            self.tell_trouble(Trouble::Memory);
+            thread::sleep(self.rt, Duration::from_millis(RETRY));
+        }
+        unreachable!()
+    }
+
+    /// How a record is shown, and its configuration file so. None: as by the set-up.
+    fn shown(&mut self, extent: Extent, cfg: &[u8]) -> Option<(Redated, Vec<u8, A>)>
+        ensures same { self.new ≡ self.old }
+        ensures dated { IfSome result (λ shown. Shows self.old.dating extent (Some shown.0)) }
+        ensures shown { IfSome result (λ shown.
+            shown.1.items ≡ changed_cfg self.old.dating.kind shown.0 cfg.now) }
+    {
+        let redated = self.dated(extent)?;
+        let cfg = self.changed(redated, cfg)?;
+        Some((redated, cfg))
+    }
+}
+
 impl<K: Store, R: Wait + Clock, A: Allocator> Exports<'_, K, R, A> {
     /// Hands a pair to the store once.
     fn tried(&mut self, key: Key, extent: Extent, cfg: &[u8], dat: &[u8]) -> Tried
@@ -198,7 +326,7 @@ impl<K: Store, R: Wait + Clock, A: Allocator> Exports<'_, K, R, A> {
                 Tried::Stored
             }
             Err(trouble) => {
-                if self.tries_again(extent, trouble) {
+                if self.tries_again(key, extent, trouble) {
                     Tried::Again
                 } else {
                     Tried::GivenUp
@@ -206,9 +334,24 @@ impl<K: Store, R: Wait + Clock, A: Allocator> Exports<'_, K, R, A> {
             }
         }
     }
+
+    /// Hands a pair to the store until the store takes it or the record is given up.
+    fn hand_on(&mut self, key: Key, extent: Extent, cfg: &[u8], dat: &[u8])
+        ensures { StoredOrGivenUp K.stores key
+            (record { extent = extent; cfg = cfg.now; dat = dat.now }) self.old self.new }
+    {
+        for _ in self.rt.forever() {
+            match self.tried(key, extent, cfg, dat) {
+                Tried::Stored => return,
+                Tried::GivenUp => return,
+                Tried::Again => {}
+            }
+        }
+        unreachable!()
+    }
 }
 
-impl<K: Store, R: Wait + Clock, A: Allocator> Outlet<Recording> for Exports<'_, K, R, A> {
+impl<K: Store, R: Wait + Clock, A: Allocator + Copy> Outlet<Recording> for Exports<'_, K, R, A> {
     ghost use Rattle.dfr_station.specs.Storing.{PutsPair, LacksPair};
 
     ghost puts = { λ s files r t. PutsPair K.stores s files r t };
@@ -216,19 +359,23 @@ impl<K: Store, R: Wait + Clock, A: Allocator> Outlet<Recording> for Exports<'_, 
     ghost lacks = { λ s _ short t. LacksPair s short t };
 
     fn put(&mut self, extent: Extent, cfg: &[u8], dat: &[u8]) -> Result<(), u32> {
-        let key = key_of(self.layout, extent);
-        for _ in self.rt.forever() {
-            match self.tried(key, extent, cfg, dat) {
-                Tried::Stored => return Ok(()),
-                Tried::GivenUp => return Ok(()),
-                Tried::Again => {}
+        match self.shown(extent, cfg) {
+            Some((redated, shown)) => {
+                let key = key_of(self.layout, extent, Some(redated));
+                self.hand_on(key, extent, &shown, dat);
+                Ok(())
+            }
+            None => {
+                let key = key_of(self.layout, extent, None);
+                self.hand_on(key, extent, cfg, dat);
+                Ok(())
             }
         }
-        unreachable!()
     }
 
     fn no_memory(&mut self, extent: Extent) -> Short {
-        if self.tries_again(extent, Trouble::Memory) {
+        let name = key_of(self.layout, extent, self.dated(extent));
+        if self.tries_again(name, extent, Trouble::Memory) {
             Short::Again
         } else {
             Short::GiveUp

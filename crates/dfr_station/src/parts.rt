@@ -1,23 +1,23 @@
 //! What a station allocates before it records.
 
-ghost use Rattle.std.specs.Prelude.{◌≡◌, IfOk};
+ghost use Rattle.std.specs.Prelude.{◌≡◌, IfOk, is_some};
 ghost use Rattle.dfr_live.specs.Seen.{opening_of};
+ghost use Rattle.dfr_station.specs.Dated.{is_followed};
 ghost use Rattle.dfr_station.specs.Stations.{IsFresh};
 
 use crate::desk::Placed;
 use crate::filler::Filler;
 use crate::teller::{Teller, Waiting, telling_of};
+use crate::times::timebase_of;
 use comtrade_values::Memory;
 use dfr_channels::Layout;
+use dfr_clock::{Reading, Timebase};
 use dfr_recorder::Recorder;
 use rtrb::{Consumer, Producer, RingBuffer};
 use std::alloc::Allocator;
 
 /// The most orders of the input that may wait.
 const ORDERS: usize = 1_024;
-
-/// The greatest length of an event's line, in bytes.
-const LINE: usize = 512;
 
 /// What is allocated for the devices of a station.
 #[derive(Drop)]
@@ -26,11 +26,9 @@ pub(crate) struct Parts<A: Allocator> {
     pub(crate) tellers: (Teller<A>, Teller<A>, Teller<A>),
     pub(crate) events: (Waiting<A>, Waiting<A>, Waiting<A>),
     pub(crate) orders: (Producer<Placed<A>, A>, Consumer<Placed<A>, A>),
-    /// Room for an event's line.
-    pub(crate) text: Vec<u8, A>,
 }
 
-/// Allocates the parts.
+/// Allocates the parts. The layout is that of the input.
 fn parts_in<A: Allocator + Copy>(alloc: A, layout: &Layout<A>) -> Result<Parts<A>, Memory>
     ensures { IfOk result (λ parts. IsFresh layout.now parts) }
 {
@@ -39,24 +37,28 @@ fn parts_in<A: Allocator + Copy>(alloc: A, layout: &Layout<A>) -> Result<Parts<A
     let (triggers, of_triggers) = telling_of(alloc)?;
     let (exports, of_exports) = telling_of(alloc)?;
     let orders = RingBuffer::new(alloc, ORDERS)?;
-    let text = Vec::with_capacity(alloc, LINE)?;
     Ok(Parts {
         filler,
         tellers: (scans, triggers, exports),
         events: (of_scans, of_triggers, of_exports),
         orders,
-        text,
     })
 }
 
-/// A copy of the recorder's layout, which the devices look at, and their parts.
+/// A copy of the recorder's layout, which the devices look at, and their parts, for an input with
+/// these channels; and the timebase, if the clock is followed.
 pub(crate) fn layout_and_parts<A: Allocator + Copy>(
     alloc: A,
     recorder: &Recorder<A>,
-) -> Result<(Layout<A>, Parts<A>), Memory>
-    ensures { IfOk result (λ made. (made.0 ≡ (opening_of recorder.now).layout) × IsFresh made.0 made.1) }
+    inputs: &Layout<A>,
+    gap: u32,
+    clocks: Option<Reading>,
+) -> Result<(Layout<A>, Parts<A>, Option<Timebase<A>>), Memory>
+    ensures { IfOk result (λ made. (made.0 ≡ (opening_of recorder.now).layout)
+        × IsFresh inputs.now made.1 × (is_some made.2 ≡ is_followed clocks)) }
 {
     let layout = recorder.layout().try_clone()?;
-    let parts = parts_in(alloc, &layout)?;
-    Ok((layout, parts))
+    let parts = parts_in(alloc, inputs)?;
+    let times = timebase_of(alloc, layout.rate(), gap, clocks)?;
+    Ok((layout, parts, times))
 }

@@ -2,9 +2,9 @@
 
 ghost use Rattle.std.specs.Prelude.{◌≡◌, ◌+◌, ◌/◌, unsigned_abs};
 
-use crate::event::{Asked, Event, Replied, Skipped, Trouble};
+use crate::event::{Asked, ClockState, Event, Followed, Replied, Skipped, Trouble};
 use crate::intake::Why;
-use crate::key::put_key;
+use crate::key::{Key, put_key};
 use comtrade_values::{has_date, put, put_civil, put_padded, put_with};
 use dfr_recorder::{Cause, Extent, Hit, TriggerFault};
 use std::alloc::{AllocError, Allocator};
@@ -46,6 +46,7 @@ fn trouble_word(trouble: Trouble) -> &'static str {
         Trouble::Denied => "denied",
         Trouble::Memory => "memory",
         Trouble::Other => "other",
+        Trouble::Storm => "storm",
     }
 }
 
@@ -57,6 +58,7 @@ fn put_why<A: Allocator>(out: &mut Vec<u8, A>, why: Why) -> Result<(), AllocErro
         Why::Range(channel) => put_with(out, "range ", channel as u64),
         Why::Full => put(out, "full"),
         Why::Memory => put(out, "memory"),
+        Why::Silent => put(out, "silent"),
     }
 }
 
@@ -102,6 +104,7 @@ fn put_reply<A: Allocator>(
         Replied::Trigger(answer) => put_trigger(out, answer),
         Replied::Rules(true) => put(out, "rules set"),
         Replied::Rules(false) => put(out, "rules refused no-channel"),
+        Replied::Stop => put(out, "stop"),
     }
 }
 
@@ -146,30 +149,61 @@ fn put_losses<A: Allocator>(
     put_why(out, why)
 }
 
-/// Appends the offset of the wall clock, in seconds with a sign and three decimal places.
-fn put_clock<A: Allocator>(out: &mut Vec<u8, A>, clock: Option<i64>) -> Result<(), AllocError> {
-    let Some(clock) = clock else {
+/// Appends a number of thousandths with a sign and three decimal places.
+fn put_thousandths<A: Allocator>(
+    out: &mut Vec<u8, A>,
+    is_negative: bool,
+    size: u64,
+) -> Result<(), AllocError> {
+    put(out, if is_negative && size > 0 { "-" } else { "+" })?;
+    put_padded(out, size / 1_000, 1)?;
+    put(out, ".")?;
+    put_padded(out, size % 1_000, 3)
+}
+
+/// Appends a word and a time in seconds, to the nearest millisecond.
+fn put_seconds<A: Allocator>(
+    out: &mut Vec<u8, A>,
+    word: &str,
+    micros: i64,
+) -> Result<(), AllocError> {
+    put(out, word)?;
+    put_thousandths(out, micros < 0, rounded_millis(micros))
+}
+
+/// Appends how the clock is followed: the offset in seconds, and the drift in parts per million.
+fn put_followed<A: Allocator>(
+    out: &mut Vec<u8, A>,
+    followed: Option<Followed>,
+) -> Result<(), AllocError> {
+    let Some(Followed { offset, drift }) = followed else {
         return Ok(());
     };
-    let millis = rounded_millis(clock);
-    put(
-        out,
-        if clock < 0 && millis > 0 {
-            " clock -"
-        } else {
-            " clock +"
-        },
-    )?;
-    put_padded(out, millis / 1_000, 1)?;
-    put(out, ".")?;
-    put_padded(out, millis % 1_000, 3)
+    put_seconds(out, " offset ", offset)?;
+    let Some(drift) = drift else {
+        return Ok(());
+    };
+    put(out, " drift ")?;
+    put_thousandths(out, drift < 0, drift.unsigned_abs())
+}
+
+/// Appends how the wall clock and the scans stand to each other.
+fn put_clock<A: Allocator>(
+    out: &mut Vec<u8, A>,
+    clock: Option<ClockState>,
+) -> Result<(), AllocError> {
+    let Some(ClockState { ahead, followed }) = clock else {
+        return Ok(());
+    };
+    put_seconds(out, " clock ", ahead)?;
+    put_followed(out, followed)
 }
 
 fn put_record<A: Allocator>(
     out: &mut Vec<u8, A>,
     extent: Extent,
-    key: crate::key::Key,
-    clock: Option<i64>,
+    key: Key,
+    clock: Option<ClockState>,
     is_cut: bool,
 ) -> Result<(), AllocError> {
     put_extent(out, "record ", extent)?;
@@ -180,6 +214,19 @@ fn put_record<A: Allocator>(
     put(out, ".dat")?;
     put_clock(out, clock)?;
     put(out, if is_cut { " cut" } else { "" })
+}
+
+fn put_unwritten<A: Allocator>(
+    out: &mut Vec<u8, A>,
+    extent: Extent,
+    key: Key,
+    why: Trouble,
+) -> Result<(), AllocError> {
+    put_extent(out, "unwritten ", extent)?;
+    put(out, " ")?;
+    put_key(out, key)?;
+    put(out, " ")?;
+    put(out, trouble_word(why))
 }
 
 fn put_what<A: Allocator>(out: &mut Vec<u8, A>, event: Event) -> Result<(), AllocError> {
@@ -211,7 +258,7 @@ fn put_what<A: Allocator>(out: &mut Vec<u8, A>, event: Event) -> Result<(), Allo
             clock,
             is_cut,
         } => put_record(out, extent, key, clock, is_cut),
-        Event::Unwritten(extent) => put_extent(out, "unwritten ", extent),
+        Event::Unwritten { extent, key, why } => put_unwritten(out, extent, key, why),
         Event::ShelfFull(waiting) => put_with(out, "shelf full ", waiting as u64),
         Event::ShelfFree => put(out, "shelf free"),
         Event::Unopened(count) => put_with(out, "missed triggers ", count),
@@ -227,6 +274,7 @@ fn put_what<A: Allocator>(out: &mut Vec<u8, A>, event: Event) -> Result<(), Allo
         Event::Memory => put(out, "memory"),
         Event::Silent(seconds) => put_with(out, "silent ", seconds),
         Event::Heard => put(out, "silent over"),
+        Event::ClockSet(micros) => put_seconds(out, "clock set ", micros),
         Event::Missed(count) => put_with(out, "missed lines ", count),
         Event::Minute {
             scans,

@@ -43,7 +43,7 @@ pub(crate) fn record_printing<
     alloc: A,
     recorder: Recorder<A>,
     kind: Kind,
-    telling: &Mutex<Telling<'_, P, A>>,
+    telling: &Mutex<Telling<'_, '_, P, A>>,
     intake: &mut F,
     desk: &mut O,
     outlet: &mut K,
@@ -103,7 +103,7 @@ fn record_beside<
     alloc: A,
     recorder: Recorder<A>,
     kind: Kind,
-    telling: &'s Mutex<Telling<'_, P, A>>,
+    telling: &'s Mutex<Telling<'_, '_, P, A>>,
     devices: (&'x mut F, &'y mut O, &'z mut K),
 ) -> (
     Result<LiveReport<A>, RunFault>,

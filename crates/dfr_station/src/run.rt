@@ -3,31 +3,34 @@
 ghost use Rattle.std.specs.Prelude.{◌≡◌, ◌-◌, Ok, Err, IfOk, IfErr, is_some};
 ghost use Rattle.dfr_live.specs.Calls.{open_fault};
 ghost use Rattle.dfr_live.specs.Seen.{opening_of};
+ghost use Rattle.dfr_station.specs.Dated.{is_followed};
 ghost use Rattle.dfr_station.specs.Failing.{IsFaultOf, StationFails};
 ghost use Rattle.dfr_station.specs.Stations.{Begins, IsFresh, Ran};
 ghost use Rattle.dfr_live.specs.declared.report.LiveReport.{LiveReport as LiveReported};
 ghost use Rattle.dfr_station.specs.declared.intake.arrivals.Arrivals.{Arrivals as Arriving};
+ghost use Rattle.dfr_station.specs.declared.intake.ended.Recorded.{Recorded as Made};
 
 use crate::acquisition::Acquisition;
 use crate::desk::Office;
 use crate::event::Event;
 use crate::first::First;
 use crate::intake::{Arrivals, Buffer, Counts, Recorded, RunFault};
+use crate::moment::Moment;
 use crate::outlet::Exports;
 use crate::pace::Napping;
 use crate::parts::{Parts, layout_and_parts};
 use crate::recording::record_printing;
 use crate::scans::Scans;
 use crate::signals::Signals;
-use crate::station::{Input, Printer, Station, Store};
-use crate::teller::put_line;
+use crate::station::{Control, Input, Printer, Station, Store};
 use crate::telling::{Telling, now};
 use crate::watch::Watch;
 use comtrade_write::Kind;
 use dfr_channels::Layout;
+use dfr_clock::{Reading, Timebase};
+use dfr_detect::Detectors;
 use dfr_live::{EndFault, LiveReport};
 use dfr_recorder::Recorder;
-use rtrb::Consumer;
 use std::alloc::{Allocator, Global};
 use std::io::Read;
 use std::sync::{Mutex, Wait};
@@ -38,11 +41,15 @@ use std::time::Clock;
 #[derive(Drop)]
 struct How<A: Allocator> {
     form: Input,
-    /// What was read before, and the instant of the last read.
-    read: (Buffer<A>, i64),
+    detectors: Detectors<A>,
+    /// What was read before, and the moment of the last read.
+    read: (Buffer<A>, Moment),
+    clocks: Option<Reading>,
+    gap: u32,
     kind: Kind,
     minutes: bool,
-    operator: Option<Consumer<u8, A>>,
+    operator: Option<Control<A>>,
+    waits: bool,
     watch: Watch,
 }
 
@@ -84,18 +91,42 @@ pub fn run_station<
     printer: &mut P,
 ) -> Run<I, K, A>
     ensures ran { IfOk result.recorded (λ left. (arrivals : Arriving I A)
-        × Begins (opening_of station.recorder).layout station.input first.buffer input arrivals
-        × Ran I.remaining K.stores (opening_of station.recorder) station.kind
-        (is_some station.operator) arrivals store left result.input result.store) }
+        × Begins station.inputs station.input first.buffer input arrivals
+        × Ran I.remaining K.stores (opening_of station.recorder) station.inputs station.detectors
+        station.kind (is_some station.operator) station.waits (is_followed first.clocks)
+        arrivals store left.ended left.counts result.input result.store) }
+    ensures times { IfOk result.recorded (λ left. is_some left.times ≡ is_followed first.clocks) }
     ensures failed { IfErr result.recorded (StationFails K.stores (opening_of station.recorder)
-        station.kind (open_fault station.recorder.scans 65_536 2)
+        station.kind (is_followed first.clocks) (open_fault station.recorder.scans 65_536 2)
         (input, store) (result.input, result.store)) }
 {
-    let (recorder, how) = how_of(station, first);
-    match layout_and_parts(alloc, &recorder) {
-        Ok((layout, parts)) => run_over(
-            rt, alloc, recorder, how, parts, &layout, input, store, printer,
-        ),
+    let (recorder, inputs, how) = how_of(station, first);
+    match layout_and_parts(alloc, &recorder, &inputs, how.gap, how.clocks) {
+        Ok((layout, parts, times)) => {
+            let times = shared(times);
+            let dated = times.as_ref();
+            let Run {
+                recorded,
+                input,
+                store,
+            } = run_over(
+                rt,
+                alloc,
+                recorder,
+                how,
+                parts,
+                (&layout, &inputs),
+                dated,
+                input,
+                store,
+                printer,
+            );
+            Run {
+                recorded: with_times(recorded, unshared(times)),
+                input,
+                store,
+            }
+        }
         Err(_) => {
             drop(recorder);
             drop(how);
@@ -108,87 +139,116 @@ pub fn run_station<
     }
 }
 
-/// The recorder of a station, and how to run it.
-fn how_of<A: Allocator>(station: Station<A>, first: First<A>) -> (Recorder<A>, How<A>)
-    ensures { (result.0 ≡ station.recorder) × (result.1.form ≡ station.input)
-        × (result.1.read.0 ≡ first.buffer) × (result.1.kind ≡ station.kind)
-        × (result.1.operator ≡ station.operator) }
+/// The recorder of a station, the channels of its input, and how to run it.
+fn how_of<A: Allocator>(station: Station<A>, first: First<A>) -> (Recorder<A>, Layout<A>, How<A>)
+    ensures { (result.0 ≡ station.recorder) × (result.1 ≡ station.inputs)
+        × (result.2.form ≡ station.input) × (result.2.read.0 ≡ first.buffer)
+        × (result.2.kind ≡ station.kind) × (result.2.operator ≡ station.operator)
+        × (result.2.detectors ≡ station.detectors) × (result.2.waits ≡ station.waits)
+        × (result.2.clocks ≡ first.clocks) }
 {
     let Station {
         recorder,
+        inputs,
+        detectors,
         input: form,
         kind,
         minutes,
         operator,
+        waits,
+        gap,
     } = station;
     let First {
         buffer,
         at,
         scans: _,
+        clocks,
         watch,
         is_all: _,
     } = first;
     let how = How {
         form,
+        detectors,
         read: (buffer, at),
+        clocks,
+        gap,
         kind,
         minutes,
         operator,
+        waits,
         watch,
     };
-    (recorder, how)
+    (recorder, inputs, how)
 }
 
-/// Records what comes.
+/// Records what comes. The layouts are the recorder's and the input's.
 fn run_over<
+    'a,
     A: Allocator + Copy + Send + Sync,
     I: Read + Send,
     K: Store + Send,
     P: Printer + Send,
     R: Threads + Wait + Clock + Sync,
 >(
-    rt: &R,
+    rt: &'a R,
     alloc: A,
     recorder: Recorder<A>,
     how: How<A>,
     parts: Parts<A>,
-    layout: &Layout<A>,
+    layouts: (&'a Layout<A>, &'a Layout<A>),
+    times: Option<&'a Mutex<Timebase<A>>>,
     input: I,
     store: K,
     printer: &mut P,
 ) -> Run<I, K, A>
-    requires layout { layout.now ≡ (opening_of recorder).layout }
-    requires parts { IsFresh layout.now parts }
+    requires layout { layouts.0.now ≡ (opening_of recorder).layout }
+    requires parts { IsFresh layouts.1.now parts }
     ensures ran { IfOk result.recorded (λ left. (arrivals : Arriving I A)
-        × Begins layout.now how.form how.read.0 input arrivals
-        × Ran I.remaining K.stores (opening_of recorder) how.kind (is_some how.operator)
-        arrivals store left result.input result.store) }
+        × Begins layouts.entry.1.now how.form how.read.0 input arrivals
+        × Ran I.remaining K.stores (opening_of recorder) layouts.entry.1.now how.detectors how.kind
+        (is_some how.operator) how.waits (is_some times.entry) arrivals store left.ended left.counts
+        result.input result.store) }
     ensures failed { IfErr result.recorded (StationFails K.stores (opening_of recorder) how.kind
-        (open_fault recorder.scans 65_536 2) (input, store) (result.input, result.store)) }
+        (is_some times.entry) (open_fault recorder.scans 65_536 2) (input, store) (result.input, result.store)) }
 {
     let Parts {
         filler,
         tellers: (scans, triggers, exports),
         events,
         orders: (orders, placed),
-        mut text,
     } = parts;
     let How {
         form,
+        detectors,
         read,
+        clocks: _,
+        gap: _,
         kind,
         minutes,
         operator,
+        waits,
         watch,
     } = how;
+    let (layout, inputs) = layouts;
     let signals = Signals::new();
-    let arrivals = Arrivals::new(alloc, layout, form, read, input);
-    let scans = Scans::new(alloc, layout, &signals, scans, filler);
+    let arrivals = Arrivals::new(alloc, inputs, form, read, input);
+    let scans = Scans::new(
+        alloc, inputs, &signals, scans, filler, detectors, times, waits,
+    );
     let mut intake = Acquisition::new(rt, arrivals, scans, orders);
     let shelf = recorder.limits().shelf();
-    let mut desk = Office::new(alloc, layout, &signals, placed, operator, triggers, shelf);
-    let mut outlet = Exports::new(rt, layout, &signals, store, exports);
-    let telling = Mutex::new(Telling::new(&mut *printer, events, minutes, watch));
+    let mut desk = Office::new(
+        alloc, layout, &signals, placed, operator, triggers, shelf, waits,
+    );
+    let mut outlet = Exports::new(rt, alloc, layout, kind, times, &signals, store, exports);
+    let telling = Mutex::new(Telling::new(
+        &mut *printer,
+        events,
+        minutes,
+        watch,
+        times,
+        layout.start(),
+    ));
     let pace = Napping {
         rt,
         signals: &signals,
@@ -212,12 +272,51 @@ fn run_over<
     let report = all_made(report, &mut intake, &mut desk);
     if let Err(RunFault::Counter | RunFault::End(_)) = &report {
         let counts = counts.after(desk.steps());
-        print_one(rt, &mut text, printer, ended_event(counts));
+        print_one(rt, printer, ended_event(counts));
     }
     Run {
-        recorded: recorded_of(report, counts, text),
+        recorded: recorded_of(report, counts),
         input: intake.into_input(),
         store: outlet.into_store(),
+    }
+}
+
+/// What was recorded, with what dates the record that is open at the end.
+fn with_times<A: Allocator>(
+    recorded: Result<Recorded<A>, RunFault>,
+    times: Option<Timebase<A>>,
+) -> Result<Recorded<A>, RunFault>
+    ensures made { IfOk result (λ left. (l : Made A) × (recorded ≡ Ok l)
+        × (left.ended ≡ l.ended) × (left.counts ≡ l.counts) × (left.times ≡ times)) }
+    ensures failed { IfErr result (λ fault. recorded ≡ Err fault) }
+{
+    match recorded {
+        Ok(Recorded { ended, counts, .. }) => Ok(Recorded {
+            ended,
+            counts,
+            times,
+        }),
+        Err(fault) => Err(fault),
+    }
+}
+
+/// A timebase that threads can share.
+fn shared<A: Allocator>(times: Option<Timebase<A>>) -> Option<Mutex<Timebase<A>>>
+    ensures { is_some result ≡ is_some times }
+{
+    match times {
+        Some(timebase) => Some(Mutex::new(timebase)),
+        None => None,
+    }
+}
+
+/// A timebase that no thread shares any more.
+fn unshared<A: Allocator>(times: Option<Mutex<Timebase<A>>>) -> Option<Timebase<A>>
+    ensures { is_some result ≡ is_some times }
+{
+    match times {
+        Some(timebase) => Some(timebase.into_inner()),
+        None => None,
     }
 }
 
@@ -244,7 +343,6 @@ fn all_made<I, R, A: Allocator + Copy>(
 fn recorded_of<A: Allocator>(
     report: Result<LiveReport<A>, RunFault>,
     counts: Counts,
-    text: Vec<u8, A>,
 ) -> Result<Recorded<A>, RunFault>
     ensures made { IfOk result (λ left. (r : LiveReported A) × (report ≡ Ok r)
         × (left.ended ≡ r.ended)
@@ -255,7 +353,7 @@ fn recorded_of<A: Allocator>(
         Ok(LiveReport { stepped, ended, .. }) => Ok(Recorded {
             ended,
             counts: counts.after(stepped),
-            text,
+            times: None,
         }),
         Err(fault) => Err(fault),
     }
@@ -271,14 +369,7 @@ pub(crate) fn ended_event(counts: Counts) -> Event {
     }
 }
 
-/// Prints an event. The text has room for its line.
-pub(crate) fn print_one<A: Allocator, P: Printer>(
-    clock: &impl Clock,
-    text: &mut Vec<u8, A>,
-    printer: &mut P,
-    event: Event,
-) {
-    text.clear();
-    put_line(text, now(clock), event);
-    printer.print(text);
+/// Prints an event.
+pub(crate) fn print_one<P: Printer>(clock: &impl Clock, printer: &mut P, event: Event) {
+    printer.print(now(clock), event);
 }

@@ -1,20 +1,26 @@
 //! The scans that come: each is given to the recorder as one step, or it is lost. Counts them, and
 //! reports lost ones.
 
-ghost use Rattle.std.specs.Prelude.{◌≡◌};
+ghost use Rattle.std.specs.Prelude.{◌≡◌, MatchOption};
 ghost use Rattle.dfr_station.specs.Input.{one_more};
-ghost use Rattle.dfr_station.specs.Acquiring.{settled, dropped, GivesLost, GivesScan};
+ghost use Rattle.dfr_station.specs.Acquiring.{settled, Drops, IsFilled, GivesLost, GivesScan};
 
+use crate::detection::detected;
 use crate::event::Event;
 use crate::filler::Filler;
 use crate::intake::{Why, missing_scan};
-use crate::losses::{Losses, joined};
+use crate::losses::{KINDS, Losses, Pending};
+use crate::moment::Moment;
 use crate::signals::Signals;
 use crate::teller::Teller;
+use crate::times::micros_of;
 use dfr_channels::{Layout, Scan};
+use dfr_clock::Timebase;
+use dfr_detect::Detectors;
 use dfr_live::Fed;
 use std::alloc::{Allocator, Global};
 use std::marker::Model;
+use std::sync::Mutex;
 use std::sync::atomic::Ordering;
 
 /// After so many lost scans in a row the place of the next one is filled with a scan of its own: the
@@ -32,14 +38,29 @@ pub(crate) enum LastGiven {
     Filler,
 }
 
+/// Reports the losses of each reason, as long as there is room for events.
+fn tell_each<A: Allocator + Copy>(teller: &mut Teller<A>, losses: &mut Pending) {
+    for _ in 0..KINDS {
+        let Some(kind) = losses.take() else {
+            return;
+        };
+        if !teller.offer(kind.event()) {
+            losses.add(kind);
+            return;
+        }
+    }
+}
+
 /// Gives scans, counts them, and reports lost ones with each read.
 #[derive(Drop)]
 pub(crate) struct Scans<'s, A: Allocator = Global> {
     alloc: A,
+    /// The channels of the input.
     layout: &'s Layout<A>,
     signals: &'s Signals,
     teller: Teller<A>,
     filler: Filler<A>,
+    detectors: Detectors<A>,
     came: u64,
     lost: u64,
     /// How many steps can be made: those up to the newest scan that the queue took.
@@ -50,19 +71,25 @@ pub(crate) struct Scans<'s, A: Allocator = Global> {
     /// The place of the scan that came last, if one was given.
     place: u64,
     /// Lost scans that have not been reported yet.
-    losses: Option<Losses>,
+    losses: Pending,
     /// How many microseconds the wall clock was ahead of the time of the newest scan when that scan
     /// was read. None before the first scan.
     clock: Option<i64>,
+    /// What dates the scans, if the clock does.
+    times: Option<&'s Mutex<Timebase<A>>>,
     has_begun: bool,
+    /// Whether a scan waits for a place in the queue.
+    waits: bool,
 }
 
 impl<'s, A: Allocator> Model for Scans<'s, A> {
+    ghost use Rattle.std.specs.Prelude.{is_some};
     ghost use Rattle.dfr_station.specs.Acquiring.{ScansParts};
 
     ghost Value = { ScansParts };
 
     ghost view = { λ s. record {
+      by_clock = is_some s.times;
       layout = s.layout.now;
       came = s.came;
       lost = s.lost;
@@ -70,19 +97,27 @@ impl<'s, A: Allocator> Model for Scans<'s, A> {
       bits = s.filler.bits.items;
       last = s.given;
       noted = s.filler.next.items;
+      detected = s.detectors;
+      waits = s.waits;
     } };
 }
 
 impl<'s, A: Allocator + Copy> Scans<'s, A> {
+    ghost use Rattle.std.specs.Prelude.{is_some};
+
     pub(crate) fn new(
         alloc: A,
         layout: &'s Layout<A>,
         signals: &'s Signals,
         teller: Teller<A>,
         filler: Filler<A>,
+        detectors: Detectors<A>,
+        times: Option<&'s Mutex<Timebase<A>>>,
+        waits: bool,
     ) -> Scans<'s, A>
-        ensures { (result.layout ≡ layout.now) × (result.came ≡ 0) × (result.lost ≡ 0)
-            × (result.row ≡ 0) × (result.last ≡ LastGiven.Nothing) × (result.bits ≡ filler.bits.items) }
+        ensures { (result.layout ≡ layout.now) × (result.waits ≡ waits) × (result.by_clock ≡ is_some times.entry)
+            × (result.came ≡ 0) × (result.lost ≡ 0) × (result.row ≡ 0) × (result.last ≡ LastGiven.Nothing)
+            × (result.bits ≡ filler.bits.items) × (result.detected ≡ detectors) }
     {
         Scans {
             alloc,
@@ -90,16 +125,26 @@ impl<'s, A: Allocator + Copy> Scans<'s, A> {
             signals,
             teller,
             filler,
+            detectors,
             came: 0,
             lost: 0,
             ready: 0,
             row: 0,
             given: LastGiven::Nothing,
             place: 0,
-            losses: None,
+            losses: Pending::NONE,
             clock: None,
+            times,
             has_begun: false,
+            waits,
         }
+    }
+
+    /// Whether a scan waits for a place in the queue.
+    pub(crate) fn waits(&self) -> bool
+        ensures { result ≡ self.now.waits }
+    {
+        self.waits
     }
 
     /// Reports, once, that recording begins.
@@ -157,7 +202,8 @@ impl<'s, A: Allocator + Copy> Scans<'s, A> {
         self.ready = self.came;
     }
 
-    /// A scan came that fits the layout. It is lost if an allocation fails.
+    /// A scan came that fits the layout. It is given with the bits of the detectors. It is lost if an
+    /// allocation fails.
     pub(crate) fn give(&mut self, scan: Scan<A>) -> Fed<A>
         ensures { GivesScan self.old scan result self.new }
     {
@@ -165,10 +211,35 @@ impl<'s, A: Allocator + Copy> Scans<'s, A> {
             drop(scan);
             return self.lose(Why::Memory);
         }
+        let Ok(scan) = detected(&mut self.detectors, scan) else {
+            return self.lose(Why::Memory);
+        };
         self.place = self.came;
         self.came = self.came.saturating_add(1);
         self.given = LastGiven::Scan;
         Fed::Scan(scan)
+    }
+
+    /// If many scans were lost, a scan without readings, with the bits of the detectors, that takes the
+    /// place of the next one.
+    fn filled(&mut self) -> Option<Scan<A>>
+        ensures { MatchOption result (self.new ≡ self.old) (λ scan. IsFilled self.old scan self.new) }
+    {
+        if self.row < MOST_LOST {
+            return None;
+        }
+        let analog = self.layout.analog().len();
+        let Ok(scan) = missing_scan(self.alloc, analog, self.filler.bits()) else {
+            return None;
+        };
+        if self.layout.check(&scan).is_err() {
+            drop(scan);
+            return None;
+        }
+        let Ok(scan) = detected(&mut self.detectors, scan) else {
+            return None;
+        };
+        Some(scan)
     }
 
     /// A scan came that is lost. If many were lost before it, its place is filled.
@@ -177,28 +248,23 @@ impl<'s, A: Allocator + Copy> Scans<'s, A> {
     {
         self.count_lost(self.came, why);
         self.came = self.came.saturating_add(1);
-        if self.row >= MOST_LOST
-            && let Ok(scan) = missing_scan(
-                self.alloc,
-                self.layout.analog().len(),
-                self.filler.bits(),
-            )
-            && self.layout.check(&scan).is_ok()
-        {
+        if let Some(scan) = self.filled() {
             self.given = LastGiven::Filler;
             return Fed::Scan(scan);
         }
+        self.detectors.lose();
         self.row = self.row.saturating_add(1);
         Fed::Lost
     }
 
     /// The queue has no place for the scan that was given last.
     pub(crate) fn drop_given(&mut self)
-        ensures { self.new ≡ dropped self.old }
+        ensures { Drops self.old self.new }
     {
         if self.given == LastGiven::Scan {
             self.count_lost(self.place, Why::Full);
         }
+        Detectors::lose(&mut self.detectors);
         self.given = LastGiven::Nothing;
         self.row = self.row.saturating_add(1);
     }
@@ -208,13 +274,12 @@ impl<'s, A: Allocator + Copy> Scans<'s, A> {
         ensures { self.new ≡ record self.old { lost = one_more self.old.lost } }
     {
         self.lost = self.lost.saturating_add(1);
-        let one = Losses {
+        self.losses.add(Losses {
             first: place,
             last: place,
             count: 1,
             why,
-        };
-        self.losses = Some(joined(self.losses, one));
+        });
     }
 
     /// Reports the losses, unless there is no room for the event: then they are reported with the
@@ -222,11 +287,7 @@ impl<'s, A: Allocator + Copy> Scans<'s, A> {
     fn tell_losses(&mut self)
         ensures { self.new ≡ self.old }
     {
-        if let Some(losses) = self.losses
-            && self.teller.offer(losses.event())
-        {
-            self.losses = None;
-        }
+        tell_each(&mut self.teller, &mut self.losses);
     }
 
     /// Notes how much the wall clock is ahead of the time of the newest scan, which came with a read at
@@ -242,12 +303,39 @@ impl<'s, A: Allocator + Copy> Scans<'s, A> {
         }
     }
 
-    /// Reports the losses, and publishes the counts to the other threads. The newest scan came with a
-    /// read at `at`.
-    pub(crate) fn publish(&mut self, at: i64)
+    /// Whether the clock dates the scans.
+    pub(crate) fn is_dated(&self) -> bool
+        ensures { result ≡ self.now.by_clock }
+    {
+        self.times.is_some()
+    }
+
+    /// Lets the timebase take in what the clocks showed when so many more scans had come. If another
+    /// thread has it just now, the next reading will do. Returns how many lost scans come before them.
+    pub(crate) fn follow(&mut self, moment: Moment, more: u64) -> u64
         ensures { self.new ≡ self.old }
     {
-        self.set_clock(at);
+        let scans = self.came.saturating_add(more);
+        if let Some(times) = self.times
+            && let Some(reading) = moment.reading(scans)
+            && let Some(mut timebase) = times.try_lock()
+        {
+            let answer = timebase.read(reading);
+            drop(timebase);
+            if let Some(jump) = answer.jump {
+                self.teller.tell(Event::ClockSet(micros_of(jump)));
+            }
+            return u64::try_from(answer.lost).unwrap_or(0);
+        }
+        0
+    }
+
+    /// Reports the losses, and publishes the counts to the other threads. The newest scan came with a
+    /// read at this moment.
+    pub(crate) fn publish(&mut self, moment: Moment)
+        ensures { self.new ≡ self.old }
+    {
+        self.set_clock(moment.at);
         self.tell_losses();
         let signals = self.signals;
         signals

@@ -1,11 +1,15 @@
 //! What a recorder is connected to.
 
-use crate::event::Trouble;
+use crate::event::{Event, Trouble};
 use crate::key::Key;
 use comtrade_write::Kind;
+use dfr_channels::Layout;
+use dfr_detect::Detectors;
 use dfr_recorder::Recorder;
 use rtrb::Consumer;
 use std::alloc::{Allocator, Global};
+use std::sync::Arc;
+use std::sync::atomic::AtomicBool;
 
 /// What a store did with a pair that it took.
 #[derive(Clone, Copy, Debug, PartialEq, Eq)]
@@ -33,10 +37,27 @@ pub trait Store {
         ensures { stores self.old key cfg.now dat.now result self.new };
 }
 
-/// Prints the lines of events.
+/// Prints events.
 pub trait Printer {
-    /// Prints whole lines. What can't be printed is dropped.
-    fn print(&mut self, text: &[u8]);
+    /// Prints an event. `at` is the instant of printing, in microseconds since 1970-01-01 00:00:00 UTC.
+    /// What can't be printed is dropped.
+    fn print(&mut self, at: i64, event: Event);
+}
+
+/// What an operator sends, and the flag that its line `stop` sets: then the input is to end.
+#[derive(Drop)]
+pub struct Control<A: Allocator = Global> {
+    pub bytes: Consumer<u8, A>,
+    pub stop: Arc<AtomicBool, Global>,
+}
+
+/// What a sample of -32768 in a frame is.
+#[derive(Clone, Copy, Debug, PartialEq, Eq)]
+pub enum Lowest {
+    /// A missing one, as in BINARY data.
+    Missing,
+    /// One that the converter clipped: it counts as -32767.
+    Clipped,
 }
 
 /// The form in which scans come.
@@ -45,21 +66,31 @@ pub enum Input {
     /// Lines of text.
     Lines,
     /// Frames of bytes.
-    Frames,
+    Frames(Lowest),
 }
 
 /// A recorder, and how to run it.
 #[derive(Drop)]
 pub struct Station<A: Allocator = Global> {
+    /// The recorder. Its last status channels are those of the detectors.
     pub recorder: Recorder<A>,
+    /// The channels of the input: all but those of the detectors.
+    pub inputs: Layout<A>,
+    /// The detectors, in the order of their status channels.
+    pub detectors: Detectors<A>,
     /// The form of the input.
     pub input: Input,
     /// The kind of the data files.
     pub kind: Kind,
     /// Whether to print a line each minute.
     pub minutes: bool,
-    /// The bytes that an operator sends, if there is one.
-    pub operator: Option<Consumer<u8, A>>,
+    /// What an operator sends, if there is one.
+    pub operator: Option<Control<A>>,
+    /// Whether the input waits, so that nothing is lost for want of speed: while the queue of scans
+    /// is full, and while the shelf has no room for another record.
+    pub waits: bool,
+    /// The most lost scans that take the place of those that did not come while the input stood still.
+    pub gap: u32,
 }
 
 /// Names the devices of a station.

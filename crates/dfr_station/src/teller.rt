@@ -1,19 +1,16 @@
-//! A queue of events: one end takes them, the other makes lines of them.
+//! A queue of events: one end takes them, the other hands them to the printer.
 
 use crate::event::Event;
-use crate::losses::{Losses, joined, losses_in};
-use crate::printed::put_event;
+use crate::losses::{KINDS, Pending, losses_in};
+use crate::station::Printer;
 use rtrb::{Consumer, Producer, RingBuffer};
 use std::alloc::{AllocError, Allocator, Global};
 
 /// The most events of a thread that may wait to be printed.
 const WAITING: usize = 4_096;
 
-/// The most lines that are made at once.
+/// The most events of a thread that are printed in one turn.
 const BATCH: usize = 50;
-
-/// Room in bytes for these lines and one more: a line has about 300 bytes.
-const ROOM: usize = 16_384;
 
 /// After losses are reported, the next ones are reported so much later, in milliseconds.
 const QUIET: u64 = 1_000;
@@ -37,15 +34,13 @@ pub(crate) struct Teller<A: Allocator = Global> {
     missed: u64,
 }
 
-/// The end from which events are taken, and the lines made of them. Room for the lines is allocated
-/// at the start, so that printing doesn't allocate. Of losses the first are reported at once, and
-/// those of the next second together.
+/// The end from which events are taken. Of losses the first are reported at once, and those of the
+/// next second together.
 #[derive(Drop)]
 pub(crate) struct Waiting<A: Allocator = Global> {
     events: Consumer<Event, A>,
-    pub(crate) text: Vec<u8, A>,
     /// Losses that wait to be reported.
-    losses: Option<Losses>,
+    losses: Pending,
     /// When they may be reported, in milliseconds on the monotonic clock.
     quiet: u64,
 }
@@ -54,61 +49,54 @@ pub(crate) struct Waiting<A: Allocator = Global> {
 pub(crate) fn telling_of<A: Allocator + Copy>(
     alloc: A,
 ) -> Result<(Teller<A>, Waiting<A>), AllocError> {
-    let text = Vec::with_capacity(alloc, ROOM)?;
     let (lane, events) = RingBuffer::new(alloc, WAITING)?;
     let waiting = Waiting {
         events,
-        text,
-        losses: None,
+        losses: Pending::NONE,
         quiet: 0,
     };
     Ok((Teller { lane, missed: 0 }, waiting))
 }
 
-/// Appends an event's line, or nothing if an allocation fails.
-pub(crate) fn put_line<A: Allocator>(text: &mut Vec<u8, A>, at: i64, event: Event) {
-    let before = text.len();
-    if put_event(text, at, event).is_err() {
-        text.truncate(before);
-    }
-}
-
 impl<A: Allocator> Waiting<A> {
-    /// Makes a line of the losses, if they may be reported.
-    fn put_losses(&mut self, turn: Turn) {
+    /// How many events are to be printed in this turn.
+    pub(crate) fn count(&mut self) -> usize {
+        self.events.slots().min(BATCH)
+    }
+
+    /// Prints the losses, if they may be reported.
+    fn print_losses<P: Printer>(&mut self, printer: &mut P, turn: Turn) {
         if !turn.is_end && turn.millis < self.quiet {
             return;
         }
-        if let Some(losses) = self.losses.take() {
-            put_line(&mut self.text, turn.at, losses.event());
+        for _ in 0..KINDS {
+            let Some(losses) = self.losses.take() else {
+                return;
+            };
+            printer.print(turn.at, losses.event());
             self.quiet = turn.millis.saturating_add(QUIET);
         }
     }
 
-    /// Makes a line of an event, or keeps losses until they may be reported.
-    fn put(&mut self, turn: Turn, event: Event) {
+    /// Prints an event, or keeps losses until they may be reported.
+    fn print_event<P: Printer>(&mut self, printer: &mut P, turn: Turn, event: Event) {
         match losses_in(event) {
-            Some(losses) => self.losses = Some(joined(self.losses, losses)),
+            Some(losses) => self.losses.add(losses),
             None => {
-                self.put_losses(turn);
-                put_line(&mut self.text, turn.at, event)
+                self.print_losses(printer, turn);
+                printer.print(turn.at, event);
             }
         }
     }
 
-    /// Makes lines of the first waiting events. Returns how many events there were.
-    pub(crate) fn fill(&mut self, turn: Turn) -> usize {
-        self.text.clear();
-        for count in 0..BATCH {
-            match self.events.pop() {
-                Ok(event) => self.put(turn, event),
-                Err(_) => {
-                    self.put_losses(turn);
-                    return count;
-                }
+    /// Prints the first `count` events that wait.
+    pub(crate) fn print<P: Printer>(&mut self, printer: &mut P, turn: Turn, count: usize) {
+        for _ in 0..count {
+            if let Ok(event) = self.events.pop() {
+                self.print_event(printer, turn, event);
             }
         }
-        BATCH
+        self.print_losses(printer, turn);
     }
 }
 

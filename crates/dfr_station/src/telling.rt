@@ -1,10 +1,12 @@
 //! The thread that prints the events of the other threads.
 
-use crate::event::Event;
+use crate::event::{ClockState, Event, Followed};
 use crate::signals::Signals;
 use crate::station::Printer;
-use crate::teller::{Turn, Waiting, put_line};
+use crate::teller::{Turn, Waiting};
+use crate::times::followed_by;
 use crate::watch::{Watch, millis};
+use dfr_clock::Timebase;
 use std::alloc::{Allocator, Global};
 use std::sync::atomic::Ordering;
 use std::sync::{Mutex, Wait};
@@ -16,24 +18,30 @@ const NAP: u64 = 20;
 
 /// What the printing thread works on.
 #[derive(Drop)]
-pub(crate) struct Telling<'x, P, A: Allocator = Global> {
+pub(crate) struct Telling<'x, 's, P, A: Allocator = Global> {
     printer: &'x mut P,
     scans: Waiting<A>,
     triggers: Waiting<A>,
     exports: Waiting<A>,
     minutes: bool,
     watch: Watch,
+    /// What dates the records, if the clock does.
+    times: Option<&'s Mutex<Timebase<A>>>,
+    /// The instant of scan 0 by the set-up.
+    start: i64,
     /// How many failed allocations that are tried again have been reported.
     short: u64,
 }
 
-impl<'x, P, A: Allocator> Telling<'x, P, A> {
+impl<'x, 's, P, A: Allocator> Telling<'x, 's, P, A> {
     pub(crate) fn new(
         printer: &'x mut P,
         (scans, triggers, exports): (Waiting<A>, Waiting<A>, Waiting<A>),
         minutes: bool,
         watch: Watch,
-    ) -> Telling<'x, P, A> {
+        times: Option<&'s Mutex<Timebase<A>>>,
+        start: i64,
+    ) -> Telling<'x, 's, P, A> {
         Telling {
             printer,
             scans,
@@ -41,6 +49,8 @@ impl<'x, P, A: Allocator> Telling<'x, P, A> {
             exports,
             minutes,
             watch,
+            times,
+            start,
             short: 0,
         }
     }
@@ -55,64 +65,64 @@ pub fn now(clock: &impl Clock) -> i64 {
 }
 
 /// The event with the current counts.
-pub(crate) fn standing(signals: &Signals) -> Event {
+fn standing(signals: &Signals, followed: Option<Followed>) -> Event {
     Event::Minute {
         scans: signals.came.load(Ordering::SeqCst),
         lost: signals.lost.load(Ordering::SeqCst),
         records: signals.records.load(Ordering::SeqCst),
         waiting: signals.waiting.load(Ordering::SeqCst),
         missed: signals.missed.load(Ordering::SeqCst),
-        clock: signals.clock(),
+        clock: signals.clock().map(|ahead| ClockState { ahead, followed }),
     }
 }
 
-impl<P: Printer, A: Allocator + Copy> Telling<'_, P, A> {
-    /// Makes the lines of the input's silence and of each minute, if they are due.
-    fn put_watch(&mut self, turn: Turn, signals: &Signals) {
+impl<P: Printer, A: Allocator + Copy> Telling<'_, '_, P, A> {
+    /// How the clock is followed, if it dates records.
+    fn followed<R: Wait>(&self, rt: &R) -> Option<Followed> {
+        let timebase = self.times?.lock(rt);
+        followed_by(&timebase, self.start)
+    }
+
+    /// Prints the events of the input's silence and of each minute, if they are due.
+    fn print_watch<R: Wait>(&mut self, rt: &R, turn: Turn, signals: &Signals) {
         let came = signals.came.load(Ordering::SeqCst);
         if let Some(event) = self.watch.silence(came, turn.millis)
             && (!turn.is_end || event == Event::Heard)
         {
-            put_line(&mut self.exports.text, turn.at, event);
+            self.printer.print(turn.at, event);
         }
         if self.watch.is_minute(turn.millis) && self.minutes {
-            put_line(&mut self.exports.text, turn.at, standing(signals));
+            let followed = self.followed(rt);
+            self.printer.print(turn.at, standing(signals, followed));
         }
     }
 
-    /// Makes the line of failed allocations, if there were more.
-    fn put_short(&mut self, turn: Turn, signals: &Signals) {
+    /// Prints the event of failed allocations, if there were more.
+    fn print_short(&mut self, turn: Turn, signals: &Signals) {
         let short = signals.short.load(Ordering::SeqCst);
         if short != self.short {
             self.short = short;
-            put_line(&mut self.triggers.text, turn.at, Event::Memory);
+            self.printer.print(turn.at, Event::Memory);
         }
     }
 
-    /// Prints the waiting events. Returns whether there were any. The queues are emptied in the
-    /// reverse of the order of printing, so that a record is never printed before its trigger.
-    fn print(&mut self, clock: &impl Clock, signals: &Signals) -> bool {
+    /// Prints the waiting events. Returns whether there were any. They are counted in the reverse of
+    /// the order of printing, so that a record is never printed before its trigger.
+    fn print<R: Wait + Clock>(&mut self, rt: &R, signals: &Signals) -> bool {
         let turn = Turn {
-            at: now(clock),
-            millis: millis(clock),
+            at: now(rt),
+            millis: millis(rt),
             is_end: signals.acquired.load(Ordering::SeqCst),
         };
-        let exports = self.exports.fill(turn);
-        let triggers = self.triggers.fill(turn);
-        let scans = self.scans.fill(turn);
-        self.put_short(turn, signals);
-        self.put_watch(turn, signals);
-        print_lines(self.printer, &self.scans.text);
-        print_lines(self.printer, &self.triggers.text);
-        print_lines(self.printer, &self.exports.text);
+        let exports = self.exports.count();
+        let triggers = self.triggers.count();
+        let scans = self.scans.count();
+        self.scans.print(self.printer, turn, scans);
+        self.triggers.print(self.printer, turn, triggers);
+        self.print_short(turn, signals);
+        self.exports.print(self.printer, turn, exports);
+        self.print_watch(rt, turn, signals);
         exports > 0 || triggers > 0 || scans > 0
-    }
-}
-
-/// Prints lines, if there are any.
-pub(crate) fn print_lines<P: Printer>(printer: &mut P, text: &[u8]) {
-    if !text.is_empty() {
-        printer.print(text);
     }
 }
 
@@ -120,7 +130,7 @@ pub(crate) fn print_lines<P: Printer>(printer: &mut P, text: &[u8]) {
 pub(crate) fn print_events<A: Allocator + Copy, P: Printer, R: Wait + Clock>(
     rt: &R,
     signals: &Signals,
-    telling: &Mutex<Telling<'_, P, A>>,
+    telling: &Mutex<Telling<'_, '_, P, A>>,
 ) {
     let mut telling = telling.lock(rt);
     for _ in rt.forever() {

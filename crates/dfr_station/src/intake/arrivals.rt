@@ -7,9 +7,9 @@ ghost use Rattle.dfr_station.specs.Stations.{Begins};
 use crate::intake::arrival::Arrival;
 use crate::intake::buffer::Buffer;
 use crate::intake::cutter::Cutter;
+use crate::moment::Moment;
 use crate::reading::Given;
 use crate::station::Input;
-use crate::telling::now;
 use dfr_channels::{Layout, Scan};
 use std::alloc::{Allocator, Global};
 use std::io::Read;
@@ -41,6 +41,10 @@ pub(crate) enum Stop {
 pub(crate) enum Next<A: Allocator = Global> {
     /// This came.
     Arrival(Arrival<A>),
+    /// A lost scan takes the place of one that did not come while the input stood still.
+    Gap,
+    /// Bytes have come. What came with them is handed out by the next calls.
+    Read,
     /// All that was read has been handed out. The next call reads, and may wait for the input.
     Drained,
     /// The input has ended.
@@ -52,8 +56,10 @@ pub(crate) enum Next<A: Allocator = Global> {
 pub(crate) struct Arrivals<'x, I, A: Allocator = Global> {
     pub(crate) input: I,
     cutter: Cutter<'x, A>,
-    /// The instant of the last read, in microseconds since 1970-01-01 00:00:00 UTC.
-    at: i64,
+    /// The moment of the last read.
+    at: Moment,
+    /// How many lost scans are handed out before anything else.
+    gap: u64,
     /// All that was read has been handed out.
     is_drained: bool,
     /// Why no more is read.
@@ -66,7 +72,7 @@ impl<'x, I, A: Allocator + Copy> Arrivals<'x, I, A> {
         alloc: A,
         layout: &'x Layout<A>,
         form: Input,
-        read: (Buffer<A>, i64),
+        read: (Buffer<A>, Moment),
         input: I,
     ) -> Arrivals<'x, I, A>
         ensures { Begins layout.entry.now form read.0 input result }
@@ -76,14 +82,28 @@ impl<'x, I, A: Allocator + Copy> Arrivals<'x, I, A> {
             input,
             cutter: Cutter::new(alloc, layout, form, buffer),
             at,
+            gap: 0,
             is_drained: false,
             ending: None,
         }
     }
 
-    /// The instant of the last read, in microseconds since 1970-01-01 00:00:00 UTC.
-    pub(crate) fn at(&self) -> i64 {
+    /// The moment of the last read.
+    pub(crate) fn at(&self) -> Moment {
         self.at
+    }
+
+    /// How many scans have come whole and wait, as far as that can be said before they are read.
+    pub(crate) fn waiting(&self) -> u64 {
+        self.cutter.waiting()
+    }
+
+    /// So many lost scans are to be handed out before anything else.
+    pub(crate) fn stand_still(&mut self, lost: u64)
+        ensures { (self.new.input ≡ self.old.input) × (self.new.cutter ≡ self.old.cutter)
+            × (self.new.ending ≡ self.old.ending) }
+    {
+        self.gap = self.gap.saturating_add(lost);
     }
 
     /// How an input ended that was read to its end, once all that it gave was handed out.
@@ -121,7 +141,7 @@ impl<I: Read, A: Allocator + Copy> Arrivals<'_, I, A> {
         ensures { spec.CameFirst I.remaining self.old [] self.new }
     {
         match self.cutter.buffer.fill(rt, &mut self.input) {
-            Given::Bytes(_) => self.at = now(rt),
+            Given::Bytes(_) => self.at = Moment::now(rt),
             Given::End => self.ending = Some(Stop::End),
             Given::Broken => self.ending = Some(Stop::Broken),
         }
@@ -131,6 +151,10 @@ impl<I: Read, A: Allocator + Copy> Arrivals<'_, I, A> {
     pub(crate) fn next<R: Wait + Clock>(&mut self, rt: &R, spare: &mut Option<Scan<A>>) -> Next<A>
         ensures { spec.HandsNext I.remaining self.old result self.new }
     {
+        if self.gap > 0 {
+            self.gap -= 1;
+            return Next::Gap;
+        }
         if let Some(next) = self.next_read(spare) {
             return next;
         }
@@ -139,9 +163,6 @@ impl<I: Read, A: Allocator + Copy> Arrivals<'_, I, A> {
             return Next::Drained;
         }
         self.read(rt);
-        match self.next_read(spare) {
-            Some(next) => next,
-            None => Next::Drained,
-        }
+        Next::Read
     }
 }

@@ -1,9 +1,11 @@
 //! The input's bytes that were read and wait to be used.
 
-ghost use Rattle.std.specs.Prelude.{◌≡◌, ◌≤◌, ◌<◌, ◌-◌, IfOk, MatchBool, [], length, take, drop};
+ghost use Rattle.std.specs.Prelude.{◌≡◌, ◌⊎◌, ◌≤◌, ◌<◌, ◌-◌, IfOk, MatchBool, [], length, take, drop};
 ghost use Rattle.dfr_station.specs.Input as spec;
+ghost use Rattle.rtrb.specs.Ring.{received, known_items};
 
 use crate::reading::{Given, read_some};
+use rtrb::Consumer;
 use std::alloc::{AllocError, Allocator, Global};
 use std::io::Read;
 use std::marker::Model;
@@ -11,11 +13,11 @@ use std::sync::Wait;
 use std::time::Clock;
 
 /// The most bytes that wait, and are read at once.
-pub(crate) const ROOM: usize = 65_536;
+pub const ROOM: usize = 65_536;
 
 /// The bytes that wait: those of `bytes` from `from` to `end`.
 #[derive(Drop)]
-pub(crate) struct Buffer<A: Allocator = Global> {
+pub struct Buffer<A: Allocator = Global> {
     bytes: Vec<u8, A>,
     from: usize,
     end: usize,
@@ -33,7 +35,7 @@ impl<A: Allocator> Model for Buffer<A> {
 
 impl<A: Allocator> Buffer<A> {
     /// An empty buffer.
-    pub(crate) fn new(alloc: A) -> Result<Buffer<A>, AllocError>
+    pub fn new(alloc: A) -> Result<Buffer<A>, AllocError>
         ensures { IfOk result (λ buffer. buffer ≡ []) }
     {
         Ok(Buffer {
@@ -44,7 +46,7 @@ impl<A: Allocator> Buffer<A> {
     }
 
     /// The bytes that wait.
-    pub(crate) fn waiting(&self) -> &[u8]
+    pub fn waiting(&self) -> &[u8]
         ensures bytes { result.now ≡ self.now }
         ensures few { length result.now ≤ 65_536 }
     {
@@ -59,11 +61,24 @@ impl<A: Allocator> Buffer<A> {
     }
 
     /// Drops the first bytes that wait.
-    pub(crate) fn use_up(&mut self, count: usize)
+    pub fn use_up(&mut self, count: usize)
         requires { count ≤ length self.old }
         ensures { self.new ≡ drop count self.old }
     {
         self.from += count;
+    }
+
+    /// Takes bytes from a queue, after those that wait, until there is no room or none was left.
+    /// Returns how many.
+    pub fn take_from(&mut self, queue: &mut Consumer<u8>) -> usize
+        ensures bytes { spec.Takes (received queue.old) self.old result self.new (received queue.new) }
+        ensures most { (length self.new ≡ 65_536) ⊎ (length (known_items queue.new) ≡ 0) }
+    {
+        self.end = move_up(&mut self.bytes, self.from, self.end);
+        self.from = 0;
+        let count = queue.pop_partial_slice(&mut self.bytes[self.end..]);
+        self.end += count;
+        count
     }
 
     /// Reads once, after the bytes that wait. There must be room.

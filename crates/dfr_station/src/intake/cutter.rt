@@ -6,12 +6,13 @@ ghost use Rattle.dfr_station.specs.Lines.{given_by, HasNoFeed};
 ghost use Rattle.dfr_station.specs.declared.station.Input.TheVariants as form;
 
 use crate::event::Skipped;
+use crate::first::scans_in;
 use crate::intake::arrival::Arrival;
 use crate::intake::buffer::Buffer;
 use crate::intake::feed::Why;
 use crate::intake::frame::{arrival_of_frame, frame_len};
 use crate::intake::line::{Line, Meaning, first_line, meaning_of, refused, without_return};
-use crate::station::Input;
+use crate::station::{Input, Lowest};
 use dfr_channels::{Layout, Scan};
 use std::alloc::{Allocator, Global};
 
@@ -56,8 +57,8 @@ impl<'x, A: Allocator + Copy> Cutter<'x, A> {
     }
 
     /// The scan of the next frame. None if no whole frame waits.
-    fn next_frame(&mut self, spare: &mut Option<Scan<A>>) -> Option<Arrival<A>>
-        requires { self.old.form ≡ form.Frames }
+    fn next_frame(&mut self, lowest: Lowest, spare: &mut Option<Scan<A>>) -> Option<Arrival<A>>
+        requires { self.old.form ≡ form.Frames lowest }
         ensures { (last : Bool) → spec.Hands last self.old result self.new }
     {
         // a lawful layout has at most 256 channels of each kind
@@ -67,10 +68,18 @@ impl<'x, A: Allocator + Copy> Cutter<'x, A> {
         if bytes.len() < size {
             return None;
         }
-        let arrival = arrival_of_frame(self.alloc, spare.take(), self.layout, &bytes[..size]);
+        let frame = &bytes[..size];
+        let arrival = arrival_of_frame(self.alloc, spare.take(), self.layout, lowest, frame);
         self.buffer.use_up(size);
         self.came = self.came.saturating_add(1);
         Some(arrival)
+    }
+
+    /// How many scans have come whole and wait, as far as that can be said before they are read.
+    pub(crate) fn waiting(&self) -> u64 {
+        let _rate = self.layout.rate();
+        let size = frame_len(self.layout.analog().len(), self.layout.status().len());
+        scans_in(self.form, size, self.buffer.waiting())
     }
 
     /// Drops the rest of a line that was refused, as far as it has come.
@@ -238,7 +247,7 @@ impl<'x, A: Allocator + Copy> Cutter<'x, A> {
         ensures { spec.Hands is_last self.old result self.new }
     {
         match self.form {
-            Input::Frames => self.next_frame(spare),
+            Input::Frames(lowest) => self.next_frame(lowest, spare),
             Input::Lines => {
                 if self.is_owed {
                     self.is_owed = false;

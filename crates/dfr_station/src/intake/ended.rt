@@ -1,5 +1,6 @@
 //! The result of a recording, and why one failed.
 
+use dfr_clock::Timebase;
 use dfr_live::{EndFault, Ended, OpenFault};
 use std::alloc::{Allocator, Global};
 use thiserror::Error;
@@ -70,6 +71,6 @@ impl Counts {
 pub struct Recorded<A: Allocator = Global> {
     pub ended: Ended<A>,
     pub counts: Counts,
-    /// Room for an event's line, so that printing the end doesn't allocate.
-    pub(crate) text: Vec<u8, A>,
+    /// What dates the record that is open, if the clock does.
+    pub times: Option<Timebase<A>>,
 }

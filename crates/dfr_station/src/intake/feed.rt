@@ -22,6 +22,8 @@ pub enum Why {
     Full,
     /// An allocation failed.
     Memory,
+    /// The input stood still, and the clock says that scans are missing.
+    Silent,
 }
 
 /// A scan without readings, with these bits.

@@ -4,11 +4,13 @@
 ghost use Rattle.std.specs.Prelude.{◌≡◌, ◌≤◌, ◌<◌, ◌*◌, ◌+◌, ◌/◌, ◌++◌, [], length, min, IfOk};
 ghost use Rattle.std.specs.Vec.{vec_len, vec_capacity};
 ghost use Rattle.comtrade_format.specs.Packed as packed;
+ghost use Rattle.dfr_channels.specs.declared.scan.Reading.TheVariants as reading;
 ghost use Rattle.dfr_station.specs.Frames as spec;
 ghost use Rattle.dfr_station.specs.Lines.{FrameMeans, parts_of};
 
 use crate::intake::arrival::{Arrival, arrival_of_scan};
 use crate::intake::feed::Why;
+use crate::station::Lowest;
 use byteorder::{ByteOrder, LittleEndian};
 use dfr_channels::{Layout, Reading, Scan};
 use std::alloc::{AllocError, Allocator};
@@ -23,9 +25,20 @@ pub fn frame_len(analog: usize, status: usize) -> usize
     2 * analog + 2 * ((status + 15) / 16)
 }
 
-/// The sample in the first two bytes. The lowest value means missing.
+/// A sample of -32768.
 #[inline]
-fn reading_of(bytes: &[u8]) -> Reading
+fn lowest_reading(lowest: Lowest) -> Reading
+    ensures { result ≡ spec.read_as lowest reading.Missing }
+{
+    match lowest {
+        Lowest::Missing => Reading::Missing,
+        Lowest::Clipped => Reading::Value(-32_767),
+    }
+}
+
+/// The sample in the first two bytes, as BINARY data has it: the lowest value means missing.
+#[inline]
+fn binary_reading(bytes: &[u8]) -> Reading
     requires { 2 ≤ length bytes.now }
     ensures { result ≡ packed.value_at bytes.now }
 {
@@ -37,19 +50,32 @@ fn reading_of(bytes: &[u8]) -> Reading
     }
 }
 
+/// The sample in the first two bytes.
+#[inline]
+fn reading_of(lowest: Lowest, bytes: &[u8]) -> Reading
+    requires { 2 ≤ length bytes.now }
+    ensures { result ≡ spec.sample_at lowest bytes.now }
+{
+    match binary_reading(bytes) {
+        Reading::Value(x) => Reading::Value(x),
+        Reading::Missing => lowest_reading(lowest),
+    }
+}
+
 /// Puts the samples of a frame into a list.
 fn put_readings<A: Allocator>(
     readings: &mut Vec<Reading, A>,
+    lowest: Lowest,
     frame: &[u8],
     count: usize,
 ) -> Result<(), AllocError>
     requires empty { (readings.old.items ≡ []) × (vec_len readings.old ≡ 0) }
     requires whole { 2 * count ≤ length frame.now }
-    ensures { IfOk result (λ _. readings.new.items ≡ packed.values_at count frame.now) }
+    ensures { IfOk result (λ _. readings.new.items ≡ spec.samples_at lowest count frame.now) }
 {
     readings.reserve(count)?;
     for i in 0..count {
-        readings.push_reserved(reading_of(&frame[2 * i..]));
+        readings.push_reserved(reading_of(lowest, &frame[2 * i..]));
     }
     Ok(())
 }
@@ -125,6 +151,7 @@ fn lists_of<A: Allocator + Copy>(
 pub fn scan_of_frame<A: Allocator + Copy>(
     alloc: A,
     spare: Option<Scan<A>>,
+    lowest: Lowest,
     frame: &[u8],
     analog: usize,
     status: usize,
@@ -132,10 +159,10 @@ pub fn scan_of_frame<A: Allocator + Copy>(
     requires analog { analog ≤ 256 }
     requires status { status ≤ 256 }
     requires whole { spec.frame_len analog status ≤ length frame.now }
-    ensures { IfOk result (λ scan. scan ≡ spec.frame_scan analog status frame.now) }
+    ensures { IfOk result (λ scan. scan ≡ spec.frame_scan lowest analog status frame.now) }
 {
     let (mut readings, mut bits) = lists_of(alloc, spare);
-    put_readings(&mut readings, frame, analog)?;
+    put_readings(&mut readings, lowest, frame, analog)?;
     put_bits(&mut bits, &frame[2 * analog..], status)?;
     Ok(Scan::new(readings, bits))
 }
@@ -145,15 +172,16 @@ pub(crate) fn arrival_of_frame<A: Allocator + Copy>(
     alloc: A,
     spare: Option<Scan<A>>,
     layout: &Layout<A>,
+    lowest: Lowest,
     bytes: &[u8],
 ) -> Arrival<A>
     requires { spec.frame_len (length layout.now.analog) (length layout.now.status) ≤ length bytes.now }
-    ensures { FrameMeans layout.now bytes.now (parts_of result) }
+    ensures { FrameMeans layout.now lowest bytes.now (parts_of result) }
 {
     // a lawful layout has at most 256 channels of each kind
     let _rate = layout.rate();
     let (analog, status) = (layout.analog().len(), layout.status().len());
-    match scan_of_frame(alloc, spare, bytes, analog, status) {
+    match scan_of_frame(alloc, spare, lowest, bytes, analog, status) {
         Ok(scan) => arrival_of_scan(layout, scan),
         Err(_) => Arrival::Lost(Why::Memory),
     }

@@ -76,7 +76,7 @@ fn first_word(line: &[u8]) -> &[u8]
 }
 
 /// Whether the word is exactly this text.
-fn is_word(word: &[u8], text: &str) -> bool
+pub(crate) fn is_word(word: &[u8], text: &str) -> bool
     ensures { result ≡ bytes_eq word.now text.now }
 {
     word == text.as_bytes()

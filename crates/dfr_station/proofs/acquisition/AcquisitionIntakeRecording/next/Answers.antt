@@ -1,7 +1,8 @@
-use Rattle.std.proofs.Common.{refl}
+use Rattle.std.proofs.Common.{refl, sym}
 use Rattle.dfr_station.specs.Arrivals.{HandsNext}
 use Rattle.dfr_station.specs.declared.intake.arrivals.Next.TheVariants as coming
-use Rattle.dfr_station.proofs.Acquired.{quiet_more, gives_some, gives_end}
+use Rattle.dfr_station.proofs.Acquired.{quiet_more, gives_some, gives_gap, gives_end, reads_more}
+use Rattle.dfr_station.proofs.Handing.{came_same}
 use Rattle.dfr_station.proofs.acquisition.AcquisitionIntakeRecording.next.Goals as goal
 
 pub returns-in-Some-step_of : goal.returns-in-Some-step_of
@@ -29,3 +30,26 @@ pub returns-in-End : goal.returns-in-End
 returns-in-End g c =
     rw c.end.ensures (gives_end (HandsNext g.I.Read.remaining) c.args.self.now _ c.loop.self _ c.in-End.ending
     c.self-in-loop.view_is c.loop.invariant.2 c.in-End.ensures c.publish-in-End.ensures refl)
+
+pub returns-then-is_dated : goal.returns-then-is_dated
+returns-then-is_dated g c =
+    gives_gap (HandsNext g.I.Read.remaining) c.args.self.now _ c.loop.self _ c.lose.result
+    c.self-in-loop.view_is c.loop.invariant.2 c.in-Gap.ensures (sym c.if-is_dated.ensures) c.lose.ensures refl
+
+pub loop-preserved-else-is_dated : goal.loop-preserved-else-is_dated
+loop-preserved-else-is_dated g c = (
+  tt,
+  tt,
+  quiet_more (HandsNext g.I.Read.remaining) _ _ c.loop.self _ c.next-in-loop.new.self coming.Gap
+      c.self-in-loop.view_is c.loop.invariant.2 c.in-Gap.ensures (refl, refl, refl),
+)
+
+pub loop-preserved-in-Read : goal.loop-preserved-in-Read
+loop-preserved-in-Read g c = (
+  tt,
+  tt,
+  reads_more (HandsNext g.I.Read.remaining) _ _ c.loop.self c.find_gap.new.self
+      c.self-in-loop.view_is c.loop.invariant.2
+      (came_same g.I.Read.remaining _ c.next-in-loop.new.self c.find_gap.new.self.incoming c.in-Read.ensures c.find_gap.ensures.1 c.find_gap.ensures.2 c.find_gap.ensures.3)
+      (rw c.find_gap.ensures.0 refl) (rw c.find_gap.ensures.0 refl),
+)

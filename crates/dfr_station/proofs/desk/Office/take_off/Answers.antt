@@ -13,7 +13,7 @@ returns-in-Ok g c =
     let r = c.in-Ok.ensures.ring in
     let none = none_is _ c.if-is_some.ensures in
     elim c.match-self.branch [
-      | in-Some+in-SetRules-1 w ↦ rw (← c.self.view_is, w.self-is) (takes_off _ _ c.in-Ok.placed (rw (r.0.0, r.0.1, r.0.2, r.0.3) refl) refl c.in-Ok.ensures.ok.0 none refl)
-      | in-Some+in-Trigger-1 w ↦ rw (← c.self.view_is, w.self-is) (takes_off _ _ c.in-Ok.placed (rw (r.0.0, r.0.1, r.0.2, r.0.3) refl) refl c.in-Ok.ensures.ok.0 none refl)
-      | in-None-1 w ↦ rw (← c.self.view_is, w.self-is) (takes_off _ _ c.in-Ok.placed (rw (r.0.0, r.0.1, r.0.2, r.0.3) refl) refl c.in-Ok.ensures.ok.0 none refl)
+      | in-Some+in-SetRules-1 w ↦ rw (← c.self.view_is, w.self-is) (takes_off _ _ c.in-Ok.placed (rw (r.0.0, r.0.1, r.0.2, r.0.3) refl) refl refl c.in-Ok.ensures.ok.0 none refl)
+      | in-Some+in-Trigger-1 w ↦ rw (← c.self.view_is, w.self-is) (takes_off _ _ c.in-Ok.placed (rw (r.0.0, r.0.1, r.0.2, r.0.3) refl) refl refl c.in-Ok.ensures.ok.0 none refl)
+      | in-None-1 w ↦ rw (← c.self.view_is, w.self-is) (takes_off _ _ c.in-Ok.placed (rw (r.0.0, r.0.1, r.0.2, r.0.3) refl) refl refl c.in-Ok.ensures.ok.0 none refl)
     ]

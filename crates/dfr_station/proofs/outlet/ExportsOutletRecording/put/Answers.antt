@@ -1,29 +1,33 @@
 use Rattle.std.proofs.Common.{refl}
-use Rattle.dfr_station.proofs.Tries.{tried_again, tried_stored, given_up}
+use Rattle.std.specs.Prelude.{Some, None}
+use Rattle.dfr_station.proofs.Redating.{unchanged, changed_so, shows_none, shows_changes}
 use Rattle.dfr_station.proofs.outlet.ExportsOutletRecording.put.Goals as goal
 
-pub returns-in-Stored : goal.returns-in-Stored
-returns-in-Stored g c = (
+pub returns-in-None : goal.returns-in-None
+returns-in-None g c = (
+  refl,
+  (
+    c.key_of-key-in-None.result,
+    c.key_of-key-in-None.ensures,
+    None,
+    shows_none c.args.self.now.dating c.args.extent,
+    record { extent = c.args.extent; cfg = c.args.cfg.now; dat = c.args.dat.now },
+    unchanged c.args.self.now.dating _,
+    rw c.shown.ensures.same at c.hand_on-in-None.ensures,
+  ),
+)
+
+pub returns-in-Some : goal.returns-in-Some
+returns-in-Some g c = (
   refl,
   (
     c.key_of-key.result,
     c.key_of-key.ensures,
-    tried_stored g.K.Store.stores c.key_of-key.result
-        (record { extent = c.args.extent; cfg = c.args.cfg.now; dat = c.args.dat.now })
-        c.args.self.now c.loop.self c.tried.new.self c.loop.invariant.2 c.in-Stored.ensures,
+    Some c.in-Some.redated,
+    c.in-Some.ensures.dated,
+    record { extent = c.args.extent; cfg = c.in-Some.shown.items; dat = c.args.dat.now },
+    rw c.in-Some.ensures.shown (changed_so c.args.self.now.dating (record { extent = c.args.extent; cfg = c.args.cfg.now; dat = c.args.dat.now }) c.in-Some.redated
+        (shows_changes c.args.self.now.dating c.args.extent c.in-Some.redated c.in-Some.ensures.dated)),
+    rw (c.shown.ensures.same, c.deref.ensures.value) at c.hand_on.ensures,
   ),
 )
-
-pub returns-in-GivenUp : goal.returns-in-GivenUp
-returns-in-GivenUp g c = (
-  refl,
-  (
-    c.key_of-key.result,
-    c.key_of-key.ensures,
-    given_up g.K.Store.stores c.key_of-key.result (record { extent = c.args.extent; cfg = c.args.cfg.now; dat = c.args.dat.now }) c.args.self.now c.loop.self c.tried.new.self c.loop.invariant.2 c.in-GivenUp.ensures,
-  ),
-)
-
-pub loop-preserved : goal.loop-preserved
-loop-preserved g c =
-    (tt, tt, tried_again g.K.Store.stores c.key_of-key.result (record { extent = c.args.extent; cfg = c.args.cfg.now; dat = c.args.dat.now }) c.args.self.now c.loop.self c.tried.new.self c.loop.invariant.2 c.in-Again.ensures)

@@ -21,5 +21,10 @@ returns-then-is_err g c =
     lost_from c.args.self.now _ c.args.scan c.lose.result c.lose.new.self c.note.new.self.next.items
     (rw (← c.self.view_is, c.note.ensures.kept) refl) c.lose.ensures
 
+pub returns-in_default : goal.returns-in_default
+returns-in_default g c =
+    lost_from c.args.self.now _ c.args.scan c.lose-in_default.result c.lose-in_default.new.self c.note.new.self.next.items
+    (rw (← c.self.view_is, c.note.ensures.kept, c.in_default.ensures.err) refl) c.lose-in_default.ensures
+
 pub returns : goal.returns
-returns g c = inl (refl, search rules)
+returns g c = inl (search rules)

@@ -1,23 +1,16 @@
-use Rattle.std.proofs.Common.{◌≡◌, ℕ, ◌+◌, ◌-◌, ◌≤◌, List, ◌++◌, length, take, drop, Option, sym, ap, ◌∙◌, append_assoc, arith, length-append, length-drop}
+use Rattle.std.proofs.Common.{◌≡◌, ℕ, ◌-◌, ◌≤◌, List, ◌++◌, length, take, drop, Option, ap, ◌∙◌, arith, length-append, length-drop}
 use Rattle.std.specs.Vec.{with_items}
-use Rattle.std.proofs.lemmas.List.{take_at, take-append-drop, length-take, length-take-le, with_items_is}
+use Rattle.std.proofs.lemmas.List.{length-take, length-take-le, with_items_is}
 use Rattle.dfr_station.specs.Input.{Reads, count_of}
 use Rattle.dfr_station.specs.declared.reading.Given.{Given}
 use Rattle.dfr_station.specs.declared.reading.Given.TheVariants as given
+use Rattle.dfr_station.proofs.Behind.{put_behind}
 use Rattle.dfr_station.proofs.intake.buffer.Buffer.fill.Goals as goal
 
 few_read : (before : Option (List ℕ)) (x : Given) (after : Option (List ℕ)) (room : List ℕ) → Reads before x after (take (count_of x) room) → count_of x ≤ length room
 few_read before (given.Bytes n) after room reads = omega (arith, reads.1, length-take n room)
 few_read before given.End after room reads = omega arith
 few_read before given.Broken after room reads = omega arith
-
--- the first bytes that were put behind others
-put_behind : (m n : ℕ) (front room after : List ℕ) → length front ≡ m → n ≤ length room → take (m + n - 0) (front ++ (room ++ after)) ≡ front ++ take n room
-put_behind m n front room after all few =
-    ap (λ r. take (m + n - 0) (front ++ (r ++ after))) (sym (take-append-drop n room))
-    ∙ ap (λ r. take (m + n - 0) (front ++ r)) (append_assoc (take n room) (drop n room) after)
-    ∙ ap (take (m + n - 0)) (sym (append_assoc front (take n room) (drop n room ++ after)))
-    ∙ take_at (front ++ take n room) (drop n room ++ after) (m + n - 0) (omega (arith, length-append front (take n room), length-take-le n room few))
 
 pub returns : goal.returns
 returns g c =

@@ -11,7 +11,7 @@ returns-then-bytes-size g c =
     λ last. record {
       room = omega (arith, c.rate-rate.ensures.lawful.analog_few, c.rate-rate.ensures.lawful.status_few);
       cut = record { first = λ more none xs comes. comes };
-      over = λ is_last. no_frame s.layout.now _ s.buffer c.requires short;
+      over = λ is_last. no_frame s.layout.now c.args.lowest _ s.buffer c.requires short;
     }
 
 pub returns : goal.returns
@@ -21,4 +21,4 @@ returns g c =
     let whole : frame_size s.layout.now ≤ length s.buffer = rw (c.waiting-bytes.ensures.bytes, size) at c.if-bytes-size.false in
     let means = rw (c.waiting-bytes.ensures.bytes, size) at c.arrival_of_frame-arrival.ensures in
     let rest = rw size at c.use_up.ensures in
-    λ last. record { first = λ more none xs comes. frame_leads s.layout.now _ _ s.buffer more _ xs c.requires c.requires whole means (rw rest at comes) }
+    λ last. record { first = λ more none xs comes. frame_leads s.layout.now c.args.lowest _ _ s.buffer more _ xs c.requires c.requires whole means (rw rest at comes) }
