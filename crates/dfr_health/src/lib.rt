@@ -1,0 +1,16 @@
+//! What the events of a recording come to: how grave each is, and the health of the recording.
+#![tactic(auto)]
+
+mod counts;
+mod health;
+mod level;
+mod metrics;
+mod standing;
+mod state;
+
+pub use counts::{Lost, Reason, Tally, Unwritten};
+pub use health::{Health, put_health};
+pub use level::{Level, level_of};
+pub use metrics::put_escaped;
+pub use standing::Standing;
+pub use state::State;
