@@ -1,1 +1,1 @@
-pub mod Health
+pub mod Feeding

@@ -1,20 +1,17 @@
-//! The folder of records. While `dfrd` runs, a `.cfg` appears only after its `.dat`: a program that
-//! sees a `.cfg` finds a whole pair.
+//! The folder of records. Which files are written, renamed and removed, and in which order, is
+//! decided in `dfr_folder`: whatever stops `dfrd`, a `.cfg` has its whole pair.
 
-ghost use Rattle.std.specs.Prelude.{◌+◌, ◌<◌, ◌↔◌, IsTrue};
-
-use crate::outcome::{FileFault, Reason, complain, reason_of};
-use crate::pair::{Paths, Removal, is_free, paths_of, remove_pair, sync_folder, write_pair};
+use crate::disk::Disk;
+use crate::outcome::{Reason, complain, reason_of};
+use crate::pair::{folder_key, is_free, record_key, size_of_pair};
 use crate::place::Place;
-use dfr_station::{Key, Store, Stored, Trouble, surplus_bytes};
-use std::alloc::{AllocError, Global};
+use dfr_folder::{Key, Put, Recorded, Unknown, mend, put_for, put_or_mend};
+use dfr_station::{Store, Stored, Trouble};
+use std::alloc::Global;
 use std::fs::File;
 use std::rt::Files;
 use std::sync::{Arc, Wait};
 use thiserror::Error;
-
-/// Bytes that a pair may need beyond its own: the rest of its last blocks, and room for its names.
-const BLOCKS: u64 = 65_536;
 
 /// How many pairs the folder keeps.
 #[derive(Clone, Copy)]
@@ -54,6 +51,9 @@ pub enum FolderFault {
     Other,
 }
 
+/// The files of a folder of the system, with their names.
+pub(crate) type Opened<'a, R> = Recorded<Disk<'a, R>, Unknown>;
+
 /// The folder, and the pairs in it with their sizes in bytes, the oldest first. Pairs of earlier
 /// recordings come first, sorted by name. Pairs of this recording follow in the order of writing,
 /// so a new pair never counts as old because the clock was set back.
@@ -62,18 +62,20 @@ pub struct Folder<'a, R> {
     pub(crate) rt: &'a R,
     /// The folder and its lock; None before it is opened.
     pub(crate) place: Option<Arc<Place, Global>>,
-    /// How often the lock had been taken anew when the pairs were found.
+    /// Its files; None before it is opened.
+    pub(crate) opened: Option<Opened<'a, R>>,
+    /// How often the lock had been taken anew when the files were listed.
     pub(crate) turn: u64,
     pub(crate) keep: Keep,
     pub(crate) pairs: Vec<(Key, u64)>,
-    /// The pairs that can't be removed, and are reported.
+    /// The pairs that could not be removed, as the folder can't be synced; they are reported.
     pub(crate) stuck: Vec<Key>,
-    /// A record whose pair has its names, and the pair's name, while the folder isn't synced.
-    unsynced: Option<(Key, Key)>,
+    /// A record of which files are left that could neither be completed nor removed, and their key.
+    pub(crate) pending: Option<(Key, Key)>,
     /// The record for which old pairs were given up last, and how many bytes they had.
-    given: Option<(Key, u64)>,
+    pub(crate) given: Option<(Key, u64)>,
     /// How many pairs were removed since the last record.
-    removed: u64,
+    pub(crate) removed: u64,
     /// Why the last record could not be stored.
     reported: Option<Reason>,
 }
@@ -84,11 +86,12 @@ impl<'a, R: AllocGlobal> Folder<'a, R> {
         Folder {
             rt,
             place: None,
+            opened: None,
             turn: 0,
             keep: Keep::All,
             pairs: Vec::new(rt.alloc()),
             stuck: Vec::new(rt.alloc()),
-            unsynced: None,
+            pending: None,
             given: None,
             removed: 0,
             reported: None,
@@ -107,129 +110,98 @@ fn trouble_of(reason: Reason) -> Trouble {
     }
 }
 
-/// Whether to give up one more old pair for a record of `size` bytes, after pairs of `given` bytes
-/// were given up for it: a full disk that stays full costs no more pairs than the record needs.
-fn is_short(size: u64, given: u64) -> bool
-    requires { size < 9223372036854775808 }
-    ensures { IsTrue result ↔ (given < size + 65536) }
-{
-    given < size + BLOCKS
-}
-
-/// The sizes of the pairs, in bytes.
-fn sizes_of(alloc: Global, pairs: &[(Key, u64)]) -> Result<Vec<u64>, AllocError> {
-    let mut sizes = Vec::new(alloc);
-    for (_, size) in pairs {
-        sizes.push(*size)?;
-    }
-    Ok(sizes)
-}
-
-impl<R: Files<File = File> + Eprint + AllocGlobal> Folder<'_, R> {
-    /// How many of the oldest pairs have to be removed; 0 if an allocation failed.
-    fn surplus(&self) -> usize {
-        match self.keep {
-            Keep::All => 0,
-            Keep::Pairs(most) => {
-                self.pairs
-                    .len()
-                    .saturating_sub(usize::try_from(most).unwrap_or(usize::MAX))
-            }
-            Keep::Bytes(most) => match sizes_of(self.rt.alloc(), &self.pairs) {
-                Ok(sizes) => surplus_bytes(&sizes, most),
-                Err(_) => 0,
-            },
+impl<'a, R: Files<File = File> + Eprint + AllocGlobal + Clone + Drop> Folder<'a, R> {
+    /// Notes a new pair, unless all are kept.
+    fn note_pair(&mut self, key: Key, size: u64) {
+        if !matches!(self.keep, Keep::All) {
+            let _ = self.pairs.push((key, size));
         }
     }
 
-    /// Removes a pair. If it can't be removed, it is reported once.
-    fn removal_of(&mut self, path: &str, key: Key) -> Removal {
-        let Ok(paths) = paths_of(self.rt.alloc(), path, key) else {
-            return Removal::Stuck;
+    /// Reports why a pair can't be written, unless that was done for the last one.
+    fn tell(&mut self, path: &str, reason: Reason) {
+        if self.reported != Some(reason) {
+            self.reported = Some(reason);
+            let _ = complain(self.rt, path, reason);
+        }
+    }
+
+    /// Completes or removes what is left of a pair that could not be written. Returns its key if it
+    /// is that of this record, and is there now.
+    fn take_up(
+        &mut self,
+        opened: &mut Opened<'a, R>,
+        path: &str,
+        record: Key,
+    ) -> Result<Option<Key>, Reason> {
+        let Some((of, key)) = self.pending else {
+            return Ok(None);
         };
-        let is_known = self.stuck.contains(&key);
-        let removal = remove_pair(self.rt, path, &paths, is_known);
-        if removal == Removal::Stuck && !is_known {
-            let _ = self.stuck.push(key);
-        }
-        removal
-    }
-
-    /// Removes the oldest pair that can be removed, from the index `from` on, but never the newest
-    /// one, and drops it from the list. Returns its index, its name and its size, or None if there
-    /// is none.
-    fn remove_next(&mut self, path: &str, from: usize) -> Option<(usize, Key, u64)> {
-        let newest = self.pairs.len().saturating_sub(1);
-        for at in from..newest {
-            let (key, size) = *self.pairs.get(at)?;
-            let removal = self.removal_of(path, key);
-            if removal != Removal::Stuck && at < self.pairs.len() {
-                self.pairs.remove(at);
-                if removal == Removal::Done {
-                    self.removed = self.removed.saturating_add(1);
-                }
-                return Some((at, key, size));
-            }
-        }
-        None
-    }
-
-    /// Removes the oldest pairs if there are too many. Those that can't be removed are left out.
-    pub(crate) fn remove_surplus(&mut self, path: &str) {
-        let mut from = 0;
-        for _ in 0..u64::MAX {
-            let surplus = self.surplus();
-            if surplus == 0 {
-                return;
-            }
-            for _ in 0..surplus {
-                match self.remove_next(path, from) {
-                    Some((at, _, _)) => from = at,
-                    None => return,
-                }
-            }
-        }
-    }
-
-    /// Reports a pair that was given up.
-    fn report_given_up(&self, path: &str, key: Key) {
-        if let Ok(paths) = paths_of(self.rt.alloc(), path, key) {
-            let _ = complain(self.rt, paths.cfg.as_str(), FileFault::GivenUp);
-        }
-    }
-
-    /// Gives up the oldest pair for a record of `size` bytes that the disk has no room for. Returns
-    /// false if no pair is to be given up, or none can be removed.
-    fn give_up(&mut self, path: &str, record: Key, size: u64) -> bool {
-        let before = self.given;
-        let given = match before {
-            Some((key, given)) if key == record => given,
-            _ => 0,
+        let Ok(is_there) = mend(opened, key) else {
+            return Err(opened.system().reason());
         };
-        if matches!(self.keep, Keep::All) || !is_short(size.min(u64::MAX / 4), given) {
-            return false;
+        self.pending = None;
+        if !is_there {
+            return Ok(None);
         }
-        match self.remove_next(path, 0) {
-            Some((_, key, freed)) => {
-                self.given = Some((record, given.saturating_add(freed)));
-                self.report_given_up(path, key);
-                true
-            }
-            None => false,
-        }
+        let Ok(size) = size_of_pair(self.rt, path, key) else {
+            return Err(Reason::Memory);
+        };
+        self.note_pair(key, size);
+        Ok((of == record).then_some(key))
     }
 
-    /// The first name for this record that no pair has yet, and its paths.
-    fn free_paths(&self, path: &str, key: Key) -> Result<(Key, Paths), Reason> {
+    /// Writes a pair under this key. Returns false if the key is in use. If that fails, completes or
+    /// removes what is left of it.
+    fn put_under(
+        &mut self,
+        opened: &mut Opened<'a, R>,
+        path: &str,
+        (record, key): (Key, Key),
+        (cfg, dat): (&[u8], &[u8]),
+    ) -> Result<bool, Reason> {
+        let size = (cfg.len() as u64).saturating_add(dat.len() as u64);
+        let put = match self.next_surplus(size) {
+            Some(oldest) => {
+                let (put, _) = put_for(opened, key, cfg, dat, oldest);
+                self.note_removal(opened, oldest);
+                put
+            }
+            None => put_or_mend(opened, key, cfg, dat),
+        };
+        match put {
+            Put::There => {}
+            Put::Completed => self.tell(path, opened.system().reason()),
+            Put::Taken => return Ok(false),
+            Put::Failed => return Err(opened.system().reason()),
+            Put::Left => {
+                self.pending = Some((record, key));
+                return Err(opened.system().reason());
+            }
+        }
+        self.note_pair(key, size);
+        Ok(true)
+    }
+
+    /// Writes a record's pair under the first name that no pair has yet. Returns the name.
+    fn put_free(
+        &mut self,
+        opened: &mut Opened<'a, R>,
+        path: &str,
+        record: Key,
+        files: (&[u8], &[u8]),
+    ) -> Result<Key, Reason> {
+        if let Some(key) = self.take_up(opened, path, record)? {
+            return Ok(key);
+        }
         for copy in 1..u64::MAX {
-            let key = Key { copy, ..key };
-            let Ok(paths) = paths_of(self.rt.alloc(), path, key) else {
-                return Err(Reason::Memory);
-            };
-            match is_free(self.rt, &paths) {
-                Ok(true) => return Ok((key, paths)),
-                Ok(false) => {}
+            let key = Key { copy, ..record };
+            let is_free = match is_free(self.rt, path, key) {
+                Ok(is_free) => is_free,
                 Err(error) => return Err(reason_of(&error)),
+            };
+            if is_free && self.put_under(opened, path, (record, key), files)? {
+                return Ok(key);
             }
         }
         Err(Reason::Other)
@@ -238,57 +210,35 @@ impl<R: Files<File = File> + Eprint + AllocGlobal> Folder<'_, R> {
     /// Writes a record's pair. While the disk is full, gives up old pairs, if not all are kept.
     fn write(
         &mut self,
+        opened: &mut Opened<'a, R>,
         path: &str,
         record: Key,
-        paths: &Paths,
         (cfg, dat): (&[u8], &[u8]),
-    ) -> Result<(), Reason> {
+    ) -> Result<Key, Reason> {
         let size = (cfg.len() as u64).saturating_add(dat.len() as u64);
         for _ in 0..u64::MAX {
-            let Err(error) = write_pair(self.rt, path, paths, cfg, dat) else {
-                return Ok(());
+            let reason = match self.put_free(opened, path, record, (cfg, dat)) {
+                Ok(key) => return Ok(key),
+                Err(reason) => reason,
             };
-            let reason = reason_of(&error);
-            if reason != Reason::Full || !self.give_up(path, record, size) {
+            if reason != Reason::Full || !self.give_up(opened, path, record, size) {
                 return Err(reason);
             }
         }
         Err(Reason::Full)
     }
 
-    /// Writes a record's pair, unless it is written and only the folder isn't synced. Returns its
-    /// name. It is only on the disk for good once the folder is synced.
-    fn named(&mut self, path: &str, record: Key, cfg: &[u8], dat: &[u8]) -> Result<Key, Reason> {
-        let unsynced = self.unsynced;
-        if let Some((key, name)) = unsynced
-            && key == record
-        {
-            return Ok(name);
-        }
-        let (name, paths) = self.free_paths(path, record)?;
-        self.write(path, record, &paths, (cfg, dat))?;
-        self.unsynced = Some((record, name));
-        if !matches!(self.keep, Keep::All) {
-            let size = (cfg.len() as u64).saturating_add(dat.len() as u64);
-            let _ = self.pairs.push((name, size));
-        }
-        Ok(name)
-    }
-
     /// Stores a record's pair in the folder with this path, which is locked.
-    fn stored(
-        &mut self,
-        path: &str,
-        record: Key,
-        cfg: &[u8],
-        dat: &[u8],
-    ) -> Result<Stored, Reason> {
-        let key = self.named(path, record, cfg, dat)?;
-        if let Err(error) = sync_folder(self.rt, path) {
-            return Err(reason_of(&error));
+    fn stored(&mut self, path: &str, record: Key, files: (&[u8], &[u8])) -> Result<Stored, Reason> {
+        let Some(mut opened) = self.opened.take() else {
+            return Err(Reason::Gone);
+        };
+        let written = self.write(&mut opened, path, record, files);
+        if written.is_ok() {
+            self.remove_surplus(&mut opened, path);
         }
-        self.unsynced = None;
-        self.remove_surplus(path);
+        self.opened = Some(opened);
+        let key = record_key(written?);
         let removed = self.removed;
         self.removed = 0;
         Ok(Stored { key, removed })
@@ -297,12 +247,11 @@ impl<R: Files<File = File> + Eprint + AllocGlobal> Folder<'_, R> {
 
 impl<R: Files<File = File> + Eprint + AllocGlobal + Clone + Drop + Wait> Folder<'_, R> {
     /// Makes sure that the folder is the locked one. If another has its name now, takes the lock of
-    /// that one and finds its pairs.
+    /// that one and opens it.
     fn settle(&mut self, place: &Place) -> Result<(), Reason> {
         let turn = place.held(self.rt)?;
-        if turn != self.turn {
-            self.unsynced = None;
-            self.find_pairs(place.path.as_str())?;
+        if turn != self.turn || self.opened.is_none() {
+            self.open_at(place.path.as_str())?;
             self.turn = turn;
         }
         Ok(())
@@ -317,26 +266,23 @@ impl<R: Files<File = File> + Eprint + AllocGlobal + Clone + Drop + Wait> Folder<
         dat: &[u8],
     ) -> Result<Stored, Reason> {
         self.settle(place)?;
-        self.stored(place.path.as_str(), key, cfg, dat)
+        self.stored(place.path.as_str(), key, (cfg, dat))
     }
 }
 
 impl<R: Files<File = File> + Eprint + AllocGlobal + Clone + Drop + Wait> Store for Folder<'_, R> {
-    fn put(&mut self, key: Key, cfg: &[u8], dat: &[u8]) -> Result<Stored, Trouble> {
+    fn put(&mut self, key: dfr_station::Key, cfg: &[u8], dat: &[u8]) -> Result<Stored, Trouble> {
         let Some(place) = self.place.take() else {
             return Err(Trouble::Gone);
         };
-        let stored = self.put_in(&place, key, cfg, dat);
+        let stored = self.put_in(&place, folder_key(key), cfg, dat);
         let answer = match stored {
             Ok(stored) => {
                 self.reported = None;
                 Ok(stored)
             }
             Err(reason) => {
-                if self.reported != Some(reason) {
-                    self.reported = Some(reason);
-                    let _ = complain(self.rt, place.path.as_str(), reason);
-                }
+                self.tell(place.path.as_str(), reason);
                 Err(trouble_of(reason))
             }
         };

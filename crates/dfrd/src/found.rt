@@ -1,53 +1,17 @@
-//! What is in the folder when recording begins: the pairs of earlier recordings, and files that an
-//! interrupted recording left.
+//! The folder when recording begins: whether it can be used, and what is in it.
 
+use crate::disk::{Disk, files_in};
 use crate::folder::{Folder, FolderFault, Keep, Records};
 use crate::outcome::{FileFault, Reason, complain, reason_of};
-use crate::pair::{paths_of, recover, sync_folder};
+use crate::pair::size_of_pair;
 use crate::place::{Place, fault_of};
-use dfr_station::{Key, key_in};
-use std::alloc::{Allocator, Global};
-use std::fs::{DirEntry, File, OpenOptions};
+use dfr_folder::{Ending, Key, Seen, open_folder};
+use std::alloc::Global;
+use std::fs::{File, OpenOptions};
 use std::io::ErrorKind;
 use std::rt::Files;
 use std::sync::{Arc, Wait};
 use std::{fs, io};
-
-/// What the name of one of our files ends in.
-#[derive(Clone, Copy, PartialEq, Eq)]
-enum Ending {
-    /// `.cfg`: a configuration file.
-    Config,
-    /// `.cfg.part` or `.dat.part`: a file that was being written.
-    Part,
-    /// `.cfg.gone`: the configuration file of a pair that was being removed.
-    Gone,
-}
-
-/// The name of the pair that a file belongs to, and which of its files it is. None if it is none of
-/// our files, or a `.dat`.
-fn found_in(name: &str) -> Option<(Key, Ending)> {
-    let (stem, ending) = if let Some(stem) = name.strip_suffix(".cfg") {
-        (stem, Ending::Config)
-    } else if let Some(stem) = name.strip_suffix(".cfg.part") {
-        (stem, Ending::Part)
-    } else if let Some(stem) = name.strip_suffix(".dat.part") {
-        (stem, Ending::Part)
-    } else if let Some(stem) = name.strip_suffix(".cfg.gone") {
-        (stem, Ending::Gone)
-    } else {
-        return None;
-    };
-    Some((key_in(stem.as_bytes())?, ending))
-}
-
-/// The size of a file in bytes; 0 if it can't be found.
-fn size_of<R: Files>(rt: &R, path: &str) -> u64 {
-    match fs::metadata(rt, path) {
-        Ok(metadata) => metadata.len(),
-        Err(_) => 0,
-    }
-}
 
 /// Tests whether a file can be created in the folder: creates one and removes it. An earlier one
 /// that was left by a kill is removed first.
@@ -69,89 +33,65 @@ fn probe<R: Files + AllocGlobal>(rt: &R, folder: &str) -> io::Result<()> {
     }
 }
 
-/// Which of our files an entry of the folder is; None if it is another one. A name that is not
-/// UTF-8 is none of ours.
-fn found_at<R: Files + Drop, A: Allocator>(
-    entry: io::Result<DirEntry<R, A>>,
-) -> io::Result<Option<(Key, Ending)>> {
-    match entry {
-        Ok(entry) => Ok(found_in(entry.file_name())),
-        Err(error) => {
-            if error.kind() == ErrorKind::InvalidFilename {
-                Ok(None)
-            } else {
-                Err(error)
-            }
-        }
-    }
+/// Whether this file shows that a data file with this key is one of a pair.
+fn is_of_pair(seen: &Seen, key: Key) -> bool {
+    let is_data = matches!(seen.name.ending, Ending::Data | Ending::DataPart);
+    seen.name.key == key && !is_data
 }
 
-impl<R: Files<File = File> + Eprint + AllocGlobal + Clone + Drop> Folder<'_, R> {
-    /// Our files in the folder, but for the `.dat` files.
-    fn found(&self, path: &str) -> io::Result<Vec<(Key, Ending)>> {
-        let mut found = Vec::new(self.rt.alloc());
-        for entry in fs::read_dir(self.rt, path)? {
-            if let Some(one) = found_at(entry)? {
-                found.push(one)?;
-            }
+/// How many of these files, which are in the order of their keys, are data files that are alone.
+fn count_alone(files: &[Seen]) -> u64 {
+    let mut count = 0u64;
+    for (at, seen) in files.iter().enumerate() {
+        let key = seen.name.key;
+        // a key has at most five files
+        let near = &files[at.saturating_sub(4)..files.len().min(at.saturating_add(5))];
+        let has_pair = near.iter().any(|other| is_of_pair(other, key));
+        if seen.name.ending == Ending::Data && !has_pair {
+            count = count.saturating_add(1);
         }
-        Ok(found)
     }
+    count
+}
 
-    /// Finishes or removes what an interrupted recording left. What can't be tidied up is reported
-    /// and left.
-    fn tidy(&mut self, path: &str, found: &[(Key, Ending)]) -> io::Result<()> {
-        let mut is_changed = false;
-        for (key, ending) in found {
-            if *ending != Ending::Config {
-                is_changed = true;
-                let paths = paths_of(self.rt.alloc(), path, *key)?;
-                if !recover(self.rt, &paths) {
-                    self.stuck.push(*key)?;
-                }
-            }
+impl<'a, R: Files<File = File> + Eprint + AllocGlobal + Clone + Drop> Folder<'a, R> {
+    /// Notes the pairs that are there, unless all are kept. Reports data files that are alone.
+    fn find_pairs(&mut self, path: &str) -> io::Result<()> {
+        let files = files_in(self.rt, self.rt.alloc(), path)?;
+        let alone = count_alone(&files);
+        if alone != 0 {
+            let _ = complain(self.rt, path, FileFault::Alone(alone));
         }
-        if is_changed && let Err(error) = sync_folder(self.rt, path) {
-            let _ = complain(self.rt, path, FileFault::Synced(reason_of(&error)));
-        }
-        Ok(())
-    }
-
-    /// Finishes or removes what an interrupted recording left. Then notes the existing pairs,
-    /// unless all are kept.
-    fn look_through(&mut self, path: &str) -> io::Result<()> {
-        let found = self.found(path)?;
-        self.tidy(path, &found)?;
         if let Keep::All = self.keep {
             return Ok(());
         }
-        for (key, ending) in self.found(path)? {
-            if ending == Ending::Config {
-                let size = self.size_of_pair(path, key)?;
-                self.pairs.push((key, size))?;
+        for seen in &files {
+            if seen.name.ending == Ending::Config {
+                let key = seen.name.key;
+                self.pairs.push((key, size_of_pair(self.rt, path, key)?))?;
             }
         }
-        self.pairs.sort_unstable();
         Ok(())
     }
 
-    /// Forgets the pairs of another folder, and looks through this one.
-    pub(crate) fn find_pairs(&mut self, path: &str) -> Result<(), Reason> {
+    /// Completes or removes what an interrupted recording left in the folder with this path. Forgets
+    /// the pairs of another folder, and finds those of this one.
+    pub(crate) fn open_at(&mut self, path: &str) -> Result<(), Reason> {
+        self.opened = None;
+        self.pending = None;
         self.pairs.clear();
         self.stuck.clear();
-        match self.look_through(path) {
+        let Ok(disk) = Disk::new(self.rt, path) else {
+            return Err(Reason::Memory);
+        };
+        match open_folder(self.rt.alloc(), disk) {
+            Ok(opened) => self.opened = Some(opened),
+            Err((_, disk)) => return Err(disk.reason()),
+        }
+        match self.find_pairs(path) {
             Ok(()) => Ok(()),
             Err(error) => Err(reason_of(&error)),
         }
-    }
-
-    /// The size of both files of a pair, in bytes.
-    fn size_of_pair(&self, path: &str, key: Key) -> io::Result<u64> {
-        let paths = paths_of(self.rt.alloc(), path, key)?;
-        Ok(size_of(self.rt, paths.cfg.as_str()).saturating_add(size_of(
-            self.rt,
-            paths.dat.as_str(),
-        )))
     }
 }
 
@@ -170,7 +110,7 @@ impl<R: Files<File = File> + Eprint + AllocGlobal + Clone + Drop + Wait> Records
         {
             return Err(FolderFault::Denied);
         }
-        let found = self.find_pairs(place.path.as_str());
+        let found = self.open_at(place.path.as_str());
         if let Err(error) = &probed
             && found.is_ok()
         {

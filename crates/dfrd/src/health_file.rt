@@ -1,9 +1,10 @@
 //! The file of a recording's health. It is written anew every ten seconds, under another name that
 //! it then loses, so that who reads it finds a whole one.
 
-use crate::health::put_health;
-use crate::heard::Heard;
+use crate::heard::{Heard, Known};
 use crate::outcome::{FileFault, Reason, complain, reason_of};
+use comtrade_io::VERSION;
+use dfr_health::{Health, put_health};
 use std::alloc::{AllocError, Global};
 use std::fs::File;
 use std::io::Write;
@@ -23,7 +24,9 @@ pub(crate) struct HealthFile {
     part: String,
     heard: Arc<Heard, Global>,
     /// The size of a frame, if the input has frames.
-    frame: Option<u64>,
+    frame: Option<usize>,
+    /// The station's name, as the value of a label.
+    station: Vec<u8>,
     text: Vec<u8>,
     /// Why it could not be written last.
     reported: Option<Reason>,
@@ -37,7 +40,8 @@ fn health_file_of(
     alloc: Global,
     path: &str,
     heard: &Arc<Heard, Global>,
-    frame: Option<u64>,
+    frame: Option<usize>,
+    station: &[u8],
 ) -> Result<Shared, AllocError> {
     let mut part = String::from_str(alloc, path)?;
     part.push_str(".part")?;
@@ -46,6 +50,7 @@ fn health_file_of(
         part,
         heard: Arc::try_clone(heard)?,
         frame,
+        station: Vec::from_slice(alloc, station)?,
         text: Vec::new(alloc),
         reported: None,
     };
@@ -60,15 +65,24 @@ fn health_file_of(
 pub(crate) fn health_of(
     alloc: Global,
     path: Option<&str>,
-    frame: Option<u64>,
+    frame: Option<usize>,
+    station: &[u8],
 ) -> Result<(Arc<Heard, Global>, Option<(Shared, Shared)>), AllocError> {
     let heard = Heard::new(alloc)?;
     let Some(path) = path else {
         return Ok((heard, None));
     };
-    let file = health_file_of(alloc, path, &heard, frame)?;
+    let file = health_file_of(alloc, path, &heard, frame, station)?;
     let other = Arc::try_clone(&file)?;
     Ok((heard, Some((file, other))))
+}
+
+/// The version, without the toolchain's.
+fn version() -> &'static str {
+    match VERSION.split_once(' ') {
+        Some((version, _)) => version,
+        None => VERSION,
+    }
 }
 
 /// Writes a file under the name `part` and renames it.
@@ -86,9 +100,20 @@ fn write_renamed<R: Files<File = File>>(
 impl HealthFile {
     /// Writes what is known now.
     fn written<R: Files<File = File> + Wait + Clock>(&mut self, rt: &R) -> Result<(), Reason> {
-        let known = self.heard.known(rt, self.frame);
+        let Known {
+            standing,
+            scans,
+            age,
+        } = self.heard.known(rt, self.frame);
+        let health = Health {
+            station: self.station.as_slice(),
+            version: version(),
+            standing,
+            scans,
+            age: age.and_then(|millis| millis.checked_mul(1_000)),
+        };
         self.text.clear();
-        if put_health(&mut self.text, &known).is_err() {
+        if put_health(&mut self.text, &health).is_err() {
             return Err(Reason::Memory);
         }
         let (part, path) = (self.part.as_str(), self.path.as_str());

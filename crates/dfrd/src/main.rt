@@ -1,12 +1,13 @@
 //! The program: `dfrd [OPTIONS] SETUP DIR` records the scans on standard input until that ends.
 #![tactic(auto)]
 
+mod check;
+mod disk;
+mod feed;
 mod folder;
 mod found;
-mod health;
 mod health_file;
 mod heard;
-mod level;
 mod operator;
 mod options;
 mod outcome;
@@ -14,9 +15,10 @@ mod output;
 mod pair;
 mod place;
 mod record;
-mod standing;
+mod removal;
 mod words;
 
+use crate::feed::{Source, feed_of};
 use crate::folder::{Folder, Records};
 use crate::health_file::{health_of, keep_written, write_last};
 use crate::heard::Heeded;
@@ -28,13 +30,15 @@ use crate::record::{Plan, keep_of, plan_of, record};
 use crate::words::{Answer, Asked, answer_of};
 use comtrade_io::{ToolFault, fault_of, put_safe};
 use comtrade_values::put;
-use rtrb::{Consumer, RingBuffer};
+use dfr_station::{Control, Limited};
+use rtrb::RingBuffer;
 use std::alloc::{AllocError, Global};
 use std::fs::File;
 use std::io::ErrorKind;
 use std::process::ExitCode;
 use std::rt::{Env, Files};
 use std::sync::Arc;
+use std::sync::atomic::AtomicBool;
 use std::{env, io, thread};
 
 /// Prints a usage error in printable characters. Returns the exit status.
@@ -86,12 +90,12 @@ fn print_text<R: Print>(rt: &R, text: &str) -> u8 {
     }
 }
 
-/// The operator's file, and what follows it and wakes who follows it. None if that isn't possible;
-/// then the reason is printed.
+/// What an operator sends, and what follows its file and wakes who follows it. None if that isn't
+/// possible; then the reason is printed.
 fn followed<R: Files<File = File> + Eprint + AllocGlobal>(
     rt: &R,
     path: &str,
-) -> Option<(Consumer<u8>, Follower, Waker)> {
+) -> Option<(Control, Follower, Waker)> {
     let orders = match open_orders(rt, path, true) {
         Ok(orders) => orders,
         Err(error) => {
@@ -107,7 +111,15 @@ fn followed<R: Files<File = File> + Eprint + AllocGlobal>(
         out_of_memory(rt);
         return None;
     };
-    Some((operator, follower, waker))
+    let Ok(stop) = Arc::new(rt.alloc(), AtomicBool::new(false)) else {
+        out_of_memory(rt);
+        return None;
+    };
+    let control = Control {
+        bytes: operator,
+        stop,
+    };
+    Some((control, follower, waker))
 }
 
 /// A recording that may begin.
@@ -116,7 +128,7 @@ struct Ready<'a> {
     asked: Asked<'a>,
     plan: Plan,
     place: Arc<Place, Global>,
-    operator: Option<Consumer<u8>>,
+    operator: Option<Control>,
     following: Option<(Follower, Waker)>,
 }
 
@@ -197,13 +209,15 @@ fn main(rt: HostRuntime) -> ExitCode {
         following,
     } = ready;
     let frame = plan.frame_in(asked.input);
-    let Ok((heard, health)) = health_of(rt.alloc(), asked.health, frame) else {
+    let station = plan.station.as_slice();
+    let Ok((heard, health)) = health_of(rt.alloc(), asked.health, frame, station) else {
         return ExitCode::from(out_of_memory(&rt));
     };
     let Ok((mut lines, mut waiting, progress)) = lines_of(&rt, &heard, asked.how()) else {
         return ExitCode::from(out_of_memory(&rt));
     };
-    let (Some(one), Some(two), Some(three), Some(four), Some(five)) = (
+    let (Some(one), Some(two), Some(three), Some(four), Some(five), Some(six)) = (
+        copy_of(&rt),
         copy_of(&rt),
         copy_of(&rt),
         copy_of(&rt),
@@ -221,6 +235,20 @@ fn main(rt: HostRuntime) -> ExitCode {
         started = started && thread::spawn(&rt, move || follower.follow(&three)).is_ok();
         started = started && thread::spawn(&rt, move || waker.wake(&four)).is_ok();
     }
+    let source = match &operator {
+        None => Source::Direct(rt.reader()),
+        Some(control) => {
+            let Ok(stop) = Arc::try_clone(&control.stop) else {
+                return ExitCode::from(out_of_memory(&rt));
+            };
+            let Ok((mut feeder, fed)) = feed_of(&rt, stop, frame.is_some(), plan.frame) else {
+                return ExitCode::from(out_of_memory(&rt));
+            };
+            started = started
+                && thread::spawn(&rt, move || feeder.read_all(&six, &mut six.reader())).is_ok();
+            Source::Fed(fed)
+        }
+    };
     let mut last = None;
     if let Some((file, other)) = health {
         started = started && thread::spawn(&rt, move || keep_written(&five, &file)).is_ok();
@@ -231,11 +259,12 @@ fn main(rt: HostRuntime) -> ExitCode {
     }
     let input = Heeded {
         rt: &rt,
-        input: rt.reader(),
+        input: source,
         heard,
         frame,
     };
-    let status = record(&rt, &asked, &plan, operator, input, folder, &mut lines);
+    let store = Limited::new(folder, asked.most);
+    let status = record(&rt, &asked, &plan, operator, input, store, &mut lines);
     lines.finish();
     if let Some(file) = last {
         write_last(&rt, &file);

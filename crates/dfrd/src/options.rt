@@ -16,6 +16,8 @@ Exit status: 0 recorded to the end of the input; 1 an error; 2 usage error.";
 
 static KINDS: [&str; 2] = ["ascii", "binary"];
 
+static TIMES: [&str; 2] = ["clock", "rate"];
+
 /// A required argument.
 fn word<'a>(alloc: Global, name: &'a str, help: &'a str) -> Arg<'a> {
     Arg::new(alloc, name).required(true).help(help)
@@ -51,7 +53,16 @@ fn program<'a>(alloc: Global) -> Result<Command<'a>, AllocError> {
         .bin_name("dfrd")
 }
 
-/// Adds `--kind`, `--raw` and `--start`.
+/// Adds `--wait` and `--no-wait`.
+fn with_pace<'a>(alloc: Global, command: Command<'a>) -> Result<Command<'a>, AllocError> {
+    let wait =
+        "Let the input wait, so that nothing is lost for want of speed (default: if it is a file)";
+    let no_wait = "Do not let the input wait, even if it is a file";
+    let one = with(command, flag(alloc, "wait", wait))?;
+    with(one, flag(alloc, "no-wait", no_wait))
+}
+
+/// Adds `--kind`, `--raw`, `--clip`, `--start`, `--time` and `--gap`.
 fn with_forms<'a>(alloc: Global, command: Command<'a>) -> Result<Command<'a>, AllocError> {
     let kind = choice(
         alloc,
@@ -65,14 +76,22 @@ fn with_forms<'a>(alloc: Global, command: Command<'a>) -> Result<Command<'a>, Al
         one,
         flag(alloc, "raw", "Read scans as frames of bytes, not as lines"),
     )?;
+    let clip = "With --raw, take a sample of -32768 as -32767, not as missing";
+    let two = with(two, flag(alloc, "clip", clip))?;
     let start =
         "The time of the first scan: now (default) or microseconds since 1970-01-01 00:00:00 UTC";
-    with(two, choice(alloc, "start", "START", start))
+    let three = with(two, choice(alloc, "start", "START", start))?;
+    let time = "Date records by the clock (default without --start) or by the rate alone";
+    let time = choice(alloc, "time", "TIME", time).value_parser(TIMES.as_slice());
+    let four = with(three, time)?;
+    let gap = "The most lost scans for a pause of the input (default 1000000)";
+    with(four, choice(alloc, "gap", "N", gap))
 }
 
-/// Adds `--orders`, `--health`, `--keep` and `--keep-bytes`.
+/// Adds `--orders`, `--health`, `--keep`, `--keep-bytes` and `--most`.
 fn with_paths<'a>(alloc: Global, command: Command<'a>) -> Result<Command<'a>, AllocError> {
-    let orders = "Read an operator's orders (`trigger`, `rules ..`) from a FIFO or a growing file";
+    let orders =
+        "Read an operator's orders (`trigger`, `rules ..`, `stop`) from a FIFO or a growing file";
     let orders = choice(alloc, "orders", "PATH", orders);
     let health = "Write the recording's health into FILE every ten seconds, for Prometheus";
     let one = with(
@@ -89,7 +108,9 @@ fn with_paths<'a>(alloc: Global, command: Command<'a>) -> Result<Command<'a>, Al
         ),
     )?;
     let bytes = "Keep at most this many bytes of records; delete the oldest";
-    with(two, choice(alloc, "keep-bytes", "BYTES", bytes))
+    let most = "Write at most N records for each hour; report each other one";
+    let three = with(two, choice(alloc, "keep-bytes", "BYTES", bytes))?;
+    with(three, choice(alloc, "most", "N", most))
 }
 
 /// Adds `--check`, `--quiet` and `--journal`.
@@ -116,7 +137,8 @@ fn with_names<'a>(alloc: Global, command: Command<'a>) -> Result<Command<'a>, Al
 pub(crate) fn dfrd<'a>(alloc: Global) -> Result<Command<'a>, AllocError> {
     let program = program(alloc)?.no_binary_name(true);
     let forms = with_forms(alloc, program)?;
-    let paths = with_paths(alloc, forms)?;
+    let pace = with_pace(alloc, forms)?;
+    let paths = with_paths(alloc, pace)?;
     let flags = with_flags(alloc, paths)?;
     with_names(alloc, flags)
 }

@@ -73,6 +73,9 @@ pub(crate) enum FileFault {
     /// The folder, after files were renamed or removed in it.
     #[error("cannot be synced: {0}")]
     Synced(Reason),
+    /// The folder, if it has data files without a configuration file.
+    #[error("data files without a .cfg are left as they are: {0}")]
+    Alone(u64),
     /// The configuration file of a pair that was removed for a new one.
     #[error("removed, as there is no space left for a new pair")]
     GivenUp,

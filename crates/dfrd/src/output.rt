@@ -2,8 +2,8 @@
 //! nobody reads holds up whoever writes.
 
 use crate::heard::Heard;
-use crate::level::{Level, level_of, what_of};
 use comtrade_values::put;
+use dfr_health::level_of;
 use dfr_station::{Event, Printer, now, put_event};
 use rtrb::{Consumer, Producer, RingBuffer};
 use std::alloc::{AllocError, Global};
@@ -49,10 +49,15 @@ pub(crate) struct Lines<'a, R> {
     missed: u64,
     /// The line that reports them.
     report: Vec<u8>,
-    /// Who hears of each line, printed or not.
+    /// The line that is printed.
+    line: Vec<u8>,
+    /// Who hears of each event, printed or not.
     heard: Arc<Heard, Global>,
     how: How,
 }
+
+/// Room for a line, so that printing doesn't allocate: a line has about 300 bytes.
+const LINE: usize = 512;
 
 /// How lines are printed.
 #[derive(Clone, Copy, Debug)]
@@ -84,50 +89,54 @@ pub(crate) fn lines_of<'a, R: AllocGlobal>(
         progress,
         given: 0,
         missed: 0,
-        report: Vec::new(rt.alloc()),
+        report: Vec::with_capacity(rt.alloc(), LINE)?,
+        line: Vec::with_capacity(rt.alloc(), LINE)?,
         heard: Arc::try_clone(heard)?,
         how,
     };
     Ok((lines, waiting, shared))
 }
 
-impl<R: Clock> Lines<'_, R> {
-    /// What a line of this level begins with.
-    fn prefix(&self, level: Level) -> &'static str {
-        if self.how.is_journal {
-            level.prefix()
-        } else {
-            ""
-        }
+/// Makes the line of an event.
+fn make_line(
+    line: &mut Vec<u8>,
+    is_journal: bool,
+    at: i64,
+    event: Event,
+) -> Result<(), AllocError> {
+    line.clear();
+    if is_journal {
+        put(line, level_of(event).prefix())?;
     }
+    put_event(line, at, event)
+}
 
+impl<R: Clock> Lines<'_, R> {
     /// Makes the line that reports missed lines, if there are any.
     fn make_report(&mut self) -> Result<(), AllocError> {
         self.report.clear();
         if self.missed == 0 {
             return Ok(());
         }
-        let prefix = self.prefix(Level::Loss);
-        put(&mut self.report, prefix)?;
-        put_event(&mut self.report, now(self.rt), Event::Missed(self.missed))
+        let missed = Event::Missed(self.missed);
+        make_line(&mut self.report, self.how.is_journal, now(self.rt), missed)
     }
 
-    /// Puts a line into the queue, after a report of the lines that were missed. If there is no room
+    /// Puts the line into the queue, after a report of the lines that were missed. If there is no room
     /// for both, the line is missed. Returns whether there was.
-    fn put(&mut self, prefix: &str, line: &[u8]) -> bool {
+    fn put(&mut self) -> bool {
         if self.make_report().is_err() {
             self.missed = self.missed.saturating_add(1);
             return false;
         }
         let first = self.report.len() as u64;
-        let second = (prefix.len() as u64).saturating_add(line.len() as u64);
+        let second = self.line.len() as u64;
         if (self.queue.slots() as u64) < first.saturating_add(second) {
             self.missed = self.missed.saturating_add(1);
             return false;
         }
         let _ = self.queue.push_entire_slice(&self.report);
-        let _ = self.queue.push_entire_slice(prefix.as_bytes());
-        let _ = self.queue.push_entire_slice(line);
+        let _ = self.queue.push_entire_slice(&self.line);
         self.given = self.given.saturating_add(first).saturating_add(second);
         self.missed = 0;
         true
@@ -137,7 +146,8 @@ impl<R: Clock> Lines<'_, R> {
     fn is_done(&mut self) -> bool {
         let missed = self.missed;
         if missed > 0 {
-            self.put("", &[]);
+            self.line.clear();
+            self.put();
         }
         if self.missed > missed {
             // there was no room for the report: it is no line that was missed
@@ -161,33 +171,26 @@ impl<R: Clock> Lines<'_, R> {
 }
 
 impl<R: Wait + Clock> Lines<'_, R> {
-    /// Prints a line, unless it is to be left out.
-    fn print_line(&mut self, line: &[u8]) {
-        let what = what_of(line);
-        self.heard.hear(self.rt, what);
-        if self.how.is_quiet && what.starts_with("minute ") {
-            return;
-        }
-        let prefix = self.prefix(level_of(what));
-        if !self.put(prefix, line) {
-            self.heard.miss_lines(self.rt, 1);
+    /// Prints an event's line. Returns whether there was memory and room for it.
+    fn is_printed(&mut self, at: i64, event: Event) -> bool {
+        match make_line(&mut self.line, self.how.is_journal, at, event) {
+            Ok(()) => self.put(),
+            Err(_) => {
+                self.missed = self.missed.saturating_add(1);
+                false
+            }
         }
     }
 }
 
 impl<R: Wait + Clock> Printer for Lines<'_, R> {
-    fn print(&mut self, text: &[u8]) {
-        let mut rest = text;
-        for _ in 0..text.len() {
-            if rest.is_empty() {
-                return;
-            }
-            let end = match rest.iter().position(|b| *b == b'\n') {
-                Some(at) => at.saturating_add(1),
-                None => rest.len(),
-            };
-            self.print_line(rest.get(..end).unwrap_or(&[]));
-            rest = rest.get(end..).unwrap_or(&[]);
+    fn print(&mut self, at: i64, event: Event) {
+        self.heard.hear(self.rt, event);
+        if self.how.is_quiet && matches!(event, Event::Minute { .. }) {
+            return;
+        }
+        if !self.is_printed(at, event) {
+            self.heard.hear(self.rt, Event::Missed(1));
         }
     }
 }

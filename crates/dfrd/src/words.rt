@@ -5,8 +5,11 @@ use crate::output::How;
 use clap::error::ErrorKind;
 use clap::{ArgMatches, Error};
 use comtrade_write::Kind;
-use dfr_station::Input;
+use dfr_station::{Input, Lowest};
 use std::alloc::{AllocError, Global};
+
+/// The most lost scans for a gap in the input, if nothing is said.
+const GAP: u32 = 1_000_000;
 
 /// A recording, or a check, as the command line asks for it.
 #[derive(Clone, Copy, Debug)]
@@ -22,6 +25,13 @@ pub struct Asked<'a> {
     /// The instant of scan 0 in microseconds since 1970-01-01 00:00:00 UTC. None if it is read from
     /// the clock when the first scan comes.
     pub start: Option<i64>,
+    /// Whether the input waits. None: if it is a file.
+    pub waits: Option<bool>,
+    /// Whether records have the dates of the clock, or the instants of scan 0 and the rate. None: if
+    /// the instant of scan 0 isn't given and the input doesn't wait.
+    pub dated: Option<bool>,
+    /// The most lost scans for a gap in the input.
+    pub gap: u32,
     /// The path of an operator's FIFO or file.
     pub orders: Option<&'a str>,
     /// The path of the file of the recording's health.
@@ -30,6 +40,8 @@ pub struct Asked<'a> {
     pub pairs: Option<u64>,
     /// The most bytes of records to keep. None if there is no such limit.
     pub bytes: Option<u64>,
+    /// The most records to write for each hour. None if there is no such limit.
+    pub most: Option<u64>,
     /// Only check the set-up and the folder.
     pub is_check: bool,
     /// Do not print a line each minute.
@@ -43,6 +55,14 @@ impl Asked<'_> {
     /// also where it isn't printed.
     pub(crate) fn has_minutes(&self) -> bool {
         !self.is_quiet || self.health.is_some()
+    }
+
+    /// Whether records have the dates of the clock, for an input that waits or doesn't.
+    pub(crate) fn has_dates(&self, waits: bool) -> bool {
+        match self.dated {
+            Some(dated) => dated,
+            None => self.start.is_none() && !waits,
+        }
     }
 
     /// How lines are printed.
@@ -89,6 +109,25 @@ fn start_of(found: &ArgMatches<'_>) -> Result<Option<i64>, ()> {
     }
 }
 
+/// Whether the clock dates the records, if that is said. An input that waits can't be dated by it: the
+/// error is the text of a usage error.
+fn dated_of(found: &ArgMatches<'_>, waits: Option<bool>) -> Result<Option<bool>, &'static str> {
+    match (found.get_str("time"), waits) {
+        (Some("clock"), Some(true)) => Err("error: --wait cannot be combined with --time clock\n"),
+        (Some("clock"), _) => Ok(Some(true)),
+        (Some(_), _) => Ok(Some(false)),
+        (None, _) => Ok(None),
+    }
+}
+
+/// The number given with `--gap`, a million without it. An error if it isn't a number.
+fn gap_of(found: &ArgMatches<'_>) -> Result<u32, ()> {
+    match found.get_str("gap") {
+        None => Ok(GAP),
+        Some(text) => text.parse::<u32>().map_err(|_| ()),
+    }
+}
+
 /// The kind of the data files, ASCII if it isn't given.
 fn kind_of(found: &ArgMatches<'_>) -> Kind {
     match found.get_str("kind") {
@@ -97,12 +136,23 @@ fn kind_of(found: &ArgMatches<'_>) -> Kind {
     }
 }
 
-/// The form of the input: frames with `--raw`, else lines.
-fn input_of(found: &ArgMatches<'_>) -> Input {
-    if found.get_flag("raw") {
-        Input::Frames
-    } else {
-        Input::Lines
+/// The form of the input: frames with `--raw`, else lines. The error is the text of a usage error.
+fn input_of(found: &ArgMatches<'_>) -> Result<Input, &'static str> {
+    match (found.get_flag("raw"), found.get_flag("clip")) {
+        (true, true) => Ok(Input::Frames(Lowest::Clipped)),
+        (true, false) => Ok(Input::Frames(Lowest::Missing)),
+        (false, true) => Err("error: --clip needs --raw\n"),
+        (false, false) => Ok(Input::Lines),
+    }
+}
+
+/// Whether the input waits, if that is said. The error is the text of a usage error.
+fn waits_of(found: &ArgMatches<'_>) -> Result<Option<bool>, &'static str> {
+    match (found.get_flag("wait"), found.get_flag("no-wait")) {
+        (true, true) => Err("error: --wait cannot be combined with --no-wait\n"),
+        (true, false) => Ok(Some(true)),
+        (false, true) => Ok(Some(false)),
+        (false, false) => Ok(None),
     }
 }
 
@@ -126,7 +176,16 @@ fn asked_of<'a>(found: &ArgMatches<'a>) -> Result<Asked<'a>, &'static str> {
     let Ok(start) = start_of(found) else {
         return Err("error: --start expects now or microseconds since 1970-01-01 00:00:00 UTC\n");
     };
+    let Ok(gap) = gap_of(found) else {
+        return Err("error: --gap expects a number of scans, at most 4294967295\n");
+    };
+    let input = input_of(found)?;
+    let waits = waits_of(found)?;
+    let dated = dated_of(found, waits)?;
     let (pairs, bytes) = kept_of(found)?;
+    let Ok(most) = count_of(found, "most") else {
+        return Err("error: --most expects a number of records, 1 or more\n");
+    };
     let (Some(setup), Some(folder)) = (found.get_str("SETUP"), found.get_str("DIR")) else {
         return Err("error: SETUP and DIR are required\n");
     };
@@ -134,12 +193,16 @@ fn asked_of<'a>(found: &ArgMatches<'a>) -> Result<Asked<'a>, &'static str> {
         setup,
         folder,
         kind: kind_of(found),
-        input: input_of(found),
+        input,
         start,
+        waits,
+        dated,
+        gap,
         orders: found.get_str("orders"),
         health: found.get_str("health"),
         pairs,
         bytes,
+        most,
         is_check: found.get_flag("check"),
         is_quiet: found.get_flag("quiet"),
         is_journal: found.get_flag("journal"),
