@@ -204,7 +204,8 @@ fn record_in<A: Allocator + Copy>(
 }
 
 /// The error for an unknown encoding.
-pub(crate) const NO_ENCODING: &str = "comtrade: --encoding expects utf-8 or latin1\n";
+pub(crate) const NO_ENCODING: &str = "comtrade: --encoding expects utf-8, latin1, windows-1251, \
+    windows-1252, cp437, cp850 or cp866\n";
 
 /// The file of a record, as `record_in`, with its texts spelled; None also for an unknown encoding,
 /// with the error in `said`.

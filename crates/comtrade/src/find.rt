@@ -1,7 +1,8 @@
 //! Finds the other file of a pair.
 
+use crate::ending::{Ending, WHOLE, folder_of, stem_of, without_ending};
 use crate::folder::{is_file, refuse_folder};
-use crate::{is_folder, message_on, out_of_memory, refuse};
+use crate::{is_folder, message_on, out_of_memory, read_named, refuse};
 use comtrade_io::{Names, put_safe};
 use comtrade_values::put;
 use std::alloc::{AllocError, Global};
@@ -13,74 +14,6 @@ use std::rt::Files;
 pub(crate) struct Pairing {
     pub(crate) cfg: String,
     pub(crate) dat: Option<String>,
-}
-
-/// The kind of a file, by its ending.
-#[derive(Clone, Copy, PartialEq, Eq)]
-enum Ending {
-    Cfg,
-    Dat,
-    /// Both in a single file.
-    Cff,
-    /// A description of a pair.
-    Hdr,
-    /// Further information on a pair.
-    Inf,
-}
-
-/// All kinds of files.
-const ENDINGS: [Ending; 5] = [
-    Ending::Cfg,
-    Ending::Cff,
-    Ending::Dat,
-    Ending::Hdr,
-    Ending::Inf,
-];
-
-impl Ending {
-    fn text(self) -> &'static str {
-        match self {
-            Ending::Cfg => ".cfg",
-            Ending::Dat => ".dat",
-            Ending::Cff => ".cff",
-            Ending::Hdr => ".hdr",
-            Ending::Inf => ".inf",
-        }
-    }
-}
-
-/// The name without its last four bytes, if these are the ending in upper or lower case.
-fn without_ending(name: &str, ending: Ending) -> Option<&str> {
-    let at = name.len().checked_sub(4)?;
-    let front = name.get(..at)?;
-    let back = name.get(at..)?;
-    if !front.is_empty() && !front.ends_with('/') && back.eq_ignore_ascii_case(ending.text()) {
-        Some(front)
-    } else {
-        None
-    }
-}
-
-/// The kind of a file and the name that the files of its record share. A name without an ending is
-/// that shared name.
-fn stem_of(name: &str) -> (Option<Ending>, &str) {
-    for ending in ENDINGS {
-        if let Some(stem) = without_ending(name, ending) {
-            return (Some(ending), stem);
-        }
-    }
-    (None, name)
-}
-
-/// The folder of a name, with its slash, and the rest.
-pub(crate) fn folder_of(name: &str) -> (&str, &str) {
-    match name.rsplit_once('/') {
-        Some((folder, file)) => match name.get(..folder.len().saturating_add(1)) {
-            Some(front) => (front, file),
-            None => ("", name),
-        },
-        None => ("", name),
-    }
 }
 
 /// How well a file of a folder fits this stem and ending: 0 is best, None if it does not fit.
@@ -177,19 +110,41 @@ fn refuse_partner<R: Eprint + AllocGlobal>(rt: &R, name: &str, ending: Ending) -
     None
 }
 
-/// The single file for a name that ends in .cff or has no ending.
+/// The byte-order mark of UTF-8.
+const MARK: &[u8] = b"\xef\xbb\xbf";
+
+/// The file that is a whole record, for a name without an ending.
 fn found_single<R: Files + AllocGlobal + Clone + Drop>(
     rt: &R,
     name: &str,
 ) -> Result<Option<Pairing>, AllocError> {
-    match file_for(rt, name, Ending::Cff)? {
-        Some(cfg) => Ok(Some(Pairing { cfg, dat: None })),
-        None => Ok(None),
+    for ending in WHOLE {
+        if let Some(cfg) = file_for(rt, name, ending)? {
+            return Ok(Some(Pairing { cfg, dat: None }));
+        }
+    }
+    Ok(None)
+}
+
+/// Whether a configuration file is a single file: it begins with a separator line.
+pub(crate) fn is_single_text(bytes: &[u8]) -> bool {
+    let text = match bytes.strip_prefix(MARK) {
+        Some(text) => text,
+        None => bytes,
+    };
+    text.trim_ascii_start().starts_with(b"---")
+}
+
+/// Whether the file of this name is a single file.
+fn is_single_file<R: Files + Input + AllocGlobal>(rt: &R, name: &str) -> bool {
+    match read_named(rt, name) {
+        Ok(bytes) => is_single_text(&bytes),
+        Err(_) => false,
     }
 }
 
 /// The files of a record by a name without an ending; None if one is missing, which is printed.
-fn found_by_stem<R: Files + Eprint + AllocGlobal + Clone + Drop>(
+fn found_by_stem<R: Files + Input + Eprint + AllocGlobal + Clone + Drop>(
     rt: &R,
     name: &str,
 ) -> Result<Option<Pairing>, AllocError> {
@@ -207,23 +162,27 @@ fn found_by_stem<R: Files + Eprint + AllocGlobal + Clone + Drop>(
 }
 
 /// The files of a record with this configuration file; None if there are no data, which is printed.
-fn found_data<R: Files + Eprint + AllocGlobal + Clone + Drop>(
+fn found_data<R: Files + Input + Eprint + AllocGlobal + Clone + Drop>(
     rt: &R,
     name: &str,
     cfg: String,
 ) -> Result<Option<Pairing>, AllocError> {
-    match file_for(rt, name, Ending::Dat)? {
-        Some(dat) => Ok(Some(Pairing {
-            cfg,
-            dat: Some(dat),
-        })),
-        None => Ok(refuse_partner(rt, name, Ending::Dat)),
+    let dat = match file_for(rt, name, Ending::DatGz)? {
+        Some(dat) if stem_of(name).0 == Some(Ending::DatGz) => Some(dat),
+        compressed => match file_for(rt, name, Ending::Dat)? {
+            Some(dat) => Some(dat),
+            None => compressed,
+        },
+    };
+    if dat.is_some() || is_single_file(rt, cfg.as_str()) {
+        return Ok(Some(Pairing { cfg, dat }));
     }
+    Ok(refuse_partner(rt, name, Ending::Dat))
 }
 
 /// The files of a record by one name; None if one is missing, which is printed. Standard input is a
 /// single file.
-fn found_pair<R: Files + Eprint + AllocGlobal + Clone + Drop>(
+fn found_pair<R: Files + Input + Eprint + AllocGlobal + Clone + Drop>(
     rt: &R,
     name: &str,
 ) -> Result<Option<Pairing>, AllocError> {
@@ -237,8 +196,9 @@ fn found_pair<R: Files + Eprint + AllocGlobal + Clone + Drop>(
     if !is_file(rt, name) {
         return Ok(None);
     }
-    if ending == Ending::Cff {
-        return found_single(rt, name);
+    if ending.is_whole() {
+        let cfg = String::from_str(rt.alloc(), name)?;
+        return Ok(Some(Pairing { cfg, dat: None }));
     }
     match file_for(rt, name, Ending::Cfg)? {
         Some(cfg) => found_data(rt, name, cfg),
@@ -247,7 +207,7 @@ fn found_pair<R: Files + Eprint + AllocGlobal + Clone + Drop>(
 }
 
 /// The names of both files; None if one is missing, which is printed.
-pub(crate) fn pairing_of<R: Files + Eprint + AllocGlobal + Clone + Drop>(
+pub(crate) fn pairing_of<R: Files + Input + Eprint + AllocGlobal + Clone + Drop>(
     rt: &R,
     names: Names<'_>,
 ) -> Option<Pairing> {

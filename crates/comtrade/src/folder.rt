@@ -8,12 +8,14 @@ use std::alloc::{AllocError, Global};
 use std::fs;
 use std::rt::Files;
 
-/// Whether a name is that of a configuration file or a single file.
+/// Whether a name is that of a configuration file, a single file or a compressed single file.
 fn is_cfg(name: &[u8]) -> bool {
     match name {
         [_, .., dot, a, b, c] => {
             let ending = [*dot, *a, *b, *c];
-            ending.eq_ignore_ascii_case(b".cfg") || ending.eq_ignore_ascii_case(b".cff")
+            ending.eq_ignore_ascii_case(b".cfg")
+                || ending.eq_ignore_ascii_case(b".cff")
+                || ending.eq_ignore_ascii_case(b".cfz")
         }
         _ => false,
     }
@@ -44,7 +46,7 @@ fn entries_of<R: Files + AllocGlobal>(rt: &R, folder: &str) -> Result<Vec<u8>, T
     }
 }
 
-/// Adds the configuration files and single files of a folder, sorted by name.
+/// Adds the records of a folder, sorted by name.
 fn add_folder<R: Files + AllocGlobal>(
     rt: &R,
     folder: &str,

@@ -1,7 +1,10 @@
 //! Reads the files of the record that the arguments name.
 
+use crate::container::{
+    Contained, ContainerFault, decompressed, is_archive, is_compressed, record_in, unpacked,
+};
 use crate::find::{Pairing, pairing_of};
-use crate::{complain, read_named};
+use crate::{LIMIT, complain, out_of_memory, read_named, say};
 use comtrade_diagnostics::{ImportFault, Note, Pair};
 use comtrade_io::{Names, ToolFault, put_safe};
 use comtrade_values::put;
@@ -46,15 +49,43 @@ pub(crate) fn pair_of(inputs: &Inputs) -> Pair<'_> {
     }
 }
 
-/// Reads a file; None if that fails, which is printed.
+/// What came out of an archive or a compressed file; None if nothing did, and why is printed.
+fn taken<R: Eprint + AllocGlobal, T: Drop>(rt: &R, found: Result<T, ContainerFault>) -> Option<T> {
+    match found {
+        Ok(found) => return Some(found),
+        Err(ContainerFault::Said(lines)) => say(rt, &lines),
+        Err(ContainerFault::Memory) => {
+            out_of_memory(rt);
+        }
+    }
+    None
+}
+
+/// Reads a file, decompressed if its name ends in `.gz`; None if that fails, which is printed.
 fn read_input<R: Files + Input + Eprint + AllocGlobal>(rt: &R, name: &str) -> Option<Vec<u8>> {
     match read_named(rt, name) {
-        Ok(bytes) => Some(bytes),
+        Ok(bytes) => taken(rt, unpacked(rt.alloc(), shown(name), bytes, LIMIT)),
         Err(fault) => {
             complain(rt, shown(name), fault);
             None
         }
     }
+}
+
+/// The record in a file that is a whole one: an archive, or a single file, maybe compressed.
+fn whole_record<R: Eprint + AllocGlobal>(rt: &R, names: Pairing, bytes: Vec<u8>) -> Option<Inputs> {
+    let name = shown(names.cfg.as_str());
+    if is_archive(&bytes) {
+        let Contained { names, cfg, dat } = taken(rt, record_in(rt.alloc(), name, &bytes, LIMIT))?;
+        return Some(Inputs { names, cfg, dat });
+    }
+    let cfg = if is_compressed(&bytes) {
+        taken(rt, decompressed(rt.alloc(), name, &bytes, LIMIT))?
+    } else {
+        bytes
+    };
+    let dat = Vec::new(rt.alloc());
+    Some(Inputs { names, cfg, dat })
 }
 
 /// Reads the files of a record; None if that fails, which is printed.
@@ -66,7 +97,7 @@ pub(crate) fn read_inputs<R: Files + Input + Eprint + AllocGlobal + Clone + Drop
     let cfg = read_input(rt, names.cfg.as_str())?;
     let dat = match &names.dat {
         Some(name) => read_input(rt, name.as_str())?,
-        None => Vec::new(rt.alloc()),
+        None => return whole_record(rt, names, cfg),
     };
     Some(Inputs { names, cfg, dat })
 }

@@ -5,7 +5,9 @@
 
 mod around;
 mod compare;
+mod container;
 mod content;
+mod ending;
 mod extract;
 mod find;
 mod folder;
