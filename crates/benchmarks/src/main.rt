@@ -7,10 +7,13 @@
 //! `benchmarks soak WAY SEED LANE SEATS THREADS ROUNDS` reads a script and runs a recorder by chance, with calls that are refused memory,
 //! and prints what each thread saw and what the end left. WAY is `free` (all threads at once), `orderly` (first the scans, then
 //! the calls) or `station` (`run_live`, whose feed and sink may fail). `bench/soak` makes the scripts and judges.
+//!
+//! `benchmarks clock` follows a clock by lines of standard input; `bench/clock.py` makes them and judges.
 #![tactic(auto)]
 
 mod amount;
 mod calls;
+mod clock;
 mod live;
 mod maker;
 mod numbers;
@@ -25,6 +28,7 @@ use std::env::Args;
 #[derive(Clone, Copy)]
 enum Work {
     Calls,
+    Clock,
     Live,
     Soak,
 }
@@ -32,6 +36,7 @@ enum Work {
 fn work_of(word: &str) -> Option<Work> {
     match word {
         "calls" => Some(Work::Calls),
+        "clock" => Some(Work::Clock),
         "live" => Some(Work::Live),
         "soak" => Some(Work::Soak),
         _ => None,
@@ -53,7 +58,8 @@ fn runs_of(words: &mut Args) -> Result<Option<u32>> {
 fn main(rt: HostRuntime) -> Result<()> {
     let mut words = env::args(&rt)?;
     let _program = words.next();
-    match first_word(&mut words).context("calls, live or soak")? {
+    match first_word(&mut words).context("calls, clock, live or soak")? {
+        Work::Clock => clock::follow(&rt),
         Work::Calls => calls::measure(&rt, Amount::of(runs_of(&mut words)?)),
         Work::Live => live::measure(&rt, Amount::of(runs_of(&mut words)?)),
         Work::Soak => soak::soak(&rt, &mut words),

@@ -1,5 +1,6 @@
 //! Detectors by worked examples: computed by hand, and the sag by numpy.
 
+mod frequency;
 mod random;
 
 use dfr_channels::{Reading, Scan};
@@ -105,8 +106,9 @@ fn residual(rt: HostRuntime) {
     assert!(rt; is_text(&found, "01001001"));
 }
 
-/// The status bits of two scans of two channels, with the bits of two detectors.
-fn two_scans(alloc: Global) -> Option<(Vec<bool>, Vec<bool>)> {
+/// The status bits of scans of two channels, with the bits of two detectors. A lost scan comes before
+/// the last one.
+fn three_scans(alloc: Global) -> Option<(Vec<bool>, Vec<bool>, Vec<bool>)> {
     let mut list = Vec::new(alloc);
     list.push(detector(alloc, settings(Condition::RmsOver, 1, 10), &[0])?)
         .ok()?;
@@ -121,14 +123,20 @@ fn two_scans(alloc: Global) -> Option<(Vec<bool>, Vec<bool>)> {
     detectors
         .step(&[Reading::Value(0), Reading::Value(5)], &mut second)
         .ok()?;
-    Some((first, second))
+    detectors.lose();
+    let mut last = Vec::from_slice(alloc, &[true]).ok()?;
+    detectors
+        .step(&[Reading::Value(10), Reading::Value(20)], &mut last)
+        .ok()?;
+    Some((first, second, last))
 }
 
 #[test]
 fn status_bits(rt: HostRuntime) {
-    let found = match two_scans(rt.alloc()) {
-        Some((first, second)) => first.as_slice() == [true, true, false].as_slice()
-            && second.as_slice() == [false, false, true].as_slice(),
+    let found = match three_scans(rt.alloc()) {
+        Some((first, second, last)) => first.as_slice() == [true, true, false].as_slice()
+            && second.as_slice() == [false, false, true].as_slice()
+            && last.as_slice() == [true, true, false].as_slice(),
         None => false,
     };
     assert!(rt; found);

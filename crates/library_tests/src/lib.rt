@@ -28,9 +28,13 @@ macro_rules! is_some_and {
 #[cfg(test)]
 mod allocator_counts;
 #[cfg(test)]
+mod analysis;
+#[cfg(test)]
 mod bay;
 #[cfg(test)]
 mod channels;
+#[cfg(test)]
+mod clock;
 #[cfg(test)]
 mod detectors;
 #[cfg(test)]
@@ -45,6 +49,8 @@ mod recorder;
 mod refused;
 #[cfg(test)]
 mod samples;
+#[cfg(test)]
+mod set_ups;
 #[cfg(test)]
 mod steps;
 #[cfg(test)]

@@ -6,9 +6,8 @@ use crate::live::stations::station::{Hasty, Kept, SETUP, Seen, is_told, nothing_
 use crate::refused::common::Heap;
 use crate::streams::Pieces;
 use dfr_live::{EndFault, OpenFault};
-use dfr_station::{
-    Input, Key, Recorded, RunFault, SetupRefusal, Store, Stored, Trouble, recorder_of,
-};
+use dfr_setup::{SetupRefusal, prepared_of};
+use dfr_station::{Input, Key, Lowest, Recorded, RunFault, Store, Stored, Trouble};
 use failing_allocator::Refusing;
 use std::alloc::{Allocator, Global};
 use std::sync::Wait;
@@ -43,7 +42,7 @@ struct Feed<'a> {
 
 /// As frames: the record closes before the end.
 const WHOLE: Feed<'static> = Feed {
-    form: Input::Frames,
+    form: Input::Frames(Lowest::Missing),
     bytes: FRAMES,
     end: b" end scans 8 lost ",
     missing: 3,
@@ -178,7 +177,14 @@ fn no_memory_at_the_end(rt: HostRuntime) {
         size: 1000,
         fault: None,
     };
-    let (left, _store) = recorded(&hasty, &heap, Input::Frames, input, store, &mut told);
+    let (left, _store) = recorded(
+        &hasty,
+        &heap,
+        Input::Frames(Lowest::Missing),
+        input,
+        store,
+        &mut told,
+    );
     let fault = left.err();
     assert!(rt; fault == Some(RunFault::End(EndFault::Memory)));
     assert!(rt; is_told(&told, b" end scans 7 lost 2 records 1 left "));
@@ -187,7 +193,7 @@ fn no_memory_at_the_end(rt: HostRuntime) {
 /// A set-up whose nth allocation is refused: whether it had as many; None where that isn't said.
 fn is_set_up(heap: Heap, n: u64) -> Option<bool> {
     heap.refuse(n);
-    let made = match recorder_of(heap, SETUP, 0) {
+    let made = match prepared_of(heap, SETUP, 0) {
         Ok(_) => true,
         Err(SetupRefusal::Memory) => false,
         Err(_) => return None,

@@ -2,7 +2,7 @@
 
 use crate::live::stations::station::{Seen, is_told, nothing_seen, recorded};
 use crate::streams::Pieces;
-use dfr_station::Input;
+use dfr_station::{Input, Lowest};
 use std::alloc::Global;
 use std::sync::Wait;
 use std::thread::Threads;
@@ -53,7 +53,11 @@ fn is_recorded<R: Threads + Wait + Clock + Sync>(
 #[test]
 fn frames_in_pieces(rt: HostRuntime) {
     for size in [1usize, 3, 4, 5, 31, 1000] {
-        let frames = (Input::Frames, FRAMES, b" range 0\n".as_slice());
+        let frames = (
+            Input::Frames(Lowest::Missing),
+            FRAMES,
+            b" range 0\n".as_slice(),
+        );
         assert!(rt; is_recorded(&rt, rt.alloc(), frames, size, 0), "{size}");
     }
 }
@@ -69,6 +73,10 @@ fn lines_in_pieces(rt: HostRuntime) {
 /// A store that takes nothing twice is asked again.
 #[test]
 fn a_store_in_trouble(rt: HostRuntime) {
-    let frames = (Input::Frames, FRAMES, b" trouble full\n".as_slice());
+    let frames = (
+        Input::Frames(Lowest::Missing),
+        FRAMES,
+        b" trouble full\n".as_slice(),
+    );
     assert!(rt; is_recorded(&rt, rt.alloc(), frames, 1000, 2));
 }

@@ -3,10 +3,10 @@
 
 use crate::streams::Pieces;
 use comtrade_write::Kind;
-use dfr_recorder::Recorder;
+use dfr_setup::{Prepared, prepared_of};
 use dfr_station::{
-    First, Input, Key, Printer, Recorded, Run, RunFault, Station, Store, Stored, Trouble,
-    finish_station, read_first, recorder_of, run_station,
+    Event, First, Input, Key, Printer, Recorded, Run, RunFault, Station, Store, Stored, Trouble,
+    finish_station, put_event, read_first, run_station,
 };
 use std::alloc::{Allocator, Global};
 use std::io;
@@ -80,8 +80,8 @@ pub struct Told {
 }
 
 impl Printer for Told {
-    fn print(&mut self, text: &[u8]) {
-        let _ = self.text.extend_from_slice(text);
+    fn print(&mut self, at: i64, event: Event) {
+        let _ = put_event(&mut self.text, at, event);
     }
 }
 
@@ -121,13 +121,24 @@ pub fn nothing_seen(alloc: Global, troubles: u32) -> Seen {
     }
 }
 
-fn station_of<A: Allocator>(recorder: Recorder<A>, form: Input) -> Station<A> {
+fn station_of<A: Allocator>(prepared: Prepared<A>, form: Input) -> Station<A> {
+    let Prepared {
+        recorder,
+        inputs,
+        plans,
+        detectors,
+    } = prepared;
+    drop(plans);
     Station {
         recorder,
+        inputs,
+        detectors,
         input: form,
         kind: Kind::Ascii,
         minutes: false,
         operator: None,
+        waits: false,
+        gap: 0,
     }
 }
 
@@ -138,12 +149,15 @@ fn begun<A: Allocator + Copy + Send + Sync, R: Threads + Wait + Clock + Sync>(
     form: Input,
     input: &mut Pieces<'_>,
     printer: &mut (impl Printer + Send),
-) -> Option<(First<A>, Recorder<A>)> {
+) -> Option<(First<A>, Prepared<A>)> {
     match read_first(rt, alloc, input, printer, (form, FRAME, false)) {
-        Ok(first) => match recorder_of(alloc, SETUP, 0) {
-            Ok(recorder) => Some((first, recorder)),
-            Err(_) => None,
-        },
+        Ok(mut first) => {
+            first.clocks = None;
+            match prepared_of(alloc, SETUP, 0) {
+                Ok(prepared) => Some((first, prepared)),
+                Err(_) => None,
+            }
+        }
         Err(_) => None,
     }
 }
@@ -161,10 +175,10 @@ pub fn recorded<
     store: K,
     printer: &mut (impl Printer + Send),
 ) -> (Result<Recorded<A>, RunFault>, K) {
-    let Some((first, recorder)) = begun(rt, alloc, form, &mut input, printer) else {
+    let Some((first, prepared)) = begun(rt, alloc, form, &mut input, printer) else {
         return (Err(RunFault::Memory), store);
     };
-    let station = station_of(recorder, form);
+    let station = station_of(prepared, form);
     let Run {
         recorded,
         input: _,
