@@ -6,7 +6,7 @@ folder=$work/records
 mkdir "$folder"
 trap 'rm -rf "$work"' EXIT
 names() { (cd "$folder" && printf '%s\n' *); }
-told() { cut -d" " -f2- | grep -v "^shelf" | sed "s/ clock [-+][0-9.]*//"; }
+told() { cut -d" " -f2- | grep -v "^shelf" | sed "s/ clock [-+][0-9.]*\( offset [-+][0-9.]*\( drift [-+][0-9.]*\)\?\)\?//"; }
 # each line `READINGS/GROUPS` of numbers becomes a frame of them, two bytes each
 frames() { python3 -c '
 import struct, sys

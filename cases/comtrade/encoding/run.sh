@@ -22,6 +22,11 @@ said list --encoding latin1 "$folder/latin.cfg"
 said list --encoding ebcdic "$folder/latin.cfg"
 said list "$folder/utf8.cfg"
 said convert --kind binary --encoding latin1 "$folder/latin" "$folder/new"
+# every letter of each code page, in names of 32 bytes, as Python's own tables have it
+for page in latin1 windows-1251 windows-1252 cp437 cp850 cp866; do
+    python3 files/code_pages.py write "$folder/$page" "$page"
+    "$comtrade" csv --encoding "$page" "$folder/$page" | head -n 1 | python3 files/code_pages.py compare "$page"
+done
 # a picture: names, and lines of a long one, cut between characters
 "$comtrade" plot "$folder/utf8" | grep -o '>[^<]*\(ü\|ö\|Ω\)[^<]*<'
 "$comtrade" plot --encoding latin1 "$folder/latin" | grep -o '>[^<]*\(ö\|ß\)[^<]*<'

@@ -16,4 +16,4 @@ age
 # the clock of a record is the wall clock against the time of the newest scan that was read with it
 { cat "$work/scans"; echo trigger; printf 'scan 1/\nscan 2/\nscan 3/\n'; } > "$work/all"
 once < "$work/all"
-grep -o ' record 1 .* manual\| clock .*' "$work/told"
+grep -o ' record 1 .* manual\| clock [^ ]*' "$work/told"

@@ -4,7 +4,7 @@ for n in 1 2 3 4 5; do
     cp files/first.cfg "$folder/2000010${n}T000000.000000-$n.cfg"; cp files/first.dat "$folder/2000010${n}T000000.000000-$n.dat"
 done
 cd "$folder" || exit
-mkdir 20000101T000000.000000-1.cfg.gone                                   # its removal can't begin
+mkdir 20000101T000000.000000-1.cfg.gone                                   # its removal can't begin, as is said at the start
 rm 20000102T000000.000000-2.dat; mkdir 20000102T000000.000000-2.dat       # it can't go on
 mv 20000104T000000.000000-4.cfg{,.gone}                                   # nor here, where it was cut off
 rm 20000104T000000.000000-4.dat; mkdir 20000104T000000.000000-4.dat

@@ -4,7 +4,7 @@
 shown() { # the values of a health file, those of the time as whether they are plausible; its form by promtool, if that is there
     ! type -P promtool > "$work/which" || promtool check metrics < "$1" 2>&1
     awk '/^# HELP/ { helped[$3] = 1 } /^# TYPE/ { typed[$3] = 1 } /^[^#]/ { sub(/{.*/, "", $1); if (!helped[$1] || !typed[$1]) print $1 ": no help or type" }' "$1"
-    sed '/^#/d; s/version="[0-9.]*"/version="V"/' "$1" |
+    sed '/^#/d; s/version="[0-9.]*"/version="V"/; s/{station="Bay 1"/{station="S"/' "$1" |
         awk '/_age_/ { print $1, ($2 < 10 ? "young" : $2 < 60 ? "old" : $2); next } /_clock_/ { print $1, ($2 > 1.7e9 ? "of 1970" : $2); next } 1'
 }
 until_file() { for _ in $(seq 800); do grep -qs "$2" "$1" && return; sleep 0.05; done; echo "not written: $2"; }

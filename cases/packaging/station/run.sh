@@ -29,7 +29,7 @@ until_opened() { # the operator asks again as long as there is no scan yet
     done
     echo "no trigger is taken: $(tail -n 1 "$log")"
 }
-ended() { wait "$pid"; echo "status $?"; cut -d' ' -f2- "$log" | grep "$1" | sed 's/[0-9][0-9.T-]*-1\.\(cfg\|dat\)/NAME.\1/g; s/[0-9][0-9]*/N/g; s/ clock [-+N.]*//'; }
+ended() { wait "$pid"; echo "status $?"; cut -d' ' -f2- "$log" | grep "$1" | sed 's/[0-9][0-9.T-]*-1\.\(cfg\|dat\)/NAME.\1/g; s/[0-9][0-9]*/N/g; s/ clock [-+N.]*\( offset [-+N.]*\( drift [-+N.]*\)\?\)\?//'; }
 pairs() { (cd "$DFRD_ROOT/var/lib/dfrd/$name" && ls) | sed 's/.*\././'; }
 
 echo "== a command; an operator's record is open when the station is stopped"
