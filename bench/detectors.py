@@ -6,11 +6,13 @@
   judge LINES BITS  compares bits, one line for each history, with the definitions; the status is 1 if one differs
 
 A line: condition, scans, level, reset level, row, how many channels, their numbers; then each scan, its readings with commas
-between them, `-` where one is missing, `L` for a lost scan.
+between them, `-` where one is missing, `L` for a lost scan. The condition of a frequency has three numbers more, with colons:
+`faster:CYCLES:RATE:LEAST`, and so have `slower` and `drifts`.
 """
 import math
 import random
 import sys
+from fractions import Fraction
 
 SPAN = {"over": lambda n: n, "under": lambda n: n, "change": lambda n: n + 1, "jump": lambda n: 2 * n + 1}
 
@@ -27,9 +29,42 @@ def since_gap(history):
     return history[gaps[-1] + 1:] if gaps else history
 
 
+UNIT = 65536  # parts of a scan
+
+
+def crossings(samples, least):
+    """When each counted crossing was, in parts of a scan since the first sample, the latest first."""
+    found = []
+    for k in range(1, len(samples)):
+        half_wave = k
+        while half_wave > 0 and samples[half_wave - 1] < 0:
+            half_wave -= 1
+        if samples[k] >= 0 and half_wave < k and min(samples[half_wave:k]) <= -least:
+            found.insert(0, k * UNIT - UNIT * samples[k] // (samples[k] - samples[k - 1]))
+    return found
+
+
+def frequency_holds(condition, n, level, samples):
+    """Frequencies as fractions of whole numbers, in mHz."""
+    kind, cycles, rate, least = condition.split(":")[0], *map(int, condition.split(":")[1:])
+    when = crossings(samples, least)
+    needed = 2 * cycles if kind == "drifts" else cycles
+    now = (len(samples) - 1) * UNIT
+    if len(when) <= needed or now - when[needed] > n * UNIT:
+        return False
+    newer = Fraction(1000 * cycles * rate * UNIT, when[0] - when[cycles])
+    if kind != "drifts":
+        return newer >= level if kind == "faster" else newer <= level
+    older = Fraction(1000 * cycles * rate * UNIT, when[cycles] - when[2 * cycles])
+    middles = Fraction(when[0] + when[cycles], 2) - Fraction(when[cycles] + when[2 * cycles], 2)
+    return abs(newer - older) / (middles / UNIT / rate) >= level
+
+
 def holds(condition, n, level, history):
     """Whether the level is met at the last sample of a history."""
     samples = since_gap(history)
+    if ":" in condition:
+        return frequency_holds(condition, n, level, samples)
     if len(samples) < SPAN[condition](n):
         return False
     last = samples[len(samples) - SPAN[condition](n):]
@@ -81,6 +116,17 @@ def wave(rng, length, kind):
     return found, size
 
 
+def frequency(rng, size):
+    """A test of the frequency, with a level near that of the waves."""
+    kind, cycles, rate = rng.choice(["faster", "slower", "drifts"]), rng.choice([1, 1, 2, 3]), rng.choice([50, 1000, 4800, 1000000])
+    least = rng.choice([1, 1, max(1, size // 10), max(1, size)])
+    level = max(1, int(1000 * rate / rng.uniform(2.5, 21)))
+    if kind == "drifts":
+        level = min(2**31, max(1, int(level * rate * rng.choice([0.0001, 0.001, 0.01, 0.1]))))
+    reset = level if rng.random() < 0.4 else max(1, int(level * (rng.uniform(1, 1.1) if kind == "slower" else rng.uniform(0.9, 1))))
+    return f"{kind}:{cycles}:{rate}:{least}", rng.choice([5, 10, 30, 60]), level, reset
+
+
 def history(rng):
     length, width = rng.randint(1, 70), rng.randint(1, 4)
     kind = rng.choice(["noise", "steps", "sine", "saturated"])
@@ -98,6 +144,8 @@ def history(rng):
     level = max(1, int(rng.choice([0.1, 0.3, 0.5, 0.7, 1, 2]) * max(s for _, s in waves)))
     reset = level if rng.random() < 0.4 else max(1, int(level * (rng.uniform(1, 2) if condition == "under" else rng.uniform(0, 1))))
     row = rng.choice([1, 1, 2, 3, 7])
+    if rng.random() < 0.4:
+        condition, n, level, reset = frequency(rng, max(s for _, s in waves))
     return " ".join([condition, *map(str, [n, level, reset, row, len(channels), *channels]), *words])
 
 
@@ -138,7 +186,17 @@ def examples():
     for condition, level in (("change", int(change.max())), ("jump", int(jump.max()))):
         fires = [any(bits(condition, 20, at, at, 1, slow.tolist())) for at in (level, level + 1)]
         print(f"  {condition} of {level} and of {level + 1}: {fires}")
-    return first != ours.index(True)
+    differ = first != ours.index(True)
+    for hertz in (47.3, 50.0, 50.02, 61.9):
+        tone = np.round(10000 * np.sin(2 * np.pi * hertz * np.arange(1200) / 4000 + 1)).astype(int).tolist()
+        when = crossings(tone, 1)
+        ours = [1000 * cycles * 4000 * UNIT / (when[0] - when[cycles]) for cycles in (1, 5)]
+        print(f"  a wave of {hertz} Hz at 4000 scans a second: {[round(f, 2) for f in ours]} mHz over 1 and 5 cycles")
+        differ |= any(abs(f - 1000 * hertz) > 1 for f in ours)
+    ramp = np.round(10000 * np.sin(2 * np.pi * (50 * np.arange(4000) / 4000 + 0.5 * (np.arange(4000) / 4000) ** 2))).astype(int).tolist()
+    fires = [frequency_holds("drifts:5:4000:1", 1200, level, ramp[:3000]) for level in (950, 1050)]
+    print(f"  50 Hz and 1 Hz a second more: a change of 950 and of 1050 mHz a second: {fires}")
+    return differ or fires != [True, False]
 
 
 if __name__ == "__main__":

@@ -35,12 +35,20 @@ def impl_at(text, place):
 
 
 def type_of(head):
-    """What the prover calls the type of an `impl`: `<A> Iterator for Lines<A> where ..` is LinesIterator."""
+    """What the prover calls the type of an `impl`: `<A> Iterator for Lines<A> where ..` is LinesIterator, `Outlet<Recording> for Exports` is
+    ExportsOutletRecording."""
     plain, was = head.partition(" where ")[0].partition("\nwhere")[0], ""
     while plain != was:
         plain, was = re.sub(r"<[^<>]*>", "", plain.replace("->", "")), plain
     words = [re.sub(r"[^\w]", "", it.rpartition("::")[2]) for it in plain.split(" for ")]
-    return "".join(reversed(words))
+    return "".join(reversed(words)) + "".join(types_in_trait(head))
+
+
+def types_in_trait(head):
+    """The types that the trait of an `impl` is over, but for its own parameters: `<A> Intake<A, Recording> for Feed<A>` has Recording."""
+    trait = re.match(r"\s*(?:<(.*?)>\s+)?\w+<([^<>]*)>\s+for\s", head, re.S)
+    own = set(re.findall(r"\w+", trait[1] or "")) if trait else set()
+    return [it.strip() for it in trait[2].split(",") if it.strip() not in own and not it.strip().startswith("'")] if trait else []
 
 
 def without_bodies(crate, folder, functions):

@@ -96,7 +96,7 @@ _comtrade() {
     word=''
     if [ -n "$option" ]; then
         case $option in
-        --encoding) word='utf-8 latin1' ;;
+        --encoding) word='utf-8 latin1 windows-1251 windows-1252 cp437 cp850 cp866' ;;
         --by) word='instant trigger' ;;
         --kind) word='ascii binary' ;;
         --dates) word='mdy dmy' ;;

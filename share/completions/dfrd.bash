@@ -5,9 +5,9 @@ _dfrd() {
     local i word
     COMPREPLY=()
     [ "$cur" != = ] || cur=''
-    flags='--kind --raw --start --orders --health --keep --keep-bytes --check --quiet --journal -h
-           --help -V --version'
-    valued='--kind --start --orders --health --keep --keep-bytes'
+    flags='--kind --raw --clip --start --time --gap --wait --no-wait --orders --health --keep
+           --keep-bytes --most --check --quiet --journal -h --help -V --version'
+    valued='--kind --start --time --gap --orders --health --keep --keep-bytes --most'
     places=(files folders)
     for ((i = first; i < COMP_CWORD; i++)); do
         word=${COMP_WORDS[i]} option=''
@@ -26,6 +26,7 @@ _dfrd() {
         case $option in
         --kind) word='ascii binary' ;;
         --start) word='now' ;;
+        --time) word='clock rate' ;;
         --orders) return ;;
         --health) return ;;
         *) compopt +o default 2> /dev/null; return ;;

@@ -6,7 +6,7 @@ function __dfrd_at
     set -e words[1]
     set -l place 0
     while set -q words[1]
-        if contains -- $words[1] --kind --start --orders --health --keep --keep-bytes
+        if contains -- $words[1] --kind --start --time --gap --orders --health --keep --keep-bytes --most
             set -e words[1]
         else if not string match -q -- '-*' $words[1]
             set place (math $place + 1)
@@ -19,11 +19,17 @@ end
 complete -c dfrd -f
 complete -c dfrd -l kind -x -a 'ascii binary' -d 'The form of the data files; ascii if not given'
 complete -c dfrd -l raw -d 'Read scans as frames of bytes, not as lines'
+complete -c dfrd -l clip -d 'With --raw, take a sample of -32768 as -32767, not as missing'
 complete -c dfrd -l start -x -a 'now' -d 'The time of the first scan: now (default) or microseconds since 1970-01-01 00:00:00 UTC'
-complete -c dfrd -l orders -r -F -d 'Read an operator\'s orders (`trigger`, `rules ..`) from a FIFO or a growing file'
+complete -c dfrd -l time -x -a 'clock rate' -d 'Date records by the clock (default without --start) or by the rate alone'
+complete -c dfrd -l gap -x -d 'The most lost scans for a pause of the input (default 1000000)'
+complete -c dfrd -l wait -d 'Let the input wait, so that nothing is lost for want of speed (default: if it is a file)'
+complete -c dfrd -l no-wait -d 'Do not let the input wait, even if it is a file'
+complete -c dfrd -l orders -r -F -d 'Read an operator\'s orders (`trigger`, `rules ..`, `stop`) from a FIFO or a growing file'
 complete -c dfrd -l health -r -F -d 'Write the recording\'s health into FILE every ten seconds, for Prometheus'
 complete -c dfrd -l keep -x -d 'Keep at most N records; delete the oldest'
 complete -c dfrd -l keep-bytes -x -d 'Keep at most this many bytes of records; delete the oldest'
+complete -c dfrd -l most -x -d 'Write at most N records for each hour; report each other one'
 complete -c dfrd -l check -d 'Check SETUP and DIR, then exit'
 complete -c dfrd -l quiet -d 'Do not print a line each minute'
 complete -c dfrd -l journal -d 'Begin each line with its syslog level, as <6>, for journald'
