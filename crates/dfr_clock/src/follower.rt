@@ -120,13 +120,12 @@ impl Follower {
     }
 
     /// How many lost scans stand for a gap before a reading.
-    fn lost_at(&self, settings: &Settings, reading: Reading, jump: Option<Jump>) -> u128
+    fn lost_at(&self, settings: &Settings, reading: Reading, jump: Option<Jump>) -> u32
         requires settings { Fits settings.now }
         requires sound { IsSound settings.now self.now }
         requires scans { 1 ≤ reading.scans }
         requires jump { jump ≡ jump_at settings.now self.now reading }
-        ensures value { result ≡ lost_at settings.now self.now reading }
-        ensures bound { result ≤ 2 ^ 32 }
+        ensures { result ≡ lost_at settings.now self.now reading }
     {
         let newest = place(settings.rate, u128::from(reading.scans - 1));
         let due = self.course.instant(settings.window, newest);
@@ -140,16 +139,16 @@ impl Follower {
         &self,
         settings: &Settings,
         reading: Reading,
-        lost: u128,
+        lost: u32,
         jump: Option<Jump>,
     ) -> Follower
         requires settings { Fits settings.now }
         requires sound { IsSound settings.now self.now }
         requires scans { 1 ≤ reading.scans }
-        requires lost { lost ≤ 2 ^ 32 }
         ensures value { result ≡ begun_again settings.now self.now reading lost jump }
         ensures sound { IsSound settings.now result }
     {
+        let lost = u128::from(lost);
         let newest = u128::from(reading.scans - 1) + lost;
         match jump {
             None => {
@@ -204,7 +203,7 @@ impl Follower {
             .course
             .instant(settings.window, place(settings.rate, u128::from(scans)));
         let lost = lost_between(settings, settings.late, due, instant);
-        let scans = u128::from(scans) + lost;
+        let scans = u128::from(scans) + u128::from(lost);
         let at = place(settings.rate, scans);
         let era = if instant < due { at } else { self.course.era };
         Turn {

@@ -25,16 +25,19 @@ pub(crate) fn jump_between(step: u32, clock: u128, mono: u128) -> Option<Jump>
 
 /// How many lost scans stand for a gap, if the newest scan was due at an instant and the clock shows
 /// another: those of the time between, if that is more than the limit.
-pub(crate) fn lost_between(settings: &Settings, limit: u32, due: u128, clock: u128) -> u128
+pub(crate) fn lost_between(settings: &Settings, limit: u32, due: u128, clock: u128) -> u32
     requires due { due ≤ 2 ^ 90 }
     requires clock { clock ≤ 2 ^ 90 }
     requires rate { settings.now.rate ≤ 1_000_000 }
-    ensures value { result ≡ spec.lost_between settings.now limit due clock }
-    ensures bound { result ≤ 2 ^ 32 }
+    ensures { result ≡ spec.lost_between settings.now limit due clock }
 {
     if due + u128::from(limit) < clock {
         let scans = (clock - due) * u128::from(settings.rate) / 1_000_000;
-        scans.min(u128::from(settings.most))
+        if scans < u128::from(settings.most) {
+            scans as u32
+        } else {
+            settings.most
+        }
     } else {
         0
     }
