@@ -1,7 +1,7 @@
 use Rattle.std.proofs.Common.{refl, sym}
 use Rattle.dfr_station.specs.Arrivals.{HandsNext}
 use Rattle.dfr_station.specs.declared.intake.arrivals.Next.TheVariants as coming
-use Rattle.dfr_station.proofs.Acquired.{quiet_more, gives_some, gives_gap, gives_end, reads_more}
+use Rattle.dfr_station.proofs.Acquired.{quiet_more, quiet_gap, gives_some, gives_gap, gives_end, reads_more}
 use Rattle.dfr_station.proofs.Handing.{came_same}
 use Rattle.dfr_station.proofs.acquisition.AcquisitionIntakeRecording.next.Goals as goal
 
@@ -40,8 +40,8 @@ pub loop-preserved-else-is_dated : goal.loop-preserved-else-is_dated
 loop-preserved-else-is_dated g c = (
   tt,
   tt,
-  quiet_more (HandsNext g.I.Read.remaining) _ _ c.loop.self _ c.next-in-loop.new.self coming.Gap
-      c.self-in-loop.view_is c.loop.invariant.2 c.in-Gap.ensures.next (refl, refl, refl),
+  quiet_gap (HandsNext g.I.Read.remaining) _ _ c.loop.self c.next-in-loop.new.self
+      c.self-in-loop.view_is c.loop.invariant.2 c.in-Gap.ensures.next (sym c.if-is_dated.ensures),
 )
 
 pub loop-preserved-in-Read : goal.loop-preserved-in-Read
