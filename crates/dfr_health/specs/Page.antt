@@ -8,6 +8,7 @@ use Rattle.dfr_health.specs.Counts.{is_same}
 use Rattle.dfr_health.specs.Metrics.{head_text, sample_text, counter_text, gauge_text, seconds_text, thousandths_text, lost_text, unwritten_text}
 use Rattle.dfr_health.specs.declared.counts.Lost.{Lost}
 use Rattle.dfr_health.specs.declared.counts.Tally.{Tally}
+use Rattle.dfr_health.specs.declared.counts.Unwritten.{Unwritten}
 use Rattle.dfr_health.specs.declared.standing.Standing.{Standing}
 use Rattle.dfr_health.specs.declared.state.State.{State}
 
@@ -67,35 +68,60 @@ drift_text station (Some drift) =
     thousandths_text station (codes "dfrd_drift_ppm") (codes "Parts per million by which scans come faster than the rate says.")
     (int_lt drift (pos 0)) (unsigned_abs drift)
 
+unfoldable pub offset_text : List ℕ → ℤ → List ℕ
+offset_text station offset =
+    signed_text station (codes "dfrd_time_offset_seconds") (codes "Seconds that the newest scan is later than by the rate alone.") offset
+
+abbrev pub following_text : List ℕ → Followed → List ℕ
+following_text station f = offset_text station f.offset ++ drift_text station f.drift
+
 abbrev pub followed_text : List ℕ → Option Followed → List ℕ
 followed_text station None = []
-followed_text station (Some f) =
-    signed_text station (codes "dfrd_time_offset_seconds") (codes "Seconds that the newest scan is later than by the rate alone.") f.offset
-    ++ drift_text station f.drift
+followed_text station (Some f) = following_text station f
+
+unfoldable pub ahead_text : List ℕ → ℤ → List ℕ
+ahead_text station ahead =
+    signed_text station (codes "dfrd_clock_offset_seconds")
+    (codes "Seconds that the wall clock was ahead of the time of the newest scan.") ahead
+
+abbrev pub clock_state_text : List ℕ → ClockState → List ℕ
+clock_state_text station c = ahead_text station c.ahead ++ followed_text station c.followed
 
 abbrev pub clock_text : List ℕ → Option ClockState → List ℕ
 clock_text station None = []
-clock_text station (Some c) =
-    signed_text station (codes "dfrd_clock_offset_seconds")
-    (codes "Seconds that the wall clock was ahead of the time of the newest scan.") c.ahead
-    ++ followed_text station c.followed
+clock_text station (Some c) = clock_state_text station c
 
 unfoldable pub times_text : List ℕ → Option ℕ → Option ClockState → List ℕ
 times_text station age clock = age_text station age ++ clock_text station clock
 
 -- ---- records
 
+unfoldable pub recorded_text : List ℕ → ℕ → List ℕ
+recorded_text station count = counter_text station (codes "dfrd_records_total") (codes "Records that were stored.") count
+
+-- a metric of the records that were given up, by the reason
+abbrev pub by_reason_text : List ℕ → List ℕ → List ℕ → Unwritten → List ℕ
+by_reason_text station name help u = head_text name (codes "counter") help ++ unwritten_text station name u
+
+unfoldable pub given_up_text : List ℕ → Unwritten → List ℕ
+given_up_text station u = by_reason_text station (codes "dfrd_unwritten_total") (codes "Records that were given up, by the reason.") u
+
 abbrev pub records_text : List ℕ → Standing → List ℕ
-records_text station s =
-    counter_text station (codes "dfrd_records_total") (codes "Records that were stored.") (total s.records)
-    ++ head_text (codes "dfrd_unwritten_total") (codes "counter") (codes "Records that were given up, by the reason.")
-    ++ unwritten_text station (codes "dfrd_unwritten_total") s.unwritten
+records_text station s = recorded_text station (total s.records) ++ given_up_text station s.unwritten
+
+unfoldable pub removed_text : List ℕ → ℕ → List ℕ
+removed_text station count = counter_text station (codes "dfrd_removed_total") (codes "Old pairs that were deleted.") count
+
+unfoldable pub unopened_text : List ℕ → ℕ → List ℕ
+unopened_text station count =
+    counter_text station (codes "dfrd_missed_triggers_total") (codes "Scans at which a rule fired while the shelf was full.") count
+
+unfoldable pub unprinted_text : List ℕ → ℕ → List ℕ
+unprinted_text station count = counter_text station (codes "dfrd_missed_lines_total") (codes "Lines that were not printed.") count
 
 abbrev pub others_text : List ℕ → Standing → List ℕ
 others_text station s =
-    counter_text station (codes "dfrd_removed_total") (codes "Old pairs that were deleted.") s.removed
-    ++ counter_text station (codes "dfrd_missed_triggers_total") (codes "Scans at which a rule fired while the shelf was full.") (total s.unopened)
-    ++ counter_text station (codes "dfrd_missed_lines_total") (codes "Lines that were not printed.") s.missed
+    removed_text station s.removed ++ unopened_text station (total s.unopened) ++ unprinted_text station s.missed
 
 unfoldable pub stored_text : List ℕ → Standing → List ℕ
 stored_text station s = records_text station s ++ others_text station s
@@ -135,10 +161,14 @@ rest_text station t =
     kind_text station (codes ",kind=\"memory\"") t trouble.Memory
     ++ kind_text station (codes ",kind=\"other\"") t trouble.Other
 
+abbrev pub kinds_text : List ℕ → Option Trouble → List ℕ
+kinds_text station t = system_text station t ++ rest_text station t
+
+unfoldable pub trouble_head_text : List ℕ
+trouble_head_text = head_text (codes "dfrd_trouble") (codes "gauge") (codes "1 while the folder takes no pair, for this kind of reason.")
+
 unfoldable pub trouble_text : List ℕ → Option Trouble → List ℕ
-trouble_text station t =
-    head_text (codes "dfrd_trouble") (codes "gauge") (codes "1 while the folder takes no pair, for this kind of reason.")
-    ++ system_text station t ++ rest_text station t
+trouble_text station t = trouble_head_text ++ kinds_text station t
 
 -- ---- the page
 

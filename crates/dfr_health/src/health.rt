@@ -3,9 +3,9 @@
 ghost use Rattle.std.specs.Prelude.{◌≡◌, ◌++◌, OnOk};
 ghost use Rattle.dfr_health.specs.Page as spec;
 
+use crate::counters::{put_others, put_records};
 use crate::parts::{
-    put_age, put_came, put_clock, put_coming, put_full, put_losses, put_others, put_records,
-    put_version, put_waiting,
+    put_age, put_came, put_clock, put_coming, put_full, put_losses, put_version, put_waiting,
 };
 use crate::standing::Standing;
 use crate::state::State;

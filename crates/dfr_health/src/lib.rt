@@ -1,6 +1,7 @@
 //! What the events of a recording come to: how grave each is, and the health of the recording.
 #![tactic(auto)]
 
+mod counters;
 mod counts;
 mod health;
 mod level;

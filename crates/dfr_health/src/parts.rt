@@ -4,7 +4,7 @@ ghost use Rattle.std.specs.Prelude.{◌≡◌, ◌++◌, OnOk};
 ghost use Rattle.dfr_health.specs.Page as spec;
 
 use crate::metrics::{put_counter, put_gauge, put_head, put_seconds, put_thousandths};
-use crate::reasons::{put_lost, put_unwritten};
+use crate::reasons::put_lost;
 use crate::standing::Standing;
 use crate::state::State;
 use comtrade_values::put;
@@ -135,6 +135,31 @@ fn put_drift<A: Allocator>(
     }
 }
 
+/// Appends how much later the newest scan is than by the rate alone.
+#[tactic(auto, unfolding(crate::specs::Page::offset_text))]
+fn put_offset<A: Allocator>(
+    out: &mut Vec<u8, A>,
+    station: &[u8],
+    offset: i64,
+) -> Result<(), AllocError>
+    ensures { OnOk result (out.new.items ≡ out.old.items ++ spec.offset_text station.now offset) }
+{
+    let help = "Seconds that the newest scan is later than by the rate alone.";
+    put_signed(out, station, "dfrd_time_offset_seconds", help, offset)
+}
+
+/// Appends how the clock is followed.
+fn put_following<A: Allocator>(
+    out: &mut Vec<u8, A>,
+    station: &[u8],
+    followed: Followed,
+) -> Result<(), AllocError>
+    ensures { OnOk result (out.new.items ≡ out.old.items ++ spec.following_text station.now followed) }
+{
+    put_offset(out, station, followed.offset)?;
+    put_drift(out, station, followed.drift)
+}
+
 /// Appends how the clock is followed, if it is.
 fn put_followed<A: Allocator>(
     out: &mut Vec<u8, A>,
@@ -144,13 +169,34 @@ fn put_followed<A: Allocator>(
     ensures { OnOk result (out.new.items ≡ out.old.items ++ spec.followed_text station.now followed) }
 {
     match followed {
-        Some(Followed { offset, drift }) => {
-            let help = "Seconds that the newest scan is later than by the rate alone.";
-            put_signed(out, station, "dfrd_time_offset_seconds", help, offset)?;
-            put_drift(out, station, drift)
-        }
+        Some(followed) => put_following(out, station, followed),
         None => Ok(()),
     }
+}
+
+/// Appends how far the wall clock was ahead.
+#[tactic(auto, unfolding(crate::specs::Page::ahead_text))]
+fn put_ahead<A: Allocator>(
+    out: &mut Vec<u8, A>,
+    station: &[u8],
+    ahead: i64,
+) -> Result<(), AllocError>
+    ensures { OnOk result (out.new.items ≡ out.old.items ++ spec.ahead_text station.now ahead) }
+{
+    let help = "Seconds that the wall clock was ahead of the time of the newest scan.";
+    put_signed(out, station, "dfrd_clock_offset_seconds", help, ahead)
+}
+
+/// Appends how the wall clock and the scans stand to each other.
+fn put_clock_state<A: Allocator>(
+    out: &mut Vec<u8, A>,
+    station: &[u8],
+    clock: ClockState,
+) -> Result<(), AllocError>
+    ensures { OnOk result (out.new.items ≡ out.old.items ++ spec.clock_state_text station.now clock) }
+{
+    put_ahead(out, station, clock.ahead)?;
+    put_followed(out, station, clock.followed)
 }
 
 /// Appends how the wall clock and the scans stand to each other, if that is known.
@@ -162,49 +208,9 @@ pub(crate) fn put_clock<A: Allocator>(
     ensures { OnOk result (out.new.items ≡ out.old.items ++ spec.clock_text station.now clock) }
 {
     match clock {
-        Some(ClockState { ahead, followed }) => {
-            let help = "Seconds that the wall clock was ahead of the time of the newest scan.";
-            put_signed(out, station, "dfrd_clock_offset_seconds", help, ahead)?;
-            put_followed(out, station, followed)
-        }
+        Some(clock) => put_clock_state(out, station, clock),
         None => Ok(()),
     }
-}
-
-/// Appends how many records were stored, and how many were given up.
-pub(crate) fn put_records<A: Allocator>(
-    out: &mut Vec<u8, A>,
-    station: &[u8],
-    standing: &Standing,
-) -> Result<(), AllocError>
-    ensures { OnOk result (out.new.items ≡ out.old.items ++ spec.records_text station.now standing.now) }
-{
-    let help = "Records that were stored.";
-    let stored = standing.records.total();
-    put_counter(out, station, "dfrd_records_total", help, stored)?;
-    let name = "dfrd_unwritten_total";
-    let help = "Records that were given up, by the reason.";
-    put_head(out, name, "counter", help)?;
-    put_unwritten(out, name, station, standing.unwritten)
-}
-
-/// Appends the counts of pairs that were deleted, triggers that were missed and lines that were not
-/// printed.
-pub(crate) fn put_others<A: Allocator>(
-    out: &mut Vec<u8, A>,
-    station: &[u8],
-    standing: &Standing,
-) -> Result<(), AllocError>
-    ensures { OnOk result (out.new.items ≡ out.old.items ++ spec.others_text station.now standing.now) }
-{
-    let help = "Old pairs that were deleted.";
-    put_counter(out, station, "dfrd_removed_total", help, standing.removed)?;
-    let help = "Scans at which a rule fired while the shelf was full.";
-    let name = "dfrd_missed_triggers_total";
-    put_counter(out, station, name, help, standing.unopened.total())?;
-    let help = "Lines that were not printed.";
-    let name = "dfrd_missed_lines_total";
-    put_counter(out, station, name, help, standing.missed)
 }
 
 /// Appends how many records wait on the shelf, if that is known.

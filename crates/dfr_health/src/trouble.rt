@@ -46,7 +46,8 @@ fn put_system<A: Allocator>(
 {
     put_kind(out, station, ",kind=\"full\"", trouble, Trouble::Full)?;
     put_kind(out, station, ",kind=\"gone\"", trouble, Trouble::Gone)?;
-    put_kind(out, station, ",kind=\"denied\"", trouble, Trouble::Denied)
+    put_kind(out, station, ",kind=\"denied\"", trouble, Trouble::Denied)?;
+    Ok(())
 }
 
 /// Appends the samples of the other kinds.
@@ -62,6 +63,27 @@ fn put_rest<A: Allocator>(
     put_kind(out, station, ",kind=\"other\"", trouble, Trouble::Other)
 }
 
+/// Appends the samples of all kinds.
+fn put_kinds<A: Allocator>(
+    out: &mut Vec<u8, A>,
+    station: &[u8],
+    trouble: Option<Trouble>,
+) -> Result<(), AllocError>
+    ensures { OnOk result (out.new.items ≡ out.old.items ++ spec.kinds_text station.now trouble) }
+{
+    put_system(out, station, trouble)?;
+    put_rest(out, station, trouble)
+}
+
+/// Appends the help of the metric and its type.
+#[tactic(auto, unfolding(crate::specs::Page::trouble_head_text))]
+fn put_trouble_head<A: Allocator>(out: &mut Vec<u8, A>) -> Result<(), AllocError>
+    ensures { OnOk result (out.new.items ≡ out.old.items ++ spec.trouble_head_text) }
+{
+    let help = "1 while the folder takes no pair, for this kind of reason.";
+    put_head(out, "dfrd_trouble", "gauge", help)
+}
+
 /// Appends which trouble there is, if any.
 #[tactic(auto, unfolding(crate::specs::Page::trouble_text))]
 pub(crate) fn put_trouble<A: Allocator>(
@@ -71,8 +93,6 @@ pub(crate) fn put_trouble<A: Allocator>(
 ) -> Result<(), AllocError>
     ensures { OnOk result (out.new.items ≡ out.old.items ++ spec.trouble_text station.now trouble) }
 {
-    let help = "1 while the folder takes no pair, for this kind of reason.";
-    put_head(out, "dfrd_trouble", "gauge", help)?;
-    put_system(out, station, trouble)?;
-    put_rest(out, station, trouble)
+    put_trouble_head(out)?;
+    put_kinds(out, station, trouble)
 }
