@@ -15,3 +15,4 @@ mod Oldest
 mod Keeping
 mod Whole
 mod Dropping
+mod Clean

@@ -1,12 +1,12 @@
 //! What is done with what a crash or a call that failed left of pairs.
 
-ghost use Rattle.std.specs.Prelude.{◌≡◌, ◌⊎◌, ◌∷◌, ℕ, List, true, None, IfOk};
+ghost use Rattle.std.specs.Prelude.{◌≡◌, ◌⊎◌, ◌≤◌, ◌∷◌, ℕ, List, true, None, IfOk};
 ghost use Rattle.dfr_folder.specs.declared.name.Key.{Key};
 ghost use Rattle.dfr_folder.specs.declared.name.Name.{Name};
 ghost use Rattle.dfr_folder.specs.Directory.{Content, IsSettled, LeavesNow, LeavesOnly, HasCause};
-ghost use Rattle.dfr_folder.specs.Events.{left_since};
-ghost use Rattle.dfr_folder.specs.Opened.{log_of};
-ghost use Rattle.dfr_folder.specs.Pairs.{AllWhole, AreSynced, found, under};
+ghost use Rattle.dfr_folder.specs.Events.{failed, left_since};
+ghost use Rattle.dfr_folder.specs.Opened.{HasNoLeftover, log_of, names_of};
+ghost use Rattle.dfr_folder.specs.Pairs.{AllWhole, AreSynced, Mends, MendsOne, found, is_leftover, under};
 
 use crate::checked::{discard_next, put_new};
 use crate::directory::{Directory, Fault};
@@ -145,6 +145,7 @@ fn mend_each<D: Directory>(directory: &mut D, alloc: Global)
     ensures whole { (records : List (Key × List ℕ × List ℕ))
         → LeavesNow (D.may_leave directory.old) (AllWhole records)
         → LeavesOnly D.may_leave D.left_since directory.old directory.new (AllWhole records) }
+    ensures later { D.failures directory.old ≤ D.failures directory.new }
 {
     let Ok(mut keys) = directory.leftovers(alloc) else {
         return;
@@ -160,6 +161,11 @@ fn recover_all<D: Directory>(directory: &mut D, alloc: Global, are_synced: bool)
     ensures whole { (records : List (Key × List ℕ × List ℕ))
         → LeavesNow (D.may_leave directory.old) (AllWhole records)
         → LeavesOnly D.may_leave D.left_since directory.old directory.new (AllWhole records) }
+    ensures from { are_synced ≡ true → D.failures directory.new ≤ D.failures directory.old
+        → LeavesOnly D.may_leave D.left_since directory.old directory.new (MendsOne
+        D.may_leave directory.old) }
+    ensures clean { are_synced ≡ true → D.failures directory.new ≤ D.failures directory.old
+        → (n : Name) → is_leftover n.ending ≡ true → D.files directory.new n ≡ None }
 {
     if !are_synced {
         mend_each(directory, alloc);
@@ -181,8 +187,15 @@ pub fn open_folder<C: System, S: Start>(
     ensures whole { IfOk result (λ opened. (records : List (Key × List ℕ × List ℕ))
         → LeavesNow S.may_leave (AllWhole records)
         → LeavesNow (left_since S.bytes S.may_leave 0 (log_of opened)) (AllWhole records)) }
+    // If no call failed, recovery makes the same of what a crash has left since as of what there was,
+    ensures from { IfOk result (λ opened. failed (log_of opened) ≡ 0
+        → LeavesNow (left_since S.bytes S.may_leave 0 (log_of opened)) (Mends S.may_leave)) }
+    // and no leftover is there.
+    ensures clean { IfOk result (λ opened. failed (log_of opened) ≡ 0
+        → HasNoLeftover (names_of opened)) }
 {
     let (mut opened, are_synced) = Recorded::open(alloc, system)?;
     recover_all(&mut opened, alloc, are_synced);
+    opened.note_opened(are_synced);
     Ok(opened)
 }

@@ -99,7 +99,7 @@ tidy-requires g c =
     let s1 = c.are_synced.new.self in
     let s2 = c.sync_names.new.self in
     let are : c.in_ok-are_synced.field-0 ≡ true = search rules in
-    let on_disk = c.in_ok-are_synced.ensures.synced are in
+    let on_disk = c.in_ok-are_synced.ensures.synced.0 are in
     let rests = at_rest F M k s2 (seen F s0 k) (settled F M k s1 s2 (seen F s0 k) (λ e. c.are_synced.ensures.same (name k e) ∙ on_disk e) c.sync_names.ensures.same c.in_ok-sync_names.ensures.stays) in
     record { rests = rests }
 
@@ -113,7 +113,7 @@ returns-in_err-tidy-clause-whole g c =
     let s1 = c.are_synced.new.self in
     let s2 = c.sync_names.new.self in
     let are : c.in_ok-are_synced.field-0 ≡ true = search rules in
-    let on_disk = c.in_ok-are_synced.ensures.synced are in
+    let on_disk = c.in_ok-are_synced.ensures.synced.0 are in
     let rests = at_rest F M k s2 (seen F s0 k) (settled F M k s1 s2 (seen F s0 k) (λ e. c.are_synced.ensures.same (name k e) ∙ on_disk e) c.sync_names.ensures.same c.in_ok-sync_names.ensures.stays) in
     λ records all.
     let w1 = begins M L s0 s1 (AllWhole records) c.are_synced.ensures.time (λ d left. all d (c.are_synced.ensures.crash d left)) in
@@ -132,7 +132,7 @@ returns-in_err-names-clause-whole g c =
     let s1 = c.are_synced.new.self in
     let s2 = c.sync_names.new.self in
     let are : c.in_ok-are_synced.field-0 ≡ true = search rules in
-    let on_disk = c.in_ok-are_synced.ensures.synced are in
+    let on_disk = c.in_ok-are_synced.ensures.synced.0 are in
     let rests = at_rest F M k s2 (seen F s0 k) (settled F M k s1 s2 (seen F s0 k) (λ e. c.are_synced.ensures.same (name k e) ∙ on_disk e) c.sync_names.ensures.same c.in_ok-sync_names.ensures.stays) in
     λ records all.
     let w1 = begins M L s0 s1 (AllWhole records) c.are_synced.ensures.time (λ d left. all d (c.are_synced.ensures.crash d left)) in
@@ -151,7 +151,7 @@ returns-clause-whole g c =
     let s1 = c.are_synced.new.self in
     let s2 = c.sync_names.new.self in
     let are : c.in_ok-are_synced.field-0 ≡ true = search rules in
-    let on_disk = c.in_ok-are_synced.ensures.synced are in
+    let on_disk = c.in_ok-are_synced.ensures.synced.0 are in
     let rests = at_rest F M k s2 (seen F s0 k) (settled F M k s1 s2 (seen F s0 k) (λ e. c.are_synced.ensures.same (name k e) ∙ on_disk e) c.sync_names.ensures.same c.in_ok-sync_names.ensures.stays) in
     λ records all.
     let w1 = begins M L s0 s1 (AllWhole records) c.are_synced.ensures.time (λ d left. all d (c.are_synced.ensures.crash d left)) in
