@@ -1,14 +1,14 @@
 -- What opening a folder ends in.
-use Rattle.std.proofs.Common.{◌≡◌, ◌⊎◌, ◌≤◌, ℕ, Bool, true, false, List, ◌∷◌, Option, Some, None, inl, inr, refl, ◌∙◌, arith}
+use Rattle.std.proofs.Common.{◌≡◌, ◌≤◌, ℕ, Bool, true, false, List, Option, Some, None, inl, inr, refl, ◌∙◌, arith}
 use Rattle.dfr_folder.specs.declared.name.Ending.{Ending}
 use Rattle.dfr_folder.specs.declared.name.Ending.TheVariants as ending
 use Rattle.dfr_folder.specs.declared.name.Key.{Key}
 use Rattle.dfr_folder.specs.declared.name.Name.{Name}
 use Rattle.dfr_folder.specs.declared.name.Seen.{Seen}
 use Rattle.dfr_folder.specs.Directory.{Content, File}
-use Rattle.dfr_folder.specs.Events.{Event, left, left_since, failed, file_of}
+use Rattle.dfr_folder.specs.Events.{Event, left_since, failed, file_of}
 use Rattle.dfr_folder.specs.Opened.{opened_log}
-use Rattle.dfr_folder.specs.Pairs.{bytes_of, is_leftover, name, seen, tidied}
+use Rattle.dfr_folder.specs.Pairs.{bytes_of, is_leftover, seen, tidied}
 
 no_bytes : (o : Option File) → bytes_of o ≡ None → o ≡ None
 no_bytes None e = refl

@@ -16,3 +16,4 @@ mod Keeping
 mod Whole
 mod Dropping
 mod Clean
+mod TextLemmas

@@ -69,7 +69,7 @@ same_refl n =
 pub same_apart : (a b : Name) → (b ≡ a → ⊥) → same_name a b ≡ false
 same_apart a b apart = ⊎_elim (λ yes. absurd (apart (sym (same_true a b yes)))) (λ no. no) (cases_Bool (same_name a b))
 
-true_false : {b : Bool} → b ≡ false → b ≡ true → ⊥
+pub true_false : {b : Bool} → b ≡ false → b ≡ true → ⊥
 true_false p q = absurd (cc (p, q))
 
 pub Some_not_None : {A : Type 0} (x : A) → Some x ≡ None → ⊥

@@ -24,11 +24,11 @@ returns g c =
     let logged = c.note_opened.ensures.log in
     let before : (d : Content) → left other start o.log.calls d → start d = λ d was. subst (λ (calls : List Event). left other start calls d) none was in
     let at_log : (d : Content) → left_since other start 0 c.note_opened.new.self.log.calls d → left_since other start (length o.log.calls) new.log.calls d = λ d since.
-        subst (λ (n : ℕ). left_since other start n new.log.calls d) (sym (ap (λ (calls : List Event). length calls) none))
-        (since_log other start there new.log.calls synced d (subst (λ (calls : List Event). left_since other start 0 calls d) logged since)) in
+    subst (λ (n : ℕ). left_since other start n new.log.calls d) (sym (ap (λ (calls : List Event). length calls) none))
+    (since_log other start there new.log.calls synced d (subst (λ (calls : List Event). left_since other start 0 calls d) logged since)) in
     let at_first : (d : Content) → left_since other start (length o.log.calls) o.log.calls d → start d = λ d now. before d (only_now other start o.log.calls d now) in
     let failures : failed c.note_opened.new.self.log.calls ≡ 0 → (synced ≡ true) × (failed new.log.calls ≤ 0) = λ zero.
-        none_failed other start there new.log.calls synced (subst (λ (calls : List Event). failed calls ≡ 0) logged zero) in
+    none_failed other start there new.log.calls synced (subst (λ (calls : List Event). failed calls ≡ 0) logged zero) in
     let few : failed new.log.calls ≤ 0 → failed new.log.calls ≤ failed o.log.calls = λ less. omega (arith, less) in
     record {
       whole = λ records all d since.

@@ -12,8 +12,7 @@ returns-clause-synced g c =
     let events = c.args.self.now.log.calls in
     let key = c.args.key in
     let are = c.are_synced_in-are.ensures in
-    let same = c.deref.ensures.value in
-    (
+    let same = c.deref.ensures.value in (
       λ yes. subst (λ (names : List Seen). (end : Ending) → files_of first names events (name key end) ≡ synced (bytes_of (files_of first names events (name key end)))) same
           (on_disk first c.deref.result.now events key (sym are ∙ yes)),
       λ disk. are ∙ back_on_disk first c.deref.result.now events key
