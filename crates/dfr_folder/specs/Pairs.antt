@@ -83,6 +83,10 @@ pub record Beside {D : Type 0} (may_leave : D → Content → Type 0) (old : D) 
   pub elsewhere : (n : Name) → (n.key ≡ key → ⊥) → c n ≡ before n
   pub there : P (under c key)
 
+-- a crash left what it might have left before, but for the files of one key
+abbrev pub OthersStay : {D : Type 0} → (D → Content → Type 0) → D → Key → Content → Type 0
+OthersStay may_leave old key c = (d : Content) × may_leave old d × ((n : Name) → (n.key ≡ key → ⊥) → c n ≡ d n)
+
 -- no name of the key is in use, and no crash leaves one
 abbrev pub IsFree : {D : Type 0} → (D → Name → Option File) → (D → Content → Type 0) → D → Key → Type 0
 IsFree files may_leave directory key = (end : Ending) → IsFresh files may_leave directory (name key end)

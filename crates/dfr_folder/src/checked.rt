@@ -1,11 +1,12 @@
-//! Calls without a premise on the folder: each looks first whether its files allow it.
+//! Calls that look first whether the files of the folder allow them. Only `discard_next` has a
+//! premise: that the names are on the disk.
 
 ghost use Rattle.std.specs.Prelude.{◌≡◌, ◌⊎◌, ◌∷◌, ◌↔◌, ℕ, List, true, false, Some, None, IfOk};
 ghost use Rattle.dfr_folder.specs.declared.name.Ending.{Ending};
 ghost use Rattle.dfr_folder.specs.declared.name.Key.{Key};
 ghost use Rattle.dfr_folder.specs.declared.name.Name.{Name};
 ghost use Rattle.dfr_folder.specs.Directory.{Content, IsKept, IsSettled, LeavesNow, LeavesOnly, HasCause};
-ghost use Rattle.dfr_folder.specs.Pairs.{AllWhole, AreSynced, Beside, IsAtRest, IsFree, IsNoneOr, IsTidy, IsWhole, Rests, found, name as named, pair, recovered, seen, under};
+ghost use Rattle.dfr_folder.specs.Pairs.{AllWhole, AreSynced, Beside, IsAtRest, IsFree, IsNoneOr, IsTidy, IsWhole, OthersStay, Rests, found, name as named, pair, recovered, seen, under};
 
 use crate::directory::{Directory, Fault};
 use crate::folder::{give_up, put};
@@ -137,8 +138,7 @@ pub fn discard<D: Directory>(directory: &mut D, key: Key) -> Result<bool, Fault>
         → LeavesOnly D.may_leave D.left_since directory.old directory.new (AllWhole records) }
     // A crash at any moment leaves all other files as before the call.
     ensures others { LeavesOnly D.may_leave D.left_since directory.old directory.new
-        (λ c. (d : Content) × D.may_leave directory.old d
-        × ((n : Name) → (n.key ≡ key → ⊥) → c n ≡ d n)) }
+        (OthersStay D.may_leave directory.old key) }
     // It is given up exactly if there is a configuration file, all its key's files are on the disk,
     // and no leftover is there. If not, nothing is done.
     ensures able { IfOk result (λ is_gone. (is_gone ≡ true) ↔ IsWhole D.files directory.old key) }
@@ -169,8 +169,7 @@ pub fn discard_next<D: Directory>(directory: &mut D, key: Key) -> Result<bool, F
         → LeavesOnly D.may_leave D.left_since directory.old directory.new (AllWhole records) }
     // A crash at any moment leaves all other files as before the call.
     ensures others { LeavesOnly D.may_leave D.left_since directory.old directory.new
-        (λ c. (d : Content) × D.may_leave directory.old d
-        × ((n : Name) → (n.key ≡ key → ⊥) → c n ≡ d n)) }
+        (OthersStay D.may_leave directory.old key) }
     // It is given up exactly if there is a configuration file, all its key's files are on the disk,
     // and no leftover is there. If not, nothing is done.
     ensures able { IfOk result (λ is_gone. (is_gone ≡ true) ↔ IsWhole D.files directory.old key) }

@@ -24,7 +24,7 @@ pub use choice::{Keep, is_full, is_short, surplus};
 pub use directory::{Directory, Fault};
 pub use folder::{give_up, keep, put, recover};
 pub use name::{Ending, Key, Name, Names, Seen};
-pub use opened::{Put, mend, open_folder, put_for, put_or_mend};
+pub use opened::{Mended, Put, mend, open_folder, put_for, put_or_mend};
 pub use recorded::Recorded;
 pub use system::{Start, System, Unknown};
 pub use text::{name_in, put_key, put_name};
