@@ -63,8 +63,8 @@ class Rules:
         self.put(Line(place, instant, instant + self.s.window, era, place))
         self.samples, self.settles = [instant], True
 
-    def lost(self, due, clock, limit):
-        return min(self.s.most, (clock - due) * self.s.rate // SECOND) if clock > due + limit else 0
+    def missing(self, due, clock, limit):
+        return (clock - due) * self.s.rate // SECOND if clock > due + limit else 0
 
     def read(self, scans, wall, mono):
         """How many lost scans the reading shows, and by how much the clock was set."""
@@ -75,12 +75,13 @@ class Rules:
         by = (wall - self.wall) - (mono - self.mono)
         jump = by if abs(by) > self.s.step else 0
         clock = self.wall + less(mono, self.mono) if jump else wall
-        lost = self.lost(self.on(line, place), clock, self.s.late)
+        missing = self.missing(self.on(line, place), clock, self.s.late)
+        lost = min(missing, self.s.most)
         was, self.scans, self.wall, self.mono = self.scans, scans + lost, wall, mono
         if jump:
             self.restart(newest + lost, newest + lost, wall, self.place(newest + lost))
             return lost, jump
-        if lost:
+        if missing:
             self.restart(was + lost, newest + lost, wall, line.era)
             return lost, 0
         self.samples.append(less(wall, less(place, line.place)))
@@ -89,7 +90,11 @@ class Rules:
             line.instant, line.later = least, least + self.s.window
         if place >= line.place + self.s.window:
             by_least = least + place - line.place
-            lost = self.lost(self.on(line, place), by_least, self.s.apart)
+            lost = self.missing(self.on(line, place), by_least, self.s.apart)
+            if lost > self.s.most:  # not all of them may be inserted, so the clock is adopted
+                self.scans = scans + self.s.most
+                self.restart(was + self.s.most, newest + self.s.most, wall, line.era)
+                return self.s.most, 0
             begin = self.place(newest + lost)
             instant = self.on(line, begin)
             gain = self.s.window * self.s.slew // SECOND
@@ -102,7 +107,7 @@ class Rules:
     def tell(self, scans, instant):
         """The converter tells when the next scan is."""
         due = self.on(self.lines[0], self.place(scans))
-        lost = self.lost(due, instant, self.s.late)
+        lost = min(self.missing(due, instant, self.s.late), self.s.most)
         place = self.place(scans + lost)
         era = place if instant < due else self.lines[0].era
         self.put(Line(place, instant, instant + self.s.window, era, place))

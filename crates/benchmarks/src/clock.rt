@@ -76,8 +76,8 @@ fn begun<R: AllocGlobal>(rt: &R, words: &mut Split<'_, char>) -> Result<Trace> {
 }
 
 impl Trace {
-    fn count(&mut self, lost: u128) -> Result<()> {
-        let lost = u64::try_from(lost).ok().context("too many lost scans")?;
+    fn count(&mut self, lost: u32) -> Result<()> {
+        let lost = u64::from(lost);
         self.lost = self.lost.checked_add(lost).context("too many lost scans")?;
         Ok(())
     }

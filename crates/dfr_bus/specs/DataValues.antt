@@ -2,7 +2,7 @@
 use Rattle.std.specs.Prelude.{ℕ, zero, suc, ◌+◌, ◌-◌, Bool, true, false, ◌&&◌, ◌||◌, List, Option, Some, None, Result, Ok, Err, nat_lt, nat_le, ◌==◌, if◌then◌else◌}
 use Rattle.dfr_bus.specs.declared.span.Span.{Span}
 use Rattle.dfr_bus.specs.declared.fault.Fault.{Fault}
-use Rattle.dfr_bus.specs.declared.fault.Wrong.TheVariants.{CutShort, Size, Kind, Depth}
+use Rattle.dfr_bus.specs.declared.fault.Wrong.TheVariants.{CutShort, Size, Kind}
 use Rattle.dfr_bus.specs.declared.datum.Datum.{Datum}
 use Rattle.dfr_bus.specs.declared.datum.Kind as kind
 use Rattle.dfr_bus.specs.declared.datum.Kind.TheVariants.{Array, Structure, Boolean, Bits, Integer, Unsigned, Float, Octets, Text, BinaryTime, MmsText, Time}
@@ -27,14 +27,14 @@ kind_of tag =
     else if tag == 162 then Some Structure
     else None
 
--- whether a content of so many bytes, the first of which is this one, can be of the kind: numbers have 1 to 9 bytes, bits a
--- byte that says how many of the last byte are not used
+-- whether a content of so many bytes, the first of which is this one, can be of the kind: numbers have 1 to 9 bytes, bits a byte that says how
+-- many of the last byte are not used, and a number of IEEE 754 a byte with the width of its exponent: 8 bits of 32, or 11 of 64
 unfoldable pub fits : kind.Kind → (size first : ℕ) → Bool
 fits Boolean size first = size == 1
 fits Bits size first = (size == 1 && first == 0) || (nat_lt 1 size && nat_lt first 8)
 fits Integer size first = nat_lt 0 size && nat_lt size 10
 fits Unsigned size first = nat_lt 0 size && nat_lt size 10
-fits Float size first = size == 5 || size == 9
+fits Float size first = (size == 5 && first == 8) || (size == 9 && first == 11)
 fits Time size first = size == 8
 fits BinaryTime size first = size == 4 || size == 6
 fits _ size first = true

@@ -18,7 +18,7 @@ pub enum Kind {
     Integer,
     /// A number that isn't negative.
     Unsigned,
-    /// A byte with the width of the exponent, and a number of IEEE 754.
+    /// A byte with the width of the exponent, and a number of IEEE 754 of 32 or 64 bits.
     Float,
     /// Any bytes.
     Octets,
@@ -77,7 +77,7 @@ fn fits(kind: Kind, size: usize, first: u8) -> bool
         Kind::Boolean => size == 1,
         Kind::Bits => (size == 1 && first == 0) || (1 < size && first < 8),
         Kind::Integer | Kind::Unsigned => 0 < size && size < 10,
-        Kind::Float => size == 5 || size == 9,
+        Kind::Float => (size == 5 && first == 8) || (size == 9 && first == 11),
         Kind::Time => size == 8,
         Kind::BinaryTime => size == 4 || size == 6,
         Kind::Octets | Kind::Text | Kind::MmsText | Kind::Array | Kind::Structure => true,

@@ -63,9 +63,6 @@ pub enum Wrong {
     /// No element of data has this tag.
     #[error("no element of data has this tag")]
     Kind,
-    /// Structures lie in one another more than 16 deep.
-    #[error("structures lie in one another too deep")]
-    Depth,
     /// Bytes stand after the last field.
     #[error("bytes stand after the last field")]
     Trailing,

@@ -80,16 +80,14 @@ fn flag_at(bytes: &[u8], at: usize, end: usize, tag: u8) -> Result<(bool, usize)
 /// The fields of a goosePdu, after the numbers of the head.
 #[tactic(auto, unfolding(crate::specs::Goose::goose_pdu_at))]
 fn goose_pdu_at(
-    app_id: u16,
-    reserved_1: u16,
-    reserved_2: u16,
+    numbers: (u16, u16, u16),
     bytes: &[u8],
     at: usize,
     end: usize,
 ) -> Result<Goose, Fault>
     requires order { at ≤ end }
     requires within { end ≤ length bytes.now }
-    ensures { result ≡ spec.goose_pdu_at app_id reserved_1 reserved_2 bytes.now at end }
+    ensures { result ≡ spec.goose_pdu_at numbers.0 numbers.1 numbers.2 bytes.now at end }
 {
     let gocb_ref = element_at(bytes, at, end, 0x80)?;
     let (time_allowed_to_live, after) = unsigned_at(bytes, gocb_ref.to, end, 0x81)?;
@@ -104,9 +102,9 @@ fn goose_pdu_at(
     let (entries, after) = unsigned_at(bytes, after, end, 0x8A)?;
     let all_data = only_element_at(bytes, after, end, 0xAB)?;
     Ok(Goose {
-        app_id,
-        reserved_1,
-        reserved_2,
+        app_id: numbers.0,
+        reserved_1: numbers.1,
+        reserved_2: numbers.2,
         gocb_ref,
         time_allowed_to_live,
         dat_set,
@@ -132,10 +130,6 @@ pub fn read_goose(bytes: &[u8], at: usize, end: usize) -> Result<Goose, Fault>
 {
     let pdu_end = end_of_pdu(bytes, at, end)?;
     let pdu = only_element_at(bytes, at + 8, pdu_end, 0x61)?;
-    let (app_id, reserved_1, reserved_2) = (
-        big_2(bytes, at),
-        big_2(bytes, at + 4),
-        big_2(bytes, at + 6),
-    );
-    goose_pdu_at(app_id, reserved_1, reserved_2, bytes, pdu.from, pdu.to)
+    let numbers = (big_2(bytes, at), big_2(bytes, at + 4), big_2(bytes, at + 6));
+    goose_pdu_at(numbers, bytes, pdu.from, pdu.to)
 }

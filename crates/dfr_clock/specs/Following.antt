@@ -24,17 +24,24 @@ abbrev pub unset_clock : Follower → Reading → Option Jump → ℕ
 unset_clock f r None = r.wall
 unset_clock f r (Some jump) = f.wall + (r.mono - f.mono)
 
--- how many lost scans stand for a gap: those whose time the clock is past what is due, if that is more than the limit
-abbrev pub lost_between : Settings → ℕ → ℕ → ℕ → ℕ
-lost_between s limit due clock = if nat_lt (due + limit) clock then min s.most ((clock - due) * s.rate / 1_000_000) else 0
+-- how many scans are missing: those whose time the clock is past what is due, if that is more than the limit
+abbrev pub missing_between : Settings → ℕ → ℕ → ℕ → ℕ
+missing_between s limit due clock = if nat_lt (due + limit) clock then (clock - due) * s.rate / 1_000_000 else 0
+
+-- how many lost scans stand for missing ones
+abbrev pub lost_for : Settings → ℕ → ℕ
+lost_for s missing = min s.most missing
 
 -- the instant at which the newest scan was due if nothing was lost
 abbrev pub due_at : Settings → Follower → ℕ → ℕ
 due_at s f scans = instant_on s.window f.course (place s.rate (scans - 1))
 
 -- one reading shows a gap if it is later than any late read
+abbrev pub missing_at : Settings → Follower → Reading → ℕ
+missing_at s f r = missing_between s s.late (due_at s f r.scans) (unset_clock f r (jump_at s f r))
+
 abbrev pub lost_at : Settings → Follower → Reading → ℕ
-lost_at s f r = lost_between s s.late (due_at s f r.scans) (unset_clock f r (jump_at s f r))
+lost_at s f r = lost_for s (missing_at s f r)
 
 -- the instant of place p by a clock that showed this when the scan at place q came
 abbrev pub by_clock : ℕ → ℕ → ℕ → ℕ
@@ -97,16 +104,22 @@ window_ended s c instant lost r =
       answer = record { lost = lost; jump = None };
     }
 
+-- a gap for which too few lost scans may stand: the scans after it begin anew
+abbrev pub ended_anew : Settings → Follower → Course → Reading → Turn
+ended_anew s f c r = record { follower = begun_again s f r s.most None; closed = Some c; answer = record { lost = s.most; jump = None } }
+
 -- a window shows a gap if all of its readings are late
-abbrev pub ended_at : Settings → Course → ℕ → ℕ → Reading → Turn
-ended_at s c instant q r = window_ended s c instant (lost_between s s.apart (instant_on s.window c q) instant) r
+abbrev pub ended_at : Settings → Follower → Course → ℕ → ℕ → Reading → Turn
+ended_at s f c instant q r =
+    let missing = missing_between s s.apart (instant_on s.window c q) instant in
+    if nat_lt s.most missing then ended_anew s f c r else window_ended s c instant missing r
 
 abbrev pub followed : Settings → Follower → Reading → Turn
 followed s f r =
     let q = place s.rate (r.scans - 1) in
     let best = best_at s f r in
     let c = settled s f.mode f.course best in
-    if nat_lt q (f.course.at + s.window) then within_window f c best r else ended_at s c (best + (q - f.course.at)) q r
+    if nat_lt q (f.course.at + s.window) then within_window f c best r else ended_at s f c (best + (q - f.course.at)) q r
 
 -- nothing is told: no scan is new, or the converter tells the time
 abbrev pub unchanged : Follower → Turn
@@ -121,7 +134,7 @@ is_told Told = true
 abbrev pub turn : Settings → Follower → Reading → Turn
 turn s f r =
     if is_told f.mode || nat_le r.scans f.scans then unchanged f
-    else if is_none (jump_at s f r) && (lost_at s f r == 0) then followed s f r
+    else if is_none (jump_at s f r) && (missing_at s f r == 0) then followed s f r
     else
     record {
       follower = begun_again s f r (lost_at s f r) (jump_at s f r);
@@ -133,7 +146,7 @@ turn s f r =
 abbrev pub told : Settings → Follower → ℕ → ℕ → Turn
 told s f scans instant =
     let due = instant_on s.window f.course (place s.rate scans) in
-    let lost = lost_between s s.late due instant in
+    let lost = lost_for s (missing_between s s.late due instant) in
     let p = place s.rate (scans + lost) in
     let era = if nat_lt instant due then p else f.course.era in
     record {

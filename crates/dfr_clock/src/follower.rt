@@ -6,7 +6,7 @@ ghost use Rattle.dfr_clock.specs.Courses.{place};
 ghost use Rattle.dfr_clock.specs.Following as spec;
 
 use crate::course::{Course, place, since};
-use crate::gap::{by_clock, jump_between, lost_between};
+use crate::gap::{by_clock, jump_between, lost_for, missing_between};
 use crate::reading::{Answer, Jump, Reading};
 use crate::settings::Settings;
 use crate::windows::{anew, level, settled, window_ended};
@@ -49,7 +49,8 @@ pub(crate) struct Turn {
 impl Follower {
     ghost use Rattle.std.specs.Prelude.{◌≡◌, ◌≤◌, ◌<◌, ◌+◌, ◌-◌, ◌^◌};
     ghost use Rattle.dfr_clock.specs.Settings.{Fits};
-    ghost use Rattle.dfr_clock.specs.Following.{IsSound, IsSoundTurn, begun, followed, turn, told, jump_at, unset_clock, lost_at, begun_again};
+    ghost use Rattle.dfr_clock.specs.Courses.{IsCourse};
+    ghost use Rattle.dfr_clock.specs.Following.{IsSound, IsSoundTurn, begun, followed, turn, told, jump_at, unset_clock, missing_at, begun_again, ended_anew};
 
     /// Begins with the first reading.
     pub(crate) fn begun(settings: &Settings, reading: Reading) -> Follower
@@ -92,7 +93,11 @@ impl Follower {
         }
         let instant = best + (newest - self.course.at);
         let due = course.instant(settings.window, newest);
-        let lost = lost_between(settings, settings.apart, due, instant);
+        let missing = missing_between(settings, settings.apart, due, instant);
+        if missing > u128::from(settings.most) {
+            return self.ended_anew(settings, course, reading);
+        }
+        let lost = missing as u32;
         window_ended(settings, course, instant, lost, reading)
     }
 
@@ -119,19 +124,18 @@ impl Follower {
         }
     }
 
-    /// How many lost scans stand for a gap before a reading.
-    fn lost_at(&self, settings: &Settings, reading: Reading, jump: Option<Jump>) -> u128
+    /// How many scans are missing before a reading.
+    fn missing_at(&self, settings: &Settings, reading: Reading, jump: Option<Jump>) -> u128
         requires settings { Fits settings.now }
         requires sound { IsSound settings.now self.now }
         requires scans { 1 ≤ reading.scans }
         requires jump { jump ≡ jump_at settings.now self.now reading }
-        ensures value { result ≡ lost_at settings.now self.now reading }
-        ensures bound { result ≤ 2 ^ 32 }
+        ensures { result ≡ missing_at settings.now self.now reading }
     {
         let newest = place(settings.rate, u128::from(reading.scans - 1));
         let due = self.course.instant(settings.window, newest);
         let clock = self.unset_clock(reading, jump);
-        lost_between(settings, settings.late, due, clock)
+        missing_between(settings, settings.late, due, clock)
     }
 
     /// Begins anew after a gap, with the scans after it, or where the clock was set, with the newest
@@ -140,16 +144,16 @@ impl Follower {
         &self,
         settings: &Settings,
         reading: Reading,
-        lost: u128,
+        lost: u32,
         jump: Option<Jump>,
     ) -> Follower
         requires settings { Fits settings.now }
         requires sound { IsSound settings.now self.now }
         requires scans { 1 ≤ reading.scans }
-        requires lost { lost ≤ 2 ^ 32 }
         ensures value { result ≡ begun_again settings.now self.now reading lost jump }
         ensures sound { IsSound settings.now result }
     {
+        let lost = u128::from(lost);
         let newest = u128::from(reading.scans - 1) + lost;
         match jump {
             None => {
@@ -160,6 +164,24 @@ impl Follower {
                 let era = place(settings.rate, newest);
                 anew(settings, newest, newest, reading, era)
             }
+        }
+    }
+
+    /// What a reading does and tells that ends the window and shows a gap for which too few lost scans
+    /// may stand: the scans after it begin anew.
+    fn ended_anew(&self, settings: &Settings, course: Course, reading: Reading) -> Turn
+        requires settings { Fits settings.now }
+        requires sound { IsSound settings.now self.now }
+        requires course { IsCourse settings.now.window course }
+        requires scans { 1 ≤ reading.scans }
+        ensures value { result ≡ ended_anew settings.now self.now course reading }
+        ensures sound { IsSoundTurn settings.now result }
+    {
+        let lost = settings.most;
+        Turn {
+            follower: self.begun_again(settings, reading, lost, None),
+            closed: Some(course),
+            answer: Answer { lost, jump: None },
         }
     }
 
@@ -181,10 +203,11 @@ impl Follower {
             };
         }
         let jump = self.jump_at(settings, reading);
-        let lost = self.lost_at(settings, reading, jump);
-        if jump.is_none() && lost == 0 {
+        let missing = self.missing_at(settings, reading, jump);
+        if jump.is_none() && missing == 0 {
             return self.followed(settings, reading);
         }
+        let lost = lost_for(settings, missing);
         Turn {
             follower: self.begun_again(settings, reading, lost, jump),
             closed: Some(self.course),
@@ -203,8 +226,11 @@ impl Follower {
         let due = self
             .course
             .instant(settings.window, place(settings.rate, u128::from(scans)));
-        let lost = lost_between(settings, settings.late, due, instant);
-        let scans = u128::from(scans) + lost;
+        let lost = lost_for(
+            settings,
+            missing_between(settings, settings.late, due, instant),
+        );
+        let scans = u128::from(scans) + u128::from(lost);
         let at = place(settings.rate, scans);
         let era = if instant < due { at } else { self.course.era };
         Turn {

@@ -23,20 +23,29 @@ pub(crate) fn jump_between(step: u32, clock: u128, mono: u128) -> Option<Jump>
     }
 }
 
-/// How many lost scans stand for a gap, if the newest scan was due at an instant and the clock shows
-/// another: those of the time between, if that is more than the limit.
-pub(crate) fn lost_between(settings: &Settings, limit: u32, due: u128, clock: u128) -> u128
+/// How many scans are missing, if the newest scan was due at an instant and the clock shows another:
+/// those of the time between, if that is more than the limit.
+pub(crate) fn missing_between(settings: &Settings, limit: u32, due: u128, clock: u128) -> u128
     requires due { due ≤ 2 ^ 90 }
     requires clock { clock ≤ 2 ^ 90 }
     requires rate { settings.now.rate ≤ 1_000_000 }
-    ensures value { result ≡ spec.lost_between settings.now limit due clock }
-    ensures bound { result ≤ 2 ^ 32 }
+    ensures { result ≡ spec.missing_between settings.now limit due clock }
 {
     if due + u128::from(limit) < clock {
-        let scans = (clock - due) * u128::from(settings.rate) / 1_000_000;
-        scans.min(u128::from(settings.most))
+        (clock - due) * u128::from(settings.rate) / 1_000_000
     } else {
         0
+    }
+}
+
+/// How many lost scans stand for missing ones.
+pub(crate) fn lost_for(settings: &Settings, missing: u128) -> u32
+    ensures { result ≡ spec.lost_for settings.now missing }
+{
+    if missing < u128::from(settings.most) {
+        missing as u32
+    } else {
+        settings.most
     }
 }
 

@@ -24,7 +24,7 @@ pub enum Jump {
 #[derive(Clone, Copy, Debug, PartialEq, Eq)]
 pub struct Answer {
     /// So many lost scans belong between the scans before and those that came with this reading.
-    pub lost: u128,
+    pub lost: u32,
     /// The wall clock was set since the reading before.
     pub jump: Option<Jump>,
 }

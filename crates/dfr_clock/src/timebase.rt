@@ -107,7 +107,7 @@ impl<A: Allocator> Timebase<A> {
 
     /// The converter tells the time: the next scan, after so many, has this instant. Returns how
     /// many lost scans come before it.
-    pub fn told(&mut self, scans: u64, instant: u64) -> u128
+    pub fn told(&mut self, scans: u64, instant: u64) -> u32
         ensures lost { result ≡ (told self.old.settings self.old.follower scans instant).answer.lost }
         ensures kept { self.new ≡ turned self.old (told self.old.settings self.old.follower scans instant) }
     {

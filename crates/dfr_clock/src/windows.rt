@@ -108,19 +108,18 @@ pub(crate) fn window_ended(
     settings: &Settings,
     course: Course,
     instant: u128,
-    lost: u128,
+    lost: u32,
     reading: Reading,
 ) -> Turn
     requires settings { Fits settings.now }
     requires course { IsCourse settings.now.window course }
     requires instant { instant ≤ 2 ^ 90 }
-    requires lost { lost ≤ 2 ^ 32 }
     requires scans { 1 ≤ reading.scans }
     requires place { course.at ≤ place settings.now.rate (reading.scans - 1) }
     ensures value { result ≡ spec.window_ended settings.now course instant lost reading }
     ensures sound { spec.IsSoundTurn settings.now result }
 {
-    let newest = u128::from(reading.scans - 1) + lost;
+    let newest = u128::from(reading.scans - 1) + u128::from(lost);
     Turn {
         follower: Follower {
             course: next_course(settings, course, instant, place(settings.rate, newest)),

@@ -1,5 +1,5 @@
 -- How grave an event is, for the system's log.
-use Rattle.std.specs.Prelude.{Bool, true, false, Result, Ok, Err}
+use Rattle.std.specs.Prelude.{ℕ, List, codes, Bool, true, false, Result, Ok, Err}
 use Rattle.dfr_recorder.specs.declared.step.Hit.TheVariants as hit
 use Rattle.dfr_station.specs.declared.event.Event.{Event}
 use Rattle.dfr_station.specs.declared.event.Event.TheVariants as event
@@ -43,3 +43,9 @@ level (event.ClockSet micros) = Loss
 level (event.Record extent key clock true) = Loss
 level (event.Reply asked at reply) = level_of_reply reply
 level e = Plain
+
+-- what a line of a level begins with: the number of the syslog level, as journald reads it (3 error, 4 warning, 6 information)
+abbrev pub prefix_text : Level → List ℕ
+prefix_text Grave = codes "<3>"
+prefix_text Loss = codes "<4>"
+prefix_text Plain = codes "<6>"

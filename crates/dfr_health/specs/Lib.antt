@@ -1,3 +1,4 @@
 pub mod Levels
 pub mod Counts
 pub mod Metrics
+pub mod Page

@@ -18,8 +18,13 @@ pub enum Level {
 }
 
 impl Level {
+    ghost use Rattle.std.specs.Prelude.{◌≡◌};
+    ghost use Rattle.dfr_health.specs.Levels.{prefix_text};
+
     /// What a line of this level begins with, as journald reads it: the number of the syslog level.
-    pub fn prefix(self) -> &'static str {
+    pub fn prefix(self) -> &'static str
+        ensures { result.now ≡ prefix_text self }
+    {
         match self {
             Level::Trouble => "<3>",
             Level::Loss => "<4>",

@@ -5,8 +5,11 @@ mod counts;
 mod health;
 mod level;
 mod metrics;
+mod parts;
+mod reasons;
 mod standing;
 mod state;
+mod trouble;
 
 pub use counts::{Lost, Reason, Tally, Unwritten};
 pub use health::{Health, put_health};

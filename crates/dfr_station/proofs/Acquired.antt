@@ -1,5 +1,5 @@
 -- How what comes becomes the acquisition's steps.
-use Rattle.std.proofs.Common.{◌≡◌, List, ◌∷◌, true, Some, None, Ok}
+use Rattle.std.proofs.Common.{◌≡◌, refl, List, ◌∷◌, true, false, Some, None, Ok}
 use Rattle.dfr_live.specs.Devices.{Came}
 use Rattle.dfr_live.specs.declared.station.Fed.{Fed}
 use Rattle.dfr_live.specs.declared.station.Fed.TheVariants as fed
@@ -64,6 +64,10 @@ module _ {C A : Type 0} where
         → v ≡ m → QuietSoFar s m → Comes v.incoming x i → Gave (moved v i) x None t → QuietSoFar s t
     quiet_more s v m t i x e far comes gave =
         (x ∷ far.0, (v, rw e far.1, (rw gave.2 comes, gave.1, quietly_at v i x t gave.0)))
+
+    pub quiet_gap : (s v m : Acquired C A) (i : C)
+        → v ≡ m → QuietSoFar s m → Comes v.incoming coming.Gap i → v.scans.by_clock ≡ false → QuietSoFar s (moved v i)
+    quiet_gap s v m i e far comes free = quiet_more s v m (moved v i) i coming.Gap e far comes ((free, refl), refl, refl)
 
     gives_step : (s m t : Acquired C A) (x : Next A) (f : Fed A)
         → QuietSoFar (record s { scans = settled s.scans }) m → Comes m.incoming x t.incoming → Steps m x f t

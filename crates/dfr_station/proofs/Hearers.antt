@@ -188,7 +188,7 @@ module _ {I A : Type 0} (left : I → Option (List ℕ)) (by_clock : Bool) (ws :
   heard_quietly m t (coming.Arrival (arrival.Skipped line why)) steps far h =
       one_came m t steps steps (came.Skips line why) far (rw (h.1, h.2) refl) h.0 (same_base m.scans t.scans h.1) (same_lane m t h.2) (far.keeps ∙ sym (ap (λ (s : ScansParts). s.detected) h.1))
   heard_quietly m t coming.Gap steps far h =
-      none_came m t steps far (rw (h.1, h.2) refl) h.0 (same_base m.scans t.scans h.1) (same_lane m t h.2) (ap (λ (s : ScansParts). s.detected) h.1)
+      none_came m t steps far (rw (h.1, h.2.1) refl) h.0 (same_base m.scans t.scans h.1) (same_lane m t h.2.1) (ap (λ (s : ScansParts). s.detected) h.1)
   heard_quietly m t coming.Read steps far h =
       none_came m t steps far (rw (h.1, h.2) refl) h.0 (same_base m.scans t.scans h.1) (same_lane m t h.2) (ap (λ (s : ScansParts). s.detected) h.1)
   heard_quietly m t coming.Drained steps far h =

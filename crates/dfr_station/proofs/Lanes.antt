@@ -30,7 +30,7 @@ module _ {I A : Type 0} (left : I → Option (List ℕ)) where
   quiet_one m t (coming.Arrival (arrival.Lost why)) h = absurd h.2
   quiet_one m t (coming.Arrival (arrival.Order line place order)) h = of_order m t (m.orders.items ++ record { line = line; at = m.scans.came; order = order } ∷ []) h.2
   quiet_one m t (coming.Arrival (arrival.Skipped line why)) h = same_lane m t h.2
-  quiet_one m t coming.Gap h = same_lane m t h.2
+  quiet_one m t coming.Gap h = same_lane m t h.2.1
   quiet_one m t coming.Read h = same_lane m t h.2
   quiet_one m t coming.Drained h = same_lane m t h.2
   quiet_one m t (coming.End ending) h = absurd h.2

@@ -115,7 +115,7 @@ QuietlyBy s (coming.Arrival (arrival.Order line place order)) t =
     (t.orders ≡ record s.orders { items = s.orders.items ++ record { line = line; at = s.scans.came; order = order } ∷ [] })
     ⊎ ((t.orders ≡ s.orders) × (1_024 ≤ length s.orders.items))
 QuietlyBy s (coming.Arrival (arrival.Skipped line why)) t = t.orders ≡ s.orders
-QuietlyBy s coming.Gap t = t.orders ≡ s.orders
+QuietlyBy s coming.Gap t = (s.scans.by_clock ≡ false) × (t.orders ≡ s.orders)
 QuietlyBy s coming.Read t = t.orders ≡ s.orders
 QuietlyBy s coming.Drained t = t.orders ≡ s.orders
 QuietlyBy s (coming.End ending) t = ⊥

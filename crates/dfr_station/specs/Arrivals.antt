@@ -1,5 +1,5 @@
 -- What the input hands out, read by read.
-use Rattle.std.specs.Prelude.{◌≡◌, ℕ, ◌<◌, List, [], ◌∷◌, ◌++◌, length, Option, Some, None, IfSome}
+use Rattle.std.specs.Prelude.{◌≡◌, ℕ, ◌<◌, List, [], ◌∷◌, ◌++◌, length, Option, Some, None, IfSome, ⊤}
 use Rattle.dfr_station.specs.Lines.{ArrivalParts, parts_of}
 use Rattle.dfr_station.specs.Input.{ComesOver}
 use Rattle.dfr_station.specs.declared.intake.arrivals.Arrivals.{Arrivals}
@@ -45,3 +45,11 @@ HandsNext left s next.Drained t = CameFirst left s [] t
 HandsNext left s (next.End ending.Broken) t = CameFirst left s [] t
 HandsNext left s (next.End ending.Whole) t = ComesNext left s [] × EndsWith ending.Whole t.cutter.buffer
 HandsNext left s (next.End (ending.Cut count)) t = ComesNext left s [] × EndsWith (ending.Cut count) t.cutter.buffer
+
+-- bytes are read only once no lost scan of a gap is left to hand out
+abbrev pub ReadsAfterGap : {I A : Type 0} → Next A → Arrivals I A → Type 0
+ReadsAfterGap (next.Arrival a) t = ⊤
+ReadsAfterGap next.Gap t = ⊤
+ReadsAfterGap next.Read t = t.gap ≡ 0
+ReadsAfterGap next.Drained t = ⊤
+ReadsAfterGap (next.End ending) t = ⊤

@@ -11,6 +11,7 @@ use Rattle.dfr_live.specs.Devices.{Came, FilesParts, files_of}
 use Rattle.dfr_clock.specs.Dating.{Kept as Times}
 use Rattle.dfr_station.specs.Dated.{layout_under, last_shown}
 use Rattle.dfr_station.specs.Input.{one_more}
+use Rattle.dfr_station.specs.Names.{IsNameOf}
 use Rattle.dfr_station.specs.Storing.{StoresOf}
 use Rattle.dfr_station.specs.declared.event.Trouble.{Trouble}
 use Rattle.dfr_station.specs.declared.event.Trouble.TheVariants as trouble
@@ -51,10 +52,10 @@ abbrev pub counted_last : Result Stored Trouble → Counts → Counts
 counted_last (Ok stored) c = record c { records = one_more c.records }
 counted_last (Err last) c = given_up c
 
--- the pair of this record, as it is shown, went to the store under a name with its number, and was counted
+-- the pair of this record, as it is shown, went to the store under its name, and was counted
 abbrev pub WritesLast : {K : Type 0} → StoresOf K → SetupParts → Kind → Option Redated → RecordParts → Counts → K → Counts → K → Type 0
 WritesLast Stores layout kind redated r c s d t =
-    (key : Key) × (key.number ≡ r.extent.number) × (stored : Result Stored Trouble)
+    (key : Key) × IsNameOf layout redated r.extent key × (stored : Result Stored Trouble)
     × TriesLast Stores key (files_of (layout_under layout redated) kind r) s stored t × (d ≡ counted_last stored c)
 
 -- the recorder, the counts and the store after the lost scans: the record that closed was taken and written, dated by the timebase if there is one; or it could not be closed, and is counted

@@ -47,10 +47,11 @@ Begins layout form bytes input s =
 -- A run from an input to a store. As `dfr_live` has it, over the three devices of a station: the acquisition gave a step for each scan that
 -- came, one list has the steps of all, with the orders of the desk, which are all
 -- that went into its queue, and the pair of each record went to the store or the record was counted.
--- So each scan that came over the whole input, which has the channels `inputs`, is one step at its place, or one counted loss. Behind its bits
--- are those of the detectors: whatever they are asked to do, each bit is that of its definition over all scans up to this one. What is left is
--- what that run left, the counts are those of the devices, and the input and the store come back as the devices left them. Where the clock
--- dates records, the files are those of the records under the start of a date; else under the start of the set-up.
+-- So, where the detectors work and have seen no scan, each scan that came over the whole input, which has the channels `inputs`, is one step at
+-- its place, or one counted loss. Behind its bits are those of the detectors: whatever they are asked to do, each bit is that of its definition
+-- over all scans up to this one. What is left is what that run left, the counts are those of the devices, and the input and the store come back
+-- as the devices left them. Where the clock dates records, the files are those of the records under the start of a date, or under the start of
+-- the set-up; else under the start of the set-up.
 --
 -- Where the input waits, no scan is lost since the queue is full, and no step is made while the shelf is.
 --

@@ -7,6 +7,7 @@ use Rattle.dfr_live.specs.declared.devices.Short.TheVariants as short
 use Rattle.dfr_recorder.specs.History.{Opening}
 use Rattle.dfr_station.specs.Dated.{Dating, Shows, IsShown}
 use Rattle.dfr_station.specs.Input.{one_more}
+use Rattle.dfr_station.specs.Names.{IsNameOf}
 use Rattle.dfr_station.specs.declared.key.Key.{Key}
 use Rattle.dfr_station.specs.declared.event.Trouble.{Trouble}
 use Rattle.dfr_station.specs.declared.event.Trouble.TheVariants as troubled
@@ -57,11 +58,10 @@ TriedPair Stores key files s tried.GivenUp t =
     (trouble : Trouble) × Stores s.store key files.cfg files.dat (Err trouble) t.store
     × (t ≡ record s { store = t.store; unwritten = one_more s.unwritten })
 
--- both files of a record, as it is shown, went to the store under a name with the record's number, until it took them or the record was given
--- up
+-- both files of a record, as it is shown, went to the store under its name, until it took them or the record was given up
 abbrev pub PutsPair : {K : Type 0} → StoresOf K → Exporting K → FilesParts → Result (Unit {0}) ℕ → Exporting K → Type 0
 PutsPair Stores s files answer t =
-    (answer ≡ Ok tt) × ((key : Key) × (key.number ≡ files.extent.number) × (r : Option Redated) × Shows s.dating files.extent r
+    (answer ≡ Ok tt) × ((key : Key) × (r : Option Redated) × Shows s.dating files.extent r × IsNameOf s.dating.layout r files.extent key
     × (shown : FilesParts) × IsShown s.dating r files shown × StoredOrGivenUp Stores key shown s t)
 
 -- a record for whose files there is no memory is tried again, or given up

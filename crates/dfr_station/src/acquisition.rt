@@ -134,6 +134,7 @@ impl<'s, 'x, I, R, A: Allocator + Copy> Acquisition<'s, 'x, I, R, A> {
 
     /// Bytes have come. If the clock says that scans are missing before them, lost ones come first.
     fn find_gap(&mut self)
+        requires none { self.old.incoming.gap ≡ 0 }
         ensures { FindsGap self.old self.new }
     {
         let more = self.arrivals.waiting();

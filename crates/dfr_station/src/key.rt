@@ -1,6 +1,6 @@
 //! The names of a record's files, from the instant of its trigger and its number.
 
-ghost use Rattle.std.specs.Prelude.{◌≡◌, ◌*ℤ◌, pos};
+ghost use Rattle.std.specs.Prelude.{◌≡◌, ◌⊎◌, ◌*ℤ◌, pos};
 ghost use Rattle.jiff_core.specs.DateTime.{IsCivilNanos};
 ghost use Rattle.dfr_station.specs.Names as spec;
 
@@ -36,6 +36,7 @@ pub fn key_at(instant: i64, number: u64) -> Key
     ensures number { result.number ≡ number }
     ensures first { result.copy ≡ 1 }
     ensures dated { IsCivilNanos (instant *ℤ pos 1000) → spec.IsDated instant result }
+    ensures undated { IsCivilNanos (instant *ℤ pos 1000) ⊎ ((result.date ≡ 0) × (result.time ≡ 0) × (result.micros ≡ 0)) }
 {
     match civil_of(instant) {
         Some(civil) => Key {

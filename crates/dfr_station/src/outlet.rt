@@ -3,6 +3,7 @@
 ghost use Rattle.std.specs.Prelude.{◌≡◌, MatchBool, IfSome, Some, false};
 ghost use Rattle.dfr_station.specs.Dated.{Shows, AreWritable, changed_cfg};
 ghost use Rattle.dfr_station.specs.Input.{one_more};
+ghost use Rattle.dfr_station.specs.Names as names;
 ghost use Rattle.dfr_station.specs.Storing.{TriedPair, StoredOrGivenUp};
 
 use crate::event::{ClockState, Event, Trouble};
@@ -133,20 +134,33 @@ impl<'s, K, R, A: Allocator> Exports<'s, K, R, A> {
     }
 }
 
+/// The instant of a record's trigger as it is shown.
+fn trigger_shown<A: Allocator>(
+    layout: &Layout<A>,
+    extent: Extent,
+    redated: Option<Redated>,
+) -> Option<i64>
+    ensures { result ≡ names.trigger_shown layout.now redated extent }
+{
+    match redated {
+        Some(redated) => Some(redated.is.trigger),
+        None => layout.instant(extent.trigger),
+    }
+}
+
 /// The name of a record's pair, from the instant of its trigger as it is shown.
 pub(crate) fn key_of<A: Allocator>(
     layout: &Layout<A>,
     extent: Extent,
     redated: Option<Redated>,
 ) -> Key
-    ensures { result.number ≡ extent.number }
+    ensures { names.IsNameOf layout.now redated extent result }
 {
-    let instant = match redated {
-        Some(redated) => redated.is.trigger,
+    match trigger_shown(layout, extent, redated) {
+        Some(instant) => key_at(instant, extent.number),
         // a scan without an instant is refused, so the scan of a record's trigger has one
-        None => layout.instant(extent.trigger).unwrap_or(0),
-    };
-    key_at(instant, extent.number)
+        None => key_at(0, extent.number),
+    }
 }
 
 /// What came of trying to store a pair once.

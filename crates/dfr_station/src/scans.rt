@@ -312,11 +312,11 @@ impl<'s, A: Allocator + Copy> Scans<'s, A> {
 
     /// Lets the timebase take in what the clocks showed when so many more scans had come. If another
     /// thread has it just now, the next reading will do. Returns how many lost scans come before them.
-    pub(crate) fn follow(&mut self, moment: Moment, more: u64) -> u64
+    pub(crate) fn follow(&mut self, moment: Moment, more: u64) -> u32
         ensures { self.new ≡ self.old }
     {
-        let scans = self.came.saturating_add(more);
         if let Some(times) = self.times
+            && let Some(scans) = self.came.checked_add(more)
             && let Some(reading) = moment.reading(scans)
             && let Some(mut timebase) = times.try_lock()
         {
@@ -325,7 +325,7 @@ impl<'s, A: Allocator + Copy> Scans<'s, A> {
             if let Some(jump) = answer.jump {
                 self.teller.tell(Event::ClockSet(micros_of(jump)));
             }
-            return u64::try_from(answer.lost).unwrap_or(0);
+            return answer.lost;
         }
         0
     }

@@ -1,8 +1,9 @@
 //! The timebase of a station, which two threads share: the acquisition takes in readings of the
 //! clocks, and the export asks for dates.
 
-ghost use Rattle.std.specs.Prelude.{◌≡◌, ◌≤◌, ◌≤ℤ◌, pos, IfOk, is_some};
+ghost use Rattle.std.specs.Prelude.{◌≡◌, ◌≤◌, pos, IfOk, IfSome, is_some};
 ghost use Rattle.dfr_station.specs.Dated.{is_followed};
+ghost use Rattle.dfr_station.specs.Followed as spec;
 
 use crate::event::Followed;
 use dfr_clock::{Drift, Jump, Reading, Settings, Timebase};
@@ -57,13 +58,18 @@ pub(crate) fn timebase_of<A: Allocator>(
 
 /// A number of the timebase as one of 64 bits; the greatest one if it is beyond.
 fn size_of(number: u128) -> i64
-    ensures { pos 0 ≤ℤ result }
+    ensures { result ≡ pos (spec.size_of number) }
 {
-    i64::try_from(number).unwrap_or(i64::MAX)
+    match i64::try_from(number) {
+        Ok(number) => number,
+        Err(_) => i64::MAX,
+    }
 }
 
 /// By how many microseconds the clock was set.
-pub(crate) fn micros_of(jump: Jump) -> i64 {
+pub(crate) fn micros_of(jump: Jump) -> i64
+    ensures { result ≡ spec.micros_of jump }
+{
     match jump {
         Jump::Forward(micros) => size_of(micros),
         Jump::Back(micros) => -size_of(micros),
@@ -71,7 +77,9 @@ pub(crate) fn micros_of(jump: Jump) -> i64 {
 }
 
 /// By how many parts per billion scans come faster than the rate says.
-fn parts_of(drift: Drift) -> i64 {
+fn parts_of(drift: Drift) -> i64
+    ensures { result ≡ spec.parts_of drift }
+{
     match drift {
         Drift::Fast(parts) => size_of(parts),
         Drift::Slow(parts) => -size_of(parts),
@@ -79,11 +87,16 @@ fn parts_of(drift: Drift) -> i64 {
 }
 
 /// How the clock is followed, where scan 0 has this instant by the set-up.
-pub(crate) fn followed_by<A: Allocator>(timebase: &Timebase<A>, start: i64) -> Option<Followed> {
+pub(crate) fn followed_by<A: Allocator>(timebase: &Timebase<A>, start: i64) -> Option<Followed>
+    ensures { IfSome result (λ followed. spec.IsFollowed timebase.now start followed) }
+{
     let start = u64::try_from(start).ok()?;
     let offset = i64::try_from(timebase.offset(start)).ok()?;
     Some(Followed {
         offset,
-        drift: timebase.drift().map(parts_of),
+        drift: match timebase.drift() {
+            Some(drift) => Some(parts_of(drift)),
+            None => None,
+        },
     })
 }

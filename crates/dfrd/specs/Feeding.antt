@@ -16,8 +16,9 @@ abbrev pub IsWhole : Bool → ℕ → List ℕ → ℕ → Type 0
 IsWhole true size bytes count = count ≡ in_frames size bytes
 IsWhole false size bytes count = (last : Option ℕ) × IsLastByte (is_byte 10) bytes last × (count ≡ up_to last bytes)
 
--- bytes left the queue and wait after those that waited; of them all may be handed on, if the input is over, or else what is whole
-abbrev pub TakesIn : Bool → ℕ → Bool → List ℕ → List ℕ → List ℕ → List ℕ → ℕ → Type 0
-TakesIn has_frames size is_over received waiting later grown count =
+-- bytes left the queue and wait after those that waited. Of them all may be handed on, if the input is over and none is left in the queue, or
+-- else what is whole
+abbrev pub TakesIn : Bool → ℕ → Bool → List ℕ → List ℕ → List ℕ → ℕ → List ℕ → ℕ → Type 0
+TakesIn has_frames size is_over received waiting later left grown count =
     (bytes : List ℕ) × (grown ≡ waiting ++ bytes) × (later ≡ received ++ bytes)
-    × (((is_over ≡ true) × (count ≡ length grown)) ⊎ IsWhole has_frames size grown count)
+    × (((is_over ≡ true) × (left ≡ 0) × (count ≡ length grown)) ⊎ IsWhole has_frames size grown count)

@@ -1,8 +1,8 @@
 //! The input where there is an operator, who may end it: a thread of its own reads it, since a read
 //! that waits can't be ended.
 
-ghost use Rattle.std.specs.Prelude.{◌≡◌, ◌-◌, ◌≤◌, ◌<◌, min, length, take, drop};
-ghost use Rattle.rtrb.specs.Ring.{received};
+ghost use Rattle.std.specs.Prelude.{◌≡◌, ◌-◌, ◌≤◌, ◌<◌, min, length, take, drop, Some, IsTrue};
+ghost use Rattle.rtrb.specs.Ring.{received, known_items};
 ghost use Rattle.dfrd.specs.Feeding as spec;
 
 use dfr_station::{Buffer, ROOM};
@@ -38,8 +38,8 @@ pub(crate) struct Feeder {
     piece: Vec<u8>,
 }
 
-/// The bytes that the thread has read. They are handed on in whole frames or lines, so that the input
-/// never ends within one.
+/// The bytes that the thread has read. Until the input is over they are handed on in whole frames or
+/// lines, so that `stop` never ends it within one. A line that is longer than the room comes in parts.
 #[derive(Drop)]
 pub(crate) struct Fed<'a, R> {
     rt: &'a R,
@@ -150,7 +150,7 @@ impl<R: Wait + Clock> Fed<'_, R> {
     /// ones of an input that is over.
     fn take_in(&mut self, is_over: bool)
         ensures { spec.TakesIn self.old.has_frames self.old.size is_over (received self.old.bytes) self.old.waiting
-            (received self.new.bytes) self.new.waiting self.new.whole }
+            (received self.new.bytes) (length (known_items self.new.bytes)) self.new.waiting self.new.whole }
     {
         let count = self.waiting.take_from(&mut self.bytes);
         self.left = match self.left {
@@ -169,7 +169,8 @@ impl<R: Wait + Clock> Fed<'_, R> {
 
     /// Whether the input is to end, and nothing is left in the queue that was there when it was to.
     fn is_stopped(&mut self) -> bool
-        ensures { (received self.new.bytes ≡ received self.old.bytes)
+        ensures stopped { IsTrue result → self.new.left ≡ Some 0 }
+        ensures same { (received self.new.bytes ≡ received self.old.bytes)
             × (self.new.waiting ≡ self.old.waiting) × (self.new.whole ≡ self.old.whole) }
     {
         if !self.stop.load(Ordering::SeqCst) {

@@ -33,7 +33,7 @@ pub(crate) struct HealthFile {
 }
 
 /// The file, for two threads.
-type Shared = Arc<Mutex<HealthFile>, Global>;
+pub(crate) type Shared = Arc<Mutex<HealthFile>, Global>;
 
 /// The file with this path.
 fn health_file_of(

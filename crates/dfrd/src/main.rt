@@ -16,17 +16,18 @@ mod pair;
 mod place;
 mod record;
 mod removal;
+mod threads;
 mod words;
 
-use crate::feed::{Source, feed_of};
 use crate::folder::{Folder, Records};
-use crate::health_file::{health_of, keep_written, write_last};
-use crate::heard::Heeded;
+use crate::health_file::{Shared, health_of, write_last};
+use crate::heard::{Heard, Heeded};
 use crate::operator::{Follower, WAITING, Waker, follower_of, open_orders};
 use crate::outcome::{complain, out_of_memory};
-use crate::output::{lines_of, write_lines};
-use crate::place::{Place, watch};
+use crate::output::{Lines, lines_of};
+use crate::place::Place;
 use crate::record::{Plan, keep_of, plan_of, record};
+use crate::threads::{source_of, start_following, start_health, start_lines, start_watch};
 use crate::words::{Answer, Asked, answer_of};
 use comtrade_io::{ToolFault, fault_of, put_safe};
 use comtrade_values::put;
@@ -37,9 +38,11 @@ use std::fs::File;
 use std::io::ErrorKind;
 use std::process::ExitCode;
 use std::rt::{Env, Files};
-use std::sync::Arc;
 use std::sync::atomic::AtomicBool;
-use std::{env, io, thread};
+use std::sync::{Arc, Wait};
+use std::thread::Threads;
+use std::time::Clock;
+use std::{env, io};
 
 /// Prints a usage error in printable characters. Returns the exit status.
 fn refuse_words<R: Eprint + AllocGlobal>(rt: &R, text: &str) -> u8 {
@@ -177,30 +180,28 @@ fn made_ready<'a, K: Records, R: Files<File = File> + Print + Eprint + AllocGlob
     Ok(ready)
 }
 
-/// A copy of the runtime for a thread that is not waited for: it ends with the program.
-fn copy_of<R: Eprint + Clone>(rt: &R) -> Option<R> {
-    match rt.clone() {
-        Ok(copy) => Some(copy),
-        Err(_) => {
-            out_of_memory(rt);
-            None
-        }
-    }
-}
-
-fn main(rt: HostRuntime) -> ExitCode {
-    let words = match words_of(&rt) {
-        Ok(words) => words,
-        Err(error) => return ExitCode::from(refuse_start(&rt, error.kind())),
-    };
-    let Ok(texts) = texts_of(&rt, &words) else {
-        return ExitCode::from(out_of_memory(&rt));
-    };
-    let mut folder = Folder::new(&rt);
-    let ready = match made_ready(&rt, &texts, &mut folder) {
-        Ok(ready) => ready,
-        Err(status) => return ExitCode::from(status),
-    };
+/// Starts the threads beside the recording, and records. Returns the exit status; the error is that
+/// of a recording that did not begin.
+fn recorded<
+    R: Files<File = File>
+        + Input
+        + Print
+        + Eprint
+        + AllocGlobal
+        + Threads
+        + Wait
+        + Clock
+        + Clone
+        + Send
+        + Sync
+        + 'static,
+>(
+    rt: &R,
+    ready: Ready<'_>,
+    folder: Folder<'_, R>,
+    (heard, health): (Arc<Heard, Global>, Option<(Shared, Shared)>),
+    lines: &mut Lines<'_, R>,
+) -> Result<u8, u8> {
     let Ready {
         asked,
         plan,
@@ -208,66 +209,70 @@ fn main(rt: HostRuntime) -> ExitCode {
         operator,
         following,
     } = ready;
+    start_watch(rt, place)?;
+    start_following(rt, following)?;
     let frame = plan.frame_in(asked.input);
-    let station = plan.station.as_slice();
-    let Ok((heard, health)) = health_of(rt.alloc(), asked.health, frame, station) else {
-        return ExitCode::from(out_of_memory(&rt));
-    };
-    let Ok((mut lines, mut waiting, progress)) = lines_of(&rt, &heard, asked.how()) else {
-        return ExitCode::from(out_of_memory(&rt));
-    };
-    let (Some(one), Some(two), Some(three), Some(four), Some(five), Some(six)) = (
-        copy_of(&rt),
-        copy_of(&rt),
-        copy_of(&rt),
-        copy_of(&rt),
-        copy_of(&rt),
-        copy_of(&rt),
-    ) else {
-        return ExitCode::from(1);
-    };
-    let mut started = thread::spawn(
-        &rt,
-        move || write_lines(&one, &mut waiting, &progress),
-    ).is_ok();
-    started = started && thread::spawn(&rt, move || watch(&two, &place)).is_ok();
-    if let Some((mut follower, waker)) = following {
-        started = started && thread::spawn(&rt, move || follower.follow(&three)).is_ok();
-        started = started && thread::spawn(&rt, move || waker.wake(&four)).is_ok();
-    }
-    let source = match &operator {
-        None => Source::Direct(rt.reader()),
-        Some(control) => {
-            let Ok(stop) = Arc::try_clone(&control.stop) else {
-                return ExitCode::from(out_of_memory(&rt));
-            };
-            let Ok((mut feeder, fed)) = feed_of(&rt, stop, frame.is_some(), plan.frame) else {
-                return ExitCode::from(out_of_memory(&rt));
-            };
-            started = started
-                && thread::spawn(&rt, move || feeder.read_all(&six, &mut six.reader())).is_ok();
-            Source::Fed(fed)
-        }
-    };
+    let source = source_of(rt, &operator, frame.is_some(), plan.frame)?;
     let mut last = None;
     if let Some((file, other)) = health {
-        started = started && thread::spawn(&rt, move || keep_written(&five, &file)).is_ok();
+        start_health(rt, file)?;
         last = Some(other);
     }
-    if !started {
-        return ExitCode::from(out_of_memory(&rt));
-    }
     let input = Heeded {
-        rt: &rt,
+        rt,
         input: source,
         heard,
         frame,
     };
     let store = Limited::new(folder, asked.most);
-    let status = record(&rt, &asked, &plan, operator, input, store, &mut lines);
+    let status = record(rt, &asked, &plan, operator, input, store, lines);
     lines.finish();
     if let Some(file) = last {
-        write_last(&rt, &file);
+        write_last(rt, &file);
     }
-    ExitCode::from(status)
+    Ok(status)
+}
+
+/// Records as the command line says. Returns the exit status; the error is that of a recording that
+/// did not begin.
+fn run<
+    R: Env
+        + Files<File = File>
+        + Input
+        + Print
+        + Eprint
+        + AllocGlobal
+        + Threads
+        + Wait
+        + Clock
+        + Clone
+        + Send
+        + Sync
+        + 'static,
+>(rt: &R) -> Result<u8, u8> {
+    let words = match words_of(rt) {
+        Ok(words) => words,
+        Err(error) => return Err(refuse_start(rt, error.kind())),
+    };
+    let Ok(texts) = texts_of(rt, &words) else {
+        return Err(out_of_memory(rt));
+    };
+    let mut folder = Folder::new(rt);
+    let ready = made_ready(rt, &texts, &mut folder)?;
+    let frame = ready.plan.frame_in(ready.asked.input);
+    let station = ready.plan.station.as_slice();
+    let Ok(known) = health_of(rt.alloc(), ready.asked.health, frame, station) else {
+        return Err(out_of_memory(rt));
+    };
+    let Ok((mut lines, waiting, progress)) = lines_of(rt, &known.0, ready.asked.how()) else {
+        return Err(out_of_memory(rt));
+    };
+    start_lines(rt, waiting, progress)?;
+    recorded(rt, ready, folder, known, &mut lines)
+}
+
+fn main(rt: HostRuntime) -> ExitCode {
+    match run(&rt) {
+        Ok(status) | Err(status) => ExitCode::from(status),
+    }
 }

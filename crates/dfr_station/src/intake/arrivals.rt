@@ -59,7 +59,7 @@ pub(crate) struct Arrivals<'x, I, A: Allocator = Global> {
     /// The moment of the last read.
     at: Moment,
     /// How many lost scans are handed out before anything else.
-    gap: u64,
+    gap: u32,
     /// All that was read has been handed out.
     is_drained: bool,
     /// Why no more is read.
@@ -99,11 +99,12 @@ impl<'x, I, A: Allocator + Copy> Arrivals<'x, I, A> {
     }
 
     /// So many lost scans are to be handed out before anything else.
-    pub(crate) fn stand_still(&mut self, lost: u64)
+    pub(crate) fn stand_still(&mut self, lost: u32)
+        requires none { self.old.gap ≡ 0 }
         ensures { (self.new.input ≡ self.old.input) × (self.new.cutter ≡ self.old.cutter)
-            × (self.new.ending ≡ self.old.ending) }
+            × (self.new.ending ≡ self.old.ending) × (self.new.gap ≡ lost) }
     {
-        self.gap = self.gap.saturating_add(lost);
+        self.gap = lost;
     }
 
     /// How an input ended that was read to its end, once all that it gave was handed out.
@@ -120,8 +121,10 @@ impl<'x, I, A: Allocator + Copy> Arrivals<'x, I, A> {
 impl<I: Read, A: Allocator + Copy> Arrivals<'_, I, A> {
     /// What comes next of what was read. None if more has to be read.
     fn next_read(&mut self, spare: &mut Option<Scan<A>>) -> Option<Next<A>>
-        ensures { MatchOption result (spec.IsDrained I.remaining self.old self.new)
+        ensures next { MatchOption result (spec.IsDrained I.remaining self.old self.new)
             (λ next. spec.HandsNext I.remaining self.old next self.new) }
+        ensures gap { MatchOption result (self.new.gap ≡ self.old.gap)
+            (λ next. spec.ReadsAfterGap next self.new) }
     {
         let is_last = matches!(self.ending, Some(Stop::End));
         if let Some(arrival) = self.cutter.next(is_last, spare) {
@@ -138,7 +141,8 @@ impl<I: Read, A: Allocator + Copy> Arrivals<'_, I, A> {
     fn read<R: Wait + Clock>(&mut self, rt: &R)
         requires room { length self.old.cutter.buffer < 65_536 }
         requires going { self.old.ending ≡ None }
-        ensures { spec.CameFirst I.remaining self.old [] self.new }
+        ensures came { spec.CameFirst I.remaining self.old [] self.new }
+        ensures gap { self.new.gap ≡ self.old.gap }
     {
         match self.cutter.buffer.fill(rt, &mut self.input) {
             Given::Bytes(_) => self.at = Moment::now(rt),
@@ -149,7 +153,8 @@ impl<I: Read, A: Allocator + Copy> Arrivals<'_, I, A> {
 
     /// What comes next. A scan of a frame has the memory of the spare one, if there is one.
     pub(crate) fn next<R: Wait + Clock>(&mut self, rt: &R, spare: &mut Option<Scan<A>>) -> Next<A>
-        ensures { spec.HandsNext I.remaining self.old result self.new }
+        ensures next { spec.HandsNext I.remaining self.old result self.new }
+        ensures gap { spec.ReadsAfterGap result self.new }
     {
         if self.gap > 0 {
             self.gap -= 1;

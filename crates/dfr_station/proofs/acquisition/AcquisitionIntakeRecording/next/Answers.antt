@@ -1,21 +1,21 @@
 use Rattle.std.proofs.Common.{refl, sym}
 use Rattle.dfr_station.specs.Arrivals.{HandsNext}
 use Rattle.dfr_station.specs.declared.intake.arrivals.Next.TheVariants as coming
-use Rattle.dfr_station.proofs.Acquired.{quiet_more, gives_some, gives_gap, gives_end, reads_more}
+use Rattle.dfr_station.proofs.Acquired.{quiet_more, quiet_gap, gives_some, gives_gap, gives_end, reads_more}
 use Rattle.dfr_station.proofs.Handing.{came_same}
 use Rattle.dfr_station.proofs.acquisition.AcquisitionIntakeRecording.next.Goals as goal
 
 pub returns-in-Some-step_of : goal.returns-in-Some-step_of
 returns-in-Some-step_of g c =
     gives_some (HandsNext g.I.Read.remaining) c.args.self.now _ c.loop.self c.step_of.new.self c.next-in-loop.new.self (coming.Arrival c.in-Arrival.arrival) c.in-Some-step_of.fed
-    c.self-in-loop.view_is c.loop.invariant.2 c.in-Arrival.ensures c.in-Some-step_of.ensures
+    c.self-in-loop.view_is c.loop.invariant.2 c.in-Arrival.ensures.next c.in-Some-step_of.ensures
 
 pub loop-preserved-in_default : goal.loop-preserved-in_default
 loop-preserved-in_default g c = (
   tt,
   tt,
   quiet_more (HandsNext g.I.Read.remaining) _ _ c.loop.self c.step_of.new.self c.next-in-loop.new.self (coming.Arrival c.in-Arrival.arrival)
-      c.self-in-loop.view_is c.loop.invariant.2 c.in-Arrival.ensures (rw c.in_default.is at c.step_of.ensures),
+      c.self-in-loop.view_is c.loop.invariant.2 c.in-Arrival.ensures.next (rw c.in_default.is at c.step_of.ensures),
 )
 
 pub loop-preserved : goal.loop-preserved
@@ -23,25 +23,25 @@ loop-preserved g c = (
   tt,
   tt,
   quiet_more (HandsNext g.I.Read.remaining) _ _ c.loop.self _ c.next-in-loop.new.self coming.Drained
-      c.self-in-loop.view_is c.loop.invariant.2 c.in-Drained.ensures (refl, c.publish.ensures, refl),
+      c.self-in-loop.view_is c.loop.invariant.2 c.in-Drained.ensures.next (refl, c.publish.ensures, refl),
 )
 
 pub returns-in-End : goal.returns-in-End
 returns-in-End g c =
     rw c.end.ensures (gives_end (HandsNext g.I.Read.remaining) c.args.self.now _ c.loop.self _ c.in-End.ending
-    c.self-in-loop.view_is c.loop.invariant.2 c.in-End.ensures c.publish-in-End.ensures refl)
+    c.self-in-loop.view_is c.loop.invariant.2 c.in-End.ensures.next c.publish-in-End.ensures refl)
 
 pub returns-then-is_dated : goal.returns-then-is_dated
 returns-then-is_dated g c =
     gives_gap (HandsNext g.I.Read.remaining) c.args.self.now _ c.loop.self _ c.lose.result
-    c.self-in-loop.view_is c.loop.invariant.2 c.in-Gap.ensures (sym c.if-is_dated.ensures) c.lose.ensures refl
+    c.self-in-loop.view_is c.loop.invariant.2 c.in-Gap.ensures.next (sym c.if-is_dated.ensures) c.lose.ensures refl
 
 pub loop-preserved-else-is_dated : goal.loop-preserved-else-is_dated
 loop-preserved-else-is_dated g c = (
   tt,
   tt,
-  quiet_more (HandsNext g.I.Read.remaining) _ _ c.loop.self _ c.next-in-loop.new.self coming.Gap
-      c.self-in-loop.view_is c.loop.invariant.2 c.in-Gap.ensures (refl, refl, refl),
+  quiet_gap (HandsNext g.I.Read.remaining) _ _ c.loop.self c.next-in-loop.new.self
+      c.self-in-loop.view_is c.loop.invariant.2 c.in-Gap.ensures.next (sym c.if-is_dated.ensures),
 )
 
 pub loop-preserved-in-Read : goal.loop-preserved-in-Read
@@ -50,6 +50,6 @@ loop-preserved-in-Read g c = (
   tt,
   reads_more (HandsNext g.I.Read.remaining) _ _ c.loop.self c.find_gap.new.self
       c.self-in-loop.view_is c.loop.invariant.2
-      (came_same g.I.Read.remaining _ c.next-in-loop.new.self c.find_gap.new.self.incoming c.in-Read.ensures c.find_gap.ensures.1 c.find_gap.ensures.2 c.find_gap.ensures.3)
+      (came_same g.I.Read.remaining _ c.next-in-loop.new.self c.find_gap.new.self.incoming c.in-Read.ensures.next c.find_gap.ensures.1 c.find_gap.ensures.2 c.find_gap.ensures.3)
       (rw c.find_gap.ensures.0 refl) (rw c.find_gap.ensures.0 refl),
 )
