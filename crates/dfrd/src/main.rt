@@ -201,7 +201,10 @@ fn recorded<
     folder: Folder<'_, R>,
     (heard, health): (Arc<Heard, Global>, Option<(Shared, Shared)>),
     lines: &mut Lines<'_, R>,
-) -> Result<u8, u8> {
+) -> Result<u8, u8>
+where
+    R::Reader: Send,
+{
     let Ready {
         asked,
         plan,
@@ -249,7 +252,10 @@ fn run<
         + Send
         + Sync
         + 'static,
->(rt: &R) -> Result<u8, u8> {
+>(rt: &R) -> Result<u8, u8>
+where
+    R::Reader: Send,
+{
     let words = match words_of(rt) {
         Ok(words) => words,
         Err(error) => return Err(refuse_start(rt, error.kind())),

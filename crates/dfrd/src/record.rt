@@ -3,7 +3,7 @@
 ghost use Rattle.std.specs.Prelude.{◌<◌, IfSome};
 
 use crate::check::{frame_of, print_judged};
-use crate::folder::Keep;
+use dfr_folder::Keep;
 use crate::outcome::{complain, out_of_memory};
 use crate::words::Asked;
 use comtrade_io::{ToolFault, fault_of, read_up_to};
