@@ -7,9 +7,7 @@ use crate::disk::Disk;
 use crate::outcome::{Reason, complain, reason_of};
 use crate::pair::{folder_key, is_free, record_key, size_of_pair};
 use crate::place::Place;
-use dfr_folder::{
-    Fault, Keep, Key, Mended, Put, Recorded, Unknown, mend, put_for, put_or_mend,
-};
+use dfr_folder::{Fault, Keep, Key, Mended, Put, Recorded, Unknown, mend, put_for, put_or_mend};
 use dfr_station::{Store, Stored, Trouble};
 use std::alloc::Global;
 use std::fs::File;

@@ -44,7 +44,9 @@ fn is_of_pair(seen: &Seen, key: Key) -> bool {
 fn is_alone(files: &[Seen], at: usize, seen: &Seen) -> bool {
     let key = seen.name.key;
     let before = files[..at].iter().rev().take(4);
-    let has_pair = before.chain(files[at..].iter().take(5)).any(|other| is_of_pair(other, key));
+    let has_pair = before
+        .chain(files[at..].iter().take(5))
+        .any(|other| is_of_pair(other, key));
     seen.name.ending == Ending::Data && !has_pair
 }
 

@@ -8,6 +8,7 @@ mod folder;
 mod found;
 mod health_file;
 mod heard;
+mod memory;
 mod operator;
 mod options;
 mod outcome;
