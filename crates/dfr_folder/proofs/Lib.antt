@@ -15,3 +15,5 @@ mod Oldest
 mod Keeping
 mod Whole
 mod Dropping
+mod Clean
+mod TextLemmas

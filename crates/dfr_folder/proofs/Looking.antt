@@ -15,11 +15,11 @@ each_ending P a b c d g ending.ConfigPart = c
 each_ending P a b c d g ending.DataPart = d
 each_ending P a b c d g ending.Gone = g
 
-none_of_false : (o : Option File) → is_some (bytes_of o) ≡ false → o ≡ None
+pub none_of_false : (o : Option File) → is_some (bytes_of o) ≡ false → o ≡ None
 none_of_false None e = refl
 none_of_false (Some file) e = absurd (cc)
 
-stays_none : (o : Option File) (left : Option (List ℕ)) → o ≡ None → Stays o left → left ≡ None
+pub stays_none : (o : Option File) (left : Option (List ℕ)) → o ≡ None → Stays o left → left ≡ None
 stays_none None left e stays = stays
 stays_none (Some file) left e stays = absurd (cc)
 

@@ -1,8 +1,8 @@
 -- Names that are the same, and lists of the files that are there.
-use Rattle.std.proofs.Common.{◌≡◌, ◌⊎◌, ℕ, ◌+◌, ◌<◌, ◌==◌, Bool, true, false, cond, not, ◌&&◌, if◌then◌else◌, List, [], ◌∷◌, ◌++◌, drop, get_or, length, Option, Some, None, refl, sym, ◌∙◌, ap, subst, inl, inr, ⊎_elim, filter}
+use Rattle.std.proofs.Common.{◌≡◌, ◌⊎◌, ℕ, ◌+◌, ◌<◌, ◌==◌, Bool, true, false, cond, not, ◌&&◌, if◌then◌else◌, List, [], ◌∷◌, ◌++◌, zero, suc, take, drop, set, get_or, length, Option, Some, None, refl, sym, ◌∙◌, ap, subst, inl, inr, ⊎_elim, filter, arith}
 use Rattle.std.specs.Prelude.{Contains}
 use Rattle.std.proofs.lemmas.Bool.{cases_Bool, eqb-true, eq-eqb}
-use Rattle.std.proofs.lemmas.List.{at_drop_more}
+use Rattle.std.proofs.lemmas.List.{at_drop_more, take_more}
 use Rattle.std.proofs.lemmas.List.Elements.{Contains-push, Contains-append_left}
 use Rattle.dfr_folder.specs.declared.name.Ending.{Ending}
 use Rattle.dfr_folder.specs.declared.name.Ending.TheVariants as ending
@@ -25,6 +25,14 @@ all_true a b c d e f h =
     let h₄ = both (a && b) c h₃.0 in
     let h₅ = both a b h₄.0 in
     (h₅.0, h₅.1, h₄.1, h₃.1, h₂.1, h₁.1)
+
+pub all_five : (a b c d e : Bool) → (a && b && c && d && e) ≡ true → (a ≡ true) × (b ≡ true) × (c ≡ true) × (d ≡ true) × (e ≡ true)
+all_five a b c d e h =
+    let h₁ = both (a && b && c && d) e h in
+    let h₂ = both (a && b && c) d h₁.0 in
+    let h₃ = both (a && b) c h₂.0 in
+    let h₄ = both a b h₃.0 in
+    (h₄.0, h₄.1, h₃.1, h₂.1, h₁.1)
 
 ending_of : ℕ → Ending
 ending_of n = if n == 0 then ending.Config else if n == 1 then ending.Data else if n == 2 then ending.ConfigPart else if n == 3 then ending.DataPart else ending.Gone
@@ -61,10 +69,10 @@ same_refl n =
 pub same_apart : (a b : Name) → (b ≡ a → ⊥) → same_name a b ≡ false
 same_apart a b apart = ⊎_elim (λ yes. absurd (apart (sym (same_true a b yes)))) (λ no. no) (cases_Bool (same_name a b))
 
-true_false : {b : Bool} → b ≡ false → b ≡ true → ⊥
+pub true_false : {b : Bool} → b ≡ false → b ≡ true → ⊥
 true_false p q = absurd (cc (p, q))
 
-Some_not_None : {A : Type 0} (x : A) → Some x ≡ None → ⊥
+pub Some_not_None : {A : Type 0} (x : A) → Some x ≡ None → ⊥
 Some_not_None x e = absurd (cc)
 
 -- a name at the end of a list that did not have it
@@ -116,3 +124,20 @@ keys_skip xs keys n i d less other is (inl there) = inl there
 keys_skip xs keys n i d less other is (inr rest) =
     let no : same_name (get_or xs i d).name n ≡ false = same_apart (get_or xs i d).name n (λ same. true_false (subst (λ (m : Name). is_leftover m.ending ≡ false) (sym same) other) is) in
     inr (λ none. rest (state_step xs n i d less ∙ subst (λ b. (if b then Some (get_or xs i d).synced else state_of (drop (i + 1) xs) n) ≡ None) (sym no) none))
+
+-- a file of the list is noted as synced
+pub set_there : (test : Name → Bool) (xs : List Seen) (i : ℕ) (s : Seen) → i < length xs → state_by test (take i xs) ≡ None → test s.name ≡ true → state_by test (set xs i s) ≡ Some s.synced
+set_there test [] i s less none is = absurd (omega arith)
+set_there test (x ∷ xs) zero s less none is = rw is refl
+set_there test (x ∷ xs) (suc i) s less none is = ⊎_elim
+    (λ yes. absurd (Some_not_None x.synced (subst (λ b. (if b then Some x.synced else state_by test (take i xs)) ≡ None) yes none)))
+    (λ no. rw no (set_there test xs i s (omega arith) (subst (λ b. (if b then Some x.synced else state_by test (take i xs)) ≡ None) no none) is))
+    (cases_Bool (test x.name))
+
+pub set_other : (test : Name → Bool) (xs : List Seen) (i : ℕ) (d s : Seen) → i < length xs → test (get_or xs i d).name ≡ false → test s.name ≡ false → state_by test (set xs i s) ≡ state_by test xs
+set_other test [] i d s less was is = refl
+set_other test (x ∷ xs) zero d s less was is = rw (is, was) refl
+set_other test (x ∷ xs) (suc i) d s less was is = ap (λ (o : Option Bool). if test x.name then Some x.synced else o) (set_other test xs i d s (omega arith) was is)
+
+pub take_none : (test : Name → Bool) (xs : List Seen) (i : ℕ) (d : Seen) → i < length xs → state_by test (take i xs) ≡ None → test (get_or xs i d).name ≡ false → state_by test (take (i + 1) xs) ≡ None
+take_none test xs i d less none other = rw (take_more xs i d less) (push_other test (take i xs) (get_or xs i d) other ∙ none)

@@ -1,5 +1,5 @@
 -- What was asked of a folder, and what a loss of power may leave of it.
-use Rattle.std.specs.Prelude.{◌≡◌, ◌⊎◌, ◌≤◌, ◌+◌, ◌==◌, ◌&&◌, ℕ, Bool, false, if◌then◌else◌, List, [], ◌∷◌, length, Option, Some, None}
+use Rattle.std.specs.Prelude.{◌≡◌, ◌⊎◌, ◌≤◌, ◌+◌, ◌==◌, ◌&&◌, ℕ, suc, Bool, true, if◌then◌else◌, List, [], ◌∷◌, length, Option, Some, None}
 use Rattle.std.proofs.Common.{inl, inr}
 use Rattle.std.proofs.Math.Nat.{not-suc-le_self}
 use Rattle.dfr_folder.specs.declared.call.Call.{Call}
@@ -40,34 +40,35 @@ abbrev pub state_of : List Seen → Name → Option Bool
 state_of there name = state_by (λ n. same_name n name) there
 
 -- no file, or one whose bytes are on the disk
-abbrev pub IsNotFalse : Option Bool → Type 0
-IsNotFalse o = o ≡ Some false → ⊥
+abbrev pub is_not_false : Option Bool → Bool
+is_not_false None = true
+is_not_false (Some synced) = synced
 
--- the bytes under a name after a call
-abbrev pub bytes_after : Call → List ℕ → (Name → List ℕ) → Name → List ℕ
-bytes_after (call.Wrote name) bytes before n = if same_name name n then bytes else before n
-bytes_after (call.WroteInPart name) bytes before n = if same_name name n then bytes else before n
-bytes_after (call.Synced name) bytes before n = before n
-bytes_after (call.Renamed from to) bytes before n = if same_name to n then before from else before n
-bytes_after (call.NotRenamed from to) bytes before n = before n
-bytes_after (call.Removed name) bytes before n = before n
-bytes_after (call.NotRemoved name) bytes before n = before n
-bytes_after call.SyncedNames bytes before n = before n
-bytes_after call.Looked bytes before n = before n
-bytes_after call.Failed bytes before n = before n
+-- the bytes under a name after a call; a write that failed left a part, or other bytes
+abbrev pub bytes_after : Call → List ℕ → (Name → List ℕ) → (Name → List ℕ) → Name → List ℕ
+bytes_after (call.Wrote name) bytes part before n = if same_name name n then bytes else before n
+bytes_after (call.WroteInPart name) bytes part before n = if same_name name n then part n else before n
+bytes_after (call.Synced name) bytes part before n = before n
+bytes_after (call.Renamed from to) bytes part before n = if same_name to n then before from else before n
+bytes_after (call.NotRenamed from to) bytes part before n = before n
+bytes_after (call.Removed name) bytes part before n = before n
+bytes_after (call.NotRemoved name) bytes part before n = before n
+bytes_after call.SyncedNames bytes part before n = before n
+bytes_after call.Looked bytes part before n = before n
+bytes_after call.Failed bytes part before n = before n
 
--- the bytes under a name, if there is such a file; the newest call comes first
-abbrev pub bytes_under : (Name → List ℕ) → List Event → Name → List ℕ
-bytes_under first [] n = first n
-bytes_under first (event ∷ earlier) n = bytes_after event.0 event.2 (bytes_under first earlier) n
+-- The bytes under a name, if there is such a file; the newest call comes first. `other` has those that no call was given: at 0 what each file had at the start, and at the number of a call what that left of a write.
+abbrev pub bytes_under : (ℕ → Name → List ℕ) → List Event → Name → List ℕ
+bytes_under other [] n = other 0 n
+bytes_under other (event ∷ earlier) n = bytes_after event.0 event.2 (other (suc (length earlier))) (bytes_under other earlier) n
 
 abbrev pub file_of : Option Bool → List ℕ → Option File
 file_of None bytes = None
 file_of (Some synced) bytes = Some (record { bytes = bytes; synced = synced })
 
 -- what each name has
-abbrev pub files_of : (Name → List ℕ) → List Seen → List Event → Name → Option File
-files_of first there events n = file_of (state_of there n) (bytes_under first events n)
+abbrev pub files_of : (ℕ → Name → List ℕ) → List Seen → List Event → Name → Option File
+files_of other there events n = file_of (state_of there n) (bytes_under other events n)
 
 -- A crash leaves what it might have left before a call, or the same with its change made. A sync takes outcomes away.
 abbrev pub left_after : Call → (Name → Option File) → List ℕ → (Content → Type 0) → Content → Type 0
@@ -82,11 +83,11 @@ left_after call.SyncedNames files bytes before c = before c × ((n : Name) → S
 left_after call.Looked files bytes before c = before c
 left_after call.Failed files bytes before c = before c
 
-module _ (first : Name → List ℕ) (start : Content → Type 0) where
+module _ (other : ℕ → Name → List ℕ) (start : Content → Type 0) where
   -- what a crash after these calls may leave
   abbrev pub left : List Event → Content → Type 0
   left [] c = start c
-  left (event ∷ earlier) c = left_after event.0 (files_of first event.1 earlier) event.2 (left earlier) c
+  left (event ∷ earlier) c = left_after event.0 (files_of other event.1 earlier) event.2 (left earlier) c
 
   -- what a crash might have left before the newest call, but after the first so many
   abbrev pub was_left : ℕ → List Event → Content → Type 0

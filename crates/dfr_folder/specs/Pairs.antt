@@ -83,6 +83,10 @@ pub record Beside {D : Type 0} (may_leave : D → Content → Type 0) (old : D) 
   pub elsewhere : (n : Name) → (n.key ≡ key → ⊥) → c n ≡ before n
   pub there : P (under c key)
 
+-- a crash left what it might have left before, but for the files of one key
+abbrev pub OthersStay : {D : Type 0} → (D → Content → Type 0) → D → Key → Content → Type 0
+OthersStay may_leave old key c = (d : Content) × may_leave old d × ((n : Name) → (n.key ≡ key → ⊥) → c n ≡ d n)
+
 -- no name of the key is in use, and no crash leaves one
 abbrev pub IsFree : {D : Type 0} → (D → Name → Option File) → (D → Content → Type 0) → D → Key → Type 0
 IsFree files may_leave directory key = (end : Ending) → IsFresh files may_leave directory (name key end)
@@ -146,13 +150,23 @@ pub record AreNames (have : Files) (names : Names) : Type 0 where
 abbrev pub IsTidy : Files → Type 0
 IsTidy have = (end : Ending) → have end ≡ kept (found have) end
 
+-- There is a configuration file and no leftover, and the bytes of all are on the disk.
+pub record IsWhole {D : Type 0} (files : D → Name → Option File) (directory : D) (key : Key) : Type 0 where
+  pub config : seen files directory key ending.Config ≡ None → ⊥
+  pub tidy : IsTidy (seen files directory key)
+  pub synced : AreSynced files directory key
+
 -- recovery makes the same of each key's files
 abbrev pub AllMend : {D : Type 0} → (D → Name → Option File) → D → Content → Type 0
 AllMend files old c = (key : Key) → IsMending (seen files old key) (under c key)
 
--- Recovery makes the same of each key's files as it would have of one content that a crash might have left.
+-- Recovery makes the same of each key's files as it would have of one of these contents.
+abbrev pub Mends : (Content → Type 0) → Content → Type 0
+Mends might_leave c = (before : Content) × might_leave before × ((key : Key) → IsMending (under before key) (under c key))
+
+-- The same, of one content that a crash might have left.
 abbrev pub MendsOne : {D : Type 0} → (D → Content → Type 0) → D → Content → Type 0
-MendsOne may_leave old c = (before : Content) × may_leave old before × ((key : Key) → IsMending (under before key) (under c key))
+MendsOne may_leave old c = Mends (may_leave old) c
 
 -- no key comes twice
 abbrev pub IsDistinct : List Key → Type 0

@@ -1,11 +1,12 @@
-//! Calls without a premise on the folder: each looks first whether its files allow it.
+//! Calls that look first whether the files of the folder allow them. Only `discard_next` has a
+//! premise: that the names are on the disk.
 
-ghost use Rattle.std.specs.Prelude.{◌≡◌, ◌⊎◌, ◌∷◌, ℕ, List, true, false, Some, None, IfOk};
+ghost use Rattle.std.specs.Prelude.{◌≡◌, ◌⊎◌, ◌∷◌, ◌↔◌, ℕ, List, true, false, Some, None, IfOk};
 ghost use Rattle.dfr_folder.specs.declared.name.Ending.{Ending};
 ghost use Rattle.dfr_folder.specs.declared.name.Key.{Key};
 ghost use Rattle.dfr_folder.specs.declared.name.Name.{Name};
 ghost use Rattle.dfr_folder.specs.Directory.{Content, IsKept, IsSettled, LeavesNow, LeavesOnly, HasCause};
-ghost use Rattle.dfr_folder.specs.Pairs.{AllWhole, AreSynced, Beside, IsAtRest, IsFree, IsNoneOr, IsTidy, Rests, found, name as named, pair, recovered, seen, under};
+ghost use Rattle.dfr_folder.specs.Pairs.{AllWhole, AreSynced, Beside, IsAtRest, IsFree, IsNoneOr, IsTidy, IsWhole, OthersStay, Rests, found, name as named, pair, recovered, seen, under};
 
 use crate::directory::{Directory, Fault};
 use crate::folder::{give_up, put};
@@ -30,6 +31,8 @@ fn is_tidy(names: Names) -> bool
     ensures cfg_part { result ≡ true → names.cfg_part ≡ false }
     ensures dat_part { result ≡ true → names.dat_part ≡ false }
     ensures gone { result ≡ true → names.gone ≡ false }
+    ensures all { names.cfg ≡ true → names.cfg_part ≡ false → names.dat_part ≡ false
+        → names.gone ≡ false → result ≡ true }
 {
     names.cfg && !names.cfg_part && !names.dat_part && !names.gone
 }
@@ -57,6 +60,7 @@ fn claim<D: Directory>(directory: &mut D, key: Key) -> Result<bool, Fault>
 fn is_whole<D: Directory>(directory: &mut D, key: Key) -> Result<bool, Fault>
     ensures synced { IfOk result (λ is_one. is_one ≡ true → AreSynced D.files directory.new key) }
     ensures tidy { IfOk result (λ is_one. is_one ≡ true → IsTidy (seen D.files directory.new key)) }
+    ensures exact { IfOk result (λ is_one. (is_one ≡ true) ↔ IsWhole D.files directory.old key) }
     ensures any_moment { LeavesOnly D.may_leave D.left_since directory.old directory.new
         (D.may_leave directory.old) }
     ensures same { (n : Name) → D.files directory.new n ≡ D.files directory.old n }
@@ -72,6 +76,7 @@ fn is_resting<D: Directory>(directory: &mut D, key: Key) -> Result<bool, Fault>
     ensures rests { IfOk result (λ is_one. is_one ≡ true
         → IsAtRest D.files D.may_leave directory.new key) }
     ensures tidy { IfOk result (λ is_one. is_one ≡ true → IsTidy (seen D.files directory.new key)) }
+    ensures exact { IfOk result (λ is_one. (is_one ≡ true) ↔ IsWhole D.files directory.old key) }
     ensures any_moment { LeavesOnly D.may_leave D.left_since directory.old directory.new
         (D.may_leave directory.old) }
     ensures same { (n : Name) → D.files directory.new n ≡ D.files directory.old n }
@@ -105,9 +110,9 @@ pub fn put_new<D: Directory>(
         (Some (cfg.now, Some dat.now))) c) }
     ensures stored { IfOk result (λ is_put. is_put ≡ true
         → Rests D.files D.may_leave directory.new key (pair cfg.now dat.now)) }
-    // It is refused only if there is a file of the key, and then nothing is done.
-    ensures used { IfOk result (λ is_put. is_put ≡ false
-        → ((end : Ending) → D.files directory.old (named key end) ≡ None) → ⊥) }
+    // It is put exactly if there is no file of the key. If not, nothing is done.
+    ensures able { IfOk result (λ is_put. (is_put ≡ true)
+        ↔ ((end : Ending) → D.files directory.old (named key end) ≡ None)) }
     ensures refused { IfOk result (λ is_put. is_put ≡ false → IsKept D.files D.may_leave
         directory.old directory.new) }
     ensures settled { IfOk result (λ is_put. is_put ≡ true
@@ -133,9 +138,10 @@ pub fn discard<D: Directory>(directory: &mut D, key: Key) -> Result<bool, Fault>
         → LeavesOnly D.may_leave D.left_since directory.old directory.new (AllWhole records) }
     // A crash at any moment leaves all other files as before the call.
     ensures others { LeavesOnly D.may_leave D.left_since directory.old directory.new
-        (λ c. (d : Content) × D.may_leave directory.old d
-        × ((n : Name) → (n.key ≡ key → ⊥) → c n ≡ d n)) }
-    // If it isn't given up, nothing is done.
+        (OthersStay D.may_leave directory.old key) }
+    // It is given up exactly if there is a configuration file, all its key's files are on the disk,
+    // and no leftover is there. If not, nothing is done.
+    ensures able { IfOk result (λ is_gone. (is_gone ≡ true) ↔ IsWhole D.files directory.old key) }
     ensures refused { IfOk result (λ is_gone. is_gone ≡ false → IsKept D.files D.may_leave
         directory.old directory.new) }
     ensures gone { IfOk result (λ is_gone. is_gone ≡ true
@@ -163,9 +169,10 @@ pub fn discard_next<D: Directory>(directory: &mut D, key: Key) -> Result<bool, F
         → LeavesOnly D.may_leave D.left_since directory.old directory.new (AllWhole records) }
     // A crash at any moment leaves all other files as before the call.
     ensures others { LeavesOnly D.may_leave D.left_since directory.old directory.new
-        (λ c. (d : Content) × D.may_leave directory.old d
-        × ((n : Name) → (n.key ≡ key → ⊥) → c n ≡ d n)) }
-    // If it isn't given up, nothing is done.
+        (OthersStay D.may_leave directory.old key) }
+    // It is given up exactly if there is a configuration file, all its key's files are on the disk,
+    // and no leftover is there. If not, nothing is done.
+    ensures able { IfOk result (λ is_gone. (is_gone ≡ true) ↔ IsWhole D.files directory.old key) }
     ensures refused { IfOk result (λ is_gone. is_gone ≡ false → IsKept D.files D.may_leave
         directory.old directory.new) }
     ensures gone { IfOk result (λ is_gone. is_gone ≡ true

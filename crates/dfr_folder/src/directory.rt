@@ -1,6 +1,6 @@
 //! A directory as the folder of records uses it: what each name has, and what a crash may leave.
 
-ghost use Rattle.std.specs.Prelude.{◌≡◌, ◌⊎◌, ◌≤◌, ℕ, List, Option, None, Some, true, IfOk, OnOk, OnErr, Contains};
+ghost use Rattle.std.specs.Prelude.{◌≡◌, ◌⊎◌, ◌≤◌, ◌↔◌, ℕ, List, Option, None, Some, true, IfOk, OnOk, OnErr, Contains};
 ghost use Rattle.dfr_folder.specs.declared.name.Name.{Name};
 ghost use Rattle.dfr_folder.specs.Directory.{File, Content, Follows, SameBut, Moved, Removed, Stays, IsFresh, Elapses, HasCause, unsynced, on_disk};
 ghost use Rattle.dfr_folder.specs.Pairs.{AreNames, AreSynced, is_leftover, seen};
@@ -97,7 +97,7 @@ pub trait Directory {
 
     /// Whether the bytes of each file of a key are on the disk.
     fn are_synced(&mut self, key: Key) -> Result<bool, Fault>
-        ensures synced { IfOk result (λ are. are ≡ true → AreSynced files self.old key) }
+        ensures synced { IfOk result (λ are. (are ≡ true) ↔ AreSynced files self.old key) }
         ensures same { (n : Name) → files self.new n ≡ files self.old n }
         ensures crash { (c : Content) → may_leave self.new c → may_leave self.old c }
         ensures time { Elapses moment may_leave left_since self.old self.new }

@@ -5,7 +5,7 @@ ghost use Rattle.dfr_folder.specs.declared.name.Ending.{Ending};
 ghost use Rattle.dfr_folder.specs.declared.name.Key.{Key};
 ghost use Rattle.dfr_folder.specs.declared.name.Name.{Name};
 ghost use Rattle.dfr_folder.specs.Directory.{Content, IsSettled, LeavesNow, LeavesOnly, HasCause};
-ghost use Rattle.dfr_folder.specs.Pairs.{AllMend, AllWhole, AreSynced, Beside, GivesUp, IsAtRest, IsDistinct, IsFree, IsNoneOr, IsTidy, Rests, found, pair, recovered, seen, tidied, under};
+ghost use Rattle.dfr_folder.specs.Pairs.{AllMend, AllWhole, AreSynced, Beside, GivesUp, IsAtRest, IsDistinct, IsFree, IsNoneOr, IsTidy, MendsOne, Rests, found, pair, recovered, seen, tidied, under};
 
 use crate::directory::{Directory, Fault};
 use crate::name::Key;
@@ -98,6 +98,9 @@ pub fn recover<D: Directory>(directory: &mut D, alloc: Global) -> Result<(), Fau
     // of as of what is seen.
     ensures any_moment { LeavesOnly D.may_leave D.left_since directory.old directory.new
         (λ c. D.may_leave directory.old c ⊎ AllMend D.files directory.old c) }
+    // That is also the same as of what a crash might have left before.
+    ensures from { LeavesOnly D.may_leave D.left_since directory.old directory.new (MendsOne
+        D.may_leave directory.old) }
     ensures rests { OnOk result ((key : Key) → IsAtRest D.files D.may_leave directory.new key) }
     // No leftover stays.
     ensures clean { OnOk result ((key : Key) (end : Ending)

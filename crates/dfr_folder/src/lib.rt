@@ -4,6 +4,7 @@
 
 mod call;
 mod checked;
+mod choice;
 mod directory;
 mod folder;
 mod log;
@@ -15,12 +16,15 @@ mod recovery;
 mod removal;
 mod seen;
 mod system;
+mod text;
 
 pub use call::Call;
 pub use checked::{discard, discard_next, put_new};
+pub use choice::{Keep, is_full, is_short, surplus};
 pub use directory::{Directory, Fault};
 pub use folder::{give_up, keep, put, recover};
 pub use name::{Ending, Key, Name, Names, Seen};
-pub use opened::{Put, mend, open_folder, put_for, put_or_mend};
+pub use opened::{Mended, Put, mend, open_folder, put_for, put_or_mend};
 pub use recorded::Recorded;
 pub use system::{Start, System, Unknown};
+pub use text::{name_in, put_key, put_name};

@@ -26,7 +26,7 @@ pub struct Recorded<C, S> {
 }
 
 impl<C: System, S: Start> Recorded<C, S> {
-    ghost use Rattle.dfr_folder.specs.Opened.{names_of, log_of};
+    ghost use Rattle.dfr_folder.specs.Opened.{names_of, log_of, opened_log};
 
     /// Opens a folder: lists its files, and syncs those whose bytes may not be on the disk. Returns
     /// whether all are. After an error hands the folder back.
@@ -46,6 +46,16 @@ impl<C: System, S: Start> Recorded<C, S> {
                 Ok((opened, are_synced))
             }
             Err(fault) => Err((fault, system)),
+        }
+    }
+
+    /// Notes that the folder is opened: a failure, if the bytes of a file could not be synced then.
+    pub(crate) fn note_opened(&mut self, are_synced: bool)
+        ensures log { log_of self.new ≡ opened_log are_synced (names_of self.old) (log_of self.old) }
+        ensures names { names_of self.new ≡ names_of self.old }
+    {
+        if !are_synced {
+            self.log.note(&[Call::Failed], &self.names, &[]);
         }
     }
 

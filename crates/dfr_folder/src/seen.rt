@@ -1,11 +1,11 @@
 //! Which files there are, as a list.
 
-ghost use Rattle.std.specs.Prelude.{◌≡◌, ◌⊎◌, Some, None, is_some, true, false, OnOk, OnErr, IfOk, IfErr, List, Contains, All};
+ghost use Rattle.std.specs.Prelude.{◌≡◌, ◌⊎◌, ◌&&◌, Some, None, is_some, true, false, OnOk, OnErr, IfOk, IfErr, List, Contains, All};
 ghost use Rattle.dfr_folder.specs.declared.name.Name.{Name};
 ghost use Rattle.dfr_folder.specs.declared.name.Ending.TheVariants as ending;
 ghost use Rattle.dfr_folder.specs.Pairs.{name as named, is_leftover as leftover};
 ghost use Rattle.dfr_folder.specs.Found.{AreAll};
-ghost use Rattle.dfr_folder.specs.Events.{IsNotFalse, ending_number, same_name, state_of};
+ghost use Rattle.dfr_folder.specs.Events.{is_not_false, ending_number, same_name, state_of};
 
 use crate::directory::Fault;
 use crate::name::{Ending, Key, Name, Names, Seen};
@@ -116,13 +116,11 @@ pub(crate) fn names_in(names: &[Seen], key: Key) -> Names
 
 /// Whether the bytes of each file of a key are on the disk.
 pub(crate) fn are_synced_in(names: &[Seen], key: Key) -> bool
-    ensures cfg { result ≡ true → IsNotFalse (state_of names.now (named key ending.Config)) }
-    ensures dat { result ≡ true → IsNotFalse (state_of names.now (named key ending.Data)) }
-    ensures cfg_part { result ≡ true
-        → IsNotFalse (state_of names.now (named key ending.ConfigPart)) }
-    ensures dat_part { result ≡ true
-        → IsNotFalse (state_of names.now (named key ending.DataPart)) }
-    ensures gone { result ≡ true → IsNotFalse (state_of names.now (named key ending.Gone)) }
+    ensures { result ≡ (is_not_false (state_of names.now (named key ending.Config))
+        && is_not_false (state_of names.now (named key ending.Data))
+        && is_not_false (state_of names.now (named key ending.ConfigPart))
+        && is_not_false (state_of names.now (named key ending.DataPart))
+        && is_not_false (state_of names.now (named key ending.Gone))) }
 {
     is_synced(names, key, Ending::Config)
         && is_synced(names, key, Ending::Data)
@@ -133,7 +131,7 @@ pub(crate) fn are_synced_in(names: &[Seen], key: Key) -> bool
 
 /// Whether the bytes of a file are on the disk, or there is no such file.
 fn is_synced(names: &[Seen], key: Key, ending: Ending) -> bool
-    ensures { result ≡ true → IsNotFalse (state_of names.now (named key ending)) }
+    ensures { result ≡ is_not_false (state_of names.now (named key ending)) }
 {
     match state_in(names, Name { key, ending }) {
         Some(synced) => synced,
@@ -214,22 +212,36 @@ pub(crate) fn remove_in<C: System>(
     Ok(())
 }
 
-/// Syncs a file.
+/// Notes that the bytes of a file are on the disk.
+fn note_sync(names: &mut [Seen], name: Name)
+    requires there { state_of names.old name ≡ None → ⊥ }
+    ensures there { state_of names.new name ≡ Some true }
+    ensures elsewhere { (n : Name) → (n ≡ name → ⊥)
+        → state_of names.new n ≡ state_of names.old n }
+{
+    for seen in names.iter_mut() {
+        if is_same(seen.name, name) {
+            seen.synced = true;
+            return;
+        }
+    }
+}
+
+/// Syncs a file that is on the list. After an error the list is as it was.
 pub(crate) fn sync_in<C: System>(
     system: &mut C,
     names: &mut Vec<Seen>,
     name: Name,
 ) -> Result<(), Fault>
+    requires there { state_of names.old.items name ≡ None → ⊥ }
     ensures there { OnOk result (state_of names.new.items name ≡ Some true) }
     ensures elsewhere { (n : Name) → (n ≡ name → ⊥)
         → state_of names.new.items n ≡ state_of names.old.items n }
+    ensures err { OnErr result (names.new.items ≡ names.old.items) }
 {
     system.sync(name)?;
-    forget(names, name);
-    match add(names, name, true) {
-        Ok(()) => Ok(()),
-        Err(_) => Err(Fault::Memory),
-    }
+    note_sync(names, name);
+    Ok(())
 }
 
 /// Renames a file to a name that is not on the list.

@@ -33,8 +33,9 @@ pub trait System {
 /// What a folder holds as it is opened, which no code can know. A function over `S: Start` is proved
 /// for all of it.
 pub trait Start: Drop {
-    /// The bytes of each file.
-    ghost bytes: { Name → List ℕ };
+    /// The bytes that no call was given: at 0 those that each file has, and at the number of a call
+    /// those that it leaves if it is a write that fails.
+    ghost bytes: { ℕ → Name → List ℕ };
 
     /// What a crash may leave.
     ghost may_leave: { Content → Type 0 };
@@ -45,7 +46,7 @@ pub trait Start: Drop {
 pub struct Unknown;
 
 impl Start for Unknown {
-    ghost bytes = { λ name. [] };
+    ghost bytes = { λ call name. [] };
 
     ghost may_leave = { λ c. Unit {0} };
 }

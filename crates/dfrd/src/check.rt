@@ -2,18 +2,14 @@
 
 ghost use Rattle.std.specs.Prelude.{◌<◌};
 
+use crate::memory::{detector_bytes, layout_bytes};
 use comtrade_io::put_safe;
 use comtrade_values::{put, put_decimal, put_number, put_with};
 use dfr_channels::Layout;
 use dfr_setup::{Plan, Prepared, Test};
 use dfr_station::frame_len;
 use std::alloc::{AllocError, Global};
-
-/// How many scans may wait for the trigger thread, or for the acquisition to use their memory.
-const LANE: u64 = 98_304;
-
-/// The bytes of what doesn't depend on the set-up: queues of events and of lines.
-const FIXED: u64 = 4_000_000;
+use std::io;
 
 /// The size of a frame in bytes, for an input with these channels.
 pub(crate) fn frame_of(inputs: &Layout<Global>) -> usize
@@ -23,36 +19,15 @@ pub(crate) fn frame_of(inputs: &Layout<Global>) -> usize
     frame_len(inputs.analog().len(), inputs.status().len())
 }
 
-/// The most bytes of memory that these scans need while they are recorded: those of the ring, of the
-/// open record, of the records that wait, of the one that is written with its two files, and those
-/// that wait for the trigger thread. A scan of k analogue channels and m status channels takes at
-/// most 8 k + m + 112 bytes, a row of its files 7 k + 2 m + 24.
-fn bytes_of(analog: usize, status: usize, pre: u32, longest: u32, shelf: u32) -> u64 {
-    let (k, m) = (analog as u64, status as u64);
-    let scan = k.saturating_mul(8).saturating_add(m).saturating_add(112);
-    let row = k
-        .saturating_mul(7)
-        .saturating_add(m.saturating_mul(2))
-        .saturating_add(24);
-    let records = (shelf as u64)
-        .saturating_add(2)
-        .saturating_mul(longest as u64);
-    let scans = records.saturating_add(pre as u64).saturating_add(LANE);
-    let files = row.saturating_mul(longest as u64).saturating_mul(2);
-    scans
-        .saturating_mul(scan)
-        .saturating_add(files)
-        .saturating_add(FIXED)
-}
-
-/// The most bytes of the detectors' windows: two windows and a sample of eight bytes each.
-fn window_bytes(plans: &[Plan<Global>]) -> u64 {
-    let mut bytes = 0u64;
-    for plan in plans {
-        let samples = u64::from(plan.settings.scans).saturating_mul(2);
-        bytes = bytes.saturating_add(samples.saturating_add(1).saturating_mul(8));
+/// The most bytes of memory that a recording needs, with the bytes of its set-up file. None if
+/// there are more than 2^64.
+pub(crate) fn need_of(prepared: &Prepared<Global>, setup: usize) -> Option<u64> {
+    let recorder = &prepared.recorder;
+    let mut bytes = layout_bytes(recorder.layout(), recorder.limits()).checked_add(setup as u64)?;
+    for plan in &prepared.plans {
+        bytes = bytes.checked_add(detector_bytes(plan.settings.scans))?;
     }
-    bytes
+    Some(bytes)
 }
 
 /// The words of a test.
@@ -123,22 +98,25 @@ fn put_plan(
 }
 
 /// Prints a line for each detector.
-fn print_plans<R: Print + AllocGlobal>(rt: &R, prepared: &Prepared<Global>) {
-    let mut status = prepared.inputs.status().len();
-    for plan in &prepared.plans {
+fn print_plans<R: Print + AllocGlobal>(rt: &R, prepared: &Prepared<Global>) -> io::Result<()> {
+    let first = prepared.inputs.status().len();
+    for (place, plan) in prepared.plans.iter().enumerate() {
         let mut line = Vec::new(rt.alloc());
-        if put_plan(&mut line, &prepared.inputs, plan, status).is_ok()
-            && let Ok(text) = str::from_utf8(&line)
-        {
-            let _ = println!(rt; "{text}");
+        put_plan(&mut line, &prepared.inputs, plan, first + place)?;
+        if let Ok(text) = str::from_utf8(&line) {
+            println!(rt; "{text}")?;
         }
-        status = status.saturating_add(1);
     }
+    Ok(())
 }
 
 /// Prints what would be recorded: channels, rate, rules, size of a frame, limits, the most memory
 /// that this needs, and the detectors.
-pub(crate) fn print_judged<R: Print + AllocGlobal>(rt: &R, prepared: &Prepared<Global>) {
+pub(crate) fn print_judged<R: Print + AllocGlobal>(
+    rt: &R,
+    prepared: &Prepared<Global>,
+    (need, have): (u64, Option<u64>),
+) -> io::Result<()> {
     let recorder = &prepared.recorder;
     let layout = recorder.layout();
     let limits = recorder.limits();
@@ -146,15 +124,15 @@ pub(crate) fn print_judged<R: Print + AllocGlobal>(rt: &R, prepared: &Prepared<G
     let status = layout.status().len();
     let rate = layout.rate();
     let rules = recorder.rules().list().len();
-    let pre = limits.pre();
-    let post = limits.post();
-    let longest = limits.longest();
-    let shelf = limits.shelf();
+    let (pre, post) = (limits.pre(), limits.post());
+    let (longest, shelf) = (limits.longest(), limits.shelf());
     let frame = frame_of(&prepared.inputs);
-    let bytes = bytes_of(analog, status, pre, longest, shelf);
-    let memory = bytes.saturating_add(window_bytes(&prepared.plans)) / 1_000_000 + 1;
-    let _ = println!(rt; "analog {analog} status {status} rate {rate} rules {rules} frame {frame}");
-    let _ = println!(rt; "pre {pre} post {post} longest {longest} shelf {shelf}");
-    let _ = println!(rt; "memory {memory} MB at most");
-    print_plans(rt, prepared);
+    let memory = need / 1_000_000 + 1;
+    println!(rt; "analog {analog} status {status} rate {rate} rules {rules} frame {frame}")?;
+    println!(rt; "pre {pre} post {post} longest {longest} shelf {shelf}")?;
+    println!(rt; "memory {memory} MB at most")?;
+    if have.is_none() {
+        println!(rt; "memory of the machine not known")?;
+    }
+    print_plans(rt, prepared)
 }

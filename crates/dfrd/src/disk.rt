@@ -2,8 +2,8 @@
 //! for and no more: in which order files are written, synced, renamed and removed is decided there.
 
 use crate::outcome::{FileFault, Reason, complain, reason_of};
-use crate::pair::{name_in, path_of};
-use dfr_folder::{Ending, Fault, Name, Seen, System};
+use crate::pair::path_of;
+use dfr_folder::{Ending, Fault, Name, Seen, System, name_in};
 use std::alloc::{AllocError, Allocator, Global};
 use std::fs::{DirEntry, File};
 use std::io::{ErrorKind, Write};
@@ -21,7 +21,7 @@ pub(crate) struct Disk<'a, R> {
     reason: Reason,
     /// Whether that is reported.
     is_told: bool,
-    /// The files that can't be removed, and are reported.
+    /// The files that can't be removed, synced or renamed, and are reported.
     stuck: Vec<Name>,
     /// Whether what an earlier recording left is tidied up.
     is_opening: bool,
@@ -84,10 +84,14 @@ impl<R: Eprint + AllocGlobal> Disk<'_, R> {
         }
     }
 
-    /// Reports a file that can't be synced or get its name at the start.
-    fn tell_untidy(&mut self, path: &str) {
-        if self.is_opening {
-            self.is_told = true;
+    /// Reports a file that can't be synced or get its name at the start, once.
+    fn tell_untidy(&mut self, path: &str, name: Name) {
+        if !self.is_opening {
+            return;
+        }
+        self.is_told = true;
+        if !self.stuck.contains(&name) {
+            let _ = self.stuck.push(name);
             let _ = complain(self.rt, path, FileFault::Tidied(self.reason));
         }
     }
@@ -99,7 +103,7 @@ fn name_at<R: Files + Drop, A: Allocator>(
     entry: io::Result<DirEntry<R, A>>,
 ) -> io::Result<Option<Name>> {
     match entry {
-        Ok(entry) => Ok(name_in(entry.file_name())),
+        Ok(entry) => Ok(name_in(entry.file_name().as_bytes())),
         Err(error) => {
             if error.kind() == ErrorKind::InvalidFilename {
                 Ok(None)
@@ -193,7 +197,7 @@ impl<R: Files<File = File> + Eprint + AllocGlobal + Clone + Drop> System for Dis
             return Ok(());
         };
         let fault = self.fails(reason_of(&error));
-        self.tell_untidy(path.as_str());
+        self.tell_untidy(path.as_str(), name);
         Err(fault)
     }
 
@@ -205,7 +209,8 @@ impl<R: Files<File = File> + Eprint + AllocGlobal + Clone + Drop> System for Dis
         };
         let fault = self.fails(reason_of(&error));
         match from.ending {
-            Ending::ConfigPart | Ending::DataPart => self.tell_untidy(path.as_str()),
+            Ending::ConfigPart | Ending::DataPart => self.tell_untidy(path.as_str(), from),
+            Ending::Gone => self.tell_stuck(path.as_str(), from),
             Ending::Config if error.kind() != ErrorKind::NotFound => {
                 self.tell_stuck(path.as_str(), from);
             }

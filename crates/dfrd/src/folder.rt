@@ -1,28 +1,19 @@
 //! The folder of records. Which files are written, renamed and removed, and in which order, is
 //! decided in `dfr_folder`: whatever stops `dfrd`, a `.cfg` has its whole pair.
 
+ghost use Rattle.std.specs.Prelude.{◌≡◌};
+
 use crate::disk::Disk;
 use crate::outcome::{Reason, complain, reason_of};
 use crate::pair::{folder_key, is_free, record_key, size_of_pair};
 use crate::place::Place;
-use dfr_folder::{Key, Put, Recorded, Unknown, mend, put_for, put_or_mend};
+use dfr_folder::{Fault, Keep, Key, Mended, Put, Recorded, Unknown, mend, put_for, put_or_mend};
 use dfr_station::{Store, Stored, Trouble};
 use std::alloc::Global;
 use std::fs::File;
 use std::rt::Files;
 use std::sync::{Arc, Wait};
 use thiserror::Error;
-
-/// How many pairs the folder keeps.
-#[derive(Clone, Copy)]
-pub enum Keep {
-    /// All of them.
-    All,
-    /// At most this many pairs.
-    Pairs(u64),
-    /// The newest pairs that have at most this many bytes together; the newest one always stays.
-    Bytes(u64),
-}
 
 /// A store of records in a folder.
 pub trait Records: Store {
@@ -110,6 +101,20 @@ fn trouble_of(reason: Reason) -> Trouble {
     }
 }
 
+/// Why a pair could not be put: the fault of its own calls. Only another fault is told by the reason
+/// of the last call that failed, as that may be of another call.
+fn reason_for(fault: Fault, last: Reason) -> Reason
+    ensures full { result ≡ Reason.Full → fault ≡ Fault.Full }
+    ensures memory { result ≡ Reason.Memory → fault ≡ Fault.Memory }
+{
+    match (fault, last) {
+        (Fault::Full, _) => Reason::Full,
+        (Fault::Memory, _) => Reason::Memory,
+        (Fault::Failed, Reason::Full | Reason::Memory) => Reason::Other,
+        (Fault::Failed, reason) => reason,
+    }
+}
+
 impl<'a, R: Files<File = File> + Eprint + AllocGlobal + Clone + Drop> Folder<'a, R> {
     /// Notes a new pair, unless all are kept.
     fn note_pair(&mut self, key: Key, size: u64) {
@@ -137,11 +142,13 @@ impl<'a, R: Files<File = File> + Eprint + AllocGlobal + Clone + Drop> Folder<'a,
         let Some((of, key)) = self.pending else {
             return Ok(None);
         };
-        let Ok(is_there) = mend(opened, key) else {
-            return Err(opened.system().reason());
+        let mended = match mend(opened, key) {
+            Ok(mended) => mended,
+            Err(fault) => return Err(reason_for(fault, opened.system().reason())),
         };
+        // what is left then waits for the next start: the record gets another name
         self.pending = None;
-        if !is_there {
+        if mended != Mended::There {
             return Ok(None);
         }
         let Ok(size) = size_of_pair(self.rt, path, key) else {
@@ -160,8 +167,11 @@ impl<'a, R: Files<File = File> + Eprint + AllocGlobal + Clone + Drop> Folder<'a,
         (record, key): (Key, Key),
         (cfg, dat): (&[u8], &[u8]),
     ) -> Result<bool, Reason> {
-        let size = (cfg.len() as u64).saturating_add(dat.len() as u64);
-        let put = match self.next_surplus(size) {
+        let size = cfg.len() as u64 + dat.len() as u64;
+        let Ok(surplus) = self.next_surplus(size) else {
+            return Err(Reason::Memory);
+        };
+        let put = match surplus {
             Some(oldest) => {
                 let (put, _) = put_for(opened, key, cfg, dat, oldest);
                 self.note_removal(opened, oldest);
@@ -171,12 +181,12 @@ impl<'a, R: Files<File = File> + Eprint + AllocGlobal + Clone + Drop> Folder<'a,
         };
         match put {
             Put::There => {}
-            Put::Completed => self.tell(path, opened.system().reason()),
+            Put::Completed(fault) => self.tell(path, reason_for(fault, opened.system().reason())),
             Put::Taken => return Ok(false),
-            Put::Failed => return Err(opened.system().reason()),
-            Put::Left => {
+            Put::Failed(fault) => return Err(reason_for(fault, opened.system().reason())),
+            Put::Left(fault) => {
                 self.pending = Some((record, key));
-                return Err(opened.system().reason());
+                return Err(reason_for(fault, opened.system().reason()));
             }
         }
         self.note_pair(key, size);
@@ -215,7 +225,7 @@ impl<'a, R: Files<File = File> + Eprint + AllocGlobal + Clone + Drop> Folder<'a,
         record: Key,
         (cfg, dat): (&[u8], &[u8]),
     ) -> Result<Key, Reason> {
-        let size = (cfg.len() as u64).saturating_add(dat.len() as u64);
+        let size = cfg.len() as u64 + dat.len() as u64;
         for _ in 0..u64::MAX {
             let reason = match self.put_free(opened, path, record, (cfg, dat)) {
                 Ok(key) => return Ok(key),
@@ -234,8 +244,8 @@ impl<'a, R: Files<File = File> + Eprint + AllocGlobal + Clone + Drop> Folder<'a,
             return Err(Reason::Gone);
         };
         let written = self.write(&mut opened, path, record, files);
-        if written.is_ok() {
-            self.remove_surplus(&mut opened, path);
+        if written.is_ok() && self.remove_surplus(&mut opened, path).is_err() {
+            self.tell(path, Reason::Memory);
         }
         self.opened = Some(opened);
         let key = record_key(written?);

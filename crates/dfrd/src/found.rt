@@ -1,11 +1,11 @@
 //! The folder when recording begins: whether it can be used, and what is in it.
 
 use crate::disk::{Disk, files_in};
-use crate::folder::{Folder, FolderFault, Keep, Records};
+use crate::folder::{Folder, FolderFault, Records};
 use crate::outcome::{FileFault, Reason, complain, reason_of};
 use crate::pair::size_of_pair;
 use crate::place::{Place, fault_of};
-use dfr_folder::{Ending, Key, Seen, open_folder};
+use dfr_folder::{Ending, Keep, Key, Seen, open_folder};
 use std::alloc::Global;
 use std::fs::{File, OpenOptions};
 use std::io::ErrorKind;
@@ -39,19 +39,24 @@ fn is_of_pair(seen: &Seen, key: Key) -> bool {
     seen.name.key == key && !is_data
 }
 
+/// Whether this file is a data file that is alone. A key has at most five of these files, which are in
+/// the order of their keys.
+fn is_alone(files: &[Seen], at: usize, seen: &Seen) -> bool {
+    let key = seen.name.key;
+    let before = files[..at].iter().rev().take(4);
+    let has_pair = before
+        .chain(files[at..].iter().take(5))
+        .any(|other| is_of_pair(other, key));
+    seen.name.ending == Ending::Data && !has_pair
+}
+
 /// How many of these files, which are in the order of their keys, are data files that are alone.
-fn count_alone(files: &[Seen]) -> u64 {
-    let mut count = 0u64;
-    for (at, seen) in files.iter().enumerate() {
-        let key = seen.name.key;
-        // a key has at most five files
-        let near = &files[at.saturating_sub(4)..files.len().min(at.saturating_add(5))];
-        let has_pair = near.iter().any(|other| is_of_pair(other, key));
-        if seen.name.ending == Ending::Data && !has_pair {
-            count = count.saturating_add(1);
-        }
-    }
-    count
+fn count_alone(files: &[Seen]) -> usize {
+    files
+        .iter()
+        .enumerate()
+        .filter(|(at, seen)| is_alone(files, *at, seen))
+        .count()
 }
 
 impl<'a, R: Files<File = File> + Eprint + AllocGlobal + Clone + Drop> Folder<'a, R> {
@@ -60,7 +65,7 @@ impl<'a, R: Files<File = File> + Eprint + AllocGlobal + Clone + Drop> Folder<'a,
         let files = files_in(self.rt, self.rt.alloc(), path)?;
         let alone = count_alone(&files);
         if alone != 0 {
-            let _ = complain(self.rt, path, FileFault::Alone(alone));
+            let _ = complain(self.rt, path, FileFault::Alone(alone as u64));
         }
         if let Keep::All = self.keep {
             return Ok(());

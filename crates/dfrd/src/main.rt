@@ -8,6 +8,7 @@ mod folder;
 mod found;
 mod health_file;
 mod heard;
+mod memory;
 mod operator;
 mod options;
 mod outcome;
@@ -201,7 +202,10 @@ fn recorded<
     folder: Folder<'_, R>,
     (heard, health): (Arc<Heard, Global>, Option<(Shared, Shared)>),
     lines: &mut Lines<'_, R>,
-) -> Result<u8, u8> {
+) -> Result<u8, u8>
+where
+    R::Reader: Send,
+{
     let Ready {
         asked,
         plan,
@@ -249,7 +253,10 @@ fn run<
         + Send
         + Sync
         + 'static,
->(rt: &R) -> Result<u8, u8> {
+>(rt: &R) -> Result<u8, u8>
+where
+    R::Reader: Send,
+{
     let words = match words_of(rt) {
         Ok(words) => words,
         Err(error) => return Err(refuse_start(rt, error.kind())),

@@ -1,9 +1,8 @@
-//! The names of the files of a pair, as text and as `dfr_folder` has them.
+//! The paths and the sizes of the files of a pair.
 
-ghost use Rattle.std.specs.Prelude.{◌≡◌};
+ghost use Rattle.std.specs.Prelude.{◌≡◌, ◌≤◌, IfOk};
 
-use dfr_folder::{Ending, Key, Name};
-use dfr_station::{key_in, put_key};
+use dfr_folder::{Ending, Key, Name, put_name};
 use std::alloc::{AllocError, Global};
 use std::io::ErrorKind;
 use std::rt::Files;
@@ -35,49 +34,16 @@ pub(crate) fn record_key(key: Key) -> dfr_station::Key
     }
 }
 
-/// What the names of these files end in.
-fn text_of(ending: Ending) -> &'static str {
-    match ending {
-        Ending::Config => ".cfg",
-        Ending::Data => ".dat",
-        Ending::ConfigPart => ".cfg.part",
-        Ending::DataPart => ".dat.part",
-        Ending::Gone => ".cfg.gone",
-    }
-}
-
 /// The path of one file of a pair: the folder, the pair's name and an ending.
 pub(crate) fn path_of(alloc: Global, folder: &str, name: Name) -> Result<String, AllocError> {
-    let mut stem = Vec::new(alloc);
-    put_key(&mut stem, record_key(name.key))?;
+    let mut text = Vec::new(alloc);
+    put_name(&mut text, name)?;
     let mut path = String::from_str(alloc, folder)?;
     path.push_str("/")?;
-    if let Ok(stem) = str::from_utf8(&stem) {
-        path.push_str(stem)?;
+    if let Ok(text) = str::from_utf8(&text) {
+        path.push_str(text)?;
     }
-    path.push_str(text_of(name.ending))?;
     Ok(path)
-}
-
-/// Which of our files has this name. None if it is none of them.
-pub(crate) fn name_in(text: &str) -> Option<Name> {
-    let (stem, ending) = if let Some(stem) = text.strip_suffix(".cfg") {
-        (stem, Ending::Config)
-    } else if let Some(stem) = text.strip_suffix(".dat") {
-        (stem, Ending::Data)
-    } else if let Some(stem) = text.strip_suffix(".cfg.part") {
-        (stem, Ending::ConfigPart)
-    } else if let Some(stem) = text.strip_suffix(".dat.part") {
-        (stem, Ending::DataPart)
-    } else if let Some(stem) = text.strip_suffix(".cfg.gone") {
-        (stem, Ending::Gone)
-    } else {
-        return None;
-    };
-    Some(Name {
-        key: folder_key(key_in(stem.as_bytes())?),
-        ending,
-    })
 }
 
 /// Whether a file, folder or link has this path.
@@ -114,11 +80,16 @@ pub(crate) fn is_free<R: Files + AllocGlobal>(rt: &R, folder: &str, key: Key) ->
     )
 }
 
+/// The most bytes that a file is taken to have: 2^62.
+const MOST: u64 = 4_611_686_018_427_387_904;
+
 /// The size of a file in bytes; 0 if it can't be found.
-fn size_of<R: Files + AllocGlobal>(rt: &R, folder: &str, name: Name) -> Result<u64, AllocError> {
+fn size_of<R: Files + AllocGlobal>(rt: &R, folder: &str, name: Name) -> Result<u64, AllocError>
+    ensures { IfOk result (λ size. size ≤ 4611686018427387904) }
+{
     let path = path_of(rt.alloc(), folder, name)?;
     match fs::metadata(rt, path.as_str()) {
-        Ok(metadata) => Ok(metadata.len()),
+        Ok(metadata) => Ok(metadata.len().min(MOST)),
         Err(_) => Ok(0),
     }
 }
@@ -133,5 +104,5 @@ pub(crate) fn size_of_pair<R: Files + AllocGlobal>(
     let cfg = size_of(rt, folder, Name { key, ending })?;
     let ending = Ending::Data;
     let dat = size_of(rt, folder, Name { key, ending })?;
-    Ok(cfg.saturating_add(dat))
+    Ok(cfg + dat)
 }

@@ -2,11 +2,12 @@
 
 ghost use Rattle.std.specs.Prelude.{◌<◌, IfSome};
 
-use crate::check::{frame_of, print_judged};
-use crate::folder::Keep;
-use crate::outcome::{complain, out_of_memory};
+use crate::check::{frame_of, need_of, print_judged};
+use crate::memory::{MemoryFault, affordable, machine_bytes};
+use crate::outcome::{complain, out_of_memory, reason_of};
 use crate::words::Asked;
 use comtrade_io::{ToolFault, fault_of, read_up_to};
+use dfr_folder::Keep;
 use dfr_health::put_escaped;
 use dfr_setup::{Prepared, prepared_of};
 use dfr_station::{
@@ -58,9 +59,29 @@ fn read_setup<R: Files + AllocGlobal>(rt: &R, path: &str) -> Result<Vec<u8>, Too
     }
 }
 
+/// Prints what would be recorded, if that is asked for. Refuses what needs more memory than the
+/// machine has. The error is the exit status.
+fn judged<R: Files<File = File> + Print + Eprint + AllocGlobal>(
+    rt: &R,
+    asked: &Asked<'_>,
+    prepared: &Prepared<Global>,
+    need: u64,
+) -> Result<(), u8> {
+    let have = machine_bytes(rt);
+    if asked.is_check
+        && let Err(error) = print_judged(rt, prepared, (need, have))
+    {
+        return Err(complain(rt, "standard output", reason_of(&error)));
+    }
+    match affordable(need, have) {
+        Ok(()) => Ok(()),
+        Err(fault) => Err(complain(rt, asked.setup, fault)),
+    }
+}
+
 /// Reads and checks the set-up. With `--check`, prints what would be recorded. If the set-up is
 /// refused, prints why and returns None.
-pub(crate) fn plan_of<R: Files + Print + Eprint + AllocGlobal>(
+pub(crate) fn plan_of<R: Files<File = File> + Print + Eprint + AllocGlobal>(
     rt: &R,
     asked: &Asked<'_>,
 ) -> Option<Plan> {
@@ -73,8 +94,12 @@ pub(crate) fn plan_of<R: Files + Print + Eprint + AllocGlobal>(
     };
     match prepared_of(rt.alloc(), &setup, asked.start.unwrap_or(0)) {
         Ok(prepared) => {
-            if asked.is_check {
-                print_judged(rt, &prepared);
+            let judged = match need_of(&prepared, setup.len()) {
+                Some(need) => judged(rt, asked, &prepared, need),
+                None => Err(complain(rt, asked.setup, MemoryFault::Huge)),
+            };
+            if judged.is_err() {
+                return None;
             }
             let frame = frame_of(&prepared.inputs);
             let rate = prepared.inputs.rate();

@@ -1,37 +1,24 @@
-//! Old pairs are removed, the oldest first.
+//! Old pairs are removed, the oldest first. How many, `dfr_folder` decides.
 
-ghost use Rattle.std.specs.Prelude.{◌+◌, ◌<◌, ◌↔◌, IsTrue};
-
-use crate::folder::{Folder, Keep, Opened};
+use crate::folder::{Folder, Opened};
 use crate::outcome::{FileFault, complain};
 use crate::pair::{is_there, path_of};
-use dfr_folder::{Directory, Ending, Key, Name, discard, mend};
-use dfr_station::surplus_bytes;
+use dfr_folder::{
+    Directory, Ending, Keep, Key, Mended, Name, discard, is_full, is_short, mend, surplus,
+};
 use std::alloc::{AllocError, Global};
 use std::fs::File;
 use std::rt::Files;
-
-/// Bytes that a pair may need beyond its own: the rest of its last blocks, and room for its names.
-const BLOCKS: u64 = 65_536;
 
 /// How the removal of a pair went.
 #[derive(Clone, Copy, Debug, PartialEq, Eq)]
 enum Removal {
     /// It is removed.
     Done,
-    /// It no longer existed.
+    /// It no longer existed, or a part of it is left that can't be removed.
     Missing,
     /// It can't be removed.
     Stuck,
-}
-
-/// Whether to give up one more old pair for a record of `size` bytes, after pairs of `given` bytes
-/// were given up for it: a full disk that stays full costs no more pairs than the record needs.
-fn is_short(size: u64, given: u64) -> bool
-    requires { size < 9223372036854775808 }
-    ensures { IsTrue result ↔ (given < size + 65536) }
-{
-    given < size + BLOCKS
 }
 
 /// The sizes of the pairs, in bytes.
@@ -44,37 +31,25 @@ fn sizes_of(alloc: Global, pairs: &[(Key, u64)]) -> Result<Vec<u64>, AllocError>
 }
 
 impl<'a, R: Files<File = File> + Eprint + AllocGlobal + Clone + Drop> Folder<'a, R> {
-    /// How many of the oldest pairs have to be removed; 0 if an allocation failed.
-    fn surplus(&self) -> usize {
-        match self.keep {
-            Keep::All => 0,
-            Keep::Pairs(most) => {
-                self.pairs
-                    .len()
-                    .saturating_sub(usize::try_from(most).unwrap_or(usize::MAX))
-            }
-            Keep::Bytes(most) => match sizes_of(self.rt.alloc(), &self.pairs) {
-                Ok(sizes) => surplus_bytes(&sizes, most),
-                Err(_) => 0,
-            },
+    /// How many of the oldest pairs have to be removed.
+    fn surplus(&self) -> Result<usize, AllocError> {
+        if let Keep::All = self.keep {
+            return Ok(0);
         }
+        let sizes = sizes_of(self.rt.alloc(), &self.pairs)?;
+        Ok(surplus(self.keep, &sizes))
     }
 
     /// The oldest pair, if it has to be removed once there is a new one of this size.
-    pub(crate) fn next_surplus(&self, size: u64) -> Option<Key> {
-        let (oldest, _) = self.pairs.first()?;
-        let is_surplus = match self.keep {
-            Keep::All => false,
-            Keep::Pairs(most) => most <= self.pairs.len() as u64,
-            Keep::Bytes(most) => {
-                let old = self
-                    .pairs
-                    .iter()
-                    .fold(0u64, |sum, (_, size)| sum.saturating_add(*size));
-                most < old.saturating_add(size)
-            }
+    pub(crate) fn next_surplus(&self, size: u64) -> Result<Option<Key>, AllocError> {
+        if let Keep::All = self.keep {
+            return Ok(None);
+        }
+        let Some((oldest, _)) = self.pairs.first() else {
+            return Ok(None);
         };
-        is_surplus.then_some(*oldest)
+        let sizes = sizes_of(self.rt.alloc(), &self.pairs)?;
+        Ok(is_full(self.keep, &sizes, size).then_some(*oldest))
     }
 
     /// Whether the folder has a configuration file of this key, as far as we know.
@@ -85,18 +60,23 @@ impl<'a, R: Files<File = File> + Eprint + AllocGlobal + Clone + Drop> Folder<'a,
         }
     }
 
+    /// Counts a pair that was removed, one by one: the count never comes near 2^64.
+    fn count_removal(&mut self) {
+        self.removed = self.removed.wrapping_add(1);
+    }
+
     /// Notes that the oldest pair is gone, if it is.
     pub(crate) fn note_removal(&mut self, opened: &mut Opened<'a, R>, oldest: Key) {
         if !Self::is_named(opened, oldest) && !self.pairs.is_empty() {
             self.pairs.remove(0);
-            self.removed = self.removed.saturating_add(1);
+            self.count_removal();
         }
     }
 
     /// How a removal went that failed. A pair that can't be removed is reported once.
     fn failed_removal(&mut self, opened: &mut Opened<'a, R>, path: &str, key: Key) -> Removal {
         if !Self::is_named(opened, key) {
-            return Removal::Done;
+            return Removal::Missing;
         }
         if let Ok(false) = is_there(self.rt, path, key, Ending::Config) {
             return Removal::Missing;
@@ -116,7 +96,7 @@ impl<'a, R: Files<File = File> + Eprint + AllocGlobal + Clone + Drop> Folder<'a,
         if let Ok(true) = discard(opened, key) {
             return Removal::Done;
         }
-        if let Ok(true) = mend(opened, key)
+        if let Ok(Mended::There) = mend(opened, key)
             && let Ok(true) = discard(opened, key)
         {
             return Removal::Done;
@@ -125,44 +105,50 @@ impl<'a, R: Files<File = File> + Eprint + AllocGlobal + Clone + Drop> Folder<'a,
     }
 
     /// Removes the oldest pair that can be removed, from the index `from` on, but never the newest
-    /// one, and drops it from the list. Returns its index, its name and its size, or None if there
-    /// is none.
+    /// one, and drops it from the list. Returns its index, its name and its size, and whether it was
+    /// there; or None if there is none.
     fn remove_next(
         &mut self,
         opened: &mut Opened<'a, R>,
         path: &str,
         from: usize,
-    ) -> Option<(usize, Key, u64)> {
-        let newest = self.pairs.len().saturating_sub(1);
+    ) -> Option<(usize, Key, u64, bool)> {
+        let newest = self.pairs.len().checked_sub(1)?;
         for at in from..newest {
             let (key, size) = *self.pairs.get(at)?;
             let removal = self.removal_of(opened, path, key);
             if removal != Removal::Stuck && at < self.pairs.len() {
                 self.pairs.remove(at);
-                if removal == Removal::Done {
-                    self.removed = self.removed.saturating_add(1);
+                let was_there = removal == Removal::Done;
+                if was_there {
+                    self.count_removal();
                 }
-                return Some((at, key, size));
+                return Some((at, key, size, was_there));
             }
         }
         None
     }
 
     /// Removes the oldest pairs if there are too many. Those that can't be removed are left out.
-    pub(crate) fn remove_surplus(&mut self, opened: &mut Opened<'a, R>, path: &str) {
+    pub(crate) fn remove_surplus(
+        &mut self,
+        opened: &mut Opened<'a, R>,
+        path: &str,
+    ) -> Result<(), AllocError> {
         let mut from = 0;
         for _ in 0..u64::MAX {
-            let surplus = self.surplus();
+            let surplus = self.surplus()?;
             if surplus == 0 {
-                return;
+                return Ok(());
             }
             for _ in 0..surplus {
                 match self.remove_next(opened, path, from) {
-                    Some((at, _, _)) => from = at,
-                    None => return,
+                    Some((at, _, _, _)) => from = at,
+                    None => return Ok(()),
                 }
             }
         }
+        Ok(())
     }
 
     /// Reports a pair that was given up.
@@ -185,20 +171,22 @@ impl<'a, R: Files<File = File> + Eprint + AllocGlobal + Clone + Drop> Folder<'a,
         record: Key,
         size: u64,
     ) -> bool {
-        let before = self.given;
-        let given = match before {
+        let given = match self.given {
             Some((key, given)) if key == record => given,
             _ => 0,
         };
-        if matches!(self.keep, Keep::All) || !is_short(size.min(u64::MAX / 4), given) {
+        if matches!(self.keep, Keep::All) || !is_short(size, given) {
             return false;
         }
         match self.remove_next(opened, path, 0) {
-            Some((_, key, freed)) => {
-                self.given = Some((record, given.saturating_add(freed)));
+            Some((_, key, freed, true)) => {
+                // what is given is short of `size`, and a pair has at most 2^63 bytes
+                self.given = given.checked_add(freed).map(|given| (record, given));
                 self.report_given_up(path, key);
                 true
             }
+            // it freed nothing
+            Some((_, _, _, false)) => true,
             None => false,
         }
     }

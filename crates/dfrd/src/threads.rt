@@ -12,21 +12,20 @@ use dfr_station::{Control, RunFault};
 use rtrb::Consumer;
 use std::alloc::Global;
 use std::fs::File;
-use std::io::{ErrorKind, Read};
+use std::io::Read;
 use std::rt::Files;
 use std::sync::{Arc, Wait};
-use std::thread::{JoinHandle, Threads};
+use std::thread;
+use std::thread::{JoinHandle, SpawnError, Threads};
 use std::time::Clock;
-use std::{io, thread};
 
 /// Whether a thread was started. If not, that is printed, and the error is the exit status.
-fn begun<R: Eprint + AllocGlobal, T: Drop>(
+fn begun<R: Eprint + AllocGlobal, T: Drop, F: Drop>(
     rt: &R,
-    thread: io::Result<JoinHandle<T>>,
+    thread: Result<JoinHandle<T>, SpawnError<F>>,
 ) -> Result<(), u8> {
     match thread {
         Ok(_) => Ok(()),
-        Err(error) if error.kind() == ErrorKind::OutOfMemory => Err(out_of_memory(rt)),
         Err(_) => Err(complain(rt, "recording", RunFault::Thread)),
     }
 }

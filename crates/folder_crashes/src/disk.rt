@@ -146,12 +146,18 @@ impl System for Disk {
             return Err(Fault::Memory);
         };
         self.note(Change::Write(name, noted))?;
-        if write(&mut self.now, name, seen, false).is_err() {
-            return Err(Fault::Memory);
+        if answer == Answer::Done {
+            return match write(&mut self.now, name, seen, false) {
+                Ok(()) => Ok(()),
+                Err(_) => Err(Fault::Memory),
+            };
         }
-        match answer {
-            Answer::Done => Ok(()),
-            _ => Err(Fault::Full),
+        let Ok(part) = spoiled(self.alloc, &mut self.chance, bytes) else {
+            return Err(Fault::Memory);
+        };
+        match write(&mut self.now, name, part, false) {
+            Ok(()) => Err(Fault::Full),
+            Err(_) => Err(Fault::Memory),
         }
     }
 

@@ -28,6 +28,7 @@ fn crashes(alloc: Global, least: u64) -> Result<Tally> {
                 keep: 1 + (seed % 2) as usize,
                 cut,
                 odds: [0, 40, 12][(seed % 3) as usize],
+                swaps: seed % 5 < 2,
                 seed,
             };
             if !run(alloc, &plan, 8, &mut tally)? {

@@ -2,10 +2,13 @@
 
 use crate::chance::Chance;
 use crate::disk::Disk;
-use crate::files::{Files, any_bytes};
-use crate::judge::{Record, Stage, Wrong, judge, judge_recovered};
+use crate::files::{Files, any_bytes, copy_of};
+use crate::judge::{
+    Record, Stage, Wrong, is_done, is_mending, is_recovered, judge, judge_recovered,
+};
 use dfr_folder::{
-    Directory, Fault, Key, Put, Recorded, Unknown, discard, mend, open_folder, put_or_mend,
+    Directory, Fault, Key, Mended, Put, Recorded, Unknown, discard, mend, open_folder, put_for,
+    put_or_mend,
 };
 use std::alloc::{AllocError, Global};
 
@@ -36,6 +39,8 @@ pub struct Plan {
     pub cut: u64,
     /// One call in so many fails; 0: none does.
     pub odds: u64,
+    /// Whether the oldest pair is given up as the next one is put.
+    pub swaps: bool,
     pub seed: u64,
 }
 
@@ -67,21 +72,54 @@ fn add_record(
         cfg,
         dat,
         stage: Stage::Tried,
+        instead: None,
     })?;
     Ok(())
 }
 
+/// The oldest pair that has to go for a new one.
+fn oldest_of(records: &[Record], most: usize) -> Option<usize> {
+    let put = records.iter().filter(|record| record.stage == Stage::Put);
+    if put.count() < most {
+        return None;
+    }
+    records.iter().position(|record| record.stage == Stage::Put)
+}
+
+/// Puts the last record, and gives up the oldest pair for it, if there is one to be given up.
+fn put<D: Directory>(folder: &mut D, records: &mut Records, oldest: Option<usize>) -> Option<Put> {
+    let record = records.last()?;
+    let (key, cfg, dat) = (record.key, &record.cfg, &record.dat);
+    let Some(at) = oldest else {
+        return Some(put_or_mend(folder, key, cfg, dat));
+    };
+    let old = records.get(at)?.key;
+    let (put, is_gone) = put_for(folder, key, cfg, dat, old);
+    if put == Put::There
+        && let Some(old) = records.get_mut(at)
+    {
+        old.stage = if is_gone { Stage::Gone } else { Stage::GivenUp };
+        old.instead = Some(key);
+    }
+    Some(put)
+}
+
 /// Puts the last record. If that fails, tries once more to complete it or to take it back.
-fn put_last<D: Directory>(folder: &mut D, records: &mut Records) -> Result<(), Fault> {
-    let Some(record) = records.last_mut() else {
+fn put_last<D: Directory>(
+    folder: &mut D,
+    records: &mut Records,
+    oldest: Option<usize>,
+) -> Result<(), Fault> {
+    let put = put(folder, records, oldest);
+    let (Some(put), Some(record)) = (put, records.last_mut()) else {
         return Ok(());
     };
-    match put_or_mend(folder, record.key, &record.cfg, &record.dat) {
-        Put::There | Put::Completed => record.stage = Stage::Put,
+    match put {
+        Put::There | Put::Completed(_) => record.stage = Stage::Put,
         Put::Taken => record.stage = Stage::Refused,
-        Put::Failed => {}
-        Put::Left => {
-            if mend(folder, record.key)? {
+        Put::Failed(_) => {}
+        Put::Left(_) => {
+            if mend(folder, record.key)? == Mended::There {
                 record.stage = Stage::Put;
             }
         }
@@ -124,7 +162,12 @@ fn write_on<D: Directory>(
         if add_record(alloc, records, number, chance).is_err() {
             return Err(Fault::Memory);
         }
-        put_last(folder, records)?;
+        let oldest = if plan.swaps {
+            oldest_of(records, plan.keep)
+        } else {
+            None
+        };
+        put_last(folder, records, oldest)?;
         keep_newest(folder, records, plan.keep)?;
     }
     Ok(())
@@ -157,16 +200,21 @@ fn recover_all(
     chance: &mut Chance,
     tally: &mut Tally,
 ) -> Result<(), AllocError> {
+    let before = copy_of(alloc, &left)?;
     let mut disk = Disk::of(alloc, left, *chance)?;
     disk.left = 1 + chance.below(24);
+    disk.odds = [0, 8][chance.below(2) as usize];
     let (disk, _) = opened(alloc, disk);
     let again = disk.crash(chance)?;
     drop(disk);
-    tally.count(judge(&again, records));
+    let is_mended = is_mending(&before, &again, records);
+    tally.count(judge(&again, records).or((!is_mended).then_some(Wrong::Changed)));
+    let before = copy_of(alloc, &again)?;
     let disk = Disk::of(alloc, again, *chance)?;
     let (disk, is_open) = opened(alloc, disk);
+    let is_right = is_recovered(&before, &disk.now, records);
     tally.count(if is_open {
-        judge_recovered(&disk.now, records)
+        judge_recovered(&disk.now, records).or((!is_right).then_some(Wrong::Recovered))
     } else {
         Some(Wrong::Refused)
     });
@@ -204,6 +252,9 @@ pub fn run(
         }
     }
     let is_cut = disk.left == 0;
+    if !is_cut && plan.odds == 0 && !is_done(&records, plan.keep) {
+        tally.count(Some(Wrong::Idle));
+    }
     for _ in 0..choices {
         let left = disk.crash(&mut chance)?;
         tally.count(judge(&left, &records));

@@ -46,4 +46,5 @@ returns-clause-whole g c =
     let w1 = begins M L s0 s1 (AllWhole records) c.remove.ensures.time (λ d left. drops_whole F M k records s0 all d (d1 d left)) in
     let s2 = c.remove-2.new.self in
     let d2 = dropped F M k s0 s1 s2 ending.DataPart refl d1 c.remove-2.ensures.crash in
-    goes_on M L s0 s1 s2 (AllWhole records) w1 c.remove-2.ensures.time (λ d left. drops_whole F M k records s0 all d (d2 d left))
+    let w2 = goes_on M L s0 s1 s2 (AllWhole records) w1 c.remove-2.ensures.time (λ d left. drops_whole F M k records s0 all d (d2 d left)) in
+    goes_on M L s0 s2 c.sync_names.new.self (AllWhole records) w2 c.sync_names.ensures.time (λ d left. w2.after d (c.sync_names.ensures.crash d left))

@@ -15,11 +15,11 @@ returns-in-Ok-clause-elsewhere g c =
     let first = g.S.Start.bytes in
     let old = c.args.self.now.log.calls in
     let noted = c.note.ensures in
-    λ n differ. same_state _ _ _ _ (c.write_in.ensures.elsewhere n differ) (ap (λ (es : List Event). bytes_under first es n) noted ∙ picked c.args.name n c.args.bytes.now (bytes_under first old n) differ)
+    λ n differ. same_state _ _ _ _ (c.write_in.ensures.elsewhere n differ) (ap (λ (es : List Event). bytes_under first es n) noted ∙ picked c.args.name n _ (bytes_under first old n) differ)
 
 pub returns-in-Err-clause-elsewhere : goal.returns-in-Err-clause-elsewhere
 returns-in-Err-clause-elsewhere g c =
     let first = g.S.Start.bytes in
     let old = c.args.self.now.log.calls in
     let noted = c.note-in-Err.ensures in
-    λ n differ. same_state _ _ _ _ (c.write_in.ensures.elsewhere n differ) (ap (λ (es : List Event). bytes_under first es n) noted ∙ picked c.args.name n c.args.bytes.now (bytes_under first old n) differ)
+    λ n differ. same_state _ _ _ _ (c.write_in.ensures.elsewhere n differ) (ap (λ (es : List Event). bytes_under first es n) noted ∙ picked c.args.name n _ (bytes_under first old n) differ)
