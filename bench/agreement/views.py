@@ -1,0 +1,90 @@
+"""What the commands print of a record, as values."""
+import base64
+import csv
+import io
+import json
+import re
+import struct
+import subprocess
+from html import unescape
+
+
+def run(program, *words):
+    """What a command prints: status, standard output, standard error."""
+    done = subprocess.run([program, *words], capture_output=True, timeout=120)
+    return done.returncode, done.stdout.decode("utf-8", "replace"), done.stderr.decode("utf-8", "replace")
+
+
+def number(text):
+    return None if text == "" else float(text)
+
+
+class Rows:
+    """The rows of `csv`: instants, milliseconds since the trigger, values, bits."""
+
+    def __init__(self, text, analog):
+        lines = list(csv.reader(io.StringIO(text)))
+        self.names, rows = lines[0][3:], lines[1:]
+        self.instants = [row[1] for row in rows]
+        self.millis = [number(row[2]) for row in rows]
+        self.values = [[number(row[3 + k]) for row in rows] for k in range(analog)]
+        self.bits = [[int(row[k]) for row in rows] for k in range(3 + analog, len(lines[0]))]
+        self.count = len(rows)
+
+
+def as_json(program, *words):
+    status, out, said = run(program, *words)
+    if status != 0:
+        raise ValueError("%s: status %d: %s" % (words[0], status, said.strip()[-200:]))
+    return json.loads(out)
+
+
+PREFIX = {"M": 1e6, "k": 1e3, "": 1.0, "m": 1e-3, "µ": 1e-6, "u": 1e-6}
+
+
+def sized(text, unit):
+    """The number in `-6.218 kA` in this unit; the prefix of both is told by the letters before the same word."""
+    value, _, its = text.partition(" ")
+    for there, by in PREFIX.items():
+        for here, into in PREFIX.items():
+            if its[len(there):] and its.startswith(there) and unit.startswith(here) and its[len(there):] == unit[len(here):]:
+                return float(value) * by / into
+    raise ValueError("%r is no number of %s" % (text, unit))
+
+
+class Picture:
+    """The numbers of `plot`."""
+
+    def __init__(self, text):
+        self.about = unescape(re.search(r"<desc[^>]*>(.*?)</desc>", text, re.S)[1])
+        self.trigger = re.match(r"Trigger (\S+ \S+)\. ", self.about)
+        self.peaks = re.findall(r" ([^;]*?) (-?[0-9.]+(?:e-?[0-9]+)? [^;]*);", self.about.partition("Peaks:")[2])
+        self.rms = [unescape(x) for x in re.findall(r">peak [^<]*?, rms ([^<]*)<", text)]
+        self.labels = re.findall(r'<path class="g" stroke="#e2e2e2" d="M76 ([0-9.]+)H916"/><text x="70" y="[0-9.]+" text-anchor="end">(-?[0-9.]+)', text)
+        self.times = re.findall(r'<text x="([0-9.]+)" y="62" text-anchor="middle">(-?[0-9.]+)</text>', text)
+        self.panels = []
+        for part in re.split(r'(?=<g fill="none" stroke-width="1.2")', text)[1:]:
+            traces = re.findall(r'<path class="[a-z]"[^>]* d="(M[^"]*)"', part.partition("</g>")[0])
+            self.panels.append(traces)
+        self.bars = re.findall(r'<path class="[ko]" fill="[^"]*" d="([^"]*)"', text)
+
+
+class Page:
+    """The numbers of `page`: those from which its own script draws."""
+
+    def __init__(self, text):
+        blocks = dict(re.findall(r'<script type="[^"]*" id="([^"]*)">([^<]*)</script>', text))
+        self.head = json.loads(blocks["head"])
+        count = self.head["rows"]
+        raw = base64.b64decode(blocks["times"])
+        self.millis = [t / 1e6 for t in struct.unpack("<%dd" % count, raw)]
+        self.values = []
+        for k, channel in enumerate(self.head["analog"]):
+            raw = base64.b64decode(blocks["s%d" % k])
+            form, missing = ("i", -(1 << 31)) if channel["wide"] else ("h", -(1 << 15))
+            samples = struct.unpack("<%d%s" % (count, form), raw)
+            self.values.append([None if x == missing else channel["a"] * x + channel["b"] for x in samples])
+        self.bits = []
+        for k in range(len(self.head["status"])):
+            raw = base64.b64decode(blocks["d%d" % k])
+            self.bits.append([raw[i // 8] >> i % 8 & 1 for i in range(count)])
