@@ -89,7 +89,7 @@ def with_list(listed, show, rows):
             least, greatest = extreme(rows, k, -1)[0], extreme(rows, k, 1)[0]
             if least is not None:
                 peaks.setdefault(channel["id"], []).append((max(least, greatest, key=abs), channel["unit"]))
-    said = re.match(r"(.*) (-?[0-9.e+-]+) (k?A)(?:, .*)?$", line["greatest_current"] or "")
+    said = re.match(r"(.*) (-?[0-9.e+-]+) (k?A), of nominal ", line["greatest_current"] or "")
     if bool(said) != bool(peaks):
         yield told("list greatest_current", line["greatest_current"], peaks)
     elif said and not any(near(float(said[2]), v, SIX) or near(float(said[2]), -v, SIX)

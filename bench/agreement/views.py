@@ -39,7 +39,7 @@ def as_json(program, *words):
     return json.loads(out)
 
 
-PREFIX = {"M": 1e6, "k": 1e3, "": 1.0, "m": 1e-3, "µ": 1e-6, "u": 1e-6}
+PREFIX = {"G": 1e9, "M": 1e6, "k": 1e3, "": 1.0, "m": 1e-3, "µ": 1e-6, "u": 1e-6}
 
 
 def sized(text, unit):

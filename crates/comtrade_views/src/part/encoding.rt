@@ -8,6 +8,9 @@ use dfr_channels::{AnalogChannel, StatusChannel};
 use std::alloc::{AllocError, Allocator};
 use std::mem;
 
+/// The byte-order mark of UTF-8, with which the first text of a file may begin.
+const MARK: &[u8] = b"\xef\xbb\xbf";
+
 /// How texts are changed.
 #[derive(Clone, Copy, PartialEq, Eq)]
 enum Change {
@@ -109,23 +112,32 @@ fn turn_file<A: Allocator + Copy>(
     turn_all(alloc, &mut file.head.status, change)
 }
 
-/// Converts the texts of a file, which have this encoding, to UTF-8.
+/// Converts the texts of a file, which have this encoding, to UTF-8. Those of a file with the
+/// byte-order mark of UTF-8 are in UTF-8.
 pub fn spell_in_utf8<A: Allocator + Copy>(
     alloc: A,
     file: &mut File<A>,
     encoding: Encoding,
 ) -> Result<(), AllocError> {
-    if encoding == Encoding::Utf8 {
+    if encoding == Encoding::Utf8 || file.head.station.items().starts_with(MARK) {
         return Ok(());
     }
     turn_file(alloc, file, Change::From(encoding))
 }
 
-/// Converts the texts of a file to what is shown of them: without the NULs at their ends, and with
-/// each byte from 80 (hexadecimal) on as `\xNN` in a text that is not UTF-8.
+/// Converts the texts of a file to what is shown of them: without the byte-order mark of UTF-8 and
+/// the NULs at their ends, and with each byte from 80 (hexadecimal) on as `\xNN` in a text that is
+/// not UTF-8.
 pub fn spell_for_views<A: Allocator + Copy>(
     alloc: A,
     file: &mut File<A>,
 ) -> Result<(), AllocError> {
+    let unmarked = match file.head.station.items().strip_prefix(MARK) {
+        Some(station) => Some(Vec::from_slice(alloc, station)?),
+        None => None,
+    };
+    if let Some(station) = unmarked {
+        file.head.station = Items::of(station);
+    }
     turn_file(alloc, file, Change::Shown)
 }
