@@ -191,8 +191,80 @@ def with_import(imported, rows, is_rounded):
                 break
 
 
-def with_picture(picture, show, rows, inception):
-    """The texts of `plot`: peaks, rms values around the inception; its trigger."""
+def around(values, row, cycle):
+    """The rms values before and after a row: of the last but one cycle before it, or the last, and of the next one."""
+    before = after = None
+    for end in (row - cycle, row):
+        if end - cycle >= 0 and before is None:
+            before = rms(values[end - cycle:end])
+    if row + cycle <= len(values):
+        after = rms(values[row:row + cycle])
+    return before, after
+
+
+def with_levels(picture, show, rows, row):
+    """The rms values in `plot` around an inception or a trigger, where a cycle has a whole number of rows."""
+    cycle = show["rates"][0]["rate"] / show["frequency"] if len(show["rates"]) == 1 and show["frequency"] else 0.5
+    if cycle != int(cycle) or cycle < 8:
+        return
+    for k, channel in enumerate(show["analog"]):
+        if channel["id"] not in picture.rms or None in rows.values[k]:
+            continue
+        wanted = around(rows.values[k], row, int(cycle))
+        said = picture.rms[channel["id"]]
+        found = [sized(part, channel["unit"]) for part in re.sub(" (after|before)$", "", said).split(" → ")]
+        wanted = [value for value in wanted if value is not None]
+        if len(found) != len(wanted) or not all(near(one, other, FOUR) for one, other in zip(found, wanted)):
+            yield told("plot rms of %s" % channel["id"], said, wanted)
+
+
+def with_bars(picture, show, rows):
+    """The bars of contacts in `plot`: each begins and ends where the contact changes, to a tenth of a pixel."""
+    bars = dict(picture.bars)
+    if len(picture.times) < 2 or rows.millis != sorted(rows.millis):
+        return
+    for k, contact in enumerate(show["status"]):
+        spans, begin = [], None
+        for i, bit in enumerate(rows.bits[k] + [0]):
+            if bit and begin is None:
+                begin = i
+            if not bit and begin is not None:
+                spans.append((rows.millis[begin], rows.millis[min(i, rows.count - 1)]))
+                begin = None
+        drawn = bars.get(contact["id"])
+        if drawn is None:
+            yield told("plot bars of %s" % contact["id"], None, spans)
+            continue
+        drawn = [(picture.time_at(x), picture.time_at(end)) for x, end in drawn]
+        if sum(end - x for x, end in spans) and not drawn:
+            yield told("plot bars of %s" % contact["id"], drawn, spans)
+        # Bars that would overlap are drawn as one, and the least width is half a pixel.
+        reach = 8 * picture.step()
+        for x, end in spans:
+            if not any(a - reach <= x and end <= b + reach for a, b in drawn):
+                yield told("plot bar of %s" % contact["id"], drawn, (x, end))
+
+
+def with_library(record, show, rows):
+    """The tables of the C library, by the Python package."""
+    if len(record) != rows.count:
+        yield told("library rows", len(record), rows.count)
+    for i, nanos in enumerate(record.times_ns):
+        if nanos != round((rows.millis[i] - rows.millis[0]) * 1e6):
+            yield told("library time of row %d" % (i + 1), nanos, rows.millis[i] - rows.millis[0])
+            break
+    for k, channel in enumerate(record.analog):
+        values = [None if math.isnan(v) else v for v in channel.values]
+        for i, (one, other) in enumerate(zip(values, rows.values[k])):
+            if not near(one, other, 1e-12, 1e-9 * abs(show["analog"][k]["b"])):
+                yield told("library value of %s, row %d" % (channel.id, i + 1), one, other)
+                break
+    if [list(contact.bits) for contact in record.status] != rows.bits:
+        yield "library bits: others than csv"
+
+
+def with_picture(picture, show, rows):
+    """The texts of `plot`: peaks and the trigger."""
     if not picture.trigger or picture.trigger[1] != show["trigger"]:
         yield "plot trigger: %r, show %r" % (picture.about[:40], show["trigger"])
     drawn = [k for k in range(len(show["analog"])) if extreme(rows, k, 1)[0] is not None]

@@ -59,14 +59,24 @@ class Picture:
         self.about = unescape(re.search(r"<desc[^>]*>(.*?)</desc>", text, re.S)[1])
         self.trigger = re.match(r"Trigger (\S+ \S+)\. ", self.about)
         self.peaks = re.findall(r" ([^;]*?) (-?[0-9.]+(?:e-?[0-9]+)? [^;]*);", self.about.partition("Peaks:")[2])
-        self.rms = [unescape(x) for x in re.findall(r">peak [^<]*?, rms ([^<]*)<", text)]
-        self.labels = re.findall(r'<path class="g" stroke="#e2e2e2" d="M76 ([0-9.]+)H916"/><text x="70" y="[0-9.]+" text-anchor="end">(-?[0-9.]+)', text)
-        self.times = re.findall(r'<text x="([0-9.]+)" y="62" text-anchor="middle">(-?[0-9.]+)</text>', text)
-        self.panels = []
-        for part in re.split(r'(?=<g fill="none" stroke-width="1.2")', text)[1:]:
-            traces = re.findall(r'<path class="[a-z]"[^>]* d="(M[^"]*)"', part.partition("</g>")[0])
-            self.panels.append(traces)
-        self.bars = re.findall(r'<path class="[ko]" fill="[^"]*" d="([^"]*)"', text)
+        legends = re.findall(r'<text x="948" y="[0-9.]+">([^<]*?)(?: \([A-Za-z0-9]+\))?</text>\n<text [^>]*>peak [^<]*?, rms ([^<]*)<', text)
+        self.rms = {unescape(name): said for name, said in legends}
+        ends = re.findall(r'<text x="([0-9.]+)" y="62" text-anchor="middle">(-?[0-9.]+)</text>', text)
+        self.times = [(float(x), float(ms)) for x, ms in ends]
+        self.bars = []
+        for name, drawn in re.findall(r'<text x="948" y="[0-9.]+">([^<]*)</text>\n(?:<path class="e"[^>]*/>\n)?((?:<path class="[ko]"[^>]*/>\n)*)', text):
+            spans = re.findall(r"M([0-9.]+) [0-9.]+h([0-9.]+)v", drawn)
+            self.bars.append((unescape(name), [(float(x), float(x) + float(width)) for x, width in spans]))
+
+    def time_at(self, x):
+        """The time of a place, by the labels of the axis."""
+        (x0, t0), (x1, t1) = self.times[0], self.times[-1]
+        return t0 + (x - x0) * (t1 - t0) / (x1 - x0)
+
+    def step(self):
+        """The time of a tenth of a pixel, to which places are rounded."""
+        (x0, t0), (x1, t1) = self.times[0], self.times[-1]
+        return 0.1 * (t1 - t0) / (x1 - x0)
 
 
 class Page:
