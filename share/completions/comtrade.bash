@@ -69,8 +69,8 @@ _comtrade() {
         places=(records records records)
         ;;
     import)
-        flags='--dates --refuse -h --help'
-        valued='--dates --refuse'
+        flags='--dates --refuse --encoding -h --help'
+        valued='--dates --refuse --encoding'
         places=(records records records)
         ;;
     extract)
@@ -96,7 +96,7 @@ _comtrade() {
     word=''
     if [ -n "$option" ]; then
         case $option in
-        --encoding) word='utf-8 latin1 windows-1251 windows-1252 cp437 cp850 cp866' ;;
+        --encoding) word='utf-8 latin1 windows-1251 windows-1252 cp437 cp850 cp866 gbk shift_jis' ;;
         --by) word='instant trigger' ;;
         --kind) word='ascii binary' ;;
         --dates) word='mdy dmy' ;;

@@ -60,7 +60,7 @@ complete -c comtrade -n '__comtrade_has show csv plot page compare measure conve
 complete -c comtrade -n '__comtrade_has show csv plot page compare measure convert' -l primary -d 'Values of the primary side'
 complete -c comtrade -n '__comtrade_has show csv plot page compare measure convert' -l secondary -d 'Values of the secondary side'
 complete -c comtrade -n '__comtrade_has show csv plot page compare measure convert' -l strict -d 'Accept only files of 1999 as the standard spells them; repair nothing'
-complete -c comtrade -n '__comtrade_has show csv plot page list events compare measure convert' -l encoding -x -a 'utf-8 latin1 windows-1251 windows-1252 cp437 cp850 cp866' -d 'The encoding of names that are not ASCII'
+complete -c comtrade -n '__comtrade_has show csv plot page list events compare measure convert import' -l encoding -x -a 'utf-8 latin1 windows-1251 windows-1252 cp437 cp850 cp866 gbk shift_jis' -d 'The encoding of names that are not ASCII'
 complete -c comtrade -n '__comtrade_has show check list events measure' -l json -d 'Print JSON, in one line'
 complete -c comtrade -n '__comtrade_has csv' -l separator -x -d 'Cell separator, such as \';\' or tab'
 complete -c comtrade -n '__comtrade_has csv' -l decimal -x -d 'Decimal separator: . or ,'

@@ -58,15 +58,23 @@ for name, content in (
     ("short", packed[:-20]),
     ("more", packed + b"x"),
     ("plain", dat),
+    ("flags", packed[:3] + b"\x20" + packed[4:]),
 ):
     put(f"{name}.cfg", cfg)
     put(f"{name}.dat.gz", content)
+put("both.cfg.gz", gzip.compress(cfg, mtime=0))
+put("both.dat.gz", packed)
+put("seven.zip", b"7z\xbc\xaf\x27\x1c" + bytes(40))
+wide = bytearray(stored)
+entry = wide.index(b"PK\1\2")
+wide[entry + 24:entry + 28] = b"\xff" * 4
+put("wide.zip", wide)
 put("single.cff.gz", gzip.compress(cff, mtime=0))
 put("saved.cfg", cff)
 put("returns.cff", cff.replace(b"\r\n", b"\r"))
 END
 "$comtrade" csv "$folder/rec1" > "$folder/want"
-for name in stored.zip deflated.cfz single.zip gz.cfg gz.dat.gz gz single.cff.gz saved.cfg saved.zip returns.cff; do
+for name in stored.zip deflated.cfz single.zip gz.cfg gz.dat.gz gz both both.cfg.gz both.dat.gz single.cff.gz saved.cfg saved.zip returns.cff; do
     "$comtrade" csv "$folder/$name" > "$folder/got" 2> "$folder/said"
     echo "$name: status $?"
     cmp "$folder/got" "$folder/want"
@@ -79,9 +87,9 @@ for name in stored.zip single.zip one.cff single.cff.gz; do
     done
 done
 mkdir "$folder/folder"
-cp "$folder/deflated.cfz" "$folder/folder/"
+cp "$folder/deflated.cfz" "$folder/single.cff.gz" "$folder/both.cfg.gz" "$folder/both.dat.gz" "$folder/folder/"
 "$comtrade" list "$folder/folder" 2>&1 | sed "s|$folder/||g"
 "$comtrade" check "$folder/stored.zip" 2>&1 | sed "s|$folder/||g"
-for name in two.zip none.zip nodata.zip twice.zip bzip2.zip bomb.zip cut.zip spoiled.zip encrypted.zip lies.zip far.zip crc.cfg size.cfg short.cfg more.cfg plain.cfg; do
+for name in two.zip none.zip nodata.zip twice.zip bzip2.zip bomb.zip cut.zip spoiled.zip encrypted.zip lies.zip far.zip crc.cfg size.cfg short.cfg more.cfg plain.cfg flags.cfg seven.zip wide.zip; do
     "$comtrade" show "$folder/$name" 2>&1 | sed "s|$folder/||g"
 done

@@ -22,11 +22,39 @@ said list --encoding latin1 "$folder/latin.cfg"
 said list --encoding ebcdic "$folder/latin.cfg"
 said list "$folder/utf8.cfg"
 said convert --kind binary --encoding latin1 "$folder/latin" "$folder/new"
-# every letter of each code page, in names of 32 bytes, as Python's own tables have it
-for page in latin1 windows-1251 windows-1252 cp437 cp850 cp866; do
+# every letter of each encoding, as Python's own tables have it
+for page in latin1 windows-1251 windows-1252 cp437 cp850 cp866 gbk shift_jis; do
     python3 files/code_pages.py write "$folder/$page" "$page"
     "$comtrade" csv --encoding "$page" "$folder/$page" | head -n 1 | python3 files/code_pages.py compare "$page"
 done
+# GBK and Shift JIS in all views; a byte that begins no letter; import, of a pair and of a single file
+pair gbk '\xd6\xe9\xba\xa3220kV' 'I\xa6\xb5\xb5\xe7\xc1\xf7' 'a\xff\xd6' '\x80'
+pair sjis '\x93\xfa\x97\xa7' '\x93d\x97\xac' '\xc3\xde' '\x81\xfd'
+for name in gbk:gbk sjis:SHIFT-JIS; do
+    said show --encoding "${name#*:}" "$folder/${name%:*}" | grep 'station\|^  [12] '
+    said csv --encoding "${name#*:}" "$folder/${name%:*}" | sed -n 2p
+    said measure --encoding "${name#*:}" "$folder/${name%:*}" > /dev/null
+    for view in list events plot page; do
+        "$comtrade" $view --encoding "${name#*:}" "$folder/${name%:*}.cfg" 2> /dev/null | grep -o '珠海220kV\|日立' | head -n 1
+    done
+done
+said import --encoding gbk "$folder/gbk" "$folder/gbk-new"
+head -n 4 "$folder/gbk-new.cfg"
+{
+    printf -- '--- file type: CFG ---\r\n'
+    cat "$folder/sjis.cfg"
+    printf -- '--- file type: DAT ASCII ---\r\n'
+    cat "$folder/sjis.dat"
+} > "$folder/single.cff"
+said import --encoding sjis "$folder/single.cff" "$folder/sjis-new"
+said import --encoding latin1 "$folder/latin" "$folder/latin-new"
+said import --encoding ebcdic "$folder/latin" "$folder/none"
+said import --encoding latin1 "$folder/utf8" "$folder/utf8-new"
+{ printf '\xef\xbb\xbf'; cat "$folder/utf8.cfg"; } > "$folder/marked.cfg"
+cp "$folder/utf8.dat" "$folder/marked.dat"
+said import --encoding latin1 "$folder/marked" "$folder/marked-new"
+said show --encoding latin1 "$folder/marked" | grep 'station\|^  [12] '
+said list "$folder/marked.cfg" | tail -n 2
 # a picture: names, and lines of a long one, cut between characters
 "$comtrade" plot "$folder/utf8" | grep -o '>[^<]*\(ü\|ö\|Ω\)[^<]*<'
 "$comtrade" plot --encoding latin1 "$folder/latin" | grep -o '>[^<]*\(ö\|ß\)[^<]*<'

@@ -4,6 +4,7 @@ ghost use Rattle.std.specs.Prelude.{◌≡◌, ◌≤◌, ◌⊎◌, length, IfO
 ghost use Rattle.comtrade_inflate.specs.Gzip.{IsGzip};
 ghost use Rattle.comtrade_inflate.specs.Zip.{IsContent};
 
+use crate::ending::has_ending;
 use crate::find::{Pairing, is_single_text};
 use crate::message_on;
 use comtrade_inflate::{Entry, InflateFault, content, entries, gunzip};
@@ -44,17 +45,6 @@ pub(crate) enum ContainerFault {
 impl From<AllocError> for ContainerFault {
     fn from(_error: AllocError) -> ContainerFault {
         ContainerFault::Memory
-    }
-}
-
-/// Whether a name has this ending, in upper or lower case, and something before it.
-fn has_ending(name: &[u8], ending: &[u8]) -> bool {
-    match name.len().checked_sub(ending.len()) {
-        Some(at) if at > 0 => match name.get(at..) {
-            Some(back) => back.eq_ignore_ascii_case(ending),
-            None => false,
-        },
-        _ => false,
     }
 }
 

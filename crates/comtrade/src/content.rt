@@ -8,9 +8,10 @@ use comtrade_diagnostics::{
 };
 use comtrade_format::File;
 use comtrade_io::{Part as Asked, ToolFault};
+use comtrade_letters::Encoding;
 use comtrade_read::{Fault, Part, ReadFault, read};
 use comtrade_values::put;
-use comtrade_views::{Encoding, spell_for_views, spell_in_utf8};
+use comtrade_views::{spell_for_views, spell_in_utf8};
 use std::alloc::Allocator;
 
 /// Whether an error is in the first line, where files of other editions are refused.
@@ -205,7 +206,15 @@ fn record_in<A: Allocator + Copy>(
 
 /// The error for an unknown encoding.
 pub(crate) const NO_ENCODING: &str = "comtrade: --encoding expects utf-8, latin1, windows-1251, \
-    windows-1252, cp437, cp850 or cp866\n";
+    windows-1252, cp437, cp850, cp866, gbk or shift_jis\n";
+
+/// The encoding with this name, UTF-8 without one; None for an unknown one.
+pub(crate) fn encoding_of(name: Option<&str>) -> Option<Encoding> {
+    match name {
+        Some(name) => Encoding::named(name),
+        None => Some(Encoding::Utf8),
+    }
+}
 
 /// The file of a record, as `record_in`, with its texts spelled; None also for an unknown encoding,
 /// with the error in `said`.
@@ -215,7 +224,7 @@ pub(crate) fn file_spelled<A: Allocator + Copy>(
     reading: Reading<'_>,
     said: &mut Vec<u8, A>,
 ) -> Result<Option<Loaded<A>>, ToolFault> {
-    let Some(encoding) = Encoding::named(reading.encoding) else {
+    let Some(encoding) = encoding_of(reading.encoding) else {
         put(said, NO_ENCODING)?;
         return Ok(None);
     };

@@ -11,6 +11,8 @@ pub(crate) enum Ending {
     Hdr,
     /// Further information on a pair.
     Inf,
+    /// A configuration file compressed by gzip.
+    CfgGz,
     /// Data compressed by gzip.
     DatGz,
     /// A compressed single file.
@@ -21,12 +23,13 @@ pub(crate) enum Ending {
 }
 
 /// All kinds of files.
-const ENDINGS: [Ending; 9] = [
+const ENDINGS: [Ending; 10] = [
     Ending::Cfg,
     Ending::Cff,
     Ending::Dat,
     Ending::Hdr,
     Ending::Inf,
+    Ending::CfgGz,
     Ending::DatGz,
     Ending::CffGz,
     Ending::Zip,
@@ -41,6 +44,7 @@ impl Ending {
             Ending::Cff => ".cff",
             Ending::Hdr => ".hdr",
             Ending::Inf => ".inf",
+            Ending::CfgGz => ".cfg.gz",
             Ending::DatGz => ".dat.gz",
             Ending::CffGz => ".cff.gz",
             Ending::Zip => ".zip",
@@ -54,6 +58,22 @@ impl Ending {
             self,
             Ending::Cff | Ending::CffGz | Ending::Zip | Ending::Cfz
         )
+    }
+
+    /// Whether a file of this kind is an archive.
+    pub(crate) fn is_archive(self) -> bool {
+        matches!(self, Ending::Zip | Ending::Cfz)
+    }
+}
+
+/// Whether a name has this ending, in upper or lower case, and something before it.
+pub(crate) fn has_ending(name: &[u8], ending: &[u8]) -> bool {
+    match name.len().checked_sub(ending.len()) {
+        Some(at) if at > 0 => match name.get(at..) {
+            Some(back) => back.eq_ignore_ascii_case(ending),
+            None => false,
+        },
+        _ => false,
     }
 }
 
@@ -83,7 +103,7 @@ pub(crate) fn stem_of(name: &str) -> (Option<Ending>, &str) {
 /// The folder of a name, with its slash, and the rest.
 pub(crate) fn folder_of(name: &str) -> (&str, &str) {
     match name.rsplit_once('/') {
-        Some((folder, file)) => match name.get(..folder.len().saturating_add(1)) {
+        Some((folder, file)) => match name.get(..folder.len() + 1) {
             Some(front) => (front, file),
             None => ("", name),
         },

@@ -148,7 +148,7 @@ fn found_by_stem<R: Files + Input + Eprint + AllocGlobal + Clone + Drop>(
     rt: &R,
     name: &str,
 ) -> Result<Option<Pairing>, AllocError> {
-    if let Some(cfg) = file_for(rt, name, Ending::Cfg)? {
+    if let Some(cfg) = either_for(rt, name, Ending::Cfg, Ending::CfgGz)? {
         return found_data(rt, name, cfg);
     }
     if let Some(single) = found_single(rt, name)? {
@@ -161,19 +161,29 @@ fn found_by_stem<R: Files + Input + Eprint + AllocGlobal + Clone + Drop>(
     Ok(refuse_partner(rt, name, Ending::Cfg))
 }
 
+/// The file with one of two endings, plain or compressed: the one that is named, else the plain one.
+fn either_for<R: Files + AllocGlobal + Clone + Drop>(
+    rt: &R,
+    name: &str,
+    plain: Ending,
+    packed: Ending,
+) -> Result<Option<String>, AllocError> {
+    if stem_of(name).0 == Some(packed) {
+        return file_for(rt, name, packed);
+    }
+    match file_for(rt, name, plain)? {
+        Some(file) => Ok(Some(file)),
+        None => file_for(rt, name, packed),
+    }
+}
+
 /// The files of a record with this configuration file; None if there are no data, which is printed.
 fn found_data<R: Files + Input + Eprint + AllocGlobal + Clone + Drop>(
     rt: &R,
     name: &str,
     cfg: String,
 ) -> Result<Option<Pairing>, AllocError> {
-    let dat = match file_for(rt, name, Ending::DatGz)? {
-        Some(dat) if stem_of(name).0 == Some(Ending::DatGz) => Some(dat),
-        compressed => match file_for(rt, name, Ending::Dat)? {
-            Some(dat) => Some(dat),
-            None => compressed,
-        },
-    };
+    let dat = either_for(rt, name, Ending::Dat, Ending::DatGz)?;
     if dat.is_some() || is_single_file(rt, cfg.as_str()) {
         return Ok(Some(Pairing { cfg, dat }));
     }
@@ -200,7 +210,7 @@ fn found_pair<R: Files + Input + Eprint + AllocGlobal + Clone + Drop>(
         let cfg = String::from_str(rt.alloc(), name)?;
         return Ok(Some(Pairing { cfg, dat: None }));
     }
-    match file_for(rt, name, Ending::Cfg)? {
+    match either_for(rt, name, Ending::Cfg, Ending::CfgGz)? {
         Some(cfg) => found_data(rt, name, cfg),
         None => Ok(refuse_partner(rt, name, Ending::Cfg)),
     }

@@ -1,5 +1,6 @@
 //! Folders: the records in them, and names that are not those of files.
 
+use crate::ending::{Ending, has_ending};
 use crate::words::put_escaped;
 use crate::{LIMIT, complain, is_folder, message_on, refuse};
 use comtrade_io::{ToolFault, fault_of, put_safe, read_up_to};
@@ -8,17 +9,24 @@ use std::alloc::{AllocError, Global};
 use std::fs;
 use std::rt::Files;
 
-/// Whether a name is that of a configuration file, a single file or a compressed single file.
-fn is_cfg(name: &[u8]) -> bool {
-    match name {
-        [_, .., dot, a, b, c] => {
-            let ending = [*dot, *a, *b, *c];
-            ending.eq_ignore_ascii_case(b".cfg")
-                || ending.eq_ignore_ascii_case(b".cff")
-                || ending.eq_ignore_ascii_case(b".cfz")
+/// The endings of the files that stand for a record in a folder. An archive is not looked into, but
+/// for `.cfz`, which always is a record.
+const RECORDS: [Ending; 5] = [
+    Ending::Cfg,
+    Ending::CfgGz,
+    Ending::Cff,
+    Ending::CffGz,
+    Ending::Cfz,
+];
+
+/// Whether a name is that of a file which stands for a record.
+fn is_record(name: &[u8]) -> bool {
+    for ending in RECORDS {
+        if has_ending(name, ending.text().as_bytes()) {
+            return true;
         }
-        _ => false,
     }
+    false
 }
 
 /// The records that the names mean.
@@ -55,7 +63,7 @@ fn add_folder<R: Files + AllocGlobal>(
     let entries = entries_of(rt, folder)?;
     let (mut names, mut odd) = (Vec::new(rt.alloc()), Vec::new(rt.alloc()));
     for name in entries.split(|b| *b == 0) {
-        if !is_cfg(name) {
+        if !is_record(name) {
             continue;
         }
         match str::from_utf8(name) {

@@ -1,10 +1,12 @@
 //! `comtrade import`: files as relays write them become a pair of 1999.
 
+use crate::content::NO_ENCODING;
 use crate::load::{import_refusal, put_notes, read_inputs};
 use crate::write::{is_name, write_named};
-use crate::{out_of_memory, print_bytes, refuse};
+use crate::{out_of_memory, print_bytes, refuse, say};
 use comtrade_diagnostics::{Choices, Imported, Key, Order, import, import_single};
 use comtrade_io::{Importing, put_quoted};
+use comtrade_letters::Encoding;
 use comtrade_values::put;
 use std::alloc::{AllocError, Global};
 use std::rt::Files;
@@ -133,13 +135,32 @@ fn import_dated<R: Files + Input + Print + Eprint + AllocGlobal + Clone + Drop>(
     }
 }
 
+/// Imports texts in the encoding that `--encoding` names.
+fn import_spelled<R: Files + Input + Print + Eprint + AllocGlobal + Clone + Drop>(
+    rt: &R,
+    made: &Importing<'_>,
+    dates: Option<Order>,
+) -> u8 {
+    let encoding = match made.encoding {
+        None => None,
+        Some(name) => match Encoding::named(name) {
+            Some(encoding) => Some(encoding),
+            None => {
+                say(rt, NO_ENCODING.as_bytes());
+                return 1;
+            }
+        },
+    };
+    import_dated(rt, made, Choices { dates, encoding })
+}
+
 /// Does what `comtrade import` asks for.
 pub(crate) fn run_import<R: Files + Input + Print + Eprint + AllocGlobal + Clone + Drop>(
     rt: &R,
     made: &Importing<'_>,
 ) -> u8 {
     match order_of(made.dates) {
-        Parsed::Chosen(dates) => import_dated(rt, made, Choices { dates }),
+        Parsed::Chosen(dates) => import_spelled(rt, made, dates),
         Parsed::Unknown(value) => {
             let expected = "[possible values: mdy, dmy]";
             let refusal = value_refusal(rt.alloc(), value, "--dates <ORDER>", expected);

@@ -3,6 +3,7 @@
 use crate::container::{
     Contained, ContainerFault, decompressed, is_archive, is_compressed, record_in, unpacked,
 };
+use crate::ending::{Ending, stem_of};
 use crate::find::{Pairing, pairing_of};
 use crate::{LIMIT, complain, out_of_memory, read_named, say};
 use comtrade_diagnostics::{ImportFault, Note, Pair};
@@ -75,7 +76,8 @@ fn read_input<R: Files + Input + Eprint + AllocGlobal>(rt: &R, name: &str) -> Op
 /// The record in a file that is a whole one: an archive, or a single file, maybe compressed.
 fn whole_record<R: Eprint + AllocGlobal>(rt: &R, names: Pairing, bytes: Vec<u8>) -> Option<Inputs> {
     let name = shown(names.cfg.as_str());
-    if is_archive(&bytes) {
+    let is_named_so = stem_of(name).0.is_some_and(Ending::is_archive);
+    if is_named_so || is_archive(&bytes) {
         let Contained { names, cfg, dat } = taken(rt, record_in(rt.alloc(), name, &bytes, LIMIT))?;
         return Some(Inputs { names, cfg, dat });
     }

@@ -1,6 +1,6 @@
 //! The commands over many records.
 
-use crate::content::{NO_ENCODING, Reading, file_spelled};
+use crate::content::{NO_ENCODING, Reading, encoding_of, file_spelled};
 use crate::folder::{Pairs, pairs_of};
 use crate::load::{Inputs, read_record};
 use crate::{complain, print_bytes, say};
@@ -8,8 +8,8 @@ use comtrade_format::File;
 use comtrade_io::{Names, Survey, ToolFault, put_safe};
 use comtrade_values::put;
 use comtrade_views::{
-    Encoding, Event, Summary, add_events, fault_summary, put_events, put_events_json,
-    put_summaries, put_summaries_json, sort_events, sort_summaries, summary_of,
+    Event, Summary, add_events, fault_summary, put_events, put_events_json, put_summaries,
+    put_summaries_json, sort_events, sort_summaries, summary_of,
 };
 use std::alloc::Global;
 use std::rt::Files;
@@ -207,7 +207,7 @@ pub(crate) fn run_survey<R: Files + Input + Print + Eprint + AllocGlobal + Clone
     encoding: Option<&str>,
     names: &[&str],
 ) -> u8 {
-    if Encoding::named(encoding).is_none() {
+    if encoding_of(encoding).is_none() {
         say(rt, NO_ENCODING.as_bytes());
         return 1;
     }

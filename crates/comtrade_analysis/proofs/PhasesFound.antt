@@ -1,20 +1,27 @@
 -- What a sequence has are the phases of one unit.
 use Rattle.std.proofs.Common.{◌≡◌, ℕ, ◌+◌, ◌<◌, ◌≤◌, Bool, true, false, List, [], length, take, drop, get_or, position, Option, Some, None, IfSome, option_map, option_and_then, cond, slice_get, is_some, ◌||◌, refl, sym, ap, ◌∙◌, subst, arith}
-use Rattle.std.specs.Option.{option_or}
 use Rattle.std.proofs.lemmas.List.{get_or-take, get_or-drop, length-take, length-drop}
 use Rattle.std.proofs.lemmas.List.Quantifiers.{position-Some}
 use Rattle.dfr_channels.specs.Parts.{AnalogParts}
-use Rattle.comtrade_analysis.specs.Sequences.{is_phase, has_phase, after, before, partner, sequence_of, sequence_with, sequence_at, IsPhaseAt, ArePhases}
+use Rattle.comtrade_analysis.specs.Sequences.{is_phase, has_phase, has_other, after, stretch, stretch_begin, only, partner, sequence_of, sequence_with, sequence_at, IsPhaseAt, ArePhases}
 use Rattle.comtrade_analysis.specs.declared.phases.Phase.{Phase}
 use Rattle.comtrade_analysis.specs.declared.phases.Phase.TheVariants.{A, B, C, Neutral}
 use Rattle.comtrade_analysis.specs.declared.sequences.Sequence.{Sequence}
 
--- a number that comes from either side
-from_either : (place j : ℕ) (P : ℕ → Type 0) (o p : Option ℕ) → ((k : ℕ) → o ≡ Some k → P (place + 1 + k)) → ((k : ℕ) → p ≡ Some k → P k)
-    → option_or (option_map (λ k. place + 1 + k) o) p ≡ Some j → P j
-from_either place j P (Some k) p left right e = let same : place + 1 + k ≡ j = cc in subst P same (left k refl)
-from_either place j P None (Some k) left right e = let same : k ≡ j = cc in subst P same (right k refl)
-from_either place j P None None left right e = let no : ⊥ = cc in absurd no
+-- the only one is the first one
+only_first : (one : AnalogParts) (phase : Phase) (channels : List AnalogParts) (o : Option ℕ) (k : ℕ)
+    → option_and_then (λ j. cond (is_some (position (is_phase one phase) (drop (j + 1) channels))) None (Some j)) o ≡ Some k → o ≡ Some k
+only_first one phase channels (Some j) k e = by_more (is_some (position (is_phase one phase) (drop (j + 1) channels))) e
+  where
+    by_more : (more : Bool) → cond more None (Some j) ≡ Some k → Some j ≡ Some k
+    by_more true e = let no : ⊥ = cc in absurd no
+    by_more false e = e
+only_first one phase channels None k e = let no : ⊥ = cc in absurd no
+
+-- a number that comes from an offset
+from_offset : (begin j : ℕ) (P : ℕ → Type 0) (o : Option ℕ) → ((k : ℕ) → o ≡ Some k → P (begin + k)) → option_map (λ k. begin + k) o ≡ Some j → P j
+from_offset begin j P (Some k) each e = let same : begin + k ≡ j = cc in subst P same (each k refl)
+from_offset begin j P None each e = let no : ⊥ = cc in absurd no
 
 module _ (channels : List AnalogParts) (place : ℕ) (one : AnalogParts) (phase : Phase) where
   -- of the first n channels
@@ -35,16 +42,24 @@ module _ (channels : List AnalogParts) (place : ℕ) (one : AnalogParts) (phase 
     holds = λ d. ap (is_phase one phase) (sym (get_or-drop n channels k d)) ∙ h.holds d;
   }
 
-  -- of none, or of those before
-  in_choice : (b : Bool) (k : ℕ) → position (is_phase one phase) (cond b [] (take place channels)) ≡ Some k → IsPhaseAt channels one phase k
-  in_choice true k e = let no : ⊥ = cc in absurd no
-  in_choice false k e = in_front place k channels e
+  -- of all
+  in_all : (k : ℕ) → position (is_phase one phase) channels ≡ Some k → IsPhaseAt channels one phase k
+  in_all k e = record {
+    within = let h = position-Some (is_phase one phase) channels k one e in h.0;
+    holds = λ d. let h = position-Some (is_phase one phase) channels k d e in h.1;
+  }
+
+  -- of the stretch
+  in_stretch : (b : Bool) (k : ℕ) → position (is_phase one phase) (cond b (after channels place one) channels) ≡ Some k
+      → IsPhaseAt channels one phase (cond b (place + 1) 0 + k)
+  in_stretch true k e = in_rest (place + 1) k (in_front _ k (drop (place + 1) channels) e)
+  in_stretch false k e = let same : k ≡ 0 + k = omega arith in subst (IsPhaseAt channels one phase) same (in_all k e)
 
   partner_is : (j : ℕ) → partner channels place one phase ≡ Some j → IsPhaseAt channels one phase j
   partner_is j e =
-      from_either place j (IsPhaseAt channels one phase) (position (is_phase one phase) (after channels place one)) (position (is_phase one phase) (before channels place one))
-      (λ k at. in_rest (place + 1) k (in_front _ k (drop (place + 1) channels) at))
-      (λ k at. in_choice _ k at) e
+      from_offset (stretch_begin channels place one) j (IsPhaseAt channels one phase) (only one phase (stretch channels place one))
+      (λ k at. in_stretch (has_other channels place one) k
+      (only_first one phase (stretch channels place one) (position (is_phase one phase) (stretch channels place one)) k at)) e
 
 some_is : (x y : Sequence) → Some x ≡ Some y → x ≡ y
 some_is x y e = cc

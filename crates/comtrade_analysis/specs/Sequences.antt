@@ -1,7 +1,6 @@
 -- Which channels are phases A, B and C of one unit. Channels count from 0.
 use Rattle.std.specs.Prelude.{◌≡◌, ◌<◌, ℕ, ◌+◌, Bool, true, false, ◌&&◌, ◌||◌, if◌then◌else◌, List, [], length, take, drop, position, slice_get, unwrap_or, option_map, option_and_then, Option, Some, None, is_some, IfSome}
 use Rattle.std.specs.List.{filter_map, range_with_len, HoldsAt}
-use Rattle.std.specs.Option.{option_or}
 use Rattle.std.specs.Str.{bytes_eq}
 use Rattle.dfr_channels.specs.Parts.{AnalogParts}
 use Rattle.dfr_channels.specs.declared.channel.Side.{Side}
@@ -40,17 +39,29 @@ abbrev pub after : List AnalogParts → ℕ → AnalogParts → List AnalogParts
 after channels place one =
     let rest = drop (place + 1) channels in take (unwrap_or (position (is_phase one A) rest) (length rest)) rest
 
--- the channels before it, where no other one is phase A of its unit
-abbrev pub before : List AnalogParts → ℕ → AnalogParts → List AnalogParts
-before channels place one =
-    if is_some (position (is_phase one A) (take place channels)) || is_some (position (is_phase one A) (drop (place + 1) channels)) then []
-    else take place channels
+-- another channel is phase A of its unit
+abbrev pub has_other : List AnalogParts → ℕ → AnalogParts → Bool
+has_other channels place one =
+    is_some (position (is_phase one A) (take place channels)) || is_some (position (is_phase one A) (drop (place + 1) channels))
 
--- another phase of its unit: the first one after it, or else before it
+-- the channels that can be its other phases: all, where no other one is phase A of its unit, else those after it
+abbrev pub stretch : List AnalogParts → ℕ → AnalogParts → List AnalogParts
+stretch channels place one = if has_other channels place one then after channels place one else channels
+
+-- where they begin
+abbrev pub stretch_begin : List AnalogParts → ℕ → AnalogParts → ℕ
+stretch_begin channels place one = if has_other channels place one then place + 1 else 0
+
+-- the only one that is this phase of its unit
+abbrev pub only : AnalogParts → Phase → List AnalogParts → Option ℕ
+only one phase channels =
+    option_and_then (λ k. if is_some (position (is_phase one phase) (drop (k + 1) channels)) then None else Some k)
+    (position (is_phase one phase) channels)
+
+-- another phase of its unit, where the stretch has it once
 abbrev pub partner : List AnalogParts → ℕ → AnalogParts → Phase → Option ℕ
 partner channels place one phase =
-    option_or (option_map (λ k. place + 1 + k) (position (is_phase one phase) (after channels place one)))
-    (position (is_phase one phase) (before channels place one))
+    option_map (λ k. stretch_begin channels place one + k) (only one phase (stretch channels place one))
 
 -- three phases, where there are all
 abbrev pub sequence_of : ℕ → Option ℕ → Option ℕ → Option ℕ → Option Sequence

@@ -87,26 +87,56 @@ fn after<'a, A: Allocator>(
     }
 }
 
-/// The channels before one that can be its other phases: all, if no other channel is phase A of its
-/// unit.
-fn before<'a, A: Allocator>(
-    channels: &'a [AnalogChannel<A>],
+/// Whether another channel is phase A of a channel's unit.
+fn has_other<A: Allocator>(
+    channels: &[AnalogChannel<A>],
     place: usize,
     one: &AnalogChannel<A>,
-) -> &'a [AnalogChannel<A>]
+) -> bool
     requires { place < length channels.now }
-    ensures { result.now ≡ spec.before channels.now place one.now }
+    ensures { result ≡ spec.has_other channels.now place one.now }
 {
     let front = &channels[..place];
     let rest = &channels[place + 1..];
-    if first_of(front, one, Phase::A).is_some() || first_of(rest, one, Phase::A).is_some() {
-        &front[..0]
+    first_of(front, one, Phase::A).is_some() || first_of(rest, one, Phase::A).is_some()
+}
+
+/// The channels that can be the other phases of one, and the index of the first: all, if no other
+/// channel is phase A of its unit, else those after it.
+fn stretch_of<'a, A: Allocator>(
+    channels: &'a [AnalogChannel<A>],
+    place: usize,
+    one: &AnalogChannel<A>,
+) -> (usize, &'a [AnalogChannel<A>])
+    requires { place < length channels.now }
+    ensures begin { result.0 ≡ spec.stretch_begin channels.now place one.now }
+    ensures value { result.1.now ≡ spec.stretch channels.now place one.now }
+    ensures within { result.0 + length result.1.now ≤ length channels.now }
+{
+    if has_other(channels, place, one) {
+        (place + 1, after(channels, place, one))
     } else {
-        front
+        (0, channels)
     }
 }
 
-/// The index of another phase of a channel's unit: the first one after it, or else before it.
+/// The index of the only one of these channels that is this phase of another one's unit.
+fn only_of<A: Allocator>(
+    channels: &[AnalogChannel<A>],
+    one: &AnalogChannel<A>,
+    phase: Phase,
+) -> Option<usize>
+    ensures value { result ≡ spec.only one.now phase channels.now }
+    ensures within { IfSome result (λ k. k < length channels.now) }
+{
+    let place = first_of(channels, one, phase)?;
+    if first_of(&channels[place + 1..], one, phase).is_some() {
+        return None;
+    }
+    Some(place)
+}
+
+/// The index of another phase of a channel's unit; None where several channels can be it.
 fn partner_of<A: Allocator>(
     channels: &[AnalogChannel<A>],
     place: usize,
@@ -116,10 +146,8 @@ fn partner_of<A: Allocator>(
     requires { place < length channels.now }
     ensures { result ≡ spec.partner channels.now place one.now phase }
 {
-    match first_of(after(channels, place, one), one, phase) {
-        Some(offset) => Some(place + 1 + offset),
-        None => first_of(before(channels, place, one), one, phase),
-    }
+    let (begin, stretch) = stretch_of(channels, place, one);
+    Some(begin + only_of(stretch, one, phase)?)
 }
 
 /// The sequence whose phase A is the channel at this index, if there is one.
@@ -142,7 +170,8 @@ fn sequence_at<A: Allocator>(channels: &[AnalogChannel<A>], place: usize) -> Opt
 }
 
 /// The channels that are phases A, B and C of one unit, component and side, in the order of their
-/// phase A. `Memory`: an allocation failed.
+/// phase A. Where a phase B or C could be one of several channels, there is no sequence. `Memory`:
+/// an allocation failed.
 pub fn sequences_in<A: Allocator, B: Allocator + Copy>(
     alloc: B,
     channels: &[AnalogChannel<A>],

@@ -22,6 +22,14 @@ fn single<A: Allocator + Copy>(
     })
 }
 
+/// The choices for a text that says its own encoding.
+fn in_known(choices: Choices) -> Choices {
+    Choices {
+        encoding: None,
+        ..choices
+    }
+}
+
 /// Reads the pair in a single file with all repairs that it needs.
 pub fn repaired_single<A: Allocator + Copy>(
     alloc: A,
@@ -32,10 +40,16 @@ pub fn repaired_single<A: Allocator + Copy>(
     match narrow(alloc, cff)? {
         Some(text) => {
             notes.tell(Key::Utf16, Place::Whole("single file"), &[])?;
-            single(alloc, notes, text.as_slice(), choices)
+            single(alloc, notes, text.as_slice(), in_known(choices))
         }
         None => {
             let text = unmarked(&mut notes, "single file", cff)?;
+            let is_marked = text.len() != cff.len();
+            let choices = if is_marked {
+                in_known(choices)
+            } else {
+                choices
+            };
             single(alloc, notes, text, choices)
         }
     }

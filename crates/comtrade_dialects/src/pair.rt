@@ -11,6 +11,7 @@ use crate::key::Key;
 use crate::note::{Notes, Place};
 use crate::text::without_empty_end;
 use comtrade_format::File;
+use comtrade_letters::{Encoding, in_utf8};
 use memchr::memchr;
 use std::alloc::Allocator;
 
@@ -19,6 +20,8 @@ use std::alloc::Allocator;
 pub struct Choices {
     /// The order of day and month in dates, which overrides that of the revision and the dates.
     pub dates: Option<Order>,
+    /// The encoding of a configuration file that is neither UTF-16 nor marked as UTF-8.
+    pub encoding: Option<Encoding>,
 }
 
 /// The text before the first byte 1A of a configuration file, without empty lines at its end.
@@ -72,6 +75,29 @@ fn text_in<'a, A: Allocator + Copy>(
     }
 }
 
+/// The text of a configuration file in UTF-8, where it is in another encoding; None where it is not.
+fn turned<A: Allocator + Copy>(
+    alloc: A,
+    cfg: &[u8],
+    choices: Choices,
+) -> Result<Option<Vec<u8, A>>, ImportFault> {
+    match choices.encoding {
+        Some(encoding) if without_mark(cfg).is_none() => Ok(Some(in_utf8(alloc, cfg, encoding)?)),
+        _ => Ok(None),
+    }
+}
+
+/// Reads a configuration file in UTF-8.
+fn draft_in<A: Allocator + Copy>(
+    alloc: A,
+    notes: &mut Notes<A>,
+    text: &[u8],
+    choices: Choices,
+) -> Result<Draft<A>, ImportFault> {
+    let text = before_end(notes, text)?;
+    draft_of(alloc, notes, text, choices.dates)
+}
+
 /// Reads a configuration file.
 fn cfg_of<A: Allocator + Copy>(
     alloc: A,
@@ -80,9 +106,13 @@ fn cfg_of<A: Allocator + Copy>(
     choices: Choices,
 ) -> Result<Draft<A>, ImportFault> {
     let narrowed = narrow(alloc, cfg)?;
+    if narrowed.is_none()
+        && let Some(text) = turned(alloc, cfg, choices)?
+    {
+        return draft_in(alloc, notes, &text, choices);
+    }
     let text = text_in(notes, "configuration file", cfg, &narrowed)?;
-    let text = before_end(notes, text)?;
-    draft_of(alloc, notes, text, choices.dates)
+    draft_in(alloc, notes, text, choices)
 }
 
 /// Reads a file whose data are declared as text.

@@ -91,11 +91,12 @@ pub record IsConverted (rows : List Row) (made : Converted) : Type 0 where
   pub data_kind : (made.kind ≡ kind.Binary) ↔ (first_of (codes "KIND") rows ≡ Some (codes "binary"))
   pub part : ArePart rows made.part
 
--- the same, which of month and day comes first in dates, and the repairs that are refused, in their order
+-- the same, which of month and day comes first in dates, the repairs that are refused, in their order, and how texts are spelled
 pub record IsImporting (rows : List Row) (made : Importing) : Type 0 where
   pub pair : IsNewPair rows made.names made.name.now
   pub dates : IsOption rows (codes "dates") made.dates
   pub refused : map (λ s. s.now) made.refused.items ≡ unwrap_or (all_of (codes "refuse") rows) []
+  pub encoding : IsOption rows (codes "encoding") made.encoding
 
 -- two records, and how they are laid beside each other
 pub record IsCompared (rows : List Row) (made : Compared) : Type 0 where

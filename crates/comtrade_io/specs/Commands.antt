@@ -110,9 +110,9 @@ convert kinds = with_part (convert_kind kinds)
 abbrev pub import_names : App
 import_names = over_new (new_app (codes "import"))
 
--- which of month and day comes first, and the repairs that are refused
+-- which of month and day comes first, the repairs that are refused, and how texts are spelled
 abbrev pub importing : App
-importing = with_rule (with_rule import_names (option (codes "dates"))) (repeated (codes "refuse"))
+importing = with_encoding (with_rule (with_rule import_names (option (codes "dates"))) (repeated (codes "refuse")))
 
 abbrev pub extract : App
 extract = with_rule (new_app (codes "extract")) (word (codes "DIR"))

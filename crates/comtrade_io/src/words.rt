@@ -111,6 +111,8 @@ pub struct Importing<'a> {
     pub dates: Option<&'a str>,
     /// The keys of the repairs with which nothing is written, in the order in which they were given.
     pub refused: Vec<&'a str>,
+    /// How names are spelled that aren't ASCII.
+    pub encoding: Option<&'a str>,
     /// The name of the new pair, without `.cfg` and `.dat`.
     pub name: &'a str,
 }

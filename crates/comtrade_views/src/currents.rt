@@ -3,6 +3,7 @@
 ghost use Rattle.comtrade_views.specs.Spellings as spec;
 ghost use Rattle.std.specs.Prelude.{◌≡◌};
 
+use crate::cycles::{amperes_of, is_current_unit};
 use crate::show_analog::surveys_in;
 use comtrade_analysis::Survey;
 use comtrade_format::{File, nearest_f64, scale_of};
@@ -42,9 +43,10 @@ fn greatest_of<A: Allocator + Copy>(
     };
     let scale = scale_of(alloc, channel)?;
     let nominal = nearest_f64(alloc, nominal_of(channel))?;
+    let amperes = amperes_of(channel.unit.items());
     let mut greatest = before;
     for sample in [extremes.least.sample, extremes.greatest.sample] {
-        let size = scale.value(sample).abs();
+        let size = scale.value(sample).abs() * amperes;
         let times = if 0.0 < nominal { size / nominal } else { 0.0 };
         let known = match greatest {
             Some(current) => current.times,
@@ -70,7 +72,7 @@ pub(crate) fn greatest_current<A: Allocator + Copy>(
     let mut greatest = None;
     let channels = file.head.analog.items().iter();
     for (i, (channel, survey)) in channels.zip(surveys.iter()).enumerate() {
-        if channel.unit.items() == b"A".as_slice() {
+        if is_current_unit(channel.unit.items()) {
             greatest = greatest_of(alloc, *survey, channel, i, greatest)?;
         }
     }

@@ -40,7 +40,7 @@ pub use head_json::show_json;
 pub use json::put_text;
 pub use measure::{Measuring, measure_text};
 pub use measure_range::put_outside;
-pub use part::{Cut, Encoding, PartFault, is_whole, part_of, spell_for_views, spell_in_utf8};
+pub use part::{Cut, PartFault, is_whole, part_of, spell_for_views, spell_in_utf8};
 pub use show::show_over;
 pub use shown::Shown;
 pub use spelling::Spelling;

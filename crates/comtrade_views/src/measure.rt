@@ -13,7 +13,7 @@ use crate::shown::{Shown, put_cycle};
 use crate::table::put_table;
 use comtrade_format::File;
 use comtrade_io::put_safe;
-use comtrade_values::{put, put_with};
+use comtrade_values::{Memory, put, put_with};
 use std::alloc::{AllocError, Allocator, Global};
 
 /// What to measure.
@@ -82,7 +82,7 @@ fn put_tables<A: Allocator + Copy>(
     alloc: A,
     made: &mut Measures<A>,
     found: &Found<'_, A>,
-) -> Result<(), AllocError> {
+) -> Result<(), Memory> {
     put_channels(&mut made.channels, found)?;
     put_order_table(&mut made.orders, found)?;
     put_note(&mut made.note, found)?;

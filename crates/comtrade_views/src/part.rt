@@ -1,7 +1,6 @@
 //! A part of a record: the rows between two moments, channels by name, values of one side of the
 //! transformers; and the encoding of its texts.
 
-mod code_pages;
 mod cut;
 mod encoding;
 mod fault;
@@ -12,7 +11,7 @@ mod record;
 mod rows;
 mod side;
 
-pub use encoding::{Encoding, spell_for_views, spell_in_utf8};
+pub use encoding::{spell_for_views, spell_in_utf8};
 pub use fault::PartFault;
 pub(crate) use reach::{Reach, reach_of};
 pub use record::{Cut, is_whole, part_of};

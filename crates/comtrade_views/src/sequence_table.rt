@@ -1,18 +1,18 @@
 //! The table of sequence components.
 
-use crate::cycles::{Phasor, Sequence, Three, sequence_of, threes_of};
+use crate::cycles::{Components, Phasor, Three, components_of, threes_of};
 use crate::measure_tables::{Found, MISSING, put_angle_cell, put_float_cell};
 use crate::shown::Shown;
 use crate::table::{end_cell, end_row};
 use comtrade_io::put_safe;
-use comtrade_values::put;
+use comtrade_values::{Memory, put};
 use dfr_channels::AnalogChannel;
 use std::alloc::{AllocError, Allocator};
 
 /// The magnitudes and angles of three channels' sequence components, up to the end of the row.
 fn put_sequence<A: Allocator>(
     table: &mut Vec<u8, A>,
-    sequence: Sequence,
+    sequence: Components,
     reference: Option<Phasor>,
     shown: Shown<'_>,
 ) -> Result<(), AllocError> {
@@ -53,7 +53,7 @@ pub(crate) fn put_sequences<A: Allocator + Copy>(
     alloc: A,
     table: &mut Vec<u8, A>,
     found: &Found<'_, A>,
-) -> Result<(), AllocError> {
+) -> Result<(), Memory> {
     put(
         table,
         "A\x1FB\x1FC\x1Funit\x1Fpositive\x1Fangle\x1Fnegative\x1Fangle\x1Fzero\x1Fangle\x1F\n",
@@ -63,7 +63,7 @@ pub(crate) fn put_sequences<A: Allocator + Copy>(
     let threes = threes_of(alloc, channels)?;
     for three in threes.iter() {
         put_three(table, channels, *three)?;
-        match sequence_of(found.measures, *three) {
+        match components_of(found.measures, *three) {
             Some(sequence) => put_sequence(table, sequence, found.reference, found.shown)?,
             None => put(table, MISSING)?,
         }

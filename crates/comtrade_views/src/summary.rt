@@ -3,6 +3,7 @@
 ghost use Rattle.std.specs.Prelude.{◌≡◌, Some, None, IfOk};
 
 use crate::currents::{greatest_current, nominal_of};
+use crate::cycles::amperes_of;
 use crate::instant::{put_instant, put_millis};
 use crate::number::{put_decimal, scale_of, value_of};
 use crate::table::{end_cell, end_row, put_number_cell, put_safe_cell, put_table, table_of};
@@ -49,7 +50,7 @@ fn put_channels<A: Allocator + Copy>(text: &mut Vec<u8, A>, file: &File<A>) -> R
     Ok(put_number_cell(text, changed as u64)?)
 }
 
-/// `IB -10648.5 A, of nominal 600`
+/// `IB -10648.5 A, of nominal 600`, or `IB -10.6485 kA, of nominal 600 A`
 fn put_current<A: Allocator + Copy>(
     text: &mut Vec<u8, A>,
     file: &File<A>,
@@ -60,8 +61,13 @@ fn put_current<A: Allocator + Copy>(
             put(text, " ")?;
             let value = value_of(scale_of(channel), current.sample);
             put_exact(text, value.to_six_digits())?;
-            put(text, " A, of nominal ")?;
+            put(text, " ")?;
+            put_safe(text, channel.unit.items())?;
+            put(text, ", of nominal ")?;
             put_decimal(text, nominal_of(channel))?;
+            if amperes_of(channel.unit.items()) != 1.0 {
+                put(text, " A")?;
+            }
         }
     }
     end_cell(text)?;

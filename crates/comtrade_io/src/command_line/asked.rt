@@ -89,6 +89,7 @@ fn import_of<'a>(alloc: Global, found: &ArgMatches<'a>) -> Result<Option<Asked<'
         names,
         dates: text_of(found, "dates"),
         refused: texts_of(alloc, found, "refuse")?,
+        encoding: text_of(found, "encoding"),
         name,
     })))
 }

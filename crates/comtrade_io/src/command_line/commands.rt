@@ -20,9 +20,10 @@ const ABOUT: &str =
 
 /// What FILE and DAT name, and the exit status.
 const STATUS: &str = "\
-FILE is a configuration file (.cfg), a data file (.dat), a single file (.cff) or the name they share.
-The other file of the pair is found next to it, in upper or lower case. With DAT, FILE is the
-configuration file and DAT the data file; one of the two may be -, for standard input.
+FILE is a configuration file (.cfg), a data file (.dat), a single file (.cff), an archive with one
+record (.zip, .cfz), or the name they share; .dat.gz and .cff.gz are read too. The other file of the
+pair is found next to it, in upper or lower case. With DAT, FILE is the configuration file and DAT
+the data file; one of the two may be -, for standard input. FILE alone may be - for a whole record.
 
 Exit status: 0 success; 1 an error in the files, or a file that cannot be read or written; 2 usage error.";
 
@@ -48,9 +49,10 @@ Other files:
   comtrade convert --kind binary --from -20 --to 100 rec1 report
   dfr replay < script | comtrade extract records
 
-FILE is a configuration file (.cfg), a data file (.dat), a single file (.cff) or the name they share.
-The other file of the pair is found next to it, in upper or lower case. With DAT, FILE is the
-configuration file and DAT the data file; one of the two may be -, for standard input.
+FILE is a configuration file (.cfg), a data file (.dat), a single file (.cff), an archive with one
+record (.zip, .cfz), or the name they share; .dat.gz and .cff.gz are read too. The other file of the
+pair is found next to it, in upper or lower case. With DAT, FILE is the configuration file and DAT
+the data file; one of the two may be -, for standard input. FILE alone may be - for a whole record.
 
 Exit status: 0 success; 1 an error in the files, or a file that cannot be read or written; 2 usage error.";
 
@@ -64,8 +66,8 @@ to A; channels are compared where name, unit and side are the same.
 Exit status: 0 success; 1 an error in the files, or a file that cannot be read or written; 2 usage error.";
 
 const IMPORT_STATUS: &str = "\
-FILE is a configuration file (.cfg), a single file (.cff) or the name that a pair shares. With three
-names the second one is the data file. Each repair is printed as a line: its key, what it means and
+FILE is a configuration file (.cfg), a single file (.cff), an archive with one record (.zip, .cfz) or
+the name that a pair shares. With three names the second one is the data file. Each repair is printed as a line: its key, what it means and
 where. The manual lists the keys.
 
 Exit status: 0 the pair was written, also with repairs; 1 the files cannot be imported, read or
@@ -213,7 +215,8 @@ fn importing<'a>(alloc: Global) -> Result<Command<'a>, AllocError>
     let refuse = "Write nothing if this repair is needed; may be given several times";
     let named = import_names(alloc)?;
     let dated = with(named, option(alloc, "dates", "ORDER", dates))?;
-    with(dated, repeated(alloc, "refuse", "KEY", refuse))
+    let refusing = with(dated, repeated(alloc, "refuse", "KEY", refuse))?;
+    with_encoding(alloc, refusing)
 }
 
 fn extract<'a>(alloc: Global) -> Result<Command<'a>, AllocError>

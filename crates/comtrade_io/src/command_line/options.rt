@@ -71,7 +71,7 @@ pub(crate) fn with_encoding(alloc: Global, command: Command<'_>) -> Result<Comma
     ensures { (a : App) → IsCommand a command.entry → IfOk result (IsCommand (Spec.with_encoding a)) }
 {
     let help = "The encoding of names that are not ASCII [possible values: utf-8, latin1, \
-        windows-1251, windows-1252, cp437, cp850, cp866]";
+        windows-1251, windows-1252, cp437, cp850, cp866, gbk, shift_jis]";
     with(command, option(alloc, "encoding", "NAME", help))
 }
 

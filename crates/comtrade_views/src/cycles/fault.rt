@@ -31,7 +31,7 @@ pub enum MeasureFault {
     Coarse,
     /// There are this many rows, and a cycle has more.
     #[error("too few rows at one rate: {0}; a whole cycle has {1}")]
-    Short(u64, u64),
+    Short(u64, u128),
     /// No measured channel has this name or number.
     #[error("no analogue channel has the name or number of the reference")]
     NoReference,

@@ -102,3 +102,18 @@ pub(crate) fn is_current_unit(unit: &[u8]) -> bool {
     }
     is_found
 }
+
+/// How many amperes a unit of currents is, by its prefix. `MA` is a milliampere in capitals.
+pub(crate) fn amperes_of(unit: &[u8]) -> f64 {
+    let text = without_micro(unit);
+    if text.len() != unit.len() {
+        return 1e-6;
+    }
+    let (word, _) = cut_word(text);
+    match word {
+        [b'k' | b'K', rest @ ..] if is_one(rest, &NAMES) => 1e3,
+        [b'm' | b'M', rest @ ..] if is_one(rest, &NAMES) => 1e-3,
+        [b'u' | b'U', rest @ ..] if is_one(rest, &NAMES) => 1e-6,
+        _ => 1.0,
+    }
+}

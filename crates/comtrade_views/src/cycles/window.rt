@@ -1,8 +1,10 @@
 //! The rows that are measured.
 
-ghost use Rattle.std.specs.Prelude.{◌≡◌, ◌+◌, ◌*◌, ◌<◌, ◌≤◌, ℕ, length, IfOk, MatchOption};
+ghost use Rattle.std.specs.Prelude.{◌≡◌, ◌+◌, ◌-◌, ◌*◌, ◌<◌, ◌≤◌, ℕ, length, IfOk, IfSome, MatchOption};
+ghost use Rattle.comtrade_format.specs.Cycles.{Lasts};
+ghost use Rattle.comtrade_views.specs.declared.cycles.fault.MeasureFault.TheVariants.{Short};
 ghost use Rattle.comtrade_analysis.specs.Windows.{rows_in};
-ghost use Rattle.comtrade_views.specs.Stretches.{ends_at, IsLastStretch, AreCycles};
+ghost use Rattle.comtrade_views.specs.Stretches.{ends_at, IsLastStretch, AreCycles, LastsAt, IsOfLastRate, IsOfOneRate};
 
 use crate::cycles::fault::MeasureFault;
 use comtrade_analysis::{cycles_within, window_before, window_from};
@@ -28,8 +30,11 @@ const HIGHEST: usize = 25;
 impl Window {
     /// The number of orders that are measured: those below half the rows of a cycle, at most 25.
     pub fn orders(self) -> usize {
-        let rows = usize::try_from(self.cycle.rows_in(1)).unwrap_or(usize::MAX);
-        (rows.saturating_sub(1) / 2).min(HIGHEST)
+        let rows = self.cycle.rows_in(1);
+        if (2 * HIGHEST as u128) < rows {
+            return HIGHEST;
+        }
+        ((rows as usize).max(1) - 1) / 2
     }
 }
 
@@ -50,7 +55,8 @@ struct Stretch {
 
 /// The rate of the last of so many rows: the first one that reaches to it. None where none does.
 fn last_stretch(rates: &[Rate], rows: usize) -> Option<Stretch>
-    ensures { MatchOption result ((k : ℕ) → k < length rates.now → ends_at rates.now k < rows) (λ s. IsLastStretch rates.now rows s.rate s.from) }
+    ensures found { MatchOption result ((k : ℕ) → k < length rates.now → ends_at rates.now k < rows) (λ s. IsLastStretch rates.now rows s.rate s.from) }
+    ensures order { IfSome result (λ s. s.from ≤ rows) }
 {
     let mut from = 0;
     for i in 0..rates.len() {
@@ -64,13 +70,17 @@ fn last_stretch(rates: &[Rate], rows: usize) -> Option<Stretch>
 }
 
 /// There are fewer rows than a cycle has.
-fn too_short(cycle: Cycle, from: usize, to: usize) -> MeasureFault {
-    let wanted = u64::try_from(cycle.rows_in(1)).unwrap_or(u64::MAX);
-    MeasureFault::Short(to.saturating_sub(from) as u64, wanted)
+fn too_short(cycle: Cycle, from: usize, to: usize) -> MeasureFault
+    requires some { 0 < cycle.cycles }
+    requires order { from ≤ to }
+    ensures { result ≡ Short (to - from) (rows_in cycle 1) }
+{
+    MeasureFault::Short((to - from) as u64, cycle.rows_in(1))
 }
 
 /// The last cycle of these rows.
 fn last_of(cycle: Cycle, from: usize, to: usize) -> Result<Window, MeasureFault>
+    requires order { from ≤ to }
     requires some { 0 < cycle.cycles }
     requires long { 3 * cycle.cycles ≤ cycle.rows }
     ensures cycle { IfOk result (λ window. (window.cycle ≡ cycle) × (window.cycles ≡ 1)) }
@@ -90,6 +100,7 @@ fn last_of(cycle: Cycle, from: usize, to: usize) -> Result<Window, MeasureFault>
 
 /// The whole cycles of these rows, from the first one on.
 fn all_of(cycle: Cycle, from: usize, to: usize) -> Result<Window, MeasureFault>
+    requires order { from ≤ to }
     requires some { 0 < cycle.cycles }
     requires long { 3 * cycle.cycles ≤ cycle.rows }
     ensures cycle { IfOk result (λ window. window.cycle ≡ cycle) }
@@ -97,7 +108,7 @@ fn all_of(cycle: Cycle, from: usize, to: usize) -> Result<Window, MeasureFault>
     ensures most { IfOk result (λ window. (n : ℕ) → from + rows_in cycle n ≤ to → n ≤ window.cycles) }
     ensures first { IfOk result (λ window. window.from ≡ from) }
 {
-    let cycles = cycles_within(cycle, to.saturating_sub(from));
+    let cycles = cycles_within(cycle, to - from);
     match window_from(cycle, cycles, from, to) {
         Some(window) if cycles != 0 => Ok(Window {
             from,
@@ -111,7 +122,8 @@ fn all_of(cycle: Cycle, from: usize, to: usize) -> Result<Window, MeasureFault>
 
 /// The rate of the last of a file's rows.
 fn last_rate<A: Allocator>(head: &Head<A>, rows: usize) -> Result<Stretch, MeasureFault>
-    ensures { IfOk result (λ s. IsLastStretch head.now.rates rows s.rate s.from) }
+    ensures stretch { IfOk result (λ s. IsLastStretch head.now.rates rows s.rate s.from) }
+    ensures order { IfOk result (λ s. s.from ≤ rows) }
 {
     if head.nrates == 0 {
         return Err(MeasureFault::NoRate);
@@ -125,7 +137,8 @@ fn last_rate<A: Allocator>(head: &Head<A>, rows: usize) -> Result<Stretch, Measu
 /// The cycle at the rate of this index.
 fn cycle_at<A: Allocator>(head: &Head<A>, rate: usize) -> Result<Cycle, MeasureFault>
     requires { rate < length head.now.rates }
-    ensures { IfOk result (λ cycle. (0 < cycle.cycles) × (3 * cycle.cycles ≤ cycle.rows)) }
+    ensures long { IfOk result (λ cycle. (0 < cycle.cycles) × (3 * cycle.cycles ≤ cycle.rows)) }
+    ensures lasts { IfOk result (λ cycle. LastsAt head.now.line_freq head.now.rates rate cycle) }
 {
     let rates = head.rates.items();
     Ok(cycle_of(head.line_freq, rates[rate].samp)?)
@@ -137,6 +150,7 @@ pub fn last_cycle<A: Allocator>(file: &File<A>) -> Result<Window, MeasureFault>
     ensures one { IfOk result (λ window. window.cycles ≡ 1) }
     ensures rows { IfOk result (λ window. AreCycles window.cycle 1 window.from window.to) }
     ensures last { IfOk result (λ window. window.to ≡ length file.now.rows) }
+    ensures rate { IfOk result (λ window. IsOfLastRate file.now.head.line_freq file.now.head.rates (length file.now.rows) window.from window.cycle) }
 {
     let rows = file.rows.items().len();
     let stretch = last_rate(&file.head, rows)?;
@@ -150,6 +164,7 @@ pub fn whole_cycles<A: Allocator>(file: &File<A>) -> Result<Window, MeasureFault
     ensures rows { IfOk result (λ window. AreCycles window.cycle window.cycles 0 window.to × (window.to ≤ length file.now.rows)) }
     ensures most { IfOk result (λ window. (n : ℕ) → rows_in window.cycle n ≤ length file.now.rows → n ≤ window.cycles) }
     ensures first { IfOk result (λ window. window.from ≡ 0) }
+    ensures rate { IfOk result (λ window. IsOfOneRate file.now.head.line_freq file.now.head.rates (length file.now.rows) window.cycle) }
 {
     let rows = file.rows.items().len();
     let stretch = last_rate(&file.head, rows)?;
@@ -169,7 +184,10 @@ fn span_of(
     to: usize,
     least: u128,
 ) -> Result<Window, MeasureFault>
-    ensures { IfOk result (λ window. (window.from ≡ from) × (window.to ≡ to)) }
+    requires { from ≤ to }
+    ensures rows { IfOk result (λ window. (window.from ≡ from) × (window.to ≡ to)) }
+    ensures cycle { IfOk result (λ window. Lasts frequency rate window.cycle.cycles window.cycle.rows) }
+    ensures least { IfOk result (λ window. least ≤ rows_in window.cycle 1) }
 {
     let cycle = cycle_of(frequency, rate)?;
     let window = all_of(cycle, from, to)?;
@@ -197,7 +215,7 @@ pub fn spans_of<A: Allocator + Copy>(
     let mut refused: Option<MeasureFault> = None;
     let mut from = 0usize;
     for rate in file.head.rates.items() {
-        let to = count.min(rate.endsamp as usize);
+        let to = count.min(rate.endsamp as usize).max(from);
         match span_of(file.head.line_freq, rate.samp, from, to, least) {
             Ok(span) => spans.push(span)?,
             Err(fault) if refused.is_none() => refused = Some(fault),

@@ -1,114 +1,23 @@
-//! Texts in Latin-1 (ISO 8859-1) or a code page as UTF-8, and texts of no known encoding as they
-//! are shown.
+//! The texts of a file in UTF-8, from the encoding that is named, and texts of no known encoding as
+//! they are shown.
 
-use super::code_pages::{CP437, CP850, CP866, WINDOWS_1251, WINDOWS_1252};
 use comtrade_format::File;
+use comtrade_letters::{Encoding, in_utf8, put_escaped};
 use comtrade_values::Items;
 use dfr_channels::{AnalogChannel, StatusChannel};
 use std::alloc::{AllocError, Allocator};
 use std::mem;
 
-/// The encoding of texts.
-#[derive(Clone, Copy, Debug, PartialEq, Eq)]
-pub enum Encoding {
-    Utf8,
-    Latin1,
-    Windows1251,
-    Windows1252,
-    Cp437,
-    Cp850,
-    Cp866,
-}
-
-/// The names of the encodings.
-const NAMES: [(&str, Encoding); 13] = [
-    ("utf-8", Encoding::Utf8),
-    ("utf8", Encoding::Utf8),
-    ("latin1", Encoding::Latin1),
-    ("latin-1", Encoding::Latin1),
-    ("iso-8859-1", Encoding::Latin1),
-    ("windows-1251", Encoding::Windows1251),
-    ("cp1251", Encoding::Windows1251),
-    ("windows-1252", Encoding::Windows1252),
-    ("cp1252", Encoding::Windows1252),
-    ("cp437", Encoding::Cp437),
-    ("cp850", Encoding::Cp850),
-    ("cp866", Encoding::Cp866),
-    ("ibm866", Encoding::Cp866),
-];
-
-impl Encoding {
-    /// The encoding with this name; UTF-8 without a name, None for an unknown one.
-    pub fn named(name: Option<&str>) -> Option<Encoding> {
-        let Some(name) = name else {
-            return Some(Encoding::Utf8);
-        };
-        for (known, encoding) in NAMES {
-            if name.eq_ignore_ascii_case(known) {
-                return Some(encoding);
-            }
-        }
-        None
-    }
-
-    /// The letter of a byte from 80 (hexadecimal) on; 0 if it has none.
-    fn letter(self, b: u8) -> u16 {
-        let place = usize::from(b & 0x7F);
-        match self {
-            Encoding::Utf8 | Encoding::Latin1 => u16::from(b),
-            Encoding::Windows1251 => WINDOWS_1251[place],
-            Encoding::Windows1252 => WINDOWS_1252[place],
-            Encoding::Cp437 => CP437[place],
-            Encoding::Cp850 => CP850[place],
-            Encoding::Cp866 => CP866[place],
-        }
-    }
-}
+/// The byte-order mark of UTF-8, with which the first text of a file may begin.
+const MARK: &[u8] = b"\xef\xbb\xbf";
 
 /// How texts are changed.
 #[derive(Clone, Copy, PartialEq, Eq)]
 enum Change {
-    /// From this encoding, of one byte for each letter, to UTF-8.
+    /// From this encoding to UTF-8.
     From(Encoding),
     /// To what is shown of them.
     Shown,
-}
-
-/// Appends a letter from 80 (hexadecimal) on in UTF-8.
-fn put_letter<A: Allocator>(out: &mut Vec<u8, A>, letter: u16) -> Result<(), AllocError> {
-    let last = 0x80 | (letter & 0x3F) as u8;
-    let middle = (letter >> 6 & 0x3F) as u8;
-    if letter < 0x800 {
-        out.extend_from_slice(&[0xC0 | middle, last])
-    } else {
-        out.extend_from_slice(&[0xE0 | (letter >> 12) as u8, 0x80 | middle, last])
-    }
-}
-
-/// Appends a byte as `\xNN`.
-fn put_escaped<A: Allocator>(out: &mut Vec<u8, A>, b: u8) -> Result<(), AllocError> {
-    out.extend_from_slice(&[b'\\', b'x', hex_digit(b >> 4), hex_digit(b & 0xF)])
-}
-
-/// The text in UTF-8 of a text in an encoding of one byte for each letter. A byte without a letter
-/// becomes `\xNN`.
-fn from_encoding<A: Allocator>(
-    alloc: A,
-    text: &[u8],
-    encoding: Encoding,
-) -> Result<Vec<u8, A>, AllocError> {
-    let mut made = Vec::new(alloc);
-    for b in text {
-        if *b < 0x80 {
-            made.push(*b)?;
-            continue;
-        }
-        match encoding.letter(*b) {
-            0 => put_escaped(&mut made, *b)?,
-            letter => put_letter(&mut made, letter)?,
-        }
-    }
-    Ok(made)
 }
 
 /// A text without the NULs at its end.
@@ -121,14 +30,6 @@ fn without_padding(text: &[u8]) -> &[u8] {
         }
     }
     rest
-}
-
-/// A hexadecimal digit.
-fn hex_digit(n: u8) -> u8 {
-    match b"0123456789abcdef".get(usize::from(n)) {
-        Some(digit) => *digit,
-        None => b'?',
-    }
 }
 
 /// What is shown of a text: itself without padding. If it is not UTF-8, each byte from 80
@@ -153,7 +54,7 @@ fn shown<A: Allocator>(alloc: A, text: &[u8]) -> Result<Vec<u8, A>, AllocError> 
 /// Changes a text.
 fn turn<A: Allocator>(alloc: A, text: &mut Items<u8, A>, change: Change) -> Result<(), AllocError> {
     let made = match change {
-        Change::From(encoding) => from_encoding(alloc, text.items(), encoding)?,
+        Change::From(encoding) => in_utf8(alloc, text.items(), encoding)?,
         Change::Shown => shown(alloc, text.items())?,
     };
     *text = Items::of(made);
@@ -211,23 +112,32 @@ fn turn_file<A: Allocator + Copy>(
     turn_all(alloc, &mut file.head.status, change)
 }
 
-/// Converts the texts of a file, which have this encoding, to UTF-8.
+/// Converts the texts of a file, which have this encoding, to UTF-8. Those of a file with the
+/// byte-order mark of UTF-8 are in UTF-8.
 pub fn spell_in_utf8<A: Allocator + Copy>(
     alloc: A,
     file: &mut File<A>,
     encoding: Encoding,
 ) -> Result<(), AllocError> {
-    if encoding == Encoding::Utf8 {
+    if encoding == Encoding::Utf8 || file.head.station.items().starts_with(MARK) {
         return Ok(());
     }
     turn_file(alloc, file, Change::From(encoding))
 }
 
-/// Converts the texts of a file to what is shown of them: without the NULs at their ends, and with
-/// each byte from 80 (hexadecimal) on as `\xNN` in a text that is not UTF-8.
+/// Converts the texts of a file to what is shown of them: without the byte-order mark of UTF-8 and
+/// the NULs at their ends, and with each byte from 80 (hexadecimal) on as `\xNN` in a text that is
+/// not UTF-8.
 pub fn spell_for_views<A: Allocator + Copy>(
     alloc: A,
     file: &mut File<A>,
 ) -> Result<(), AllocError> {
+    let unmarked = match file.head.station.items().strip_prefix(MARK) {
+        Some(station) => Some(Vec::from_slice(alloc, station)?),
+        None => None,
+    };
+    if let Some(station) = unmarked {
+        file.head.station = Items::of(station);
+    }
     turn_file(alloc, file, Change::Shown)
 }
