@@ -1,5 +1,6 @@
 //! Which records were taken, as proofs remember it: a word for each goes through a ring from the
-//! recorder's lock to who takes them. In a program nothing depends on it.
+//! recorder's lock to who takes them. Nothing is read from the words. A record is taken only if the
+//! ring has room and all earlier words came out of it, which holds wherever one thread takes.
 
 ghost use Rattle.std.specs.Prelude.{◌≡◌, ◌++◌, [], length, Some, None, IfSome, IsTrue, option_to_list};
 ghost use Rattle.rtrb.specs.Ring.{sent, received, known_items};
