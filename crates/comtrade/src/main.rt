@@ -7,6 +7,7 @@ mod around;
 mod compare;
 mod container;
 mod content;
+mod detect;
 mod ending;
 mod extract;
 mod find;
@@ -21,6 +22,7 @@ mod words;
 mod write;
 
 use crate::compare::run_compare;
+use crate::detect::run_detect;
 use crate::extract::run_extract;
 use crate::import::run_import;
 use crate::load::{Inputs, pair_of, read_inputs, read_record};
@@ -245,6 +247,7 @@ fn run<R: Files + Input + Print + Eprint + AllocGlobal + Clone + Drop>(
     asked: Asked<'_>,
 ) -> u8 {
     match asked {
+        Asked::View(View::Detect, viewed) => run_detect(rt, is_watched, viewed),
         Asked::View(view, viewed) => run_view(rt, is_watched, view, viewed),
         Asked::Convert(made) => run_convert(rt, is_watched, made),
         Asked::Import(made) => run_import(rt, &made),

@@ -61,6 +61,7 @@ view_is view.Csv = refl
 view_is view.Plot = refl
 view_is view.Page = refl
 view_is view.Measure = refl
+view_is view.Detect = refl
 
 survey_is : (s : Survey) → (is_survey (survey_name s) ≡ true) × (is_view (survey_name s) ≡ false)
 survey_is survey.List = (refl, refl)

@@ -75,6 +75,7 @@ pub record IsViewed (rows : List Row) (v : Viewed) : Type 0 where
   pub form : AreForm rows v.form
   pub picture : ArePicture rows v.picture
   pub cursor : AreCursor rows v.cursor
+  pub lines : IsOption rows (codes "LINES") v.lines
   pub json : IsFlag rows (codes "json") v.json
 
 -- two or three names: the pair's, its data file's where there are three, and the new pair's

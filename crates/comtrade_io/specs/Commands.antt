@@ -93,6 +93,13 @@ page = over_part (codes "page")
 abbrev pub measure : App
 measure = with_json (with_cursor (over_part (codes "measure")))
 
+-- a file of detectors, and a pair
+abbrev pub detect_lines : App
+detect_lines = with_rule (new_app (codes "detect")) (word (codes "LINES"))
+
+abbrev pub detect : App
+detect = with_json (with_rule (with_rule detect_lines (word (codes "FILE"))) (free_word (codes "DAT")))
+
 -- a command that writes a pair: with three names the second is the data file's
 abbrev pub over_new : App → App
 over_new a = with_rule (with_rule (with_rule a
@@ -162,8 +169,8 @@ abbrev pub surveys : App → App
 surveys a = with_subcommand (with_subcommand (with_subcommand a list.top) events.top) compare.top
 
 abbrev pub program : Bor (List (Bor (List ℕ))) → App
-program kinds = with_subcommand (with_subcommand (with_subcommand (with_subcommand (surveys (views top))
-    measure.top) (convert kinds).top) importing.top) extract.top
+program kinds = with_subcommand (with_subcommand (with_subcommand (with_subcommand (with_subcommand (surveys (views top))
+    measure.top) detect.top) (convert kinds).top) importing.top) extract.top
 
 -- the words for kinds of data
 abbrev pub AreKinds : Bor (List (Bor (List ℕ))) → Type 0

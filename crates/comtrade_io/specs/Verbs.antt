@@ -12,6 +12,7 @@ view_name view.Csv = codes "csv"
 view_name view.Plot = codes "plot"
 view_name view.Page = codes "page"
 view_name view.Measure = codes "measure"
+view_name view.Detect = codes "detect"
 
 abbrev pub survey_name : Survey → List ℕ
 survey_name survey.List = codes "list"

@@ -66,6 +66,8 @@ pub enum View {
     Page,
     /// What is measured in it.
     Measure,
+    /// When detectors fire on it.
+    Detect,
 }
 
 /// How a picture is drawn, its sizes as texts that are not parsed yet.
@@ -89,6 +91,8 @@ pub struct Viewed<'a> {
     pub form: Form<'a>,
     pub picture: Picture<'a>,
     pub cursor: Cursor<'a>,
+    /// The file of detectors.
+    pub lines: Option<&'a str>,
     /// As JSON.
     pub json: bool,
 }
@@ -165,6 +169,7 @@ pub fn view_of(verb: &str) -> Option<View>
         "plot" => Some(View::Plot),
         "page" => Some(View::Page),
         "measure" => Some(View::Measure),
+        "detect" => Some(View::Detect),
         _ => None,
     }
 }

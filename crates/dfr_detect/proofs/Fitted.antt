@@ -7,7 +7,7 @@ use Rattle.dfr_detect.specs.declared.settings.Condition.{Condition}
 use Rattle.dfr_detect.specs.declared.settings.Condition.TheVariants.{RmsOver, RmsUnder, Change, Jump, Frequency}
 use Rattle.dfr_detect.specs.declared.settings.FrequencyTest.{FrequencyTest}
 use Rattle.dfr_detect.specs.declared.settings.Settings.{Settings}
-use Rattle.dfr_detect.specs.declared.settings.SettingsFault.TheVariants.{Scans, Cycles, Rate, Level, Reset, Row}
+use Rattle.dfr_detect.specs.declared.settings.SettingsFault.TheVariants.{Scans, Cycles, Rate, Level, Reset, Short, Row}
 
 first_none : {F : Type 0} (a b : Option F) → a or b ≡ None → a ≡ None
 first_none None b h = refl
@@ -48,7 +48,8 @@ settings_fit s h =
     let level = passed (is_level most s.level) Level (first_none _ _ from_level) in
     let from_reset = rest_none _ _ from_level in
     let reset = passed (is_level most s.reset && has_reset s.condition s.level s.reset) Reset (first_none _ _ from_reset) in
-    let row = passed (leb 1 s.row) Row (rest_none _ _ from_reset) in
+    let from_cycles = rest_none _ _ from_reset in
+    let row = passed (leb 1 s.row) Row (rest_none _ _ from_cycles) in
     record {
       some = leb-true 1 s.scans (both _ _ scans).0;
       few = leb-true s.scans 65_536 (both _ _ scans).1;

@@ -18,10 +18,14 @@ rounded whole part of = if nat_lt (2 * part) of then whole else whole + 1
 abbrev pub nearest : ℕ → ℕ → ℕ
 nearest times of = rounded (times / of) (times % of) of
 
+-- the window of these cycles: the whole scans nearest to them
+abbrev pub window_of : ℕ → ℕ → Number → ℕ
+window_of rate cycles frequency = nearest (scans_times rate cycles frequency.places) (unsigned_abs frequency.units)
+
 -- the first fault
 abbrev pub cycle_fault : ℕ → ℕ → Number → Option CycleFault
 cycle_fault rate cycles frequency =
-    let scans = nearest (scans_times rate cycles frequency.places) (unsigned_abs frequency.units) in
+    let scans = window_of rate cycles frequency in
     fault_unless (int_lt (pos 0) frequency.units) Frequency
     or fault_unless (nat_le frequency.places 18) Places
     or fault_unless (nat_le 1 scans && nat_le scans 65_536) Length

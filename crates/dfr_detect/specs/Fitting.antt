@@ -1,11 +1,11 @@
 -- Which settings a detector takes.
-use Rattle.std.specs.Prelude.{ℕ, ◌≤◌, ◌^◌, Bool, true, false, ◌&&◌, if◌then◌else◌, nat_le, Option, None}
+use Rattle.std.specs.Prelude.{ℕ, ◌*◌, ◌≤◌, ◌^◌, Bool, true, false, ◌&&◌, if◌then◌else◌, nat_le, Option, None}
 use Rattle.comtrade_values.specs.Faults.{◌or◌, fault_unless}
 use Rattle.dfr_detect.specs.declared.settings.Condition.{Condition}
 use Rattle.dfr_detect.specs.declared.settings.Condition.TheVariants.{RmsOver, RmsUnder, Change, Jump, Frequency}
 use Rattle.dfr_detect.specs.declared.settings.Settings.{Settings}
 use Rattle.dfr_detect.specs.declared.settings.SettingsFault.{SettingsFault}
-use Rattle.dfr_detect.specs.declared.settings.SettingsFault.TheVariants.{Scans, Cycles, Rate, Least, Level, Reset, Row}
+use Rattle.dfr_detect.specs.declared.settings.SettingsFault.TheVariants.{Scans, Cycles, Rate, Least, Level, Reset, Short, Row}
 use Rattle.dfr_detect.specs.declared.settings.FrequencyIs.{FrequencyIs}
 use Rattle.dfr_detect.specs.declared.settings.FrequencyIs.TheVariants.{Over, Under, Changing}
 use Rattle.dfr_detect.specs.declared.settings.FrequencyTest.{FrequencyTest}
@@ -44,6 +44,20 @@ is_under (Frequency t) = is_slow_test t.test
 abbrev pub has_reset : Condition → ℕ → ℕ → Bool
 has_reset condition level reset = if is_under condition then nat_le level reset else nat_le reset level
 
+-- the cycles lie in n scans if the frequency is the level; those of a rate of change may be as short as two scans
+abbrev pub lies_in : FrequencyIs → FrequencyTest → ℕ → ℕ → Bool
+lies_in Over t n level = nat_le (1000 * t.rate * t.cycles) (n * level)
+lies_in Under t n level = nat_le (1000 * t.rate * t.cycles) (n * level)
+lies_in Changing t n level = nat_le (4 * t.cycles) n
+
+-- at the level and at the reset level
+abbrev pub has_cycles : Condition → ℕ → ℕ → ℕ → Bool
+has_cycles RmsOver n level reset = true
+has_cycles RmsUnder n level reset = true
+has_cycles Change n level reset = true
+has_cycles Jump n level reset = true
+has_cycles (Frequency t) n level reset = lies_in t.test t n level && lies_in t.test t n reset
+
 -- the first fault of a test of the frequency
 abbrev pub test_fault : FrequencyTest → Option SettingsFault
 test_fault t =
@@ -66,6 +80,7 @@ settings_fault s =
     or condition_fault s.condition
     or fault_unless (is_level (most_level s.condition) s.level) Level
     or fault_unless (is_level (most_level s.condition) s.reset && has_reset s.condition s.level s.reset) Reset
+    or fault_unless (has_cycles s.condition s.scans s.level s.reset) Short
     or fault_unless (nat_le 1 s.row) Row
 
 -- what a test of the frequency without a fault has

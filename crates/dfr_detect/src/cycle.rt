@@ -55,6 +55,7 @@ fn nearest(whole: u128, part: u128, of: u128) -> u128
 /// How many scans so many cycles of a line frequency take at a rate, in scans a second.
 pub fn cycle_scans(rate: u32, cycles: u32, frequency: Decimal) -> Result<CycleScans, CycleFault>
     ensures scans { IfOk result (λ scans. AreCycleScans rate cycles frequency scans) }
+    ensures nearest { IfOk result (λ scans. scans.nearest ≡ spec.window_of rate cycles frequency) }
     ensures fits { IfOk result (λ _. spec.cycle_fault rate cycles frequency ≡ None) }
     ensures err { IfErr result (λ fault. spec.cycle_fault rate cycles frequency ≡ Some fault) }
 {

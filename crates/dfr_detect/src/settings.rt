@@ -55,7 +55,7 @@ pub struct Settings {
     pub condition: Condition,
     /// How many scans it is taken over, as a rule those of a period. Of a frequency: those in which
     /// the cycles and the crossing before them have to lie, twice the cycles for its rate of change.
-    /// Where they can't, as the frequency is too low, the bit stays 0.
+    /// Where they don't, as the frequency is too low, the bit is 0.
     pub scans: u32,
     /// The level at which the bit becomes 1.
     pub level: u64,
@@ -86,6 +86,9 @@ pub enum SettingsFault {
     /// The reset level lies on the wrong side of the level, is 0 or too large.
     #[error("the reset level lies below the level, or above it for `under`")]
     Reset,
+    /// The cycles of a frequency don't lie in the scans.
+    #[error("the cycles of the frequency at its levels take more scans than it looks at")]
+    Short,
     /// It has to be met for no scan.
     #[error("a level is met for at least 1 scan")]
     Row,
@@ -103,7 +106,7 @@ const MOST: u64 = 1 << 40;
 
 impl FrequencyTest {
     ghost use Rattle.std.specs.Prelude.{◌≡◌};
-    ghost use Rattle.dfr_detect.specs.Fitting.{most_of, test_fault};
+    ghost use Rattle.dfr_detect.specs.Fitting.{most_of, lies_in, test_fault};
 
     /// The largest level.
     fn most(&self) -> u64
@@ -112,6 +115,20 @@ impl FrequencyTest {
         match self.test {
             FrequencyIs::Over | FrequencyIs::Under => MOST,
             FrequencyIs::Changing => 1 << 31,
+        }
+    }
+
+    /// Whether the cycles lie in so many scans if the frequency is the level. Those of a rate of
+    /// change may be as short as two scans.
+    fn lies_in(&self, scans: u32, level: u64) -> bool
+        ensures { result ≡ lies_in self.now.test self.now scans level }
+    {
+        match self.test {
+            FrequencyIs::Over | FrequencyIs::Under => {
+                1000 * u128::from(self.rate) * u128::from(self.cycles)
+                    <= u128::from(scans) * u128::from(level)
+            }
+            FrequencyIs::Changing => 4 * u64::from(self.cycles) <= u64::from(scans),
         }
     }
 
@@ -134,7 +151,7 @@ impl FrequencyTest {
 
 impl Settings {
     ghost use Rattle.std.specs.Prelude.{◌≡◌};
-    ghost use Rattle.dfr_detect.specs.Fitting.{most_level, is_under, has_reset, condition_fault, settings_fault};
+    ghost use Rattle.dfr_detect.specs.Fitting.{most_level, is_under, has_reset, has_cycles, condition_fault, settings_fault};
 
     /// The largest level.
     fn most(&self) -> u64
@@ -168,6 +185,18 @@ impl Settings {
         }
     }
 
+    /// Whether the cycles of a frequency lie in the scans, at both levels.
+    fn has_cycles(&self) -> bool
+        ensures { result ≡ has_cycles self.now.condition self.now.scans self.now.level self.now.reset }
+    {
+        match self.condition {
+            Condition::Frequency(test) => {
+                test.lies_in(self.scans, self.level) && test.lies_in(self.scans, self.reset)
+            }
+            _ => true,
+        }
+    }
+
     /// The first fault of the condition.
     fn condition_fault(&self) -> Option<SettingsFault>
         ensures { result ≡ condition_fault self.now.condition }
@@ -194,6 +223,9 @@ impl Settings {
         }
         if !is_level(most, self.reset) || !self.has_reset() {
             return Some(SettingsFault::Reset);
+        }
+        if !self.has_cycles() {
+            return Some(SettingsFault::Short);
         }
         if self.row < 1 {
             return Some(SettingsFault::Row);

@@ -10,7 +10,8 @@ use Rattle.dfr_setup.specs.Addends as addends
 use Rattle.dfr_setup.specs.Addends.{SumParts}
 use Rattle.dfr_setup.specs.Plans as plans
 use Rattle.dfr_setup.specs.Quantities as quantity
-use Rattle.dfr_setup.specs.Refusing.{and_then, Is, Makes, Refuses}
+use Rattle.dfr_setup.specs.Tests as tests
+use Rattle.dfr_setup.specs.Refusing.{and_then, needed, Is, Makes, Refuses}
 use Rattle.dfr_setup.specs.declared.tested.Test.{Test}
 use Rattle.dfr_setup.specs.declared.wish.Wish.{Wish}
 use Rattle.dfr_setup.specs.declared.fault.DetectorFault.{DetectorFault}
@@ -23,26 +24,33 @@ pub with_word_found : (cs : List AnalogParts) (test : Test) (s : SumParts) (word
 with_word_found cs test s word i c named found = rw (named, found) refl
 
 -- a value that is needed
-pub needed_some : {A : Type 0} (value : Option A) (f : DetectorFault) (x : A) → Ok x ≡ plans.needed value f → value ≡ Some x
+pub needed_some : {A : Type 0} (value : Option A) (f : DetectorFault) (x : A) → Ok x ≡ needed value f → value ≡ Some x
 needed_some None f x h = absurd cc
 needed_some (Some y) f x h = cc
 
 -- settings whose parts are all there
-pub settled : (s : SetupParts) (w : Wish) (multiplier : Option Number) (most : ℕ) (a : Number) (level reset scans top : ℕ) (k : Condition) (x y z : Option ℕ)
-    → top ≡ quantity.reach w.test most → k ≡ plans.condition_of w.test
-    → Ok a ≡ plans.needed multiplier fault.Channel
-    → x ≡ quantity.level_in w.test w.level a top → Ok level ≡ plans.needed x fault.Level
-    → y ≡ quantity.level_in w.test w.reset a top → Ok reset ≡ plans.needed y fault.Reset
-    → z ≡ quantity.window_in w.window s.rate s.line_freq → Ok scans ≡ plans.needed z fault.Window
+pub settled : (s : SetupParts) (w : Wish) (multiplier : Option Number) (most : ℕ) (a one : Number) (level reset least cycles scans top n : ℕ) (k : Condition) (x y v u z : Option ℕ)
+    → top ≡ quantity.reach w.test most s.rate → one ≡ quantity.one_of w.test a → n ≡ quantity.periods w.test cycles → k ≡ tests.condition_of w.test cycles s.rate least
+    → Ok a ≡ needed multiplier fault.Channel
+    → x ≡ quantity.level_in w.test w.level one top → Ok level ≡ needed x fault.Level
+    → y ≡ quantity.level_in w.test w.reset one top → Ok reset ≡ needed y fault.Reset
+    → v ≡ quantity.least_in w.test w.least a most → Ok least ≡ needed v fault.Least
+    → u ≡ quantity.within w.cycles 64 → Ok cycles ≡ needed u fault.Cycles
+    → z ≡ quantity.window_in w.window n s.rate s.line_freq → Ok scans ≡ needed z fault.Window
     → plans.settings_of s w multiplier most ≡ plans.checked (record { condition = k; scans = scans; level = level; reset = reset; row = w.row })
-settled s w multiplier most a level reset scans top k x y z t is na lx nl ly nr wz ns =
+settled s w multiplier most a one level reset least cycles scans top n k x y v u z t o p is na lx nl ly nr lv nv lu nu wz ns =
     let h1 : multiplier ≡ Some a = needed_some multiplier fault.Channel a na in
-    let h2 : quantity.level_in w.test w.level a (quantity.reach w.test most) ≡ Some level =
-    ap (λ (m : ℕ). quantity.level_in w.test w.level a m) (sym t) ∙ sym lx ∙ needed_some x fault.Level level nl in
-    let h3 : quantity.level_in w.test w.reset a (quantity.reach w.test most) ≡ Some reset =
-    ap (λ (m : ℕ). quantity.level_in w.test w.reset a m) (sym t) ∙ sym ly ∙ needed_some y fault.Reset reset nr in
-    let h4 : quantity.window_in w.window s.rate s.line_freq ≡ Some scans = sym wz ∙ needed_some z fault.Window scans ns in
-    rw (h1, h2, h3, h4, is) refl
+    let h2 : quantity.level_in w.test w.level (quantity.one_of w.test a) (quantity.reach w.test most s.rate) ≡ Some level =
+    ap (λ (b : Number). quantity.level_in w.test w.level b (quantity.reach w.test most s.rate)) (sym o)
+    ∙ ap (λ (m : ℕ). quantity.level_in w.test w.level one m) (sym t) ∙ sym lx ∙ needed_some x fault.Level level nl in
+    let h3 : quantity.level_in w.test w.reset (quantity.one_of w.test a) (quantity.reach w.test most s.rate) ≡ Some reset =
+    ap (λ (b : Number). quantity.level_in w.test w.reset b (quantity.reach w.test most s.rate)) (sym o)
+    ∙ ap (λ (m : ℕ). quantity.level_in w.test w.reset one m) (sym t) ∙ sym ly ∙ needed_some y fault.Reset reset nr in
+    let h4 : quantity.least_in w.test w.least a most ≡ Some least = sym lv ∙ needed_some v fault.Least least nv in
+    let h5 : quantity.within w.cycles 64 ≡ Some cycles = sym lu ∙ needed_some u fault.Cycles cycles nu in
+    let h6 : quantity.window_in w.window (quantity.periods w.test cycles) s.rate s.line_freq ≡ Some scans =
+    ap (λ (m : ℕ). quantity.window_in w.window m s.rate s.line_freq) (sym p) ∙ sym wz ∙ needed_some z fault.Window scans ns in
+    rw (h1, h2, h3, h4, h5, h6, is) refl
 
 -- the sums of a wish
 pub with_wish_by : (s : SetupParts) (have : List plans.PlanParts) (ws : List (List ℕ)) (w : Wish) (base : List ℕ) (sums : List (List ℕ)) (n : ℕ)

@@ -1,4 +1,5 @@
 pub mod Refusing
+pub mod Tests
 pub mod Quantities
 pub mod Wishes
 pub mod Addends

@@ -1,5 +1,5 @@
 -- The detectors that the lines of a set-up ask for.
-use Rattle.std.specs.Prelude.{ℕ, ◌+◌, ◌==◌, Bool, false, not, ◌&&◌, ◌||◌, nat_lt, nat_le, is_some, if◌then◌else◌, List, [], ◌∷◌, ◌++◌, length, map, Option, Result, Ok, Err}
+use Rattle.std.specs.Prelude.{ℕ, ◌+◌, ◌==◌, Bool, false, not, ◌&&◌, ◌||◌, nat_lt, is_some, if◌then◌else◌, List, [], ◌∷◌, ◌++◌, length, map, Option, option_map, Result, Ok, Err}
 use Rattle.std.specs.List.{slice_split, list_any}
 use Rattle.std.specs.Str.{bytes_eq}
 use Rattle.comtrade_values.specs.Faults.{◌or◌, fault_unless}
@@ -9,22 +9,22 @@ use Rattle.comtrade_values.specs.Texts.{is_plain}
 use Rattle.dfr_channels.specs.LineFields.{need}
 use Rattle.dfr_channels.specs.Parts.{SetupParts, StatusParts}
 use Rattle.dfr_detect.specs.Detection.{Wanted, wanted}
-use Rattle.dfr_detect.specs.Fitting.{most_level, is_level, has_reset}
-use Rattle.dfr_detect.specs.declared.settings.Condition.{Condition}
-use Rattle.dfr_detect.specs.declared.settings.Condition.TheVariants as condition
+use Rattle.dfr_detect.specs.Fitting.{settings_fault}
 use Rattle.dfr_detect.specs.declared.settings.Settings.{Settings}
+use Rattle.dfr_detect.specs.declared.settings.SettingsFault.{SettingsFault}
+use Rattle.dfr_detect.specs.declared.settings.SettingsFault.TheVariants.{Scans, Cycles, Rate, Least, Level, Reset, Short, Row}
 use Rattle.dfr_setup.specs.Addends.{SumParts, no_sum}
 use Rattle.dfr_setup.specs.Addends as addends
-use Rattle.dfr_setup.specs.Quantities.{level_in, reach, window_in}
+use Rattle.dfr_setup.specs.Quantities.{level_in, least_in, one_of, periods, reach, window_in, within}
 use Rattle.dfr_setup.specs.Refusing.{and_then, unless}
+use Rattle.dfr_setup.specs.Tests.{condition_of}
 use Rattle.dfr_setup.specs.Wishes.{is_detect, is_go, words, wish}
 use Rattle.dfr_setup.specs.declared.fault.DetectorFault.{DetectorFault}
 use Rattle.dfr_setup.specs.declared.fault.DetectorFault.TheVariants as fault
 use Rattle.dfr_setup.specs.declared.tested.Test.{Test}
-use Rattle.dfr_setup.specs.declared.tested.Test.TheVariants.{RmsOver, RmsUnder, Change, Jump}
 use Rattle.dfr_setup.specs.declared.wish.Wish.{Wish}
 
--- a detector: the name of its status channel, what it is asked, and its levels in the channels' unit
+-- a detector: the name of its status channel, what it is asked, and its levels in the channels' unit or in Hz
 pub record PlanParts : Type 0 where
   pub name : List ℕ
   pub test : Test
@@ -32,6 +32,7 @@ pub record PlanParts : Type 0 where
   pub channels : List ℕ
   pub level : Number
   pub reset : Number
+  pub least : Number
 
 abbrev pub wanted_of : PlanParts → Wanted
 wanted_of p = wanted p.settings p.channels
@@ -61,34 +62,34 @@ name_of is_only base sum = if is_only then base else base ++ 45 ∷ sum
 
 -- ---- one detector
 
-abbrev pub condition_of : Test → Condition
-condition_of RmsOver = condition.RmsOver
-condition_of RmsUnder = condition.RmsUnder
-condition_of Change = condition.Change
-condition_of Jump = condition.Jump
+-- a fault of settings is one of the line
+abbrev pub of_settings : SettingsFault → DetectorFault
+of_settings Scans = fault.Window
+of_settings Cycles = fault.Cycles
+of_settings Rate = fault.Rate
+of_settings Least = fault.Least
+of_settings Level = fault.Level
+of_settings Reset = fault.Side
+of_settings Short = fault.Short
+of_settings Row = fault.Row
 
 -- the first fault of settings
 abbrev pub fault_of : Settings → Option DetectorFault
-fault_of s =
-    fault_unless (nat_le 1 s.scans && nat_le s.scans 65_536) fault.Window
-    or fault_unless (is_level (most_level s.condition) s.level) fault.Level
-    or fault_unless (is_level (most_level s.condition) s.reset && has_reset s.condition s.level s.reset) fault.Reset
-    or fault_unless (nat_le 1 s.row) fault.Row
+fault_of s = option_map of_settings (settings_fault s)
 
 abbrev pub checked : Settings → Result Settings DetectorFault
 checked s = unless (fault_of s) s
 
-abbrev pub needed : {A : Type 0} → Option A → DetectorFault → Result A DetectorFault
-needed value fault = need value fault (λ x. Ok x)
-
--- what a wish makes of channels with this multiplier, and this greatest size of their sum: levels in samples, and a window in scans
+-- what a wish makes of channels with this multiplier, and this greatest size of their sum: levels in samples or mHz, and a window in scans
 abbrev pub settings_of : SetupParts → Wish → Option Number → ℕ → Result Settings DetectorFault
 settings_of s w multiplier most =
     need multiplier fault.Channel (λ a.
-    need (level_in w.test w.level a (reach w.test most)) fault.Level (λ level.
-    need (level_in w.test w.reset a (reach w.test most)) fault.Reset (λ reset.
-    need (window_in w.window s.rate s.line_freq) fault.Window (λ scans.
-    checked (record { condition = condition_of w.test; scans = scans; level = level; reset = reset; row = w.row })))))
+    need (level_in w.test w.level (one_of w.test a) (reach w.test most s.rate)) fault.Level (λ level.
+    need (level_in w.test w.reset (one_of w.test a) (reach w.test most s.rate)) fault.Reset (λ reset.
+    need (least_in w.test w.least a most) fault.Least (λ least.
+    need (within w.cycles 64) fault.Cycles (λ cycles.
+    need (window_in w.window (periods w.test cycles) s.rate s.line_freq) fault.Window (λ scans.
+    checked (record { condition = condition_of w.test cycles s.rate least; scans = scans; level = level; reset = reset; row = w.row })))))))
 
 -- the sum that a text names, by channels between plus signs
 abbrev pub sum_of : SetupParts → Wish → List ℕ → Result SumParts DetectorFault
@@ -99,7 +100,7 @@ plan_of s w name text =
     and_then (sum_of s w text) (λ sum.
     if length sum.channels == 0 then Err fault.Channel else
     and_then (settings_of s w sum.a sum.most) (λ settings.
-    Ok (record { name = name; test = w.test; settings = settings; channels = sum.channels; level = w.level; reset = w.reset })))
+    Ok (record { name = name; test = w.test; settings = settings; channels = sum.channels; level = w.level; reset = w.reset; least = w.least })))
 
 -- ---- the detectors of a line
 

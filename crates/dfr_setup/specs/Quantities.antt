@@ -1,9 +1,12 @@
 -- Levels in samples, and windows in scans.
-use Rattle.std.specs.Prelude.{ℕ, ◌+◌, ◌*◌, ◌/◌, ◌%◌, ◌^◌, ◌==◌, Bool, not, ◌&&◌, nat_lt, nat_le, if◌then◌else◌, Option, Some, None, pos, int_lt, unsigned_abs}
+use Rattle.std.specs.Prelude.{ℕ, ◌*◌, ◌/◌, ◌^◌, ◌==◌, Bool, not, ◌&&◌, nat_lt, nat_le, if◌then◌else◌, Option, Some, None, pos, int_lt, unsigned_abs}
 use Rattle.std.specs.Int.{div_ceil}
 use Rattle.comtrade_values.specs.Spelling.{Number}
+use Rattle.dfr_detect.specs.Cycles.{cycle_fault, window_of}
+use Rattle.dfr_detect.specs.declared.cycle.CycleFault.{CycleFault}
 use Rattle.dfr_setup.specs.declared.tested.Test.{Test}
-use Rattle.dfr_setup.specs.declared.tested.Test.TheVariants.{RmsOver, RmsUnder, Change, Jump}
+use Rattle.dfr_setup.specs.declared.tested.Test.TheVariants.{RmsOver, RmsUnder, Change, Jump, FrequencyOver, FrequencyUnder, FrequencyChange}
+use Rattle.dfr_setup.specs.Tests.{is_frequency}
 
 -- a number of at most 128 bits
 abbrev pub short : ℕ → Option ℕ
@@ -15,7 +18,15 @@ within n most = if nat_le 1 n && nat_le n most then Some n else None
 
 -- ---- levels
 
--- in samples, a level is the first of these numbers over the second: level / |a|
+-- a mHz, in Hz
+abbrev pub millihertz : Number
+millihertz = record { units = pos 1; places = 3 }
+
+-- what a level is counted in: samples, by the channels' multiplier, or mHz
+abbrev pub one_of : Test → Number → Number
+one_of test a = if is_frequency test then millihertz else a
+
+-- counted in `a`, a level is the first of these numbers over the second: level / |a|
 abbrev pub numerator : Number → Number → ℕ
 numerator level a = unsigned_abs level.units * 10 ^ a.places
 
@@ -28,6 +39,9 @@ rounded RmsUnder n d = n / d
 rounded RmsOver n d = div_ceil n d
 rounded Change n d = div_ceil n d
 rounded Jump n d = div_ceil n d
+rounded FrequencyOver n d = div_ceil n d
+rounded FrequencyUnder n d = n / d
+rounded FrequencyChange n d = div_ceil n d
 
 abbrev pub quotient_in : Test → Option ℕ → Option ℕ → ℕ → Option ℕ
 quotient_in test None d most = None
@@ -38,34 +52,44 @@ quotient_in test (Some n) (Some d) most = within (rounded test n d) most
 abbrev pub has_quotient : Number → Number → Bool
 has_quotient level a = int_lt (pos 0) level.units && not (unsigned_abs a.units == 0)
 
--- a level in samples: at least one, and at most so many
+-- a level counted in `a`: at least one, and at most so many
 abbrev pub level_in : Test → Number → Number → ℕ → Option ℕ
 level_in test level a most =
     if has_quotient level a then quotient_in test (short (numerator level a)) (short (denominator level a)) most else None
 
--- the greatest value of a test where this is the largest sample: a change goes from one end to the other, a jump twice so far
-abbrev pub reach : Test → ℕ → ℕ
-reach RmsOver largest = largest
-reach RmsUnder largest = largest
-reach Change largest = 2 * largest
-reach Jump largest = 4 * largest
+-- the greatest value of a test where this is the largest sample, and the rate: a change goes from one end to the other, a jump twice so
+-- far; a cycle has two scans
+abbrev pub reach : Test → ℕ → ℕ → ℕ
+reach RmsOver largest rate = largest
+reach RmsUnder largest rate = largest
+reach Change largest rate = 2 * largest
+reach Jump largest rate = 4 * largest
+reach FrequencyOver largest rate = 500 * rate
+reach FrequencyUnder largest rate = 500 * rate
+reach FrequencyChange largest rate = 2_147_483_648
+
+-- how deep a half wave is at least, in samples; other tests don't use it
+abbrev pub least_in : Test → Number → Number → ℕ → Option ℕ
+least_in test least a largest = if is_frequency test then level_in RmsOver least a largest else Some 1
 
 -- ---- windows
 
--- the quotient, to the nearest whole number
-abbrev pub nearest : ℕ → ℕ → ℕ
-nearest n d = if nat_le d (2 * (n % d)) then n / d + 1 else n / d
+-- how many periods of the line a window has: of a frequency twice the cycles that are looked at, so that half the line's frequency is seen
+abbrev pub periods : Test → ℕ → ℕ
+periods RmsOver cycles = 1
+periods RmsUnder cycles = 1
+periods Change cycles = 1
+periods Jump cycles = 1
+periods FrequencyOver cycles = 2 * cycles
+periods FrequencyUnder cycles = 2 * cycles
+periods FrequencyChange cycles = 4 * cycles
 
-abbrev pub period_of : Option ℕ → ℕ → Option ℕ
-period_of None d = None
-period_of (Some n) d = within (nearest n d) 65_536
+-- a number, unless there is a fault
+abbrev pub unless_fault : Option CycleFault → ℕ → Option ℕ
+unless_fault None n = Some n
+unless_fault (Some f) n = None
 
--- a window of a period: so many scans a second over the line's frequency
-abbrev pub period_in : ℕ → Number → Option ℕ
-period_in rate freq =
-    if nat_lt 0 rate && int_lt (pos 0) freq.units then period_of (short (rate * 10 ^ freq.places)) (unsigned_abs freq.units) else None
-
--- a window of so many scans, or of a period
-abbrev pub window_in : Option ℕ → ℕ → Number → Option ℕ
-window_in None rate freq = period_in rate freq
-window_in (Some n) rate freq = within n 65_536
+-- a window of so many scans, or else of so many periods
+abbrev pub window_in : Option ℕ → ℕ → ℕ → Number → Option ℕ
+window_in None count rate freq = unless_fault (cycle_fault rate count freq) (window_of rate count freq)
+window_in (Some n) count rate freq = within n 65_536

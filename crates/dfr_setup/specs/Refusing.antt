@@ -1,5 +1,6 @@
 -- What a function that reads a part of a `detect` line gives.
 use Rattle.std.specs.Prelude.{◌≡◌, ℕ, Option, Some, None, Result, Ok, Err}
+use Rattle.dfr_channels.specs.LineFields.{need}
 use Rattle.dfr_setup.specs.declared.fault.DetectorFault.{DetectorFault}
 use Rattle.dfr_setup.specs.declared.fault.DetectorRefusal.{DetectorRefusal}
 use Rattle.dfr_setup.specs.declared.fault.DetectorRefusal.TheVariants.{Fault}
@@ -22,6 +23,10 @@ Makes said new (Err e) = Refuses said e
 abbrev pub and_then : {A B F : Type 0} → Result A F → (A → Result B F) → Result B F
 and_then (Err fault) more = Err fault
 and_then (Ok x) more = more x
+
+-- a value that is needed
+abbrev pub needed : {A : Type 0} → Option A → DetectorFault → Result A DetectorFault
+needed value fault = need value fault (λ x. Ok x)
 
 -- a value, unless there is a fault
 abbrev pub unless : {A F : Type 0} → Option F → A → Result A F

@@ -1,4 +1,5 @@
 -- What a line `detect` asks for: detect NAME KIND LEVEL of CHANNELS [for N] [reset LEVEL] [window N].
+-- That of a frequency has behind these: [cycles N] least LEVEL.
 use Rattle.std.specs.Prelude.{ℕ, ◌+◌, ◌==◌, Bool, not, ◌&&◌, if◌then◌else◌, List, length, filter, Option, Some, None, option_map, Result, Ok, Err, codes}
 use Rattle.std.specs.List.{before_first, slice_split}
 use Rattle.std.specs.Str.{bytes_eq}
@@ -7,9 +8,11 @@ use Rattle.comtrade_values.specs.Fields.{up_to}
 use Rattle.comtrade_values.specs.Lines.{field}
 use Rattle.dfr_channels.specs.LineFields.{need}
 use Rattle.dfr_setup.specs.declared.tested.Test.{Test}
-use Rattle.dfr_setup.specs.declared.tested.Test.TheVariants.{RmsOver, RmsUnder, Change, Jump}
+use Rattle.dfr_setup.specs.declared.tested.Test.TheVariants.{RmsOver, RmsUnder, Change, Jump, FrequencyOver, FrequencyUnder, FrequencyChange}
+use Rattle.dfr_setup.specs.Tests.{is_frequency}
 use Rattle.dfr_setup.specs.declared.fault.DetectorFault.{DetectorFault}
 use Rattle.dfr_setup.specs.declared.fault.DetectorFault.TheVariants as fault
+use Rattle.dfr_setup.specs.declared.wish.Places.{Places}
 use Rattle.dfr_setup.specs.declared.wish.Wish.{Wish}
 
 abbrev pub first_word : List ℕ → List ℕ
@@ -40,6 +43,9 @@ kind ws =
     else if says ws 2 (codes "rms") && says ws 3 (codes "under") then Some (RmsUnder, 4)
     else if says ws 2 (codes "change") then Some (Change, 3)
     else if says ws 2 (codes "jump") then Some (Jump, 3)
+    else if says ws 2 (codes "frequency") && says ws 3 (codes "over") then Some (FrequencyOver, 4)
+    else if says ws 2 (codes "frequency") && says ws 3 (codes "under") then Some (FrequencyUnder, 4)
+    else if says ws 2 (codes "frequency") && says ws 3 (codes "change") then Some (FrequencyChange, 4)
     else None
 
 -- the place behind an option with its value, if the option stands at place i
@@ -56,26 +62,36 @@ number_or key ws i default = if says ws i key then decimal_number (field ws (i +
 abbrev pub window_at : List (List ℕ) → ℕ → Option (Option ℕ)
 window_at ws i = if says ws i (codes "window") then option_map (λ n. Some n) (natural (field ws (i + 1))) else Some None
 
--- a number that is needed
-abbrev pub needed : {A : Type 0} → Option A → Result A DetectorFault
-needed read = need read fault.Number (λ x. Ok x)
+-- where the options of a line stand whose level stands at this place, and where the line ends
+abbrev pub places : List (List ℕ) → ℕ → Places
+places ws at =
+    let reset = behind (codes "for") ws (at + 3) in
+    let window = behind (codes "reset") ws reset in
+    let cycles = behind (codes "window") ws window in
+    let least = behind (codes "cycles") ws cycles in
+    record { row = at + 3; reset = reset; window = window; cycles = cycles; least = least; end = behind (codes "least") ws least }
 
--- the numbers of a line whose level stands at this place, and `for`, `reset` and `window`, where they stand at all, at those
-abbrev pub numbers : List (List ℕ) → Test → ℕ → ℕ → ℕ → ℕ → Result Wish DetectorFault
-numbers ws test at row_at reset_at window_place =
+-- a frequency has to say `least`; no other test has `cycles` or `least`
+abbrev pub has_options : List (List ℕ) → Test → Places → Bool
+has_options ws test p = if is_frequency test then says ws p.least (codes "least") else p.end == p.cycles
+
+-- the line has the words that it needs, and no more
+abbrev pub is_whole : List (List ℕ) → Test → ℕ → Places → Bool
+is_whole ws test at p = says ws (at + 1) (codes "of") && (length ws == p.end) && has_options ws test p
+
+-- the numbers of a line whose level stands at this place, and its options at those
+abbrev pub numbers : List (List ℕ) → Test → ℕ → Places → Result Wish DetectorFault
+numbers ws test at p =
     need (decimal_number (field ws at)) fault.Number (λ level.
-    need (natural_or (codes "for") ws row_at 1) fault.Number (λ row.
-    need (number_or (codes "reset") ws reset_at level) fault.Number (λ reset.
-    need (window_at ws window_place) fault.Number (λ window.
-    Ok (record { test = test; level = level; at = at; row = row; reset = reset; window = window })))))
+    need (natural_or (codes "for") ws p.row 1) fault.Number (λ row.
+    need (number_or (codes "reset") ws p.reset level) fault.Number (λ reset.
+    need (window_at ws p.window) fault.Number (λ window.
+    need (natural_or (codes "cycles") ws p.cycles 10) fault.Number (λ cycles.
+    need (number_or (codes "least") ws p.least level) fault.Number (λ least.
+    Ok (record { test = test; level = level; at = at; row = row; reset = reset; window = window; cycles = cycles; least = least })))))))
 
--- the same, where the line has the words that it needs and no more
 abbrev pub wish_at : List (List ℕ) → Test → ℕ → Result Wish DetectorFault
-wish_at ws test at =
-    let reset_at = behind (codes "for") ws (at + 3) in
-    let window_place = behind (codes "reset") ws reset_at in
-    if says ws (at + 1) (codes "of") && (length ws == behind (codes "window") ws window_place)
-    then numbers ws test at (at + 3) reset_at window_place else Err fault.Words
+wish_at ws test at = if is_whole ws test at (places ws at) then numbers ws test at (places ws at) else Err fault.Words
 
 abbrev pub of_kind : List (List ℕ) → Option (Test × ℕ) → Result Wish DetectorFault
 of_kind ws None = Err fault.Words

@@ -101,6 +101,7 @@ fn takes_offset(test: Test) -> bool
     match test {
         Test::RmsOver | Test::RmsUnder => false,
         Test::Change | Test::Jump => true,
+        Test::FrequencyOver | Test::FrequencyUnder | Test::FrequencyChange => false,
     }
 }
 

@@ -1,6 +1,7 @@
 //! Why a detector is refused.
 
 ghost use Rattle.std.specs.Prelude.{◌≡◌};
+ghost use Rattle.dfr_setup.specs.Refusing as spec;
 ghost use Rattle.dfr_setup.specs.declared.fault.DetectorRefusal.TheVariants as refusal;
 
 use comtrade_values::Memory;
@@ -11,7 +12,8 @@ use thiserror::Error;
 #[derive(Clone, Copy, Debug, PartialEq, Eq, Error)]
 pub enum DetectorFault {
     /// The words are not those of a detector.
-    #[error("detect expects: NAME KIND LEVEL of CHANNELS [for N] [reset LEVEL] [window N]")]
+    #[error("detect expects: NAME KIND LEVEL of CHANNELS [for N] [reset LEVEL] [window N], and for \
+         a frequency [cycles N] least LEVEL")]
     Words,
     /// A number can't be read.
     #[error("a number of the detector cannot be read")]
@@ -28,8 +30,8 @@ pub enum DetectorFault {
     /// No analogue channel has this number or id.
     #[error("an unknown analogue channel")]
     Channel,
-    /// The rms value of a channel with an offset.
-    #[error("an rms value of a channel with an offset")]
+    /// The rms value, or the frequency, of a channel with an offset.
+    #[error("an rms value or a frequency of a channel with an offset")]
     Offset,
     /// The channels of a sum have different multipliers.
     #[error("a sum of channels with unequal multipliers")]
@@ -37,18 +39,43 @@ pub enum DetectorFault {
     /// A sum of more than 256 channels.
     #[error("a sum of more than 256 channels")]
     Wide,
-    /// The level is below one sample, or beyond what samples can reach.
+    /// The level is below one sample or one mHz, or beyond what samples can reach.
     #[error("the level is below one sample, or beyond what the samples can reach")]
     Level,
-    /// The reset level is, or lies on the wrong side of the level.
-    #[error("the reset level is below one sample, beyond the samples, or beyond the level")]
+    /// The same of the reset level.
+    #[error("the reset level is below one sample, or beyond what the samples can reach")]
     Reset,
+    /// The reset level lies on the wrong side of the level.
+    #[error("the reset level lies above the level, or below it for `under`")]
+    Side,
+    /// The least half wave is below one sample, or beyond what samples can reach.
+    #[error("the least half wave is below one sample, or beyond what the samples can reach")]
+    Least,
+    /// A frequency is taken over no cycle, or over too many.
+    #[error("a frequency is taken over 1 to 64 cycles")]
+    Cycles,
+    /// The rate is beyond that of a frequency.
+    #[error("a frequency needs a rate of 1 to 1000000")]
+    Rate,
+    /// The cycles of a frequency don't lie in the window.
+    #[error("the window is shorter than the cycles at the frequency of a level")]
+    Short,
     /// The window is not 1 to 65,536 scans.
     #[error("the window is not 1 to 65536 scans")]
     Window,
     /// The level has to be met for no scan.
     #[error("the level has to be met for at least 1 scan")]
     Row,
+}
+
+/// The value, or the fault if there is none.
+pub(crate) fn needed<T>(value: Option<T>, fault: DetectorFault) -> Result<T, DetectorFault>
+    ensures { result ≡ spec.needed value fault }
+{
+    match value {
+        Some(value) => Ok(value),
+        None => Err(fault),
+    }
 }
 
 /// Why a detector was not made.

@@ -5,6 +5,7 @@
 mod addend;
 mod fault;
 mod line;
+mod over;
 mod plan;
 mod plans;
 mod prepared;
@@ -15,6 +16,7 @@ mod text;
 mod wish;
 
 pub use fault::{DetectorFault, DetectorRefusal};
+pub use over::{Planned, detectors_over};
 pub use plan::Plan;
 pub use prepared::{Prepared, prepared_of};
 pub use refusal::SetupRefusal;

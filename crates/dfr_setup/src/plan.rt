@@ -1,12 +1,13 @@
 //! One detector of a set-up.
 
 ghost use Rattle.std.specs.Prelude.{◌≡◌, ◌≤◌, ◌^◌, None, IfOk};
-ghost use Rattle.dfr_detect.specs.Fitting.{condition_fault, settings_fault};
+ghost use Rattle.dfr_detect.specs.Fitting.{settings_fault};
 ghost use Rattle.dfr_setup.specs.Plans as spec;
 ghost use Rattle.dfr_setup.specs.Refusing.{Is};
 
 use crate::addend::{Sum, sum_of};
-use crate::quantity::{level_in, reach, window_in};
+use crate::fault::needed;
+use crate::quantity::{cycles_in, least_in, level_in, one_of, periods, reach, window_in};
 use crate::tested::{Test, condition_of};
 use crate::wish::Wish;
 use crate::{DetectorFault, DetectorRefusal};
@@ -27,10 +28,12 @@ pub struct Plan<A: Allocator = Global> {
     pub settings: Settings,
     /// The analogue channels whose sum it looks at, by number from 0.
     pub channels: Items<usize, A>,
-    /// The level of the set-up, in the channels' unit.
+    /// The level of the set-up, in the channels' unit, or in Hz or Hz a second.
     pub level: Decimal,
-    /// The level at which the bit stays 1, in the channels' unit.
+    /// The level at which the bit stays 1, in the same.
     pub reset: Decimal,
+    /// How deep a half wave has to be for a frequency, in the channels' unit.
+    pub least: Decimal,
 }
 
 impl<A: Allocator> Model for Plan<A> {
@@ -47,6 +50,7 @@ impl<A: Allocator> Model for Plan<A> {
       channels = p.channels;
       level = p.level;
       reset = p.reset;
+      least = p.least;
     } };
 
     // Its settings have no fault, and it looks at 1 to 256 channels.
@@ -54,9 +58,8 @@ impl<A: Allocator> Model for Plan<A> {
         × (1 ≤ length p.channels) × (length p.channels ≤ 256) };
 }
 
-/// The settings, if they have no fault. They are not those of a frequency.
+/// The settings, if they have no fault.
 fn checked(settings: Settings) -> Result<Settings, DetectorFault>
-    requires { condition_fault settings.condition ≡ None }
     ensures value { result ≡ spec.checked settings }
     ensures fits { IfOk result (λ s. settings_fault s ≡ None) }
 {
@@ -64,21 +67,12 @@ fn checked(settings: Settings) -> Result<Settings, DetectorFault>
         None => Ok(settings),
         Some(SettingsFault::Scans) => Err(DetectorFault::Window),
         Some(SettingsFault::Level) => Err(DetectorFault::Level),
-        Some(SettingsFault::Reset) => Err(DetectorFault::Reset),
+        Some(SettingsFault::Reset) => Err(DetectorFault::Side),
         Some(SettingsFault::Row) => Err(DetectorFault::Row),
-        Some(SettingsFault::Cycles | SettingsFault::Rate | SettingsFault::Least) => {
-            unreachable!()
-        }
-    }
-}
-
-/// The value, or the fault if there is none.
-fn needed<T>(value: Option<T>, fault: DetectorFault) -> Result<T, DetectorFault>
-    ensures { result ≡ spec.needed value fault }
-{
-    match value {
-        Some(value) => Ok(value),
-        None => Err(fault),
+        Some(SettingsFault::Cycles) => Err(DetectorFault::Cycles),
+        Some(SettingsFault::Rate) => Err(DetectorFault::Rate),
+        Some(SettingsFault::Least) => Err(DetectorFault::Least),
+        Some(SettingsFault::Short) => Err(DetectorFault::Short),
     }
 }
 
@@ -95,14 +89,22 @@ fn settings_of<A: Allocator>(
     ensures fits { IfOk result (λ s. settings_fault s ≡ None) }
 {
     let test = wish.test;
-    let most = reach(test, largest);
+    let most = reach(test, largest, setup.rate);
     let a = needed(multiplier, DetectorFault::Channel)?;
-    let level = needed(level_in(test, wish.level, a, most), DetectorFault::Level)?;
-    let reset = needed(level_in(test, wish.reset, a, most), DetectorFault::Reset)?;
-    let window = window_in(wish.window, setup.rate, setup.line_freq);
+    let one = one_of(test, a);
+    let level = needed(level_in(test, wish.level, one, most), DetectorFault::Level)?;
+    let reset = needed(level_in(test, wish.reset, one, most), DetectorFault::Reset)?;
+    let least = needed(least_in(test, wish.least, a, largest), DetectorFault::Least)?;
+    let cycles = needed(cycles_in(wish.cycles), DetectorFault::Cycles)?;
+    let window = window_in(
+        wish.window,
+        periods(test, cycles),
+        setup.rate,
+        setup.line_freq,
+    );
     let scans = needed(window, DetectorFault::Window)?;
     checked(Settings {
-        condition: condition_of(test),
+        condition: condition_of(test, cycles, setup.rate, least),
         scans,
         level,
         reset,
@@ -132,6 +134,7 @@ pub(crate) fn plan_of<A: Allocator + Copy>(
         channels: Items::of(channels),
         level: wish.level,
         reset: wish.reset,
+        least: wish.least,
     })
 }
 

@@ -94,7 +94,10 @@ fn detector_of<A: Allocator + Copy>(alloc: A, plan: &Plan<A>) -> Result<Detector
 }
 
 /// The detectors of these plans, which have seen no scan.
-fn detectors_of<A: Allocator + Copy>(alloc: A, plans: &[Plan<A>]) -> Result<Detectors<A>, Memory>
+pub(crate) fn detectors_of<A: Allocator + Copy>(
+    alloc: A,
+    plans: &[Plan<A>],
+) -> Result<Detectors<A>, Memory>
     ensures new { IfOk result (λ detectors. detectors ≡ all_detected (map wanted_of plans.now) []) }
     ensures works { OnOk result (All Works (map wanted_of plans.now)) }
 {

@@ -1,10 +1,13 @@
 //! Levels in samples, and windows in scans.
 
 ghost use Rattle.std.specs.Prelude.{◌≡◌, ◌≤◌, ◌*◌, ◌^◌, IfSome};
+ghost use Rattle.dfr_detect.specs.Cycles.{cycle_fault, window_of};
 ghost use Rattle.dfr_setup.specs.Quantities as spec;
 
 use crate::Test;
+use crate::tested::is_frequency;
 use comtrade_values::Decimal;
+use dfr_detect::cycle_scans;
 
 /// The number with so many zeros; None if that is over 128 bits.
 #[tactic(auto, using(crate::proofs::Zeros::power_below, crate::proofs::Zeros::some_left))]
@@ -35,8 +38,9 @@ fn rounded(test: Test, value: u128, one: u128) -> u128
     ensures { result ≡ spec.rounded test value one }
 {
     match test {
-        Test::RmsUnder => value / one,
-        Test::RmsOver | Test::Change | Test::Jump => value.div_ceil(one),
+        Test::RmsUnder | Test::FrequencyUnder => value / one,
+        Test::RmsOver | Test::Change | Test::Jump | Test::FrequencyOver | Test::FrequencyChange =>
+            value.div_ceil(one),
     }
 }
 
@@ -47,7 +51,20 @@ fn has_quotient(level: Decimal, a: Decimal) -> bool
     0 < level.units() && a.units().unsigned_abs() != 0
 }
 
-/// A level in samples, by the channels' multiplier `a`: 1 to `most`. None otherwise.
+/// What a level is counted in: samples, by the channels' multiplier `a`, or mHz.
+pub(crate) fn one_of(test: Test, a: Decimal) -> Decimal
+    ensures { result ≡ spec.one_of test a }
+{
+    if !is_frequency(test) {
+        return a;
+    }
+    let Some(millihertz) = Decimal::new(1, 3) else {
+        unreachable!()
+    };
+    millihertz
+}
+
+/// A level counted in `a`: 1 to `most`. None otherwise.
 pub(crate) fn level_in(test: Test, level: Decimal, a: Decimal, most: u64) -> Option<u64>
     ensures { result ≡ spec.level_in test level a most }
 {
@@ -59,50 +76,69 @@ pub(crate) fn level_in(test: Test, level: Decimal, a: Decimal, most: u64) -> Opt
     within(rounded(test, value, one), most)
 }
 
-/// The greatest value of a test, by the largest sample.
-pub(crate) fn reach(test: Test, largest: u64) -> u64
+/// The greatest value of a test, by the largest sample and the rate.
+pub(crate) fn reach(test: Test, largest: u64, rate: u32) -> u64
     requires { largest ≤ 2 ^ 40 }
-    ensures { result ≡ spec.reach test largest }
+    ensures { result ≡ spec.reach test largest rate }
 {
     match test {
         Test::RmsOver | Test::RmsUnder => largest,
         Test::Change => 2 * largest,
         Test::Jump => 4 * largest,
+        Test::FrequencyOver | Test::FrequencyUnder => 500 * u64::from(rate),
+        Test::FrequencyChange => 2_147_483_648,
     }
 }
 
-/// The quotient to the nearest whole number: 1 to 65,536. None otherwise.
-fn nearest_in(n: u128, d: u128) -> Option<u64>
-    requires some { 1 ≤ d }
-    requires short { d ≤ 10 ^ 36 }
-    ensures { result ≡ spec.within (spec.nearest n d) 65_536 }
+/// How deep a half wave is at least, in samples, by the channels' multiplier `a`.
+pub(crate) fn least_in(test: Test, least: Decimal, a: Decimal, largest: u64) -> Option<u64>
+    ensures { result ≡ spec.least_in test least a largest }
 {
-    let whole = n / d;
-    if 65_536 < whole {
-        return None;
+    if is_frequency(test) {
+        level_in(Test::RmsOver, least, a, largest)
+    } else {
+        Some(1)
     }
-    let is_up = d <= 2 * (n % d);
-    within(if is_up { whole + 1 } else { whole }, 65_536)
 }
 
-/// The scans of a period, to the nearest whole number: 1 to 65,536. None otherwise.
-fn period_in(rate: u32, freq: Decimal) -> Option<u64>
-    ensures { result ≡ spec.period_in rate freq }
+/// Over how many cycles a frequency is taken: 1 to 64. None otherwise.
+pub(crate) fn cycles_in(cycles: u32) -> Option<u32>
+    ensures value { result ≡ spec.within cycles 64 }
+    ensures bound { IfSome result (λ n. n ≤ 64) }
 {
-    if rate < 1 || freq.units() <= 0 {
-        return None;
-    }
-    let scans = with_zeros(u128::from(rate), freq.places())?;
-    nearest_in(scans, freq.units().unsigned_abs())
+    let cycles = within(u128::from(cycles), 64)?;
+    Some(cycles as u32)
 }
 
-/// The scans of a window, which is a period if none is given: 1 to 65,536. None otherwise.
-pub(crate) fn window_in(window: Option<u32>, rate: u32, freq: Decimal) -> Option<u32>
-    ensures { result ≡ spec.window_in window rate freq }
+/// How many periods of the line a window has. Of a frequency: twice the cycles that are looked at.
+pub(crate) fn periods(test: Test, cycles: u32) -> u32
+    requires { cycles ≤ 64 }
+    ensures { result ≡ spec.periods test cycles }
 {
-    let scans = match window {
-        None => period_in(rate, freq)?,
-        Some(n) => within(u128::from(n), 65_536)?,
+    match test {
+        Test::RmsOver | Test::RmsUnder | Test::Change | Test::Jump => 1,
+        Test::FrequencyOver | Test::FrequencyUnder => 2 * cycles,
+        Test::FrequencyChange => 4 * cycles,
+    }
+}
+
+/// The scans nearest to so many periods: 1 to 65,536. None otherwise.
+fn periods_in(count: u32, rate: u32, freq: Decimal) -> Option<u32>
+    ensures { result ≡ spec.unless_fault (cycle_fault rate count freq) (window_of rate count freq) }
+{
+    match cycle_scans(rate, count, freq) {
+        Ok(scans) => Some(scans.nearest),
+        Err(_) => None,
+    }
+}
+
+/// The scans of a window, which is so many periods if none is given: 1 to 65,536. None otherwise.
+pub(crate) fn window_in(window: Option<u32>, count: u32, rate: u32, freq: Decimal) -> Option<u32>
+    ensures { result ≡ spec.window_in window count rate freq }
+{
+    let Some(n) = window else {
+        return periods_in(count, rate, freq);
     };
+    let scans = within(u128::from(n), 65_536)?;
     Some(scans as u32)
 }

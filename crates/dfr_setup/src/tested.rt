@@ -1,9 +1,9 @@
 //! What a detector of a set-up tests.
 
 ghost use Rattle.std.specs.Prelude.{◌≡◌};
-ghost use Rattle.dfr_setup.specs.Plans as spec;
+ghost use Rattle.dfr_setup.specs.Tests as spec;
 
-use dfr_detect::Condition;
+use dfr_detect::{Condition, FrequencyIs, FrequencyTest};
 
 /// What a `detect` line compares with its level.
 #[derive(Clone, Copy, Debug, PartialEq, Eq)]
@@ -16,16 +16,48 @@ pub enum Test {
     Change,
     /// This change differs from that over the window before by at least the level.
     Jump,
+    /// The frequency is at least the level, in Hz.
+    FrequencyOver,
+    /// It is at most the level.
+    FrequencyUnder,
+    /// It rises or falls by at least the level, in Hz a second.
+    FrequencyChange,
 }
 
-/// The condition of a detector.
-pub(crate) fn condition_of(test: Test) -> Condition
-    ensures { result ≡ spec.condition_of test }
+/// Whether the level is one of a frequency.
+pub(crate) fn is_frequency(test: Test) -> bool
+    ensures { result ≡ spec.is_frequency test }
+{
+    match test {
+        Test::RmsOver | Test::RmsUnder | Test::Change | Test::Jump => false,
+        Test::FrequencyOver | Test::FrequencyUnder | Test::FrequencyChange => true,
+    }
+}
+
+/// A test of the frequency over so many cycles.
+fn frequency(test: FrequencyIs, cycles: u32, rate: u32, least: u64) -> Condition
+    ensures { result ≡ spec.frequency test cycles rate least }
+{
+    Condition::Frequency(FrequencyTest {
+        test,
+        cycles,
+        rate,
+        least,
+    })
+}
+
+/// The condition of a detector. A frequency is taken over so many cycles, at so many scans a second,
+/// after half waves that are at least so deep.
+pub(crate) fn condition_of(test: Test, cycles: u32, rate: u32, least: u64) -> Condition
+    ensures { result ≡ spec.condition_of test cycles rate least }
 {
     match test {
         Test::RmsOver => Condition::RmsOver,
         Test::RmsUnder => Condition::RmsUnder,
         Test::Change => Condition::Change,
         Test::Jump => Condition::Jump,
+        Test::FrequencyOver => frequency(FrequencyIs::Over, cycles, rate, least),
+        Test::FrequencyUnder => frequency(FrequencyIs::Under, cycles, rate, least),
+        Test::FrequencyChange => frequency(FrequencyIs::Changing, cycles, rate, least),
     }
 }

@@ -1,10 +1,14 @@
 //! Reads the words of a `detect` line.
 
-ghost use Rattle.std.specs.Prelude.{◌≡◌, ◌≤◌, ◌+◌, IfOk, IfSome};
+ghost use Rattle.std.specs.Prelude.{◌≡◌, ◌≤◌, ◌+◌, true, codes, IfOk, IfSome};
 ghost use Rattle.comtrade_values.specs.Lines.{texts};
+ghost use Rattle.dfr_setup.specs.Refusing.{needed};
 ghost use Rattle.dfr_setup.specs.Wishes as spec;
+ghost use Rattle.dfr_setup.specs.declared.fault.DetectorFault.TheVariants as fault;
 
+use crate::fault::needed;
 use crate::line::{natural_of, says, word_at};
+use crate::tested::is_frequency;
 use crate::{DetectorFault, Test};
 use comtrade_values::Decimal;
 
@@ -21,8 +25,40 @@ pub(crate) struct Wish {
     pub(crate) row: u32,
     /// The level at which the bit stays 1, in the channels' unit.
     pub(crate) reset: Decimal,
-    /// The window in scans. None if it is a period.
+    /// The window in scans. None if it is that of the test.
     pub(crate) window: Option<u32>,
+    /// Over how many cycles a frequency is taken.
+    pub(crate) cycles: u32,
+    /// How deep a half wave has to be for a frequency, in the channels' unit.
+    pub(crate) least: Decimal,
+}
+
+/// The places of the options among the words, and the end of the line.
+#[derive(Clone, Copy, Debug)]
+pub(crate) struct Places {
+    pub(crate) row: usize,
+    pub(crate) reset: usize,
+    pub(crate) window: usize,
+    pub(crate) cycles: usize,
+    pub(crate) least: usize,
+    pub(crate) end: usize,
+}
+
+/// The test of a frequency that word 3 names, and the place of the level behind it.
+fn frequency_of(words: &[&[u8]]) -> Option<(Test, usize)>
+    requires { spec.says (texts words.now) 2 (codes "frequency") ≡ true }
+    ensures value { result ≡ spec.kind (texts words.now) }
+    ensures bound { IfSome result (λ k. k.1 ≤ 4) }
+{
+    if says(words, 3, "over") {
+        Some((Test::FrequencyOver, 4))
+    } else if says(words, 3, "under") {
+        Some((Test::FrequencyUnder, 4))
+    } else if says(words, 3, "change") {
+        Some((Test::FrequencyChange, 4))
+    } else {
+        None
+    }
 }
 
 /// The test that the words from word 2 on name, and the place of the level behind them.
@@ -38,6 +74,8 @@ fn kind_of(words: &[&[u8]]) -> Option<(Test, usize)>
         Some((Test::Change, 3))
     } else if says(words, 2, "jump") {
         Some((Test::Jump, 3))
+    } else if says(words, 2, "frequency") {
+        frequency_of(words)
     } else {
         None
     }
@@ -91,31 +129,67 @@ fn window_at(words: &[&[u8]], i: usize) -> Option<Option<u32>>
 }
 
 /// The value that was read, or the fault `Number` if there is none.
-fn needed<T>(read: Option<T>) -> Result<T, DetectorFault>
-    ensures { result ≡ spec.needed read }
+fn read<T>(value: Option<T>) -> Result<T, DetectorFault>
+    ensures { result ≡ needed value fault.Number }
 {
-    match read {
-        Some(value) => Ok(value),
-        None => Err(DetectorFault::Number),
+    needed(value, DetectorFault::Number)
+}
+
+/// The places of the options of a line whose level stands at place `at`, and its end.
+fn places_of(words: &[&[u8]], at: usize) -> Places
+    requires { at ≤ 4 }
+    ensures value { result ≡ spec.places (texts words.now) at }
+    ensures bound { (result.reset ≤ 100) × (result.window ≤ 100) × (result.cycles ≤ 100) × (result.least ≤ 100) }
+{
+    let row = at + 3;
+    let reset = behind(words, "for", row);
+    let window = behind(words, "reset", reset);
+    let cycles = behind(words, "window", window);
+    let least = behind(words, "cycles", cycles);
+    let end = behind(words, "least", least);
+    Places {
+        row,
+        reset,
+        window,
+        cycles,
+        least,
+        end,
     }
 }
 
+/// Whether the line has the options that its test needs, and no others.
+fn has_options(words: &[&[u8]], test: Test, places: Places) -> bool
+    ensures { result ≡ spec.has_options (texts words.now) test places }
+{
+    if is_frequency(test) {
+        says(words, places.least, "least")
+    } else {
+        places.end == places.cycles
+    }
+}
+
+/// Whether the line has the words that it needs, and no more.
+fn is_whole(words: &[&[u8]], test: Test, at: usize, places: Places) -> bool
+    requires { at ≤ 4 }
+    ensures { result ≡ spec.is_whole (texts words.now) test at places }
+{
+    says(words, at + 1, "of") && words.len() == places.end && has_options(words, test, places)
+}
+
 /// Reads the numbers of a line whose options stand at these places.
-fn numbers_of(
-    words: &[&[u8]],
-    test: Test,
-    at: usize,
-    places: (usize, usize, usize),
-) -> Result<Wish, DetectorFault>
+fn numbers_of(words: &[&[u8]], test: Test, at: usize, places: Places) -> Result<Wish, DetectorFault>
     requires at { at ≤ 4 }
-    requires places { (places.0 ≤ 100) × (places.1 ≤ 100) × (places.2 ≤ 100) }
-    ensures value { result ≡ spec.numbers (texts words.now) test at places.0 places.1 places.2 }
+    requires row { places.row ≤ 100 }
+    requires places { (places.reset ≤ 100) × (places.window ≤ 100) × (places.cycles ≤ 100) × (places.least ≤ 100) }
+    ensures value { result ≡ spec.numbers (texts words.now) test at places }
     ensures bound { IfOk result (λ wish. wish.at ≤ 4) }
 {
-    let level = needed(Decimal::read(word_at(words, at)))?;
-    let row = needed(natural_or(words, "for", places.0, 1))?;
-    let reset = needed(number_or(words, "reset", places.1, level))?;
-    let window = needed(window_at(words, places.2))?;
+    let level = read(Decimal::read(word_at(words, at)))?;
+    let row = read(natural_or(words, "for", places.row, 1))?;
+    let reset = read(number_or(words, "reset", places.reset, level))?;
+    let window = read(window_at(words, places.window))?;
+    let cycles = read(natural_or(words, "cycles", places.cycles, 10))?;
+    let least = read(number_or(words, "least", places.least, level))?;
     Ok(Wish {
         test,
         level,
@@ -123,6 +197,8 @@ fn numbers_of(
         row,
         reset,
         window,
+        cycles,
+        least,
     })
 }
 
@@ -134,12 +210,9 @@ pub(crate) fn wish_of(words: &[&[u8]]) -> Result<Wish, DetectorFault>
     let Some((test, at)) = kind_of(words) else {
         return Err(DetectorFault::Words);
     };
-    let row_at = at + 3;
-    let reset_at = behind(words, "for", row_at);
-    let window_place = behind(words, "reset", reset_at);
-    let end = behind(words, "window", window_place);
-    if says(words, at + 1, "of") && words.len() == end {
-        numbers_of(words, test, at, (row_at, reset_at, window_place))
+    let places = places_of(words, at);
+    if is_whole(words, test, at, places) {
+        numbers_of(words, test, at, places)
     } else {
         Err(DetectorFault::Words)
     }

@@ -6,6 +6,7 @@ use crate::memory::{detector_bytes, layout_bytes};
 use comtrade_io::put_safe;
 use comtrade_values::{put, put_decimal, put_number, put_with};
 use dfr_channels::Layout;
+use dfr_detect::Condition;
 use dfr_setup::{Plan, Prepared, Test};
 use dfr_station::frame_len;
 use std::alloc::{AllocError, Global};
@@ -30,6 +31,28 @@ pub(crate) fn need_of(prepared: &Prepared<Global>, setup: usize) -> Option<u64> 
     Some(bytes)
 }
 
+/// The unit of a test's levels, and the words for what they are counted in.
+fn units_of<'a>(test: Test, unit: &'a [u8]) -> (&'a [u8], &'static str) {
+    match test {
+        Test::FrequencyOver | Test::FrequencyUnder => (b"Hz", " mHz "),
+        Test::FrequencyChange => (b"Hz/s", " mHz/s "),
+        _ => (unit, " samples "),
+    }
+}
+
+/// Puts over how many cycles a frequency is taken, and after which half waves.
+fn put_cycles(line: &mut Vec<u8>, unit: &[u8], plan: &Plan<Global>) -> Result<(), AllocError> {
+    let Condition::Frequency(test) = plan.settings.condition else {
+        return Ok(());
+    };
+    put_with(line, " cycles ", u64::from(test.cycles))?;
+    put(line, " least ")?;
+    put_decimal(line, plan.least)?;
+    put(line, " ")?;
+    put_safe(line, unit)?;
+    put_with(line, " samples ", test.least)
+}
+
 /// The words of a test.
 fn words_of(test: Test) -> &'static str {
     match test {
@@ -37,6 +60,9 @@ fn words_of(test: Test) -> &'static str {
         Test::RmsUnder => "rms under",
         Test::Change => "change",
         Test::Jump => "jump",
+        Test::FrequencyOver => "frequency over",
+        Test::FrequencyUnder => "frequency under",
+        Test::FrequencyChange => "frequency change",
     }
 }
 
@@ -77,6 +103,7 @@ fn put_plan(
 ) -> Result<(), AllocError> {
     let settings = plan.settings;
     let unit = unit_of(inputs, plan.channels.items());
+    let (one, counted) = units_of(plan.test, unit);
     put(line, "detector ")?;
     put_safe(line, plan.name.items())?;
     put_with(line, " status ", status as u64)?;
@@ -85,16 +112,17 @@ fn put_plan(
     put(line, " ")?;
     put_decimal(line, plan.level)?;
     put(line, " ")?;
-    put_safe(line, unit)?;
+    put_safe(line, one)?;
     put_channels(line, inputs, plan.channels.items())?;
-    put_with(line, " samples ", settings.level)?;
+    put_with(line, counted, settings.level)?;
     put_with(line, " window ", u64::from(settings.scans))?;
     put_with(line, " for ", u64::from(settings.row))?;
     put(line, " reset ")?;
     put_decimal(line, plan.reset)?;
     put(line, " ")?;
-    put_safe(line, unit)?;
-    put_with(line, " samples ", settings.reset)
+    put_safe(line, one)?;
+    put_with(line, counted, settings.reset)?;
+    put_cycles(line, unit, plan)
 }
 
 /// Prints a line for each detector.

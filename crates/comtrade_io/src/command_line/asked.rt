@@ -45,6 +45,7 @@ fn viewed_of<'a>(view: View, found: &ArgMatches<'a>) -> Option<Asked<'a>>
             form: form_of(found),
             picture: picture_of(found),
             cursor: cursor_of(found),
+            lines: text_of(found, "LINES"),
             json: is_set(found, "json"),
         },
     ))

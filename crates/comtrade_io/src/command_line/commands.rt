@@ -36,6 +36,7 @@ One record:
   comtrade show rec1                     names, rates, channels, extremes, gaps
   comtrade check rec1                    its first error, or that it has none
   comtrade measure --at 20 rec1          rms values, phasors and sequence components
+  comtrade detect lines rec1             when detectors of dfrd would have fired
   comtrade plot rec1 > rec1.svg          a picture
   comtrade page rec1 > rec1.html         a page for a browser
   comtrade csv --separator ';' --decimal ',' rec1 > rec1.csv
@@ -155,6 +156,25 @@ fn measure<'a>(alloc: Global) -> Result<Command<'a>, AllocError>
     let reference = "The channel that angles refer to, by id or number";
     let one = with(part, option(alloc, "at", "MOMENT", at))?;
     let two = with(one, option(alloc, "reference", "CHANNEL", reference))?;
+    with_json(alloc, two)
+}
+
+/// The file of detectors.
+fn detect_lines<'a>(alloc: Global) -> Result<Command<'a>, AllocError>
+    ensures { IfOk result (IsCommand Spec.detect_lines) }
+{
+    let about = "Run the detectors of LINES over a record, and print when each fires";
+    let lines = "A file with lines `detect`, such as a set-up of dfrd; other lines are skipped";
+    let bare = command(alloc, "detect", about, STATUS);
+    with(bare, word(alloc, "LINES", lines))
+}
+
+fn detect<'a>(alloc: Global) -> Result<Command<'a>, AllocError>
+    ensures { IfOk result (IsCommand Spec.detect) }
+{
+    let dat = "The data file, if FILE is the configuration file";
+    let one = with(detect_lines(alloc)?, word(alloc, "FILE", FILE))?;
+    let two = with(one, free_word(alloc, "DAT", dat))?;
     with_json(alloc, two)
 }
 
@@ -308,6 +328,7 @@ pub(crate) fn comtrade<'a>(alloc: Global) -> Result<Command<'a>, AllocError>
     let surveying = surveys(alloc, viewing)?;
     surveying
         .subcommand(measure(alloc)?)?
+        .subcommand(detect(alloc)?)?
         .subcommand(convert(alloc)?)?
         .subcommand(importing(alloc)?)?
         .subcommand(extract(alloc)?)

@@ -170,8 +170,8 @@ impl Dice {
 
     /// Settings of a test of the frequency, with levels near those of a few scans a cycle.
     fn frequency(&mut self, test: FrequencyIs) -> Settings {
-        let level = (self.throw() % 40 + 1) * 1000;
-        let other = (self.throw() % 40 + 1) * 1000;
+        let level = (self.throw() % 40 + 20) * 1000;
+        let other = (self.throw() % 40 + 20) * 1000;
         let reset = match test {
             FrequencyIs::Under => level.max(other),
             _ => level.min(other),
@@ -183,7 +183,7 @@ impl Dice {
                 rate: 60,
                 least: self.throw() % 12 + 1,
             }),
-            scans: (self.throw() % 12) as u32 + 2,
+            scans: (self.throw() % 12) as u32 + 8,
             level,
             reset,
             row: (self.throw() % 3) as u32 + 1,
