@@ -5,7 +5,7 @@ use Rattle.std.specs.Io.KnownBytes.{Keeps, Consumes, IsAtEnd}
 use Rattle.comtrade_values.specs.Lines.{without_cr}
 use Rattle.dfr_channels.specs.Parts.{SetupParts}
 use Rattle.dfr_station.specs.Frames.{frame_len}
-use Rattle.dfr_station.specs.Lines.{ArrivalParts, Scan, Lost, Order, Skips, parts_of, FrameMeans, LineMeans, refused, is_feed}
+use Rattle.dfr_station.specs.Lines.{ArrivalParts, Scan, Lost, Order, Time, Skips, parts_of, FrameMeans, LineMeans, refused, is_feed}
 use Rattle.dfr_station.specs.declared.event.Skipped.TheVariants as skipped
 use Rattle.dfr_station.specs.declared.intake.feed.Why.TheVariants as why
 use Rattle.dfr_station.specs.declared.intake.arrival.Arrival.{Arrival}
@@ -56,6 +56,7 @@ scans_after came [] = came
 scans_after came (Scan scan ∷ xs) = scans_after (one_more came) xs
 scans_after came (Lost why ∷ xs) = scans_after (one_more came) xs
 scans_after came (Order line at order ∷ xs) = scans_after came xs
+scans_after came (Time line instant ∷ xs) = scans_after came xs
 scans_after came (Skips line why ∷ xs) = scans_after came xs
 
 -- ---- frames

@@ -21,6 +21,8 @@ pub enum Skipped {
     Long,
     /// The queue of orders is full.
     Busy,
+    /// It tells the time, and the clock doesn't date the scans.
+    Undated,
     /// An allocation failed.
     Memory,
 }
@@ -174,6 +176,9 @@ pub enum Event {
         missed: u64,
         clock: Option<ClockState>,
     },
+    /// Records were to have the dates of the clock, but it could not be read with the first scan: they
+    /// have the instants of the rate.
+    Undated,
     /// The wall clock was set, by so many microseconds; below 0 if it was set back.
     ClockSet(i64),
     /// Recording ended: scans, lost scans among them, records written, and `left`, the scans for

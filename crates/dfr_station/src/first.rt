@@ -49,6 +49,9 @@ fn dated_back(at: u64, scans: u64, rate: u32) -> u64
 }
 
 impl<A: Allocator> First<A> {
+    ghost use Rattle.std.specs.Prelude.{◌≡◌};
+    ghost use Rattle.dfr_station.specs.Dated.{is_followed};
+
     /// The instant of scan 0, in microseconds since 1970-01-01 00:00:00 UTC. The newest scan that
     /// came with it has the instant of the read.
     pub fn start(&self, rate: u32) -> i64 {
@@ -62,6 +65,21 @@ impl<A: Allocator> First<A> {
             Ok(start) => start,
             Err(_) => self.at.at,
         }
+    }
+
+    /// Whether the clock can date the scans: it was read when the first one had come.
+    pub fn is_followed(&self) -> bool
+        ensures { result ≡ is_followed self.now.clocks }
+    {
+        match self.clocks {
+            Some(reading) => reading.scans > 0,
+            None => false,
+        }
+    }
+
+    /// Whether the input ended before a scan came.
+    pub fn is_empty(&self) -> bool {
+        self.is_all && self.scans == 0
     }
 }
 

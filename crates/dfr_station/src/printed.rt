@@ -35,6 +35,7 @@ fn skipped_word(why: Skipped) -> &'static str {
         Skipped::TooMany => "too-many",
         Skipped::Long => "long",
         Skipped::Busy => "busy",
+        Skipped::Undated => "undated",
         Skipped::Memory => "memory",
     }
 }
@@ -274,6 +275,7 @@ fn put_what<A: Allocator>(out: &mut Vec<u8, A>, event: Event) -> Result<(), Allo
         Event::Memory => put(out, "memory"),
         Event::Silent(seconds) => put_with(out, "silent ", seconds),
         Event::Heard => put(out, "silent over"),
+        Event::Undated => put(out, "undated"),
         Event::ClockSet(micros) => put_seconds(out, "clock set ", micros),
         Event::Missed(count) => put_with(out, "missed lines ", count),
         Event::Minute {

@@ -10,7 +10,7 @@ use comtrade_io::{ToolFault, fault_of, read_up_to};
 use dfr_health::put_escaped;
 use dfr_setup::{Prepared, prepared_of};
 use dfr_station::{
-    Control, Input, Printer, Run, Station, Store, finish_station, read_first, run_station,
+    Control, Event, Input, Printer, Run, Station, Store, finish_station, now, read_first, run_station,
 };
 use std::alloc::Global;
 use std::fs;
@@ -170,6 +170,8 @@ pub(crate) fn record<
     let waits = waits(rt, asked);
     if !asked.has_dates(waits) {
         first.clocks = None;
+    } else if !first.is_followed() && !first.is_empty() {
+        printer.print(now(rt), Event::Undated);
     }
     match prepared_of(rt.alloc(), &plan.setup, start) {
         Ok(prepared) => {
