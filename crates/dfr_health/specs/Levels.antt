@@ -39,6 +39,7 @@ level (event.Order why) = Loss
 level (event.Unopened count) = Loss
 level (event.Missed count) = Loss
 level (event.Cut bytes) = Loss
+level (event.Noise at) = Loss
 level event.Undated = Loss
 level (event.ClockSet micros) = Loss
 level (event.Record extent key clock true) = Loss

@@ -20,6 +20,7 @@ module _ {C A : Type 0} where
   quietly_at s i (coming.Arrival (arrival.Order line place order)) t h = h
   quietly_at s i (coming.Arrival (arrival.Time line instant)) t h = h
   quietly_at s i (coming.Arrival (arrival.Skipped line why)) t h = h
+  quietly_at s i (coming.Arrival arrival.Noise) t h = h
   quietly_at s i coming.Gap t h = h
   quietly_at s i coming.Read t h = h
   quietly_at s i coming.Drained t h = h
@@ -31,6 +32,7 @@ module _ {C A : Type 0} where
   steps_at s i (coming.Arrival (arrival.Order line place order)) f t h = h
   steps_at s i (coming.Arrival (arrival.Time line instant)) f t h = h
   steps_at s i (coming.Arrival (arrival.Skipped line why)) f t h = h
+  steps_at s i (coming.Arrival arrival.Noise) f t h = h
   steps_at s i coming.Gap f t h = h
   steps_at s i coming.Read f t h = h
   steps_at s i coming.Drained f t h = h
@@ -43,6 +45,7 @@ module _ {C A : Type 0} where
   never_yet s (coming.Arrival (arrival.Order line place order)) t h = h
   never_yet s (coming.Arrival (arrival.Time line instant)) t h = h
   never_yet s (coming.Arrival (arrival.Skipped line why)) t h = h
+  never_yet s (coming.Arrival arrival.Noise) t h = h
   never_yet s coming.Gap t h = h.1
   never_yet s coming.Read t h = h
   never_yet s coming.Drained t h = h
@@ -54,6 +57,7 @@ module _ {C A : Type 0} where
   never_done s (coming.Arrival (arrival.Order line place order)) t h = h
   never_done s (coming.Arrival (arrival.Time line instant)) t h = h
   never_done s (coming.Arrival (arrival.Skipped line why)) t h = h
+  never_done s (coming.Arrival arrival.Noise) t h = h
   never_done s coming.Gap t h = h.1
   never_done s coming.Read t h = h
   never_done s coming.Drained t h = h

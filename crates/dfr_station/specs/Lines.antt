@@ -35,13 +35,14 @@ use Rattle.dfr_station.specs.declared.intake.line.Meaning.TheVariants as meaning
 use Rattle.dfr_station.specs.declared.station.Lowest.{Lowest}
 
 -- what came: a scan that fits, a lost one, an order with the number of its line and of the scans before it, the number of a line and the
--- instant that it tells of the next scan, a line that is skipped
+-- instant that it tells of the next scan, a line that is skipped, bytes that are no frame
 pub data ArrivalParts : Type 0 where
   Scan : ScanParts → ArrivalParts
   Lost : Why → ArrivalParts
   Order : ℕ → ℕ → CallParts → ArrivalParts
   Time : ℕ → ℕ → ArrivalParts
   Skips : ℕ → Skipped → ArrivalParts
+  Noise : ArrivalParts
 
 -- what came, whatever its allocator is
 abbrev pub parts_of : {A : Type 0} → Arrival A → ArrivalParts
@@ -50,6 +51,7 @@ parts_of (arrival.Lost lost) = Lost lost
 parts_of (arrival.Order line at order) = Order line at (call_in order)
 parts_of (arrival.Time line instant) = Time line instant
 parts_of (arrival.Skipped line skips) = Skips line skips
+parts_of arrival.Noise = Noise
 
 -- ---- scans
 

@@ -131,6 +131,10 @@ impl<'s, 'x, I, R, A: Allocator + Copy> Acquisition<'s, 'x, I, R, A> {
                 self.skip(line, why);
                 None
             }
+            Arrival::Noise => {
+                self.scans.tell(Event::Noise(self.scans.came()));
+                None
+            }
         }
     }
 

@@ -156,6 +156,8 @@ pub enum Event {
     Unfinished,
     /// The input ended within a frame, of which so many bytes came.
     Cut(u64),
+    /// After so many scans, bytes came that are no counted frame. The next one is looked for.
+    Noise(u64),
     /// The input can't be read any more; recording ends.
     Broken,
     /// An allocation failed. What needed it is tried again.

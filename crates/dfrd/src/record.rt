@@ -39,13 +39,25 @@ pub(crate) struct Plan {
 }
 
 impl Plan {
-    /// The size of a frame, if the input has frames.
+    /// The size of a frame, if the input has frames without anything between them.
     pub(crate) fn frame_in(&self, input: Input) -> Option<usize>
         ensures { IfSome result (λ size. 0 < size) }
     {
         match input {
             Input::Frames(_) => Some(self.frame),
-            Input::Lines => None,
+            Input::Counted(_) | Input::Lines => None,
+        }
+    }
+
+    /// Whether the input comes in pieces of one size, and that size. Counted frames may begin at any
+    /// byte.
+    pub(crate) fn pieces_in(&self, input: Input) -> (bool, usize)
+        ensures { 0 < result.1 }
+    {
+        match input {
+            Input::Frames(_) => (true, self.frame),
+            Input::Counted(_) => (true, 1),
+            Input::Lines => (false, self.frame),
         }
     }
 }

@@ -23,6 +23,8 @@ pub enum Arrival<A: Allocator = Global> {
     Time { line: u64, instant: u64 },
     /// The number of a line, from 1, that is skipped, and why.
     Skipped { line: u64, why: Skipped },
+    /// Bytes that are no frame, where counted frames come. The next one is looked for.
+    Noise,
 }
 
 /// Why a scan is lost that doesn't fit the layout.
