@@ -51,7 +51,8 @@ frame_first size noisy [] whole is = absurd (omega (arith, whole))
 frame_first size noisy (b ∷ bs) whole is =
     let t : nat_lt (length (b ∷ bs)) (5 + size) ≡ false = grind (arith, nat_tests) in
     let n : size + 4 ≡ 4 + size = omega arith in
-    rw (t, is, n) (ap (λ (ps : List Part). Frame (counter_in (b ∷ bs)) (take size (drop 5 (b ∷ bs))) ∷ ps) (rest_passed size (4 + size) false bs))
+    let m : 5 + size ≡ suc (4 + size) = omega arith in
+    rw (t, is, n, m) (ap (λ (ps : List Part). Frame (counter_in (b ∷ bs)) (take size (drop 5 (b ∷ bs))) ∷ ps) (rest_passed size (4 + size) false bs))
 
 -- no frame at the front
 other_first : (size : ℕ) (noisy : Bool) (bytes : List ℕ) → 5 + size ≤ length bytes → is_counted size bytes ≡ false
@@ -83,14 +84,41 @@ one_missing due counter one two (inr more) =
           rw (here, last, then) (omega (arith, above, one))
     ]
 
+-- a counter whose next one has 16 bits has 16 bits
+low_counter : (due : ℕ) → next_counter due < 65_536 → due < 65_536
+low_counter due low =
+    elim (cases_lt due 65_536) [
+      | inl below ↦ below
+      | inr above ↦
+          let last : (due == 65_535) ≡ false = grind (arith, nat_tests) in
+          let next : due + 1 < 65_536 = rw last at low in
+          absurd (omega (arith, above, next))
+    ]
+
+apart_from : (due counter : ℕ) → ¬ (due ≡ counter) → (due < counter) ⊎ (counter < due)
+apart_from due counter other =
+    elim (cases_lt due counter) [
+      | inl less ↦ inl less
+      | inr more ↦
+          elim (cases_lt counter due) [
+            | inl above ↦ inr above
+            | inr below ↦ absurd (other (omega (arith, more, below)))
+          ]
+    ]
+
 -- none is missing before the one that was to come
-pub none_missing : (counter : ℕ) → missing_before (Some counter) counter ≡ 0
+none_missing : (counter : ℕ) → missing_before (Some counter) counter ≡ 0
 none_missing counter =
     let here : nat_le counter counter ≡ true = grind (arith, nat_tests) in
     rw here (omega arith)
 
+-- none is missing before the first one, or before the one that was to come
+pub none_missed : (due : Option ℕ) (counter : ℕ) → (due ≡ None) ⊎ (due ≡ Some counter) → missing_before due counter ≡ 0
+none_missed due counter (inl first) = rw first refl
+none_missed due counter (inr next) = rw next (none_missing counter)
+
 module _ (layout : SetupParts) (l : Lowest) (bytes more : List ℕ) (whole : 5 + frame_size layout ≤ length bytes) where
-  size : ℕ
+  abbrev size : ℕ
   size = frame_size layout
 
   longer : 5 + size ≤ length (bytes ++ more)
@@ -146,15 +174,51 @@ module _ (layout : SetupParts) (l : Lowest) (bytes more : List ℕ) (whole : 5 +
 
 -- ---- cutters
 
-module _ {A : Type 0} (l : Lowest) (last : Bool) (c : Cutter A) (counts : c.form ≡ form.Counted l) where
-  at_front : (d : Cutter A) → d.form ≡ c.form → d.form ≡ form.Counted l
-  at_front d same = same ∙ counts
+pub cuts_on : {A : Type 0} (last : Bool) (c d e : Cutter A) (given : List ArrivalParts) → Cuts last c [] d → Cuts last d given e → Cuts last c given e
+cuts_on last c d e given first then = record { first = λ more none xs comes. first.first more none (given ++ xs) (then.first more none xs comes) }
 
-  -- no whole frame waits
-  pub waits_for_frame : length c.buffer < 5 + frame_size c.layout.now → 5 + frame_size c.layout.now ≤ 65_536 → Wants last c c
-  unfolding Comes PartsGive
-  waits_for_frame few room = record {
-    room = omega (arith, few, room);
-    cut = record { first = λ more none xs comes. comes };
-    over = λ is_last. rw (counts, append-nil c.buffer, few_bytes (frame_size c.layout.now) c.is_noisy c.buffer few) refl;
+-- no whole frame waits
+pub waits_for_frame : {A : Type 0} (l : Lowest) (last : Bool) (c d : Cutter A) → Cuts last c [] d → d.form ≡ form.Counted l
+    → length d.buffer < 5 + frame_size d.layout.now → 5 + frame_size d.layout.now ≤ 65_536 → Wants last c d
+unfolding Comes PartsGive
+waits_for_frame l last c d cut counts few room = record {
+  room = omega (arith, few, room);
+  cut = cut;
+  over = λ is_last. rw (counts, append-nil d.buffer, few_bytes (frame_size d.layout.now) d.is_noisy d.buffer few) refl;
+}
+
+module _ {A : Type 0} (l : Lowest) (last : Bool) (c : Cutter A) (counts : c.form ≡ form.Counted l) (whole : 5 + frame_size c.layout.now ≤ length c.buffer) where
+  -- a frame is missing before the one at the front
+  pub loses_missing : (due next came counter : ℕ) → c.due ≡ Some due → is_counted (frame_size c.layout.now) c.buffer ≡ true → counter ≡ counter_in c.buffer
+      → next < 65_536 → counter < 65_536 → ¬ (due ≡ counter) → next ≡ next_counter due
+      → Cuts last c (Lost why.Counted ∷ []) (record c { came = came; due = Some next })
+  unfolding Comes
+  loses_missing due next came counter was is at low high other then = record {
+    first = λ more none xs comes.
+        rw (counts, was) (lost_leads c.layout.now l c.buffer more whole due c.is_noisy xs is (rw at at (one_missing due counter (low_counter due (rw then at low)) high (apart_from due counter other)))
+        (rw (counts, then) at comes));
+  }
+
+  -- the frame at the front comes
+  pub takes_frame : (next came counter : ℕ) (a : ArrivalParts) → is_counted (frame_size c.layout.now) c.buffer ≡ true → counter ≡ counter_in c.buffer
+      → missing_before c.due counter ≡ 0 → next ≡ next_counter counter → FrameMeans c.layout.now l (take (frame_size c.layout.now) (drop 5 c.buffer)) a
+      → Cuts last c (a ∷ []) (record c { buffer = drop (5 + frame_size c.layout.now) c.buffer; came = came; due = Some next; is_noisy = false })
+  unfolding Comes
+  takes_frame next came counter a is at none then means = record {
+    first = λ more end xs comes.
+        rw counts (frame_leads c.layout.now l c.buffer more whole c.due c.is_noisy a xs is (rw (sym at) none) means (rw (counts, then, at) at comes));
+  }
+
+  -- no frame stands at the front
+  pub hears_noise : is_counted (frame_size c.layout.now) c.buffer ≡ false → c.is_noisy ≡ false
+      → Cuts last c (Noise ∷ []) (record c { buffer = drop 1 c.buffer; is_noisy = true })
+  unfolding Comes
+  hears_noise is quiet = record {
+    first = λ more end xs comes. rw (counts, quiet) (noise_leads c.layout.now l c.buffer more whole c.due xs is (rw counts at comes));
+  }
+
+  pub hears_more_noise : is_counted (frame_size c.layout.now) c.buffer ≡ false → c.is_noisy ≡ true → Cuts last c [] (record c { buffer = drop 1 c.buffer })
+  unfolding Comes
+  hears_more_noise is noisy = record {
+    first = λ more end xs comes. rw (counts, noisy) (noise_goes_on c.layout.now l c.buffer more whole c.due xs is (rw (counts, noisy) at comes));
   }

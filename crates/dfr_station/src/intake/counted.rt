@@ -1,6 +1,6 @@
 //! Counted frames: a mark, a checksum and a counter stand before each frame.
 
-ghost use Rattle.std.specs.Prelude.{◌≡◌, ◌≤◌, ◌+◌, MatchOption, true, false, length};
+ghost use Rattle.std.specs.Prelude.{◌≡◌, ◌≢◌, ◌⊎◌, ◌≤◌, ◌+◌, MatchOption, Some, None, true, false, length};
 ghost use Rattle.dfr_station.specs.Counted as spec;
 
 use byteorder::{ByteOrder, LittleEndian};
@@ -75,6 +75,18 @@ pub(crate) fn next_counter(counter: u16) -> u16
     if counter == u16::MAX { 0 } else { counter + 1 }
 }
 
+/// The counter of the frame that is missing first before the one with this counter.
+pub(crate) fn first_missing(due: Option<u16>, counter: u16) -> Option<u16>
+    ensures { MatchOption result ((due ≡ None) ⊎ (due ≡ Some counter))
+        (λ missing. (due ≡ Some missing) × (missing ≢ counter)) }
+{
+    match due {
+        None => None,
+        Some(due) if due != counter => Some(due),
+        Some(_) => None,
+    }
+}
+
 /// How many frames are missing before the one with this counter, if that one was to come next.
 fn missing_before(due: Option<u16>, counter: u16) -> u32
     ensures { result ≡ spec.missing_before due counter }
@@ -84,6 +96,19 @@ fn missing_before(due: Option<u16>, counter: u16) -> u32
         Some(due) if due <= counter => u32::from(counter - due),
         Some(due) => u32::from(counter) + 65_536 - u32::from(due),
     }
+}
+
+/// The counter of the last whole frame, if the bytes are whole frames from the first one on.
+fn last_counter(size: usize, bytes: &[u8]) -> Option<u16>
+    requires size { size ≤ 65_536 }
+{
+    let each = HEAD + size;
+    let place = (bytes.len() / each).checked_sub(1)?.checked_mul(each)?;
+    let last = bytes.get(place..)?;
+    if last.len() < each {
+        return None;
+    }
+    counter_of(size, last)
 }
 
 /// How many scans have come with these bytes, if the frame with the counter `due` was to come next,
@@ -100,13 +125,11 @@ pub(crate) fn scans_counted(due: Option<u16>, size: usize, bytes: &[u8]) -> u64 
             rest = &rest[1..];
             continue;
         };
-        let frames = rest.len() / each;
-        let last = &rest[(frames - 1) * each..];
-        let between = match counter_of(size, last) {
-            Some(newest) => u64::from(missing_before(Some(counter), newest)),
-            None => frames as u64 - 1,
+        let later = match last_counter(size, rest) {
+            Some(newest) => missing_before(Some(counter), newest),
+            None => 0,
         };
-        return u64::from(missing_before(due, counter)) + between + 1;
+        return u64::from(missing_before(due, counter)) + 1 + u64::from(later);
     }
     0
 }

@@ -7,7 +7,7 @@ ghost use Rattle.dfr_station.specs.Lines.{parts_of};
 ghost use Rattle.dfr_station.specs.declared.station.Input.TheVariants as form;
 
 use crate::intake::arrival::Arrival;
-use crate::intake::counted::{HEAD, counter_of, next_counter};
+use crate::intake::counted::{HEAD, counter_of, first_missing, next_counter};
 use crate::intake::cutter::Cutter;
 use crate::intake::feed::Why;
 use crate::intake::frame::{arrival_of_frame, frame_len};
@@ -32,9 +32,7 @@ impl<'x, A: Allocator + Copy> Cutter<'x, A> {
         ensures { (last : Bool) → spec.Cuts last self.old (parts_of result ∷ []) self.new }
     {
         self.came = self.came.saturating_add(1);
-        if let Some(due) = self.due
-            && due != counter
-        {
+        if let Some(due) = first_missing(self.due, counter) {
             self.due = Some(next_counter(due));
             return Arrival::Lost(Why::Counted);
         }
