@@ -1,5 +1,5 @@
 -- How what comes becomes the acquisition's steps.
-use Rattle.std.proofs.Common.{◌≡◌, refl, List, ◌∷◌, true, false, Some, None, Ok}
+use Rattle.std.proofs.Common.{◌≡◌, ℕ, refl, List, ◌∷◌, true, false, Some, None, Ok}
 use Rattle.dfr_live.specs.Devices.{Came}
 use Rattle.dfr_live.specs.declared.station.Fed.{Fed}
 use Rattle.dfr_live.specs.declared.station.Fed.TheVariants as fed
@@ -99,6 +99,11 @@ module _ {C A : Type 0} where
     pub reads_more : (s v m t : Acquired C A) → v ≡ m → QuietSoFar s m → Comes v.incoming coming.Read t.incoming → t.scans ≡ v.scans
         → t.orders ≡ v.orders → QuietSoFar s t
     reads_more s v m t e far comes scans orders = (coming.Read ∷ far.0, (v, rw e far.1, (comes, scans, orders)))
+
+    pub tells_more : (s v m t : Acquired C A) (line instant : ℕ) → v ≡ m → QuietSoFar s m
+        → Comes v.incoming (coming.Arrival (arrival.Time line instant)) t.incoming → t.scans ≡ v.scans → t.orders ≡ v.orders → QuietSoFar s t
+    tells_more s v m t line instant e far comes scans orders =
+        (coming.Arrival (arrival.Time line instant) ∷ far.0, (v, rw e far.1, (comes, scans, orders)))
 
     pub gives_end : (s v m t : Acquired C A) (ending : Ending)
         → v ≡ m → QuietSoFar (record s { scans = settled s.scans }) m → Comes v.incoming (coming.End ending) t.incoming
