@@ -1,14 +1,15 @@
 -- How far the course of time may be from true time.
 use Rattle.std.proofs.Common.{◌≡◌, ◌∙◌, ℕ, zero, suc, ◌+◌, ◌*◌, ◌-◌, ◌/◌, ◌<◌, ◌≤◌, min, max, true, false, refl, sym, ap, subst, inl, inr, List, [], ◌∷◌, Option, Some, arith}
-use Rattle.std.specs.Prelude.{◌==◌, nat_lt}
+use Rattle.std.specs.Prelude.{◌==◌, nat_lt, nat_le}
 use Rattle.std.proofs.lemmas.Nat.{div_below, le-div}
 use Rattle.std.proofs.lemmas.Bool.Decides.{nat_tests}
 use Rattle.std.proofs.lemmas.Bool.{cases_lt}
-use Rattle.std.proofs.Math.Nat.{mul-le-mul_right, mul-le-mul_left, div-mul-le_self, div-le_of_le-mul}
+use Rattle.std.proofs.Math.Nat.{mul-le-mul_right, mul-le-mul_left, mul-div_cancel, div-mul-le_self, div-le_of_le-mul}
 use Rattle.dfr_clock.specs.Courses.{place, instant_on}
-use Rattle.dfr_clock.specs.Truth.{IsSteady, IsReading, IsPrompt, HasPrompt, AreReadings, newest_place, least, StaysWithin, WindowLaw, LeastLaw, SlewLaw, OnwardLaw, NearLaw, error_after, EndLaw, DateLaw}
-use Rattle.dfr_clock.specs.Following.{by_clock, next_course, turn, best_at, settled}
-use Rattle.dfr_clock.specs.Dating.{course_of, date_of, instant_of, not_before}
+use Rattle.dfr_clock.specs.Truth.{IsSteady, IsReading, IsPrompt, HasPrompt, AreReadings, newest_place, least, StaysWithin, WindowLaw, LeastLaw, SlewLaw, OnwardLaw, NearLaw, error_after, EndLaw, DateLaw, ToldLaw}
+use Rattle.dfr_clock.specs.Following.{by_clock, next_course, turn, told, best_at, settled, level}
+use Rattle.dfr_clock.specs.Courses.{course_at}
+use Rattle.dfr_clock.specs.Dating.{course_of, date_of, instant_of, not_before, turned}
 use Rattle.dfr_clock.specs.declared.settings.Settings.{Settings}
 use Rattle.dfr_clock.specs.declared.course.Course.{Course}
 use Rattle.dfr_clock.specs.declared.reading.Reading.{Reading}
@@ -165,3 +166,32 @@ pub date_law : DateLaw
 date_law t u j k last same =
     let era = (course_of u (place u.settings.rate k)).era in
     subst (λ (l : Option Dated). date_of t j ≤ not_before l era (instant_of u k)) (sym last) (kept_order (course_of t (place t.settings.rate j)).era era (date_of t j) (instant_of u k) same)
+
+-- a course that runs as the scans do
+level_at : (s : Settings) (p instant era q : ℕ) → 1 ≤ s.window → p ≤ q → instant_on s.window (level s p instant era) q ≡ instant + (q - p)
+level_at s p instant era q some more =
+    let whole : instant + s.window - instant ≡ s.window = omega arith in
+    elim (cases_lt (q - p) s.window) [
+      | inl inside ↦
+          on_line s.window (level s p instant era) q inside
+          ∙ ap (λ (d : ℕ). instant + (q - p) * d / s.window) whole
+          ∙ ap (λ (d : ℕ). instant + d) (mul-div_cancel (q - p) some)
+      | inr outside ↦
+          let past = past_line s.window (level s p instant era) q outside in
+          omega (arith, past)
+    ]
+
+-- the newest course is that of all places from its own on
+newest_at : (c : Course) (older : List Course) (q : ℕ) → c.at ≤ q → course_at c older q ≡ c
+newest_at c [] q more = refl
+newest_at c (d ∷ older) q more = let t : nat_le c.at q ≡ true = grind (arith, nat_tests) in rw t refl
+
+pub told_law : ToldLaw
+told_law t scans instant k fits more =
+    let u = told t.settings t.follower scans instant in
+    let c = u.follower.course in
+    let q = place t.settings.rate k in
+    let onward : c.at ≤ q = line_more (scans + u.answer.lost) k 1_000_000 t.settings.rate fits.some more in
+    let past = (turned t u).past in
+    ap (λ (d : Course). instant_on t.settings.window d q) (newest_at c past q onward)
+    ∙ level_at t.settings c.at instant c.era q fits.wide onward

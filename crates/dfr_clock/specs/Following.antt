@@ -142,17 +142,34 @@ turn s f r =
       answer = record { lost = lost_at s f r; jump = jump_at s f r };
     }
 
+-- how far an instant that is told may be past what is due, so long after the last one, if nothing was lost: no crystal is off by more than a thousandth
+abbrev pub told_limit : Settings → ℕ → ℕ
+told_limit s since = s.apart + since / 1_000
+
+-- how many lost scans stand for what is missing. When the converter tells the time first, it has another clock, and nothing is known of a gap
+abbrev pub told_lost : Settings → Mode → (since due instant : ℕ) → ℕ
+told_lost s Settling since due instant = 0
+told_lost s Following since due instant = 0
+told_lost s Told since due instant = lost_for s (missing_between s (told_limit s since) due instant)
+
+-- by how much the clock was set: by all that the converter's differs when it tells the time first, and then only if it is set back
+abbrev pub told_jump : Settings → Mode → (due instant : ℕ) → Option Jump
+told_jump s Settling due instant = jump_between s.step instant due
+told_jump s Following due instant = jump_between s.step instant due
+told_jump s Told due instant = jump_between s.step (min instant due) due
+
 -- what the converter tells: the next scan has this instant
 abbrev pub told : Settings → Follower → ℕ → ℕ → Turn
 told s f scans instant =
-    let due = instant_on s.window f.course (place s.rate scans) in
-    let lost = lost_for s (missing_between s s.late due instant) in
+    let next = place s.rate scans in
+    let due = instant_on s.window f.course next in
+    let lost = told_lost s f.mode (next - f.course.at) due instant in
     let p = place s.rate (scans + lost) in
     let era = if nat_lt instant due then p else f.course.era in
     record {
       follower = record { course = level s p instant era; best = instant; mode = Told; scans = scans + lost; wall = f.wall; mono = f.mono };
       closed = Some f.course;
-      answer = record { lost = lost; jump = None };
+      answer = record { lost = lost; jump = told_jump s f.mode due instant };
     }
 
 -- what a follower has

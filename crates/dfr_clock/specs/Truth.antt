@@ -2,8 +2,8 @@
 use Rattle.std.specs.Prelude.{◌≡◌, ℕ, zero, suc, ◌+◌, ◌*◌, ◌-◌, ◌≤◌, min, max, ◌⊎◌, List, [], ◌∷◌}
 use Rattle.dfr_clock.specs.Settings.{slewed, Fits}
 use Rattle.dfr_clock.specs.Courses.{place, instant_on, IsCourse}
-use Rattle.dfr_clock.specs.Following.{by_clock, next_course, turn, best_at, settled, within_window}
-use Rattle.dfr_clock.specs.Dating.{Kept, course_of, date_of, dated}
+use Rattle.dfr_clock.specs.Following.{by_clock, next_course, turn, told, best_at, settled, within_window}
+use Rattle.dfr_clock.specs.Dating.{Kept, course_of, instant_of, date_of, dated, turned}
 use Rattle.dfr_clock.specs.declared.settings.Settings.{Settings}
 use Rattle.dfr_clock.specs.declared.course.Course.{Course}
 use Rattle.dfr_clock.specs.declared.reading.Reading.{Reading}
@@ -103,3 +103,11 @@ abbrev pub DateLaw : Type 0
 DateLaw =
     (t u : Kept) (j k : ℕ) → u.last ≡ (dated t j).last
     → (course_of t (place t.settings.rate j)).era ≡ (course_of u (place u.settings.rate k)).era → date_of t j ≤ date_of u k
+
+-- What the converter tells is exact: the next scan, behind those that are lost, has that instant, and later ones follow by the rate.
+abbrev pub ToldLaw : Type 0
+ToldLaw =
+    (t : Kept) (scans instant k : ℕ) → Fits t.settings
+    → let u = told t.settings t.follower scans instant in
+    scans + u.answer.lost ≤ k
+    → instant_of (turned t u) k ≡ instant + (place t.settings.rate k - place t.settings.rate (scans + u.answer.lost))

@@ -6,7 +6,7 @@ ghost use Rattle.dfr_clock.specs.Courses.{place};
 ghost use Rattle.dfr_clock.specs.Following as spec;
 
 use crate::course::{Course, place, since};
-use crate::gap::{by_clock, jump_between, lost_for, missing_between};
+use crate::gap::{by_clock, jump_between, lost_for, missing_between, told_jump, told_lost};
 use crate::reading::{Answer, Jump, Reading};
 use crate::settings::Settings;
 use crate::windows::{anew, level, settled, window_ended};
@@ -93,7 +93,7 @@ impl Follower {
         }
         let instant = best + (newest - self.course.at);
         let due = course.instant(settings.window, newest);
-        let missing = missing_between(settings, settings.apart, due, instant);
+        let missing = missing_between(settings, u128::from(settings.apart), due, instant);
         if missing > u128::from(settings.most) {
             return self.ended_anew(settings, course, reading);
         }
@@ -135,7 +135,7 @@ impl Follower {
         let newest = place(settings.rate, u128::from(reading.scans - 1));
         let due = self.course.instant(settings.window, newest);
         let clock = self.unset_clock(reading, jump);
-        missing_between(settings, settings.late, due, clock)
+        missing_between(settings, u128::from(settings.late), due, clock)
     }
 
     /// Begins anew after a gap, with the scans after it, or where the clock was set, with the newest
@@ -223,13 +223,16 @@ impl Follower {
         ensures sound { IsSoundTurn settings.now result }
     {
         let instant = u128::from(instant);
-        let due = self
-            .course
-            .instant(settings.window, place(settings.rate, u128::from(scans)));
-        let lost = lost_for(
+        let next = place(settings.rate, u128::from(scans));
+        let due = self.course.instant(settings.window, next);
+        let lost = told_lost(
             settings,
-            missing_between(settings, settings.late, due, instant),
+            self.mode,
+            since(self.course.at, next),
+            due,
+            instant,
         );
+        let jump = told_jump(settings, self.mode, due, instant);
         let scans = u128::from(scans) + u128::from(lost);
         let at = place(settings.rate, scans);
         let era = if instant < due { at } else { self.course.era };
@@ -243,7 +246,7 @@ impl Follower {
                 mono: self.mono,
             },
             closed: Some(self.course),
-            answer: Answer { lost, jump: None },
+            answer: Answer { lost, jump },
         }
     }
 }

@@ -1,6 +1,6 @@
 //! Laws of the course of time. These functions do nothing: their contracts state the laws.
 
-ghost use Rattle.dfr_clock.specs.Truth.{DateLaw, EndLaw, LeastLaw, NearLaw, OnwardLaw, SlewLaw, WindowLaw};
+ghost use Rattle.dfr_clock.specs.Truth.{DateLaw, EndLaw, LeastLaw, NearLaw, OnwardLaw, SlewLaw, ToldLaw, WindowLaw};
 
 /// What is followed keeps the least instant of all readings of the window.
 pub fn window_keeps_least()
@@ -37,4 +37,9 @@ pub fn error_ends()
 /// The dates of two scans are in order, unless the clock was set between.
 pub fn dates_in_order()
     ensures { DateLaw }
+{}
+
+/// What the converter tells is exact, for the next scan and those that follow it by the rate.
+pub fn told_is_exact()
+    ensures { ToldLaw }
 {}

@@ -105,15 +105,15 @@ impl<A: Allocator> Timebase<A> {
         turn.answer
     }
 
-    /// The converter tells the time: the next scan, after so many, has this instant. Returns how
-    /// many lost scans come before it.
-    pub fn told(&mut self, scans: u64, instant: u64) -> u32
-        ensures lost { result ≡ (told self.old.settings self.old.follower scans instant).answer.lost }
+    /// The converter tells the time: the next scan, after so many, has this instant. Says how many
+    /// lost scans come before it, and by how much the clock was set.
+    pub fn told(&mut self, scans: u64, instant: u64) -> Answer
+        ensures answer { result ≡ (told self.old.settings self.old.follower scans instant).answer }
         ensures kept { self.new ≡ turned self.old (told self.old.settings self.old.follower scans instant) }
     {
         let turn = self.follower.told(&self.settings, scans, instant);
         self.take_over(turn);
-        turn.answer.lost
+        turn.answer
     }
 
     /// The course that has ended so many courses ago.

@@ -28,6 +28,7 @@ is_for reason.Shape why.Shape = true
 is_for reason.Range (why.Range channel) = true
 is_for reason.Full why.Full = true
 is_for reason.Memory why.Memory = true
+is_for reason.Counted why.Counted = true
 is_for reason.Silent why.Silent = true
 is_for r w = false
 
@@ -152,6 +153,7 @@ pub record IsLostOf (events : List Event) (l : Lost) : Type 0 where
   pub range : l.range ≡ counted (lost_in reason.Range) events
   pub full : l.full ≡ counted (lost_in reason.Full) events
   pub memory : l.memory ≡ counted (lost_in reason.Memory) events
+  pub counted : l.counted ≡ counted (lost_in reason.Counted) events
   pub silent : l.silent ≡ counted (lost_in reason.Silent) events
 
 pub record IsUnwrittenOf (events : List Event) (u : Unwritten) : Type 0 where

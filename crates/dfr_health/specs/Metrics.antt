@@ -65,6 +65,7 @@ abbrev pub missing_text : List ℕ → List ℕ → Lost → List ℕ
 missing_text station name l =
     sample_text name station (codes ",reason=\"full\"") l.full
     ++ sample_text name station (codes ",reason=\"memory\"") l.memory
+    ++ sample_text name station (codes ",reason=\"counted\"") l.counted
     ++ sample_text name station (codes ",reason=\"silent\"") l.silent
 
 abbrev pub lost_text : List ℕ → List ℕ → Lost → List ℕ

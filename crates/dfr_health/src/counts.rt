@@ -15,6 +15,7 @@ pub enum Reason {
     Range,
     Full,
     Memory,
+    Counted,
     Silent,
 }
 
@@ -27,6 +28,7 @@ pub struct Lost {
     pub range: u64,
     pub full: u64,
     pub memory: u64,
+    pub counted: u64,
     pub silent: u64,
 }
 
@@ -70,6 +72,7 @@ fn is_for(reason: Reason, why: Why) -> bool
         Why::Range(_) => matches!(reason, Reason::Range),
         Why::Full => matches!(reason, Reason::Full),
         Why::Memory => matches!(reason, Reason::Memory),
+        Why::Counted => matches!(reason, Reason::Counted),
         Why::Silent => matches!(reason, Reason::Silent),
     }
 }
@@ -127,6 +130,7 @@ impl Lost {
         range: 0,
         full: 0,
         memory: 0,
+        counted: 0,
         silent: 0,
     };
 
@@ -141,6 +145,7 @@ impl Lost {
             range: plus(self.range, lost_in(Reason::Range, event)),
             full: plus(self.full, lost_in(Reason::Full, event)),
             memory: plus(self.memory, lost_in(Reason::Memory, event)),
+            counted: plus(self.counted, lost_in(Reason::Counted, event)),
             silent: plus(self.silent, lost_in(Reason::Silent, event)),
         }
     }

@@ -69,6 +69,8 @@ pub fn level_of(event: Event) -> Level
         | Event::Unopened(_)
         | Event::Missed(_)
         | Event::Cut(_)
+        | Event::Noise(_)
+        | Event::Undated
         | Event::ClockSet(_)
         | Event::Record { is_cut: true, .. } => Level::Loss,
         Event::Reply { reply, .. } => level_of_reply(reply),

@@ -34,6 +34,7 @@ fn put_missing<A: Allocator>(
 {
     put_sample(out, name, station, ",reason=\"full\"", lost.full)?;
     put_sample(out, name, station, ",reason=\"memory\"", lost.memory)?;
+    put_sample(out, name, station, ",reason=\"counted\"", lost.counted)?;
     put_sample(out, name, station, ",reason=\"silent\"", lost.silent)?;
     Ok(())
 }

@@ -1,5 +1,5 @@
 -- How what comes becomes the acquisition's steps.
-use Rattle.std.proofs.Common.{◌≡◌, refl, List, ◌∷◌, true, false, Some, None, Ok}
+use Rattle.std.proofs.Common.{◌≡◌, ℕ, refl, List, ◌∷◌, true, false, Some, None, Ok}
 use Rattle.dfr_live.specs.Devices.{Came}
 use Rattle.dfr_live.specs.declared.station.Fed.{Fed}
 use Rattle.dfr_live.specs.declared.station.Fed.TheVariants as fed
@@ -18,7 +18,9 @@ module _ {C A : Type 0} where
   quietly_at s i (coming.Arrival (arrival.Scan scan)) t h = h
   quietly_at s i (coming.Arrival (arrival.Lost why)) t h = h
   quietly_at s i (coming.Arrival (arrival.Order line place order)) t h = h
+  quietly_at s i (coming.Arrival (arrival.Time line instant)) t h = h
   quietly_at s i (coming.Arrival (arrival.Skipped line why)) t h = h
+  quietly_at s i (coming.Arrival arrival.Noise) t h = h
   quietly_at s i coming.Gap t h = h
   quietly_at s i coming.Read t h = h
   quietly_at s i coming.Drained t h = h
@@ -28,7 +30,9 @@ module _ {C A : Type 0} where
   steps_at s i (coming.Arrival (arrival.Scan scan)) f t h = h
   steps_at s i (coming.Arrival (arrival.Lost why)) f t h = h
   steps_at s i (coming.Arrival (arrival.Order line place order)) f t h = h
+  steps_at s i (coming.Arrival (arrival.Time line instant)) f t h = h
   steps_at s i (coming.Arrival (arrival.Skipped line why)) f t h = h
+  steps_at s i (coming.Arrival arrival.Noise) f t h = h
   steps_at s i coming.Gap f t h = h
   steps_at s i coming.Read f t h = h
   steps_at s i coming.Drained f t h = h
@@ -39,7 +43,9 @@ module _ {C A : Type 0} where
   never_yet s (coming.Arrival (arrival.Scan scan)) t h = h.0
   never_yet s (coming.Arrival (arrival.Lost why)) t h = h.0
   never_yet s (coming.Arrival (arrival.Order line place order)) t h = h
+  never_yet s (coming.Arrival (arrival.Time line instant)) t h = h
   never_yet s (coming.Arrival (arrival.Skipped line why)) t h = h
+  never_yet s (coming.Arrival arrival.Noise) t h = h
   never_yet s coming.Gap t h = h.1
   never_yet s coming.Read t h = h
   never_yet s coming.Drained t h = h
@@ -49,7 +55,9 @@ module _ {C A : Type 0} where
   never_done s (coming.Arrival (arrival.Scan scan)) t h = h.0
   never_done s (coming.Arrival (arrival.Lost why)) t h = h.0
   never_done s (coming.Arrival (arrival.Order line place order)) t h = h
+  never_done s (coming.Arrival (arrival.Time line instant)) t h = h
   never_done s (coming.Arrival (arrival.Skipped line why)) t h = h
+  never_done s (coming.Arrival arrival.Noise) t h = h
   never_done s coming.Gap t h = h.1
   never_done s coming.Read t h = h
   never_done s coming.Drained t h = h
@@ -91,6 +99,11 @@ module _ {C A : Type 0} where
     pub reads_more : (s v m t : Acquired C A) → v ≡ m → QuietSoFar s m → Comes v.incoming coming.Read t.incoming → t.scans ≡ v.scans
         → t.orders ≡ v.orders → QuietSoFar s t
     reads_more s v m t e far comes scans orders = (coming.Read ∷ far.0, (v, rw e far.1, (comes, scans, orders)))
+
+    pub tells_more : (s v m t : Acquired C A) (line instant : ℕ) → v ≡ m → QuietSoFar s m
+        → Comes v.incoming (coming.Arrival (arrival.Time line instant)) t.incoming → t.scans ≡ v.scans → t.orders ≡ v.orders → QuietSoFar s t
+    tells_more s v m t line instant e far comes scans orders =
+        (coming.Arrival (arrival.Time line instant) ∷ far.0, (v, rw e far.1, (comes, scans, orders)))
 
     pub gives_end : (s v m t : Acquired C A) (ending : Ending)
         → v ≡ m → QuietSoFar (record s { scans = settled s.scans }) m → Comes v.incoming (coming.End ending) t.incoming

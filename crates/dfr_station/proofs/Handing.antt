@@ -2,6 +2,7 @@
 use Rattle.std.proofs.Common.{ℕ, List, [], Option}
 use Rattle.std.specs.Prelude.{◌≡◌}
 use Rattle.dfr_station.specs.Arrivals.{CameFirst, HandsNext}
+use Rattle.dfr_station.specs.Lines.{ArrivalParts}
 use Rattle.dfr_station.specs.declared.intake.arrivals.Arrivals.{Arrivals}
 use Rattle.dfr_station.specs.declared.intake.arrivals.Ending.TheVariants as ending
 use Rattle.dfr_station.specs.declared.intake.arrivals.Next.{Next}
@@ -17,8 +18,8 @@ hands_on left s m t (next.End ending.Whole) first hands = (first.before [] hands
 hands_on left s m t (next.End (ending.Cut count)) first hands = (first.before [] hands.0, hands.1)
 
 -- the gap makes no difference to what comes
-pub came_same : {I A : Type 0} (left : I → Option (List ℕ)) (s m t : Arrivals I A) → CameFirst left s [] m
-    → t.input ≡ m.input → t.cutter ≡ m.cutter → t.ending ≡ m.ending → CameFirst left s [] t
-came_same left s m t first input cutter ending = record {
+pub came_same : {I A : Type 0} (left : I → Option (List ℕ)) (s m t : Arrivals I A) (given : List ArrivalParts) → CameFirst left s given m
+    → t.input ≡ m.input → t.cutter ≡ m.cutter → t.ending ≡ m.ending → CameFirst left s given t
+came_same left s m t given first input cutter ending = record {
   before = λ xs comes. first.before xs (comes.0, rw (ending, input) at comes.1, rw cutter at comes.2);
 }

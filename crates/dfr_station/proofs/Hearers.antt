@@ -185,8 +185,12 @@ module _ {I A : Type 0} (left : I → Option (List ℕ)) (by_clock : Bool) (ws :
   heard_quietly m t (coming.Arrival (arrival.Lost why)) steps far h = absurd h.2
   heard_quietly m t (coming.Arrival (arrival.Order line place order)) steps far h =
       one_came m t steps steps (came.Order line place (call_in order)) far (hears_order m t steps line place order h.1 h.2) h.0 (same_base m.scans t.scans h.1) (order_lane m t line place order h.2) (far.keeps ∙ sym (ap (λ (s : ScansParts). s.detected) h.1))
+  heard_quietly m t (coming.Arrival (arrival.Time line instant)) steps far h =
+      one_came m t steps steps (came.Time line instant) far (rw (h.1, h.2) refl) h.0 (same_base m.scans t.scans h.1) (same_lane m t h.2) (far.keeps ∙ sym (ap (λ (s : ScansParts). s.detected) h.1))
   heard_quietly m t (coming.Arrival (arrival.Skipped line why)) steps far h =
       one_came m t steps steps (came.Skips line why) far (rw (h.1, h.2) refl) h.0 (same_base m.scans t.scans h.1) (same_lane m t h.2) (far.keeps ∙ sym (ap (λ (s : ScansParts). s.detected) h.1))
+  heard_quietly m t (coming.Arrival arrival.Noise) steps far h =
+      one_came m t steps steps came.Noise far (rw (h.1, h.2) refl) h.0 (same_base m.scans t.scans h.1) (same_lane m t h.2) (far.keeps ∙ sym (ap (λ (s : ScansParts). s.detected) h.1))
   heard_quietly m t coming.Gap steps far h =
       none_came m t steps far (rw (h.1, h.2.1) refl) h.0 (same_base m.scans t.scans h.1) (same_lane m t h.2.1) (ap (λ (s : ScansParts). s.detected) h.1)
   heard_quietly m t coming.Read steps far h =
@@ -266,7 +270,9 @@ module _ {I A : Type 0} (left : I → Option (List ℕ)) (by_clock : Bool) (ws :
       let told = gives_lost m t m.scans.noted steps f far.same far.keeps h.0 h.1 in
       one_came m t steps (steps ++ steps_given (Ok f)) (came.Lost why) far told.0 hands (lost_base m.scans t.scans f h.0) (same_lane m t h.1) told.1
   heard_step m t (coming.Arrival (arrival.Order line place order)) f steps far hands h = absurd h
+  heard_step m t (coming.Arrival (arrival.Time line instant)) f steps far hands h = absurd h
   heard_step m t (coming.Arrival (arrival.Skipped line why)) f steps far hands h = absurd h
+  heard_step m t (coming.Arrival arrival.Noise) f steps far hands h = absurd h
   heard_step m t coming.Gap f steps far hands h =
       let told = gives_lost m t m.scans.noted steps f far.same far.keeps h.1 h.2 in
       gap_came m t steps (steps ++ steps_given (Ok f)) far h.0 told.0 hands (lost_base m.scans t.scans f h.1) (same_lane m t h.2) told.1
@@ -313,7 +319,9 @@ module _ {I A : Type 0} (left : I → Option (List ℕ)) (by_clock : Bool) (ws :
       (subst (λ (i : Arrivals I A). CameFirst left m.incoming (came.Lost why ∷ []) i) (sym (ap (λ (a : Acquired (Arrivals I A) A). a.incoming) loses.1)) hands)
       d.2 (same_lane m u orders) (keeps_dropped ws steps (step.Scan y) t.scans.detected u.scans.detected works told.1 loses.2.1)
   heard_drop m t u (coming.Arrival (arrival.Order line place order)) y steps far hands h loses = absurd h
+  heard_drop m t u (coming.Arrival (arrival.Time line instant)) y steps far hands h loses = absurd h
   heard_drop m t u (coming.Arrival (arrival.Skipped line why)) y steps far hands h loses = absurd h
+  heard_drop m t u (coming.Arrival arrival.Noise) y steps far hands h loses = absurd h
   heard_drop m t u coming.Gap y steps far hands h loses =
       let told = gives_lost m t m.scans.noted steps (fed.Scan y) far.same far.keeps h.1 h.2 in
       let d = counts_on (one_lost m.scans) (dropped t.scans) u.scans (dropped_lost m.scans t.scans y h.1) (same_dropped t.scans u.scans loses.2.0) in

@@ -29,7 +29,9 @@ module _ {I A : Type 0} (left : I → Option (List ℕ)) where
   quiet_one m t (coming.Arrival (arrival.Scan scan)) h = absurd h.2
   quiet_one m t (coming.Arrival (arrival.Lost why)) h = absurd h.2
   quiet_one m t (coming.Arrival (arrival.Order line place order)) h = of_order m t (m.orders.items ++ record { line = line; at = m.scans.came; order = order } ∷ []) h.2
+  quiet_one m t (coming.Arrival (arrival.Time line instant)) h = same_lane m t h.2
   quiet_one m t (coming.Arrival (arrival.Skipped line why)) h = same_lane m t h.2
+  quiet_one m t (coming.Arrival arrival.Noise) h = same_lane m t h.2
   quiet_one m t coming.Gap h = same_lane m t h.2.1
   quiet_one m t coming.Read h = same_lane m t h.2
   quiet_one m t coming.Drained h = same_lane m t h.2
@@ -43,7 +45,9 @@ module _ {I A : Type 0} (left : I → Option (List ℕ)) where
   step_one m t (coming.Arrival (arrival.Scan scan)) f h = same_lane m t h.1
   step_one m t (coming.Arrival (arrival.Lost why)) f h = same_lane m t h.1
   step_one m t (coming.Arrival (arrival.Order line place order)) f h = absurd h
+  step_one m t (coming.Arrival (arrival.Time line instant)) f h = absurd h
   step_one m t (coming.Arrival (arrival.Skipped line why)) f h = absurd h
+  step_one m t (coming.Arrival arrival.Noise) f h = absurd h
   step_one m t coming.Gap f h = same_lane m t h.2
   step_one m t coming.Read f h = absurd h
   step_one m t coming.Drained f h = absurd h

@@ -1,5 +1,6 @@
 pub mod Cutting
 pub mod Coming
+pub mod Counting
 pub mod Handing
 pub mod Acquired
 pub mod Hearers

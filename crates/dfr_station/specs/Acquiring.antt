@@ -107,14 +107,16 @@ abbrev pub ComesOf : Type 0 → Type 0 → Type 1
 ComesOf C A = C → Next A → C → Type 0
 
 -- what is no step: an order, which goes into a queue of 1,024 places (the first 1,024 orders have one), with the number of scans before it;
--- a line that is skipped; bytes were read; or all that was read was given. A gap is none where the clock doesn't date the scans
+-- a line that tells the time, or is skipped; bytes that are no frame; bytes were read; or all that was read was given. A gap is none where the clock doesn't date the scans
 abbrev pub QuietlyBy : {C A : Type 0} → Acquired C A → Next A → Acquired C A → Type 0
 QuietlyBy s (coming.Arrival (arrival.Scan scan)) t = ⊥
 QuietlyBy s (coming.Arrival (arrival.Lost why)) t = ⊥
 QuietlyBy s (coming.Arrival (arrival.Order line place order)) t =
     (t.orders ≡ record s.orders { items = s.orders.items ++ record { line = line; at = s.scans.came; order = order } ∷ [] })
     ⊎ ((t.orders ≡ s.orders) × (1_024 ≤ length s.orders.items))
+QuietlyBy s (coming.Arrival (arrival.Time line instant)) t = t.orders ≡ s.orders
 QuietlyBy s (coming.Arrival (arrival.Skipped line why)) t = t.orders ≡ s.orders
+QuietlyBy s (coming.Arrival arrival.Noise) t = t.orders ≡ s.orders
 QuietlyBy s coming.Gap t = (s.scans.by_clock ≡ false) × (t.orders ≡ s.orders)
 QuietlyBy s coming.Read t = t.orders ≡ s.orders
 QuietlyBy s coming.Drained t = t.orders ≡ s.orders
@@ -128,13 +130,15 @@ abbrev pub Steps : {C A : Type 0} → Acquired C A → Next A → Fed A → Acqu
 Steps s (coming.Arrival (arrival.Scan scan)) x t = GivesScan s.scans scan x t.scans × (t.orders ≡ s.orders)
 Steps s (coming.Arrival (arrival.Lost why)) x t = GivesLost s.scans x t.scans × (t.orders ≡ s.orders)
 Steps s (coming.Arrival (arrival.Order line place order)) x t = ⊥
+Steps s (coming.Arrival (arrival.Time line instant)) x t = ⊥
 Steps s (coming.Arrival (arrival.Skipped line why)) x t = ⊥
+Steps s (coming.Arrival arrival.Noise) x t = ⊥
 Steps s coming.Gap x t = (s.scans.by_clock ≡ true) × GivesLost s.scans x t.scans × (t.orders ≡ s.orders)
 Steps s coming.Read x t = ⊥
 Steps s coming.Drained x t = ⊥
 Steps s (coming.End ending) x t = ⊥
 
--- bytes were read: nothing is given yet, and the scans stay as they are
+-- bytes were read, or the time was told: nothing is given yet, and the scans stay as they are
 abbrev pub FindsGap : {I A : Type 0} → Acquired (Arrivals I A) A → Acquired (Arrivals I A) A → Type 0
 FindsGap s t =
     (t ≡ record s { incoming = t.incoming }) × (t.incoming.input ≡ s.incoming.input) × (t.incoming.cutter ≡ s.incoming.cutter)

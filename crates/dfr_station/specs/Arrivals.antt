@@ -46,9 +46,9 @@ HandsNext left s (next.End ending.Broken) t = CameFirst left s [] t
 HandsNext left s (next.End ending.Whole) t = ComesNext left s [] × EndsWith ending.Whole t.cutter.buffer
 HandsNext left s (next.End (ending.Cut count)) t = ComesNext left s [] × EndsWith (ending.Cut count) t.cutter.buffer
 
--- bytes are read only once no lost scan of a gap is left to hand out
+-- what came is handed out, and bytes are read, only once no lost scan of a gap is left to hand out
 abbrev pub ReadsAfterGap : {I A : Type 0} → Next A → Arrivals I A → Type 0
-ReadsAfterGap (next.Arrival a) t = ⊤
+ReadsAfterGap (next.Arrival a) t = t.gap ≡ 0
 ReadsAfterGap next.Gap t = ⊤
 ReadsAfterGap next.Read t = t.gap ≡ 0
 ReadsAfterGap next.Drained t = ⊤

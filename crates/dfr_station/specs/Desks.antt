@@ -117,6 +117,7 @@ RefusesByte count skipped.Number = ⊥
 RefusesByte count skipped.NoChannel = ⊥
 RefusesByte count skipped.TooMany = ⊥
 RefusesByte count skipped.Busy = ⊥
+RefusesByte count skipped.Undated = ⊥
 
 -- one more byte of a line: it stands at its end; or the line is refused, from then on
 abbrev pub TakesByte : {A : Type 0} → Option Skipped → Operator A → ℕ → Option Skipped → Operator A → Type 0

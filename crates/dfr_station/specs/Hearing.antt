@@ -44,7 +44,9 @@ HearsIn ws layout s (came.Scan scan) t = HearsScan ws layout s scan t
 HearsIn ws layout s (came.Lost why) t = HearsLost ws layout s t
 HearsIn ws layout s (came.Order line at call) t =
     (t ≡ record s { orders = s.orders ++ came.Order line s.came call ∷ [] }) ⊎ ((t ≡ s) × (1_024 ≤ length s.orders))
+HearsIn ws layout s (came.Time line instant) t = t ≡ s
 HearsIn ws layout s (came.Skips line why) t = t ≡ s
+HearsIn ws layout s came.Noise t = t ≡ s
 
 -- what is heard: what came with the input, or that it stood still for the time of one scan
 pub data Sign : Type 0 where

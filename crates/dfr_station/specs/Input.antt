@@ -1,11 +1,12 @@
--- What comes with the whole input: the arrivals of its frames, or of its lines, in order.
+-- What comes with the whole input: the arrivals of its frames, counted or not, or of its lines, in order.
 use Rattle.std.specs.Prelude.{◌≡◌, ◌⊎◌, ℕ, ◌+◌, ◌-◌, ◌^◌, ◌≤◌, ◌<◌, min, Bool, true, false, List, [], ◌∷◌, ◌++◌, length, take, drop, Option, Some, None}
 use Rattle.std.specs.List.{slice_split}
 use Rattle.std.specs.Io.KnownBytes.{Keeps, Consumes, IsAtEnd}
 use Rattle.comtrade_values.specs.Lines.{without_cr}
 use Rattle.dfr_channels.specs.Parts.{SetupParts}
+use Rattle.dfr_station.specs.Counted.{PartsGive, parts_in}
 use Rattle.dfr_station.specs.Frames.{frame_len}
-use Rattle.dfr_station.specs.Lines.{ArrivalParts, Scan, Lost, Order, Skips, parts_of, FrameMeans, LineMeans, refused, is_feed}
+use Rattle.dfr_station.specs.Lines.{ArrivalParts, Scan, Lost, Order, Time, Skips, Noise, parts_of, FrameMeans, LineMeans, refused, is_feed}
 use Rattle.dfr_station.specs.declared.event.Skipped.TheVariants as skipped
 use Rattle.dfr_station.specs.declared.intake.feed.Why.TheVariants as why
 use Rattle.dfr_station.specs.declared.intake.arrival.Arrival.{Arrival}
@@ -56,7 +57,9 @@ scans_after came [] = came
 scans_after came (Scan scan ∷ xs) = scans_after (one_more came) xs
 scans_after came (Lost why ∷ xs) = scans_after (one_more came) xs
 scans_after came (Order line at order ∷ xs) = scans_after came xs
+scans_after came (Time line instant ∷ xs) = scans_after came xs
 scans_after came (Skips line why ∷ xs) = scans_after came xs
+scans_after came (Noise ∷ xs) = scans_after came xs
 
 -- ---- frames
 
@@ -95,13 +98,16 @@ LinesGive layout n came (piece ∷ pieces) xs =
 
 -- ---- the input, wherever its reading stands
 
--- `owed`: the line handed out last is a lost scan as well; `skipping`: the rest of a line that was too long comes first
+-- `owed`: the line handed out last is a lost scan as well; `skipping`: the rest of a line that was too long comes first; `due`: the counter of
+-- the frame that is to come next; `noisy`: the bytes before were no frame, which was handed out
 pub record ReadingParts : Type 0 where
   pub form : Input
   pub came : ℕ
   pub lines : ℕ
   pub owed : Bool
   pub skipping : Bool
+  pub due : Option ℕ
+  pub noisy : Bool
 
 -- the pieces that are lines: not the rest of one that was too long
 abbrev pub lines_left : Bool → List ℕ → List (List ℕ)
@@ -116,6 +122,7 @@ OwedGive layout s pieces false xs = LinesGive layout (one_more s.lines) s.came p
 
 abbrev pub FormGives : SetupParts → ReadingParts → List ℕ → Input → List ArrivalParts → Type 0
 FormGives layout s bytes (form.Frames l) xs = FramesGive layout l bytes xs
+FormGives layout s bytes (form.Counted l) xs = PartsGive layout l s.due (parts_in (frame_size layout) 0 s.noisy bytes) xs
 FormGives layout s bytes form.Lines xs = OwedGive layout s (lines_left s.skipping bytes) s.owed xs
 
 -- what the bytes that are to come give, all up to the input's end
@@ -125,7 +132,8 @@ Comes layout s bytes xs = FormGives layout s bytes s.form xs
 -- ---- the bytes that wait
 
 abbrev pub reading_of : {A : Type 0} → Cutter A → ReadingParts
-reading_of c = record { form = c.form; came = c.came; lines = c.lines; owed = c.is_owed; skipping = c.is_skipping }
+reading_of c =
+    record { form = c.form; came = c.came; lines = c.lines; owed = c.is_owed; skipping = c.is_skipping; due = c.due; noisy = c.is_noisy }
 
 -- what comes with the bytes that wait and then these, up to the input's end
 abbrev pub ComesOver : {A : Type 0} → Cutter A → List ℕ → List ArrivalParts → Type 0

@@ -1,10 +1,13 @@
 -- What a line of the input means, and what a frame.
 use Rattle.std.specs.Prelude.{◌≡◌, ◌⊎◌, ℕ, ◌+◌, ◌==◌, Bool, false, not, ◌&&◌, ◌||◌, nat_lt, if◌then◌else◌, List, [], ◌∷◌, ◌++◌, length, All, Option, Some, None, Result, Ok, Err, codes}
-use Rattle.std.specs.List.{before_first, list_all, list_any}
+use Rattle.std.specs.List.{before_first, after_first, list_all, list_any}
 use Rattle.std.specs.Str.{bytes_eq}
+use Rattle.comtrade_values.specs.Fields.{up_to}
 use Rattle.comtrade_values.specs.Lines.{without_cr}
+use Rattle.comtrade_values.specs.Spelling.{trimmed, whole_number}
 use Rattle.dfr_channels.specs.Parts.{ScanParts, SetupParts}
 use Rattle.dfr_channels.specs.Scans.{scan_fault}
+use Rattle.dfr_channels.specs.Setups.{end_of_time}
 use Rattle.dfr_channels.specs.Firing.{rules_fault}
 use Rattle.dfr_channels.specs.declared.layout.ScanFault.{ScanFault}
 use Rattle.dfr_channels.specs.declared.layout.ScanFault.TheVariants as unfit
@@ -31,19 +34,24 @@ use Rattle.dfr_station.specs.declared.intake.line.Meaning.{Meaning}
 use Rattle.dfr_station.specs.declared.intake.line.Meaning.TheVariants as meaning
 use Rattle.dfr_station.specs.declared.station.Lowest.{Lowest}
 
--- what came: a scan that fits, a lost one, an order with the number of its line and of the scans before it, a line that is skipped
+-- what came: a scan that fits, a lost one, an order with the number of its line and of the scans before it, the number of a line and the
+-- instant that it tells of the next scan, a line that is skipped, bytes that are no frame
 pub data ArrivalParts : Type 0 where
   Scan : ScanParts → ArrivalParts
   Lost : Why → ArrivalParts
   Order : ℕ → ℕ → CallParts → ArrivalParts
+  Time : ℕ → ℕ → ArrivalParts
   Skips : ℕ → Skipped → ArrivalParts
+  Noise : ArrivalParts
 
 -- what came, whatever its allocator is
 abbrev pub parts_of : {A : Type 0} → Arrival A → ArrivalParts
 parts_of (arrival.Scan scan) = Scan scan
 parts_of (arrival.Lost lost) = Lost lost
 parts_of (arrival.Order line at order) = Order line at (call_in order)
+parts_of (arrival.Time line instant) = Time line instant
 parts_of (arrival.Skipped line skips) = Skips line skips
+parts_of arrival.Noise = Noise
 
 -- ---- scans
 
@@ -97,16 +105,16 @@ first_word line = before_first ends_word line
 abbrev pub is_scan_line : List ℕ → Bool
 is_scan_line line = bytes_eq (first_word line) (codes "scan") || bytes_eq (first_word line) (codes "lost")
 
--- the words of the script language with which no scan line begins
+-- the other words of the input, and those of the script language, with which no scan line begins
 abbrev pub other_words : List (List ℕ)
 other_words =
-    codes "trigger" ∷ codes "rules" ∷ codes "take" ∷ codes "go" ∷ codes "station" ∷ codes "device" ∷ codes "analog"
+    codes "time" ∷ codes "trigger" ∷ codes "rules" ∷ codes "take" ∷ codes "go" ∷ codes "station" ∷ codes "device" ∷ codes "analog"
     ∷ codes "status" ∷ codes "freq" ∷ codes "rate" ∷ codes "start" ∷ codes "limits" ∷ []
 
 abbrev pub is_blank : ℕ → Bool
 is_blank b = (b == 32) || ((b == 9) || (b == 13))
 
--- neither blank nor a comment, and its first word is none of the script language
+-- neither blank nor a comment, and its first word is none of these
 unfoldable pub is_damaged : List ℕ → Bool
 is_damaged line =
     not (is_comment line) && not (list_all is_blank line)
@@ -120,6 +128,23 @@ refused n came line skips lost =
     if is_scan_line line then Lost lost ∷ []
     else if nat_lt 0 came && is_damaged line then Skips n skips ∷ Lost why.Unread ∷ []
     else Skips n skips ∷ []
+
+-- ---- lines that tell the time
+
+abbrev pub tells_time : List ℕ → Bool
+tells_time line = bytes_eq (first_word line) (codes "time")
+
+-- what stands behind the first word, without the blanks around it
+unfoldable pub behind_word : List ℕ → List ℕ
+behind_word line = trimmed (after_first ends_word line)
+
+-- microseconds since 1970-01-01 00:00:00 UTC, up to the end of the year 9999
+unfoldable pub told_instant : List ℕ → Option ℕ
+told_instant text = up_to end_of_time (whole_number text)
+
+abbrev pub of_time : ℕ → Option ℕ → ArrivalParts
+of_time n None = Skips n skipped.Number
+of_time n (Some instant) = Time n instant
 
 -- ---- lines
 
@@ -144,12 +169,17 @@ of_command layout n came command.Trigger = Order n came call.Trigger
 of_command layout n came command.Take = Skips n skipped.Word
 of_command layout n came (command.Rules line list) = of_rules (rules_fault layout list) line came list
 
+-- line n is no command: it tells the time of the next scan, or it can't be read
+abbrev pub no_command : ℕ → ℕ → List ℕ → LineFault → List ArrivalParts
+no_command n came line fault =
+    if tells_time line then of_time n (told_instant (behind_word line)) ∷ [] else refused n came line (skipped_of_line fault) why.Unread
+
 abbrev pub said : SetupParts → ℕ → ℕ → List ℕ → Result (Option CommandParts) LineFault → List ArrivalParts
 said layout n came line (Ok None) = []
 said layout n came line (Ok (Some c)) = of_command layout n came c ∷ []
-said layout n came line (Err fault) = refused n came line (skipped_of_line fault) why.Unread
+said layout n came line (Err fault) = no_command n came line fault
 
--- what line n says, after so many scans: the same as after the `go` of a script, but that `take` is skipped
+-- what line n says, after so many scans: the same as after the `go` of a script, but that `take` is skipped, and `time` tells the time
 abbrev pub line_says : SetupParts → ℕ → ℕ → List ℕ → List ArrivalParts
 line_says layout n came line = said layout n came line (command_line n line)
 

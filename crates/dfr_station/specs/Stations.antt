@@ -42,7 +42,7 @@ IsFresh layout parts =
 abbrev pub Begins : {I A : Type 0} → SetupParts → Input → List ℕ → I → Arrivals I A → Type 0
 Begins layout form bytes input s =
     (s.input ≡ input) × (s.cutter.layout.now ≡ layout) × (s.cutter.buffer ≡ bytes) × (s.ending ≡ None)
-    × (reading_of s.cutter ≡ record { form = form; came = 0; lines = 0; owed = false; skipping = false })
+    × (reading_of s.cutter ≡ record { form = form; came = 0; lines = 0; owed = false; skipping = false; due = None; noisy = false })
 
 -- A run from an input to a store. As `dfr_live` has it, over the three devices of a station: the acquisition gave a step for each scan that
 -- came, one list has the steps of all, with the orders of the desk, which are all

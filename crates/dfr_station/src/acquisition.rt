@@ -125,8 +125,14 @@ impl<'s, 'x, I, R, A: Allocator + Copy> Acquisition<'s, 'x, I, R, A> {
                 }
                 None
             }
+            // the loop below hears it
+            Arrival::Time { .. } => None,
             Arrival::Skipped { line, why } => {
                 self.skip(line, why);
+                None
+            }
+            Arrival::Noise => {
+                self.scans.tell(Event::Noise(self.scans.came()));
                 None
             }
         }
@@ -158,6 +164,19 @@ impl<'s, 'x, I, R, A: Allocator + Copy> Acquisition<'s, 'x, I, R, A> {
     }
 }
 
+impl<I, R: Wait, A: Allocator + Copy> Acquisition<'_, '_, I, R, A> {
+    /// A line tells the time of the next scan. If scans are missing before it, lost ones come first.
+    fn hear_time(&mut self, line: u64, instant: u64)
+        requires none { self.old.incoming.gap ≡ 0 }
+        ensures { FindsGap self.old self.new }
+    {
+        match self.scans.hear_time(self.rt, instant) {
+            Some(lost) => self.arrivals.stand_still(lost),
+            None => self.skip(line, Skipped::Undated),
+        }
+    }
+}
+
 impl<I: Read, R: Wait + Clock, A: Allocator + Copy> Intake<A, Recording>
     for Acquisition<'_, '_, I, R, A> {
     ghost use Rattle.dfr_station.specs.Acquiring.{AcquisitionGives, AcquisitionLoses};
@@ -172,6 +191,7 @@ impl<I: Read, R: Wait + Clock, A: Allocator + Copy> Intake<A, Recording>
         self.scans.settle();
         for _ in self.rt.forever() {
             match self.arrivals.next(self.rt, spare) {
+                Next::Arrival(Arrival::Time { line, instant }) => self.hear_time(line, instant),
                 Next::Arrival(arrival) => {
                     if let Some(fed) = self.step_of(arrival) {
                         return Ok(fed);

@@ -21,6 +21,8 @@ pub enum Skipped {
     Long,
     /// The queue of orders is full.
     Busy,
+    /// It tells the time, and the clock doesn't date the scans.
+    Undated,
     /// An allocation failed.
     Memory,
 }
@@ -154,6 +156,8 @@ pub enum Event {
     Unfinished,
     /// The input ended within a frame, of which so many bytes came.
     Cut(u64),
+    /// After so many scans, bytes came that are no counted frame. The next one is looked for.
+    Noise(u64),
     /// The input can't be read any more; recording ends.
     Broken,
     /// An allocation failed. What needed it is tried again.
@@ -174,6 +178,9 @@ pub enum Event {
         missed: u64,
         clock: Option<ClockState>,
     },
+    /// Records were to have the dates of the clock, but it could not be read with the first scan: they
+    /// have the instants of the rate.
+    Undated,
     /// The wall clock was set, by so many microseconds; below 0 if it was set back.
     ClockSet(i64),
     /// Recording ended: scans, lost scans among them, records written, and `left`, the scans for

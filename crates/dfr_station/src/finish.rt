@@ -142,9 +142,7 @@ fn stored<A: Allocator + Copy, K: Store, P: Printer, R: Wait + Clock>(
                 if trouble.is_storm() {
                     return Err(trouble);
                 }
-                if told != Some(trouble) {
-                    print_one(rt, printer, Event::Trouble(trouble));
-                }
+                tell_trouble(rt, told, trouble, printer);
                 told = Some(trouble);
                 pause_before(rt, tries);
             }
@@ -155,7 +153,24 @@ fn stored<A: Allocator + Copy, K: Store, P: Printer, R: Wait + Clock>(
             tell_over(rt, told, printer);
             Ok(stored)
         }
-        Err(last) => Err(last),
+        Err(last) => {
+            if !last.is_storm() {
+                tell_trouble(rt, told, last, printer);
+            }
+            Err(last)
+        }
+    }
+}
+
+/// Reports a trouble that is not the one that was told last.
+fn tell_trouble<P: Printer, R: Clock>(
+    rt: &R,
+    told: Option<Trouble>,
+    trouble: Trouble,
+    printer: &mut P,
+) {
+    if told != Some(trouble) {
+        print_one(rt, printer, Event::Trouble(trouble));
     }
 }
 

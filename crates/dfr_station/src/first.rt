@@ -5,7 +5,7 @@ ghost use Rattle.std.specs.Prelude.{◌≡◌, ◌≤◌, ◌-◌, ◌*◌, ◌/
 ghost use Rattle.std.specs.Io.KnownBytes.{Consumes};
 ghost use Rattle.dfr_station.specs.Input.{Grows};
 
-use crate::intake::{Buffer, ROOM, is_damaged, is_scan_line};
+use crate::intake::{Buffer, ROOM, is_damaged, is_scan_line, scans_counted};
 use crate::meanwhile::{Before, Meanwhile, report};
 use crate::moment::Moment;
 use crate::reading::Given;
@@ -49,6 +49,9 @@ fn dated_back(at: u64, scans: u64, rate: u32) -> u64
 }
 
 impl<A: Allocator> First<A> {
+    ghost use Rattle.std.specs.Prelude.{◌≡◌};
+    ghost use Rattle.dfr_station.specs.Dated.{is_followed};
+
     /// The instant of scan 0, in microseconds since 1970-01-01 00:00:00 UTC. The newest scan that
     /// came with it has the instant of the read.
     pub fn start(&self, rate: u32) -> i64 {
@@ -62,6 +65,21 @@ impl<A: Allocator> First<A> {
             Ok(start) => start,
             Err(_) => self.at.at,
         }
+    }
+
+    /// Whether the clock can date the scans: it was read when the first one had come.
+    pub fn is_followed(&self) -> bool
+        ensures { result ≡ is_followed self.now.clocks }
+    {
+        match self.clocks {
+            Some(reading) => reading.scans > 0,
+            None => false,
+        }
+    }
+
+    /// Whether the input ended before a scan came.
+    pub fn is_empty(&self) -> bool {
+        self.is_all && self.scans == 0
     }
 }
 
@@ -79,8 +97,9 @@ fn scans_in_lines(text: &[u8]) -> u64 {
     scans
 }
 
-/// How many scans have come whole. `frame` is the size of a frame in bytes.
-pub(crate) fn scans_in(form: Input, frame: usize, bytes: &[u8]) -> u64 {
+/// How many scans have come whole. `frame` is the size of a frame in bytes, and `due` the counter of
+/// the counted frame that is to come next.
+pub(crate) fn scans_in(form: Input, frame: usize, due: Option<u16>, bytes: &[u8]) -> u64 {
     match form {
         Input::Frames(_) => {
             if frame == 0 {
@@ -89,6 +108,7 @@ pub(crate) fn scans_in(form: Input, frame: usize, bytes: &[u8]) -> u64 {
                 (bytes.len() / frame) as u64
             }
         }
+        Input::Counted(_) => scans_counted(due, frame, bytes),
         Input::Lines => scans_in_lines(bytes),
     }
 }
@@ -125,7 +145,7 @@ fn read_on<A: Allocator, I: Read, R: Wait + Clock>(
     reading.first.at = Moment::now(rt);
     let bytes = reading.first.buffer.waiting();
     let len = bytes.len();
-    let scans = scans_in(form, frame, bytes);
+    let scans = scans_in(form, frame, None, bytes);
     reading.first.scans = scans;
     reading.first.clocks = reading.first.at.reading(scans);
     scans == 0 && len < ROOM / 2

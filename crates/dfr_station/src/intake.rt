@@ -5,6 +5,8 @@
 mod arrival;
 mod arrivals;
 mod buffer;
+mod counted;
+mod counted_cutter;
 mod cutter;
 mod ended;
 mod feed;
@@ -15,6 +17,8 @@ mod line;
 pub(crate) use arrival::Arrival;
 pub(crate) use arrivals::{Arrivals, Ending, Next};
 pub use buffer::{Buffer, ROOM};
+pub use counted::HEAD;
+pub(crate) use counted::scans_counted;
 pub use ended::{Counts, Recorded, RunFault};
 pub use feed::Why;
 pub(crate) use feed::missing_scan;

@@ -4,7 +4,7 @@ use crate::event::Event;
 use crate::intake::Why;
 
 /// How many kinds of reasons there are.
-pub(crate) const KINDS: usize = 7;
+pub(crate) const KINDS: usize = 8;
 
 /// Lost scans: the places of the first and the last, how many there are, and why the first was
 /// lost.
@@ -67,6 +67,7 @@ pub(crate) struct Pending {
     range: Option<Losses>,
     full: Option<Losses>,
     memory: Option<Losses>,
+    counted: Option<Losses>,
     silent: Option<Losses>,
 }
 
@@ -79,6 +80,7 @@ impl Pending {
         range: None,
         full: None,
         memory: None,
+        counted: None,
         silent: None,
     };
 
@@ -91,6 +93,7 @@ impl Pending {
             Why::Range(_) => self.range = Some(joined(self.range, later)),
             Why::Full => self.full = Some(joined(self.full, later)),
             Why::Memory => self.memory = Some(joined(self.memory, later)),
+            Why::Counted => self.counted = Some(joined(self.counted, later)),
             Why::Silent => self.silent = Some(joined(self.silent, later)),
         }
     }
@@ -114,6 +117,9 @@ impl Pending {
         }
         if self.memory.is_some() {
             return self.memory.take();
+        }
+        if self.counted.is_some() {
+            return self.counted.take();
         }
         self.silent.take()
     }

@@ -35,6 +35,7 @@ fn skipped_word(why: Skipped) -> &'static str {
         Skipped::TooMany => "too-many",
         Skipped::Long => "long",
         Skipped::Busy => "busy",
+        Skipped::Undated => "undated",
         Skipped::Memory => "memory",
     }
 }
@@ -58,6 +59,7 @@ fn put_why<A: Allocator>(out: &mut Vec<u8, A>, why: Why) -> Result<(), AllocErro
         Why::Range(channel) => put_with(out, "range ", channel as u64),
         Why::Full => put(out, "full"),
         Why::Memory => put(out, "memory"),
+        Why::Counted => put(out, "counted"),
         Why::Silent => put(out, "silent"),
     }
 }
@@ -270,10 +272,12 @@ fn put_what<A: Allocator>(out: &mut Vec<u8, A>, event: Event) -> Result<(), Allo
         Event::Removed(count) => put_with(out, "removed ", count),
         Event::Unfinished => put(out, "unfinished record"),
         Event::Cut(bytes) => put_with(out, "cut frame ", bytes),
+        Event::Noise(at) => put_with(out, "noise after ", at),
         Event::Broken => put(out, "input broken"),
         Event::Memory => put(out, "memory"),
         Event::Silent(seconds) => put_with(out, "silent ", seconds),
         Event::Heard => put(out, "silent over"),
+        Event::Undated => put(out, "undated"),
         Event::ClockSet(micros) => put_seconds(out, "clock set ", micros),
         Event::Missed(count) => put_with(out, "missed lines ", count),
         Event::Minute {

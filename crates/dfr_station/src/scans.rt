@@ -20,8 +20,8 @@ use dfr_detect::Detectors;
 use dfr_live::Fed;
 use std::alloc::{Allocator, Global};
 use std::marker::Model;
-use std::sync::Mutex;
 use std::sync::atomic::Ordering;
+use std::sync::{Mutex, Wait};
 
 /// After so many lost scans in a row the place of the next one is filled with a scan of its own: the
 /// recorder makes the steps of lost scans only once a scan follows them.
@@ -328,6 +328,20 @@ impl<'s, A: Allocator + Copy> Scans<'s, A> {
             return answer.lost;
         }
         0
+    }
+
+    /// The converter tells that the next scan has this instant, in microseconds since 1970-01-01
+    /// 00:00:00 UTC. Returns how many lost scans come before it; None if the clock doesn't date scans.
+    pub(crate) fn hear_time<R: Wait>(&mut self, rt: &R, instant: u64) -> Option<u32>
+        ensures same { self.new ≡ self.old }
+        ensures dated { is_some result ≡ self.old.by_clock }
+    {
+        let times = self.times?;
+        let answer = times.lock(rt).told(self.came, instant);
+        if let Some(jump) = answer.jump {
+            self.teller.tell(Event::ClockSet(micros_of(jump)));
+        }
+        Some(answer.lost)
     }
 
     /// Reports the losses, and publishes the counts to the other threads. The newest scan came with a

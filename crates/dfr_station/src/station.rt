@@ -67,6 +67,8 @@ pub enum Input {
     Lines,
     /// Frames of bytes.
     Frames(Lowest),
+    /// Frames of bytes, each with a mark, a checksum and a counter before it.
+    Counted(Lowest),
 }
 
 /// A recorder, and how to run it.

@@ -216,7 +216,8 @@ where
     start_watch(rt, place)?;
     start_following(rt, following)?;
     let frame = plan.frame_in(asked.input);
-    let source = source_of(rt, &operator, frame.is_some(), plan.frame)?;
+    let (has_pieces, size) = plan.pieces_in(asked.input);
+    let source = source_of(rt, &operator, has_pieces, size)?;
     let mut last = None;
     if let Some((file, other)) = health {
         start_health(rt, file)?;

@@ -16,6 +16,8 @@ Exit status: 0 recorded to the end of the input; 1 an error; 2 usage error.";
 
 static KINDS: [&str; 2] = ["ascii", "binary"];
 
+static FRAMES: [&str; 2] = ["raw", "counted"];
+
 static TIMES: [&str; 2] = ["clock", "rate"];
 
 /// A required argument.
@@ -62,7 +64,7 @@ fn with_pace<'a>(alloc: Global, command: Command<'a>) -> Result<Command<'a>, All
     with(one, flag(alloc, "no-wait", no_wait))
 }
 
-/// Adds `--kind`, `--raw`, `--clip`, `--start`, `--time` and `--gap`.
+/// Adds `--kind`, `--raw`, `--frames`, `--clip`, `--start`, `--time` and `--gap`.
 fn with_forms<'a>(alloc: Global, command: Command<'a>) -> Result<Command<'a>, AllocError> {
     let kind = choice(
         alloc,
@@ -76,7 +78,10 @@ fn with_forms<'a>(alloc: Global, command: Command<'a>) -> Result<Command<'a>, Al
         one,
         flag(alloc, "raw", "Read scans as frames of bytes, not as lines"),
     )?;
-    let clip = "With --raw, take a sample of -32768 as -32767, not as missing";
+    let frames = "Read scans as frames: raw, as --raw, or counted, each with a mark and a counter";
+    let frames = choice(alloc, "frames", "FRAMES", frames).value_parser(FRAMES.as_slice());
+    let two = with(two, frames)?;
+    let clip = "With frames, take a sample of -32768 as -32767, not as missing";
     let two = with(two, flag(alloc, "clip", clip))?;
     let start =
         "The time of the first scan: now (default) or microseconds since 1970-01-01 00:00:00 UTC";

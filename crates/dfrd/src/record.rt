@@ -11,7 +11,7 @@ use dfr_folder::Keep;
 use dfr_health::put_escaped;
 use dfr_setup::{Prepared, prepared_of};
 use dfr_station::{
-    Control, Input, Printer, Run, Station, Store, finish_station, read_first, run_station,
+    Control, Event, Input, Printer, Run, Station, Store, finish_station, now, read_first, run_station,
 };
 use std::alloc::Global;
 use std::fs;
@@ -40,13 +40,25 @@ pub(crate) struct Plan {
 }
 
 impl Plan {
-    /// The size of a frame, if the input has frames.
+    /// The size of a frame, if the input has frames without anything between them.
     pub(crate) fn frame_in(&self, input: Input) -> Option<usize>
         ensures { IfSome result (λ size. 0 < size) }
     {
         match input {
             Input::Frames(_) => Some(self.frame),
-            Input::Lines => None,
+            Input::Counted(_) | Input::Lines => None,
+        }
+    }
+
+    /// Whether the input comes in pieces of one size, and that size. Counted frames may begin at any
+    /// byte.
+    pub(crate) fn pieces_in(&self, input: Input) -> (bool, usize)
+        ensures { 0 < result.1 }
+    {
+        match input {
+            Input::Frames(_) => (true, self.frame),
+            Input::Counted(_) => (true, 1),
+            Input::Lines => (false, self.frame),
         }
     }
 }
@@ -195,6 +207,8 @@ pub(crate) fn record<
     let waits = waits(rt, asked);
     if !asked.has_dates(waits) {
         first.clocks = None;
+    } else if !first.is_followed() && !first.is_empty() {
+        printer.print(now(rt), Event::Undated);
     }
     match prepared_of(rt.alloc(), &plan.setup, start) {
         Ok(prepared) => {

@@ -136,13 +136,20 @@ fn kind_of(found: &ArgMatches<'_>) -> Kind {
     }
 }
 
-/// The form of the input: frames with `--raw`, else lines. The error is the text of a usage error.
+/// The form of the input: frames with `--raw` or `--frames`, else lines. The error is the text of a
+/// usage error.
 fn input_of(found: &ArgMatches<'_>) -> Result<Input, &'static str> {
-    match (found.get_flag("raw"), found.get_flag("clip")) {
-        (true, true) => Ok(Input::Frames(Lowest::Clipped)),
-        (true, false) => Ok(Input::Frames(Lowest::Missing)),
-        (false, true) => Err("error: --clip needs --raw\n"),
-        (false, false) => Ok(Input::Lines),
+    let lowest = if found.get_flag("clip") {
+        Lowest::Clipped
+    } else {
+        Lowest::Missing
+    };
+    match (found.get_flag("raw"), found.get_str("frames")) {
+        (true, Some(_)) => Err("error: --raw cannot be combined with --frames\n"),
+        (true, None) | (false, Some("raw")) => Ok(Input::Frames(lowest)),
+        (false, Some(_)) => Ok(Input::Counted(lowest)),
+        (false, None) if found.get_flag("clip") => Err("error: --clip needs --raw or --frames\n"),
+        (false, None) => Ok(Input::Lines),
     }
 }
 

@@ -124,13 +124,26 @@ fn the_converter_tells_the_time(rt: HostRuntime) {
         assert!(rt; false, "memory");
         return;
     };
-    let lost = timebase.told(1_500, 1_000_001_234_567);
-    assert!(rt; lost == 0);
+    // scan 1,500 was due at 1.5 s
+    let answer = timebase.told(1_500, 1_000_001_234_567);
+    let set_back = Answer {
+        lost: 0,
+        jump: Some(Jump::Back(265_433)),
+    };
+    assert!(rt; answer == set_back);
     assert!(rt; timebase.instant(1_500) == 1_000_001_234_567);
     assert!(rt; timebase.instant(2_500) == 1_000_002_234_567);
     let answer = timebase.read(reading(3_001, 9_000_000, 0));
     assert!(rt; answer == NOTHING);
     assert!(rt; timebase.instant(2_500) == 1_000_002_234_567);
+    // three seconds more than a thousand scans take: three thousand are missing
+    let answer = timebase.told(2_500, 1_000_005_234_567);
+    let gap = Answer {
+        lost: 3_000,
+        jump: None,
+    };
+    assert!(rt; answer == gap);
+    assert!(rt; timebase.instant(5_500) == 1_000_005_234_567);
 }
 
 #[test]

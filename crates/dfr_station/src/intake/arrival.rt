@@ -18,8 +18,13 @@ pub enum Arrival<A: Allocator = Global> {
     Lost(Why),
     /// An order: the number of its line, from 1, and how many scans came before it.
     Order { line: u64, at: u64, order: Order<A> },
+    /// The number of a line, from 1, and the instant that it tells of the next scan, in microseconds
+    /// since 1970-01-01 00:00:00 UTC.
+    Time { line: u64, instant: u64 },
     /// The number of a line, from 1, that is skipped, and why.
     Skipped { line: u64, why: Skipped },
+    /// Bytes that are no frame, where counted frames come. The next one is looked for.
+    Noise,
 }
 
 /// Why a scan is lost that doesn't fit the layout.

@@ -121,6 +121,7 @@ impl<'x, I, A: Allocator + Copy> Arrivals<'x, I, A> {
 impl<I: Read, A: Allocator + Copy> Arrivals<'_, I, A> {
     /// What comes next of what was read. None if more has to be read.
     fn next_read(&mut self, spare: &mut Option<Scan<A>>) -> Option<Next<A>>
+        requires none { self.old.gap ≡ 0 }
         ensures next { MatchOption result (spec.IsDrained I.remaining self.old self.new)
             (λ next. spec.HandsNext I.remaining self.old next self.new) }
         ensures gap { MatchOption result (self.new.gap ≡ self.old.gap)

@@ -31,6 +31,10 @@ pub(crate) struct Cutter<'x, A: Allocator = Global> {
     pub(crate) is_owed: bool,
     /// The bytes begin with the rest of a line that was too long and was refused.
     pub(crate) is_skipping: bool,
+    /// The counter of the counted frame that is to come next. None before the first one.
+    pub(crate) due: Option<u16>,
+    /// The bytes before were no counted frame, which was handed out.
+    pub(crate) is_noisy: bool,
 }
 
 impl<'x, A: Allocator + Copy> Cutter<'x, A> {
@@ -42,7 +46,7 @@ impl<'x, A: Allocator + Copy> Cutter<'x, A> {
         buffer: Buffer<A>,
     ) -> Cutter<'x, A>
         ensures { (result.layout.now ≡ layout.entry.now) × (result.buffer ≡ buffer)
-            × (spec.reading_of result ≡ record { form = form; came = 0; lines = 0; owed = false; skipping = false }) }
+            × (spec.reading_of result ≡ record { form = form; came = 0; lines = 0; owed = false; skipping = false; due = None; noisy = false }) }
     {
         Cutter {
             alloc,
@@ -53,6 +57,8 @@ impl<'x, A: Allocator + Copy> Cutter<'x, A> {
             lines: 0,
             is_owed: false,
             is_skipping: false,
+            due: None,
+            is_noisy: false,
         }
     }
 
@@ -79,7 +85,7 @@ impl<'x, A: Allocator + Copy> Cutter<'x, A> {
     pub(crate) fn waiting(&self) -> u64 {
         let _rate = self.layout.rate();
         let size = frame_len(self.layout.analog().len(), self.layout.status().len());
-        scans_in(self.form, size, self.buffer.waiting())
+        scans_in(self.form, size, self.due, self.buffer.waiting())
     }
 
     /// Drops the rest of a line that was refused, as far as it has come.
@@ -248,6 +254,7 @@ impl<'x, A: Allocator + Copy> Cutter<'x, A> {
     {
         match self.form {
             Input::Frames(lowest) => self.next_frame(lowest, spare),
+            Input::Counted(lowest) => self.next_counted(lowest, spare),
             Input::Lines => {
                 if self.is_owed {
                     self.is_owed = false;

@@ -22,6 +22,8 @@ pub enum Why {
     Full,
     /// An allocation failed.
     Memory,
+    /// The counters of the frames say that it is missing.
+    Counted,
     /// The input stood still, and the clock says that scans are missing.
     Silent,
 }

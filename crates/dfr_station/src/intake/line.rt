@@ -12,11 +12,15 @@ ghost use Rattle.dfr_station.specs.Lines as spec;
 use crate::event::Skipped;
 use crate::intake::arrival::{Arrival, arrival_of_scan};
 use crate::intake::feed::Why;
+use comtrade_values::{integer_of, trim};
 use dfr_channels::{Layout, Rule, RuleFault, Rules};
 use dfr_live::Order;
 use dfr_script::{Command, LineFault, LineRefusal, ScanSize, command_of_line};
 use memchr::memchr;
 use std::alloc::{Allocator, Global};
+
+/// The end of the year 9999, in microseconds since 1970-01-01 00:00:00 UTC.
+const END_OF_TIME: i128 = 253_402_300_799_999_999;
 
 /// A line: its number, from 1, how many scans came before it, and its text without its end.
 #[derive(Clone, Copy, Debug)]
@@ -91,11 +95,12 @@ pub fn is_scan_line(line: &[u8]) -> bool
     is_word(word, "scan") || is_word(word, "lost")
 }
 
-/// Whether the word is one of the script language with which no scan line begins.
+/// Whether the word is one of the input, or of the script language, with which no scan line begins.
 fn is_other_word(word: &[u8]) -> bool
     ensures { result ≡ list_any (λ known. bytes_eq word.now known) spec.other_words }
 {
-    is_word(word, "trigger")
+    is_word(word, "time")
+        || is_word(word, "trigger")
         || is_word(word, "rules")
         || is_word(word, "take")
         || is_word(word, "go")
@@ -124,13 +129,59 @@ fn is_blank(line: &[u8]) -> bool
 }
 
 /// Whether a line is probably a scan line that was damaged: it is neither blank nor a comment, and
-/// its first word is none of the script language.
+/// its first word is none that is known.
 #[tactic(auto, unfolding(crate::specs::Lines::is_damaged))]
 pub fn is_damaged(line: &[u8]) -> bool
     ensures { result ≡ spec.is_damaged line.now }
 {
     let says = !is_comment(line) && !is_blank(line);
     says && !is_scan_line(line) && !is_other_word(first_word(line))
+}
+
+/// What stands behind the first word of a line, without the blanks around it.
+#[tactic(auto, using(comtrade_values::proofs::Cuts::cuts), unfolding(crate::specs::Lines::behind_word))]
+fn behind_word(line: &[u8]) -> &[u8]
+    ensures { result.now ≡ spec.behind_word line.now }
+{
+    match word_end(line) {
+        Some(end) => trim(&line[end + 1..]),
+        None => &[],
+    }
+}
+
+/// Reads an instant, in microseconds since 1970-01-01 00:00:00 UTC, up to the end of the year 9999.
+#[tactic(auto, unfolding(crate::specs::Lines::told_instant))]
+fn told_instant(text: &[u8]) -> Option<u64>
+    ensures { result ≡ spec.told_instant text.now }
+{
+    match integer_of(text) {
+        Some(n) if 0 <= n && n <= END_OF_TIME => Some(n as u64),
+        _ => None,
+    }
+}
+
+/// What a line means that tells the time.
+fn arrival_of_time<A: Allocator>(line: u64, text: &[u8]) -> Arrival<A>
+    ensures { spec.parts_of result ≡ spec.of_time line (spec.told_instant text.now) }
+{
+    match told_instant(text) {
+        Some(instant) => Arrival::Time { line, instant },
+        None => Arrival::Skipped {
+            line,
+            why: Skipped::Number,
+        },
+    }
+}
+
+/// A line that is no command: it tells the time of the next scan, or it can't be read.
+fn no_command<A: Allocator>(line: Line<'_>, fault: LineFault) -> Meaning<A>
+    ensures { spec.given_by line.entry.number result
+        ≡ spec.no_command line.entry.number line.entry.came line.entry.text.now fault }
+{
+    if is_word(first_word(line.text), "time") {
+        return Meaning::One(arrival_of_time(line.number, behind_word(line.text)));
+    }
+    refused(line, skipped_of_line(fault), Why::Unread)
 }
 
 /// Why a line with this fault is skipped.
@@ -220,7 +271,8 @@ pub(crate) fn refused<A: Allocator>(line: Line<'_>, skipped: Skipped, why: Why) 
     })
 }
 
-/// What a line means: the same as after the `go` of a script, but that `take` is not accepted.
+/// What a line means: the same as after the `go` of a script, but that `take` is not accepted, and
+/// `time` tells the time of the next scan.
 pub fn meaning_of<A: Allocator + Copy>(alloc: A, layout: &Layout<A>, line: Line<'_>) -> Meaning<A>
     ensures { spec.LineMeans layout.now line.entry.number line.entry.came line.entry.text.now
         (spec.given_by line.entry.number result) }
@@ -237,7 +289,7 @@ pub fn meaning_of<A: Allocator + Copy>(alloc: A, layout: &Layout<A>, line: Line<
             line.came,
             command,
         )),
-        Err(LineRefusal::Fault(fault)) => refused(line, skipped_of_line(fault), Why::Unread),
+        Err(LineRefusal::Fault(fault)) => no_command(line, fault),
         Err(LineRefusal::Memory) => refused(line, Skipped::Memory, Why::Memory),
     }
 }

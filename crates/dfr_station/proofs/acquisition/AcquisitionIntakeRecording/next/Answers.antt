@@ -1,7 +1,8 @@
-use Rattle.std.proofs.Common.{refl, sym}
+use Rattle.std.proofs.Common.{[], ◌∷◌, refl, sym}
 use Rattle.dfr_station.specs.Arrivals.{HandsNext}
+use Rattle.dfr_station.specs.Lines as came
 use Rattle.dfr_station.specs.declared.intake.arrivals.Next.TheVariants as coming
-use Rattle.dfr_station.proofs.Acquired.{quiet_more, quiet_gap, gives_some, gives_gap, gives_end, reads_more}
+use Rattle.dfr_station.proofs.Acquired.{quiet_more, quiet_gap, gives_some, gives_gap, gives_end, reads_more, tells_more}
 use Rattle.dfr_station.proofs.Handing.{came_same}
 use Rattle.dfr_station.proofs.acquisition.AcquisitionIntakeRecording.next.Goals as goal
 
@@ -50,6 +51,17 @@ loop-preserved-in-Read g c = (
   tt,
   reads_more (HandsNext g.I.Read.remaining) _ _ c.loop.self c.find_gap.new.self
       c.self-in-loop.view_is c.loop.invariant.2
-      (came_same g.I.Read.remaining _ c.next-in-loop.new.self c.find_gap.new.self.incoming c.in-Read.ensures.next c.find_gap.ensures.1 c.find_gap.ensures.2 c.find_gap.ensures.3)
+      (came_same g.I.Read.remaining _ c.next-in-loop.new.self c.find_gap.new.self.incoming [] c.in-Read.ensures.next c.find_gap.ensures.1 c.find_gap.ensures.2 c.find_gap.ensures.3)
       (rw c.find_gap.ensures.0 refl) (rw c.find_gap.ensures.0 refl),
 )
+
+pub loop-preserved-in-Arrival-Time : goal.loop-preserved-in-Arrival-Time
+loop-preserved-in-Arrival-Time g c =
+    let at = c.in-Arrival-Time in (
+      tt,
+      tt,
+      tells_more (HandsNext g.I.Read.remaining) _ _ c.loop.self c.hear_time.new.self at.line at.instant
+          c.self-in-loop.view_is c.loop.invariant.2
+          (came_same g.I.Read.remaining _ c.next-in-loop.new.self c.hear_time.new.self.incoming (came.Time at.line at.instant ∷ []) (rw at.field-0-is at at.ensures.next) c.hear_time.ensures.1 c.hear_time.ensures.2 c.hear_time.ensures.3)
+          (rw c.hear_time.ensures.0 refl) (rw c.hear_time.ensures.0 refl),
+    )
