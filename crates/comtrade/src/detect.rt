@@ -215,11 +215,11 @@ fn put_all<A: Allocator>(
             put_lines(out, taken, name, firings, place)?;
             continue;
         }
-        put(out, if place == 0 { "\n" } else { ",\n" })?;
+        put(out, if place == 0 { "" } else { "," })?;
         put_object(alloc, out, taken, name, firings, place)?;
     }
     if json {
-        put(out, "\n]}\n")?;
+        put(out, "]}\n")?;
     }
     Ok(())
 }
