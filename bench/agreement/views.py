@@ -11,7 +11,7 @@ from html import unescape
 
 def run(program, *words):
     """What a command prints: status, standard output, standard error."""
-    done = subprocess.run([program, *words], capture_output=True, timeout=120)
+    done = subprocess.run([program, *words], capture_output=True, timeout=1200)
     return done.returncode, done.stdout.decode("utf-8", "replace"), done.stderr.decode("utf-8", "replace")
 
 

@@ -20,6 +20,19 @@ enum Change {
     Shown,
 }
 
+/// Whether a file's first text begins with the byte-order mark.
+fn is_marked<A: Allocator>(file: &File<A>) -> bool {
+    file.head.station.items().starts_with(MARK)
+}
+
+/// A file's first text without the byte-order mark, if it has one.
+fn unmarked<A: Allocator>(alloc: A, file: &File<A>) -> Result<Option<Vec<u8, A>>, AllocError> {
+    match file.head.station.items().strip_prefix(MARK) {
+        Some(station) => Ok(Some(Vec::from_slice(alloc, station)?)),
+        None => Ok(None),
+    }
+}
+
 /// A text without the NULs at its end.
 fn without_padding(text: &[u8]) -> &[u8] {
     let mut rest = text;
@@ -119,7 +132,7 @@ pub fn spell_in_utf8<A: Allocator + Copy>(
     file: &mut File<A>,
     encoding: Encoding,
 ) -> Result<(), AllocError> {
-    if encoding == Encoding::Utf8 || file.head.station.items().starts_with(MARK) {
+    if encoding == Encoding::Utf8 || is_marked(file) {
         return Ok(());
     }
     turn_file(alloc, file, Change::From(encoding))
@@ -132,11 +145,7 @@ pub fn spell_for_views<A: Allocator + Copy>(
     alloc: A,
     file: &mut File<A>,
 ) -> Result<(), AllocError> {
-    let unmarked = match file.head.station.items().strip_prefix(MARK) {
-        Some(station) => Some(Vec::from_slice(alloc, station)?),
-        None => None,
-    };
-    if let Some(station) = unmarked {
+    if let Some(station) = unmarked(alloc, file)? {
         file.head.station = Items::of(station);
     }
     turn_file(alloc, file, Change::Shown)
