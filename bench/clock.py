@@ -106,13 +106,16 @@ class Rules:
 
     def tell(self, scans, instant):
         """The converter tells when the next scan is."""
-        due = self.on(self.lines[0], self.place(scans))
-        lost = min(self.missing(due, instant, self.s.late), self.s.most)
+        line, due = self.lines[0], self.on(self.lines[0], self.place(scans))
+        limit = self.s.apart + less(self.place(scans), line.place) // 1_000
+        # the first time is no gap, and sets the clock forward too
+        lost = min(self.missing(due, instant, limit), self.s.most) if self.told else 0
+        jump = instant - due if abs(instant - due) > self.s.step and (instant < due or not self.told) else 0
         place = self.place(scans + lost)
         era = place if instant < due else self.lines[0].era
         self.put(Line(place, instant, instant + self.s.window, era, place))
         self.told, self.scans = True, scans + lost
-        return lost
+        return lost, jump
 
     def line_at(self, place):
         return next((line for line in self.lines if line.place <= place), self.lines[-1])
@@ -169,13 +172,12 @@ def history(r):
         count = scans + lost
         if r.random() < 0.02:
             lines.append(f"told {scans} {wall}")
-            more = rules.tell(count, wall)
-            wanted.append(f"lost {more}")
+            more, jump = rules.tell(count, wall)
         else:
             late_wall, late_mono = min(wall + delay, TOP), min(mono + delay, TOP)
             lines.append(f"read {scans} {late_wall} {late_mono}")
             more, jump = rules.read(count, late_wall, late_mono)
-            wanted.append(f"lost {more} forward {max(jump, 0)} back {max(-jump, 0)}")
+        wanted.append(f"lost {more} forward {max(jump, 0)} back {max(-jump, 0)}")
         lost += more
         if lost + scans > TOP:
             # (the program counts in 64 bits, and says so)

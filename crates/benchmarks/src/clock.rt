@@ -82,13 +82,9 @@ impl Trace {
         Ok(())
     }
 
-    /// Takes in a reading, and prints what it tells.
-    fn read(&mut self, rt: &impl Print, reading: Reading, is_quiet: bool) -> Result<()> {
-        let Answer { lost, jump } = self.timebase.read(reading);
+    /// Prints what a reading or a told time tells.
+    fn answer(&mut self, rt: &impl Print, Answer { lost, jump }: Answer) -> Result<()> {
         self.count(lost)?;
-        if is_quiet && lost == 0 && jump.is_none() {
-            return Ok(());
-        }
         let (forward, back) = match jump {
             Some(Jump::Forward(x)) => (x, 0),
             Some(Jump::Back(x)) => (0, x),
@@ -96,6 +92,15 @@ impl Trace {
         };
         println!(rt; "lost {lost} forward {forward} back {back}")?;
         Ok(())
+    }
+
+    /// Takes in a reading, and prints what it tells.
+    fn read(&mut self, rt: &impl Print, reading: Reading, is_quiet: bool) -> Result<()> {
+        let answer = self.timebase.read(reading);
+        if is_quiet && answer.lost == 0 && answer.jump.is_none() {
+            return Ok(());
+        }
+        self.answer(rt, answer)
     }
 
     /// Prints what is kept.
@@ -117,10 +122,8 @@ impl Trace {
 
     /// The converter tells when the next scan is.
     fn tell(&mut self, rt: &impl Print, scans: u64, instant: u64) -> Result<()> {
-        let lost = self.timebase.told(scans, instant);
-        self.count(lost)?;
-        println!(rt; "lost {lost}")?;
-        Ok(())
+        let answer = self.timebase.told(scans, instant);
+        self.answer(rt, answer)
     }
 
     /// Carries out a line of this word.
