@@ -1,4 +1,4 @@
-//! The detectors of `benchmarks detect` in plain Rust: four rms values, two changes and a frequency, over 8 and over 16 channels. It
+//! Detectors in plain Rust: four rms values, two changes and a frequency, over 8 and over 16 channels. It
 //! prints the least time of a number of runs, and how many bits are 1.
 //!
 //!     rustc -O -C target-cpu=x86-64 bench/detect_yardstick.rs -o /tmp/yardstick && /tmp/yardstick 21

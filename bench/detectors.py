@@ -2,8 +2,7 @@
 """The definitions of the detectors, over whole lists of scans, apart from the code: bench/detectors.py COMMAND
 
   examples          worked examples of each condition, computed by numpy from floats, and by the definitions
-  make N [SEED]     N lines, each with settings and a random history: missing, lost, saturated, noisy, off-nominal;
-                    `benchmarks histories < LINES > BITS` prints the bits of the code
+  make N [SEED]     N lines, each with settings and a random history: missing, lost, saturated, noisy, off-nominal
   judge LINES BITS  compares bits, one line for each history, with the definitions; the status is 1 if one differs
 
 A line: condition, scans, level, reset level, row, how many channels, their numbers; then each scan, its readings with commas

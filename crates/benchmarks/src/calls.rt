@@ -1,6 +1,6 @@
 //! Single calls of the recorder, the writers and the reader, with 32 analogue and 64 status channels.
 
-pub mod clock;
+mod clock;
 mod files;
 mod recorders;
 mod station;
