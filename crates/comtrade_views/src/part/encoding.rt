@@ -112,6 +112,21 @@ fn turn_file<A: Allocator + Copy>(
     turn_all(alloc, &mut file.head.status, change)
 }
 
+/// Whether a file's first text begins with the byte-order mark of UTF-8.
+fn is_marked<A: Allocator>(file: &File<A>) -> bool {
+    file.head.station.items().starts_with(MARK)
+}
+
+/// Takes the byte-order mark of UTF-8 off a text.
+fn strip_mark<A: Allocator>(alloc: A, text: &mut Items<u8, A>) -> Result<(), AllocError> {
+    let kept = match text.items().strip_prefix(MARK) {
+        Some(rest) => Vec::from_slice(alloc, rest)?,
+        None => return Ok(()),
+    };
+    *text = Items::of(kept);
+    Ok(())
+}
+
 /// Converts the texts of a file, which have this encoding, to UTF-8. Those of a file with the
 /// byte-order mark of UTF-8 are in UTF-8.
 pub fn spell_in_utf8<A: Allocator + Copy>(
@@ -119,7 +134,7 @@ pub fn spell_in_utf8<A: Allocator + Copy>(
     file: &mut File<A>,
     encoding: Encoding,
 ) -> Result<(), AllocError> {
-    if encoding == Encoding::Utf8 || file.head.station.items().starts_with(MARK) {
+    if encoding == Encoding::Utf8 || is_marked(file) {
         return Ok(());
     }
     turn_file(alloc, file, Change::From(encoding))
@@ -132,12 +147,6 @@ pub fn spell_for_views<A: Allocator + Copy>(
     alloc: A,
     file: &mut File<A>,
 ) -> Result<(), AllocError> {
-    let unmarked = match file.head.station.items().strip_prefix(MARK) {
-        Some(station) => Some(Vec::from_slice(alloc, station)?),
-        None => None,
-    };
-    if let Some(station) = unmarked {
-        file.head.station = Items::of(station);
-    }
+    strip_mark(alloc, &mut file.head.station)?;
     turn_file(alloc, file, Change::Shown)
 }
