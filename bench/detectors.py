@@ -2,7 +2,8 @@
 """The definitions of the detectors, over whole lists of scans, apart from the code: bench/detectors.py COMMAND
 
   examples          worked examples of each condition, computed by numpy from floats, and by the definitions
-  make N [SEED]     N lines, each with settings and a random history: missing, lost, saturated, noisy, off-nominal
+  make N [SEED]     N lines, each with settings and a random history: missing, lost, saturated, noisy, off-nominal;
+                    `benchmarks histories < LINES > BITS` prints the bits of the code
   judge LINES BITS  compares bits, one line for each history, with the definitions; the status is 1 if one differs
 
 A line: condition, scans, level, reset level, row, how many channels, their numbers; then each scan, its readings with commas
@@ -124,7 +125,9 @@ def frequency(rng, size):
     if kind == "drifts":
         level = min(2**31, max(1, int(level * rate * rng.choice([0.0001, 0.001, 0.01, 0.1]))))
     reset = level if rng.random() < 0.4 else max(1, int(level * (rng.uniform(1, 1.1) if kind == "slower" else rng.uniform(0.9, 1))))
-    return f"{kind}:{cycles}:{rate}:{least}", rng.choice([5, 10, 30, 60]), level, reset
+    # the cycles at the lower level lie in the scans, just so or with room
+    needed = 4 * cycles if kind == "drifts" else -(-1000 * rate * cycles // min(level, reset))
+    return f"{kind}:{cycles}:{rate}:{least}", needed + rng.choice([0, 0, 1, 5, 30]), level, reset
 
 
 def history(rng):

@@ -2,7 +2,7 @@
 import re
 
 MADE = "Made by tools/manuals; do not edit."
-KINDS = {"DIR": "folders", "SETUP": "files", "SCRIPT": "files", "COMMAND": "commands"}  # all others: records
+KINDS = {"DIR": "folders", "SETUP": "files", "SCRIPT": "files", "LINES": "files", "COMMAND": "commands"}  # all others: records
 WORDS = {"START": ("now",)}  # values that the help gives in words
 PATHS = "PATH", "FILE"  # the values that are names of files
 

@@ -62,6 +62,10 @@ _comtrade() {
         valued='--from --to --channels --encoding --at --reference'
         places=(records records)
         ;;
+    detect)
+        flags='--json -h --help'
+        places=(files records records)
+        ;;
     convert)
         flags='--kind --from --to --channels --changed --primary --secondary --strict --encoding -h
                --help'
@@ -119,7 +123,7 @@ _comtrade() {
         word=$flags
     else
         case ${places[place]:-$more} in
-        commands) word='show check csv plot page list events compare measure convert import extract help' ;;
+        commands) word='show check csv plot page list events compare measure detect convert import extract help' ;;
         folders)
             compopt -o filenames 2> /dev/null
             mapfile -t COMPREPLY < <(compgen -d -- "$cur")
@@ -135,6 +139,7 @@ _comtrade() {
             )
             return
             ;;
+        files) return ;;
         *) compopt +o default 2> /dev/null; return ;;
         esac
     fi

@@ -152,11 +152,11 @@ fn seven(alloc: Global) -> Result<Detectors> {
         (Condition::RmsOver, CYCLE, 30_000, [3].as_slice()),
         (Condition::RmsOver, CYCLE, 2_000, [3, 4, 5].as_slice()),
         (Condition::Change, CYCLE, 500, [4].as_slice()),
-        (Condition::Change, 48, 50_000, [5].as_slice()),
+        (Condition::Change, 48, 40_000, [5].as_slice()),
         (
             Condition::Frequency(low),
             10 * CYCLE,
-            49_000,
+            50_000,
             [0].as_slice(),
         ),
     ] {

@@ -14,12 +14,12 @@ use dfr_setup::{DetectorRefusal, Plan, Planned, detectors_over};
 use std::alloc::{AllocError, Allocator, Global};
 use std::rt::Files;
 
-/// The rows from the one at which a detector's bit becomes 1 to the last one at which it is, from 0.
+/// A detector's bit becomes 1 at a row, from 0, and stays 1 for so many.
 #[derive(Clone, Copy)]
 struct Firing {
     detector: usize,
     first: usize,
-    last: usize,
+    rows: usize,
 }
 
 /// What detectors did on the rows so far.
@@ -57,7 +57,8 @@ impl<A: Allocator> Watched<A> {
                     self.firings.push(Firing {
                         detector,
                         first,
-                        last: row.saturating_sub(1),
+                        // `first` is an earlier row
+                        rows: row.saturating_sub(first),
                     })?;
                 }
                 _ => {}
@@ -111,6 +112,11 @@ fn watched_over<A: Allocator + Copy>(
     Ok(watched.firings)
 }
 
+/// The number of a row, from 1; a record has far fewer than 2^64.
+fn ordinal(row: usize) -> u64 {
+    (row as u64).saturating_add(1)
+}
+
 /// Puts the instant of a row, or `-` where it isn't known.
 fn put_row_instant<A: Allocator>(
     out: &mut Vec<u8>,
@@ -144,10 +150,9 @@ fn put_lines<A: Allocator>(
         put_safe(out, name)?;
         put(out, " ")?;
         put_row_instant(out, taken, firing.first, b' ')?;
-        put_with(out, " row ", (firing.first as u64).saturating_add(1))?;
+        put_with(out, " row ", ordinal(firing.first))?;
         put_with(out, " scan ", firing.first as u64)?;
-        let scans = (firing.last.saturating_sub(firing.first) as u64).saturating_add(1);
-        put_with(out, " for ", scans)?;
+        put_with(out, " for ", firing.rows as u64)?;
         put(out, "\n")?;
     }
     if !is_any {
@@ -184,10 +189,9 @@ fn put_object<A: Allocator>(
         )?;
         is_first = false;
         put_row_instant(out, taken, firing.first, b' ')?;
-        put_with(out, "\",\"row\":", (firing.first as u64).saturating_add(1))?;
+        put_with(out, "\",\"row\":", ordinal(firing.first))?;
         put_with(out, ",\"scan\":", firing.first as u64)?;
-        let scans = (firing.last.saturating_sub(firing.first) as u64).saturating_add(1);
-        put_with(out, ",\"scans\":", scans)?;
+        put_with(out, ",\"scans\":", firing.rows as u64)?;
         put(out, "}")?;
     }
     put(out, "]}")
@@ -211,11 +215,11 @@ fn put_all<A: Allocator>(
             put_lines(out, taken, name, firings, place)?;
             continue;
         }
-        put(out, if place == 0 { "\n" } else { ",\n" })?;
+        put(out, if place == 0 { "" } else { "," })?;
         put_object(alloc, out, taken, name, firings, place)?;
     }
     if json {
-        put(out, "\n]}\n")?;
+        put(out, "]}\n")?;
     }
     Ok(())
 }

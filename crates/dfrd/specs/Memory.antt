@@ -11,7 +11,7 @@ row_bytes k m = 7 * k + 2 * m + 24
 
 -- The scans of the records that wait, of the one that is open and the one that is written; those before a trigger; those on their way.
 abbrev pub kept_scans : ℕ → ℕ → ℕ → ℕ
-kept_scans pre longest shelf = (shelf + 2) * longest + pre + 98_304
+kept_scans pre longest shelf = longest * (shelf + 2) + pre + 98_304
 
 -- these scans, the two files of a record, and what doesn't depend on the set-up
 abbrev pub record_bytes : ℕ → ℕ → ℕ → ℕ → ℕ → ℕ

@@ -34,8 +34,8 @@ pub(crate) fn need_of(prepared: &Prepared<Global>, setup: usize) -> Option<u64> 
 /// The unit of a test's levels, and the words for what they are counted in.
 fn units_of<'a>(test: Test, unit: &'a [u8]) -> (&'a [u8], &'static str) {
     match test {
-        Test::FrequencyOver | Test::FrequencyUnder => (b"Hz", " mHz "),
-        Test::FrequencyChange => (b"Hz/s", " mHz/s "),
+        Test::FrequencyOver | Test::FrequencyUnder => ("Hz".as_bytes(), " mHz "),
+        Test::FrequencyChange => ("Hz/s".as_bytes(), " mHz/s "),
         _ => (unit, " samples "),
     }
 }

@@ -1,13 +1,11 @@
 //! The folder of records. Which files are written, renamed and removed, and in which order, is
 //! decided in `dfr_folder`: whatever stops `dfrd`, a `.cfg` has its whole pair.
 
-ghost use Rattle.std.specs.Prelude.{◌≡◌};
-
 use crate::disk::Disk;
-use crate::outcome::{Reason, complain, reason_of};
+use crate::outcome::{Reason, complain, reason_for, reason_of};
 use crate::pair::{folder_key, is_free, record_key, size_of_pair};
 use crate::place::Place;
-use dfr_folder::{Fault, Keep, Key, Mended, Put, Recorded, Unknown, mend, put_for, put_or_mend};
+use dfr_folder::{Keep, Key, Mended, Put, Recorded, Unknown, mend, put_for, put_or_mend};
 use dfr_station::{Store, Stored, Trouble};
 use std::alloc::Global;
 use std::fs::File;
@@ -98,20 +96,6 @@ fn trouble_of(reason: Reason) -> Trouble {
         Reason::Denied | Reason::ReadOnly | Reason::Taken => Trouble::Denied,
         Reason::Memory => Trouble::Memory,
         Reason::Folder | Reason::Other => Trouble::Other,
-    }
-}
-
-/// Why a pair could not be put: the fault of its own calls. Only another fault is told by the reason
-/// of the last call that failed, as that may be of another call.
-fn reason_for(fault: Fault, last: Reason) -> Reason
-    ensures full { result ≡ Reason.Full → fault ≡ Fault.Full }
-    ensures memory { result ≡ Reason.Memory → fault ≡ Fault.Memory }
-{
-    match (fault, last) {
-        (Fault::Full, _) => Reason::Full,
-        (Fault::Memory, _) => Reason::Memory,
-        (Fault::Failed, Reason::Full | Reason::Memory) => Reason::Other,
-        (Fault::Failed, reason) => reason,
     }
 }
 

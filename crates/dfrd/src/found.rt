@@ -39,14 +39,14 @@ fn is_of_pair(seen: &Seen, key: Key) -> bool {
     seen.name.key == key && !is_data
 }
 
-/// Whether this file is a data file that is alone. A key has at most five of these files, which are in
-/// the order of their keys.
+/// Whether the data file at this index is alone. The files are in the order of their keys, and a key
+/// has at most five: those of its pair are among the four before it and the four behind it.
 fn is_alone(files: &[Seen], at: usize, seen: &Seen) -> bool {
+    let Some(near) = files.get(at.saturating_sub(4)..) else {
+        return false;
+    };
     let key = seen.name.key;
-    let before = files[..at].iter().rev().take(4);
-    let has_pair = before
-        .chain(files[at..].iter().take(5))
-        .any(|other| is_of_pair(other, key));
+    let has_pair = near.iter().take(9).any(|other| is_of_pair(other, key));
     seen.name.ending == Ending::Data && !has_pair
 }
 

@@ -1,6 +1,6 @@
 //! The memory that a recording can need, and the memory that the machine has.
 
-ghost use Rattle.std.specs.Prelude.{◌≡◌, ◌+◌, ◌≤◌, IfSome, OnOk, OnErr};
+ghost use Rattle.std.specs.Prelude.{◌≡◌, ◌*◌, ◌≤◌, IfSome, OnOk, OnErr};
 ghost use Rattle.dfrd.specs.Memory.{IsAbove, machine_of, record_bytes, window_bytes};
 
 use comtrade_io::read_up_to;
@@ -31,6 +31,16 @@ pub(crate) enum MemoryFault {
     Huge,
 }
 
+/// A number of scans times the bytes of one, or times a number of records.
+fn times(scans: u64, each: u64) -> u64
+    requires few { scans ≤ 8589934592 }
+    requires small { each ≤ 4096 }
+    ensures product { result ≡ scans * each }
+    ensures bound { result ≤ 35184372088832 }
+{
+    scans * each
+}
+
 /// The most bytes of memory that the scans of these channels need while they are recorded.
 pub(crate) fn bytes_of(analog: usize, status: usize, pre: u32, longest: u32, shelf: u32) -> u64
     requires analog { analog ≤ 256 }
@@ -43,8 +53,8 @@ pub(crate) fn bytes_of(analog: usize, status: usize, pre: u32, longest: u32, she
     let scan = 8 * k + m + 112;
     let row = 7 * k + 2 * m + 24;
     let longest = longest as u64;
-    let scans = (shelf as u64 + 2) * longest + pre as u64 + LANE;
-    scans * scan + 2 * (longest * row) + FIXED
+    let scans = times(longest, shelf as u64 + 2) + pre as u64 + LANE;
+    times(scans, scan) + 2 * times(longest, row) + FIXED
 }
 
 /// The most bytes of memory that a recording of this layout needs, without its detectors.

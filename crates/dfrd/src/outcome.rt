@@ -1,6 +1,9 @@
 //! Messages on standard error.
 
+ghost use Rattle.std.specs.Prelude.{◌≡◌};
+
 use comtrade_io::put_safe;
+use dfr_folder::Fault;
 use std::fmt::Display;
 use std::io;
 use std::io::ErrorKind;
@@ -49,6 +52,20 @@ pub(crate) fn reason_of(error: &io::Error) -> Reason {
         ErrorKind::IsADirectory => Reason::Folder,
         ErrorKind::OutOfMemory => Reason::Memory,
         _ => Reason::Other,
+    }
+}
+
+/// Why a pair could not be put: the fault of its own calls. Only another fault is told by the reason
+/// of the last call that failed, as that may be of another call.
+pub(crate) fn reason_for(fault: Fault, last: Reason) -> Reason
+    ensures full { result ≡ Reason.Full → fault ≡ Fault.Full }
+    ensures memory { result ≡ Reason.Memory → fault ≡ Fault.Memory }
+{
+    match (fault, last) {
+        (Fault::Full, _) => Reason::Full,
+        (Fault::Memory, _) => Reason::Memory,
+        (Fault::Failed, Reason::Full | Reason::Memory) => Reason::Other,
+        (Fault::Failed, reason) => reason,
     }
 }
 

@@ -11,7 +11,8 @@ use dfr_folder::Keep;
 use dfr_health::put_escaped;
 use dfr_setup::{Prepared, prepared_of};
 use dfr_station::{
-    Control, Event, Input, Printer, Run, Station, Store, finish_station, now, read_first, run_station,
+    Control, Event, Input, Printer, Run, Station, Store, finish_station, now, read_first,
+    run_station,
 };
 use std::alloc::Global;
 use std::fs;

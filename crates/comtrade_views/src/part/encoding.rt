@@ -20,6 +20,19 @@ enum Change {
     Shown,
 }
 
+/// Whether a file's first text begins with the byte-order mark.
+fn is_marked<A: Allocator>(file: &File<A>) -> bool {
+    file.head.station.items().starts_with(MARK)
+}
+
+/// A file's first text without the byte-order mark, if it has one.
+fn unmarked<A: Allocator>(alloc: A, file: &File<A>) -> Result<Option<Vec<u8, A>>, AllocError> {
+    match file.head.station.items().strip_prefix(MARK) {
+        Some(station) => Ok(Some(Vec::from_slice(alloc, station)?)),
+        None => Ok(None),
+    }
+}
+
 /// A text without the NULs at its end.
 fn without_padding(text: &[u8]) -> &[u8] {
     let mut rest = text;
@@ -112,21 +125,6 @@ fn turn_file<A: Allocator + Copy>(
     turn_all(alloc, &mut file.head.status, change)
 }
 
-/// Whether a file's first text begins with the byte-order mark of UTF-8.
-fn is_marked<A: Allocator>(file: &File<A>) -> bool {
-    file.head.station.items().starts_with(MARK)
-}
-
-/// Takes the byte-order mark of UTF-8 off a text.
-fn strip_mark<A: Allocator>(alloc: A, text: &mut Items<u8, A>) -> Result<(), AllocError> {
-    let kept = match text.items().strip_prefix(MARK) {
-        Some(rest) => Vec::from_slice(alloc, rest)?,
-        None => return Ok(()),
-    };
-    *text = Items::of(kept);
-    Ok(())
-}
-
 /// Converts the texts of a file, which have this encoding, to UTF-8. Those of a file with the
 /// byte-order mark of UTF-8 are in UTF-8.
 pub fn spell_in_utf8<A: Allocator + Copy>(
@@ -147,6 +145,8 @@ pub fn spell_for_views<A: Allocator + Copy>(
     alloc: A,
     file: &mut File<A>,
 ) -> Result<(), AllocError> {
-    strip_mark(alloc, &mut file.head.station)?;
+    if let Some(station) = unmarked(alloc, file)? {
+        file.head.station = Items::of(station);
+    }
     turn_file(alloc, file, Change::Shown)
 }

@@ -139,6 +139,14 @@ fn faults(rt: HostRuntime) {
     ] {
         assert_eq!(rt; settings(test, 5, level).fault(), fault);
     }
+    let over = test(FrequencyIs::Over);
+    for (test, scans, level, fault) in [
+        (over, 2, 50_000, None),
+        (over, 2, 49_999, Some(SettingsFault::Short)),
+        (good, 3, 1, Some(SettingsFault::Short)),
+    ] {
+        assert_eq!(rt; settings(test, scans, level).fault(), fault);
+    }
 }
 
 /// The nearest number of scans and the exact one, as its whole part and the rest.
