@@ -53,8 +53,11 @@ said import --encoding latin1 "$folder/utf8" "$folder/utf8-new"
 { printf '\xef\xbb\xbf'; cat "$folder/utf8.cfg"; } > "$folder/marked.cfg"
 cp "$folder/utf8.dat" "$folder/marked.dat"
 said import --encoding latin1 "$folder/marked" "$folder/marked-new"
-said show --encoding latin1 "$folder/marked" | grep 'station\|^  [12] '
-said list "$folder/marked.cfg" | tail -n 2
+# the mark isn't shown, and says the encoding
+for view in show csv events; do
+    "$comtrade" $view "$folder/utf8.cfg" > "$folder/want" 2> /dev/null
+    "$comtrade" $view --encoding latin1 "$folder/marked.cfg" 2> /dev/null | cmp - "$folder/want" || echo "$view differs"
+done
 # a picture: names, and lines of a long one, cut between characters
 "$comtrade" plot "$folder/utf8" | grep -o '>[^<]*\(ü\|ö\|Ω\)[^<]*<'
 "$comtrade" plot --encoding latin1 "$folder/latin" | grep -o '>[^<]*\(ö\|ß\)[^<]*<'
