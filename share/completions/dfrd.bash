@@ -5,9 +5,9 @@ _dfrd() {
     local i word
     COMPREPLY=()
     [ "$cur" != = ] || cur=''
-    flags='--kind --raw --clip --start --time --gap --wait --no-wait --orders --health --keep
-           --keep-bytes --most --check --quiet --journal -h --help -V --version'
-    valued='--kind --start --time --gap --orders --health --keep --keep-bytes --most'
+    flags='--kind --raw --frames --clip --start --time --gap --wait --no-wait --orders --health
+           --keep --keep-bytes --most --check --quiet --journal -h --help -V --version'
+    valued='--kind --frames --start --time --gap --orders --health --keep --keep-bytes --most'
     places=(files folders)
     for ((i = first; i < COMP_CWORD; i++)); do
         word=${COMP_WORDS[i]} option=''
@@ -25,6 +25,7 @@ _dfrd() {
     if [ -n "$option" ]; then
         case $option in
         --kind) word='ascii binary' ;;
+        --frames) word='raw counted' ;;
         --start) word='now' ;;
         --time) word='clock rate' ;;
         --orders) return ;;

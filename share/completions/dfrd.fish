@@ -6,7 +6,7 @@ function __dfrd_at
     set -e words[1]
     set -l place 0
     while set -q words[1]
-        if contains -- $words[1] --kind --start --time --gap --orders --health --keep --keep-bytes --most
+        if contains -- $words[1] --kind --frames --start --time --gap --orders --health --keep --keep-bytes --most
             set -e words[1]
         else if not string match -q -- '-*' $words[1]
             set place (math $place + 1)
@@ -19,7 +19,8 @@ end
 complete -c dfrd -f
 complete -c dfrd -l kind -x -a 'ascii binary' -d 'The form of the data files; ascii if not given'
 complete -c dfrd -l raw -d 'Read scans as frames of bytes, not as lines'
-complete -c dfrd -l clip -d 'With --raw, take a sample of -32768 as -32767, not as missing'
+complete -c dfrd -l frames -x -a 'raw counted' -d 'Read scans as frames: raw, as --raw, or counted, each with a mark and a counter'
+complete -c dfrd -l clip -d 'With frames, take a sample of -32768 as -32767, not as missing'
 complete -c dfrd -l start -x -a 'now' -d 'The time of the first scan: now (default) or microseconds since 1970-01-01 00:00:00 UTC'
 complete -c dfrd -l time -x -a 'clock rate' -d 'Date records by the clock (default without --start) or by the rate alone'
 complete -c dfrd -l gap -x -d 'The most lost scans for a pause of the input (default 1000000)'

@@ -8,7 +8,7 @@ def frame(counter, sample, bit=0):
     return b"\xa5" + struct.pack("<H", binascii.crc_hqx(covered, 0xFFFF)) + covered
 out = sys.stdout.buffer
 '"$1"; }
-record() { "$dfrd" --frames counted --quiet --start 1719829800000000 "$@" "$work/setup" "$folder" | told | sort; }
+record() { "$dfrd" --frames counted --quiet --start 1719829800000000 "$@" "$work/setup" "$folder" | told | grep -v "^silent" | sort; }
 rows() { cat "$folder"/*.dat | tr -d '\r\032'; rm "$folder"/*; }
 # scans 0 to 3, then three are missing, which are lost; the counter turns over from 65535 to 0; scan 8 opens a record
 made '
@@ -29,3 +29,4 @@ out.write(good[0] + good[1][:4] + good[1][5:] + good[2] + good[3] + good[4][:6])
 # no frame at all
 made 'out.write(bytes(1000))' | record
 "$dfrd" --raw --frames counted "$work/setup" "$folder" < /dev/null 2>&1
+echo $?
