@@ -25,8 +25,6 @@ pub struct Record {
     pub cfg: Vec<u8>,
     pub dat: Vec<u8>,
     pub stage: Stage,
-    /// The key of the record for which it is given up, if it is given up as that is put.
-    pub instead: Option<Key>,
 }
 
 /// What is wrong.
@@ -36,8 +34,6 @@ pub enum Wrong {
     NotWhole,
     /// A pair that was put and not given up is not there.
     Lost,
-    /// A pair that was given up for a new one is not there, nor is the new one.
-    Both,
     /// A crash in a recovery left what another recovery makes something else of.
     Changed,
     /// A recovery in which no call failed didn't leave what it should.
@@ -138,10 +134,6 @@ fn judge_record(files: &[Stored], records: &[Record], record: &Record) -> Option
     match record.stage {
         Stage::Gone if bytes_at(files, Name { key, ending }).is_some() => Some(Wrong::Back),
         Stage::Put if !is_there => Some(Wrong::Lost),
-        Stage::GivenUp if !is_there => match record.instead {
-            Some(new) if !is_whole(files, records, new) => Some(Wrong::Both),
-            _ => None,
-        },
         Stage::Refused => Some(Wrong::Refused),
         _ => None,
     }

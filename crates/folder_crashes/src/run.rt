@@ -72,7 +72,6 @@ fn add_record(
         cfg,
         dat,
         stage: Stage::Tried,
-        instead: None,
     })?;
     Ok(())
 }
@@ -99,7 +98,6 @@ fn put<D: Directory>(folder: &mut D, records: &mut Records, oldest: Option<usize
         && let Some(old) = records.get_mut(at)
     {
         old.stage = if is_gone { Stage::Gone } else { Stage::GivenUp };
-        old.instead = Some(key);
     }
     Some(put)
 }
