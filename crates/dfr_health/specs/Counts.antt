@@ -153,7 +153,7 @@ pub record IsLostOf (events : List Event) (l : Lost) : Type 0 where
   pub range : l.range ≡ counted (lost_in reason.Range) events
   pub full : l.full ≡ counted (lost_in reason.Full) events
   pub memory : l.memory ≡ counted (lost_in reason.Memory) events
-  pub counted : l.counted ≡ counted (lost_in reason.Counted) events
+  pub by_counter : l.counted ≡ counted (lost_in reason.Counted) events
   pub silent : l.silent ≡ counted (lost_in reason.Silent) events
 
 pub record IsUnwrittenOf (events : List Event) (u : Unwritten) : Type 0 where
