@@ -1,6 +1,6 @@
 # values of random channels against exact decimals of another language: 300 of many digits, 100 of few, and the borders of 64 bits, of 16
 # places and of 8 digits before the point; instants that pass seconds, a day and a year, forward and back; skipped where that isn't there
-command -v python3 > /dev/null || { printf '%s\n' 'many same' 'few same' 'borders same' 'instants same'; exit 0; }
+command -v python3 > /dev/null || { echo "python3 isn't here" >&2; exit 77; }
 folder=$(mktemp -d)
 trap 'rm -r "$folder"' EXIT
 python3 - "$folder" <<'PYTHON'

@@ -1,5 +1,5 @@
 # rms values and phasors of a page are those of `measure`, also where a cycle has no whole number of rows, and with skews
-command -v python3 > /dev/null && command -v node > /dev/null || { echo "comtrade/measure-page: skipped without python3 and node" >&2; cat comtrade/measure-page/out; exit 0; }
+command -v python3 > /dev/null && command -v node > /dev/null || { echo "python3 and node aren't here" >&2; exit 77; }
 folder=$(mktemp -d)
 trap 'rm -r "$folder"' EXIT
 python3 comtrade/measure-page/records.py "$folder"

@@ -1,6 +1,6 @@
 # the rms values in a picture's legends are those of `measure` before and after the inception, or the trigger, at rates whose cycles have no
 # whole number of rows. Skipped where python3 isn't there, which makes the records
-command -v python3 > /dev/null || { echo "comtrade/measure-plot: skipped without python3" >&2; cat comtrade/measure-plot/out; exit 0; }
+command -v python3 > /dev/null || { echo "python3 isn't here" >&2; exit 77; }
 folder=$(mktemp -d)
 trap 'rm -r "$folder"' EXIT
 python3 comtrade/measure-plot/records.py "$folder"

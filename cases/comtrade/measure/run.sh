@@ -1,7 +1,7 @@
 # what is measured of signals that are known on paper, at a rate that is a multiple of the frequency and at one that isn't; each refusal; random
 # signals against least squares in another language. Skipped where python3 isn't there, which makes the signals
 exec 2>&1
-command -v python3 > /dev/null || { cat comtrade/measure/out; exit 0; }
+command -v python3 > /dev/null || { echo "python3 isn't here" >&2; exit 77; }
 folder=$(mktemp -d)
 trap 'rm -r "$folder"' EXIT
 python3 files/signals.py "$folder"

@@ -2,7 +2,7 @@
 # currents of 100 A (50 Hz, 20 rows a cycle) have a positive sequence of 100 A and nothing else; currents in kA are listed
 # too, and the greatest is told by amperes
 exec 2>&1
-command -v python3 > /dev/null || { cat comtrade/phases/out; exit 0; }
+command -v python3 > /dev/null || { echo "python3 isn't here" >&2; exit 77; }
 folder=$(mktemp -d)
 trap 'rm -r "$folder"' EXIT
 python3 - "$folder" <<'END'

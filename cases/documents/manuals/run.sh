@@ -3,7 +3,7 @@
 folder=$(mktemp -d)
 trap 'rm -rf "$folder"' EXIT
 skipped() { echo "skipped: $*" >&2; }
-command -v python3 > "$folder/said" || { skipped "no python3"; cat documents/manuals/out; exit 0; }
+command -v python3 > "$folder/said" || { echo "python3 isn't here" >&2; exit 77; }
 
 ../tools/manuals "$folder" || exit 1
 diff -r ../share/completions "$folder/share/completions" && echo "the completions are those of --help"
