@@ -7,7 +7,9 @@ use crate::{complain, note_size, print_bytes, read_named, say};
 use bumpalo::Bump;
 use comtrade_format::{File, Head};
 use comtrade_io::{ToolFault, Viewed, put_safe};
-use comtrade_values::{Memory, copies_of, put, put_civil, put_number, put_with, whole_of};
+use comtrade_values::{
+    Memory, copies_of, has_date, put, put_civil, put_number, put_with, whole_of,
+};
 use comtrade_views::put_text;
 use dfr_channels::Setup;
 use dfr_setup::{DetectorRefusal, Plan, Planned, detectors_over};
@@ -117,7 +119,7 @@ fn ordinal(row: usize) -> u64 {
     (row as u64).saturating_add(1)
 }
 
-/// Puts the instant of a row, or `-` where it isn't known.
+/// Puts the instant of a row, or `-` where it isn't known or has no date.
 fn put_row_instant<A: Allocator>(
     out: &mut Vec<u8>,
     taken: &Taken<A>,
@@ -126,6 +128,7 @@ fn put_row_instant<A: Allocator>(
 ) -> Result<(), AllocError> {
     if let Some(Some(nanos)) = taken.times.get(row)
         && let Some(micros) = taken.file.head.trigger.checked_add(nanos.div_euclid(1000))
+        && has_date(micros)
     {
         put_civil(out, micros, between)
     } else {
