@@ -20,15 +20,16 @@ mod removal;
 mod threads;
 mod words;
 
+use crate::feed::Source;
 use crate::folder::{Folder, Records};
-use crate::health_file::{Shared, health_of, write_last};
-use crate::heard::{Heard, Heeded};
+use crate::health_file::{Shared, health_of, keep_written, write_last};
+use crate::heard::Heeded;
 use crate::operator::{Follower, WAITING, Waker, follower_of, open_orders};
 use crate::outcome::{complain, out_of_memory};
-use crate::output::{Lines, lines_of};
-use crate::place::Place;
+use crate::output::{Lines, lines_of, write_lines};
+use crate::place::{Place, watch};
 use crate::record::{Plan, keep_of, plan_of, record};
-use crate::threads::{source_of, start_following, start_health, start_lines, start_watch};
+use crate::threads::{copy_of, fed_of, has_begun};
 use crate::words::{Answer, Asked, answer_of};
 use comtrade_io::{ToolFault, fault_of, put_safe};
 use comtrade_values::put;
@@ -36,14 +37,14 @@ use dfr_station::{Control, Limited};
 use rtrb::RingBuffer;
 use std::alloc::{AllocError, Global};
 use std::fs::File;
-use std::io::ErrorKind;
+use std::io::{ErrorKind, Read};
 use std::process::ExitCode;
 use std::rt::{Env, Files};
 use std::sync::atomic::AtomicBool;
 use std::sync::{Arc, Wait};
 use std::thread::Threads;
 use std::time::Clock;
-use std::{env, io};
+use std::{env, io, thread};
 
 /// Prints a usage error in printable characters. Returns the exit status.
 fn refuse_words<R: Eprint + AllocGlobal>(rt: &R, text: &str) -> u8 {
@@ -181,31 +182,44 @@ fn made_ready<'a, K: Records, R: Files<File = File> + Print + Eprint + AllocGlob
     Ok(ready)
 }
 
-/// Starts the threads beside the recording, and records. Returns the exit status; the error is that
-/// of a recording that did not begin.
-fn recorded<
-    R: Files<File = File>
-        + Input
-        + Print
-        + Eprint
-        + AllocGlobal
-        + Threads
-        + Wait
-        + Clock
-        + Clone
-        + Send
-        + Sync
-        + 'static,
->(
+/// Records. Returns the exit status.
+fn recorded<I, R>(
     rt: &R,
-    ready: Ready<'_>,
+    ready: (Asked<'_>, Plan, Option<Control>),
     folder: Folder<'_, R>,
-    (heard, health): (Arc<Heard, Global>, Option<(Shared, Shared)>),
+    input: Heeded<'_, I, R>,
     lines: &mut Lines<'_, R>,
-) -> Result<u8, u8>
+    last: Option<Shared>,
+) -> u8
 where
-    R::Reader: Send,
+    I: Read + Send + Drop,
+    R: Files<File = File> + Print + Eprint + AllocGlobal + Threads + Wait + Clock + Clone + Sync,
 {
+    let (asked, plan, operator) = ready;
+    let store = Limited::new(folder, asked.most);
+    let status = record(rt, &asked, &plan, operator, input, store, lines);
+    lines.finish();
+    if let Some(file) = last {
+        write_last(rt, &file);
+    }
+    status
+}
+
+// Only `main` may start a thread that has the runtime's files, so all of them begin here. They are
+// not waited for: they end with the program.
+fn main(rt: HostRuntime) -> ExitCode {
+    let words = match words_of(&rt) {
+        Ok(words) => words,
+        Err(error) => return ExitCode::from(refuse_start(&rt, error.kind())),
+    };
+    let Ok(texts) = texts_of(&rt, &words) else {
+        return ExitCode::from(out_of_memory(&rt));
+    };
+    let mut folder = Folder::new(&rt);
+    let ready = match made_ready(&rt, &texts, &mut folder) {
+        Ok(ready) => ready,
+        Err(status) => return ExitCode::from(status),
+    };
     let Ready {
         asked,
         plan,
@@ -213,74 +227,57 @@ where
         operator,
         following,
     } = ready;
-    start_watch(rt, place)?;
-    start_following(rt, following)?;
     let frame = plan.frame_in(asked.input);
-    let (has_pieces, size) = plan.pieces_in(asked.input);
-    let source = source_of(rt, &operator, has_pieces, size)?;
+    let station = plan.station.as_slice();
+    let Ok((heard, health)) = health_of(rt.alloc(), asked.health, frame, station) else {
+        return ExitCode::from(out_of_memory(&rt));
+    };
+    let Ok((mut lines, mut waiting, progress)) = lines_of(&rt, &heard, asked.how()) else {
+        return ExitCode::from(out_of_memory(&rt));
+    };
+    let (Some(one), Some(two), Some(three), Some(four), Some(five), Some(six)) = (
+        copy_of(&rt),
+        copy_of(&rt),
+        copy_of(&rt),
+        copy_of(&rt),
+        copy_of(&rt),
+        copy_of(&rt),
+    ) else {
+        return ExitCode::from(1);
+    };
+    let lines_begun = thread::spawn(&rt, move || write_lines(&one, &mut waiting, &progress));
+    let mut begun = has_begun(&rt, lines_begun);
+    begun = begun && has_begun(&rt, thread::spawn(&rt, move || watch(&two, &place)));
+    if let Some((mut follower, waker)) = following {
+        begun = begun && has_begun(&rt, thread::spawn(&rt, move || follower.follow(&three)));
+        begun = begun && has_begun(&rt, thread::spawn(&rt, move || waker.wake(&four)));
+    }
+    let source = match &operator {
+        None => Source::Direct(rt.reader()),
+        Some(control) => {
+            let (has_pieces, size) = plan.pieces_in(asked.input);
+            let Some((mut feeder, fed)) = fed_of(&rt, control, has_pieces, size) else {
+                return ExitCode::from(1);
+            };
+            let reads = move || feeder.read_all(&six, &mut six.reader());
+            begun = begun && has_begun(&rt, thread::spawn(&rt, reads));
+            Source::Fed(fed)
+        }
+    };
     let mut last = None;
     if let Some((file, other)) = health {
-        start_health(rt, file)?;
+        begun = begun && has_begun(&rt, thread::spawn(&rt, move || keep_written(&five, &file)));
         last = Some(other);
     }
+    if !begun {
+        return ExitCode::from(1);
+    }
     let input = Heeded {
-        rt,
+        rt: &rt,
         input: source,
         heard,
         frame,
     };
-    let store = Limited::new(folder, asked.most);
-    let status = record(rt, &asked, &plan, operator, input, store, lines);
-    lines.finish();
-    if let Some(file) = last {
-        write_last(rt, &file);
-    }
-    Ok(status)
-}
-
-/// Records as the command line says. Returns the exit status; the error is that of a recording that
-/// did not begin.
-fn run<
-    R: Env
-        + Files<File = File>
-        + Input
-        + Print
-        + Eprint
-        + AllocGlobal
-        + Threads
-        + Wait
-        + Clock
-        + Clone
-        + Send
-        + Sync
-        + 'static,
->(rt: &R) -> Result<u8, u8>
-where
-    R::Reader: Send,
-{
-    let words = match words_of(rt) {
-        Ok(words) => words,
-        Err(error) => return Err(refuse_start(rt, error.kind())),
-    };
-    let Ok(texts) = texts_of(rt, &words) else {
-        return Err(out_of_memory(rt));
-    };
-    let mut folder = Folder::new(rt);
-    let ready = made_ready(rt, &texts, &mut folder)?;
-    let frame = ready.plan.frame_in(ready.asked.input);
-    let station = ready.plan.station.as_slice();
-    let Ok(known) = health_of(rt.alloc(), ready.asked.health, frame, station) else {
-        return Err(out_of_memory(rt));
-    };
-    let Ok((mut lines, waiting, progress)) = lines_of(rt, &known.0, ready.asked.how()) else {
-        return Err(out_of_memory(rt));
-    };
-    start_lines(rt, waiting, progress)?;
-    recorded(rt, ready, folder, known, &mut lines)
-}
-
-fn main(rt: HostRuntime) -> ExitCode {
-    match run(&rt) {
-        Ok(status) | Err(status) => ExitCode::from(status),
-    }
+    let ready = (asked, plan, operator);
+    ExitCode::from(recorded(&rt, ready, folder, input, &mut lines, last))
 }

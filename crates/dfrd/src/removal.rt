@@ -30,6 +30,14 @@ fn sizes_of(alloc: Global, pairs: &[(Key, u64)]) -> Result<Vec<u64>, AllocError>
     Ok(sizes)
 }
 
+/// How many bytes were freed for this record until now.
+fn given_for(given: Option<(Key, u64)>, record: Key) -> u64 {
+    match given {
+        Some((key, bytes)) if key == record => bytes,
+        _ => 0,
+    }
+}
+
 impl<'a, R: Files<File = File> + Eprint + AllocGlobal + Clone + Drop> Folder<'a, R> {
     /// How many of the oldest pairs have to be removed.
     fn surplus(&self) -> Result<usize, AllocError> {
@@ -171,10 +179,7 @@ impl<'a, R: Files<File = File> + Eprint + AllocGlobal + Clone + Drop> Folder<'a,
         record: Key,
         size: u64,
     ) -> bool {
-        let given = match self.given {
-            Some((key, given)) if key == record => given,
-            _ => 0,
-        };
+        let given = given_for(self.given, record);
         if matches!(self.keep, Keep::All) || !is_short(size, given) {
             return false;
         }
