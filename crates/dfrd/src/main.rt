@@ -22,11 +22,11 @@ mod words;
 
 use crate::feed::Source;
 use crate::folder::{Folder, Records};
-use crate::health_file::{Shared, health_of, keep_written, write_last};
+use crate::health_file::{health_of, keep_written, write_last};
 use crate::heard::Heeded;
 use crate::operator::{Follower, WAITING, Waker, follower_of, open_orders};
 use crate::outcome::{complain, out_of_memory};
-use crate::output::{Lines, lines_of, write_lines};
+use crate::output::{lines_of, write_lines};
 use crate::place::{Place, watch};
 use crate::record::{Plan, keep_of, plan_of, record};
 use crate::threads::{copy_of, fed_of, has_begun};
@@ -37,13 +37,11 @@ use dfr_station::{Control, Limited};
 use rtrb::RingBuffer;
 use std::alloc::{AllocError, Global};
 use std::fs::File;
-use std::io::{ErrorKind, Read};
+use std::io::ErrorKind;
 use std::process::ExitCode;
 use std::rt::{Env, Files};
+use std::sync::Arc;
 use std::sync::atomic::AtomicBool;
-use std::sync::{Arc, Wait};
-use std::thread::Threads;
-use std::time::Clock;
 use std::{env, io, thread};
 
 /// Prints a usage error in printable characters. Returns the exit status.
@@ -182,29 +180,6 @@ fn made_ready<'a, K: Records, R: Files<File = File> + Print + Eprint + AllocGlob
     Ok(ready)
 }
 
-/// Records. Returns the exit status.
-fn recorded<I, R>(
-    rt: &R,
-    ready: (Asked<'_>, Plan, Option<Control>),
-    folder: Folder<'_, R>,
-    input: Heeded<'_, I, R>,
-    lines: &mut Lines<'_, R>,
-    last: Option<Shared>,
-) -> u8
-where
-    I: Read + Send + Drop,
-    R: Files<File = File> + Print + Eprint + AllocGlobal + Threads + Wait + Clock + Clone + Sync,
-{
-    let (asked, plan, operator) = ready;
-    let store = Limited::new(folder, asked.most);
-    let status = record(rt, &asked, &plan, operator, input, store, lines);
-    lines.finish();
-    if let Some(file) = last {
-        write_last(rt, &file);
-    }
-    status
-}
-
 // Only `main` may start a thread that has the runtime's files, so all of them begin here. They are
 // not waited for: they end with the program.
 fn main(rt: HostRuntime) -> ExitCode {
@@ -278,6 +253,11 @@ fn main(rt: HostRuntime) -> ExitCode {
         heard,
         frame,
     };
-    let ready = (asked, plan, operator);
-    ExitCode::from(recorded(&rt, ready, folder, input, &mut lines, last))
+    let store = Limited::new(folder, asked.most);
+    let status = record(&rt, &asked, &plan, operator, input, store, &mut lines);
+    lines.finish();
+    if let Some(file) = last {
+        write_last(&rt, &file);
+    }
+    ExitCode::from(status)
 }
