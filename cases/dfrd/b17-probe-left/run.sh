@@ -13,6 +13,6 @@ if unshare -rm mount --bind "$folder" "$folder" 2> /dev/null; then unshare -rm b
 { printf 'station S\ndevice D\n'
   for _ in $(seq 256); do echo 'analog A,,,A,1,0,0,-100,100,1,1,P'; done
   for _ in $(seq 256); do echo 'status B,,,0'; done
-  printf 'freq 50\nrate 4800\nlimits 100,100,1000000,64\n'; } > "$work/big"
+  printf 'freq 50\nrate 4800\nlimits 100,100,1000,64\n'; } > "$work/big"
 rm -f "$folder/.dfrd.part"
 "$dfrd" --check "$work/big" "$folder"
