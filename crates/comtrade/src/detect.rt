@@ -16,12 +16,28 @@ use dfr_setup::{DetectorRefusal, Plan, Planned, detectors_over};
 use std::alloc::{AllocError, Allocator, Global};
 use std::rt::Files;
 
+/// A row by its place in the list and by its number, from 1.
+#[derive(Clone, Copy)]
+struct Place {
+    row: usize,
+    number: u64,
+}
+
 /// A detector's bit becomes 1 at a row, from 0, and stays 1 for so many.
 #[derive(Clone, Copy)]
 struct Firing {
     detector: usize,
-    first: usize,
+    first: Place,
     rows: usize,
+}
+
+/// The bit of a detector was 1 from a row to the one before `end`.
+fn fired(detector: usize, first: Place, end: usize) -> Firing {
+    Firing {
+        detector,
+        first,
+        rows: end.abs_diff(first.row),
+    }
 }
 
 /// What detectors did on the rows so far.
@@ -29,7 +45,7 @@ struct Firing {
 struct Watched<A: Allocator> {
     firings: Vec<Firing, A>,
     /// For each detector whose bit is 1: since which row.
-    since: Vec<Option<usize>, A>,
+    since: Vec<Option<Place>, A>,
 }
 
 impl<A: Allocator> Watched<A> {
@@ -49,21 +65,27 @@ impl<A: Allocator> Watched<A> {
     }
 
     /// Takes in the bits of a row.
-    fn take_in(&mut self, row: usize, bits: &[bool]) -> Result<(), AllocError> {
-        for (detector, place) in self.since.iter_mut().enumerate() {
+    fn take_in(&mut self, place: Place, bits: &[bool]) -> Result<(), AllocError> {
+        for (detector, since) in self.since.iter_mut().enumerate() {
             let bit = bits.get(detector).copied() == Some(true);
-            match *place {
-                None if bit => *place = Some(row),
+            match *since {
+                None if bit => *since = Some(place),
                 Some(first) if !bit => {
-                    *place = None;
-                    self.firings.push(Firing {
-                        detector,
-                        first,
-                        // `first` is an earlier row
-                        rows: row.saturating_sub(first),
-                    })?;
+                    *since = None;
+                    self.firings.push(fired(detector, first, place.row))?;
                 }
                 _ => {}
+            }
+        }
+        Ok(())
+    }
+
+    /// Ends the firings that last to the end of so many rows.
+    fn end(&mut self, rows: usize) -> Result<(), AllocError> {
+        for (detector, since) in self.since.iter_mut().enumerate() {
+            if let Some(first) = *since {
+                *since = None;
+                self.firings.push(fired(detector, first, rows))?;
             }
         }
         Ok(())
@@ -108,15 +130,11 @@ fn watched_over<A: Allocator + Copy>(
         {
             return Err(AllocError);
         }
-        watched.take_in(row, &bits)?;
+        let number = row as u64 + 1;
+        watched.take_in(Place { row, number }, &bits)?;
     }
-    watched.take_in(file.rows.items().len(), &[])?;
+    watched.end(file.rows.items().len())?;
     Ok(watched.firings)
-}
-
-/// The number of a row, from 1; a record has far fewer than 2^64.
-fn ordinal(row: usize) -> u64 {
-    (row as u64).saturating_add(1)
 }
 
 /// Puts the instant of a row, or `-` where it isn't known or has no date.
@@ -152,9 +170,9 @@ fn put_lines<A: Allocator>(
         is_any = true;
         put_safe(out, name)?;
         put(out, " ")?;
-        put_row_instant(out, taken, firing.first, b' ')?;
-        put_with(out, " row ", ordinal(firing.first))?;
-        put_with(out, " scan ", firing.first as u64)?;
+        put_row_instant(out, taken, firing.first.row, b' ')?;
+        put_with(out, " row ", firing.first.number)?;
+        put_with(out, " scan ", firing.first.row as u64)?;
         put_with(out, " for ", firing.rows as u64)?;
         put(out, "\n")?;
     }
@@ -191,9 +209,9 @@ fn put_object<A: Allocator>(
             },
         )?;
         is_first = false;
-        put_row_instant(out, taken, firing.first, b' ')?;
-        put_with(out, "\",\"row\":", ordinal(firing.first))?;
-        put_with(out, ",\"scan\":", firing.first as u64)?;
+        put_row_instant(out, taken, firing.first.row, b' ')?;
+        put_with(out, "\",\"row\":", firing.first.number)?;
+        put_with(out, ",\"scan\":", firing.first.row as u64)?;
         put_with(out, ",\"scans\":", firing.rows as u64)?;
         put(out, "}")?;
     }
@@ -254,8 +272,8 @@ fn put_refused(
 fn detect_over<A: Allocator + Copy>(
     alloc: Global,
     lists: A,
-    viewed: Viewed<'_>,
-    text: &[u8],
+    json: bool,
+    (lines, text): (&str, &[u8]),
     taken: &Taken<A>,
     (out, said): (&mut Vec<u8>, &mut Vec<u8>),
 ) -> Result<bool, ToolFault> {
@@ -270,11 +288,11 @@ fn detect_over<A: Allocator + Copy>(
     match detectors_over(lists, &setup, text) {
         Ok(mut planned) => {
             let firings = watched_over(lists, &mut planned, &taken.file)?;
-            put_all(alloc, out, taken, &planned.plans, &firings, viewed.json)?;
+            put_all(alloc, out, taken, &planned.plans, &firings, json)?;
             Ok(true)
         }
         Err((line, refusal)) => {
-            put_refused(alloc, said, viewed.lines.unwrap_or(""), line, refusal)?;
+            put_refused(alloc, said, lines, line, refusal)?;
             Ok(false)
         }
     }
@@ -305,7 +323,7 @@ fn record_of<R: Eprint + AllocGlobal, A: Allocator + Copy>(
 fn detect<R: Print + Eprint + AllocGlobal>(
     rt: &R,
     viewed: Viewed<'_>,
-    text: &[u8],
+    detectors: (&str, &[u8]),
     inputs: &Inputs,
 ) -> Result<bool, ToolFault> {
     let lists = Bump::new(rt.alloc());
@@ -314,7 +332,7 @@ fn detect<R: Print + Eprint + AllocGlobal>(
     };
     let (mut out, mut said) = (Vec::new(rt.alloc()), Vec::new(rt.alloc()));
     let places = (&mut out, &mut said);
-    let is_done = detect_over(rt.alloc(), &lists, viewed, text, &taken, places)?;
+    let is_done = detect_over(rt.alloc(), &lists, viewed.json, detectors, &taken, places)?;
     say(rt, &said);
     Ok(is_done && print_bytes(rt, &out) == 0)
 }
@@ -325,7 +343,13 @@ pub(crate) fn run_detect<R: Files + Input + Print + Eprint + AllocGlobal + Clone
     is_watched: bool,
     viewed: Viewed<'_>,
 ) -> u8 {
-    let lines = viewed.lines.unwrap_or("");
+    let Some(lines) = viewed.lines else {
+        say(
+            rt,
+            b"comtrade: no file with the lines of detectors is named\n",
+        );
+        return 2;
+    };
     let text = match read_named(rt, lines) {
         Ok(text) => text,
         Err(fault) => return complain(rt, lines, fault),
@@ -334,7 +358,7 @@ pub(crate) fn run_detect<R: Files + Input + Print + Eprint + AllocGlobal + Clone
         return 1;
     };
     note_size(rt, is_watched, &inputs);
-    match detect(rt, viewed, &text, &inputs) {
+    match detect(rt, viewed, (lines, &text), &inputs) {
         Ok(true) => 0,
         Ok(false) => 1,
         Err(fault) => complain(rt, "standard output", fault),

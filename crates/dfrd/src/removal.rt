@@ -68,9 +68,10 @@ impl<'a, R: Files<File = File> + Eprint + AllocGlobal + Clone + Drop> Folder<'a,
         }
     }
 
-    /// Counts a pair that was removed, one by one: the count never comes near 2^64.
+    /// Counts a pair that was removed. The count stops at the greatest number that it can have, as
+    /// the metric of it does.
     fn count_removal(&mut self) {
-        self.removed = self.removed.wrapping_add(1);
+        self.removed = self.removed.saturating_add(1);
     }
 
     /// Notes that the oldest pair is gone, if it is.
