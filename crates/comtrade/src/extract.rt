@@ -31,7 +31,7 @@ not a line that dfr replay prints, or a truncated record: ";
 const ENDED: &str = "comtrade: standard input: the replay ended with: ";
 
 /// Prints how many records were written before the error.
-fn stop<R: Eprint>(rt: &R, written: u64) -> u8 {
+fn stop<R: Eprint>(rt: &R, written: usize) -> u8 {
     let _ = match written {
         0 => eprintln!(rt; "comtrade: no record was written"),
         1 => eprintln!(rt; "comtrade: 1 record was written before"),
@@ -47,14 +47,12 @@ fn extract_all<R: Files + Print + Eprint + AllocGlobal>(
     printed: &[u8],
 ) -> u8 {
     let mut left = printed;
-    let mut written = 0u64;
-    for _ in 0..printed.len().saturating_add(1) {
+    for written in 0..=printed.len() {
         match next_record(left) {
             Next::Record(record, rest) => {
                 if write_record(rt, folder, record) != 0 {
                     return stop(rt, written);
                 }
-                written = written.saturating_add(1);
                 left = rest;
             }
             Next::End => {

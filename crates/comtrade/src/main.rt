@@ -48,7 +48,7 @@ use std::{fs, io};
 const LIMIT: usize = 536_870_912;
 
 /// Reading a pair of this size may take over a second.
-const LONG: usize = 32_000_000;
+const LONG: u64 = 32_000_000;
 
 /// Prints bytes on standard error.
 pub(crate) fn say<R: Eprint>(rt: &R, bytes: &[u8]) {
@@ -200,7 +200,7 @@ fn note_swapped<R: Eprint + AllocGlobal>(rt: &R, pair: Pair<'_>) {
 
 /// Prints how much there is to read, if that may take over a second and someone watches.
 pub(crate) fn note_size<R: Eprint>(rt: &R, is_watched: bool, inputs: &Inputs) {
-    let bytes = inputs.cfg.len().saturating_add(inputs.dat.len());
+    let bytes = inputs.cfg.len() as u64 + inputs.dat.len() as u64;
     if is_watched && LONG <= bytes {
         let megabytes = bytes / 1_000_000;
         let _ = eprintln!(rt; "comtrade: reading {megabytes} MB ..");

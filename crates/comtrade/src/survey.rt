@@ -6,7 +6,7 @@ use crate::load::{Inputs, read_record};
 use crate::{complain, print_bytes, say};
 use comtrade_format::File;
 use comtrade_io::{Names, Survey, ToolFault, put_safe};
-use comtrade_values::put;
+use comtrade_values::{lines_of, put, without_blank_end};
 use comtrade_views::{
     Event, Summary, add_events, fault_summary, put_events, put_events_json, put_summaries,
     put_summaries_json, sort_events, sort_summaries, summary_of,
@@ -31,10 +31,11 @@ pub(crate) fn say_repairs<R: Eprint + AllocGlobal>(
     lines: &[u8],
 ) -> Result<(), ToolFault> {
     let mut text = Vec::new(rt.alloc());
-    for line in str::from_utf8(lines).unwrap_or("").lines() {
+    let lines = lines_of(rt.alloc(), lines)?;
+    for line in without_blank_end(&lines) {
         put_safe(&mut text, name.as_bytes())?;
         put(&mut text, ": ")?;
-        put_safe(&mut text, line.as_bytes())?;
+        put_safe(&mut text, line)?;
         put(&mut text, "\n")?;
     }
     say(rt, &text);

@@ -9,7 +9,7 @@ use comtrade_diagnostics::{Pair, check_over};
 use comtrade_format::File;
 use comtrade_io::{Part, Picture, ToolFault, View, Viewed, write_out};
 use comtrade_plot::{PlotOptions, Rms, Timed, page_over, plot_over};
-use comtrade_values::put;
+use comtrade_values::{lines_of, put, without_blank_end};
 use comtrade_views::{Spelling, csv_over, put_text, show_json, show_over};
 use std::alloc::{AllocError, Allocator, Global};
 use std::io::Write;
@@ -53,24 +53,21 @@ fn pixels_of(text: &str) -> Option<u32> {
     }
 }
 
-/// Whether a given size is valid.
-fn is_size(text: Option<&str>) -> bool {
+/// The size that an option gives, None within if there is none; None if it is not valid.
+fn size_of(text: Option<&str>) -> Option<Option<u32>> {
     match text {
-        Some(text) => pixels_of(text).is_some(),
-        None => true,
+        Some(text) => Some(Some(pixels_of(text)?)),
+        None => Some(None),
     }
 }
 
 /// How a picture is drawn; None if a size is not valid.
 pub(crate) fn options_of(picture: Picture<'_>) -> Option<PlotOptions> {
-    if !is_size(picture.width) || !is_size(picture.height) {
-        return None;
-    }
     Some(PlotOptions {
         is_whole: picture.whole,
         shows_all: picture.all,
-        width: pixels_of(picture.width.unwrap_or("")),
-        height: pixels_of(picture.height.unwrap_or("")),
+        width: size_of(picture.width)?,
+        height: size_of(picture.height)?,
     })
 }
 
@@ -130,12 +127,13 @@ fn verdict_json(alloc: Global, is_sound: bool, text: &[u8]) -> Result<Vec<u8>, A
     )?;
     put(&mut out, ",\"lines\":[")?;
     let mut is_first = true;
-    for line in str::from_utf8(text).unwrap_or("").lines() {
+    let lines = lines_of(alloc, text)?;
+    for line in without_blank_end(&lines) {
         if !is_first {
             put(&mut out, ",")?;
         }
         is_first = false;
-        put_text(alloc, &mut out, line.as_bytes())?;
+        put_text(alloc, &mut out, line)?;
     }
     put(&mut out, "]}\n")?;
     Ok(out)
