@@ -1,5 +1,8 @@
 //! Old pairs are removed, the oldest first. How many, `dfr_folder` decides.
 
+ghost use Rattle.std.specs.Prelude.{IfOk, IfSome};
+ghost use Rattle.dfrd.specs.Oldest.{IsFirst};
+
 use crate::folder::{Folder, Opened};
 use crate::outcome::{FileFault, complain};
 use crate::pair::{is_there, path_of};
@@ -49,7 +52,9 @@ impl<'a, R: Files<File = File> + Eprint + AllocGlobal + Clone + Drop> Folder<'a,
     }
 
     /// The oldest pair, if it has to be removed once there is a new one of this size.
-    pub(crate) fn next_surplus(&self, size: u64) -> Result<Option<Key>, AllocError> {
+    pub(crate) fn next_surplus(&self, size: u64) -> Result<Option<Key>, AllocError>
+        ensures { IfOk result (λ next. IfSome next (λ key. IsFirst key self.now.pairs.items)) }
+    {
         if let Keep::All = self.keep {
             return Ok(None);
         }
