@@ -1,9 +1,9 @@
 -- Names are in the order of the instants that they say.
-use Rattle.std.proofs.Common.{◌≡◌, ◌⊎◌, ◌≤◌, ◌<◌, ◌+◌, ◌-◌, ◌*◌, ◌/◌, ◌%◌, ◌^◌, ℕ, List, refl, sym, ◌∙◌, ap, subst, inl, inr, arith, ℤ, pos, negsuc, neg_ℤ, ◌+ℤ◌, ◌*ℤ◌, ◌<ℤ◌, ◌≤ℤ◌}
-use Rattle.std.specs.Prelude.{◌↔◌, slice_index_or, unsigned_abs}
+use Rattle.std.proofs.Common.{◌≡◌, ◌⊎◌, ◌≤◌, ◌<◌, ◌*◌, ◌/◌, ℕ, List, refl, sym, ◌∙◌, ap, inl, inr, arith, ℤ, pos, negsuc, neg_ℤ, ◌*ℤ◌, ◌<ℤ◌, ◌≤ℤ◌}
+use Rattle.std.specs.Prelude.{slice_index_or, unsigned_abs}
 use Rattle.std.proofs.lemmas.Bool.{cases_order}
 use Rattle.std.proofs.lemmas.Int.{by_lt_z}
-use Rattle.jiff_core.specs.Calendar.{IsCivilDate, IsYear, day_count, days_from_civil, days_in_month}
+use Rattle.jiff_core.specs.Calendar.{IsCivilDate, IsYear, day_count, days_from_civil}
 use Rattle.jiff_core.specs.Date.{epoch_day}
 use Rattle.jiff_core.specs.DateTime.{civil_nanos, IsCivilNanos}
 use Rattle.jiff_core.specs.Time.{time_nanos, time_seconds}
@@ -87,10 +87,13 @@ earlier x y a b hx hy da db less =
       | inr (inr same) ↦ (let date : a.date ≡ b.date = omega (arith, da.2, db.2, ap unsigned_abs same.0, same.1, same.2) in
           let day = epoch_day_same s.date t.date same.0 same.1 same.2 in
           let times : time_nanos s.time < time_nanos t.time = omega (arith, signed_arith, nanos, civil_nanos-parts s, civil_nanos-parts t, day) in
-          inr (date, elim (time_before s.time t.time (s.time.subsec_nanosecond / 1000) (t.time.subsec_nanosecond / 1000) (fraction s x da.1) (fraction t y db.1) times) [
-            | inl before ↦ inl (omega (arith, da.3, db.3, before))
-            | inr at_second ↦ inr (omega (arith, da.3, db.3, at_second.0), omega (arith, da.4, db.4, at_second.1))
-          ]))
+          inr (
+            date,
+            elim (time_before s.time t.time (s.time.subsec_nanosecond / 1000) (t.time.subsec_nanosecond / 1000) (fraction s x da.1) (fraction t y db.1) times) [
+              | inl before ↦ inl (omega (arith, da.3, db.3, before))
+              | inr at_second ↦ inr (omega (arith, da.3, db.3, at_second.0), omega (arith, da.4, db.4, at_second.1))
+            ],
+          ))
     ]
 
 one_only : (a b : Key) → IsEarlier a b → IsEarlier b a → ⊥

@@ -1,7 +1,7 @@
 -- The order of keys puts the earlier date or time of day first.
 use Rattle.std.proofs.Common.{◌≡◌, ℕ, true, List, inl, inr, arith}
 use Rattle.std.specs.Prelude.{IsSortedByKey, slice_index_or}
-use Rattle.std.specs.Ordering.{is_lt, ordering_then, nat_cmp}
+use Rattle.std.specs.Ordering.{is_lt}
 use Rattle.std.specs.declared.cmp.Ordering.{Ordering}
 use Rattle.std.proofs.lemmas.Grind.{common_steps}
 use Rattle.std.proofs.lemmas.List.Sorted.{ranks_by, sorted_far}
