@@ -1,6 +1,8 @@
 //! The folder of records. Which files are written, renamed and removed, and in which order, is
 //! decided in `dfr_folder`: whatever stops `dfrd`, a `.cfg` has its whole pair.
 
+ghost use Rattle.std.specs.Prelude.{◌≡◌, ◌⊎◌, ◌++◌, ◌∷◌, []};
+
 use crate::disk::Disk;
 use crate::outcome::{Reason, complain, reason_for, reason_of};
 use crate::pair::{is_free, size_of_pair};
@@ -101,7 +103,10 @@ fn trouble_of(reason: Reason) -> Trouble {
 
 impl<'a, R: Files<File = File> + Eprint + AllocGlobal + Clone + Drop> Folder<'a, R> {
     /// Notes a new pair, unless all are kept.
-    fn note_pair(&mut self, key: Key, size: u64) {
+    fn note_pair(&mut self, key: Key, size: u64)
+        ensures { (self.new.pairs.items ≡ self.old.pairs.items)
+            ⊎ (self.new.pairs.items ≡ self.old.pairs.items ++ (key, size) ∷ []) }
+    {
         if !matches!(self.keep, Keep::All) {
             let _ = self.pairs.push((key, size));
         }

@@ -1,7 +1,8 @@
 //! Old pairs are removed, the oldest first. How many, `dfr_folder` decides.
 
-ghost use Rattle.std.specs.Prelude.{IfOk, IfSome};
-ghost use Rattle.dfrd.specs.Oldest.{IsFirst};
+ghost use Rattle.std.specs.Prelude.{◌≡◌, ◌⊎◌, IfOk, IfSome};
+ghost use Rattle.std.specs.List.{remove};
+ghost use Rattle.dfrd.specs.Oldest.{IsFirst, TakesOff};
 
 use crate::folder::{Folder, Opened};
 use crate::outcome::{FileFault, complain};
@@ -74,12 +75,17 @@ impl<'a, R: Files<File = File> + Eprint + AllocGlobal + Clone + Drop> Folder<'a,
     }
 
     /// Counts a pair that was removed, one by one: the count never comes near 2^64.
-    fn count_removal(&mut self) {
+    fn count_removal(&mut self)
+        ensures { self.new.pairs ≡ self.old.pairs }
+    {
         self.removed = self.removed.wrapping_add(1);
     }
 
     /// Notes that the oldest pair is gone, if it is.
-    pub(crate) fn note_removal(&mut self, opened: &mut Opened<'a, R>, oldest: Key) {
+    pub(crate) fn note_removal(&mut self, opened: &mut Opened<'a, R>, oldest: Key)
+        ensures { (self.new.pairs.items ≡ self.old.pairs.items)
+            ⊎ (self.new.pairs.items ≡ remove self.old.pairs.items 0) }
+    {
         if !Self::is_named(opened, oldest) && !self.pairs.is_empty() {
             self.pairs.remove(0);
             self.count_removal();
@@ -87,7 +93,9 @@ impl<'a, R: Files<File = File> + Eprint + AllocGlobal + Clone + Drop> Folder<'a,
     }
 
     /// How a removal went that failed. A pair that can't be removed is reported once.
-    fn failed_removal(&mut self, opened: &mut Opened<'a, R>, path: &str, key: Key) -> Removal {
+    fn failed_removal(&mut self, opened: &mut Opened<'a, R>, path: &str, key: Key) -> Removal
+        ensures { self.new.pairs ≡ self.old.pairs }
+    {
         if !Self::is_named(opened, key) {
             return Removal::Missing;
         }
@@ -102,7 +110,9 @@ impl<'a, R: Files<File = File> + Eprint + AllocGlobal + Clone + Drop> Folder<'a,
     }
 
     /// Removes a pair. What is left of an earlier removal is removed first.
-    fn removal_of(&mut self, opened: &mut Opened<'a, R>, path: &str, key: Key) -> Removal {
+    fn removal_of(&mut self, opened: &mut Opened<'a, R>, path: &str, key: Key) -> Removal
+        ensures { self.new.pairs ≡ self.old.pairs }
+    {
         if !Self::is_named(opened, key) {
             return Removal::Missing;
         }
@@ -125,7 +135,9 @@ impl<'a, R: Files<File = File> + Eprint + AllocGlobal + Clone + Drop> Folder<'a,
         opened: &mut Opened<'a, R>,
         path: &str,
         from: usize,
-    ) -> Option<(usize, Key, u64, bool)> {
+    ) -> Option<(usize, Key, u64, bool)>
+        ensures { TakesOff result self.old.pairs.items self.new.pairs.items }
+    {
         let newest = self.pairs.len().checked_sub(1)?;
         for at in from..newest {
             let (key, size) = *self.pairs.get(at)?;
