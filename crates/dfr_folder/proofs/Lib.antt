@@ -17,3 +17,6 @@ mod Whole
 mod Dropping
 mod Clean
 mod TextLemmas
+mod SortingLemmas
+pub mod DatedLemmas
+mod OrderLemmas

@@ -5,3 +5,5 @@ pub mod Opened
 pub mod Found
 pub mod Choice
 pub mod Texts
+pub mod Dated
+pub mod Sorting

@@ -14,3 +14,4 @@ pub mod Finished
 pub mod Failing
 pub mod Hours
 pub mod Behind
+pub mod Taking

@@ -3,7 +3,7 @@ use Rattle.std.proofs.Common.{◌≡◌, List, ◌∷◌, inl, inr, ◌∙◌, a
 use Rattle.dfr_live.specs.Devices.{FilesParts}
 use Rattle.dfr_station.specs.Input.{one_more}
 use Rattle.dfr_station.specs.Storing.{StoresOf, Exporting, Refused, StoredOrGivenUp, TriedPair}
-use Rattle.dfr_station.specs.declared.key.Key.{Key}
+use Rattle.dfr_folder.specs.declared.name.Key.{Key}
 use Rattle.dfr_station.specs.declared.event.Trouble.{Trouble}
 use Rattle.dfr_station.specs.declared.outlet.Tried.TheVariants as tried
 

@@ -16,7 +16,7 @@ use Rattle.dfr_station.specs.Storing.{StoresOf}
 use Rattle.dfr_station.specs.declared.event.Trouble.{Trouble}
 use Rattle.dfr_station.specs.declared.event.Trouble.TheVariants as trouble
 use Rattle.dfr_station.specs.declared.intake.ended.Counts.{Counts}
-use Rattle.dfr_station.specs.declared.key.Key.{Key}
+use Rattle.dfr_folder.specs.declared.name.Key.{Key}
 use Rattle.dfr_station.specs.declared.shown.Redated.{Redated}
 use Rattle.dfr_station.specs.declared.station.Stored.{Stored}
 

@@ -1,23 +1,15 @@
 -- What the name of a record's files says.
-use Rattle.std.specs.Prelude.{◌≡◌, ℕ, ◌+◌, ◌*◌, ◌/◌, ℤ, ◌*ℤ◌, pos, unsigned_abs, Option, Some, None, IfSome}
+use Rattle.std.specs.Prelude.{◌≡◌, ℤ, ◌*ℤ◌, ◌<ℤ◌, pos, Option, Some, None, IfSome}
 use Rattle.dfr_channels.specs.Parts.{SetupParts}
 use Rattle.dfr_channels.specs.Scans.{instant_of}
+use Rattle.dfr_folder.specs.Dated.{IsDated, HasYear}
+use Rattle.dfr_folder.specs.Sorting.{SortsBefore}
+use Rattle.dfr_folder.specs.Texts.{name_text}
+use Rattle.dfr_folder.specs.declared.name.Key.{Key}
+use Rattle.dfr_folder.specs.declared.name.Name.{Name}
 use Rattle.dfr_recorder.specs.declared.record.Extent.{Extent}
 use Rattle.dfr_station.specs.declared.shown.Redated.{Redated}
-use Rattle.jiff_core.specs.DateTime.{civil_nanos, IsCivilNanos}
-use Rattle.jiff_core.specs.declared.civil.datetime.DateTime.{DateTime}
-use Rattle.dfr_station.specs.declared.key.Key.{Key}
-
--- year, month and day, or hour, minute and second, as one number
-abbrev pub packed : ℕ → ℕ → ℕ → ℕ
-packed first second third = first * 10_000 + second * 100 + third
-
--- the name has the civil date and the time of day of this instant, in microseconds since 1970-01-01 00:00:00 UTC
-abbrev pub IsDated : ℤ → Key → Type 0
-IsDated instant key = (civil : DateTime) × (civil_nanos civil ≡ instant *ℤ pos 1000)
-    × (key.date ≡ packed (unsigned_abs civil.date.year) civil.date.month civil.date.day)
-    × (key.time ≡ packed civil.time.hour civil.time.minute civil.time.second)
-    × (key.micros ≡ civil.time.subsec_nanosecond / 1000)
+use Rattle.jiff_core.specs.DateTime.{IsCivilNanos}
 
 -- the instant of a record's trigger as it is shown: by its date, or by the set-up
 abbrev pub trigger_shown : SetupParts → Option Redated → Extent → Option ℤ
@@ -32,3 +24,11 @@ IsDatedBy instant key = IfSome instant (λ (at : ℤ). IsCivilNanos (at *ℤ pos
 abbrev pub IsNameOf : SetupParts → Option Redated → Extent → Key → Type 0
 IsNameOf layout redated extent key =
     (key.number ≡ extent.number) × (key.copy ≡ 1) × IsDatedBy (trigger_shown layout redated extent) key
+
+-- Of two records, of one recording or of two, whose triggers are shown in the years 0 to 9999, the names of the one that is shown
+-- to be triggered earlier sort before those of the other.
+abbrev pub RecordsSort : Type 0
+RecordsSort = (layout second : SetupParts) (r s : Option Redated) (e f : Extent) (x y : ℤ) (a b : Name)
+    → IsNameOf layout r e a.key → IsNameOf second s f b.key
+    → trigger_shown layout r e ≡ Some x → trigger_shown second s f ≡ Some y
+    → HasYear x → HasYear y → x <ℤ y → SortsBefore (name_text a) (name_text b)

@@ -8,7 +8,7 @@ use Rattle.dfr_recorder.specs.History.{Opening}
 use Rattle.dfr_station.specs.Dated.{Dating, Shows, IsShown}
 use Rattle.dfr_station.specs.Input.{one_more}
 use Rattle.dfr_station.specs.Names.{IsNameOf}
-use Rattle.dfr_station.specs.declared.key.Key.{Key}
+use Rattle.dfr_folder.specs.declared.name.Key.{Key}
 use Rattle.dfr_station.specs.declared.event.Trouble.{Trouble}
 use Rattle.dfr_station.specs.declared.event.Trouble.TheVariants as troubled
 use Rattle.dfr_station.specs.declared.shown.Redated.{Redated}

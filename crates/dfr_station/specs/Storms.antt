@@ -3,7 +3,7 @@ use Rattle.std.specs.Prelude.{◌≡◌, ◌⊎◌, ℕ, ◌+◌, ◌-◌, ◌*�
 use Rattle.dfr_station.specs.Storing.{StoresOf}
 use Rattle.dfr_station.specs.declared.event.Trouble.{Trouble}
 use Rattle.dfr_station.specs.declared.event.Trouble.TheVariants as trouble
-use Rattle.dfr_station.specs.declared.key.Key.{Key}
+use Rattle.dfr_folder.specs.declared.name.Key.{Key}
 use Rattle.dfr_station.specs.declared.limited.HourLimit.{HourLimit}
 use Rattle.dfr_station.specs.declared.limited.Limited.{Limited}
 use Rattle.dfr_station.specs.declared.station.Stored.{Stored}

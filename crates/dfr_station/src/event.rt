@@ -1,7 +1,7 @@
 //! The events that a station reports.
 
 use crate::intake::Why;
-use crate::key::Key;
+use dfr_folder::Key;
 use dfr_recorder::{Extent, Hit, TriggerFault};
 
 /// Why a line is skipped or refused.

@@ -9,8 +9,8 @@ ghost use Rattle.dfr_station.specs.Finishing.{LosesScan, LosesScans, TriedLast, 
 
 use crate::event::{ClockState, Event, Trouble};
 use crate::intake::{Counts, Recorded};
-use crate::key::Key;
-use crate::outlet::{LAST_TRIES, key_of, pause_before};
+use crate::naming::key_of;
+use crate::outlet::{LAST_TRIES, pause_before};
 use crate::run::{ended_event, print_one};
 use crate::shown::{Redated, redated_by, shown_cfg};
 use crate::station::{Printer, Store, Stored};
@@ -18,6 +18,7 @@ use crate::times::followed_by;
 use comtrade_write::{Kind, pair_of};
 use dfr_channels::Layout;
 use dfr_clock::Timebase;
+use dfr_folder::Key;
 use dfr_recorder::{Extent, LostRefusal, Record, Recorder};
 use std::alloc::Allocator;
 use std::sync::Wait;

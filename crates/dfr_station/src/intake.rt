@@ -1,6 +1,5 @@
 //! What a station takes in. Each frame becomes one step of the source: a scan that is offered, or a
-//! lost one. Lines become the commands of a script. Here are also the result of a recording, and
-//! how many of the oldest pairs to remove.
+//! lost one. Lines become the commands of a script. Here is also the result of a recording.
 
 mod arrival;
 mod arrivals;
@@ -11,7 +10,6 @@ mod cutter;
 mod ended;
 mod feed;
 mod frame;
-mod keep;
 mod line;
 
 pub(crate) use arrival::Arrival;
@@ -23,6 +21,5 @@ pub use ended::{Counts, Recorded, RunFault};
 pub use feed::Why;
 pub(crate) use feed::missing_scan;
 pub use frame::{frame_len, scan_of_frame};
-pub use keep::surplus_bytes;
 pub use line::{is_damaged, is_scan_line};
 pub(crate) use line::{is_word, skipped_of_line, skipped_of_rules};

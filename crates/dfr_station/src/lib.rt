@@ -11,11 +11,11 @@ mod filler;
 mod finish;
 mod first;
 mod intake;
-mod key;
 mod limited;
 mod losses;
 mod meanwhile;
 mod moment;
+mod naming;
 mod operator;
 mod outlet;
 mod pace;
@@ -33,15 +33,16 @@ mod telling;
 mod times;
 mod watch;
 
+pub use dfr_folder::Key;
 pub use event::{Asked, ClockState, Event, Followed, Replied, Skipped, Trouble};
 pub use finish::finish_station;
 pub use first::{First, read_first};
 pub use intake::{
     Buffer, Counts, ROOM, Recorded, RunFault, Why, frame_len, is_damaged, is_scan_line,
-    scan_of_frame, surplus_bytes,
+    scan_of_frame,
 };
-pub use key::{Key, key_at, key_in, put_key};
 pub use limited::{HourLimit, Limited, hours_have_most};
+pub use naming::records_sort;
 pub use printed::put_event;
 pub use run::{Run, run_station};
 pub use station::{Control, Input, Lowest, Printer, Station, Store, Stored};

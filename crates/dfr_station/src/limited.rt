@@ -5,8 +5,8 @@ ghost use Rattle.std.specs.Prelude.{◌≡◌, ℕ, List, [], ◌∷◌};
 ghost use Rattle.dfr_station.specs.Storms as spec;
 
 use crate::event::Trouble;
-use crate::key::Key;
 use crate::station::{Store, Stored};
+use dfr_folder::Key;
 
 /// How many pairs of one hour may be stored, and how many of the newest hour were.
 #[derive(Clone, Copy, Debug, PartialEq, Eq, Drop)]

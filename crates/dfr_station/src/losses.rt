@@ -1,5 +1,9 @@
 //! Lost scans that are reported together: those of each reason apart.
 
+ghost use Rattle.std.specs.Prelude.{◌≡◌, Some, if◌then◌else◌};
+ghost use Rattle.dfr_station.specs.declared.intake.feed.Why.{Why};
+ghost use Rattle.dfr_station.specs.Reported as spec;
+
 use crate::event::Event;
 use crate::intake::Why;
 
@@ -47,7 +51,9 @@ impl Losses {
 }
 
 /// Losses, and later ones.
-fn joined(losses: Option<Losses>, later: Losses) -> Losses {
+fn joined(losses: Option<Losses>, later: Losses) -> Losses
+    ensures { result ≡ spec.joined losses later }
+{
     match losses {
         Some(before) => Losses {
             last: later.last,
@@ -85,7 +91,10 @@ impl Pending {
     };
 
     /// Adds losses to those of the same reason.
-    pub(crate) fn add(&mut self, later: Losses) {
+    pub(crate) fn add(&mut self, later: Losses)
+        ensures { (why : Why) → spec.waiting self.new why ≡ (if spec.is_alike why later.why
+            then Some (spec.joined (spec.waiting self.old why) later) else spec.waiting self.old why) }
+    {
         match later.why {
             Why::Told => self.told = Some(joined(self.told, later)),
             Why::Unread => self.unread = Some(joined(self.unread, later)),
@@ -99,7 +108,10 @@ impl Pending {
     }
 
     /// Takes the losses of one reason, if any wait.
-    pub(crate) fn take(&mut self) -> Option<Losses> {
+    #[tactic(auto, using(crate::proofs::Taking::none_there, crate::proofs::Taking::some_there, crate::proofs::Taking::last_there))]
+    pub(crate) fn take(&mut self) -> Option<Losses>
+        ensures { spec.Takes (spec.all_of self.old) result (spec.all_of self.new) }
+    {
         if self.told.is_some() {
             return self.told.take();
         }

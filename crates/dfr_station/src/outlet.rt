@@ -3,11 +3,10 @@
 ghost use Rattle.std.specs.Prelude.{◌≡◌, MatchBool, IfSome, Some, false};
 ghost use Rattle.dfr_station.specs.Dated.{Shows, AreWritable, changed_cfg};
 ghost use Rattle.dfr_station.specs.Input.{one_more};
-ghost use Rattle.dfr_station.specs.Names as names;
 ghost use Rattle.dfr_station.specs.Storing.{TriedPair, StoredOrGivenUp};
 
 use crate::event::{ClockState, Event, Trouble};
-use crate::key::{Key, key_at};
+use crate::naming::key_of;
 use crate::shown::{Redated, redated_by, shown_cfg};
 use crate::signals::Signals;
 use crate::station::{Recording, Store, Stored};
@@ -16,6 +15,7 @@ use crate::times::followed_by;
 use comtrade_write::Kind;
 use dfr_channels::Layout;
 use dfr_clock::Timebase;
+use dfr_folder::Key;
 use dfr_live::{Outlet, Short};
 use dfr_recorder::Extent;
 use std::alloc::{Allocator, Global};
@@ -131,35 +131,6 @@ impl<'s, K, R, A: Allocator> Exports<'s, K, R, A> {
         ensures { result ≡ self.now.unwritten }
     {
         self.unwritten
-    }
-}
-
-/// The instant of a record's trigger as it is shown.
-fn trigger_shown<A: Allocator>(
-    layout: &Layout<A>,
-    extent: Extent,
-    redated: Option<Redated>,
-) -> Option<i64>
-    ensures { result ≡ names.trigger_shown layout.now redated extent }
-{
-    match redated {
-        Some(redated) => Some(redated.is.trigger),
-        None => layout.instant(extent.trigger),
-    }
-}
-
-/// The name of a record's pair, from the instant of its trigger as it is shown.
-pub(crate) fn key_of<A: Allocator>(
-    layout: &Layout<A>,
-    extent: Extent,
-    redated: Option<Redated>,
-) -> Key
-    ensures { names.IsNameOf layout.now redated extent result }
-{
-    match trigger_shown(layout, extent, redated) {
-        Some(instant) => key_at(instant, extent.number),
-        // a scan without an instant is refused, so the scan of a record's trigger has one
-        None => key_at(0, extent.number),
     }
 }
 

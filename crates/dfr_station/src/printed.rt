@@ -4,8 +4,8 @@ ghost use Rattle.std.specs.Prelude.{◌≡◌, ◌+◌, ◌/◌, unsigned_abs};
 
 use crate::event::{Asked, ClockState, Event, Followed, Replied, Skipped, Trouble};
 use crate::intake::Why;
-use crate::key::{Key, put_key};
 use comtrade_values::{has_date, put, put_civil, put_padded, put_with};
+use dfr_folder::{Key, put_key};
 use dfr_recorder::{Cause, Extent, Hit, TriggerFault};
 use std::alloc::{AllocError, Allocator};
 

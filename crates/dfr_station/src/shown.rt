@@ -11,7 +11,7 @@ ghost use Rattle.comtrade_write.specs.OfRecord.{whole};
 ghost use Rattle.dfr_channels.specs.Scans.{micros as spec_micros};
 ghost use Rattle.dfr_station.specs.Dated as spec;
 
-use comtrade_values::{Decimal, put_decimal, put_instant};
+use comtrade_values::{Decimal, has_date, put_decimal, put_instant};
 use comtrade_write::Kind;
 use dfr_channels::Layout;
 use dfr_recorder::Extent;
@@ -65,8 +65,7 @@ fn writable(instant: Option<i64>) -> Option<i64>
     ensures { result ≡ spec.writable instant }
 {
     match instant {
-        Some(instant) if -62_135_596_800_000_000 <= instant && instant <= 253_402_300_799_999_999 =>
-            { Some(instant) }
+        Some(instant) if has_date(instant) => Some(instant),
         _ => None,
     }
 }

@@ -1,10 +1,10 @@
 //! What a recorder is connected to.
 
 use crate::event::{Event, Trouble};
-use crate::key::Key;
 use comtrade_write::Kind;
 use dfr_channels::Layout;
 use dfr_detect::Detectors;
+use dfr_folder::Key;
 use dfr_recorder::Recorder;
 use rtrb::Consumer;
 use std::alloc::{Allocator, Global};
@@ -26,7 +26,7 @@ pub struct Stored {
 /// files, the answer, and the store after it.
 pub trait Store {
     ghost use Rattle.std.specs.Prelude.{Result, ℕ, List, ⊤};
-    ghost use Rattle.dfr_station.specs.declared.key.Key.{Key};
+    ghost use Rattle.dfr_folder.specs.declared.name.Key.{Key};
     ghost use Rattle.dfr_station.specs.declared.event.Trouble.{Trouble};
     ghost use Rattle.dfr_station.specs.declared.station.Stored.{Stored};
 

@@ -1,9 +1,11 @@
 //! The folder of records. Which files are written, renamed and removed, and in which order, is
 //! decided in `dfr_folder`: whatever stops `dfrd`, a `.cfg` has its whole pair.
 
+ghost use Rattle.std.specs.Prelude.{◌≡◌, ◌⊎◌, ◌++◌, ◌∷◌, []};
+
 use crate::disk::Disk;
 use crate::outcome::{Reason, complain, reason_for, reason_of};
-use crate::pair::{folder_key, is_free, record_key, size_of_pair};
+use crate::pair::{is_free, size_of_pair};
 use crate::place::Place;
 use dfr_folder::{Keep, Key, Mended, Put, Recorded, Unknown, mend, put_for, put_or_mend};
 use dfr_station::{Store, Stored, Trouble};
@@ -101,7 +103,10 @@ fn trouble_of(reason: Reason) -> Trouble {
 
 impl<'a, R: Files<File = File> + Eprint + AllocGlobal + Clone + Drop> Folder<'a, R> {
     /// Notes a new pair, unless all are kept.
-    fn note_pair(&mut self, key: Key, size: u64) {
+    fn note_pair(&mut self, key: Key, size: u64)
+        ensures { (self.new.pairs.items ≡ self.old.pairs.items)
+            ⊎ (self.new.pairs.items ≡ self.old.pairs.items ++ (key, size) ∷ []) }
+    {
         if !matches!(self.keep, Keep::All) {
             let _ = self.pairs.push((key, size));
         }
@@ -232,7 +237,7 @@ impl<'a, R: Files<File = File> + Eprint + AllocGlobal + Clone + Drop> Folder<'a,
             self.tell(path, Reason::Memory);
         }
         self.opened = Some(opened);
-        let key = record_key(written?);
+        let key = written?;
         let removed = self.removed;
         self.removed = 0;
         Ok(Stored { key, removed })
@@ -265,11 +270,11 @@ impl<R: Files<File = File> + Eprint + AllocGlobal + Clone + Drop + Wait> Folder<
 }
 
 impl<R: Files<File = File> + Eprint + AllocGlobal + Clone + Drop + Wait> Store for Folder<'_, R> {
-    fn put(&mut self, key: dfr_station::Key, cfg: &[u8], dat: &[u8]) -> Result<Stored, Trouble> {
+    fn put(&mut self, key: Key, cfg: &[u8], dat: &[u8]) -> Result<Stored, Trouble> {
         let Some(place) = self.place.take() else {
             return Err(Trouble::Gone);
         };
-        let stored = self.put_in(&place, folder_key(key), cfg, dat);
+        let stored = self.put_in(&place, key, cfg, dat);
         let answer = match stored {
             Ok(stored) => {
                 self.reported = None;

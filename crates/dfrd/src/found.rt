@@ -1,11 +1,14 @@
 //! The folder when recording begins: whether it can be used, and what is in it.
 
+ghost use Rattle.std.specs.Prelude.{◌≡◌, [], OnOk};
+ghost use Rattle.dfr_folder.specs.Sorting.{AreOldestFirst};
+
 use crate::disk::{Disk, files_in};
 use crate::folder::{Folder, FolderFault, Records};
 use crate::outcome::{FileFault, Reason, complain, reason_of};
 use crate::pair::size_of_pair;
 use crate::place::{Place, fault_of};
-use dfr_folder::{Ending, Keep, Key, Seen, open_folder};
+use dfr_folder::{Ending, Keep, Key, Seen, open_folder, sort_oldest_first};
 use std::alloc::Global;
 use std::fs::{File, OpenOptions};
 use std::io::ErrorKind;
@@ -60,8 +63,12 @@ fn count_alone(files: &[Seen]) -> usize {
 }
 
 impl<'a, R: Files<File = File> + Eprint + AllocGlobal + Clone + Drop> Folder<'a, R> {
-    /// Notes the pairs that are there, unless all are kept. Reports data files that are alone.
-    fn find_pairs(&mut self, path: &str) -> io::Result<()> {
+    /// Notes the pairs that are there, the oldest first, unless all are kept. Reports data files that
+    /// are alone.
+    fn find_pairs(&mut self, path: &str) -> io::Result<()>
+        requires { self.old.pairs.items ≡ [] }
+        ensures { OnOk result (AreOldestFirst self.new.pairs.items) }
+    {
         let files = files_in(self.rt, self.rt.alloc(), path)?;
         let alone = count_alone(&files);
         if alone != 0 {
@@ -76,12 +83,15 @@ impl<'a, R: Files<File = File> + Eprint + AllocGlobal + Clone + Drop> Folder<'a,
                 self.pairs.push((key, size_of_pair(self.rt, path, key)?))?;
             }
         }
+        sort_oldest_first(&mut self.pairs);
         Ok(())
     }
 
     /// Completes or removes what an interrupted recording left in the folder with this path. Forgets
     /// the pairs of another folder, and finds those of this one.
-    pub(crate) fn open_at(&mut self, path: &str) -> Result<(), Reason> {
+    pub(crate) fn open_at(&mut self, path: &str) -> Result<(), Reason>
+        ensures { OnOk result (AreOldestFirst self.new.pairs.items) }
+    {
         self.opened = None;
         self.pending = None;
         self.pairs.clear();

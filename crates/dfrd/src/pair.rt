@@ -1,38 +1,12 @@
 //! The paths and the sizes of the files of a pair.
 
-ghost use Rattle.std.specs.Prelude.{◌≡◌, ◌≤◌, IfOk};
+ghost use Rattle.std.specs.Prelude.{◌≤◌, IfOk};
 
 use dfr_folder::{Ending, Key, Name, put_name};
 use std::alloc::{AllocError, Global};
 use std::io::ErrorKind;
 use std::rt::Files;
 use std::{fs, io};
-
-/// The key under which the folder has the pair of this name.
-pub(crate) fn folder_key(key: dfr_station::Key) -> Key
-    ensures { result ≡ record { date = key.date; time = key.time; micros = key.micros; number = key.number; copy = key.copy } }
-{
-    Key {
-        date: key.date,
-        time: key.time,
-        micros: key.micros,
-        number: key.number,
-        copy: key.copy,
-    }
-}
-
-/// The name of the pair that the folder has under this key.
-pub(crate) fn record_key(key: Key) -> dfr_station::Key
-    ensures { result ≡ record { date = key.date; time = key.time; micros = key.micros; number = key.number; copy = key.copy } }
-{
-    dfr_station::Key {
-        date: key.date,
-        time: key.time,
-        micros: key.micros,
-        number: key.number,
-        copy: key.copy,
-    }
-}
 
 /// The path of one file of a pair: the folder, the pair's name and an ending.
 pub(crate) fn path_of(alloc: Global, folder: &str, name: Name) -> Result<String, AllocError> {

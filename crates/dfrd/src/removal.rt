@@ -1,5 +1,9 @@
 //! Old pairs are removed, the oldest first. How many, `dfr_folder` decides.
 
+ghost use Rattle.std.specs.Prelude.{◌≡◌, ◌⊎◌, IfOk, IfSome};
+ghost use Rattle.std.specs.List.{remove};
+ghost use Rattle.dfrd.specs.Oldest.{IsFirst, TakesOff};
+
 use crate::folder::{Folder, Opened};
 use crate::outcome::{FileFault, complain};
 use crate::pair::{is_there, path_of};
@@ -49,7 +53,9 @@ impl<'a, R: Files<File = File> + Eprint + AllocGlobal + Clone + Drop> Folder<'a,
     }
 
     /// The oldest pair, if it has to be removed once there is a new one of this size.
-    pub(crate) fn next_surplus(&self, size: u64) -> Result<Option<Key>, AllocError> {
+    pub(crate) fn next_surplus(&self, size: u64) -> Result<Option<Key>, AllocError>
+        ensures { IfOk result (λ next. IfSome next (λ key. IsFirst key self.now.pairs.items)) }
+    {
         if let Keep::All = self.keep {
             return Ok(None);
         }
@@ -70,12 +76,17 @@ impl<'a, R: Files<File = File> + Eprint + AllocGlobal + Clone + Drop> Folder<'a,
 
     /// Counts a pair that was removed. The count stops at the greatest number that it can have, as
     /// the metric of it does.
-    fn count_removal(&mut self) {
+    fn count_removal(&mut self)
+        ensures { self.new.pairs ≡ self.old.pairs }
+    {
         self.removed = self.removed.saturating_add(1);
     }
 
     /// Notes that the oldest pair is gone, if it is.
-    pub(crate) fn note_removal(&mut self, opened: &mut Opened<'a, R>, oldest: Key) {
+    pub(crate) fn note_removal(&mut self, opened: &mut Opened<'a, R>, oldest: Key)
+        ensures { (self.new.pairs.items ≡ self.old.pairs.items)
+            ⊎ (self.new.pairs.items ≡ remove self.old.pairs.items 0) }
+    {
         if !Self::is_named(opened, oldest) && !self.pairs.is_empty() {
             self.pairs.remove(0);
             self.count_removal();
@@ -83,7 +94,9 @@ impl<'a, R: Files<File = File> + Eprint + AllocGlobal + Clone + Drop> Folder<'a,
     }
 
     /// How a removal went that failed. A pair that can't be removed is reported once.
-    fn failed_removal(&mut self, opened: &mut Opened<'a, R>, path: &str, key: Key) -> Removal {
+    fn failed_removal(&mut self, opened: &mut Opened<'a, R>, path: &str, key: Key) -> Removal
+        ensures { self.new.pairs ≡ self.old.pairs }
+    {
         if !Self::is_named(opened, key) {
             return Removal::Missing;
         }
@@ -98,7 +111,9 @@ impl<'a, R: Files<File = File> + Eprint + AllocGlobal + Clone + Drop> Folder<'a,
     }
 
     /// Removes a pair. What is left of an earlier removal is removed first.
-    fn removal_of(&mut self, opened: &mut Opened<'a, R>, path: &str, key: Key) -> Removal {
+    fn removal_of(&mut self, opened: &mut Opened<'a, R>, path: &str, key: Key) -> Removal
+        ensures { self.new.pairs ≡ self.old.pairs }
+    {
         if !Self::is_named(opened, key) {
             return Removal::Missing;
         }
@@ -121,7 +136,9 @@ impl<'a, R: Files<File = File> + Eprint + AllocGlobal + Clone + Drop> Folder<'a,
         opened: &mut Opened<'a, R>,
         path: &str,
         from: usize,
-    ) -> Option<(usize, Key, u64, bool)> {
+    ) -> Option<(usize, Key, u64, bool)>
+        ensures { TakesOff result self.old.pairs.items self.new.pairs.items }
+    {
         let newest = self.pairs.len().checked_sub(1)?;
         for at in from..newest {
             let (key, size) = *self.pairs.get(at)?;

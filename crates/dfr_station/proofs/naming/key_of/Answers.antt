@@ -1,7 +1,7 @@
 use Rattle.std.proofs.Common.{rules, ◌∙◌, sym, subst, ℤ, to_z-of_z, FitsSigned, w64}
 use Rattle.std.specs.Prelude.{Option}
 use Rattle.dfr_station.specs.Names.{IsDatedBy}
-use Rattle.dfr_station.proofs.outlet.key_of.Goals as goal
+use Rattle.dfr_station.proofs.naming.key_of.Goals as goal
 
 pub returns-in-Some : goal.returns-in-Some
 returns-in-Some g c =

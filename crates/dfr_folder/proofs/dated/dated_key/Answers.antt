@@ -1,5 +1,5 @@
 use Rattle.std.proofs.Common.{rules, to_z-of_z, FitsSigned, refl, w16, w64}
-use Rattle.dfr_station.proofs.key.key_at.Goals as goal
+use Rattle.dfr_folder.proofs.dated.dated_key.Goals as goal
 
 pub returns-in-Some-clause-dated : goal.returns-in-Some-clause-dated
 returns-in-Some-clause-dated c = λ h.
