@@ -13,9 +13,9 @@ use thiserror::Error;
 pub enum DetectorFault {
     /// The words are not those of a detector.
     #[error("detect expects: NAME KIND LEVEL of CHANNELS [for N] [reset LEVEL] [window N], and for \
-         a frequency [cycles N] least LEVEL")]
+         a frequency [cycles N] least LEVEL; LEVEL is NUMBER or NUMBER of NUMBER UNIT")]
     Words,
-    /// A number can't be read.
+    /// A number can't be read, or a part of a quantity has over 36 digits or 80 places.
     #[error("a number of the detector cannot be read")]
     Number,
     /// The name can't be that of a status channel, or is a number.
