@@ -159,16 +159,19 @@ def make(count, seed=1):
 
 def judge(lines_name, bits_name):
     lines, answers = open(lines_name).read().splitlines(), open(bits_name).read().splitlines()
-    differ, ones, both = abs(len(lines) - len(answers)), 0, 0
+    differ, kinds = abs(len(lines) - len(answers)), {}
     for number, (line, answer) in enumerate(zip(lines, answers), 1):
         condition, n, level, reset, row, channels, scans = parsed(line)
         wanted = "".join("01"[b] for b in bits(condition, n, level, reset, row, [signal(s, channels) for s in scans]))
-        ones += wanted.count("1")
-        both += len(set(wanted)) == 2
+        kind = kinds.setdefault(condition.split(":")[0], [0, 0, 0, 0])
+        for place, more in enumerate((1, len(set(wanted)) == 2, wanted.count("1"), wanted != answer)):
+            kind[place] += more
         if wanted != answer:
             differ += 1
             print(f"line {number}: {line[:60]}: {answer}, expected {wanted}")
-    print(f"{len(lines)} histories, {both} with both bits, {ones} bits are 1: {differ} differ")
+    for name, (count, both, ones, wrong) in sorted(kinds.items()):
+        print(f"{name}: {count} histories, {both} with both bits, {ones} bits are 1: {wrong} differ")
+    print(f"{len(lines)} histories: {differ} differ")
     return differ > 0
 
 

@@ -17,20 +17,20 @@ ONE = [F(1, 100)] * 3 + [F(1, 2)] * 3  # kV, A
 IDS = ["UA", "UB", "UC", "IA", "IB", "IC"]
 LINES = """# detectors of a line of 110 kV; the other lines of a set-up are skipped
 station S
-detect SAG rms under 54 of UA,UB,UC for 6 reset 57
+detect SAG rms under 0.85 of 64 kV of UA,UB,UC for 6 reset 0.9 of 64 kV
 detect SWELL rms over 76 of UA,UB,UC reset 73
 detect OVER rms over 900 of IA,IB,IC reset 840
 detect EARTH rms over 60 of IA+IB+IC for 6
 detect WAVE rms over 6 of UA+UB+UC for 6
 detect JUMP jump 150 of IA,IB,IC
 detect LOAD change 1500 of IA window 12
-detect LOW frequency under 49 of UA cycles 5 least 6.35
+detect LOW frequency under 0.98 of 50 Hz of UA cycles 5 least 0.1 of 63.5 kV
 detect HIGH frequency over 51 of UA for 3 reset 50.9 cycles 5 least 6.35
 detect DRIFT frequency change 1 of UB window 800 cycles 8 least 6.35
 """
 # name, kind, channels, level, reset, for, window, cycles
 DETECTORS = (
-    [(f"SAG-U{p}", "under", [i], F(54), F(57), 6, PERIOD) for i, p in enumerate("ABC")]
+    [(f"SAG-U{p}", "under", [i], F("54.4"), F("57.6"), 6, PERIOD) for i, p in enumerate("ABC")]
     + [(f"SWELL-U{p}", "over", [i], F(76), F(73), 1, PERIOD) for i, p in enumerate("ABC")]
     + [(f"OVER-I{p}", "over", [3 + i], F(900), F(840), 1, PERIOD) for i, p in enumerate("ABC")]
     + [("EARTH", "over", [3, 4, 5], F(60), F(60), 6, PERIOD), ("WAVE", "over", [0, 1, 2], F(6), F(6), 6, PERIOD)]

@@ -1,2 +1,3 @@
 "$benchmarks" calls
 "$benchmarks" live
+"$benchmarks" detect

@@ -1,6 +1,6 @@
 //! Single calls of the recorder, the writers and the reader, with 32 analogue and 64 status channels.
 
-mod clock;
+pub mod clock;
 mod files;
 mod recorders;
 mod station;

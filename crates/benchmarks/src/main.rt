@@ -8,12 +8,16 @@
 //! and prints what each thread saw and what the end left. WAY is `free` (all threads at once), `orderly` (first the scans, then
 //! the calls) or `station` (`run_live`, whose feed and sink may fail). `bench/soak` makes the scripts and judges.
 //!
+//! `benchmarks detect RUNS` measures detectors; `benchmarks histories` prints the bits of histories of standard input, which
+//! `bench/detectors.py` makes and judges.
+//!
 //! `benchmarks clock` follows a clock by lines of standard input; `bench/clock.py` makes them and judges.
 #![tactic(auto)]
 
 mod amount;
 mod calls;
 mod clock;
+mod detect;
 mod live;
 mod maker;
 mod numbers;
@@ -29,6 +33,8 @@ use std::env::Args;
 enum Work {
     Calls,
     Clock,
+    Detect,
+    Histories,
     Live,
     Soak,
 }
@@ -37,6 +43,8 @@ fn work_of(word: &str) -> Option<Work> {
     match word {
         "calls" => Some(Work::Calls),
         "clock" => Some(Work::Clock),
+        "detect" => Some(Work::Detect),
+        "histories" => Some(Work::Histories),
         "live" => Some(Work::Live),
         "soak" => Some(Work::Soak),
         _ => None,
@@ -58,8 +66,10 @@ fn runs_of(words: &mut Args) -> Result<Option<u32>> {
 fn main(rt: HostRuntime) -> Result<()> {
     let mut words = env::args(&rt)?;
     let _program = words.next();
-    match first_word(&mut words).context("calls, clock, live or soak")? {
+    match first_word(&mut words).context("calls, clock, detect, histories, live or soak")? {
         Work::Clock => clock::follow(&rt),
+        Work::Detect => detect::measure(&rt, Amount::of(runs_of(&mut words)?)),
+        Work::Histories => detect::histories(&rt),
         Work::Calls => calls::measure(&rt, Amount::of(runs_of(&mut words)?)),
         Work::Live => live::measure(&rt, Amount::of(runs_of(&mut words)?)),
         Work::Soak => soak::soak(&rt, &mut words),

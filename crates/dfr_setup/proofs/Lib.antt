@@ -1,4 +1,5 @@
 pub mod Zeros
+pub mod Parts
 pub mod Made
 pub mod Moved
 pub mod Prepares

@@ -53,10 +53,10 @@ settled s w multiplier most a one level reset least cycles scans top n k x y v u
     rw (h1, h2, h3, h4, h5, h6, is) refl
 
 -- the sums of a wish
-pub with_wish_by : (s : SetupParts) (have : List plans.PlanParts) (ws : List (List ℕ)) (w : Wish) (base : List ℕ) (sums : List (List ℕ)) (n : ℕ)
-    → base ≡ field ws 1 → sums ≡ slice_split (λ b. b == 44) (field ws (w.at + 2)) → n ≡ length sums
-    → plans.with_wish s have ws w ≡ plans.with_sums s w (n == 1) base have sums
-with_wish_by s have ws w base sums n b e l = rw (l, e, b) refl
+pub with_wish_by : (s : SetupParts) (have : List plans.PlanParts) (ws : List (List ℕ)) (w : Wish) (sums : List (List ℕ)) (n : ℕ)
+    → sums ≡ slice_split (λ b. b == 44) (field ws (w.at + 2)) → n ≡ length sums
+    → plans.with_wish s have ws w ≡ plans.with_sums s w (n == 1) ws have sums
+with_wish_by s have ws w sums n e l = rw (l, e) refl
 
 pub makes_by : {X Y : Type 0} (said told : Result Y DetectorFault) (new : Y) (r : Result X DetectorRefusal) → said ≡ told → Makes told new r → Makes said new r
 makes_by said told new r e h = subst (λ x. Makes x new r) (sym e) h

@@ -18,6 +18,7 @@ use Rattle.dfr_setup.specs.Addends as addends
 use Rattle.dfr_setup.specs.Quantities.{level_in, least_in, one_of, periods, reach, window_in, within}
 use Rattle.dfr_setup.specs.Refusing.{and_then, unless}
 use Rattle.dfr_setup.specs.Tests.{condition_of}
+use Rattle.dfr_setup.specs.Units.{has_units}
 use Rattle.dfr_setup.specs.Wishes.{is_detect, is_go, words, wish}
 use Rattle.dfr_setup.specs.declared.fault.DetectorFault.{DetectorFault}
 use Rattle.dfr_setup.specs.declared.fault.DetectorFault.TheVariants as fault
@@ -91,36 +92,40 @@ settings_of s w multiplier most =
     need (window_in w.window (periods w.test cycles) s.rate s.line_freq) fault.Window (λ scans.
     checked (record { condition = condition_of w.test cycles s.rate least; scans = scans; level = level; reset = reset; row = w.row })))))))
 
+-- the same of a wish that these words name, over channels that have the units of its levels
+abbrev pub settings_over : SetupParts → Wish → List (List ℕ) → List ℕ → Option Number → ℕ → Result Settings DetectorFault
+settings_over s w ws channels multiplier most = if has_units w.test s.analog channels ws w.units then settings_of s w multiplier most else Err fault.Unit
+
 -- the sum that a text names, by channels between plus signs
 abbrev pub sum_of : SetupParts → Wish → List ℕ → Result SumParts DetectorFault
 sum_of s w text = addends.with_words s.analog w.test no_sum (slice_split (λ b. b == 43) text)
 
-abbrev pub plan_of : SetupParts → Wish → List ℕ → List ℕ → Result PlanParts DetectorFault
-plan_of s w name text =
+abbrev pub plan_of : SetupParts → Wish → List (List ℕ) → List ℕ → List ℕ → Result PlanParts DetectorFault
+plan_of s w ws name text =
     and_then (sum_of s w text) (λ sum.
     if length sum.channels == 0 then Err fault.Channel else
-    and_then (settings_of s w sum.a sum.most) (λ settings.
+    and_then (settings_over s w ws sum.channels sum.a sum.most) (λ settings.
     Ok (record { name = name; test = w.test; settings = settings; channels = sum.channels; level = w.level; reset = w.reset; least = w.least })))
 
 -- ---- the detectors of a line
 
 -- with one detector more, after those that there are
-abbrev pub with_plan : SetupParts → Wish → List PlanParts → List ℕ → List ℕ → Result (List PlanParts) DetectorFault
-with_plan s w have name text =
+abbrev pub with_plan : SetupParts → Wish → List (List ℕ) → List PlanParts → List ℕ → List ℕ → Result (List PlanParts) DetectorFault
+with_plan s w ws have name text =
     and_then (unless (name_fault s.status have name) name) (λ free.
-    and_then (plan_of s w free text) (λ plan. Ok (have ++ plan ∷ [])))
+    and_then (plan_of s w ws free text) (λ plan. Ok (have ++ plan ∷ [])))
 
 -- with one for each of these sums
-abbrev pub with_sums : SetupParts → Wish → Bool → List ℕ → List PlanParts → List (List ℕ) → Result (List PlanParts) DetectorFault
-with_sums s w is_only base have [] = Ok have
-with_sums s w is_only base have (text ∷ texts) =
-    and_then (with_plan s w have (name_of is_only base text) text) (λ more. with_sums s w is_only base more texts)
+abbrev pub with_sums : SetupParts → Wish → Bool → List (List ℕ) → List PlanParts → List (List ℕ) → Result (List PlanParts) DetectorFault
+with_sums s w is_only ws have [] = Ok have
+with_sums s w is_only ws have (text ∷ texts) =
+    and_then (with_plan s w ws have (name_of is_only (field ws 1) text) text) (λ more. with_sums s w is_only ws more texts)
 
 -- with those that a wish asks for: one for each sum between commas
 abbrev pub with_wish : SetupParts → List PlanParts → List (List ℕ) → Wish → Result (List PlanParts) DetectorFault
 with_wish s have ws w =
     let sums = slice_split (λ b. b == 44) (field ws (w.at + 2)) in
-    with_sums s w (length sums == 1) (field ws 1) have sums
+    with_sums s w (length sums == 1) ws have sums
 
 -- with those of the words of a line
 abbrev pub with_words : SetupParts → List PlanParts → List (List ℕ) → Result (List PlanParts) DetectorFault

@@ -1,5 +1,5 @@
 -- Levels in samples, and windows in scans.
-use Rattle.std.specs.Prelude.{ℕ, ◌*◌, ◌/◌, ◌^◌, ◌==◌, Bool, not, ◌&&◌, nat_lt, nat_le, if◌then◌else◌, Option, Some, None, pos, int_lt, unsigned_abs}
+use Rattle.std.specs.Prelude.{ℕ, ◌+◌, ◌*◌, ◌/◌, ◌^◌, ◌==◌, Bool, not, ◌&&◌, nat_lt, nat_le, if◌then◌else◌, Option, Some, None, pos, int_lt, ◌*ℤ◌, unsigned_abs}
 use Rattle.std.specs.Int.{div_ceil}
 use Rattle.comtrade_values.specs.Spelling.{Number}
 use Rattle.dfr_detect.specs.Cycles.{cycle_fault, window_of}
@@ -17,6 +17,18 @@ abbrev pub within : ℕ → ℕ → Option ℕ
 within n most = if nat_le 1 n && nat_le n most then Some n else None
 
 -- ---- levels
+
+-- a part of a quantity: their product, exactly
+abbrev pub part : Number → Number → Number
+part share whole = record { units = share.units *ℤ whole.units; places = share.places + whole.places }
+
+-- a number of at most 36 digits and 80 places
+abbrev pub held : Number → Option Number
+held n = if nat_lt (unsigned_abs n.units) (10 ^ 36) && nat_le n.places 80 then Some n else None
+
+abbrev pub part_in : Option Number → Option Number → Option Number
+part_in (Some share) (Some whole) = held (part share whole)
+part_in _ _ = None
 
 -- a mHz, in Hz
 abbrev pub millihertz : Number

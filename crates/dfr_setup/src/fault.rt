@@ -13,9 +13,9 @@ use thiserror::Error;
 pub enum DetectorFault {
     /// The words are not those of a detector.
     #[error("detect expects: NAME KIND LEVEL of CHANNELS [for N] [reset LEVEL] [window N], and for \
-         a frequency [cycles N] least LEVEL")]
+         a frequency [cycles N] least LEVEL; LEVEL is NUMBER or NUMBER of NUMBER UNIT")]
     Words,
-    /// A number can't be read.
+    /// A number can't be read, or a part of a quantity has over 36 digits or 80 places.
     #[error("a number of the detector cannot be read")]
     Number,
     /// The name can't be that of a status channel, or is a number.
@@ -36,6 +36,9 @@ pub enum DetectorFault {
     /// The channels of a sum have different multipliers.
     #[error("a sum of channels with unequal multipliers")]
     Unequal,
+    /// The unit of a level is not that of the channels, or Hz or Hz/s of a frequency.
+    #[error("a level's unit is not that of the channels, or Hz of a frequency, Hz/s of its change")]
+    Unit,
     /// A sum of more than 256 channels.
     #[error("a sum of more than 256 channels")]
     Wide,

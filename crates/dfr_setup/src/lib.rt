@@ -4,6 +4,7 @@
 
 mod addend;
 mod fault;
+mod level;
 mod line;
 mod over;
 mod plan;
@@ -13,6 +14,7 @@ mod quantity;
 mod refusal;
 mod tested;
 mod text;
+mod unit;
 mod wish;
 
 pub use fault::{DetectorFault, DetectorRefusal};

@@ -1,6 +1,7 @@
 //! One detector of a set-up.
 
 ghost use Rattle.std.specs.Prelude.{◌≡◌, ◌≤◌, ◌^◌, None, IfOk};
+ghost use Rattle.comtrade_values.specs.Lines.{texts};
 ghost use Rattle.dfr_detect.specs.Fitting.{settings_fault};
 ghost use Rattle.dfr_setup.specs.Plans as spec;
 ghost use Rattle.dfr_setup.specs.Refusing.{Is};
@@ -9,6 +10,7 @@ use crate::addend::{Sum, sum_of};
 use crate::fault::needed;
 use crate::quantity::{cycles_in, least_in, level_in, one_of, periods, reach, window_in};
 use crate::tested::{Test, condition_of};
+use crate::unit::has_units;
 use crate::wish::Wish;
 use crate::{DetectorFault, DetectorRefusal};
 use comtrade_values::{Decimal, Items, Memory};
@@ -112,21 +114,42 @@ fn settings_of<A: Allocator>(
     })
 }
 
-/// The detector of a wish with this name, over the sum that the text names.
+/// The settings of a wish, which these words name, over channels with this multiplier and this greatest
+/// size of their sum.
+fn settings_over<A: Allocator>(
+    setup: &Setup<A>,
+    wish: &Wish,
+    words: &[&[u8]],
+    channels: &[usize],
+    multiplier: Option<Decimal>,
+    largest: u64,
+) -> Result<Settings, DetectorFault>
+    requires { largest ≤ 2 ^ 40 }
+    ensures value { result ≡ spec.settings_over setup.now wish.now (texts words.now) channels.now multiplier largest }
+    ensures fits { IfOk result (λ s. settings_fault s ≡ None) }
+{
+    if !has_units(wish.test, setup.analog.items(), channels, words, wish.units) {
+        return Err(DetectorFault::Unit);
+    }
+    settings_of(setup, wish, multiplier, largest)
+}
+
+/// The detector of a wish, which these words name, with this name, over the sum that the text names.
 pub(crate) fn plan_of<A: Allocator + Copy>(
     alloc: A,
     setup: &Setup<A>,
     wish: &Wish,
+    words: &[&[u8]],
     name: Vec<u8, A>,
     text: &[u8],
 ) -> Result<Plan<A>, DetectorRefusal>
-    ensures { Is (λ x. x) (spec.plan_of setup.now wish.now name.items text.now) result }
+    ensures { Is (λ x. x) (spec.plan_of setup.now wish.now (texts words.now) name.items text.now) result }
 {
     let Sum { channels, a, most } = sum_of(alloc, setup.analog.items(), wish.test, text)?;
     if channels.is_empty() {
         return Err(DetectorRefusal::Fault(DetectorFault::Channel));
     }
-    let settings = settings_of(setup, wish, a, most)?;
+    let settings = settings_over(setup, wish, words, &channels, a, most)?;
     Ok(Plan {
         name: Items::of(name),
         test: wish.test,

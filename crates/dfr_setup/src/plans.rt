@@ -2,7 +2,7 @@
 
 ghost use Rattle.std.specs.Prelude.{◌≡◌, ◌≤◌, [], IfOk};
 ghost use Rattle.std.specs.Str.{bytes_eq};
-ghost use Rattle.comtrade_values.specs.Lines.{texts, cut_lines};
+ghost use Rattle.comtrade_values.specs.Lines.{texts, field, cut_lines};
 ghost use Rattle.dfr_setup.specs.Plans as spec;
 ghost use Rattle.dfr_setup.specs.Refusing.{IsAt, Makes};
 
@@ -87,45 +87,47 @@ fn name_of<A: Allocator>(
     Ok(name)
 }
 
-/// Adds the detector of a wish over the sum that the text names. Its line has this name.
+/// Adds the detector of a wish, which these words name, over the sum that the text names.
 fn add_plan<A: Allocator + Copy>(
     alloc: A,
     setup: &Setup<A>,
     wish: &Wish,
+    words: &[&[u8]],
     plans: &mut Vec<Plan<A>, A>,
-    base: &[u8],
     text: &[u8],
     is_only: bool,
 ) -> Result<(), DetectorRefusal>
     ensures { Makes
-        (spec.with_plan setup.now wish.now plans.old.items (spec.name_of is_only base.now text.now) text.now) plans.new.items
-        result }
+        (spec.with_plan setup.now wish.now (texts words.now) plans.old.items
+        (spec.name_of is_only (field (texts words.now) 1) text.now) text.now)
+        plans.new.items result }
 {
-    let name = name_of(alloc, is_only, base, text)?;
+    let name = name_of(alloc, is_only, word_at(words, 1), text)?;
     if let Some(fault) = name_fault(setup.status.items(), plans, &name) {
         return Err(DetectorRefusal::Fault(fault));
     }
-    let plan = plan_of(alloc, setup, wish, name, text)?;
+    let plan = plan_of(alloc, setup, wish, words, name, text)?;
     plans.push(plan)?;
     Ok(())
 }
 
-/// Adds a detector for each sum of a wish.
+/// Adds a detector for each sum of a wish, which these words name.
 fn add_sums<A: Allocator + Copy>(
     alloc: A,
     setup: &Setup<A>,
     wish: &Wish,
+    words: &[&[u8]],
     plans: &mut Vec<Plan<A>, A>,
-    base: &[u8],
     sums: &[&[u8]],
     is_only: bool,
 ) -> Result<(), DetectorRefusal>
     ensures { Makes
-        (spec.with_sums setup.now wish.now is_only base.now plans.old.items (texts sums.now)) plans.new.items result }
+        (spec.with_sums setup.now wish.now is_only (texts words.now) plans.old.items (texts sums.now)) plans.new.items
+        result }
 {
     let mut left = sums;
     while let [text, rest @ ..] = left {
-        add_plan(alloc, setup, wish, plans, base, text, is_only)?;
+        add_plan(alloc, setup, wish, words, plans, text, is_only)?;
         left = rest;
     }
     Ok(())
@@ -139,13 +141,13 @@ fn add_wish<A: Allocator + Copy>(
     plans: &mut Vec<Plan<A>, A>,
     words: &[&[u8]],
 ) -> Result<(), DetectorRefusal>
-    requires { wish.now.at ≤ 4 }
+    requires { wish.now.at ≤ 7 }
     ensures { Makes
         (spec.with_wish setup.now plans.old.items (texts words.now) wish.now) plans.new.items result }
 {
     let sums = parts_of(alloc, word_at(words, wish.at + 2), b',')?;
     let is_only = sums.len() == 1;
-    add_sums(alloc, setup, wish, plans, word_at(words, 1), &sums, is_only)
+    add_sums(alloc, setup, wish, words, plans, &sums, is_only)
 }
 
 /// Adds the detectors of words.

@@ -7,6 +7,7 @@ ghost use Rattle.dfr_setup.specs.Wishes as spec;
 ghost use Rattle.dfr_setup.specs.declared.fault.DetectorFault.TheVariants as fault;
 
 use crate::fault::needed;
+use crate::level::{Units, has_part, is_part, last_of, level_at, unit_at};
 use crate::line::{natural_of, says, word_at};
 use crate::tested::is_frequency;
 use crate::{DetectorFault, Test};
@@ -19,7 +20,7 @@ pub(crate) struct Wish {
     pub(crate) test: Test,
     /// The level, in the channels' unit.
     pub(crate) level: Decimal,
-    /// The place of the level among the words.
+    /// The place of the level's last word.
     pub(crate) at: usize,
     /// For how many scans in a row the level has to be met.
     pub(crate) row: u32,
@@ -31,6 +32,8 @@ pub(crate) struct Wish {
     pub(crate) cycles: u32,
     /// How deep a half wave has to be for a frequency, in the channels' unit.
     pub(crate) least: Decimal,
+    /// The units that the levels name.
+    pub(crate) units: Units,
 }
 
 /// The places of the options among the words, and the end of the line.
@@ -90,6 +93,19 @@ fn behind(words: &[&[u8]], key: &str, i: usize) -> usize
     if says(words, i, key) { i + 2 } else { i }
 }
 
+/// The place behind an option and its level, if it stands at place `i`.
+fn behind_level(words: &[&[u8]], key: &str, i: usize) -> usize
+    requires { i ≤ 100 }
+    ensures value { result ≡ spec.behind_level key.now (texts words.now) i }
+    ensures bound { result ≤ i + 5 }
+{
+    if has_part(words, key, i) {
+        i + 5
+    } else {
+        behind(words, key, i)
+    }
+}
+
 /// The number of an option that may stand at place `i`.
 fn natural_or(words: &[&[u8]], key: &str, i: usize, default: u32) -> Option<u32>
     requires { i ≤ 100 }
@@ -102,13 +118,13 @@ fn natural_or(words: &[&[u8]], key: &str, i: usize, default: u32) -> Option<u32>
     }
 }
 
-/// The decimal of an option that may stand at place `i`.
-fn number_or(words: &[&[u8]], key: &str, i: usize, default: Decimal) -> Option<Decimal>
+/// The level of an option that may stand at place `i`.
+fn level_or(words: &[&[u8]], key: &str, i: usize, default: Decimal) -> Option<Decimal>
     requires { i ≤ 100 }
-    ensures { result ≡ spec.number_or key.now (texts words.now) i default }
+    ensures { result ≡ spec.level_or key.now (texts words.now) i default }
 {
     if says(words, i, key) {
-        Decimal::read(word_at(words, i + 1))
+        level_at(words, i + 1, has_part(words, key, i))
     } else {
         Some(default)
     }
@@ -135,18 +151,18 @@ fn read<T>(value: Option<T>) -> Result<T, DetectorFault>
     needed(value, DetectorFault::Number)
 }
 
-/// The places of the options of a line whose level stands at place `at`, and its end.
+/// The places of the options of a line whose level ends at place `at`, and its end.
 fn places_of(words: &[&[u8]], at: usize) -> Places
-    requires { at ≤ 4 }
+    requires { at ≤ 7 }
     ensures value { result ≡ spec.places (texts words.now) at }
     ensures bound { (result.reset ≤ 100) × (result.window ≤ 100) × (result.cycles ≤ 100) × (result.least ≤ 100) }
 {
     let row = at + 3;
     let reset = behind(words, "for", row);
-    let window = behind(words, "reset", reset);
+    let window = behind_level(words, "reset", reset);
     let cycles = behind(words, "window", window);
     let least = behind(words, "cycles", cycles);
-    let end = behind(words, "least", least);
+    let end = behind_level(words, "least", least);
     Places {
         row,
         reset,
@@ -170,26 +186,47 @@ fn has_options(words: &[&[u8]], test: Test, places: Places) -> bool
 
 /// Whether the line has the words that it needs, and no more.
 fn is_whole(words: &[&[u8]], test: Test, at: usize, places: Places) -> bool
-    requires { at ≤ 4 }
+    requires { at ≤ 7 }
     ensures { result ≡ spec.is_whole (texts words.now) test at places }
 {
     says(words, at + 1, "of") && words.len() == places.end && has_options(words, test, places)
 }
 
-/// Reads the numbers of a line whose options stand at these places.
-fn numbers_of(words: &[&[u8]], test: Test, at: usize, places: Places) -> Result<Wish, DetectorFault>
-    requires at { at ≤ 4 }
+/// The units that the levels of a line name, from place `first` on and in options at these places.
+fn units_of(words: &[&[u8]], first: usize, places: Places) -> Units
+    requires first { first ≤ 4 }
+    requires places { (places.reset ≤ 100) × (places.least ≤ 100) }
+    ensures { result ≡ spec.units (texts words.now) first places }
+{
+    Units {
+        level: unit_at(first, is_part(words, first)),
+        reset: unit_at(places.reset + 1, has_part(words, "reset", places.reset)),
+        least: unit_at(places.least + 1, has_part(words, "least", places.least)),
+    }
+}
+
+/// Reads the numbers of a line whose level stands from place `first` to `at`, and its options at these
+/// places.
+fn numbers_of(
+    words: &[&[u8]],
+    test: Test,
+    first: usize,
+    at: usize,
+    places: Places,
+) -> Result<Wish, DetectorFault>
+    requires first { first ≤ 4 }
+    requires at { at ≤ 7 }
     requires row { places.row ≤ 100 }
     requires places { (places.reset ≤ 100) × (places.window ≤ 100) × (places.cycles ≤ 100) × (places.least ≤ 100) }
-    ensures value { result ≡ spec.numbers (texts words.now) test at places }
-    ensures bound { IfOk result (λ wish. wish.at ≤ 4) }
+    ensures value { result ≡ spec.numbers (texts words.now) test first at places }
+    ensures bound { IfOk result (λ wish. wish.at ≤ 7) }
 {
-    let level = read(Decimal::read(word_at(words, at)))?;
+    let level = read(level_at(words, first, is_part(words, first)))?;
     let row = read(natural_or(words, "for", places.row, 1))?;
-    let reset = read(number_or(words, "reset", places.reset, level))?;
+    let reset = read(level_or(words, "reset", places.reset, level))?;
     let window = read(window_at(words, places.window))?;
     let cycles = read(natural_or(words, "cycles", places.cycles, 10))?;
-    let least = read(number_or(words, "least", places.least, level))?;
+    let least = read(level_or(words, "least", places.least, level))?;
     Ok(Wish {
         test,
         level,
@@ -199,20 +236,22 @@ fn numbers_of(words: &[&[u8]], test: Test, at: usize, places: Places) -> Result<
         window,
         cycles,
         least,
+        units: units_of(words, first, places),
     })
 }
 
 /// What the words of a `detect` line ask for, or the first fault.
 pub(crate) fn wish_of(words: &[&[u8]]) -> Result<Wish, DetectorFault>
     ensures value { result ≡ spec.wish (texts words.now) }
-    ensures bound { IfOk result (λ wish. wish.at ≤ 4) }
+    ensures bound { IfOk result (λ wish. wish.at ≤ 7) }
 {
-    let Some((test, at)) = kind_of(words) else {
+    let Some((test, first)) = kind_of(words) else {
         return Err(DetectorFault::Words);
     };
+    let at = last_of(words, first);
     let places = places_of(words, at);
     if is_whole(words, test, at, places) {
-        numbers_of(words, test, at, places)
+        numbers_of(words, test, first, at, places)
     } else {
         Err(DetectorFault::Words)
     }

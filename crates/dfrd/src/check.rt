@@ -4,7 +4,7 @@ ghost use Rattle.std.specs.Prelude.{◌<◌};
 
 use crate::memory::{detector_bytes, layout_bytes};
 use comtrade_io::put_safe;
-use comtrade_values::{put, put_decimal, put_number, put_with};
+use comtrade_values::{put, put_decimal, put_number, put_with, without_zeros};
 use dfr_channels::Layout;
 use dfr_detect::Condition;
 use dfr_setup::{Plan, Prepared, Test};
@@ -47,7 +47,7 @@ fn put_cycles(line: &mut Vec<u8>, unit: &[u8], plan: &Plan<Global>) -> Result<()
     };
     put_with(line, " cycles ", u64::from(test.cycles))?;
     put(line, " least ")?;
-    put_decimal(line, plan.least)?;
+    put_decimal(line, without_zeros(plan.least))?;
     put(line, " ")?;
     put_safe(line, unit)?;
     put_with(line, " samples ", test.least)
@@ -110,7 +110,7 @@ fn put_plan(
     put(line, " ")?;
     put(line, words_of(plan.test))?;
     put(line, " ")?;
-    put_decimal(line, plan.level)?;
+    put_decimal(line, without_zeros(plan.level))?;
     put(line, " ")?;
     put_safe(line, one)?;
     put_channels(line, inputs, plan.channels.items())?;
@@ -118,7 +118,7 @@ fn put_plan(
     put_with(line, " window ", u64::from(settings.scans))?;
     put_with(line, " for ", u64::from(settings.row))?;
     put(line, " reset ")?;
-    put_decimal(line, plan.reset)?;
+    put_decimal(line, without_zeros(plan.reset))?;
     put(line, " ")?;
     put_safe(line, one)?;
     put_with(line, counted, settings.reset)?;

@@ -31,6 +31,28 @@ fn sag(rt: HostRuntime) {
     assert!(rt; first_settings(rt.alloc(), SETUP) == Some((sag, 2)));
 }
 
+/// 0.85 of 63.5 kV are 53.975 kV, and 0.9 of it 57.15 kV: the samples are those of `sag`.
+#[test]
+fn parts(rt: HostRuntime) {
+    let setup = b"station S\ndevice D\nanalog UA,A,,kV,0.01,0,0,-32767,32767,1,1,P
+status CB,,,0\nfreq 50\nrate 1000\nlimits 1,1,3,1
+detect SAG rms under 0.85 of 63.5 kV of UA for 3 reset 0.9 of 63.5 kV\n";
+    let parts = first_settings(rt.alloc(), setup);
+    assert!(rt; parts.is_some() && parts == first_settings(rt.alloc(), SETUP));
+}
+
+/// A rated value in another unit than the channel's.
+#[test]
+fn other_unit(rt: HostRuntime) {
+    let setup = b"station S\ndevice D\nanalog UA,A,,kV,0.01,0,0,-32767,32767,1,1,P
+freq 50\nrate 1000\nlimits 1,1,3,1\ndetect SAG rms under 0.85 of 63500 V of UA\n";
+    let refusal = match prepared_of(rt.alloc(), setup, 0) {
+        Ok(_) => None,
+        Err(refusal) => Some(refusal),
+    };
+    assert!(rt; refusal == Some(SetupRefusal::Detector(7, DetectorFault::Unit)));
+}
+
 #[test]
 fn unknown_kind(rt: HostRuntime) {
     let setup = b"station S\ndevice D\nanalog UA,A,,kV,0.01,0,0,-32767,32767,1,1,P

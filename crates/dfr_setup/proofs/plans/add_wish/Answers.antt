@@ -10,8 +10,7 @@ pub returns : goal.returns
 returns g c =
     let n : c.len-is_only.result ≡ length (texts c.deref.result.now) = grind (arith, common_steps) in
     makes_by _ _ _ _
-    (with_wish_by c.args.setup.now c.args.plans.now.items (texts c.args.words.now) c.args.wish.now c.word_at-2.result.now (texts c.deref.result.now) c.len-is_only.result
-    c.word_at-2.ensures
+    (with_wish_by c.args.setup.now c.args.plans.now.items (texts c.args.words.now) c.args.wish.now (texts c.deref.result.now) c.len-is_only.result
     (ap (λ xs. texts xs) c.deref.ensures.value ∙ c.in_ok-sums.ensures ∙ ap (λ text. slice_split (λ (b : ℕ). b == 44) text) c.word_at.ensures)
     n)
     c.add_sums.ensures
