@@ -1,5 +1,5 @@
 -- The samples of three phases times their coefficients.
-use Rattle.std.proofs.Common.{◌≡◌, refl, ap, ◌∙◌, ℕ, ◌+◌, ◌*◌, ◌^◌, ◌≤◌, arith, ℤ, pos, ◌+ℤ◌, ◌-ℤ◌, ◌*ℤ◌}
+use Rattle.std.proofs.Common.{◌≡◌, refl, ap, ◌∙◌, ℕ, ◌+◌, ◌*◌, ◌^◌, ◌≤◌, arith, ℤ, pos, negsuc, ◌+ℤ◌, ◌-ℤ◌, ◌*ℤ◌, w64, SFits}
 use Rattle.std.specs.Prelude.{unsigned_abs}
 use Rattle.std.proofs.Math.IntN.{*ℤ-zero}
 use Rattle.std.proofs.Math.Nat.{mul-le-mul}
@@ -59,3 +59,14 @@ less_one x y f g = omega (arith, ints)
 
 pub less_small : (x gone : Sample) → AreSmall x → AreSmall gone → IsChange (less x gone)
 less_small x gone f g = record { a = less_one x.a gone.a f.a g.a; b = less_one x.b gone.b f.b g.b; c = less_one x.c gone.c f.c g.c }
+
+-- it fits 64 bits
+pub fits : (z : ℤ) → unsigned_abs z ≤ 2 ^ 60 → SFits w64 z
+fits (pos n) h = record { sfits = omega (arith, h) }
+fits (negsuc n) h = record { sfits = omega (arith, h) }
+
+pub two_small : (p q : ℤ) → unsigned_abs p ≤ 2 ^ 54 → unsigned_abs q ≤ 2 ^ 54 → unsigned_abs (p +ℤ q) ≤ 2 ^ 60
+two_small p q f g = omega (arith, ints)
+
+pub three_small : (p q r : ℤ) → unsigned_abs p ≤ 2 ^ 54 → unsigned_abs q ≤ 2 ^ 54 → unsigned_abs r ≤ 2 ^ 54 → unsigned_abs (p +ℤ q +ℤ r) ≤ 2 ^ 60
+three_small p q r f g h = omega (arith, ints)

@@ -125,6 +125,28 @@ fn weighed(a: i32, b: i32, c: i32, x: Sample) -> i64
     product(a, x.a) + product(b, x.b) + product(c, x.c)
 }
 
+/// The part of a change along the cosine.
+#[inline(always)]
+fn real_of(weights: Weights, change: Sample) -> i64
+    requires weights { spec.AreWeights weights }
+    requires change { spec.IsChange change }
+    ensures value { result ≡ spec.real_of weights change }
+    ensures bound { unsigned_abs result ≤ 2 ^ 56 }
+{
+    weighed(weights.a.cosine, weights.b.cosine, weights.c.cosine, change)
+}
+
+/// The part of a change along the sine.
+#[inline(always)]
+fn imaginary_of(weights: Weights, change: Sample) -> i64
+    requires weights { spec.AreWeights weights }
+    requires change { spec.IsChange change }
+    ensures value { result ≡ spec.imaginary_of weights change }
+    ensures bound { unsigned_abs result ≤ 2 ^ 56 }
+{
+    weighed(weights.a.sine, weights.b.sine, weights.c.sine, change)
+}
+
 /// A part of a phasor after a change.
 #[inline(always)]
 fn plus(part: i128, change: i64) -> i128
@@ -144,10 +166,9 @@ fn moved(phasor: Phasor, weights: Weights, change: Sample) -> Phasor
     requires change { spec.IsChange change }
     ensures { result ≡ spec.moved phasor weights change }
 {
-    let (a, b, c) = (weights.a, weights.b, weights.c);
     Phasor {
-        real: plus(phasor.real, weighed(a.cosine, b.cosine, c.cosine, change)),
-        imaginary: plus(phasor.imaginary, weighed(a.sine, b.sine, c.sine, change)),
+        real: plus(phasor.real, real_of(weights, change)),
+        imaginary: plus(phasor.imaginary, imaginary_of(weights, change)),
     }
 }
 
