@@ -87,7 +87,10 @@ pub(crate) fn condition_of(test: Test, cycles: u32, rate: u32, least: u64) -> Co
         Test::FrequencyOver => frequency(FrequencyIs::Over, cycles, rate, least),
         Test::FrequencyUnder => frequency(FrequencyIs::Under, cycles, rate, least),
         Test::FrequencyChange => frequency(FrequencyIs::Changing, cycles, rate, least),
-        Test::Harmonic(order) => Condition::Waves(WaveTest::Harmonic(HarmonicTest { order, least })),
+        Test::Harmonic(order) => Condition::Waves(WaveTest::Harmonic(HarmonicTest {
+            order,
+            least,
+        })),
         Test::SequenceOver(sequence) => Condition::Waves(WaveTest::SequenceOver(sequence)),
         Test::SequenceUnder(sequence) => Condition::Waves(WaveTest::SequenceUnder(sequence)),
         Test::Unbalance => Condition::Waves(WaveTest::Unbalance(least)),

@@ -10,13 +10,11 @@ const WAVE: [i32; 12] = [
     0, 5000, 8660, 10000, 8660, 5000, 0, -5000, -8660, -10000, -8660, -5000,
 ];
 
-/// Its second harmonic, a fifth as large.
-const SECOND: [i32; 12] = [
-    0, 1732, 1732, 0, -1732, -1732, 0, 1732, 1732, 0, -1732, -1732,
+/// The same with a second harmonic of 2000 (0, 1732, 1732, 0, -1732, -1732) and a third one of 1000
+/// (0, 1000, 0, -1000).
+const DISTORTED: [i32; 12] = [
+    0, 7732, 10392, 9000, 6928, 4268, 0, -4268, -6928, -9000, -10392, -7732,
 ];
-
-/// Its third harmonic, a tenth as large.
-const THIRD: [i32; 12] = [0, 1000, 0, -1000, 0, 1000, 0, -1000, 0, 1000, 0, -1000];
 
 /// How many scans a history has.
 const SCANS: usize = 30;
@@ -29,7 +27,7 @@ fn at(wave: [i32; 12], k: usize) -> i32 {
     }
 }
 
-/// The bits over scans that begin with this one and have these samples of three channels.
+/// The bits over scans with these samples of three channels.
 fn bits(
     alloc: Global,
     settings: Settings,
@@ -43,8 +41,8 @@ fn bits(
 /// A wave with both harmonics.
 fn distorted() -> [[Option<i32>; 3]; SCANS] {
     let mut scans = [[None; 3]; SCANS];
-    for (k, scan) in scans.iter_mut().enumerate() {
-        *scan = [Some(at(WAVE, k) + at(SECOND, k) + at(THIRD, k)), None, None];
+    for k in 0..SCANS {
+        scans[k] = [Some(at(DISTORTED, k)), None, None];
     }
     scans
 }
@@ -52,8 +50,8 @@ fn distorted() -> [[Option<i32>; 3]; SCANS] {
 /// Three phases, each a third of a period behind the one before.
 fn balanced() -> [[Option<i32>; 3]; SCANS] {
     let mut scans = [[None; 3]; SCANS];
-    for (k, scan) in scans.iter_mut().enumerate() {
-        *scan = [
+    for k in 0..SCANS {
+        scans[k] = [
             Some(at(WAVE, k)),
             Some(at(WAVE, k + 8)),
             Some(at(WAVE, k + 4)),
@@ -131,10 +129,20 @@ fn one_phase(rt: HostRuntime) {
         (unbalance(2355), 999, FROM_12),
         (unbalance(2359), 1, NEVER),
     ] {
-        let found = bits(rt.alloc(), settings(condition, 12, level), &[0, 1, 2], scans);
+        let found = bits(
+            rt.alloc(),
+            settings(condition, 12, level),
+            &[0, 1, 2],
+            scans,
+        );
         assert!(rt; is_text(&found, wanted), "{level}");
     }
-    let steady = bits(rt.alloc(), settings(unbalance(2355), 12, 1), &[0, 1, 2], balanced());
+    let steady = bits(
+        rt.alloc(),
+        settings(unbalance(2355), 12, 1),
+        &[0, 1, 2],
+        balanced(),
+    );
     assert!(rt; is_text(&steady, NEVER));
 }
 
@@ -142,8 +150,8 @@ fn one_phase(rt: HostRuntime) {
 #[test]
 fn sequence_under(rt: HostRuntime) {
     let mut scans = balanced();
-    for scan in scans.iter_mut().skip(15) {
-        *scan = [Some(0), Some(0), Some(0)];
+    for k in 15..SCANS {
+        scans[k] = [Some(0), Some(0), Some(0)];
     }
     let condition = Condition::Waves(WaveTest::SequenceUnder(Sequence::Positive));
     let found = bits(rt.alloc(), settings(condition, 12, 3), &[0, 1, 2], scans);
@@ -154,9 +162,7 @@ fn sequence_under(rt: HostRuntime) {
 #[test]
 fn missing_phase(rt: HostRuntime) {
     let mut scans = balanced();
-    if let Some(scan) = scans.get_mut(15) {
-        scan[1] = None;
-    }
+    scans[15] = [Some(at(WAVE, 15)), None, Some(at(WAVE, 19))];
     let found = bits(
         rt.alloc(),
         settings(over(Sequence::Positive), 12, 7000),
@@ -193,7 +199,12 @@ fn wave_faults(rt: HostRuntime) {
         (unbalance(most + 1), 12, 1, Some(SettingsFault::Least)),
         (harmonic(2, 1), 12, 1001, Some(SettingsFault::Level)),
         (unbalance(1), 12, 1001, Some(SettingsFault::Level)),
-        (over(Sequence::Zero), 12, most + 1, Some(SettingsFault::Level)),
+        (
+            over(Sequence::Zero),
+            12,
+            most + 1,
+            Some(SettingsFault::Level),
+        ),
     ] {
         let settings = settings(condition, scans, level);
         assert_eq!(rt; settings.fault(), fault);
