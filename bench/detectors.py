@@ -11,6 +11,7 @@ between them, `-` where one is missing, `L` for a lost scan. The condition of a 
 sequence over or under a level `more:THIRDS` or `less:THIRDS`, where THIRDS is 1 for the positive one, 2 for the negative, 0 for zero:
 how many thirds of a period each phase is behind the one before it.
 """
+import cmath
 import math
 import random
 import sys
@@ -291,7 +292,30 @@ def examples():
     ramp = np.round(10000 * np.sin(2 * np.pi * (50 * np.arange(4000) / 4000 + 0.5 * (np.arange(4000) / 4000) ** 2))).astype(int).tolist()
     fires = [frequency_holds("drifts:5:4000:1", 1200, level, ramp[:3000]) for level in (950, 1050)]
     print(f"  50 Hz and 1 Hz a second more: a change of 950 and of 1050 mHz a second: {fires}")
-    return differ or fires != [True, False]
+    return wave_examples() or differ or fires != [True, False]
+
+
+def wave_examples():
+    """An inrush and an open phase, by a Fourier sum of floats and by the definitions."""
+    differ = False
+    for n in (20, 80, 81):
+        line = lambda samples, order: sum(x * cmath.exp(-2j * math.pi * order * k / n) for k, x in enumerate(samples))
+        inrush = [round(9000 * max(0, math.cos(2 * math.pi * k / n) - 0.3)) for k in range(n)]
+        size = lambda order: math.sqrt(strength([(x, 0, 0) for x in inrush], n, order, 0))
+        for order in (2, 3, 4, 5):
+            wanted, found = abs(line(inrush, order) / line(inrush, 1)), size(order) / size(1)
+            differ |= abs(wanted - found) > 0.001
+            if n == 80:
+                print(f"  an inrush: harmonic {order} is {100 * wanted:.2f} %, by the definition {100 * found:.2f} %")
+        sizes, turn = (1, 0.1, 0.8), cmath.exp(2j * math.pi / 3)
+        three = [[round(9000 * s * math.sin(2 * math.pi * (k / n - p / 3))) for k in range(n)] for p, s in enumerate(sizes)]
+        a, b, c = (line(x, 1) for x in three)
+        for name, thirds, of_three in (("positive", 1, a + turn * b + turn**2 * c), ("negative", 2, a + turn**2 * b + turn * c), ("zero", 0, a + b + c)):
+            wanted, found = (abs(x) * 2 / n / 3 / 9000 for x in (of_three, math.sqrt(strength(list(zip(*three)), n, 1, thirds))))
+            differ |= abs(wanted - found) > 0.001
+            if n == 80:
+                print(f"  phases of {sizes}: the {name} sequence is {wanted:.4f}, by the definition {found:.4f}")
+    return differ
 
 
 if __name__ == "__main__":
