@@ -7,8 +7,11 @@
 
 A line: condition, scans, level, reset level, row, how many channels, their numbers; then each scan, its readings with commas
 between them, `-` where one is missing, `L` for a lost scan. The condition of a frequency has three numbers more, with colons:
-`faster:CYCLES:RATE:LEAST`, and so have `slower` and `drifts`.
+`faster:CYCLES:RATE:LEAST`, and so have `slower` and `drifts`. A harmonic is `harmonic:ORDER:LEAST`, unbalance `unbalance:LEAST`, a
+sequence over or under a level `more:THIRDS` or `less:THIRDS`, where THIRDS is 1 for the positive one, 2 for the negative, 0 for zero:
+how many thirds of a period each phase is behind the one before it.
 """
+import cmath
 import math
 import random
 import sys
@@ -60,9 +63,74 @@ def frequency_holds(condition, n, level, samples):
     return abs(newer - older) / (middles / UNIT / rate) >= level
 
 
+WAVES = ("harmonic", "unbalance", "more", "less")
+
+
+def is_wave(condition):
+    return condition.split(":")[0] in WAVES
+
+
+def phases(condition, scan, channels):
+    """The samples of a scan as three phases; None if one is missing. A harmonic is that of the sum of all channels."""
+    if condition.startswith("harmonic"):
+        total = signal(scan, channels)
+        return None if total is None else (total, 0, 0)
+    samples = [scan[c] if c < len(scan) else None for c in channels[:3]]
+    return None if None in samples or len(samples) < 3 else tuple(samples)
+
+
+def signal_of(condition, scan, channels):
+    return phases(condition, scan, channels) if is_wave(condition) else signal(scan, channels)
+
+
+def quarter_sine(z):
+    """The sine of z 32768ths of a quarter turn, in 16384ths."""
+    square = z * z // 32768
+    factor = 2600 - square * 140 // 32768
+    factor = 21162 - square * factor // 32768
+    factor = 51470 - square * factor // 32768
+    return min(16384, (z * factor + 32768) // 65536)
+
+
+def turned(parts, i):
+    """The cosine and the sine of i parts of a turn that has so many, in 16384ths."""
+    quarter, rest = divmod(4 * i, parts)
+    z = 32768 * rest // parts
+    ahead = [quarter_sine(z), quarter_sine(32768 - z), -quarter_sine(z), -quarter_sine(32768 - z)]
+    return ahead[(quarter + 1) % 4], ahead[quarter % 4]
+
+
+def strength(samples, n, order, thirds):
+    """The square of the magnitude of a phasor of the last n samples, each phase so many thirds of a turn behind the one before it."""
+    parts = [0, 0]
+    for k in range(len(samples) - n, len(samples)):
+        for phase, x in enumerate(samples[k]):
+            coefficients = turned(3 * n, (3 * order * (k % n) - phase * thirds * n) % (3 * n))
+            parts = [p + c * x for p, c in zip(parts, coefficients)]
+    return sum((abs(p) // 16384) ** 2 for p in parts)
+
+
+def wave_holds(condition, n, level, samples):
+    """Shares in thousandths. The phasor of a wave of rms value V over n samples is n V / sqrt 2, of a sequence three times as much."""
+    if len(samples) < n:
+        return False
+    kind, *numbers = condition.split(":")
+    numbers = [int(x) for x in numbers]
+    if kind in ("more", "less"):
+        twice = 2 * strength(samples, n, 1, numbers[0])
+        return twice >= (3 * n * level) ** 2 if kind == "more" else twice <= (3 * n * level) ** 2
+    if kind == "harmonic":
+        first, other, least = strength(samples, n, 1, 0), strength(samples, n, numbers[0], 0), numbers[1]
+    else:
+        first, other, least = strength(samples, n, 1, 1), strength(samples, n, 1, 2), 3 * numbers[0]
+    return 2 * first >= (n * least) ** 2 and 10**6 * other >= level**2 * first
+
+
 def holds(condition, n, level, history):
     """Whether the level is met at the last sample of a history."""
     samples = since_gap(history)
+    if is_wave(condition):
+        return wave_holds(condition, n, level, samples)
     if ":" in condition:
         return frequency_holds(condition, n, level, samples)
     if len(samples) < SPAN[condition](n):
@@ -129,7 +197,33 @@ def frequency(rng, size):
     return f"{kind}:{cycles}:{rate}:{least}", needed + rng.choice([0, 0, 1, 5, 30]), level, reset
 
 
+def wave_history(rng):
+    """Three phases with harmonics and unbalance, and a detector of them."""
+    n, size = rng.choice([12, 13, 16, 20, 24]), rng.choice([3, 40, 2000, 32767, 2**31 - 1])
+    length, per_cycle, start = rng.choice([rng.randint(1, n), rng.randint(2 * n, 4 * n)]), n * rng.choice([1, 1, rng.uniform(0.8, 1.25)]), rng.uniform(0, 2 * math.pi)
+    sizes = [rng.uniform(0.5, 1) if rng.random() < 0.7 else 0 for _ in range(3)]
+    order, share, way = rng.randint(2, 5), rng.choice([0, 0.1, 0.5, 1]), rng.choice([1, 1, -1, 0])
+    fault, gaps = rng.randrange(length + 1), rng.choice([0, 0, 0, 0.02])
+    words = []
+    for k in range(length):
+        turns = [start + 2 * math.pi * (k / per_cycle - way * phase / 3) for phase in range(3)]
+        parts = [s * (math.sin(a) + (share * math.sin(order * a) if k >= fault else 0)) for s, a in zip(sizes, turns)]
+        samples = [max(-2**31, min(2**31 - 1, round(size * p))) for p in parts]
+        words.append("L" if rng.random() < gaps else ",".join("-" if rng.random() < gaps / 2 else str(x) for x in samples))
+    least = max(1, int(size * rng.choice([0.01, 0.1, 0.4])))
+    condition = rng.choice([f"harmonic:{order}:{least}", f"unbalance:{least}", f"more:{rng.randrange(3)}", f"less:{rng.randrange(3)}"])
+    is_share = condition[0] in "hu"
+    channels = [rng.randrange(3)] if condition[0] == "h" and rng.random() < 0.7 else rng.sample(range(3), 3)
+    level = max(1, int(size * rng.uniform(0.01, 0.7)))
+    if is_share:
+        level = min(1000, max(1, int(1000 * (share if condition[0] == "h" else 0.3) * rng.uniform(0.5, 1.1))))
+    reset = level if rng.random() < 0.4 else max(1, int(level * (rng.uniform(1, 1.5) if condition[0] == "l" else rng.uniform(0.5, 1))))
+    return " ".join([condition, *map(str, [n, level, reset, rng.choice([1, 1, 2, 5]), len(channels), *channels]), *words])
+
+
 def history(rng):
+    if rng.random() < 0.3:
+        return wave_history(rng)
     length, width = rng.randint(1, 70), rng.randint(1, 4)
     kind = rng.choice(["noise", "steps", "sine", "saturated"])
     waves = [wave(rng, length, kind) for _ in range(width)]
@@ -162,7 +256,7 @@ def judge(lines_name, bits_name):
     differ, kinds = abs(len(lines) - len(answers)), {}
     for number, (line, answer) in enumerate(zip(lines, answers), 1):
         condition, n, level, reset, row, channels, scans = parsed(line)
-        wanted = "".join("01"[b] for b in bits(condition, n, level, reset, row, [signal(s, channels) for s in scans]))
+        wanted = "".join("01"[b] for b in bits(condition, n, level, reset, row, [signal_of(condition, s, channels) for s in scans]))
         kind = kinds.setdefault(condition.split(":")[0], [0, 0, 0, 0])
         for place, more in enumerate((1, len(set(wanted)) == 2, wanted.count("1"), wanted != answer)):
             kind[place] += more
@@ -201,7 +295,30 @@ def examples():
     ramp = np.round(10000 * np.sin(2 * np.pi * (50 * np.arange(4000) / 4000 + 0.5 * (np.arange(4000) / 4000) ** 2))).astype(int).tolist()
     fires = [frequency_holds("drifts:5:4000:1", 1200, level, ramp[:3000]) for level in (950, 1050)]
     print(f"  50 Hz and 1 Hz a second more: a change of 950 and of 1050 mHz a second: {fires}")
-    return differ or fires != [True, False]
+    return wave_examples() or differ or fires != [True, False]
+
+
+def wave_examples():
+    """An inrush and an open phase, by a Fourier sum of floats and by the definitions."""
+    differ = False
+    for n in (20, 80, 81):
+        line = lambda samples, order: sum(x * cmath.exp(-2j * math.pi * order * k / n) for k, x in enumerate(samples))
+        inrush = [round(9000 * max(0, math.cos(2 * math.pi * k / n) - 0.3)) for k in range(n)]
+        size = lambda order: math.sqrt(strength([(x, 0, 0) for x in inrush], n, order, 0))
+        for order in (2, 3, 4, 5):
+            wanted, found = abs(line(inrush, order) / line(inrush, 1)), size(order) / size(1)
+            differ |= abs(wanted - found) > 0.001
+            if n == 80:
+                print(f"  an inrush: harmonic {order} is {100 * wanted:.2f} %, by the definition {100 * found:.2f} %")
+        sizes, turn = (1, 0.1, 0.8), cmath.exp(2j * math.pi / 3)
+        three = [[round(9000 * s * math.sin(2 * math.pi * (k / n - p / 3))) for k in range(n)] for p, s in enumerate(sizes)]
+        a, b, c = (line(x, 1) for x in three)
+        for name, thirds, of_three in (("positive", 1, a + turn * b + turn**2 * c), ("negative", 2, a + turn**2 * b + turn * c), ("zero", 0, a + b + c)):
+            wanted, found = (abs(x) * 2 / n / 3 / 9000 for x in (of_three, math.sqrt(strength(list(zip(*three)), n, 1, thirds))))
+            differ |= abs(wanted - found) > 0.001
+            if n == 80:
+                print(f"  phases of {sizes}: the {name} sequence is {wanted:.4f}, by the definition {found:.4f}")
+    return differ
 
 
 if __name__ == "__main__":

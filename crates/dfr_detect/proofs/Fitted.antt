@@ -1,13 +1,14 @@
 -- Settings without a fault fit.
-use Rattle.std.proofs.Common.{◌≡◌, refl, Bool, true, false, leb, ◌&&◌, Option, Some, None}
+use Rattle.std.proofs.Common.{◌≡◌, refl, ℕ, Bool, true, false, leb, ◌&&◌, Option, Some, None}
 use Rattle.std.proofs.lemmas.Bool.{leb-true}
 use Rattle.comtrade_values.specs.Faults.{◌or◌, fault_unless}
-use Rattle.dfr_detect.specs.Fitting.{is_level, most_level, has_reset, test_fault, condition_fault, settings_fault, FitsTest, FitsCondition, Fits}
+use Rattle.dfr_detect.specs.Fitting.{is_level, most_level, has_reset, test_fault, least_of, has_order, wave_fault, condition_fault, settings_fault, FitsTest, FitsWaves, FitsCondition, Fits}
 use Rattle.dfr_detect.specs.declared.settings.Condition.{Condition}
-use Rattle.dfr_detect.specs.declared.settings.Condition.TheVariants.{RmsOver, RmsUnder, Change, Jump, Frequency}
+use Rattle.dfr_detect.specs.declared.settings.Condition.TheVariants.{RmsOver, RmsUnder, Change, Jump, Frequency, Waves}
 use Rattle.dfr_detect.specs.declared.settings.FrequencyTest.{FrequencyTest}
+use Rattle.dfr_detect.specs.declared.settings.WaveTest.{WaveTest}
 use Rattle.dfr_detect.specs.declared.settings.Settings.{Settings}
-use Rattle.dfr_detect.specs.declared.settings.SettingsFault.TheVariants.{Scans, Cycles, Rate, Level, Reset, Short, Row}
+use Rattle.dfr_detect.specs.declared.settings.SettingsFault.TheVariants.{Scans, Cycles, Rate, Period, Order, Least, Level, Reset, Short, Row}
 
 first_none : {F : Type 0} (a b : Option F) → a or b ≡ None → a ≡ None
 first_none None b h = refl
@@ -32,12 +33,23 @@ test_fits t h =
     let rate = passed (leb 1 t.rate && leb t.rate 1_000_000) Rate (first_none _ _ (rest_none _ _ h)) in
     record { few = leb-true t.cycles 64 (both _ _ cycles).1; rate = leb-true t.rate 1_000_000 (both _ _ rate).1 }
 
-condition_fits : (condition : Condition) → condition_fault condition ≡ None → FitsCondition condition
-condition_fits RmsOver h = tt
-condition_fits RmsUnder h = tt
-condition_fits Change h = tt
-condition_fits Jump h = tt
-condition_fits (Frequency t) h = test_fits t h
+waves_fit : (t : WaveTest) (n : ℕ) → wave_fault t n ≡ None → FitsWaves t n
+waves_fit t n h =
+    let period = passed (leb 12 n && leb n 4096) Period (first_none _ _ h) in
+    let least = passed (is_level 1_099_511_627_776 (least_of t)) Least (rest_none _ _ (rest_none _ _ h)) in
+    record {
+      some = leb-true 12 n (both _ _ period).0;
+      few = leb-true n 4096 (both _ _ period).1;
+      least = leb-true (least_of t) 1_099_511_627_776 (both _ _ least).1;
+    }
+
+condition_fits : (condition : Condition) (n : ℕ) → condition_fault condition n ≡ None → FitsCondition condition n
+condition_fits RmsOver n h = tt
+condition_fits RmsUnder n h = tt
+condition_fits Change n h = tt
+condition_fits Jump n h = tt
+condition_fits (Frequency t) n h = test_fits t h
+condition_fits (Waves t) n h = waves_fit t n h
 
 pub settings_fit : (s : Settings) → settings_fault s ≡ None → Fits s
 settings_fit s h =
@@ -53,7 +65,7 @@ settings_fit s h =
     record {
       some = leb-true 1 s.scans (both _ _ scans).0;
       few = leb-true s.scans 65_536 (both _ _ scans).1;
-      condition = condition_fits s.condition (first_none _ _ from_condition);
+      condition = condition_fits s.condition s.scans (first_none _ _ from_condition);
       level = leb-true s.level most (both _ _ level).1;
       reset = leb-true s.reset most (both (leb 1 s.reset) (leb s.reset most) (both _ _ reset).0).1;
       row = leb-true 1 s.row row;

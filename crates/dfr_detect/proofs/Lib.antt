@@ -6,6 +6,11 @@ pub mod Lists
 pub mod Ages
 pub mod Paced
 pub mod Summed
+pub mod Coefficients
+pub mod Tables
+pub mod Weighing
+pub mod Sliding
+pub mod Phased
 pub mod Steps
 pub mod Each
 pub mod Runs

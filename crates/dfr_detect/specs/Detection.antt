@@ -6,7 +6,7 @@ use Rattle.dfr_detect.specs.Signals.{signal}
 use Rattle.dfr_detect.specs.Watched.{Kept, kept, bit}
 use Rattle.dfr_detect.specs.declared.settings.Settings.{Settings}
 
--- what a detector is asked to do, with the sum of which channels
+-- what a detector is asked to do, with which channels: their sum, or the first three as phases
 pub record Wanted : Type 0 where
   pub settings : Settings
   pub channels : List ℕ
@@ -16,7 +16,7 @@ wanted settings channels = record { settings = settings; channels = channels }
 
 -- the detector's bit for the newest scan
 abbrev pub fires : Wanted → List (List Reading) → Bool
-fires w scans = bit w.settings (signal w.channels scans)
+fires w scans = bit w.settings (signal w.settings.condition w.channels scans)
 
 -- what a detector keeps of a history
 pub record Detected : Type 0 where
@@ -27,7 +27,7 @@ abbrev pub detected_by : List ℕ → Kept → Detected
 detected_by channels kept = record { channels = channels; kept = kept }
 
 abbrev pub detected : Wanted → List (List Reading) → Detected
-detected w scans = detected_by w.channels (kept w.settings (signal w.channels scans))
+detected w scans = detected_by w.channels (kept w.settings (signal w.settings.condition w.channels scans))
 
 -- for every history of which `old` is kept, the bit is that of the next scan, and `new` is kept after it
 abbrev pub IsDetection : Detected → List Reading → Bool → Detected → Type 0

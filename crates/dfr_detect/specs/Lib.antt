@@ -4,6 +4,9 @@ pub mod Fitting
 pub mod Cycles
 pub mod Crossings
 pub mod Paces
+pub mod Turns
+pub mod Phasors
+pub mod Shares
 pub mod Levels
 pub mod Watched
 pub mod Signals

@@ -1,6 +1,6 @@
 //! A detector of the scans of all channels.
 
-use crate::sum::sum_of;
+use crate::sum::sample_of;
 use crate::{Settings, Watch};
 use comtrade_values::{Items, Memory};
 use dfr_channels::Reading;
@@ -8,7 +8,8 @@ use std::alloc::{Allocator, Global};
 use std::marker::Model;
 
 /// Computes a bit for each scan from the sum of the samples of some channels: one channel, or the
-/// phases of a residual current or voltage. Contracts see what it keeps of the scans so far.
+/// phases of a residual current or voltage. A sequence is that of the first three channels, and with
+/// fewer its bit is never 1. Contracts see what it keeps of the scans so far.
 #[derive(Drop)]
 pub struct Detector<A: Allocator = Global> {
     channels: Items<usize, A>,
@@ -50,7 +51,7 @@ impl<A: Allocator + Copy> Detector<A> {
     pub fn step(&mut self, readings: &[Reading]) -> bool
         ensures { IsDetection self.old readings.now result self.new }
     {
-        let sample = sum_of(self.channels.items(), readings);
+        let sample = sample_of(self.watch.condition(), self.channels.items(), readings);
         self.watch.step(sample)
     }
 }

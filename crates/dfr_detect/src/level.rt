@@ -18,7 +18,7 @@ pub(crate) fn span(condition: Condition, scans: u32) -> usize
         Condition::RmsOver | Condition::RmsUnder => scans,
         Condition::Change => scans + 1,
         Condition::Jump => 2 * scans + 1,
-        Condition::Frequency(_) => 0,
+        Condition::Frequency(_) | Condition::Waves(_) => 0,
     }
 }
 
@@ -70,7 +70,7 @@ pub(crate) fn meets<A: Allocator>(
         Condition::RmsUnder => window.squares() <= squares_at(scans, level),
         Condition::Change => level <= change(scans as usize, 0, window).unsigned_abs(),
         Condition::Jump => level <= jump(scans as usize, window).unsigned_abs(),
-        Condition::Frequency(_) => false,
+        Condition::Frequency(_) | Condition::Waves(_) => false,
     }
 }
 

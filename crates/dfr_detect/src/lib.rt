@@ -8,15 +8,23 @@ mod detectors;
 mod level;
 mod lost;
 mod run;
+mod sample;
 mod settings;
+mod shares;
 mod spans;
 mod sum;
+mod turns;
 mod watch;
+mod waves;
 mod window;
 
 pub use cycle::{CycleFault, CycleScans, cycle_scans};
 pub use detector::Detector;
 pub use detectors::Detectors;
 pub use run::bits_of;
-pub use settings::{Condition, FrequencyIs, FrequencyTest, Settings, SettingsFault};
+pub use sample::Sample;
+pub use settings::{
+    Condition, FrequencyIs, FrequencyTest, HarmonicTest, Sequence, Settings, SettingsFault,
+    WaveTest,
+};
 pub use watch::Watch;

@@ -31,6 +31,40 @@ pub struct FrequencyTest {
     pub least: u64,
 }
 
+/// A test of a harmonic: a wave with so many periods in the window.
+#[derive(Clone, Copy, Debug, PartialEq, Eq)]
+pub struct HarmonicTest {
+    /// How many periods, 2 to 5.
+    pub order: u32,
+    /// The least rms value of the wave with one period, in samples.
+    pub least: u64,
+}
+
+/// A sequence of three phases A, B and C.
+#[derive(Clone, Copy, Debug, PartialEq, Eq)]
+pub enum Sequence {
+    /// B follows A by a third of a period, and C follows B.
+    Positive,
+    /// B follows C.
+    Negative,
+    /// The phases are equal.
+    Zero,
+}
+
+/// A test of waves with one period in the window.
+#[derive(Clone, Copy, Debug, PartialEq, Eq)]
+pub enum WaveTest {
+    /// The harmonic is at least so many thousandths of the wave.
+    Harmonic(HarmonicTest),
+    /// The rms value of the sequence is at least the level.
+    SequenceOver(Sequence),
+    /// It is at most the level.
+    SequenceUnder(Sequence),
+    /// The negative sequence is at least so many thousandths of the positive one, which has at
+    /// least this rms value, in samples.
+    Unbalance(u64),
+}
+
 /// What a detector compares with its level. `scans` is that of its settings.
 #[derive(Clone, Copy, Debug, PartialEq, Eq)]
 pub enum Condition {
@@ -46,9 +80,13 @@ pub enum Condition {
     /// The frequency, or its rate of change, meets the level, if the cycles that are looked at lie
     /// in the last `scans` scans.
     Frequency(FrequencyTest),
+    /// The waves with one period in the last `scans` scans, 12 to 4096, meet the level. Sequences
+    /// are those of three channels, in the order of their phases.
+    Waves(WaveTest),
 }
 
-/// The settings of a detector. Levels are in raw samples, and those of a frequency in mHz.
+/// The settings of a detector. Levels are in raw samples, those of a frequency in mHz, and shares
+/// in thousandths.
 #[derive(Clone, Copy, Debug, PartialEq, Eq)]
 pub struct Settings {
     /// What is compared with the level.
@@ -77,11 +115,17 @@ pub enum SettingsFault {
     /// The rate is 0 or too large.
     #[error("the rate is 1 to 1000000 scans a second")]
     Rate,
-    /// The least half wave is 0 or too large.
-    #[error("the least half wave is 1 to 1099511627776 samples")]
+    /// A period has too few scans, or too many.
+    #[error("the period of a wave has 12 to 4096 scans")]
+    Period,
+    /// There is no such harmonic.
+    #[error("the order of a harmonic is 2 to 5")]
+    Order,
+    /// The least half wave or rms value is 0 or too large.
+    #[error("the least half wave or rms value is 1 to 1099511627776 samples")]
     Least,
     /// The level is 0 or too large.
-    #[error("the level is 1 to 1099511627776, of a rate of change 1 to 2147483648")]
+    #[error("the level is 1 to 1099511627776, of a rate of change 1 to 2147483648, of a share 1 to 1000")]
     Level,
     /// The reset level lies on the wrong side of the level, is 0 or too large.
     #[error("the reset level lies below the level, or above it for `under`")]
@@ -149,6 +193,85 @@ impl FrequencyTest {
     }
 }
 
+impl WaveTest {
+    ghost use Rattle.std.specs.Prelude.{◌≡◌};
+    ghost use Rattle.dfr_detect.specs.Fitting.{least_of, most_share, has_order, is_low_test, wave_fault};
+
+    /// The least rms value of the first wave.
+    fn least(&self) -> u64
+        ensures { result ≡ least_of self.now }
+    {
+        match self {
+            WaveTest::Harmonic(test) => test.least,
+            WaveTest::Unbalance(least) => *least,
+            WaveTest::SequenceOver(_) | WaveTest::SequenceUnder(_) => 1,
+        }
+    }
+
+    /// The largest level.
+    fn most(&self) -> u64
+        ensures { result ≡ most_share self.now }
+    {
+        match self {
+            WaveTest::Harmonic(_) | WaveTest::Unbalance(_) => 1000,
+            WaveTest::SequenceOver(_) | WaveTest::SequenceUnder(_) => MOST,
+        }
+    }
+
+    /// Whether the level is to be fallen below.
+    fn is_under(&self) -> bool
+        ensures { result ≡ is_low_test self.now }
+    {
+        match self {
+            WaveTest::SequenceUnder(_) => true,
+            WaveTest::Harmonic(_) | WaveTest::SequenceOver(_) | WaveTest::Unbalance(_) => false,
+        }
+    }
+
+    /// Whether there is such a harmonic.
+    fn has_order(&self) -> bool
+        ensures { result ≡ has_order self.now }
+    {
+        match self {
+            WaveTest::Harmonic(test) => 2 <= test.order && test.order <= 5,
+            WaveTest::SequenceOver(_) | WaveTest::SequenceUnder(_) | WaveTest::Unbalance(_) => true,
+        }
+    }
+
+    /// The first fault over so many scans, if there is one.
+    fn fault(&self, scans: u32) -> Option<SettingsFault>
+        ensures { result ≡ wave_fault self.now scans }
+    {
+        if scans < 12 || scans > 4096 {
+            return Some(SettingsFault::Period);
+        }
+        if !self.has_order() {
+            return Some(SettingsFault::Order);
+        }
+        if !is_level(MOST, self.least()) {
+            return Some(SettingsFault::Least);
+        }
+        None
+    }
+}
+
+impl Condition {
+    ghost use Rattle.std.specs.Prelude.{◌≡◌};
+    ghost use Rattle.dfr_detect.specs.Signals.{has_phases};
+
+    /// Whether three phases are looked at, and no sum.
+    #[inline(always)]
+    pub fn has_phases(&self) -> bool
+        ensures { result ≡ has_phases self.now }
+    {
+        match self {
+            Condition::Waves(WaveTest::Harmonic(_)) => false,
+            Condition::Waves(_) => true,
+            _ => false,
+        }
+    }
+}
+
 impl Settings {
     ghost use Rattle.std.specs.Prelude.{◌≡◌};
     ghost use Rattle.dfr_detect.specs.Fitting.{most_level, is_under, has_reset, has_cycles, condition_fault, settings_fault};
@@ -159,6 +282,7 @@ impl Settings {
     {
         match self.condition {
             Condition::Frequency(test) => test.most(),
+            Condition::Waves(test) => test.most(),
             _ => MOST,
         }
     }
@@ -170,6 +294,7 @@ impl Settings {
         match self.condition {
             Condition::RmsUnder => true,
             Condition::Frequency(test) => test.test == FrequencyIs::Under,
+            Condition::Waves(test) => test.is_under(),
             Condition::RmsOver | Condition::Change | Condition::Jump => false,
         }
     }
@@ -199,10 +324,11 @@ impl Settings {
 
     /// The first fault of the condition.
     fn condition_fault(&self) -> Option<SettingsFault>
-        ensures { result ≡ condition_fault self.now.condition }
+        ensures { result ≡ condition_fault self.now.condition self.now.scans }
     {
         match self.condition {
             Condition::Frequency(test) => test.fault(),
+            Condition::Waves(test) => test.fault(self.scans),
             _ => None,
         }
     }

@@ -1,16 +1,19 @@
 //! The bit of one signal, scan after scan.
 
-ghost use Rattle.std.specs.Prelude.{◌≡◌, ◌≤◌, ◌+◌, ◌^◌, if◌then◌else◌, min, [], ◌∷◌, take, length, unsigned_abs, IfOk};
+ghost use Rattle.std.specs.Prelude.{◌≡◌, ◌≤◌, ◌+◌, ◌^◌, if◌then◌else◌, min, [], ◌∷◌, take, length, IfOk};
 ghost use Rattle.circular_buffer.specs.Buffer.{buffer};
 ghost use Rattle.dfr_detect.specs.Crossings.{cycles_before};
 ghost use Rattle.dfr_detect.specs.Fitting.{Fits, FitsCondition, most_level};
 ghost use Rattle.dfr_detect.specs.Levels.{span as spec_span};
-ghost use Rattle.dfr_detect.specs.Watched.{pace_of, next_pace, met_by};
+ghost use Rattle.dfr_detect.specs.Sums.{AreSmall};
+ghost use Rattle.dfr_detect.specs.Watched.{pace_of, waves_of, next_pace, next_waves, met_by};
 
 use crate::crossings::Crossings;
 use crate::level::{is_met, span};
+use crate::shares::{first_shape, meets, other_shape, plain};
+use crate::waves::Waves;
 use crate::window::Window;
-use crate::{Condition, FrequencyIs, FrequencyTest, Settings};
+use crate::{Condition, FrequencyIs, FrequencyTest, Sample, Settings};
 use comtrade_values::Memory;
 use std::alloc::{Allocator, Global};
 use std::marker::Model;
@@ -22,6 +25,7 @@ pub struct Watch<A: Allocator = Global> {
     settings: Settings,
     window: Window<A>,
     crossings: Crossings<A>,
+    waves: Waves<A>,
     row: u32,
     on: bool,
 }
@@ -31,7 +35,7 @@ impl<A: Allocator> Model for Watch<A> {
 
     ghost Value = { Kept };
 
-    ghost view = { λ a. kept_by a.settings a.window.items a.crossings a.row a.on };
+    ghost view = { λ a. kept_by a.settings a.window.items a.crossings a.waves a.row a.on };
 
     ghost invariant = { λ a. IsSound a.settings a.window.items a.window.capacity a.row };
 }
@@ -65,7 +69,7 @@ fn crossings_of<A: Allocator + Copy>(
     condition: Condition,
     scans: u32,
 ) -> Result<Crossings<A>, Memory>
-    requires fits { FitsCondition condition }
+    requires fits { FitsCondition condition scans }
     requires some { 1 ≤ scans }
     requires few { scans ≤ 2 ^ 16 }
     ensures { IfOk result (λ made. made ≡ pace_of condition scans []) }
@@ -78,23 +82,43 @@ fn crossings_of<A: Allocator + Copy>(
     }
 }
 
+/// The waves that a condition looks at.
+fn waves_of<A: Allocator + Copy>(
+    alloc: A,
+    condition: Condition,
+    scans: u32,
+) -> Result<Waves<A>, Memory>
+    requires { FitsCondition condition scans }
+    ensures { IfOk result (λ made. made ≡ waves_of condition scans []) }
+{
+    match condition {
+        Condition::Waves(test) => {
+            Waves::with_scans(alloc, scans as usize, first_shape(test), other_shape(test))
+        }
+        _ => Waves::with_scans(alloc, 1, plain(1), plain(1)),
+    }
+}
+
 /// Takes a sample into what the condition looks at.
 #[inline(always)]
 fn keep<A: Allocator>(
     settings: &Settings,
     window: &mut Window<A>,
     crossings: &mut Crossings<A>,
-    x: i64,
+    waves: &mut Waves<A>,
+    x: Sample,
 )
-    requires small { unsigned_abs x ≤ 2 ^ 39 }
+    requires small { AreSmall x }
     requires places { window.old.capacity ≡ spec_span settings.now.condition settings.now.scans }
     requires few { length window.old.items ≤ window.old.capacity }
-    ensures samples { window.new ≡ buffer (take window.old.capacity (x ∷ window.old.items)) window.old.capacity }
-    ensures pace { crossings.new ≡ next_pace settings.now.condition crossings.old x }
+    ensures samples { window.new ≡ buffer (take window.old.capacity (x.a ∷ window.old.items)) window.old.capacity }
+    ensures pace { crossings.new ≡ next_pace settings.now.condition crossings.old x.a }
+    ensures waves { waves.new ≡ next_waves settings.now.condition waves.old x }
 {
     match settings.condition {
-        Condition::Frequency(_) => crossings.take_in(x),
-        _ => window.push(x),
+        Condition::Frequency(_) => crossings.take_in(x.a),
+        Condition::Waves(_) => waves.push(x),
+        _ => window.push(x.a),
     }
 }
 
@@ -105,14 +129,16 @@ fn is_met_by<A: Allocator>(
     level: u64,
     window: &Window<A>,
     crossings: &Crossings<A>,
+    waves: &Waves<A>,
 ) -> bool
     requires fits { Fits settings.now }
     requires level { level ≤ most_level settings.now.condition }
     requires places { window.now.capacity ≡ spec_span settings.now.condition settings.now.scans }
-    ensures { result ≡ met_by settings.now.condition settings.now.scans level window.now.items crossings.now }
+    ensures { result ≡ met_by settings.now.condition settings.now.scans level window.now.items crossings.now waves.now }
 {
     match settings.condition {
         Condition::Frequency(test) => crossings.meet(test, level),
+        Condition::Waves(test) => meets(test, level, waves),
         condition => is_met(condition, settings.scans, level, window),
     }
 }
@@ -129,10 +155,12 @@ impl<A: Allocator + Copy> Watch<A> {
     {
         let window = Window::with_places(alloc, span(settings.condition, settings.scans))?;
         let crossings = crossings_of(alloc, settings.condition, settings.scans)?;
+        let waves = waves_of(alloc, settings.condition, settings.scans)?;
         Ok(Watch {
             settings,
             window,
             crossings,
+            waves,
             row: 0,
             on: false,
         })
@@ -140,19 +168,41 @@ impl<A: Allocator + Copy> Watch<A> {
 }
 
 impl<A: Allocator> Watch<A> {
-    ghost use Rattle.std.specs.Prelude.{◌≡◌, ◌≤◌, ◌^◌, IfSome, unsigned_abs};
+    ghost use Rattle.std.specs.Prelude.{◌≡◌, IfSome};
+    ghost use Rattle.dfr_detect.specs.Sums.{AreSmall};
     ghost use Rattle.dfr_detect.specs.Watched.{after_sample, after_gap, IsStep};
+
+    /// Whether what is kept meets a level.
+    #[inline(always)]
+    fn meets(&self, level: u64) -> bool
+        requires { level ≤ most_level self.now.settings.condition }
+        ensures { result ≡ met_by self.now.settings.condition self.now.settings.scans level self.now.samples self.now.pace self.now.waves }
+    {
+        is_met_by(
+            &self.settings,
+            level,
+            &self.window,
+            &self.crossings,
+            &self.waves,
+        )
+    }
 
     /// Takes in a sample.
     #[inline(always)]
-    fn take_in(&mut self, x: i64)
-        requires { unsigned_abs x ≤ 2 ^ 39 }
+    fn take_in(&mut self, x: Sample)
+        requires { AreSmall x }
         ensures { self.new ≡ after_sample self.old x }
     {
         let s = self.settings;
-        keep(&s, &mut self.window, &mut self.crossings, x);
-        let met = is_met_by(&s, s.level, &self.window, &self.crossings);
-        let stays = self.on && is_met_by(&s, s.reset, &self.window, &self.crossings);
+        keep(
+            &s,
+            &mut self.window,
+            &mut self.crossings,
+            &mut self.waves,
+            x,
+        );
+        let met = self.meets(s.level);
+        let stays = self.on && self.meets(s.reset);
         self.row = next_row(self.row, s.row, met);
         self.on = self.row >= s.row || stays;
     }
@@ -163,6 +213,7 @@ impl<A: Allocator> Watch<A> {
     {
         self.window.clear();
         self.crossings.clear();
+        self.waves.clear();
         self.row = 0;
         self.on = false;
     }
@@ -170,8 +221,8 @@ impl<A: Allocator> Watch<A> {
     /// Takes in what a scan gives, a sample or none, and returns the bit of this scan: that of the
     /// definition over all that was taken in.
     #[inline(always)]
-    pub fn step(&mut self, sample: Option<i64>) -> bool
-        requires { IfSome sample (λ x. unsigned_abs x ≤ 2 ^ 39) }
+    pub fn step(&mut self, sample: Option<Sample>) -> bool
+        requires { IfSome sample (λ x. AreSmall x) }
         ensures { IsStep self.old sample result self.new }
     {
         match sample {
@@ -179,6 +230,14 @@ impl<A: Allocator> Watch<A> {
             None => self.start_anew(),
         }
         self.on
+    }
+
+    /// What is compared with the level.
+    #[inline(always)]
+    pub fn condition(&self) -> Condition
+        ensures { result ≡ self.now.settings.condition }
+    {
+        self.settings.condition
     }
 
     /// The bit of the newest scan, false before the first.

@@ -6,7 +6,7 @@ use Rattle.comtrade_values.specs.Spelling.{Number, is_same}
 use Rattle.dfr_channels.specs.LineFields.{need}
 use Rattle.dfr_channels.specs.Parts.{AnalogParts}
 use Rattle.dfr_setup.specs.declared.tested.Test.{Test}
-use Rattle.dfr_setup.specs.declared.tested.Test.TheVariants.{RmsOver, RmsUnder, Change, Jump, FrequencyOver, FrequencyUnder, FrequencyChange}
+use Rattle.dfr_setup.specs.declared.tested.Test.TheVariants.{RmsOver, RmsUnder, Change, Jump, FrequencyOver, FrequencyUnder, FrequencyChange, Harmonic, SequenceOver, SequenceUnder, Unbalance}
 use Rattle.dfr_setup.specs.Refusing.{and_then, unless}
 use Rattle.dfr_setup.specs.Wishes.{natural}
 use Rattle.dfr_setup.specs.declared.fault.DetectorFault.{DetectorFault}
@@ -37,7 +37,7 @@ pub record SumParts : Type 0 where
 abbrev pub no_sum : SumParts
 no_sum = record { channels = []; a = None; most = 0 }
 
--- an offset changes an rms value and moves crossings of 0, but no change
+-- an offset changes an rms value, moves crossings of 0 and is no part of a wave, but leaves a change as it is
 abbrev pub takes_offset : Test → Bool
 takes_offset RmsOver = false
 takes_offset RmsUnder = false
@@ -46,6 +46,10 @@ takes_offset Jump = true
 takes_offset FrequencyOver = false
 takes_offset FrequencyUnder = false
 takes_offset FrequencyChange = false
+takes_offset (Harmonic order) = false
+takes_offset (SequenceOver s) = false
+takes_offset (SequenceUnder s) = false
+takes_offset Unbalance = false
 
 -- the largest size of a sample
 abbrev pub largest : AnalogParts → ℕ

@@ -12,12 +12,12 @@ use Rattle.dfr_detect.specs.Detection.{Wanted, wanted}
 use Rattle.dfr_detect.specs.Fitting.{settings_fault}
 use Rattle.dfr_detect.specs.declared.settings.Settings.{Settings}
 use Rattle.dfr_detect.specs.declared.settings.SettingsFault.{SettingsFault}
-use Rattle.dfr_detect.specs.declared.settings.SettingsFault.TheVariants.{Scans, Cycles, Rate, Least, Level, Reset, Short, Row}
+use Rattle.dfr_detect.specs.declared.settings.SettingsFault.TheVariants.{Scans, Cycles, Rate, Period, Order, Least, Level, Reset, Short, Row}
 use Rattle.dfr_setup.specs.Addends.{SumParts, no_sum}
 use Rattle.dfr_setup.specs.Addends as addends
 use Rattle.dfr_setup.specs.Quantities.{level_in, least_in, one_of, periods, reach, window_in, within}
 use Rattle.dfr_setup.specs.Refusing.{and_then, unless}
-use Rattle.dfr_setup.specs.Tests.{condition_of}
+use Rattle.dfr_setup.specs.Tests.{condition_of, has_phases}
 use Rattle.dfr_setup.specs.Units.{has_units}
 use Rattle.dfr_setup.specs.Wishes.{is_detect, is_go, words, wish}
 use Rattle.dfr_setup.specs.declared.fault.DetectorFault.{DetectorFault}
@@ -25,7 +25,7 @@ use Rattle.dfr_setup.specs.declared.fault.DetectorFault.TheVariants as fault
 use Rattle.dfr_setup.specs.declared.tested.Test.{Test}
 use Rattle.dfr_setup.specs.declared.wish.Wish.{Wish}
 
--- a detector: the name of its status channel, what it is asked, and its levels in the channels' unit or in Hz
+-- a detector: the name of its status channel, what it is asked, and its levels in the channels' unit, in Hz or in percent
 pub record PlanParts : Type 0 where
   pub name : List ℕ
   pub test : Test
@@ -68,6 +68,8 @@ abbrev pub of_settings : SettingsFault → DetectorFault
 of_settings Scans = fault.Window
 of_settings Cycles = fault.Cycles
 of_settings Rate = fault.Rate
+of_settings Period = fault.Period
+of_settings Order = fault.Order
 of_settings Least = fault.Least
 of_settings Level = fault.Level
 of_settings Reset = fault.Side
@@ -104,6 +106,7 @@ abbrev pub plan_of : SetupParts → Wish → List (List ℕ) → List ℕ → Li
 plan_of s w ws name text =
     and_then (sum_of s w text) (λ sum.
     if length sum.channels == 0 then Err fault.Channel else
+    if has_phases w.test && not (length sum.channels == 3) then Err fault.Phases else
     and_then (settings_over s w ws sum.channels sum.a sum.most) (λ settings.
     Ok (record { name = name; test = w.test; settings = settings; channels = sum.channels; level = w.level; reset = w.reset; least = w.least })))
 

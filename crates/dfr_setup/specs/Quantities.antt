@@ -1,12 +1,12 @@
 -- Levels in samples, and windows in scans.
-use Rattle.std.specs.Prelude.{ℕ, ◌+◌, ◌*◌, ◌/◌, ◌^◌, ◌==◌, Bool, not, ◌&&◌, nat_lt, nat_le, if◌then◌else◌, Option, Some, None, pos, int_lt, ◌*ℤ◌, unsigned_abs}
+use Rattle.std.specs.Prelude.{ℕ, ◌+◌, ◌*◌, ◌/◌, ◌^◌, ◌==◌, Bool, not, ◌&&◌, ◌||◌, nat_lt, nat_le, if◌then◌else◌, Option, Some, None, pos, int_lt, ◌*ℤ◌, unsigned_abs}
 use Rattle.std.specs.Int.{div_ceil}
 use Rattle.comtrade_values.specs.Spelling.{Number}
 use Rattle.dfr_detect.specs.Cycles.{cycle_fault, window_of}
 use Rattle.dfr_detect.specs.declared.cycle.CycleFault.{CycleFault}
 use Rattle.dfr_setup.specs.declared.tested.Test.{Test}
-use Rattle.dfr_setup.specs.declared.tested.Test.TheVariants.{RmsOver, RmsUnder, Change, Jump, FrequencyOver, FrequencyUnder, FrequencyChange}
-use Rattle.dfr_setup.specs.Tests.{is_frequency}
+use Rattle.dfr_setup.specs.declared.tested.Test.TheVariants.{RmsOver, RmsUnder, Change, Jump, FrequencyOver, FrequencyUnder, FrequencyChange, Harmonic, SequenceOver, SequenceUnder, Unbalance}
+use Rattle.dfr_setup.specs.Tests.{is_frequency, is_share}
 
 -- a number of at most 128 bits
 abbrev pub short : ℕ → Option ℕ
@@ -30,13 +30,13 @@ abbrev pub part_in : Option Number → Option Number → Option Number
 part_in (Some share) (Some whole) = held (part share whole)
 part_in _ _ = None
 
--- a mHz, in Hz
-abbrev pub millihertz : Number
-millihertz = record { units = pos 1; places = 3 }
+-- a unit with so many decimal places
+abbrev pub unit : ℕ → Number
+unit places = record { units = pos 1; places = places }
 
--- what a level is counted in: samples, by the channels' multiplier, or mHz
+-- what a level is counted in: samples, by the channels' multiplier; mHz, where it is in Hz; thousandths, where it is in percent
 abbrev pub one_of : Test → Number → Number
-one_of test a = if is_frequency test then millihertz else a
+one_of test a = if is_frequency test then unit 3 else if is_share test then unit 1 else a
 
 -- counted in `a`, a level is the first of these numbers over the second: level / |a|
 abbrev pub numerator : Number → Number → ℕ
@@ -54,6 +54,10 @@ rounded Jump n d = div_ceil n d
 rounded FrequencyOver n d = div_ceil n d
 rounded FrequencyUnder n d = n / d
 rounded FrequencyChange n d = div_ceil n d
+rounded (Harmonic order) n d = div_ceil n d
+rounded (SequenceOver s) n d = div_ceil n d
+rounded (SequenceUnder s) n d = n / d
+rounded Unbalance n d = div_ceil n d
 
 abbrev pub quotient_in : Test → Option ℕ → Option ℕ → ℕ → Option ℕ
 quotient_in test None d most = None
@@ -70,7 +74,7 @@ level_in test level a most =
     if has_quotient level a then quotient_in test (short (numerator level a)) (short (denominator level a)) most else None
 
 -- the greatest value of a test where this is the largest sample, and the rate: a change goes from one end to the other, a jump twice so
--- far; a cycle has two scans
+-- far; a cycle has two scans; a share is at most the whole
 abbrev pub reach : Test → ℕ → ℕ → ℕ
 reach RmsOver largest rate = largest
 reach RmsUnder largest rate = largest
@@ -79,10 +83,14 @@ reach Jump largest rate = 4 * largest
 reach FrequencyOver largest rate = 500 * rate
 reach FrequencyUnder largest rate = 500 * rate
 reach FrequencyChange largest rate = 2_147_483_648
+reach (Harmonic order) largest rate = 1000
+reach (SequenceOver s) largest rate = largest
+reach (SequenceUnder s) largest rate = largest
+reach Unbalance largest rate = 1000
 
--- how deep a half wave is at least, in samples; other tests don't use it
+-- how deep a half wave is at least, or how large a wave, in samples; other tests don't use it
 abbrev pub least_in : Test → Number → Number → ℕ → Option ℕ
-least_in test least a largest = if is_frequency test then level_in RmsOver least a largest else Some 1
+least_in test least a largest = if is_frequency test || is_share test then level_in RmsOver least a largest else Some 1
 
 -- ---- windows
 
@@ -95,6 +103,10 @@ periods Jump cycles = 1
 periods FrequencyOver cycles = 2 * cycles
 periods FrequencyUnder cycles = 2 * cycles
 periods FrequencyChange cycles = 4 * cycles
+periods (Harmonic order) cycles = 1
+periods (SequenceOver s) cycles = 1
+periods (SequenceUnder s) cycles = 1
+periods Unbalance cycles = 1
 
 -- a number, unless there is a fault
 abbrev pub unless_fault : Option CycleFault → ℕ → Option ℕ

@@ -4,7 +4,7 @@ use Rattle.std.specs.List.{list_all}
 use Rattle.std.specs.Str.{bytes_eq}
 use Rattle.comtrade_values.specs.Lines.{field}
 use Rattle.dfr_channels.specs.Parts.{AnalogParts}
-use Rattle.dfr_setup.specs.Tests.{is_frequency}
+use Rattle.dfr_setup.specs.Tests.{is_frequency, is_share}
 use Rattle.dfr_setup.specs.declared.level.Units.{Units}
 use Rattle.dfr_setup.specs.declared.tested.Test.{Test}
 use Rattle.dfr_setup.specs.declared.tested.Test.TheVariants.{FrequencyChange}
@@ -23,9 +23,12 @@ abbrev pub is_hertz : Test → List ℕ → Bool
 is_hertz FrequencyChange unit = bytes_eq unit (codes "Hz/s")
 is_hertz _ unit = bytes_eq unit (codes "Hz")
 
--- it is that of the levels of a test: of a frequency that of frequencies, of other tests that of the channels
+-- it is that of the levels of a test: of a frequency that of frequencies, of a share percent, of other tests that of the channels
 abbrev pub is_levels : Test → List AnalogParts → List ℕ → List ℕ → Bool
-is_levels test cs channels unit = if is_frequency test then is_hertz test unit else is_theirs cs channels unit
+is_levels test cs channels unit =
+    if is_frequency test then is_hertz test unit
+    else if is_share test then bytes_eq unit (codes "%")
+    else is_theirs cs channels unit
 
 -- the unit at this place, if one is named, is such a unit
 abbrev pub if_named : (List ℕ → Bool) → List (List ℕ) → Option ℕ → Bool

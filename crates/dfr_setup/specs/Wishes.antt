@@ -1,5 +1,6 @@
 -- What a line `detect` asks for: detect NAME KIND LEVEL of CHANNELS [for N] [reset LEVEL] [window N].
--- That of a frequency has behind these: [cycles N] least LEVEL. A LEVEL is a number, or a part of a quantity: NUMBER of NUMBER UNIT.
+-- That of a frequency has behind these: [cycles N] least LEVEL. That of a share has: least LEVEL. A LEVEL is a number, or a part of a
+-- quantity: NUMBER of NUMBER UNIT.
 use Rattle.std.specs.Prelude.{ℕ, ◌+◌, ◌==◌, Bool, not, ◌&&◌, if◌then◌else◌, List, length, filter, Option, Some, None, option_map, Result, Ok, Err, codes}
 use Rattle.std.specs.List.{before_first, slice_split}
 use Rattle.std.specs.Str.{bytes_eq}
@@ -9,8 +10,10 @@ use Rattle.comtrade_values.specs.Lines.{field}
 use Rattle.dfr_channels.specs.LineFields.{need}
 use Rattle.dfr_setup.specs.Quantities.{part_in}
 use Rattle.dfr_setup.specs.declared.tested.Test.{Test}
-use Rattle.dfr_setup.specs.declared.tested.Test.TheVariants.{RmsOver, RmsUnder, Change, Jump, FrequencyOver, FrequencyUnder, FrequencyChange}
-use Rattle.dfr_setup.specs.Tests.{is_frequency}
+use Rattle.dfr_setup.specs.declared.tested.Test.TheVariants.{RmsOver, RmsUnder, Change, Jump, FrequencyOver, FrequencyUnder, FrequencyChange, Harmonic, SequenceOver, SequenceUnder, Unbalance}
+use Rattle.dfr_setup.specs.Tests.{is_frequency, is_share}
+use Rattle.dfr_detect.specs.declared.settings.Sequence.{Sequence}
+use Rattle.dfr_detect.specs.declared.settings.Sequence.TheVariants.{Positive, Negative, Zero}
 use Rattle.dfr_setup.specs.declared.fault.DetectorFault.{DetectorFault}
 use Rattle.dfr_setup.specs.declared.fault.DetectorFault.TheVariants as fault
 use Rattle.dfr_setup.specs.declared.level.Units.{Units}
@@ -38,6 +41,32 @@ says ws i text = bytes_eq (field ws i) text
 abbrev pub natural : List ℕ → Option ℕ
 natural f = up_to 4294967295 (whole_number f)
 
+-- the sequence of three phases that word 2 names, and a test of it
+abbrev pub sequence : List (List ℕ) → Option Sequence
+sequence ws =
+    if says ws 2 (codes "positive") then Some Positive
+    else if says ws 2 (codes "negative") then Some Negative
+    else if says ws 2 (codes "zero") then Some Zero
+    else None
+
+abbrev pub sequence_kind : List (List ℕ) → Option Sequence → Option (Test × ℕ)
+sequence_kind ws None = None
+sequence_kind ws (Some s) =
+    if says ws 3 (codes "over") then Some (SequenceOver s, 4)
+    else if says ws 3 (codes "under") then Some (SequenceUnder s, 4)
+    else None
+
+-- a test of the harmonic of this order
+abbrev pub harmonic_kind : List (List ℕ) → Option (Test × ℕ)
+harmonic_kind ws = option_map (λ order. (Harmonic order, 5)) (natural (field ws 3))
+
+-- a test of a wave
+abbrev pub wave_kind : List (List ℕ) → Option (Test × ℕ)
+wave_kind ws =
+    if says ws 2 (codes "harmonic") && says ws 4 (codes "over") then harmonic_kind ws
+    else if says ws 2 (codes "unbalance") && says ws 3 (codes "over") then Some (Unbalance, 4)
+    else sequence_kind ws (sequence ws)
+
 -- a kind, by its words from word 2 on, and the place of the level behind it
 abbrev pub kind : List (List ℕ) → Option (Test × ℕ)
 kind ws =
@@ -48,7 +77,8 @@ kind ws =
     else if says ws 2 (codes "frequency") && says ws 3 (codes "over") then Some (FrequencyOver, 4)
     else if says ws 2 (codes "frequency") && says ws 3 (codes "under") then Some (FrequencyUnder, 4)
     else if says ws 2 (codes "frequency") && says ws 3 (codes "change") then Some (FrequencyChange, 4)
-    else None
+    else if says ws 2 (codes "frequency") then None
+    else wave_kind ws
 
 -- ---- levels
 
@@ -101,9 +131,12 @@ places ws at =
     let least = behind (codes "cycles") ws cycles in
     record { row = at + 3; reset = reset; window = window; cycles = cycles; least = least; end = behind_level (codes "least") ws least }
 
--- a frequency has to say `least`; no other test has `cycles` or `least`
+-- a frequency and a share have to say `least`; only a frequency has `cycles`
 abbrev pub has_options : List (List ℕ) → Test → Places → Bool
-has_options ws test p = if is_frequency test then says ws p.least (codes "least") else p.end == p.cycles
+has_options ws test p =
+    if is_frequency test then says ws p.least (codes "least")
+    else if is_share test then says ws p.least (codes "least") && (p.least == p.cycles)
+    else p.end == p.cycles
 
 -- the line has the words that it needs, and no more
 abbrev pub is_whole : List (List ℕ) → Test → ℕ → Places → Bool

@@ -99,9 +99,8 @@ fn takes_offset(test: Test) -> bool
     ensures { result ≡ spec.takes_offset test }
 {
     match test {
-        Test::RmsOver | Test::RmsUnder => false,
         Test::Change | Test::Jump => true,
-        Test::FrequencyOver | Test::FrequencyUnder | Test::FrequencyChange => false,
+        _ => false,
     }
 }
 

@@ -13,7 +13,8 @@ use thiserror::Error;
 pub enum DetectorFault {
     /// The words are not those of a detector.
     #[error("detect expects: NAME KIND LEVEL of CHANNELS [for N] [reset LEVEL] [window N], and for \
-         a frequency [cycles N] least LEVEL; LEVEL is NUMBER or NUMBER of NUMBER UNIT")]
+         a frequency [cycles N] least LEVEL, for a harmonic or unbalance least LEVEL; LEVEL is \
+         NUMBER or NUMBER of NUMBER UNIT")]
     Words,
     /// A number can't be read, or a part of a quantity has over 36 digits or 80 places.
     #[error("a number of the detector cannot be read")]
@@ -30,18 +31,21 @@ pub enum DetectorFault {
     /// No analogue channel has this number or id.
     #[error("an unknown analogue channel")]
     Channel,
-    /// The rms value, or the frequency, of a channel with an offset.
-    #[error("an rms value or a frequency of a channel with an offset")]
+    /// The rms value, the frequency or a wave of a channel with an offset.
+    #[error("an rms value, a frequency or a wave of a channel with an offset")]
     Offset,
     /// The channels of a sum have different multipliers.
     #[error("a sum of channels with unequal multipliers")]
     Unequal,
     /// The unit of a level is not that of the channels, or Hz or Hz/s of a frequency.
-    #[error("a level's unit is not that of the channels, or Hz of a frequency, Hz/s of its change")]
+    #[error("a level's unit is not that of the channels, Hz of a frequency, Hz/s of its change, or % of a share")]
     Unit,
     /// A sum of more than 256 channels.
     #[error("a sum of more than 256 channels")]
     Wide,
+    /// A sequence is not one of three channels.
+    #[error("a sequence needs three channels, as UA+UB+UC")]
+    Phases,
     /// The level is below one sample or one mHz, or beyond what samples can reach.
     #[error("the level is below one sample, or beyond what the samples can reach")]
     Level,
@@ -51,9 +55,15 @@ pub enum DetectorFault {
     /// The reset level lies on the wrong side of the level.
     #[error("the reset level lies above the level, or below it for `under`")]
     Side,
-    /// The least half wave is below one sample, or beyond what samples can reach.
-    #[error("the least half wave is below one sample, or beyond what the samples can reach")]
+    /// The least half wave or rms value is below one sample, or beyond what samples can reach.
+    #[error("the least level is below one sample, or beyond what the samples can reach")]
     Least,
+    /// There is no such harmonic.
+    #[error("the order of a harmonic is 2 to 5")]
+    Order,
+    /// The period of a wave has too few scans, or too many.
+    #[error("the window of a harmonic or a sequence is not 12 to 4096 scans")]
+    Period,
     /// A frequency is taken over no cycle, or over too many.
     #[error("a frequency is taken over 1 to 64 cycles")]
     Cycles,

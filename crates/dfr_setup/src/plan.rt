@@ -9,7 +9,7 @@ ghost use Rattle.dfr_setup.specs.Refusing.{Is};
 use crate::addend::{Sum, sum_of};
 use crate::fault::needed;
 use crate::quantity::{cycles_in, least_in, level_in, one_of, periods, reach, window_in};
-use crate::tested::{Test, condition_of};
+use crate::tested::{Test, condition_of, has_phases};
 use crate::unit::has_units;
 use crate::wish::Wish;
 use crate::{DetectorFault, DetectorRefusal};
@@ -28,13 +28,14 @@ pub struct Plan<A: Allocator = Global> {
     pub test: Test,
     /// The same, in samples and scans.
     pub settings: Settings,
-    /// The analogue channels whose sum it looks at, by number from 0.
+    /// The analogue channels whose sum or sequence it looks at, by number from 0.
     pub channels: Items<usize, A>,
-    /// The level of the set-up, in the channels' unit, or in Hz or Hz a second.
+    /// The level of the set-up, in the channels' unit, in Hz or Hz a second, or in percent.
     pub level: Decimal,
     /// The level at which the bit stays 1, in the same.
     pub reset: Decimal,
-    /// How deep a half wave has to be for a frequency, in the channels' unit.
+    /// How deep a half wave has to be for a frequency, or the rms value of a wave for a share, in the
+    /// channels' unit.
     pub least: Decimal,
 }
 
@@ -74,6 +75,8 @@ fn checked(settings: Settings) -> Result<Settings, DetectorFault>
         Some(SettingsFault::Cycles) => Err(DetectorFault::Cycles),
         Some(SettingsFault::Rate) => Err(DetectorFault::Rate),
         Some(SettingsFault::Least) => Err(DetectorFault::Least),
+        Some(SettingsFault::Period) => Err(DetectorFault::Period),
+        Some(SettingsFault::Order) => Err(DetectorFault::Order),
         Some(SettingsFault::Short) => Err(DetectorFault::Short),
     }
 }
@@ -148,6 +151,9 @@ pub(crate) fn plan_of<A: Allocator + Copy>(
     let Sum { channels, a, most } = sum_of(alloc, setup.analog.items(), wish.test, text)?;
     if channels.is_empty() {
         return Err(DetectorRefusal::Fault(DetectorFault::Channel));
+    }
+    if has_phases(wish.test) && channels.len() != 3 {
+        return Err(DetectorRefusal::Fault(DetectorFault::Phases));
     }
     let settings = settings_over(setup, wish, words, &channels, a, most)?;
     Ok(Plan {

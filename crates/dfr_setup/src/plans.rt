@@ -141,7 +141,7 @@ fn add_wish<A: Allocator + Copy>(
     plans: &mut Vec<Plan<A>, A>,
     words: &[&[u8]],
 ) -> Result<(), DetectorRefusal>
-    requires { wish.now.at ≤ 7 }
+    requires { wish.now.at ≤ 8 }
     ensures { Makes
         (spec.with_wish setup.now plans.old.items (texts words.now) wish.now) plans.new.items result }
 {

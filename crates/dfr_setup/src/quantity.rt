@@ -5,7 +5,7 @@ ghost use Rattle.dfr_detect.specs.Cycles.{cycle_fault, window_of};
 ghost use Rattle.dfr_setup.specs.Quantities as spec;
 
 use crate::Test;
-use crate::tested::is_frequency;
+use crate::tested::{is_frequency, is_share};
 use comtrade_values::Decimal;
 use dfr_detect::cycle_scans;
 
@@ -38,9 +38,8 @@ fn rounded(test: Test, value: u128, one: u128) -> u128
     ensures { result ≡ spec.rounded test value one }
 {
     match test {
-        Test::RmsUnder | Test::FrequencyUnder => value / one,
-        Test::RmsOver | Test::Change | Test::Jump | Test::FrequencyOver | Test::FrequencyChange =>
-            value.div_ceil(one),
+        Test::RmsUnder | Test::FrequencyUnder | Test::SequenceUnder(_) => value / one,
+        _ => value.div_ceil(one),
     }
 }
 
@@ -51,17 +50,28 @@ fn has_quotient(level: Decimal, a: Decimal) -> bool
     0 < level.units() && a.units().unsigned_abs() != 0
 }
 
-/// What a level is counted in: samples, by the channels' multiplier `a`, or mHz.
+/// A unit with so many decimal places.
+fn unit(places: u8) -> Decimal
+    requires { places ≤ 3 }
+    ensures { result ≡ spec.unit places }
+{
+    let Some(one) = Decimal::new(1, places) else {
+        unreachable!()
+    };
+    one
+}
+
+/// What a level is counted in: samples, by the channels' multiplier `a`, mHz, or tenths of a percent.
 pub(crate) fn one_of(test: Test, a: Decimal) -> Decimal
     ensures { result ≡ spec.one_of test a }
 {
-    if !is_frequency(test) {
-        return a;
+    if is_frequency(test) {
+        unit(3)
+    } else if is_share(test) {
+        unit(1)
+    } else {
+        a
     }
-    let Some(millihertz) = Decimal::new(1, 3) else {
-        unreachable!()
-    };
-    millihertz
 }
 
 /// A level counted in `a`: 1 to `most`. None otherwise.
@@ -83,6 +93,8 @@ pub(crate) fn reach(test: Test, largest: u64, rate: u32) -> u64
 {
     match test {
         Test::RmsOver | Test::RmsUnder => largest,
+        Test::SequenceOver(_) | Test::SequenceUnder(_) => largest,
+        Test::Harmonic(_) | Test::Unbalance => 1000,
         Test::Change => 2 * largest,
         Test::Jump => 4 * largest,
         Test::FrequencyOver | Test::FrequencyUnder => 500 * u64::from(rate),
@@ -90,11 +102,11 @@ pub(crate) fn reach(test: Test, largest: u64, rate: u32) -> u64
     }
 }
 
-/// How deep a half wave is at least, in samples, by the channels' multiplier `a`.
+/// How deep a half wave is at least, or how large a wave, in samples, by the channels' multiplier `a`.
 pub(crate) fn least_in(test: Test, least: Decimal, a: Decimal, largest: u64) -> Option<u64>
     ensures { result ≡ spec.least_in test least a largest }
 {
-    if is_frequency(test) {
+    if is_frequency(test) || is_share(test) {
         level_in(Test::RmsOver, least, a, largest)
     } else {
         Some(1)
@@ -116,9 +128,9 @@ pub(crate) fn periods(test: Test, cycles: u32) -> u32
     ensures { result ≡ spec.periods test cycles }
 {
     match test {
-        Test::RmsOver | Test::RmsUnder | Test::Change | Test::Jump => 1,
         Test::FrequencyOver | Test::FrequencyUnder => 2 * cycles,
         Test::FrequencyChange => 4 * cycles,
+        _ => 1,
     }
 }
 

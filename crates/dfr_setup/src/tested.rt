@@ -3,7 +3,7 @@
 ghost use Rattle.std.specs.Prelude.{◌≡◌};
 ghost use Rattle.dfr_setup.specs.Tests as spec;
 
-use dfr_detect::{Condition, FrequencyIs, FrequencyTest};
+use dfr_detect::{Condition, FrequencyIs, FrequencyTest, HarmonicTest, Sequence, WaveTest};
 
 /// What a `detect` line compares with its level.
 #[derive(Clone, Copy, Debug, PartialEq, Eq)]
@@ -22,6 +22,14 @@ pub enum Test {
     FrequencyUnder,
     /// It rises or falls by at least the level, in Hz a second.
     FrequencyChange,
+    /// The harmonic of this order is at least a share of the wave, in percent.
+    Harmonic(u32),
+    /// The rms value of a sequence of three phases is at least the level.
+    SequenceOver(Sequence),
+    /// It is at most the level.
+    SequenceUnder(Sequence),
+    /// The negative sequence is at least a share of the positive one, in percent.
+    Unbalance,
 }
 
 /// Whether the level is one of a frequency.
@@ -29,8 +37,28 @@ pub(crate) fn is_frequency(test: Test) -> bool
     ensures { result ≡ spec.is_frequency test }
 {
     match test {
-        Test::RmsOver | Test::RmsUnder | Test::Change | Test::Jump => false,
         Test::FrequencyOver | Test::FrequencyUnder | Test::FrequencyChange => true,
+        _ => false,
+    }
+}
+
+/// Whether the level is a share, in percent.
+pub(crate) fn is_share(test: Test) -> bool
+    ensures { result ≡ spec.is_share test }
+{
+    match test {
+        Test::Harmonic(_) | Test::Unbalance => true,
+        _ => false,
+    }
+}
+
+/// Whether the test is one of three phases.
+pub(crate) fn has_phases(test: Test) -> bool
+    ensures { result ≡ spec.has_phases test }
+{
+    match test {
+        Test::SequenceOver(_) | Test::SequenceUnder(_) | Test::Unbalance => true,
+        _ => false,
     }
 }
 
@@ -47,7 +75,7 @@ fn frequency(test: FrequencyIs, cycles: u32, rate: u32, least: u64) -> Condition
 }
 
 /// The condition of a detector. A frequency is taken over so many cycles, at so many scans a second,
-/// after half waves that are at least so deep.
+/// after half waves that are at least so deep; a share of a wave whose rms value is at least so large.
 pub(crate) fn condition_of(test: Test, cycles: u32, rate: u32, least: u64) -> Condition
     ensures { result ≡ spec.condition_of test cycles rate least }
 {
@@ -59,5 +87,12 @@ pub(crate) fn condition_of(test: Test, cycles: u32, rate: u32, least: u64) -> Co
         Test::FrequencyOver => frequency(FrequencyIs::Over, cycles, rate, least),
         Test::FrequencyUnder => frequency(FrequencyIs::Under, cycles, rate, least),
         Test::FrequencyChange => frequency(FrequencyIs::Changing, cycles, rate, least),
+        Test::Harmonic(order) => Condition::Waves(WaveTest::Harmonic(HarmonicTest {
+            order,
+            least,
+        })),
+        Test::SequenceOver(sequence) => Condition::Waves(WaveTest::SequenceOver(sequence)),
+        Test::SequenceUnder(sequence) => Condition::Waves(WaveTest::SequenceUnder(sequence)),
+        Test::Unbalance => Condition::Waves(WaveTest::Unbalance(least)),
     }
 }

@@ -7,7 +7,7 @@ ghost use Rattle.dfr_setup.specs.Units as spec;
 use crate::Test;
 use crate::level::Units;
 use crate::line::{is_word, word_at};
-use crate::tested::is_frequency;
+use crate::tested::{is_frequency, is_share};
 use dfr_channels::AnalogChannel;
 use std::alloc::Allocator;
 
@@ -49,6 +49,8 @@ fn is_levels<A: Allocator>(
 {
     if is_frequency(test) {
         is_hertz(test, unit)
+    } else if is_share(test) {
+        is_word(unit, "%")
     } else {
         is_theirs(channels, numbers, unit)
     }

@@ -9,9 +9,10 @@ ghost use Rattle.dfr_setup.specs.declared.fault.DetectorFault.TheVariants as fau
 use crate::fault::needed;
 use crate::level::{Units, has_part, is_part, last_of, level_at, unit_at};
 use crate::line::{natural_of, says, word_at};
-use crate::tested::is_frequency;
+use crate::tested::{is_frequency, is_share};
 use crate::{DetectorFault, Test};
 use comtrade_values::Decimal;
+use dfr_detect::Sequence;
 
 /// What a `detect` line asks for. Its name is word 1, and its channels are two words behind the
 /// level.
@@ -30,7 +31,8 @@ pub(crate) struct Wish {
     pub(crate) window: Option<u32>,
     /// Over how many cycles a frequency is taken.
     pub(crate) cycles: u32,
-    /// How deep a half wave has to be for a frequency, in the channels' unit.
+    /// How deep a half wave has to be for a frequency, or the rms value of a wave for a share, in the
+    /// channels' unit.
     pub(crate) least: Decimal,
     /// The units that the levels name.
     pub(crate) units: Units,
@@ -51,7 +53,7 @@ pub(crate) struct Places {
 fn frequency_of(words: &[&[u8]]) -> Option<(Test, usize)>
     requires { spec.says (texts words.now) 2 (codes "frequency") ≡ true }
     ensures value { result ≡ spec.kind (texts words.now) }
-    ensures bound { IfSome result (λ k. k.1 ≤ 4) }
+    ensures bound { IfSome result (λ k. k.1 ≤ 5) }
 {
     if says(words, 3, "over") {
         Some((Test::FrequencyOver, 4))
@@ -64,10 +66,62 @@ fn frequency_of(words: &[&[u8]]) -> Option<(Test, usize)>
     }
 }
 
+/// The sequence that word 2 names.
+fn sequence_of(words: &[&[u8]]) -> Option<Sequence>
+    ensures { result ≡ spec.sequence (texts words.now) }
+{
+    if says(words, 2, "positive") {
+        Some(Sequence::Positive)
+    } else if says(words, 2, "negative") {
+        Some(Sequence::Negative)
+    } else if says(words, 2, "zero") {
+        Some(Sequence::Zero)
+    } else {
+        None
+    }
+}
+
+/// The test of a sequence, and the place of the level behind it.
+fn sequence_test(words: &[&[u8]], sequence: Option<Sequence>) -> Option<(Test, usize)>
+    ensures value { result ≡ spec.sequence_kind (texts words.now) sequence }
+    ensures bound { IfSome result (λ k. k.1 ≤ 5) }
+{
+    match sequence {
+        Some(sequence) if says(words, 3, "over") => Some((Test::SequenceOver(sequence), 4)),
+        Some(sequence) if says(words, 3, "under") => Some((Test::SequenceUnder(sequence), 4)),
+        _ => None,
+    }
+}
+
+/// The test of the harmonic of the order that word 3 is.
+fn harmonic_of(words: &[&[u8]]) -> Option<(Test, usize)>
+    ensures value { result ≡ spec.harmonic_kind (texts words.now) }
+    ensures bound { IfSome result (λ k. k.1 ≤ 5) }
+{
+    match natural_of(word_at(words, 3)) {
+        Some(order) => Some((Test::Harmonic(order), 5)),
+        None => None,
+    }
+}
+
+/// The test of a wave that the words from word 2 on name, and the place of the level behind it.
+fn wave_of(words: &[&[u8]]) -> Option<(Test, usize)>
+    ensures value { result ≡ spec.wave_kind (texts words.now) }
+    ensures bound { IfSome result (λ k. k.1 ≤ 5) }
+{
+    if says(words, 2, "harmonic") && says(words, 4, "over") {
+        harmonic_of(words)
+    } else if says(words, 2, "unbalance") && says(words, 3, "over") {
+        Some((Test::Unbalance, 4))
+    } else {
+        sequence_test(words, sequence_of(words))
+    }
+}
+
 /// The test that the words from word 2 on name, and the place of the level behind them.
 fn kind_of(words: &[&[u8]]) -> Option<(Test, usize)>
     ensures value { result ≡ spec.kind (texts words.now) }
-    ensures bound { IfSome result (λ k. k.1 ≤ 4) }
+    ensures bound { IfSome result (λ k. k.1 ≤ 5) }
 {
     if says(words, 2, "rms") && says(words, 3, "over") {
         Some((Test::RmsOver, 4))
@@ -80,7 +134,7 @@ fn kind_of(words: &[&[u8]]) -> Option<(Test, usize)>
     } else if says(words, 2, "frequency") {
         frequency_of(words)
     } else {
-        None
+        wave_of(words)
     }
 }
 
@@ -153,7 +207,7 @@ fn read<T>(value: Option<T>) -> Result<T, DetectorFault>
 
 /// The places of the options of a line whose level ends at place `at`, and its end.
 fn places_of(words: &[&[u8]], at: usize) -> Places
-    requires { at ≤ 7 }
+    requires { at ≤ 8 }
     ensures value { result ≡ spec.places (texts words.now) at }
     ensures bound { (result.reset ≤ 100) × (result.window ≤ 100) × (result.cycles ≤ 100) × (result.least ≤ 100) }
 {
@@ -179,6 +233,8 @@ fn has_options(words: &[&[u8]], test: Test, places: Places) -> bool
 {
     if is_frequency(test) {
         says(words, places.least, "least")
+    } else if is_share(test) {
+        says(words, places.least, "least") && places.least == places.cycles
     } else {
         places.end == places.cycles
     }
@@ -186,7 +242,7 @@ fn has_options(words: &[&[u8]], test: Test, places: Places) -> bool
 
 /// Whether the line has the words that it needs, and no more.
 fn is_whole(words: &[&[u8]], test: Test, at: usize, places: Places) -> bool
-    requires { at ≤ 7 }
+    requires { at ≤ 8 }
     ensures { result ≡ spec.is_whole (texts words.now) test at places }
 {
     says(words, at + 1, "of") && words.len() == places.end && has_options(words, test, places)
@@ -194,7 +250,7 @@ fn is_whole(words: &[&[u8]], test: Test, at: usize, places: Places) -> bool
 
 /// The units that the levels of a line name, from place `first` on and in options at these places.
 fn units_of(words: &[&[u8]], first: usize, places: Places) -> Units
-    requires first { first ≤ 4 }
+    requires first { first ≤ 5 }
     requires places { (places.reset ≤ 100) × (places.least ≤ 100) }
     ensures { result ≡ spec.units (texts words.now) first places }
 {
@@ -214,12 +270,12 @@ fn numbers_of(
     at: usize,
     places: Places,
 ) -> Result<Wish, DetectorFault>
-    requires first { first ≤ 4 }
-    requires at { at ≤ 7 }
+    requires first { first ≤ 5 }
+    requires at { at ≤ 8 }
     requires row { places.row ≤ 100 }
     requires places { (places.reset ≤ 100) × (places.window ≤ 100) × (places.cycles ≤ 100) × (places.least ≤ 100) }
     ensures value { result ≡ spec.numbers (texts words.now) test first at places }
-    ensures bound { IfOk result (λ wish. wish.at ≤ 7) }
+    ensures bound { IfOk result (λ wish. wish.at ≤ 8) }
 {
     let level = read(level_at(words, first, is_part(words, first)))?;
     let row = read(natural_or(words, "for", places.row, 1))?;
@@ -243,7 +299,7 @@ fn numbers_of(
 /// What the words of a `detect` line ask for, or the first fault.
 pub(crate) fn wish_of(words: &[&[u8]]) -> Result<Wish, DetectorFault>
     ensures value { result ≡ spec.wish (texts words.now) }
-    ensures bound { IfOk result (λ wish. wish.at ≤ 7) }
+    ensures bound { IfOk result (λ wish. wish.at ≤ 8) }
 {
     let Some((test, first)) = kind_of(words) else {
         return Err(DetectorFault::Words);

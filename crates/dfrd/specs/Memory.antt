@@ -17,9 +17,13 @@ kept_scans pre longest shelf = longest * (shelf + 2) + pre + 98_304
 abbrev pub record_bytes : ℕ → ℕ → ℕ → ℕ → ℕ → ℕ
 record_bytes k m pre longest shelf = kept_scans pre longest shelf * scan_bytes k m + 2 * (longest * row_bytes k m) + 4_000_000
 
--- a detector over so many scans: two windows and a sample, of eight bytes each
+-- a detector over so many scans: two windows, a sample and a wave of one scan, in eight bytes each
 abbrev pub window_bytes : ℕ → ℕ
-window_bytes scans = 8 * (2 * scans + 1)
+window_bytes scans = 8 * (2 * scans + 10)
+
+-- and one of waves: for each scan the samples of three phases and twelve coefficients
+abbrev pub waves_bytes : ℕ → ℕ
+waves_bytes scans = 8 * (9 * scans + 1)
 
 -- what the machine has: all of it, or what the group of the process may use
 abbrev pub machine_of : Option ℕ → Option ℕ → Option ℕ

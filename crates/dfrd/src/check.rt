@@ -2,11 +2,11 @@
 
 ghost use Rattle.std.specs.Prelude.{◌<◌};
 
-use crate::memory::{detector_bytes, layout_bytes};
+use crate::memory::{detector_bytes, layout_bytes, wave_detector_bytes};
 use comtrade_io::put_safe;
 use comtrade_values::{put, put_decimal, put_number, put_with, without_zeros};
 use dfr_channels::Layout;
-use dfr_detect::Condition;
+use dfr_detect::{Condition, Sequence, Settings, WaveTest};
 use dfr_setup::{Plan, Prepared, Test};
 use dfr_station::frame_len;
 use std::alloc::{AllocError, Global};
@@ -20,13 +20,21 @@ pub(crate) fn frame_of(inputs: &Layout<Global>) -> usize
     frame_len(inputs.analog().len(), inputs.status().len())
 }
 
+/// The most bytes of a detector.
+fn plan_bytes(settings: &Settings) -> u64 {
+    match settings.condition {
+        Condition::Waves(_) => wave_detector_bytes(settings.scans),
+        _ => detector_bytes(settings.scans),
+    }
+}
+
 /// The most bytes of memory that a recording needs, with the bytes of its set-up file. None if
 /// there are more than 2^64.
 pub(crate) fn need_of(prepared: &Prepared<Global>, setup: usize) -> Option<u64> {
     let recorder = &prepared.recorder;
     let mut bytes = layout_bytes(recorder.layout(), recorder.limits()).checked_add(setup as u64)?;
     for plan in &prepared.plans {
-        bytes = bytes.checked_add(detector_bytes(plan.settings.scans))?;
+        bytes = bytes.checked_add(plan_bytes(&plan.settings))?;
     }
     Some(bytes)
 }
@@ -36,33 +44,71 @@ fn units_of<'a>(test: Test, unit: &'a [u8]) -> (&'a [u8], &'static str) {
     match test {
         Test::FrequencyOver | Test::FrequencyUnder => ("Hz".as_bytes(), " mHz "),
         Test::FrequencyChange => ("Hz/s".as_bytes(), " mHz/s "),
+        Test::Harmonic(_) | Test::Unbalance => ("%".as_bytes(), " thousandths "),
         _ => (unit, " samples "),
     }
 }
 
-/// Puts over how many cycles a frequency is taken, and after which half waves.
-fn put_cycles(line: &mut Vec<u8>, unit: &[u8], plan: &Plan<Global>) -> Result<(), AllocError> {
-    let Condition::Frequency(test) = plan.settings.condition else {
-        return Ok(());
-    };
-    put_with(line, " cycles ", u64::from(test.cycles))?;
+/// Puts the least half wave or wave, in the channels' unit and in samples.
+fn put_least(
+    line: &mut Vec<u8>,
+    unit: &[u8],
+    plan: &Plan<Global>,
+    samples: u64,
+) -> Result<(), AllocError> {
     put(line, " least ")?;
     put_decimal(line, without_zeros(plan.least))?;
     put(line, " ")?;
     put_safe(line, unit)?;
-    put_with(line, " samples ", test.least)
+    put_with(line, " samples ", samples)
 }
 
-/// The words of a test.
-fn words_of(test: Test) -> &'static str {
+/// Puts over how many cycles a frequency is taken, and after which half waves; of which waves a share
+/// is taken.
+fn put_options(line: &mut Vec<u8>, unit: &[u8], plan: &Plan<Global>) -> Result<(), AllocError> {
+    match plan.settings.condition {
+        Condition::Frequency(test) => {
+            put_with(line, " cycles ", u64::from(test.cycles))?;
+            put_least(line, unit, plan, test.least)
+        }
+        Condition::Waves(WaveTest::Harmonic(test)) => put_least(line, unit, plan, test.least),
+        Condition::Waves(WaveTest::Unbalance(least)) => put_least(line, unit, plan, least),
+        _ => Ok(()),
+    }
+}
+
+/// The word of a sequence.
+fn sequence_word(sequence: Sequence) -> &'static str {
+    match sequence {
+        Sequence::Positive => "positive",
+        Sequence::Negative => "negative",
+        Sequence::Zero => "zero",
+    }
+}
+
+/// Puts the words of a test.
+fn put_words(line: &mut Vec<u8>, test: Test) -> Result<(), AllocError> {
     match test {
-        Test::RmsOver => "rms over",
-        Test::RmsUnder => "rms under",
-        Test::Change => "change",
-        Test::Jump => "jump",
-        Test::FrequencyOver => "frequency over",
-        Test::FrequencyUnder => "frequency under",
-        Test::FrequencyChange => "frequency change",
+        Test::RmsOver => put(line, "rms over"),
+        Test::RmsUnder => put(line, "rms under"),
+        Test::Change => put(line, "change"),
+        Test::Jump => put(line, "jump"),
+        Test::FrequencyOver => put(line, "frequency over"),
+        Test::FrequencyUnder => put(line, "frequency under"),
+        Test::FrequencyChange => put(line, "frequency change"),
+        Test::Harmonic(order) => {
+            put_with(line, "harmonic ", u64::from(order))?;
+            put(line, " over")
+        }
+        Test::SequenceOver(sequence) => {
+            put(line, sequence_word(sequence))?;
+            put(line, " over")
+        }
+        Test::SequenceUnder(sequence) => {
+            put(line, sequence_word(sequence))?;
+            put(line, " under")
+        }
+        Test::Unbalance => put(line, "unbalance over"),
     }
 }
 
@@ -108,7 +154,7 @@ fn put_plan(
     put_safe(line, plan.name.items())?;
     put_with(line, " status ", status as u64)?;
     put(line, " ")?;
-    put(line, words_of(plan.test))?;
+    put_words(line, plan.test)?;
     put(line, " ")?;
     put_decimal(line, without_zeros(plan.level))?;
     put(line, " ")?;
@@ -122,7 +168,7 @@ fn put_plan(
     put(line, " ")?;
     put_safe(line, one)?;
     put_with(line, counted, settings.reset)?;
-    put_cycles(line, unit, plan)
+    put_options(line, unit, plan)
 }
 
 /// Prints a line for each detector.

@@ -1,7 +1,7 @@
 //! The memory that a recording can need, and the memory that the machine has.
 
 ghost use Rattle.std.specs.Prelude.{◌≡◌, ◌*◌, ◌≤◌, IfSome, OnOk, OnErr};
-ghost use Rattle.dfrd.specs.Memory.{IsAbove, machine_of, record_bytes, window_bytes};
+ghost use Rattle.dfrd.specs.Memory.{IsAbove, machine_of, record_bytes, waves_bytes, window_bytes};
 
 use comtrade_io::read_up_to;
 use dfr_channels::Layout;
@@ -70,11 +70,18 @@ pub(crate) fn layout_bytes(layout: &Layout<Global>, limits: Limits) -> u64 {
     )
 }
 
-/// The most bytes of a detector over so many scans.
+/// The most bytes of a detector over so many scans, of all kinds but waves.
 pub(crate) fn detector_bytes(scans: u32) -> u64
     ensures { result ≡ window_bytes scans }
 {
-    8 * (2 * scans as u64 + 1)
+    8 * (2 * scans as u64 + 10)
+}
+
+/// The most bytes of a detector of waves over so many scans.
+pub(crate) fn wave_detector_bytes(scans: u32) -> u64
+    ensures { result ≡ waves_bytes scans }
+{
+    8 * (9 * scans as u64 + 1)
 }
 
 /// What the machine has: all of it, or what the group of the process may use, if that is less.

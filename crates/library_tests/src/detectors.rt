@@ -2,6 +2,7 @@
 
 mod frequency;
 mod random;
+mod waves;
 
 use dfr_channels::{Reading, Scan};
 use dfr_detect::{Condition, Detector, Detectors, Settings, SettingsFault, bits_of};

@@ -49,6 +49,8 @@ fn met(s: &Settings, level: u64, history: &[Option<i32>]) -> Option<bool> {
             Some(change.checked_sub(other)?.unsigned_abs() >= level)
         }
         Condition::Frequency(test) => has_frequency(&test, s.scans, level, history),
+        // waves have tests of their own
+        Condition::Waves(_) => None,
     }
 }
 

@@ -1,0 +1,111 @@
+//! Whether the waves of a window meet a level.
+
+ghost use Rattle.std.specs.Prelude.{◌≡◌, ◌≤◌, ◌*◌, ◌^◌};
+ghost use Rattle.dfr_detect.specs.Fitting.{least_of, most_share};
+ghost use Rattle.dfr_detect.specs.Shares as spec;
+
+use crate::turns::Shape;
+use crate::waves::Waves;
+use crate::{Sequence, WaveTest};
+use std::alloc::Allocator;
+
+/// A wave of one signal with so many periods in the window.
+pub(crate) fn plain(order: u32) -> Shape
+    ensures { result ≡ spec.shape_by order 0 0 }
+{
+    Shape { order, b: 0, c: 0 }
+}
+
+/// Phases B and C turned back by as much as they lag in the sequence.
+fn sequence_shape(sequence: Sequence) -> Shape
+    ensures { result ≡ spec.sequence_shape sequence }
+{
+    let (b, c) = match sequence {
+        Sequence::Positive => (2, 1),
+        Sequence::Negative => (1, 2),
+        Sequence::Zero => (0, 0),
+    };
+    Shape { order: 1, b, c }
+}
+
+/// The wave that is compared with a level, or of which another one is a share.
+pub(crate) fn first_shape(test: WaveTest) -> Shape
+    ensures { result ≡ spec.first_shape test }
+{
+    match test {
+        WaveTest::Harmonic(_) => plain(1),
+        WaveTest::SequenceOver(sequence) | WaveTest::SequenceUnder(sequence) => {
+            sequence_shape(sequence)
+        }
+        WaveTest::Unbalance(_) => sequence_shape(Sequence::Positive),
+    }
+}
+
+/// The other wave.
+pub(crate) fn other_shape(test: WaveTest) -> Shape
+    ensures { result ≡ spec.other_shape test }
+{
+    match test {
+        WaveTest::Harmonic(harmonic) => plain(harmonic.order),
+        WaveTest::SequenceOver(sequence) | WaveTest::SequenceUnder(sequence) => {
+            sequence_shape(sequence)
+        }
+        WaveTest::Unbalance(_) => sequence_shape(Sequence::Negative),
+    }
+}
+
+/// Twice the power of a wave with this rms value.
+#[inline(always)]
+fn power_at(scans: u32, rms: u64) -> u128
+    requires scans { scans ≤ 2 ^ 12 }
+    requires rms { rms ≤ 3 * 2 ^ 40 }
+    ensures { result ≡ scans * scans * (rms * rms) }
+{
+    let (scans, rms) = (u128::from(scans), u128::from(rms));
+    scans * scans * (rms * rms)
+}
+
+/// Whether the other wave is at least so many thousandths of the first.
+#[inline(always)]
+fn is_share(level: u64, first: u128, other: u128) -> bool
+    requires level { level ≤ 1000 }
+    requires first { first ≤ 2 ^ 107 }
+    requires other { other ≤ 2 ^ 107 }
+    ensures { result ≡ spec.is_share level first other }
+{
+    let level = u128::from(level);
+    level * level * first <= 1_000_000 * other
+}
+
+/// Whether the powers of two waves meet the level.
+#[inline(always)]
+fn compares(test: WaveTest, scans: u32, level: u64, first: u128, other: u128) -> bool
+    requires scans { scans ≤ 2 ^ 12 }
+    requires least { least_of test ≤ 2 ^ 40 }
+    requires level { level ≤ most_share test }
+    requires first { first ≤ 2 ^ 107 }
+    requires other { other ≤ 2 ^ 107 }
+    ensures { result ≡ spec.compares test scans level first other }
+{
+    match test {
+        WaveTest::Harmonic(harmonic) => {
+            power_at(scans, harmonic.least) <= 2 * first && is_share(level, first, other)
+        }
+        WaveTest::SequenceOver(_) => power_at(scans, 3 * level) <= 2 * first,
+        WaveTest::SequenceUnder(_) => 2 * first <= power_at(scans, 3 * level),
+        WaveTest::Unbalance(least) => {
+            power_at(scans, 3 * least) <= 2 * first && is_share(level, first, other)
+        }
+    }
+}
+
+/// Whether the window is full and its waves meet the level.
+#[inline(always)]
+pub(crate) fn meets<A: Allocator>(test: WaveTest, level: u64, waves: &Waves<A>) -> bool
+    requires least { least_of test ≤ 2 ^ 40 }
+    requires level { level ≤ most_share test }
+    ensures { result ≡ spec.meets_waves test level waves.now }
+{
+    let (first, other) = waves.powers();
+    waves.is_full() && compares(test, waves.scans() as u32, level, first, other)
+}
