@@ -37,8 +37,9 @@ pub enum DetectorFault {
     /// The channels of a sum have different multipliers.
     #[error("a sum of channels with unequal multipliers")]
     Unequal,
-    /// The unit of a level is not that of the channels, or Hz or Hz/s of a frequency.
-    #[error("a level's unit is not that of the channels, Hz of a frequency, Hz/s of its change, or % of a share")]
+    /// The unit of a level is not that of the channels, Hz or Hz/s of a frequency, or % of a share.
+    #[error("a level's unit is not that of the channels, Hz of a frequency, Hz/s of its change, or % \
+         of a share")]
     Unit,
     /// A sum of more than 256 channels.
     #[error("a sum of more than 256 channels")]
