@@ -3,8 +3,8 @@
 
 use crate::load::{Inputs, REFUSED, pair_of, put_import_fault, put_notes};
 use comtrade_diagnostics::{
-    Choices, ImportFault, Intended, Pair, Repaired, Texts, intended_of, put_fault, put_remarks,
-    repaired_pair, repaired_single,
+    Choices, ImportFault, Intended, Pair, Refusal, Repaired, Texts, intended_of, put_fault,
+    put_remarks, repaired_pair, repaired_single,
 };
 use comtrade_format::File;
 use comtrade_io::{Part as Asked, ToolFault};
@@ -99,7 +99,7 @@ fn single_in<A: Allocator + Copy>(
 ) -> Result<Option<Loaded<A>>, ToolFault> {
     match repaired_single(alloc, pair.cfg, Choices::default()) {
         Ok(repaired) => Ok(Some(told(repaired, Origin::Literal, said)?)),
-        Err(ImportFault::Memory) => Err(ToolFault::Memory),
+        Err(Refusal::Fault(ImportFault::Memory)) => Err(ToolFault::Memory),
         Err(fault) => {
             put_import_fault(said, REFUSED, pair.cfg_name, fault)?;
             Ok(None)
@@ -117,9 +117,13 @@ fn imported_in<A: Allocator + Copy>(
 ) -> Result<Option<Loaded<A>>, ToolFault> {
     match repaired_pair(alloc, pair.cfg, pair.dat, Choices::default()) {
         Ok(repaired) => return Ok(Some(told(repaired, Origin::Imported, said)?)),
-        Err(ImportFault::Memory) => return Err(ToolFault::Memory),
+        Err(Refusal::Fault(ImportFault::Memory)) => return Err(ToolFault::Memory),
         Err(fault)
-            if is_first(found.part, found.fault) && !matches!(fault, ImportFault::Cfg(1, _)) => {
+            if is_first(found.part, found.fault)
+                && !matches!(fault, Refusal::Fault(ImportFault::Cfg(1, _))) => {
+            put_import_fault(said, REFUSED, pair.cfg_name, fault)?;
+        }
+        Err(fault @ Refusal::Silent(_)) => {
             put_import_fault(said, REFUSED, pair.cfg_name, fault)?;
         }
         Err(_) => put_fault(alloc, said, pair, found)?,

@@ -4,7 +4,7 @@ use crate::content::NO_ENCODING;
 use crate::load::{import_refusal, put_notes, read_inputs};
 use crate::write::{is_name, write_named};
 use crate::{out_of_memory, print_bytes, refuse, say};
-use comtrade_diagnostics::{Choices, Imported, Key, Order, import, import_single};
+use comtrade_diagnostics::{Choices, Imported, Key, Order, Refusal, import, import_single};
 use comtrade_io::{Importing, put_quoted};
 use comtrade_letters::Encoding;
 use comtrade_values::put;
@@ -94,6 +94,9 @@ fn write<R: Files + Print + Eprint + AllocGlobal>(
     print_bytes(rt, &lines)
 }
 
+/// What to do about a repair without a note.
+const REPORT: &str = "this is a defect of comtrade: please report it, with the files";
+
 /// Imports with choices that were parsed.
 fn import_with<R: Files + Input + Print + Eprint + AllocGlobal + Clone + Drop>(
     rt: &R,
@@ -114,6 +117,10 @@ fn import_with<R: Files + Input + Print + Eprint + AllocGlobal + Clone + Drop>(
     };
     match done {
         Ok(imported) => write(rt, &imported, refused, made.name),
+        Err(Refusal::Silent(silent)) => {
+            let _ = eprintln!(rt; "comtrade: nothing was written: {silent}; {REPORT}");
+            1
+        }
         Err(fault) => refuse(rt, 1, import_refusal(rt.alloc(), made.names.file, fault)),
     }
 }

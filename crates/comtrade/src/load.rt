@@ -6,7 +6,7 @@ use crate::container::{
 use crate::ending::{Ending, stem_of};
 use crate::find::{Pairing, pairing_of};
 use crate::{LIMIT, complain, out_of_memory, read_named, say};
-use comtrade_diagnostics::{ImportFault, Note, Pair};
+use comtrade_diagnostics::{ImportFault, Note, Pair, Refusal};
 use comtrade_io::{Names, ToolFault, put_safe};
 use comtrade_values::put;
 use std::alloc::{AllocError, Allocator, Global};
@@ -124,7 +124,7 @@ pub(crate) fn put_import_fault<A: Allocator + Copy>(
     out: &mut Vec<u8, A>,
     (before, between, after): (&str, &str, &str),
     name: &[u8],
-    fault: ImportFault,
+    fault: Refusal,
 ) -> Result<(), AllocError> {
     let text = format!(in *out.allocator(); "{fault}")?;
     put(out, before)?;
@@ -138,9 +138,9 @@ pub(crate) fn put_import_fault<A: Allocator + Copy>(
 pub(crate) fn import_refusal(
     alloc: Global,
     name: &str,
-    fault: ImportFault,
+    fault: Refusal,
 ) -> Result<Vec<u8>, AllocError> {
-    if let ImportFault::Memory = fault {
+    if let Refusal::Fault(ImportFault::Memory) = fault {
         return Err(AllocError);
     }
     let mut said = Vec::new(alloc);

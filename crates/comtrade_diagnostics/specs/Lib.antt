@@ -1,2 +1,4 @@
+pub mod Parts
 pub mod Places
 pub mod Puts
+pub mod Told

@@ -6,6 +6,7 @@ ghost use Rattle.comtrade_diagnostics.specs.Puts.{PutsLine};
 use crate::check::Pair;
 use crate::importing::{Repaired, repaired_pair};
 use crate::line::put_line;
+use crate::silent::Refusal;
 use crate::single::repaired_single;
 use comtrade_dialects::{Choices, ImportFault, Key, Note, narrow};
 use comtrade_io::put_safe;
@@ -101,7 +102,7 @@ pub fn put_hint<A: Allocator + Copy>(
     };
     let notes = match repaired_pair(alloc, pair.cfg, pair.dat, Choices::default()) {
         Ok(repaired) => Some(repaired.notes),
-        Err(ImportFault::Memory) => return Err(AllocError),
+        Err(Refusal::Fault(ImportFault::Memory)) => return Err(AllocError),
         Err(_) => None,
     };
     if text.is_none() && notes.is_none() {
@@ -135,7 +136,7 @@ fn put_single_words<A: Allocator + Copy>(
     put(out, ": a single file; ")?;
     match repaired_single(alloc, pair.cfg, Choices::default()) {
         Ok(Repaired { notes, .. }) => put_reads(out, &notes),
-        Err(ImportFault::Memory) => Err(AllocError),
+        Err(Refusal::Fault(ImportFault::Memory)) => Err(AllocError),
         Err(fault) => {
             let text = format!(in alloc; "{fault}")?;
             put(out, "`comtrade import` cannot read it: ")?;

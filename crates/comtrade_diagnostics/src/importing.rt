@@ -1,12 +1,14 @@
 //! Converts a pair or a single file to a file of 1999 with the same contents.
 
-ghost use Rattle.std.specs.Prelude.{◌≡◌, [], true, false, IfOk, IfSome};
+ghost use Rattle.std.specs.Prelude.{◌≡◌, [], true, false, IsTrue, IfOk, IfSome};
+ghost use Rattle.comtrade_format.specs.Parts.{FileParts};
 ghost use Rattle.comtrade_read.specs.Reads.{Reads};
 
+use crate::silent::{Refusal, Silent, silent_in};
 use crate::single::repaired_single;
 use comtrade_dialects::{Choices, ImportFault, Note, Notes, Why, is_sound, repaired};
 use comtrade_format::{File, WriteFault};
-use comtrade_read::{ReadFault, Written, read, written_of};
+use comtrade_read::{ReadFault, Written, one_file, read, written_of};
 use std::alloc::{Allocator, Global};
 
 /// A file of 1999, and notes on the repairs that gave it. There are no texts of it yet.
@@ -61,19 +63,32 @@ fn unwritten(fault: WriteFault) -> ImportFault {
     }
 }
 
+/// The repaired file, if each sample of these data is in it or a note covers it.
+pub(crate) fn told<A: Allocator + Copy>(
+    alloc: A,
+    dat: &[u8],
+    file: File<A>,
+    notes: Notes<A>,
+) -> Result<Repaired<A>, Refusal> {
+    let notes = notes.into_list();
+    match silent_in(alloc, dat, &file, &notes)? {
+        Some(silent) => Err(Refusal::Silent(silent)),
+        None => Ok(Repaired { file, notes }),
+    }
+}
+
 /// Reads a pair with all repairs that it needs. It does not try to read it exactly first.
 pub fn repaired_pair<A: Allocator + Copy>(
     alloc: A,
     cfg: &[u8],
     dat: &[u8],
     choices: Choices,
-) -> Result<Repaired<A>, ImportFault> {
+) -> Result<Repaired<A>, Refusal> {
     let mut notes = Notes::new(alloc);
-    let file = repaired(alloc, &mut notes, cfg, dat, choices)?;
-    Ok(Repaired {
-        file,
-        notes: notes.into_list(),
-    })
+    match repaired(alloc, &mut notes, cfg, dat, choices) {
+        Ok(file) => told(alloc, dat, file, notes),
+        Err(fault) => Err(Refusal::Fault(fault)),
+    }
 }
 
 /// Reads the pair exactly. None if it cannot be read so, needs a repair, or does not fit a file
@@ -103,22 +118,55 @@ fn exact<A: Allocator + Copy>(
     }
 }
 
+/// Whether the pair can be read only as what the two other texts read to: their file.
+fn is_as_given<A: Allocator + Copy>(
+    alloc: A,
+    cfg: &[u8],
+    dat: &[u8],
+    done: &Imported<A>,
+) -> Result<bool, ImportFault>
+    requires { Reads done.now.cfg.items done.now.dat.items done.now.file }
+    ensures { IfOk result (λ same. same ≡ true → (file : FileParts) → Reads cfg.now dat.now file → file ≡ done.now.file) }
+{
+    one_file();
+    let literal = match read(alloc, cfg, dat) {
+        Ok(file) => file,
+        Err((_, ReadFault::Memory)) => return Err(ImportFault::Memory),
+        Err(_) => return Ok(true),
+    };
+    match written_of(alloc, &literal) {
+        Ok(pair) => Ok(pair.cfg == done.cfg && pair.dat == done.dat),
+        Err(WriteFault::Memory) => Err(ImportFault::Memory),
+        Err(_) => Ok(false),
+    }
+}
+
 /// Converts a pair of any revision to a file of 1999 with the same contents, and notes each repair.
 /// Both resulting texts read back to that file. A pair that is already valid and unambiguous keeps
-/// its contents, without notes.
+/// its contents, without notes. Without a note, a pair that reads exactly reads to that very file.
 pub fn import<A: Allocator + Copy>(
     alloc: A,
     cfg: &[u8],
     dat: &[u8],
     choices: Choices,
-) -> Result<Imported<A>, ImportFault>
+) -> Result<Imported<A>, Refusal>
     ensures reads { IfOk result (λ done. Reads done.cfg.items done.dat.items done.file) }
     ensures exact { IfOk result (λ done. done.is_exact ≡ true → (Reads cfg.now dat.now done.file) × (done.notes.items ≡ [])) }
+    ensures untold { IfOk result (λ done. done.notes.items ≡ [] → (file : FileParts) → Reads cfg.now dat.now file → file ≡ done.file) }
 {
-    if let Some(imported) = exact(alloc, cfg, dat)? {
-        return Ok(imported);
+    match exact(alloc, cfg, dat) {
+        Ok(Some(imported)) => {
+            one_file();
+            return Ok(imported);
+        }
+        Ok(None) => {}
+        Err(fault) => return Err(Refusal::Fault(fault)),
     }
-    finished(alloc, repaired_pair(alloc, cfg, dat, choices)?, false)
+    let done = finished(alloc, repaired_pair(alloc, cfg, dat, choices)?, false)?;
+    if done.notes.is_empty() && !is_as_given(alloc, cfg, dat, &done)? {
+        return Err(Refusal::Silent(Silent::Content));
+    }
+    Ok(done)
 }
 
 /// Converts a single file to a file of 1999 with the same contents, and notes each repair. Both
@@ -127,8 +175,9 @@ pub fn import_single<A: Allocator + Copy>(
     alloc: A,
     cff: &[u8],
     choices: Choices,
-) -> Result<Imported<A>, ImportFault>
+) -> Result<Imported<A>, Refusal>
     ensures { IfOk result (λ done. Reads done.cfg.items done.dat.items done.file) }
 {
-    finished(alloc, repaired_single(alloc, cff, choices)?, false)
+    let repaired = repaired_single(alloc, cff, choices)?;
+    Ok(finished(alloc, repaired, false)?)
 }

@@ -2,6 +2,7 @@
 
 use crate::check::Pair;
 use crate::importing::{Repaired, repaired_pair};
+use crate::silent::Refusal;
 use comtrade_dialects::{Choices, ImportFault, Key, Note, is_sound};
 use comtrade_format::{File, Head, Rate, Row};
 use comtrade_values::Items;
@@ -25,7 +26,7 @@ pub enum Intended<A: Allocator> {
     /// The file that `import` makes of it, and notes on the repairs.
     Repaired(File<A>, Vec<Note<A>, A>),
     /// Unknown: what it reads as, and why `import` cannot read it.
-    Unclear(File<A>, ImportFault),
+    Unclear(File<A>, Refusal),
 }
 
 /// Whether a repair is one of texts.
@@ -192,7 +193,7 @@ pub fn intended_of<A: Allocator + Copy>(
     }
     match repaired_pair(alloc, pair.cfg, pair.dat, Choices::default()) {
         Ok(meant) => repaired_as(alloc, meant, file, texts),
-        Err(ImportFault::Memory) => Err(AllocError),
+        Err(Refusal::Fault(ImportFault::Memory)) => Err(AllocError),
         Err(fault) => Ok(Intended::Unclear(file, fault)),
     }
 }

@@ -6,6 +6,7 @@
 
 mod check;
 mod counts;
+mod covers;
 mod describe;
 mod describe_data;
 mod forms;
@@ -14,9 +15,14 @@ mod importing;
 mod intended;
 mod line;
 mod names;
+mod own_data;
+mod own_numbers;
 mod refuse;
 mod remarks;
+mod said;
+mod silent;
 mod single;
+mod untold;
 mod verdict;
 
 pub use check::{Pair, put_fault, put_no_fault};
@@ -26,5 +32,6 @@ pub use importing::{Imported, Repaired, import, import_single, repaired_pair};
 pub use intended::{Intended, Texts, intended_of};
 pub use refuse::put_refusal;
 pub use remarks::put_remarks;
+pub use silent::{Refusal, Silent};
 pub use single::repaired_single;
 pub use verdict::check_over;

@@ -1,8 +1,9 @@
 //! Reads a single file, which holds a pair.
 
-use crate::importing::Repaired;
+use crate::importing::{Repaired, told};
+use crate::silent::Refusal;
 use comtrade_dialects::{
-    Choices, ImportFault, Key, Notes, Place, cut, narrow, repaired, tell_sections, unmarked,
+    Choices, Key, Notes, Place, cut, narrow, repaired, tell_sections, unmarked,
 };
 use std::alloc::Allocator;
 
@@ -12,14 +13,11 @@ fn single<A: Allocator + Copy>(
     mut notes: Notes<A>,
     text: &[u8],
     choices: Choices,
-) -> Result<Repaired<A>, ImportFault> {
+) -> Result<Repaired<A>, Refusal> {
     let sections = cut(text)?;
     tell_sections(alloc, &mut notes, sections)?;
     let file = repaired(alloc, &mut notes, sections.cfg, sections.dat, choices)?;
-    Ok(Repaired {
-        file,
-        notes: notes.into_list(),
-    })
+    told(alloc, sections.dat, file, notes)
 }
 
 /// The choices for a text that says its own encoding.
@@ -35,7 +33,7 @@ pub fn repaired_single<A: Allocator + Copy>(
     alloc: A,
     cff: &[u8],
     choices: Choices,
-) -> Result<Repaired<A>, ImportFault> {
+) -> Result<Repaired<A>, Refusal> {
     let mut notes = Notes::new(alloc);
     match narrow(alloc, cff)? {
         Some(text) => {

@@ -1,0 +1,108 @@
+//! Single samples of a data file, as they stand there.
+
+use crate::untold::Sample;
+use comtrade_values::integer_of;
+
+/// A sample, and whether it is spelled with a point or an exponent.
+#[derive(Clone, Copy, Debug, PartialEq, Eq)]
+pub(crate) struct Found {
+    pub(crate) sample: Sample,
+    pub(crate) is_pointed: bool,
+}
+
+impl Found {
+    fn plain(sample: Sample) -> Found {
+        Found {
+            sample,
+            is_pointed: false,
+        }
+    }
+
+    /// Whether its channel may have to be written in another scale.
+    pub(crate) fn is_unfit(self) -> bool {
+        self.is_pointed || self.sample == Sample::Beyond
+    }
+}
+
+/// The greatest sample of BINARY data; the least is the same below 0.
+const MOST_SHORT: i32 = 32_767;
+
+/// A whole number, or one beyond the bounds.
+fn within(number: i32, least: i32, most: i32) -> Sample {
+    if least <= number && number <= most {
+        Sample::Whole(number)
+    } else {
+        Sample::Beyond
+    }
+}
+
+/// A sample of BINARY data.
+pub(crate) fn short_of(bits: u16) -> Found {
+    let number = i32::from(bits.cast_signed());
+    Found::plain(if number < -MOST_SHORT {
+        Sample::Absent
+    } else {
+        Sample::Whole(number)
+    })
+}
+
+/// A sample of BINARY32 data.
+pub(crate) fn long_of(bits: u32) -> Found {
+    let number = bits.cast_signed();
+    Found::plain(if number == i32::MIN {
+        Sample::Absent
+    } else {
+        within(number, -MOST_SHORT, MOST_SHORT)
+    })
+}
+
+/// A sample of FLOAT32 data, by its bits. Infinities and what is no number are absent.
+pub(crate) fn float_of(bits: u32) -> Found {
+    let exponent = (bits >> 23) & 0xff;
+    let fraction = (bits & 0x7f_ffff) | 0x80_0000;
+    let is_minus = bits >> 31 == 1;
+    Found::plain(match exponent {
+        0xff => Sample::Absent,
+        0 if bits & 0x7fff_ffff == 0 => Sample::Whole(0),
+        127..=141 => {
+            // the bits of the fraction below 1: 23 of them at exponent 127, which is 1
+            let below = 150 - exponent;
+            let size = (fraction >> below).cast_signed();
+            if size.cast_unsigned() << below != fraction {
+                Sample::Beyond
+            } else {
+                Sample::Whole(if is_minus { -size } else { size })
+            }
+        }
+        _ => Sample::Beyond,
+    })
+}
+
+/// The bounds of the samples in ASCII data, and the mark of a missing one, which is above them.
+const LEAST_TEXT: i128 = -99_999;
+
+const MISSING: i128 = 99_999;
+
+/// Whether a text has a digit, and only what numbers are spelled with.
+fn is_numeric(text: &[u8]) -> bool {
+    text.iter().any(|b| b.is_ascii_digit())
+        && text
+            .iter()
+            .all(|b| b.is_ascii_digit() || b"+-.,eEdD".contains(b))
+}
+
+/// A sample of ASCII data. `has_nines`: 99,999 is a sample.
+pub(crate) fn text_of(text: &[u8], has_nines: bool) -> Found {
+    match integer_of(text) {
+        Some(MISSING) if !has_nines => Found::plain(Sample::Absent),
+        Some(number) if LEAST_TEXT <= number && number < MISSING => {
+            Found::plain(Sample::Whole(number as i32))
+        }
+        Some(_) => Found::plain(Sample::Beyond),
+        None if is_numeric(text) => Found {
+            sample: Sample::Beyond,
+            is_pointed: true,
+        },
+        None => Found::plain(Sample::Absent),
+    }
+}
