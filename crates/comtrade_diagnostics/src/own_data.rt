@@ -43,29 +43,6 @@ pub(crate) struct Own<A: Allocator> {
     pub(crate) unfit: Vec<bool, A>,
 }
 
-impl<A: Allocator + Copy> Own<A> {
-    fn new(alloc: A, analog: usize) -> Result<Own<A>, AllocError> {
-        Ok(Own {
-            rows: Vec::new(alloc),
-            unfit: vec![in alloc; false; analog]?,
-        })
-    }
-
-    /// Adds a row with what was found in the channels; samples that it lacks are absent.
-    fn add<I: Iterator<Item = Found>>(&mut self, found: I) -> Result<(), AllocError> {
-        let mut samples = Vec::with_capacity(*self.rows.allocator(), self.unfit.len())?;
-        for (is_unfit, found) in self.unfit.iter_mut().zip(found) {
-            *is_unfit = *is_unfit || found.is_unfit();
-            samples.push(found.sample)?;
-        }
-        for _ in samples.len()..self.unfit.len() {
-            samples.push(Sample::Absent)?;
-        }
-        self.rows.push(Items::of(samples))?;
-        Ok(())
-    }
-}
-
 /// The text before the first byte 1A.
 fn before_mark(text: &[u8]) -> &[u8] {
     match memchr(0x1a, text) {
@@ -113,6 +90,26 @@ fn mark_of(text: &[u8], end: u8) -> u8 {
     b','
 }
 
+/// The samples of an ASCII row. Those that it lacks are absent.
+fn text_row<A: Allocator + Copy>(
+    alloc: A,
+    unfit: &mut [bool],
+    line: &[u8],
+    mark: u8,
+    has_nines: bool,
+) -> Result<Vec<Sample, A>, AllocError> {
+    let mut samples = Vec::with_capacity(alloc, unfit.len())?;
+    let mut fields = line.split(|b| *b == mark);
+    let _number = fields.next();
+    let _stamp = fields.next();
+    for is_unfit in unfit.iter_mut() {
+        let found = text_of(inside(fields.next().unwrap_or(&[])), has_nines);
+        *is_unfit = *is_unfit || found.is_unfit();
+        samples.push(found.sample)?;
+    }
+    Ok(samples)
+}
+
 /// The samples of ASCII data.
 fn own_text<A: Allocator + Copy>(
     alloc: A,
@@ -120,50 +117,110 @@ fn own_text<A: Allocator + Copy>(
     layout: Layout,
     has_nines: bool,
 ) -> Result<Own<A>, AllocError> {
-    let mut own = Own::new(alloc, layout.analog)?;
+    let mut unfit = vec![in alloc; false; layout.analog]?;
+    let mut rows = Vec::new(alloc);
     let text = before_mark(text);
     let end = if text.contains(&b'\n') { b'\n' } else { b'\r' };
     let mark = mark_of(text, end);
     for line in without_end(text, mark).split(|b| *b == end) {
         let line = without_returns(line);
         if !trim(line).is_empty() {
-            let fields = line.split(|b| *b == mark).skip(2);
-            own.add(fields.map(|field| text_of(inside(field), has_nines)))?;
+            let samples = text_row(alloc, &mut unfit, line, mark, has_nines)?;
+            rows.push(Items::of(samples))?;
         }
     }
-    Ok(own)
+    Ok(Own { rows, unfit })
 }
 
-fn number_at(bytes: &[u8], layout: Layout) -> Found {
-    match (layout.form, layout.is_big) {
-        (Form::Short, false) => short_of(LittleEndian::read_u16(bytes)),
-        (Form::Short, true) => short_of(BigEndian::read_u16(bytes)),
-        (Form::Float, false) => float_of(LittleEndian::read_u32(bytes)),
-        (Form::Float, true) => float_of(BigEndian::read_u32(bytes)),
-        (_, false) => long_of(LittleEndian::read_u32(bytes)),
-        (_, true) => long_of(BigEndian::read_u32(bytes)),
-    }
+/// Sixteen bits of a row; None past its end.
+fn word_at(row: &[u8], at: usize, is_big: bool) -> Option<u16> {
+    let bytes = row.get(at..at.saturating_add(2))?;
+    Some(if is_big {
+        BigEndian::read_u16(bytes)
+    } else {
+        LittleEndian::read_u16(bytes)
+    })
+}
+
+/// Thirty-two bits of a row; None past its end.
+fn long_at(row: &[u8], at: usize, is_big: bool) -> Option<u32> {
+    let bytes = row.get(at..at.saturating_add(4))?;
+    Some(if is_big {
+        BigEndian::read_u32(bytes)
+    } else {
+        LittleEndian::read_u32(bytes)
+    })
 }
 
 /// The bytes before the samples of a binary row: its number and its stamp.
 const FRONT: usize = 8;
+
+/// The sample of a channel in a binary row; None past its end.
+fn found_at(row: &[u8], channel: usize, layout: Layout) -> Option<Found> {
+    let is_big = layout.is_big;
+    let at = FRONT.saturating_add(channel.saturating_mul(layout.width()));
+    match layout.form {
+        Form::Long => Some(long_of(long_at(row, at, is_big)?)),
+        Form::Float => Some(float_of(long_at(row, at, is_big)?)),
+        _ => Some(short_of(word_at(row, at, is_big)?)),
+    }
+}
+
+/// The samples of a binary row. Those that it lacks are absent.
+fn binary_row<A: Allocator + Copy>(
+    alloc: A,
+    unfit: &mut [bool],
+    row: &[u8],
+    layout: Layout,
+) -> Result<Vec<Sample, A>, AllocError> {
+    let mut samples = Vec::with_capacity(alloc, unfit.len())?;
+    for (channel, is_unfit) in unfit.iter_mut().enumerate() {
+        let sample = match found_at(row, channel, layout) {
+            Some(found) => {
+                *is_unfit = *is_unfit || found.is_unfit();
+                found.sample
+            }
+            None => Sample::Absent,
+        };
+        samples.push(sample)?;
+    }
+    Ok(samples)
+}
+
+impl Layout {
+    /// The bytes of a binary sample.
+    fn width(self) -> usize {
+        match self.form {
+            Form::Long | Form::Float => 4,
+            _ => 2,
+        }
+    }
+
+    /// The bytes of a binary row; the greatest number if memory couldn't hold one.
+    fn size(self) -> usize {
+        let words = self.status.div_ceil(16);
+        FRONT
+            .saturating_add(self.width().saturating_mul(self.analog))
+            .saturating_add(words.saturating_mul(2))
+            .saturating_add(self.spare)
+    }
+}
 
 /// The samples of binary data. An incomplete last row counts, a single byte 1A there doesn't.
 fn own_binary<A: Allocator + Copy>(
     alloc: A,
     dat: &[u8],
     layout: Layout,
-    width: usize,
 ) -> Result<Own<A>, AllocError> {
-    let mut own = Own::new(alloc, layout.analog)?;
-    let size = FRONT + width * layout.analog + layout.status.div_ceil(16) * 2 + layout.spare;
-    for row in dat.chunks(size) {
-        if row.len() == size || row != b"\x1a".as_slice() {
-            let values = row.get(FRONT..).unwrap_or(&[]).chunks_exact(width);
-            own.add(values.map(|bytes| number_at(bytes, layout)))?;
+    let mut unfit = vec![in alloc; false; layout.analog]?;
+    let mut rows = Vec::new(alloc);
+    for row in dat.chunks(layout.size().max(FRONT)) {
+        if row != b"\x1a".as_slice() {
+            let samples = binary_row(alloc, &mut unfit, row, layout)?;
+            rows.push(Items::of(samples))?;
         }
     }
-    Ok(own)
+    Ok(Own { rows, unfit })
 }
 
 /// The samples of a data file.
@@ -174,7 +231,6 @@ pub(crate) fn own_of<A: Allocator + Copy>(
 ) -> Result<Own<A>, AllocError> {
     match layout.form {
         Form::Text { has_nines } => own_text(alloc, dat, layout, has_nines),
-        Form::Short => own_binary(alloc, dat, layout, 2),
-        Form::Long | Form::Float => own_binary(alloc, dat, layout, 4),
+        _ => own_binary(alloc, dat, layout),
     }
 }

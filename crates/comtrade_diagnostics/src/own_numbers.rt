@@ -56,31 +56,38 @@ pub(crate) fn long_of(bits: u32) -> Found {
     })
 }
 
+/// A finite float of 1 or more and below 32,768, by its bits: a whole number, or one that no file of
+/// 1999 can hold as it is.
+fn whole_of(bits: u32, exponent: u32) -> Sample {
+    let fraction = (bits & 0x7f_ffff) | 0x80_0000;
+    // how many bits of the fraction are below 1: 23 at exponent 127, which is 1
+    let below = 150u32.wrapping_sub(exponent);
+    let size = fraction.wrapping_shr(below);
+    if size.wrapping_shl(below) != fraction {
+        return Sample::Beyond;
+    }
+    match i32::try_from(size) {
+        Ok(size) if bits.wrapping_shr(31) == 1 => Sample::Whole(size.wrapping_neg()),
+        Ok(size) => Sample::Whole(size),
+        Err(_) => Sample::Beyond,
+    }
+}
+
 /// A sample of FLOAT32 data, by its bits. Infinities and what is no number are absent.
 pub(crate) fn float_of(bits: u32) -> Found {
-    let exponent = (bits >> 23) & 0xff;
-    let fraction = (bits & 0x7f_ffff) | 0x80_0000;
-    let is_minus = bits >> 31 == 1;
+    let exponent = bits.wrapping_shr(23) & 0xff;
     Found::plain(match exponent {
         0xff => Sample::Absent,
         0 if bits & 0x7fff_ffff == 0 => Sample::Whole(0),
-        127..=141 => {
-            // the bits of the fraction below 1: 23 of them at exponent 127, which is 1
-            let below = 150 - exponent;
-            let size = (fraction >> below).cast_signed();
-            if size.cast_unsigned() << below != fraction {
-                Sample::Beyond
-            } else {
-                Sample::Whole(if is_minus { -size } else { size })
-            }
-        }
+        127..=141 => whole_of(bits, exponent),
         _ => Sample::Beyond,
     })
 }
 
-/// The bounds of the samples in ASCII data, and the mark of a missing one, which is above them.
-const LEAST_TEXT: i128 = -99_999;
+/// The greatest sample of ASCII data and one more; the least is the same below 0.
+const MOST_TEXT: i32 = 99_999;
 
+/// The mark of a missing sample in ASCII data.
 const MISSING: i128 = 99_999;
 
 /// Whether a text has a digit, and only what numbers are spelled with.
@@ -95,10 +102,10 @@ fn is_numeric(text: &[u8]) -> bool {
 pub(crate) fn text_of(text: &[u8], has_nines: bool) -> Found {
     match integer_of(text) {
         Some(MISSING) if !has_nines => Found::plain(Sample::Absent),
-        Some(number) if LEAST_TEXT <= number && number < MISSING => {
-            Found::plain(Sample::Whole(number as i32))
-        }
-        Some(_) => Found::plain(Sample::Beyond),
+        Some(number) => Found::plain(match i32::try_from(number) {
+            Ok(number) => within(number, -MOST_TEXT, MOST_TEXT - 1),
+            Err(_) => Sample::Beyond,
+        }),
         None if is_numeric(text) => Found {
             sample: Sample::Beyond,
             is_pointed: true,

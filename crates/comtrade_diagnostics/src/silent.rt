@@ -41,7 +41,7 @@ where
     }
 }
 
-/// The rows and the place, counted from 1.
+/// The number of a row or channel, from its index.
 fn number(index: usize) -> u64 {
     (index as u64).saturating_add(1)
 }
@@ -65,7 +65,7 @@ pub(crate) fn silent_in<A: Allocator + Copy>(
     };
     let own = own_of(alloc, text, layout)?;
     let rows = file.rows.items();
-    let is_cut = has(notes, Key::RowCut) && own.rows.len() == rows.len() + 1;
+    let is_cut = has(notes, Key::RowCut) && own.rows.len().checked_sub(1) == Some(rows.len());
     let whole = if is_cut { rows.len() } else { own.rows.len() };
     let Some(own_rows) = own.rows.get(..whole) else {
         return Ok(None);
