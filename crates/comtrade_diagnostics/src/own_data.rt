@@ -103,9 +103,15 @@ fn text_row<A: Allocator + Copy>(
     let _number = fields.next();
     let _stamp = fields.next();
     for is_unfit in unfit.iter_mut() {
-        let found = text_of(inside(fields.next().unwrap_or(&[])), has_nines);
-        *is_unfit = *is_unfit || found.is_unfit();
-        samples.push(found.sample)?;
+        let sample = match fields.next() {
+            Some(field) => {
+                let found = text_of(inside(field), has_nines);
+                *is_unfit = *is_unfit || found.is_unfit();
+                found.sample
+            }
+            None => Sample::Absent,
+        };
+        samples.push(sample)?;
     }
     Ok(samples)
 }
@@ -134,7 +140,7 @@ fn own_text<A: Allocator + Copy>(
 
 /// Sixteen bits of a row; None past its end.
 fn word_at(row: &[u8], at: usize, is_big: bool) -> Option<u16> {
-    let bytes = row.get(at..at.saturating_add(2))?;
+    let bytes = row.get(at..at.checked_add(2)?)?;
     Some(if is_big {
         BigEndian::read_u16(bytes)
     } else {
@@ -144,7 +150,7 @@ fn word_at(row: &[u8], at: usize, is_big: bool) -> Option<u16> {
 
 /// Thirty-two bits of a row; None past its end.
 fn long_at(row: &[u8], at: usize, is_big: bool) -> Option<u32> {
-    let bytes = row.get(at..at.saturating_add(4))?;
+    let bytes = row.get(at..at.checked_add(4)?)?;
     Some(if is_big {
         BigEndian::read_u32(bytes)
     } else {
@@ -158,7 +164,7 @@ const FRONT: usize = 8;
 /// The sample of a channel in a binary row; None past its end.
 fn found_at(row: &[u8], channel: usize, layout: Layout) -> Option<Found> {
     let is_big = layout.is_big;
-    let at = FRONT.saturating_add(channel.saturating_mul(layout.width()));
+    let at = channel.checked_mul(layout.width())?.checked_add(FRONT)?;
     match layout.form {
         Form::Long => Some(long_of(long_at(row, at, is_big)?)),
         Form::Float => Some(float_of(long_at(row, at, is_big)?)),
@@ -196,13 +202,14 @@ impl Layout {
         }
     }
 
-    /// The bytes of a binary row; the greatest number if memory couldn't hold one.
-    fn size(self) -> usize {
-        let words = self.status.div_ceil(16);
-        FRONT
-            .saturating_add(self.width().saturating_mul(self.analog))
-            .saturating_add(words.saturating_mul(2))
-            .saturating_add(self.spare)
+    /// The bytes of a binary row; None if memory couldn't hold one.
+    fn size(self) -> Option<usize> {
+        let samples = self.analog.checked_mul(self.width())?;
+        let words = self.status.div_ceil(16).checked_mul(2)?;
+        samples
+            .checked_add(words)?
+            .checked_add(FRONT)?
+            .checked_add(self.spare)
     }
 }
 
@@ -214,7 +221,12 @@ fn own_binary<A: Allocator + Copy>(
 ) -> Result<Own<A>, AllocError> {
     let mut unfit = vec![in alloc; false; layout.analog]?;
     let mut rows = Vec::new(alloc);
-    for row in dat.chunks(layout.size().max(FRONT)) {
+    let size = match layout.size() {
+        Some(size) => size.max(FRONT),
+        // all bytes are those of one row that is not whole
+        None => usize::MAX,
+    };
+    for row in dat.chunks(size) {
         if row != b"\x1a".as_slice() {
             let samples = binary_row(alloc, &mut unfit, row, layout)?;
             rows.push(Items::of(samples))?;

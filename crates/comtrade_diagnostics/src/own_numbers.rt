@@ -1,5 +1,7 @@
 //! Single samples of a data file, as they stand there.
 
+ghost use Rattle.std.specs.Prelude.{◌≤◌};
+
 use crate::untold::Sample;
 use comtrade_values::integer_of;
 
@@ -58,29 +60,33 @@ pub(crate) fn long_of(bits: u32) -> Found {
 
 /// A finite float of 1 or more and below 32,768, by its bits: a whole number, or one that no file of
 /// 1999 can hold as it is.
-fn whole_of(bits: u32, exponent: u32) -> Sample {
+fn whole_of(bits: u32, exponent: u32) -> Sample
+    requires least { 127 ≤ exponent }
+    requires most { exponent ≤ 141 }
+{
     let fraction = (bits & 0x7f_ffff) | 0x80_0000;
     // how many bits of the fraction are below 1: 23 at exponent 127, which is 1
-    let below = 150u32.wrapping_sub(exponent);
-    let size = fraction.wrapping_shr(below);
-    if size.wrapping_shl(below) != fraction {
+    let below = 150 - exponent;
+    let size = fraction >> below;
+    if size << below != fraction {
         return Sample::Beyond;
     }
-    match i32::try_from(size) {
-        Ok(size) if bits.wrapping_shr(31) == 1 => Sample::Whole(size.wrapping_neg()),
-        Ok(size) => Sample::Whole(size),
-        Err(_) => Sample::Beyond,
-    }
+    // 24 bits of a fraction leave at most 15
+    let size = (size & 0x7fff) as i32;
+    Sample::Whole(if bits >> 31 == 1 { -size } else { size })
 }
 
 /// A sample of FLOAT32 data, by its bits. Infinities and what is no number are absent.
 pub(crate) fn float_of(bits: u32) -> Found {
-    let exponent = bits.wrapping_shr(23) & 0xff;
-    Found::plain(match exponent {
-        0xff => Sample::Absent,
-        0 if bits & 0x7fff_ffff == 0 => Sample::Whole(0),
-        127..=141 => whole_of(bits, exponent),
-        _ => Sample::Beyond,
+    let exponent = (bits >> 23) & 0xff;
+    Found::plain(if exponent == 0xff {
+        Sample::Absent
+    } else if 127 <= exponent && exponent <= 141 {
+        whole_of(bits, exponent)
+    } else if bits & 0x7fff_ffff == 0 {
+        Sample::Whole(0)
+    } else {
+        Sample::Beyond
     })
 }
 
