@@ -28,7 +28,7 @@ detect DRIFT frequency change 1 of UB cycles 5 least 0.1 of 63.5 kV
 # the detectors and, of those that have to fire, how many seconds after the quiet time their disturbance begins, and within how many scans they fire
 DUE = {
     "SAG-UA": (0, PERIOD + 5), "OVER-IA": (0, PERIOD), "EARTH": (0, PERIOD + 10), "WAVE": (0, PERIOD + 10), "JUMP-IA": (0, PERIOD),
-    "LOAD": (0, PERIOD), "SWELL-UB": (2, PERIOD), "LOW": (4, 11 * PERIOD + 20), "DRIFT": (4, 11 * PERIOD), "HIGH": (6, 11 * PERIOD + 20),
+    "LOAD": (0, PERIOD), "SWELL-UB": (2, PERIOD), "LOW": (4, 11 * PERIOD + 20), "DRIFT": (4, 11 * PERIOD), "HIGH": (8, 11 * PERIOD + 20),
 }
 ALL = [*(f"SAG-U{p}" for p in "ABC"), *(f"SWELL-U{p}" for p in "ABC"), *(f"OVER-I{p}" for p in "ABC"), "EARTH", "WAVE",
        *(f"JUMP-I{p}" for p in "ABC"), "LOAD", "LOW", "HIGH", "DRIFT"]
@@ -98,8 +98,8 @@ def blocks(rng, seconds):
     yield quiet, 5000, 3 * RATE // 2
     yield [RATED, 80, RATED, load, load, load], 5000, RATE
     yield quiet, 5000, RATE
-    yield quiet, 4880, 2 * RATE
-    yield quiet, 5120, 2 * RATE
+    for step in (4880, 5000, 5120):
+        yield quiet, step, 2 * RATE
 
 
 def make(folder, seconds):

@@ -172,6 +172,11 @@ fn seven(alloc: Global) -> Result<Detectors> {
     Ok(Detectors::new(list))
 }
 
+/// How many bits are 1.
+fn ones_of(bits: &[bool]) -> usize {
+    bits.iter().filter(|bit| **bit).count()
+}
+
 /// Lets the detectors take in all scans so many times, and counts the bits that are 1.
 fn take_in(
     detectors: &mut Detectors,
@@ -184,11 +189,8 @@ fn take_in(
         for readings in scans {
             bits.clear();
             detectors.step(readings, bits)?;
-            for bit in bits.iter() {
-                if *bit {
-                    ones = ones.checked_add(1).context("too many bits")?;
-                }
-            }
+            let more = ones_of(bits) as u64;
+            ones = ones.checked_add(more).context("too many bits")?;
         }
     }
     Ok(ones)
