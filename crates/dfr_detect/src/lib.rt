@@ -15,6 +15,7 @@ mod spans;
 mod sum;
 mod turns;
 mod watch;
+mod wave_test;
 mod waves;
 mod window;
 

@@ -97,13 +97,19 @@ settings_of s w multiplier most =
 abbrev pub sum_of : SetupParts → Wish → List ℕ → Result SumParts DetectorFault
 sum_of s w text = addends.with_words s.analog w.test no_sum (slice_split (λ b. b == 43) text)
 
+-- that, if its test takes so many channels
+abbrev pub counted : Test → SumParts → Result SumParts DetectorFault
+counted test sum =
+    if length sum.channels == 0 then Err fault.Channel
+    else if has_phases test && not (length sum.channels == 3) then Err fault.Phases
+    else Ok sum
+
 abbrev pub plan_of : SetupParts → Wish → List ℕ → List ℕ → Result PlanParts DetectorFault
 plan_of s w name text =
-    and_then (sum_of s w text) (λ sum.
-    if length sum.channels == 0 then Err fault.Channel else
-    if has_phases w.test && not (length sum.channels == 3) then Err fault.Phases else
+    and_then (sum_of s w text) (λ found.
+    and_then (counted w.test found) (λ sum.
     and_then (settings_of s w sum.a sum.most) (λ settings.
-    Ok (record { name = name; test = w.test; settings = settings; channels = sum.channels; level = w.level; reset = w.reset; least = w.least })))
+    Ok (record { name = name; test = w.test; settings = settings; channels = sum.channels; level = w.level; reset = w.reset; least = w.least }))))
 
 -- ---- the detectors of a line
 

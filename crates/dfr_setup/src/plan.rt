@@ -1,6 +1,6 @@
 //! One detector of a set-up.
 
-ghost use Rattle.std.specs.Prelude.{◌≡◌, ◌≤◌, ◌^◌, None, IfOk};
+ghost use Rattle.std.specs.Prelude.{◌≡◌, ◌≤◌, ◌^◌, None, IfOk, length};
 ghost use Rattle.dfr_detect.specs.Fitting.{settings_fault};
 ghost use Rattle.dfr_setup.specs.Plans as spec;
 ghost use Rattle.dfr_setup.specs.Refusing.{Is};
@@ -115,6 +115,20 @@ fn settings_of<A: Allocator>(
     })
 }
 
+/// The sum, if its test takes so many channels.
+fn counted<A: Allocator>(test: Test, sum: Sum<A>) -> Result<Sum<A>, DetectorRefusal>
+    ensures value { Is (λ x. x) (spec.counted test sum) result }
+    ensures some { IfOk result (λ s. 1 ≤ length s.channels) }
+{
+    if sum.channels.is_empty() {
+        return Err(DetectorRefusal::Fault(DetectorFault::Channel));
+    }
+    if has_phases(test) && sum.channels.len() != 3 {
+        return Err(DetectorRefusal::Fault(DetectorFault::Phases));
+    }
+    Ok(sum)
+}
+
 /// The detector of a wish with this name, over the sum that the text names.
 pub(crate) fn plan_of<A: Allocator + Copy>(
     alloc: A,
@@ -125,13 +139,8 @@ pub(crate) fn plan_of<A: Allocator + Copy>(
 ) -> Result<Plan<A>, DetectorRefusal>
     ensures { Is (λ x. x) (spec.plan_of setup.now wish.now name.items text.now) result }
 {
-    let Sum { channels, a, most } = sum_of(alloc, setup.analog.items(), wish.test, text)?;
-    if channels.is_empty() {
-        return Err(DetectorRefusal::Fault(DetectorFault::Channel));
-    }
-    if has_phases(wish.test) && channels.len() != 3 {
-        return Err(DetectorRefusal::Fault(DetectorFault::Phases));
-    }
+    let sum = sum_of(alloc, setup.analog.items(), wish.test, text)?;
+    let Sum { channels, a, most } = counted(wish.test, sum)?;
     let settings = settings_of(setup, wish, a, most)?;
     Ok(Plan {
         name: Items::of(name),

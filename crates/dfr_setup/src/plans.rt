@@ -139,7 +139,7 @@ fn add_wish<A: Allocator + Copy>(
     plans: &mut Vec<Plan<A>, A>,
     words: &[&[u8]],
 ) -> Result<(), DetectorRefusal>
-    requires { wish.now.at ≤ 4 }
+    requires { wish.now.at ≤ 5 }
     ensures { Makes
         (spec.with_wish setup.now plans.old.items (texts words.now) wish.now) plans.new.items result }
 {
