@@ -1,5 +1,5 @@
 -- Which losses are taken.
-use Rattle.std.proofs.Common.{◌≡◌, Bool, true, false, List, [], ◌∷◌, Option, Some, None, refl}
+use Rattle.std.proofs.Common.{◌≡◌, true, false, List, [], ◌∷◌, Option, Some, None, refl}
 use Rattle.std.specs.Prelude.{is_some}
 use Rattle.dfr_station.specs.declared.losses.Losses.{Losses}
 use Rattle.dfr_station.specs.Reported.{Takes}
