@@ -109,12 +109,15 @@ counted test sum =
     else if has_phases test && not (length sum.channels == 3) then Err fault.Phases
     else Ok sum
 
+-- the sum of a wish, whose test takes its channels
+abbrev pub whole_sum : SetupParts → Wish → List ℕ → Result SumParts DetectorFault
+whole_sum s w text = and_then (sum_of s w text) (λ sum. counted w.test sum)
+
 abbrev pub plan_of : SetupParts → Wish → List (List ℕ) → List ℕ → List ℕ → Result PlanParts DetectorFault
 plan_of s w ws name text =
-    and_then (sum_of s w text) (λ found.
-    and_then (counted w.test found) (λ sum.
+    and_then (whole_sum s w text) (λ sum.
     and_then (settings_over s w ws sum.channels sum.a sum.most) (λ settings.
-    Ok (record { name = name; test = w.test; settings = settings; channels = sum.channels; level = w.level; reset = w.reset; least = w.least }))))
+    Ok (record { name = name; test = w.test; settings = settings; channels = sum.channels; level = w.level; reset = w.reset; least = w.least })))
 
 -- ---- the detectors of a line
 

@@ -151,6 +151,20 @@ fn counted<A: Allocator>(test: Test, sum: Sum<A>) -> Result<Sum<A>, DetectorRefu
     Ok(sum)
 }
 
+/// The sum that the text names, whose channels a wish's test takes.
+fn whole_sum<A: Allocator + Copy>(
+    alloc: A,
+    setup: &Setup<A>,
+    wish: &Wish,
+    text: &[u8],
+) -> Result<Sum<A>, DetectorRefusal>
+    ensures value { Is (λ x. x) (spec.whole_sum setup.now wish.now text.now) result }
+    ensures some { IfOk result (λ s. 1 ≤ length s.channels) }
+{
+    let sum = sum_of(alloc, setup.analog.items(), wish.test, text)?;
+    counted(wish.test, sum)
+}
+
 /// The detector of a wish, which these words name, with this name, over the sum that the text names.
 pub(crate) fn plan_of<A: Allocator + Copy>(
     alloc: A,
@@ -162,8 +176,7 @@ pub(crate) fn plan_of<A: Allocator + Copy>(
 ) -> Result<Plan<A>, DetectorRefusal>
     ensures { Is (λ x. x) (spec.plan_of setup.now wish.now (texts words.now) name.items text.now) result }
 {
-    let sum = sum_of(alloc, setup.analog.items(), wish.test, text)?;
-    let Sum { channels, a, most } = counted(wish.test, sum)?;
+    let Sum { channels, a, most } = whole_sum(alloc, setup, wish, text)?;
     let settings = settings_over(setup, wish, words, &channels, a, most)?;
     Ok(Plan {
         name: Items::of(name),
