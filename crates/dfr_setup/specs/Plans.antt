@@ -7,7 +7,7 @@ use Rattle.comtrade_values.specs.Lines.{field}
 use Rattle.comtrade_values.specs.Spelling.{Number, whole_number}
 use Rattle.comtrade_values.specs.Texts.{is_plain}
 use Rattle.dfr_channels.specs.LineFields.{need}
-use Rattle.dfr_channels.specs.Parts.{SetupParts, StatusParts}
+use Rattle.dfr_channels.specs.Parts.{AnalogParts, SetupParts, StatusParts}
 use Rattle.dfr_detect.specs.Detection.{Wanted, wanted}
 use Rattle.dfr_detect.specs.Fitting.{settings_fault}
 use Rattle.dfr_detect.specs.declared.settings.Settings.{Settings}
@@ -99,8 +99,8 @@ abbrev pub settings_over : SetupParts → Wish → List (List ℕ) → List ℕ 
 settings_over s w ws channels multiplier most = if has_units w.test s.analog channels ws w.units then settings_of s w multiplier most else Err fault.Unit
 
 -- the sum that a text names, by channels between plus signs
-abbrev pub sum_of : SetupParts → Wish → List ℕ → Result SumParts DetectorFault
-sum_of s w text = addends.with_words s.analog w.test no_sum (slice_split (λ b. b == 43) text)
+abbrev pub sum_of : List AnalogParts → Test → List ℕ → Result SumParts DetectorFault
+sum_of cs test text = addends.with_words cs test no_sum (slice_split (λ b. b == 43) text)
 
 -- that, if its test takes so many channels
 abbrev pub counted : Test → SumParts → Result SumParts DetectorFault
@@ -109,13 +109,12 @@ counted test sum =
     else if has_phases test && not (length sum.channels == 3) then Err fault.Phases
     else Ok sum
 
--- the sum of a wish, whose test takes its channels
-abbrev pub whole_sum : SetupParts → Wish → List ℕ → Result SumParts DetectorFault
-whole_sum s w text = and_then (sum_of s w text) (λ sum. counted w.test sum)
+abbrev pub whole_sum : List AnalogParts → Test → List ℕ → Result SumParts DetectorFault
+whole_sum cs test text = and_then (sum_of cs test text) (λ sum. counted test sum)
 
 abbrev pub plan_of : SetupParts → Wish → List (List ℕ) → List ℕ → List ℕ → Result PlanParts DetectorFault
 plan_of s w ws name text =
-    and_then (whole_sum s w text) (λ sum.
+    and_then (whole_sum s.analog w.test text) (λ sum.
     and_then (settings_over s w ws sum.channels sum.a sum.most) (λ settings.
     Ok (record { name = name; test = w.test; settings = settings; channels = sum.channels; level = w.level; reset = w.reset; least = w.least })))
 

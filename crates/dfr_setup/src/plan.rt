@@ -14,7 +14,7 @@ use crate::unit::has_units;
 use crate::wish::Wish;
 use crate::{DetectorFault, DetectorRefusal};
 use comtrade_values::{Decimal, Items, Memory};
-use dfr_channels::{Setup, StatusChannel};
+use dfr_channels::{AnalogChannel, Setup, StatusChannel};
 use dfr_detect::{Settings, SettingsFault};
 use std::alloc::{Allocator, Global};
 use std::marker::Model;
@@ -151,18 +151,18 @@ fn counted<A: Allocator>(test: Test, sum: Sum<A>) -> Result<Sum<A>, DetectorRefu
     Ok(sum)
 }
 
-/// The sum that the text names, whose channels a wish's test takes.
+/// The sum of the channels that the text names, which the test takes.
 fn whole_sum<A: Allocator + Copy>(
     alloc: A,
-    setup: &Setup<A>,
-    wish: &Wish,
+    channels: &[AnalogChannel<A>],
+    test: Test,
     text: &[u8],
 ) -> Result<Sum<A>, DetectorRefusal>
-    ensures value { Is (λ x. x) (spec.whole_sum setup.now wish.now text.now) result }
+    ensures value { Is (λ x. x) (spec.whole_sum channels.now test text.now) result }
     ensures some { IfOk result (λ s. 1 ≤ length s.channels) }
 {
-    let sum = sum_of(alloc, setup.analog.items(), wish.test, text)?;
-    counted(wish.test, sum)
+    let sum = sum_of(alloc, channels, test, text)?;
+    counted(test, sum)
 }
 
 /// The detector of a wish, which these words name, with this name, over the sum that the text names.
@@ -176,7 +176,7 @@ pub(crate) fn plan_of<A: Allocator + Copy>(
 ) -> Result<Plan<A>, DetectorRefusal>
     ensures { Is (λ x. x) (spec.plan_of setup.now wish.now (texts words.now) name.items text.now) result }
 {
-    let Sum { channels, a, most } = whole_sum(alloc, setup, wish, text)?;
+    let Sum { channels, a, most } = whole_sum(alloc, setup.analog.items(), wish.test, text)?;
     let settings = settings_over(setup, wish, words, &channels, a, most)?;
     Ok(Plan {
         name: Items::of(name),
