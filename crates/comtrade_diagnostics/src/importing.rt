@@ -118,6 +118,14 @@ fn exact<A: Allocator + Copy>(
     }
 }
 
+/// Whether both pairs of texts are the same.
+fn are_same<A: Allocator>(pair: &Written<A>, done: &Imported<A>) -> bool
+    ensures cfg { result ≡ true → pair.now.cfg.items ≡ done.now.cfg.items }
+    ensures dat { result ≡ true → pair.now.dat.items ≡ done.now.dat.items }
+{
+    pair.cfg.as_slice() == done.cfg.as_slice() && pair.dat.as_slice() == done.dat.as_slice()
+}
+
 /// Whether the pair can be read only as what the two other texts read to: their file.
 fn is_as_given<A: Allocator + Copy>(
     alloc: A,
@@ -135,7 +143,7 @@ fn is_as_given<A: Allocator + Copy>(
         Err(_) => return Ok(true),
     };
     match written_of(alloc, &literal) {
-        Ok(pair) => Ok(pair.cfg == done.cfg && pair.dat == done.dat),
+        Ok(pair) => Ok(are_same(&pair, done)),
         Err(WriteFault::Memory) => Err(ImportFault::Memory),
         Err(_) => Ok(false),
     }

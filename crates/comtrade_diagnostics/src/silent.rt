@@ -46,6 +46,14 @@ fn number(index: usize) -> u64 {
     (index as u64).saturating_add(1)
 }
 
+/// The text of a UTF-16 data file, else the data as they are.
+fn text_in<'a, A: Allocator>(narrowed: &'a Option<Vec<u8, A>>, dat: &'a [u8]) -> &'a [u8] {
+    match narrowed {
+        Some(text) => text.as_slice(),
+        None => dat,
+    }
+}
+
 /// Compares a repaired file with the samples of its data, decoded a second time: the first sample
 /// that differs and that no note covers.
 pub(crate) fn silent_in<A: Allocator + Copy>(
@@ -59,11 +67,7 @@ pub(crate) fn silent_in<A: Allocator + Copy>(
         Form::Text { .. } => narrow(alloc, dat)?,
         _ => None,
     };
-    let text = match &narrowed {
-        Some(text) => text.as_slice(),
-        None => dat,
-    };
-    let own = own_of(alloc, text, layout)?;
+    let own = own_of(alloc, text_in(&narrowed, dat), layout)?;
     let rows = file.rows.items();
     let is_cut = has(notes, Key::RowCut) && own.rows.len().checked_sub(1) == Some(rows.len());
     let whole = if is_cut { rows.len() } else { own.rows.len() };
