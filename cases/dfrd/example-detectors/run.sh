@@ -2,7 +2,7 @@
 # first, then the overcurrent, and nothing at their ends; the frequency never, since the converter keeps 50 Hz
 . files/dfrd.bash
 setup=../examples/station/setup-detectors
-diff <(sed -n '/^\$ dfrd --check examples.station/,/^```/p' ../docs/dfrd.md | grep -v '^[$`]') <("$dfrd" --check "$setup" "$folder") && echo "as in docs/dfrd.md"
+diff <(sed -n '/^\$ dfrd --check examples.station.setup-detectors/,/^```/p' ../docs/dfrd.md | grep -v '^[$`]') <("$dfrd" --check "$setup" "$folder") && echo "as in docs/dfrd.md"
 python3 -c '
 import runpy, struct, sys
 sys.dont_write_bytecode = True
