@@ -6,16 +6,8 @@ use std::alloc::Global;
 /// Instants, numbers of records, and names; instants were worked out with Python's `datetime`.
 const NAMES: [(i64, u64, &[u8]); 4] = [
     (0, 1, b"19700101T000000.000000-1.cfg"),
-    (
-        951_827_696_789_012,
-        10,
-        b"20000229T123456.789012-10.cfg",
-    ),
-    (
-        1_719_829_800_350_625,
-        7,
-        b"20240701T103000.350625-7.cfg",
-    ),
+    (951_827_696_789_012, 10, b"20000229T123456.789012-10.cfg"),
+    (1_719_829_800_350_625, 7, b"20240701T103000.350625-7.cfg"),
     (
         253_402_300_799_999_999,
         9_999_999_999_999_999_999,
@@ -32,10 +24,12 @@ fn is_called(alloc: Global, key: Key, name: &[u8]) -> bool {
 /// The key of the configuration file with this name.
 fn key_in(name: &[u8]) -> Option<Key> {
     match name_in(name) {
-        Some(Name {
-            key,
-            ending: Ending::Config,
-        }) => Some(key),
+        Some(
+            Name {
+                key,
+                ending: Ending::Config,
+            },
+        ) => Some(key),
         _ => None,
     }
 }
