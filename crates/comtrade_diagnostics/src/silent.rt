@@ -71,15 +71,17 @@ pub(crate) fn silent_in<A: Allocator + Copy>(
     let rows = file.rows.items();
     let is_cut = has(notes, Key::RowCut) && own.rows.len().checked_sub(1) == Some(rows.len());
     let whole = if is_cut { rows.len() } else { own.rows.len() };
-    let Some(own_rows) = own.rows.get(..whole) else {
-        return Ok(None);
+    let same = if whole == rows.len() {
+        own.rows.get(..whole)
+    } else {
+        None
     };
-    if whole != rows.len() {
+    let Some(own_rows) = same else {
         return Ok(Some(Silent::Rows {
             own: own.rows.len() as u64,
             written: rows.len() as u64,
         }));
-    }
+    };
     let said = all_said(alloc, notes)?;
     let place = first_untold(own_rows, rows, &said, &own.unfit);
     Ok(place.map(|place| Silent::Sample {
