@@ -46,6 +46,14 @@ fn number(index: usize) -> u64 {
     (index as u64).saturating_add(1)
 }
 
+/// The data have another number of rows than what is written.
+fn rows_differ(own: usize, written: usize) -> Silent {
+    Silent::Rows {
+        own: own as u64,
+        written: written as u64,
+    }
+}
+
 /// The text of a UTF-16 data file, else the data as they are.
 fn text_in<'a, A: Allocator>(narrowed: &'a Option<Vec<u8, A>>, dat: &'a [u8]) -> &'a [u8] {
     match narrowed {
@@ -71,16 +79,11 @@ pub(crate) fn silent_in<A: Allocator + Copy>(
     let rows = file.rows.items();
     let is_cut = has(notes, Key::RowCut) && own.rows.len().checked_sub(1) == Some(rows.len());
     let whole = if is_cut { rows.len() } else { own.rows.len() };
-    let same = if whole == rows.len() {
-        own.rows.get(..whole)
-    } else {
-        None
-    };
-    let Some(own_rows) = same else {
-        return Ok(Some(Silent::Rows {
-            own: own.rows.len() as u64,
-            written: rows.len() as u64,
-        }));
+    if whole != rows.len() {
+        return Ok(Some(rows_differ(own.rows.len(), rows.len())));
+    }
+    let Some(own_rows) = own.rows.get(..whole) else {
+        return Ok(Some(rows_differ(own.rows.len(), rows.len())));
     };
     let said = all_said(alloc, notes)?;
     let place = first_untold(own_rows, rows, &said, &own.unfit);
