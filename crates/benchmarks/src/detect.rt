@@ -5,7 +5,10 @@ use crate::amount::Amount;
 use crate::calls::clock::{Least, now, since};
 use anyhow::{Context, Result, bail};
 use dfr_channels::Reading;
-use dfr_detect::{Condition, Detector, Detectors, FrequencyIs, FrequencyTest, Settings};
+use dfr_detect::{
+    Condition, Detector, Detectors, FrequencyIs, FrequencyTest, HarmonicTest, Sequence, Settings,
+    WaveTest,
+};
 use std::alloc::{AllocGlobal, Global};
 use std::rt::Clock;
 use std::str::Split;
@@ -32,6 +35,24 @@ fn frequency_in(test: FrequencyIs, parts: &mut Split<'_, char>) -> Result<Condit
     }))
 }
 
+/// A test of a harmonic, by its order and the least rms value of the wave.
+fn harmonic_in(parts: &mut Split<'_, char>) -> Result<WaveTest> {
+    Ok(WaveTest::Harmonic(HarmonicTest {
+        order: small(parts)?,
+        least: number(parts)?,
+    }))
+}
+
+/// A sequence, by its number.
+fn sequence_in(parts: &mut Split<'_, char>) -> Result<Sequence> {
+    match number(parts)? {
+        0 => Ok(Sequence::Zero),
+        1 => Ok(Sequence::Positive),
+        2 => Ok(Sequence::Negative),
+        _ => bail!("no such sequence"),
+    }
+}
+
 fn condition_in(word: &str) -> Result<Condition> {
     let mut parts = word.split(':');
     match parts.next().context("no condition")? {
@@ -42,6 +63,10 @@ fn condition_in(word: &str) -> Result<Condition> {
         "faster" => frequency_in(FrequencyIs::Over, &mut parts),
         "slower" => frequency_in(FrequencyIs::Under, &mut parts),
         "drifts" => frequency_in(FrequencyIs::Changing, &mut parts),
+        "harmonic" => Ok(Condition::Waves(harmonic_in(&mut parts)?)),
+        "unbalance" => Ok(Condition::Waves(WaveTest::Unbalance(number(&mut parts)?))),
+        "more" => Ok(Condition::Waves(WaveTest::SequenceOver(sequence_in(&mut parts)?))),
+        "less" => Ok(Condition::Waves(WaveTest::SequenceUnder(sequence_in(&mut parts)?))),
         _ => bail!("no such condition"),
     }
 }
