@@ -1,5 +1,6 @@
 pub mod Decimals
 pub mod Leaving
+pub mod Turning
 pub mod Times
 pub mod Fitted
 pub mod Lists

@@ -1,5 +1,6 @@
 pub mod Windows
 pub mod Sums
+pub mod Rings
 pub mod Fitting
 pub mod Cycles
 pub mod Crossings

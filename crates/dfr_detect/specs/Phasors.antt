@@ -106,11 +106,24 @@ pub record AreWeights (w : Weights) : Type 0 where
 abbrev pub moved : Phasor → Weights → Sample → Phasor
 moved p w x = record { real = p.real +ℤ real_of w x; imaginary = p.imaginary +ℤ imaginary_of w x }
 
+-- the other phasor, which is none where the waves are the same
+abbrev pub other_moved : Option Phasor → Weights → Sample → Option Phasor
+other_moved (Some p) w x = Some (moved p w x)
+other_moved None w x = None
+
+abbrev pub either : Phasor → Option Phasor → Phasor
+either one (Some p) = p
+either one None = one
+
 pub record IsPhasor (n : ℕ) (s : Shape) (k : ℕ) (samples : List Sample) (p : Phasor) : Type 0 where
   pub real : p.real ≡ real n s k samples
   pub imaginary : p.imaginary ≡ imaginary n s k samples
 
-pub record IsWaves (n : ℕ) (first other : Shape) (samples : List Sample) (number : ℕ) (table : List Pair) (p q : Phasor) : Type 0 where
+abbrev pub IsOther : ℕ → Shape → Shape → ℕ → List Sample → Option Phasor → Type 0
+IsOther n first other k samples (Some p) = IsPhasor n other k samples p
+IsOther n first other k samples None = first ≡ other
+
+pub record IsWaves (n : ℕ) (first other : Shape) (samples : List Sample) (number : ℕ) (table : List Pair) (p : Phasor) (q : Option Phasor) : Type 0 where
   pub weights : IsTable n n first other table
   pub some : 1 ≤ n
   pub bounded : n ≤ 2 ^ 12
@@ -118,4 +131,4 @@ pub record IsWaves (n : ℕ) (first other : Shape) (samples : List Sample) (numb
   pub few : length samples ≤ n
   pub low : number < n
   pub one : IsPhasor n first number samples p
-  pub two : IsPhasor n other number samples q
+  pub two : IsOther n first other number samples q

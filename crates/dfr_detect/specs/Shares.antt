@@ -52,11 +52,18 @@ compares (SequenceOver s) n level first other = at_least n (3 * level) first
 compares (SequenceUnder s) n level first other = at_most n (3 * level) first
 compares (Unbalance least) n level first other = at_least n (3 * least) first && is_share level first other
 
+-- the powers of two waves meet the level
+abbrev pub waves_compare : WaveTest → ℕ → KeptWaves → Bool
+waves_compare t level w = compares t w.scans level (power_of w.scans w.first w.number w.samples) (power_of w.scans w.other w.number w.samples)
+
+abbrev pub shares : ℕ → ℕ → KeptWaves → Bool
+shares least level w =
+    at_least w.scans least (power_of w.scans w.first w.number w.samples)
+    && is_share level (power_of w.scans w.first w.number w.samples) (power_of w.scans w.other w.number w.samples)
+
 -- the window is full, and its waves meet the level
 abbrev pub meets_waves : WaveTest → ℕ → KeptWaves → Bool
-meets_waves t level w =
-    (length w.samples == w.scans)
-    && compares t w.scans level (power_of w.scans w.first w.number w.samples) (power_of w.scans w.other w.number w.samples)
+meets_waves t level w = (length w.samples == w.scans) && waves_compare t level w
 
 abbrev pub has_waves : WaveTest → ℕ → ℕ → List Sample → Bool
 has_waves t n level samples =

@@ -7,6 +7,8 @@ mod detector;
 mod detectors;
 mod level;
 mod lost;
+mod other;
+mod ring;
 mod run;
 mod sample;
 mod settings;

@@ -77,25 +77,31 @@ fn is_share(level: u64, first: u128, other: u128) -> bool
     level * level * first <= 1_000_000 * other
 }
 
-/// Whether the powers of two waves meet the level.
+/// Whether the first wave has at least this rms value, and the other is so much of it.
 #[inline(always)]
-fn compares(test: WaveTest, scans: u32, level: u64, first: u128, other: u128) -> bool
-    requires scans { scans ≤ 2 ^ 12 }
+fn shares<A: Allocator>(least: u64, level: u64, waves: &Waves<A>) -> bool
+    requires least { least ≤ 3 * 2 ^ 40 }
+    requires level { level ≤ 1000 }
+    ensures { result ≡ spec.shares least level waves.now }
+{
+    let first = waves.first_power();
+    power_at(waves.scans() as u32, least) <= 2 * first
+        && is_share(level, first, waves.other_power())
+}
+
+/// Whether the waves meet the level.
+#[inline(always)]
+fn compares<A: Allocator>(test: WaveTest, level: u64, waves: &Waves<A>) -> bool
     requires least { least_of test ≤ 2 ^ 40 }
     requires level { level ≤ most_share test }
-    requires first { first ≤ 2 ^ 107 }
-    requires other { other ≤ 2 ^ 107 }
-    ensures { result ≡ spec.compares test scans level first other }
+    ensures { result ≡ spec.waves_compare test level waves.now }
 {
+    let scans = waves.scans() as u32;
     match test {
-        WaveTest::Harmonic(harmonic) => {
-            power_at(scans, harmonic.least) <= 2 * first && is_share(level, first, other)
-        }
-        WaveTest::SequenceOver(_) => power_at(scans, 3 * level) <= 2 * first,
-        WaveTest::SequenceUnder(_) => 2 * first <= power_at(scans, 3 * level),
-        WaveTest::Unbalance(least) => {
-            power_at(scans, 3 * least) <= 2 * first && is_share(level, first, other)
-        }
+        WaveTest::Harmonic(harmonic) => shares(harmonic.least, level, waves),
+        WaveTest::SequenceOver(_) => power_at(scans, 3 * level) <= 2 * waves.first_power(),
+        WaveTest::SequenceUnder(_) => 2 * waves.first_power() <= power_at(scans, 3 * level),
+        WaveTest::Unbalance(least) => shares(3 * least, level, waves),
     }
 }
 
@@ -106,6 +112,5 @@ pub(crate) fn meets<A: Allocator>(test: WaveTest, level: u64, waves: &Waves<A>) 
     requires level { level ≤ most_share test }
     ensures { result ≡ spec.meets_waves test level waves.now }
 {
-    let (first, other) = waves.powers();
-    waves.is_full() && compares(test, waves.scans() as u32, level, first, other)
+    waves.is_full() && compares(test, level, waves)
 }

@@ -23,7 +23,7 @@ pub(crate) struct Weights {
 
 /// How many periods a wave has in the window, and how many thirds of a turn on phases B and C are
 /// looked at.
-#[derive(Clone, Copy, Debug)]
+#[derive(Clone, Copy, Debug, PartialEq, Eq)]
 pub(crate) struct Shape {
     pub(crate) order: u32,
     pub(crate) b: u32,

@@ -193,14 +193,8 @@ impl<A: Allocator> Watch<A> {
         requires { AreSmall x }
         ensures { self.new ≡ after_sample self.old x }
     {
-        let s = self.settings;
-        keep(
-            &s,
-            &mut self.window,
-            &mut self.crossings,
-            &mut self.waves,
-            x,
-        );
+        let s = &self.settings;
+        keep(s, &mut self.window, &mut self.crossings, &mut self.waves, x);
         let met = self.meets(s.level);
         let stays = self.on && self.meets(s.reset);
         self.row = next_row(self.row, s.row, met);

@@ -5,8 +5,9 @@ ghost use Rattle.dfr_detect.specs.Phasors as spec;
 ghost use Rattle.dfr_detect.specs.Sums.{AreSmall};
 
 use crate::Sample;
+use crate::other::{either, other_moved, other_nothing};
+use crate::ring::Ring;
 use crate::turns::{Pair, Shape, Weights, table};
-use circular_buffer::HeapCircularBuffer;
 use comtrade_values::{Items, Memory};
 use std::alloc::{Allocator, Global};
 use std::marker::Model;
@@ -19,16 +20,17 @@ pub(crate) struct Phasor {
 }
 
 /// The correlation of the last samples with two waves of whole periods in as many samples. It is
-/// kept up to date, since the sample that leaves has the number of the one that comes.
+/// kept up to date, since the sample that leaves has the number of the one that comes. The second
+/// phasor is none where the waves are the same.
 #[derive(Drop)]
 pub(crate) struct Waves<A: Allocator = Global> {
     table: Items<Pair, A>,
-    ring: HeapCircularBuffer<Sample, A>,
+    ring: Ring<Sample, A>,
     first: Shape,
     other: Shape,
     number: usize,
     one: Phasor,
-    two: Phasor,
+    two: Option<Phasor>,
 }
 
 impl<A: Allocator> Model for Waves<A> {
@@ -41,8 +43,11 @@ impl<A: Allocator> Model for Waves<A> {
     ghost invariant = { λ a. IsWaves a.ring.capacity a.first a.other a.ring.items a.number a.table a.one a.two };
 }
 
+/// What stands for a sample where none leaves.
+const NO_SAMPLE: Sample = Sample { a: 0, b: 0, c: 0 };
+
 /// No sample's share of a phasor.
-const NOTHING: Phasor = Phasor {
+pub(crate) const NOTHING: Phasor = Phasor {
     real: 0,
     imaginary: 0,
 };
@@ -73,7 +78,7 @@ fn gone(oldest: Option<Sample>) -> Sample
 {
     match oldest {
         Some(x) => x,
-        None => Sample { a: 0, b: 0, c: 0 },
+        None => NO_SAMPLE,
     }
 }
 
@@ -159,7 +164,7 @@ fn plus(part: i128, change: i64) -> i128
 
 /// A phasor after this change of a sample.
 #[inline(always)]
-fn moved(phasor: Phasor, weights: Weights, change: Sample) -> Phasor
+pub(crate) fn moved(phasor: Phasor, weights: Weights, change: Sample) -> Phasor
     requires real { unsigned_abs phasor.real ≤ 2 ^ 67 }
     requires imaginary { unsigned_abs phasor.imaginary ≤ 2 ^ 67 }
     requires weights { spec.AreWeights weights }
@@ -191,7 +196,7 @@ impl<A: Allocator> Waves<A> {
         ensures { IfOk result (λ made. made ≡ waves scans first other []) }
     {
         let table = Items::of(table(alloc, scans as u64, first, other)?);
-        let ring = HeapCircularBuffer::with_capacity(alloc, scans)?;
+        let ring = Ring::with_capacity(alloc, scans, NO_SAMPLE)?;
         Ok(Waves {
             table,
             ring,
@@ -199,7 +204,7 @@ impl<A: Allocator> Waves<A> {
             other,
             number: scans - 1,
             one: NOTHING,
-            two: NOTHING,
+            two: other_nothing(first, other),
         })
     }
 
@@ -214,7 +219,7 @@ impl<A: Allocator> Waves<A> {
         let oldest = self.ring.push_front(x);
         let change = less(x, gone(oldest));
         self.one = moved(self.one, pair.first, change);
-        self.two = moved(self.two, pair.other, change);
+        self.two = other_moved(self.two, pair.other, change);
     }
 
     /// Drops all samples.
@@ -224,7 +229,7 @@ impl<A: Allocator> Waves<A> {
         self.ring.clear();
         self.number = self.ring.capacity() - 1;
         self.one = NOTHING;
-        self.two = NOTHING;
+        self.two = other_nothing(self.first, self.other);
     }
 
     /// Over how many scans the waves are taken.
@@ -244,15 +249,22 @@ impl<A: Allocator> Waves<A> {
         self.ring.is_full()
     }
 
-    /// The squares of the magnitudes of both waves.
+    /// The square of the magnitude of the first wave.
     #[inline(always)]
-    pub(crate) fn powers(&self) -> (u128, u128)
-        ensures first { result.0 ≡ power_of self.now.scans self.now.first self.now.number self.now.samples }
-        ensures other { result.1 ≡ power_of self.now.scans self.now.other self.now.number self.now.samples }
-        ensures first_bound { result.0 ≤ 2 ^ 107 }
-        ensures other_bound { result.1 ≤ 2 ^ 107 }
+    pub(crate) fn first_power(&self) -> u128
+        ensures value { result ≡ power_of self.now.scans self.now.first self.now.number self.now.samples }
+        ensures bound { result ≤ 2 ^ 107 }
     {
-        (power(self.one), power(self.two))
+        power(self.one)
+    }
+
+    /// The square of the magnitude of the other wave.
+    #[inline(always)]
+    pub(crate) fn other_power(&self) -> u128
+        ensures value { result ≡ power_of self.now.scans self.now.other self.now.number self.now.samples }
+        ensures bound { result ≤ 2 ^ 107 }
+    {
+        power(either(self.one, self.two))
     }
 }
 

@@ -3,7 +3,7 @@
 ghost use Rattle.std.specs.Prelude.{◌≡◌};
 ghost use Rattle.dfr_detect.specs.Windows as spec;
 
-use circular_buffer::HeapCircularBuffer;
+use crate::ring::Ring;
 use comtrade_values::Memory;
 use std::alloc::{Allocator, Global};
 use std::marker::Model;
@@ -12,7 +12,7 @@ use std::marker::Model;
 /// are. The sum of their squares is kept up to date.
 #[derive(Drop)]
 pub(crate) struct Window<A: Allocator = Global> {
-    ring: HeapCircularBuffer<i64, A>,
+    ring: Ring<i64, A>,
     squares: u128,
 }
 
@@ -47,7 +47,7 @@ impl<A: Allocator> Window<A> {
         requires { places ≤ 2 ^ 18 }
         ensures { IfOk result (λ window. window ≡ buffer [] places) }
     {
-        let ring = HeapCircularBuffer::with_capacity(alloc, places)?;
+        let ring = Ring::with_capacity(alloc, places, 0)?;
         Ok(Window { ring, squares: 0 })
     }
 
@@ -96,7 +96,7 @@ impl<A: Allocator> Window<A> {
         ensures bound { unsigned_abs result ≤ 2 ^ 39 }
     {
         match self.ring.get(n) {
-            Some(x) => *x,
+            Some(x) => x,
             None => 0,
         }
     }
