@@ -215,7 +215,10 @@ fn take_in(
             bits.clear();
             detectors.step(readings, bits)?;
             let more = ones_of(bits) as u64;
-            ones = ones.checked_add(more).context("too many bits")?;
+            let Some(sum) = ones.checked_add(more) else {
+                bail!("too many bits");
+            };
+            ones = sum;
         }
     }
     Ok(ones)

@@ -193,12 +193,17 @@ impl<A: Allocator> Watch<A> {
         requires { AreSmall x }
         ensures { self.new ≡ after_sample self.old x }
     {
-        let s = &self.settings;
-        keep(s, &mut self.window, &mut self.crossings, &mut self.waves, x);
-        let met = self.meets(s.level);
-        let stays = self.on && self.meets(s.reset);
-        self.row = next_row(self.row, s.row, met);
-        self.on = self.row >= s.row || stays;
+        keep(
+            &self.settings,
+            &mut self.window,
+            &mut self.crossings,
+            &mut self.waves,
+            x,
+        );
+        let met = self.meets(self.settings.level);
+        let stays = self.on && self.meets(self.settings.reset);
+        self.row = next_row(self.row, self.settings.row, met);
+        self.on = self.row >= self.settings.row || stays;
     }
 
     /// Starts anew.
