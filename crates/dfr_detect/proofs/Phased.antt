@@ -1,5 +1,5 @@
 -- What two waves keep, after a sample more.
-use Rattle.std.proofs.Common.{◌≡◌, ◌∙◌, sym, ap, subst, ℕ, ◌+◌, ◌*◌, ◌^◌, ◌<◌, ◌≤◌, List, [], ◌∷◌, length, take, get_or, arith, rules, ℤ, pos, ◌+ℤ◌, ◌-ℤ◌, Option, Some, None}
+use Rattle.std.proofs.Common.{◌≡◌, ◌∙◌, sym, ap, subst, refl, ℕ, ◌+◌, ◌-◌, ◌*◌, ◌^◌, ◌<◌, ◌≤◌, List, [], ◌∷◌, length, take, get_or, arith, rules, ℤ, pos, ◌+ℤ◌, ◌-ℤ◌, Option, Some, None}
 use Rattle.std.specs.Prelude.{slice_get, unsigned_abs, IfSome}
 use Rattle.std.specs.List.{All}
 use Rattle.std.proofs.Math.Nat.{mul-le-mul_right}
@@ -125,3 +125,18 @@ waves_more n first other k i x xs table p r q t left pair b h small is at found 
     (subst (λ (j : ℕ). IsWaves n first other (take n (x ∷ xs)) j table r t) (sym at)
     (subst (λ (u : Option Phasor). IsWaves n first other (take n (x ∷ xs)) (after n k) table r u) two
     (subst (λ (u : Phasor). IsWaves n first other (take n (x ∷ xs)) (after n k) table u (other_moved q (weights_of n other (after n k)) (less x (gone left)))) one done)))
+
+-- of no sample
+pub waves_start : (n : ℕ) (first other : Shape) (table : List Pair) (q : Option Phasor) (b : Buffer Sample) (k : ℕ) → IsTable n n first other table → 1 ≤ n → n ≤ 2 ^ 12 → b ≡ buffer [] n → k ≡ n - 1
+    → ((m i : ℕ) → IsOther m first other i [] q) → IsWaves b.capacity first other b.items k table (record { real = pos 0; imaginary = pos 0 }) q
+waves_start n first other table q b k weights some bounded seen at two =
+    subst (λ (w : Buffer Sample). IsWaves w.capacity first other w.items k table (record { real = pos 0; imaginary = pos 0 }) q) (sym seen) (record {
+      weights = weights;
+      some = some;
+      bounded = bounded;
+      small = λ i d h. absurd (omega (arith, h));
+      few = omega arith;
+      low = omega (arith, some, at);
+      one = record { real = refl; imaginary = refl };
+      two = two n k;
+    })
