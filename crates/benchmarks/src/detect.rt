@@ -215,10 +215,7 @@ fn take_in(
             bits.clear();
             detectors.step(readings, bits)?;
             let more = ones_of(bits) as u64;
-            let Some(sum) = ones.checked_add(more) else {
-                bail!("too many bits");
-            };
-            ones = sum;
+            ones = ones.checked_add(more).context("too many bits")?;
         }
     }
     Ok(ones)
