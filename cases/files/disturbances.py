@@ -4,14 +4,20 @@
     disturbances.py judge FOLDER            compares FOLDER/NAME.told, what `comtrade detect` printed of each, with the definitions; and what
                                             fires with what should, within a period of the disturbance (a frequency: within its cycles and one more)
 
-It knows nothing of the programs. Levels are fractions of the channels' units, so that each decision is exact.
+It knows nothing of the programs. Levels are fractions of the channels' units, so that each decision is exact. The values of sine and
+cosine, which are part of the definition of waves, come from bench/detectors.py.
 """
 import math
 import os
 import random
 import sys
 from fractions import Fraction as F
+from functools import cache
 
+sys.path.insert(0, os.path.join(os.path.dirname(os.path.abspath(__file__)), "../../bench"))
+import detectors  # noqa: E402
+
+turned = cache(detectors.turned)
 RATE, LINE, PERIOD = 1200, 50, 24
 ONE = [F(1, 100)] * 3 + [F(1, 2)] * 3  # kV, A
 IDS = ["UA", "UB", "UC", "IA", "IB", "IC"]
@@ -27,6 +33,11 @@ detect LOAD change 1500 of IA window 12
 detect LOW frequency under 0.98 of 50 Hz of UA cycles 5 least 0.1 of 63.5 kV
 detect HIGH frequency over 51 of UA for 3 reset 50.9 cycles 5 least 6.35
 detect DRIFT frequency change 1 of UB window 800 cycles 8 least 6.35
+detect INRUSH harmonic 2 over 15 of IA,IB,IC for 24 reset 12 least 0.2 of 600 A
+detect NEG negative over 60 of IA+IB+IC for 6
+detect ZERO zero over 0.1 of 63.5 kV of UA+UB+UC for 6
+detect LESS positive under 0.85 of 63.5 kV of UA+UB+UC for 6 reset 0.9 of 63.5 kV
+detect OPEN unbalance over 20 of IA+IB+IC for 24 reset 15 least 60
 """
 # name, kind, channels, level, reset, for, window, cycles
 DETECTORS = (
@@ -38,8 +49,14 @@ DETECTORS = (
     + [("LOAD", "change", [3], F(1500), F(1500), 1, 12)]
     + [("LOW", "slower", [0], F(49), F(49), 1, 2 * 5 * PERIOD, 5), ("HIGH", "faster", [0], F(51), F("50.9"), 3, 2 * 5 * PERIOD, 5)]
     + [("DRIFT", "drifts", [1], F(1), F(1), 1, 800, 8)]
+    + [(f"INRUSH-I{p}", "harmonic", [3 + i], F(15), F(12), PERIOD, PERIOD) for i, p in enumerate("ABC")]
+    + [("NEG", "negative", [3, 4, 5], F(60), F(60), 6, PERIOD), ("ZERO", "zero", [0, 1, 2], F("6.35"), F("6.35"), 6, PERIOD)]
+    + [("LESS", "positive", [0, 1, 2], F("53.975"), F("57.15"), 6, PERIOD), ("OPEN", "unbalance", [3, 4, 5], F(20), F(15), 24, PERIOD)]
 )
 LEAST = F("6.35")
+# of a harmonic and of unbalance the least rms value; of each wave its order, and how many thirds of a turn each phase is behind the one before
+SMALLEST = {"harmonic": 120, "unbalance": 60}
+WAVES = {"harmonic": [(1, 0), (2, 0)], "unbalance": [(1, 1), (1, 2)], "positive": [(1, 1)], "negative": [(1, 2)], "zero": [(1, 0)]}
 
 
 class Case:
@@ -66,20 +83,20 @@ def inrush(t):
 
 
 CASES = {
-    "sag": Case(2, 0.5, "SAG-UA SAG-UB SAG-UC", lambda t: after(t, 0.5, phases([40] * 3, [300] * 3)) if t < 1 else QUIET),
+    "sag": Case(2, 0.5, "SAG-UA SAG-UB SAG-UC LESS", lambda t: after(t, 0.5, phases([40] * 3, [300] * 3)) if t < 1 else QUIET),
     "swell": Case(2, 0.5, "SWELL-UB WAVE", lambda t: after(t, 0.5, phases([63.5, 80, 63.5], [300] * 3))),
     # an earth fault of A becomes one of A and B
-    "evolving": Case(2, 0.5, "SAG-UA OVER-IA EARTH WAVE JUMP-IA LOAD SAG-UB@0.8 OVER-IB@0.8 JUMP-IB@0.8",
+    "evolving": Case(2, 0.5, "SAG-UA OVER-IA EARTH WAVE JUMP-IA LOAD NEG ZERO LESS OPEN SAG-UB@0.8 OVER-IB@0.8 JUMP-IB@0.8",
                      lambda t: after(t, 0.5, after(t, 0.8, phases([25, 30, 63.5], [2500, 2400, 300]), phases([30, 63.5, 63.5], [2500, 300, 300])))),
     # 40 kilohms on an isolated network: the currents change by a few amperes
     "resistance": Case(2, 0.5, "WAVE", lambda t: after(t, 0.5, phases([57, 66, 67], [304, 300, 300]))),
-    "inrush": Case(2, 0.5, "OVER-IA EARTH JUMP-IA LOAD", inrush),
+    "inrush": Case(2, 0.5, "OVER-IA EARTH JUMP-IA LOAD INRUSH-IA NEG OPEN", inrush),
     "load": Case(2, 0.5, "JUMP-IA JUMP-IB JUMP-IC", lambda t: after(t, 0.5, phases([63.5] * 3, [500] * 3))),
     "slow": Case(2, 0, "LOW@0.06", lambda t: QUIET, lambda t: 47.5),
     "fast": Case(2, 0, "HIGH", lambda t: QUIET, lambda t: 51.2),
     "ramp": Case(3, 1, "DRIFT", lambda t: QUIET, lambda t: 50 if t < 1 else max(49.2, 50 - 2 * (t - 1))),
     # UA and UB are missing in one row within the sag, and IA from a third of the fault on
-    "missing": Case(2, 0.5, "SAG-UA SAG-UB SAG-UC", lambda t: after(t, 0.5, phases([40] * 3, [300] * 3)), missing=((700, 0), (702, 1))),
+    "missing": Case(2, 0.5, "SAG-UA SAG-UB SAG-UC LESS", lambda t: after(t, 0.5, phases([40] * 3, [300] * 3)), missing=((700, 0), (702, 1))),
     "quiet": Case(20, 0, "", lambda t: QUIET, lambda t: 50 + 0.05 * math.sin(t / 3)),
 }
 
@@ -156,8 +173,43 @@ def window_met(kind, one, level, window, last):
     return size >= window * level**2 if kind == "over" else size <= window * level**2
 
 
+def shares_met(kind, one, square, other, levels):
+    """Whether the squares of a wave and of another, over a window, meet the levels: A or kV, or percent of the first one."""
+    if kind in SMALLEST:
+        least = (1 if kind == "harmonic" else 3) * PERIOD * math.ceil(SMALLEST[kind] / one)
+        return tuple(2 * square >= least**2 and 10000 * other >= level**2 * square for level in levels)
+    sizes = [(math.floor if kind == "positive" else math.ceil)(level / one) for level in levels]
+    return tuple((2 * square <= (3 * PERIOD * x) ** 2) if kind == "positive" else (2 * square >= (3 * PERIOD * x) ** 2) for x in sizes)
+
+
+def waves_met(detector, scans):
+    """The same of waves: the sums of the samples times a cosine and a sine that begin anew at each gap, over a window."""
+    _, kind, channels, *levels, _, window = detector
+    one, found, totals = ONE[channels[0]], [], []
+    for row in scans:
+        samples = [row[c] for c in channels]
+        if None in samples:
+            totals = []
+            found.append((False, False))
+            continue
+        k, parts = len(totals), []
+        for order, thirds in WAVES[kind]:
+            turns = [turned(3 * window, (3 * order * (k % window) - i * thirds * window) % (3 * window)) for i in range(len(samples))]
+            parts += [sum(x * turn[half] for x, turn in zip(samples, turns)) for half in (0, 1)]
+        totals.append([a + b for a, b in zip(totals[-1] if totals else [0] * 4, parts)])
+        if k + 1 < window:
+            found.append((False, False))
+            continue
+        before = totals[-1 - window] if k + 1 > window else [0] * len(parts)
+        sums = [(abs(a - b) // 16384) ** 2 for a, b in zip(totals[-1], before)]
+        found.append(shares_met(kind, one, sum(sums[:2]), sum(sums[2:]), levels))
+    return found
+
+
 def levels_met(detector, scans):
     """For each scan, whether the level and the reset level are met, over the samples since the last gap."""
+    if detector[1] in WAVES:
+        return waves_met(detector, scans)
     _, kind, channels, level, reset, _, window, *cycles = detector
     one, past, when, found = ONE[channels[0]], [], [], []
     for k, row in enumerate(scans):

@@ -1,4 +1,4 @@
-"""An hour of a line of 110 kV in which nothing happens, and then four disturbances, as a BINARY record of 1000 scans a second.
+"""An hour of a line of 110 kV in which nothing happens, and then five disturbances, as a BINARY record of 1000 scans a second.
 
     quiet_hour.py make FOLDER [SECONDS]    FOLDER/hour.cfg and .dat, and FOLDER/lines; the quiet time has so many seconds
     quiet_hour.py judge FOLDER [SECONDS]   what FOLDER/told, printed by `comtrade detect`, says of the quiet time, and of each detector
@@ -13,6 +13,8 @@ from array import array
 
 RATE, PERIOD, TURN = 1000, 20, 100_000  # a table has so many samples of one turn; a step of 5000 is 50 Hz
 RATED = 63.5
+ORDERS = {"second": 2, "third": 3, "fifth": 5, "seventh": 7}
+INRUSH = 2  # the shape of such a current
 MIDDLE = 512  # noise is kept with so much added, and waves with 32768 less that
 LINES = """detect SAG rms under 0.85 of 63.5 kV of UA,UB,UC for 5 reset 0.9 of 63.5 kV
 detect SWELL rms over 1.2 of 63.5 kV of UA,UB,UC reset 1.15 of 63.5 kV
@@ -24,19 +26,27 @@ detect LOAD change 1500 of IA window 10
 detect LOW frequency under 49.5 of UA for 20 reset 49.7 least 0.1 of 63.5 kV
 detect HIGH frequency over 50.5 of UA for 20 reset 50.3 least 0.1 of 63.5 kV
 detect DRIFT frequency change 1 of UB cycles 5 least 0.1 of 63.5 kV
+detect INRUSH harmonic 2 over 15 of IA,IB,IC for 20 reset 12 least 0.2 of 600 A
+detect FIFTH harmonic 5 over 30 of IA,IB,IC for 20 least 0.1 of 600 A
+detect NEG negative over 0.1 of 600 A of IA+IB+IC for 10
+detect ZERO zero over 0.1 of 63.5 kV of UA+UB+UC for 10
+detect LESS positive under 0.85 of 63.5 kV of UA+UB+UC for 5 reset 0.9 of 63.5 kV
+detect OPEN unbalance over 20 of IA+IB+IC for 20 reset 15 least 0.1 of 600 A
 """
 # the detectors and, of those that have to fire, how many seconds after the quiet time their disturbance begins, and within how many scans they fire
 DUE = {
     "SAG-UA": (0, PERIOD + 5), "OVER-IA": (0, PERIOD), "EARTH": (0, PERIOD + 10), "WAVE": (0, PERIOD + 10), "JUMP-IA": (0, PERIOD),
-    "LOAD": (0, PERIOD), "SWELL-UB": (2, PERIOD), "LOW": (4, 11 * PERIOD + 20), "DRIFT": (4, 11 * PERIOD), "HIGH": (8, 11 * PERIOD + 20),
+    "LOAD": (0, PERIOD), "NEG": (0, PERIOD + 10), "ZERO": (0, PERIOD + 10), "LESS": (0, PERIOD + 5), "OPEN": (0, PERIOD + 20), "SWELL-UB": (2, PERIOD), "LOW": (4, 11 * PERIOD + 20), "DRIFT": (4, 11 * PERIOD), "HIGH": (8, 11 * PERIOD + 20),
+    "INRUSH-IA": (11, PERIOD + 20),
 }
 ALL = [*(f"SAG-U{p}" for p in "ABC"), *(f"SWELL-U{p}" for p in "ABC"), *(f"OVER-I{p}" for p in "ABC"), "EARTH", "WAVE",
-       *(f"JUMP-I{p}" for p in "ABC"), "LOAD", "LOW", "HIGH", "DRIFT"]
+       *(f"JUMP-I{p}" for p in "ABC"), "LOAD", "LOW", "HIGH", "DRIFT", *(f"{name}-I{p}" for name in ("INRUSH", "FIFTH") for p in "ABC"),
+       "NEG", "ZERO", "LESS", "OPEN"]
 
 
-def turn(fifth, seventh):
-    """A turn of a wave with these harmonics, of peak 1."""
-    waves = [(1, 1.0), (5, fifth), (7, seventh)]
+def turn(**parts):
+    """A turn of a wave of peak 1, with these shares of harmonics."""
+    waves = [(1, 1.0)] + [(ORDERS[name], part) for name, part in parts.items()]
     return [sum(part * math.sin(2 * math.pi * n * k / TURN) for n, part in waves) for k in range(TURN)]
 
 
@@ -52,18 +62,18 @@ class Line:
 
     def __init__(self, rng):
         self.rng, self.at = rng, [0, 2 * TURN // 3, TURN // 3, 0, 2 * TURN // 3, TURN // 3]
-        self.shapes, self.tables = [turn(0.02, 0.01), turn(0.03, 0.02)], {}
+        self.shapes, self.tables = [turn(fifth=0.02, seventh=0.01), turn(fifth=0.03, seventh=0.02), turn(second=0.55, third=0.2)], {}
         self.noise = [array("H", (MIDDLE + round(rng.gauss(0, size)) for _ in range(131_071))) for size in (12, 6)]
 
-    def table(self, kind, size):
-        """A turn in samples: of so many kV rms with 0.01 kV each, or A with 0.5 A each."""
-        if (kind, size) not in self.tables:
-            peak = size * math.sqrt(2) / (0.01, 0.5)[kind]
-            self.tables[kind, size] = array("H", (32768 - MIDDLE + round(peak * x) for x in self.shapes[kind]))
-        return self.tables[kind, size]
+    def table(self, shape, size):
+        """A turn in samples, whose first harmonic has so many kV rms with 0.01 kV each, or A with 0.5 A each."""
+        if (shape, size) not in self.tables:
+            peak = size * math.sqrt(2) / (0.01, 0.5, 0.5)[shape]
+            self.tables[shape, size] = array("H", (32768 - MIDDLE + round(peak * x) for x in self.shapes[shape]))
+        return self.tables[shape, size]
 
     def channel(self, i, size, step, scans):
-        table, found, at = self.table(i // 3, size), array("H"), self.at[i]
+        table, found, at = self.table(*(size if isinstance(size, tuple) else (i // 3, size))), array("H"), self.at[i]
         while len(found) < scans:
             part = table[at::step]
             found.extend(part)
@@ -87,7 +97,7 @@ class Line:
 
 
 def blocks(rng, seconds):
-    """Of each block its six rms values, its step, and its scans."""
+    """Of each block its six rms values, or shapes with theirs; its step, and its scans."""
     load, wander = 330, 0
     for _ in range(seconds):
         load = min(420, max(240, load + rng.choice([-40, -10, -10, 0, 0, 0, 10, 10, 40])))
@@ -100,6 +110,8 @@ def blocks(rng, seconds):
     yield quiet, 5000, RATE
     for step in (4880, 5000, 5120):
         yield quiet, step, 2 * RATE
+    yield quiet, 5000, RATE
+    yield [RATED] * 3 + [(INRUSH, load), load, load], 5000, RATE
 
 
 def make(folder, seconds):

@@ -1,4 +1,4 @@
-# detectors over an hour of a line that wanders and is noisy, in which none fires, and over four disturbances after it, in which each fires
+# detectors over an hour of a line that wanders and is noisy, in which none fires, and over five disturbances after it, in which each fires
 # in time
 command -v python3 > /dev/null || { echo "python3 isn't here" >&2; exit 77; }
 work=$(mktemp -d)

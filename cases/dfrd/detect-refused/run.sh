@@ -87,6 +87,8 @@ try 'detect A negative over 5 of DC+DC+DC'
 try 'detect A negative over 1500.1 of IA+IA+IA'
 try 'detect A negative over 5 of IA+IA+IA window 11'
 try 'detect A unbalance over 15 of IA+IA+IA window 4097 least 1'
+# a part of a share in amperes
+try 'detect A harmonic 2 over 0.5 of 30 A of IA least 1'
 # and none
 try 'detect A rms over 500 of IA'
 try 'detect A change 1000 of IA'
@@ -105,6 +107,7 @@ try 'detect A frequency under 49.0009 of IA for 3 reset 49.1 window 205 cycles 1
 try 'detect A frequency change 0.5 of IB window 40 cycles 10 least 250'
 try 'detect A frequency change 0.5004 of IA cycles 64 least 500'
 try 'detect A harmonic 2 over 15.02 of IA reset 12 least 100.2'
+try 'detect A harmonic 2 over 0.5 of 30 % of IA reset 0.4 of 30 % least 1'
 try 'detect A positive under 5.3 of IA+IA+IA for 3'
 try 'detect A zero over 5 of IA+IA+IA window 12'
 try 'detect A unbalance over 100 of IA+IA+IA window 4096 least 500'

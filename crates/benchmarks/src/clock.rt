@@ -5,6 +5,7 @@
 //! `close`, which dates the oldest one marked; `state`. A reading is a count of scans, the wall clock, the monotonic clock. Scans are
 //! counted without the lost ones that were asked for up to then. A line of another form ends the program with its number.
 
+use crate::words::{number, small};
 use anyhow::{Context, Result, bail};
 use dfr_clock::{Answer, Drift, Jump, Reading, Settings, Timebase};
 use std::alloc::AllocGlobal;
@@ -18,18 +19,6 @@ struct Trace {
     marks: VecDeque<u64>,
     start: u64,
     lost: u64,
-}
-
-/// The next number.
-fn number(words: &mut Split<'_, char>) -> Result<u64> {
-    let word = words.next().context("a number is missing")?;
-    word.parse::<u64>().ok().context("no number of 64 bits")
-}
-
-fn small(words: &mut Split<'_, char>) -> Result<u32> {
-    u32::try_from(number(words)?)
-        .ok()
-        .context("no number of 32 bits")
 }
 
 fn settings_in(words: &mut Split<'_, char>) -> Result<Settings> {

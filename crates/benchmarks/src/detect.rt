@@ -3,6 +3,7 @@
 
 use crate::amount::Amount;
 use crate::calls::clock::{Least, now, since};
+use crate::words::{number, small};
 use anyhow::{Context, Result, bail};
 use dfr_channels::Reading;
 use dfr_detect::{
@@ -12,18 +13,6 @@ use dfr_detect::{
 use std::alloc::{AllocGlobal, Global};
 use std::rt::Clock;
 use std::str::Split;
-
-/// The next number.
-fn number(words: &mut Split<'_, char>) -> Result<u64> {
-    let word = words.next().context("a number is missing")?;
-    word.parse::<u64>().ok().context("no number of 64 bits")
-}
-
-fn small(words: &mut Split<'_, char>) -> Result<u32> {
-    u32::try_from(number(words)?)
-        .ok()
-        .context("no number of 32 bits")
-}
 
 /// A test of a frequency, by the numbers behind its kind.
 fn frequency_in(test: FrequencyIs, parts: &mut Split<'_, char>) -> Result<Condition> {

@@ -23,6 +23,7 @@ mod maker;
 mod numbers;
 mod soak;
 mod station;
+mod words;
 
 use crate::amount::Amount;
 use anyhow::{Context, Result};

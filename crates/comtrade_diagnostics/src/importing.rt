@@ -98,7 +98,8 @@ fn exact<A: Allocator + Copy>(
     cfg: &[u8],
     dat: &[u8],
 ) -> Result<Option<Imported<A>>, ImportFault>
-    ensures reads { IfOk result (λ found. IfSome found (λ done. Reads done.cfg.items done.dat.items done.file)) }
+    ensures reads { IfOk result
+        (λ found. IfSome found (λ done. Reads done.cfg.items done.dat.items done.file)) }
     ensures same { IfOk result (λ found. IfSome found (λ done. Reads cfg.now dat.now done.file)) }
     ensures untold { IfOk result (λ found. IfSome found (λ done. done.notes.items ≡ [])) }
 {
@@ -134,7 +135,8 @@ fn is_as_given<A: Allocator + Copy>(
     done: &Imported<A>,
 ) -> Result<bool, ImportFault>
     requires { Reads done.now.cfg.items done.now.dat.items done.now.file }
-    ensures { IfOk result (λ same. same ≡ true → (file : FileParts) → Reads cfg.now dat.now file → file ≡ done.now.file) }
+    ensures { IfOk result (λ same. same ≡ true
+        → (file : FileParts) → Reads cfg.now dat.now file → file ≡ done.now.file) }
 {
     one_file();
     let literal = match read(alloc, cfg, dat) {
@@ -159,8 +161,10 @@ pub fn import<A: Allocator + Copy>(
     choices: Choices,
 ) -> Result<Imported<A>, Refusal>
     ensures reads { IfOk result (λ done. Reads done.cfg.items done.dat.items done.file) }
-    ensures exact { IfOk result (λ done. done.is_exact ≡ true → (Reads cfg.now dat.now done.file) × (done.notes.items ≡ [])) }
-    ensures untold { IfOk result (λ done. done.notes.items ≡ [] → (file : FileParts) → Reads cfg.now dat.now file → file ≡ done.file) }
+    ensures exact { IfOk result (λ done. done.is_exact ≡ true
+        → (Reads cfg.now dat.now done.file) × (done.notes.items ≡ [])) }
+    ensures untold { IfOk result (λ done. done.notes.items ≡ []
+        → (file : FileParts) → Reads cfg.now dat.now file → file ≡ done.file) }
 {
     match exact(alloc, cfg, dat) {
         Ok(Some(imported)) => {

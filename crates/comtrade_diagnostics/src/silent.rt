@@ -41,7 +41,7 @@ where
     }
 }
 
-/// The number of a row or channel, from its index.
+/// The number of a row or channel, from its index. No list is so long that this saturates.
 fn number(index: usize) -> u64 {
     (index as u64).saturating_add(1)
 }

@@ -73,7 +73,8 @@ fn first_in_row<A: Allocator>(
     unfit: &[bool],
 ) -> Option<usize>
     ensures none { result ≡ None → spec.IsRowTold notes.now unfit.now row own.now written.now }
-    ensures some { IfSome result (λ channel. spec.IsToldAt notes.now unfit.now row channel (slice_get own.now channel) (slice_get written.now channel) → ⊥) }
+    ensures some { IfSome result (λ channel. spec.IsToldAt notes.now unfit.now row channel
+        (slice_get own.now channel) (slice_get written.now channel) → ⊥) }
 {
     for channel in 0..own.len().max(written.len()) {
         let (x, y) = (at(own, channel), at(written, channel));

@@ -33,7 +33,8 @@ impl<A: Allocator> Model for Sum<A> {
 
     ghost view = { λ s. record { channels = s.channels.items; a = s.a; most = s.most } };
 
-    ghost invariant = { λ s. (length s.channels.items ≤ 256) × (s.most ≤ length s.channels.items * 2 ^ 31) };
+    ghost invariant = { λ s. (length s.channels.items ≤ 256)
+        × (s.most ≤ length s.channels.items * 2 ^ 31) };
 }
 
 /// The parts of a text, separated by this byte.
@@ -188,7 +189,8 @@ pub(crate) fn sum_of<A: Allocator + Copy>(
     test: Test,
     text: &[u8],
 ) -> Result<Sum<A>, DetectorRefusal>
-    ensures { Is (λ x. x) (spec.with_words channels.now test spec.no_sum (slice_split (λ b. b == 43) text.now)) result }
+    ensures { Is (λ x. x)
+        (spec.with_words channels.now test spec.no_sum (slice_split (λ b. b == 43) text.now)) result }
 {
     let words = parts_of(alloc, text, b'+')?;
     let mut sum = Sum::new(alloc);

@@ -128,7 +128,8 @@ fn settings_over<A: Allocator>(
     largest: u64,
 ) -> Result<Settings, DetectorFault>
     requires { largest ≤ 2 ^ 40 }
-    ensures value { result ≡ spec.settings_over setup.now wish.now (texts words.now) channels.now multiplier largest }
+    ensures value { result
+        ≡ spec.settings_over setup.now wish.now (texts words.now) channels.now multiplier largest }
     ensures fits { IfOk result (λ s. settings_fault s ≡ None) }
 {
     if !has_units(wish.test, setup.analog.items(), channels, words, wish.units) {
@@ -174,7 +175,8 @@ pub(crate) fn plan_of<A: Allocator + Copy>(
     name: Vec<u8, A>,
     text: &[u8],
 ) -> Result<Plan<A>, DetectorRefusal>
-    ensures { Is (λ x. x) (spec.plan_of setup.now wish.now (texts words.now) name.items text.now) result }
+    ensures { Is (λ x. x)
+        (spec.plan_of setup.now wish.now (texts words.now) name.items text.now) result }
 {
     let Sum { channels, a, most } = whole_sum(alloc, setup.analog.items(), wish.test, text)?;
     let settings = settings_over(setup, wish, words, &channels, a, most)?;

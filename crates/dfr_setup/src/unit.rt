@@ -64,7 +64,8 @@ fn fits_levels<A: Allocator>(
     words: &[&[u8]],
     place: Option<usize>,
 ) -> bool
-    ensures { result ≡ spec.if_named (spec.is_levels test channels.now numbers.now) (texts words.now) place }
+    ensures { result
+        ≡ spec.if_named (spec.is_levels test channels.now numbers.now) (texts words.now) place }
 {
     match place {
         Some(i) => is_levels(test, channels, numbers, word_at(words, i)),
@@ -79,7 +80,8 @@ fn fits_channels<A: Allocator>(
     words: &[&[u8]],
     place: Option<usize>,
 ) -> bool
-    ensures { result ≡ spec.if_named (spec.is_theirs channels.now numbers.now) (texts words.now) place }
+    ensures { result
+        ≡ spec.if_named (spec.is_theirs channels.now numbers.now) (texts words.now) place }
 {
     match place {
         Some(i) => is_theirs(channels, numbers, word_at(words, i)),

@@ -209,7 +209,8 @@ fn read<T>(value: Option<T>) -> Result<T, DetectorFault>
 fn places_of(words: &[&[u8]], at: usize) -> Places
     requires { at ≤ 8 }
     ensures value { result ≡ spec.places (texts words.now) at }
-    ensures bound { (result.reset ≤ 100) × (result.window ≤ 100) × (result.cycles ≤ 100) × (result.least ≤ 100) }
+    ensures bound { (result.reset ≤ 100) × (result.window ≤ 100)
+        × (result.cycles ≤ 100) × (result.least ≤ 100) }
 {
     let row = at + 3;
     let reset = behind(words, "for", row);
@@ -273,7 +274,8 @@ fn numbers_of(
     requires first { first ≤ 5 }
     requires at { at ≤ 8 }
     requires row { places.row ≤ 100 }
-    requires places { (places.reset ≤ 100) × (places.window ≤ 100) × (places.cycles ≤ 100) × (places.least ≤ 100) }
+    requires places { (places.reset ≤ 100) × (places.window ≤ 100)
+        × (places.cycles ≤ 100) × (places.least ≤ 100) }
     ensures value { result ≡ spec.numbers (texts words.now) test first at places }
     ensures bound { IfOk result (λ wish. wish.at ≤ 8) }
 {
