@@ -58,13 +58,12 @@ fn body_of<A: Allocator + Copy>(
         undo_wraps(notes, &mut survey.ticks, draft.timemult)?;
     }
     let times = times_in(alloc, notes, draft, &survey, ground.is_text())?;
-    let form = draft.form;
     let Channels {
         analog,
         said,
         status: _,
     } = &mut draft.channels;
-    let mut made = settle_channels(alloc, notes, analog, said, &survey, (ground, form))?;
+    let mut made = settle_channels(alloc, notes, analog, said, &survey, ground)?;
     let rows = rows_of(alloc, ground, &mut made, &times.stamps)?;
     tell_errors(notes, analog, &made)?;
     let Times {

@@ -108,17 +108,17 @@ fn made_of<A: Allocator + Copy>(
     Ok(made)
 }
 
-/// Notes how the samples change.
+/// Notes how the samples change, by the form in which they were found.
 fn tell_samples<A: Allocator + Copy>(
     notes: &mut Notes<A>,
-    form: Option<Form>,
+    form: Form,
     survey: &Survey<A>,
     made: &[Made],
 ) -> Result<(), ImportFault> {
     if survey.has_points {
         notes.tell(Key::ValuesDecimal, Place::Whole("data file"), &[])?;
     }
-    if form == Some(Form::Float32) {
+    if form == Form::Float32 {
         return Ok(());
     }
     let mut number = 0u64;
@@ -140,9 +140,8 @@ pub(crate) fn settle_channels<A: Allocator + Copy>(
     channels: &mut Vec<AnalogChannel<A>, A>,
     said: &[Said],
     survey: &Survey<A>,
-    ground: (Ground<'_>, Option<Form>),
+    ground: Ground<'_>,
 ) -> Result<Vec<Made, A>, ImportFault> {
-    let (ground, form) = ground;
     let mut list = Vec::new(alloc);
     for (i, channel) in channels.iter_mut().enumerate() {
         let (Some(said), Some(span)) = (said.get(i), survey.spans.get(i)) else {
@@ -151,7 +150,7 @@ pub(crate) fn settle_channels<A: Allocator + Copy>(
         let is_unsigned = ground.unsigned.get(i).copied().unwrap_or(false);
         list.push(made_of(notes, channel, *said, span, (is_unsigned, ground))?)?;
     }
-    tell_samples(notes, form, survey, &list)?;
+    tell_samples(notes, ground.plan.form(), survey, &list)?;
     Ok(list)
 }
 
