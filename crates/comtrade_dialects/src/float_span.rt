@@ -17,28 +17,23 @@ pub(crate) struct FloatSpan {
 
 /// A number that compares as the floats do: the bits without the sign, negated if the sign is set.
 fn place_of(bits: u32) -> i32 {
-    let size = i32::try_from(bits & 0x7fff_ffff).unwrap_or(i32::MAX);
-    if bits.wrapping_shr(31) == 1 {
-        size.wrapping_neg()
-    } else {
-        size
-    }
+    let size = (bits & 0x7fff_ffff) as i32;
+    if bits >> 31 == 1 { -size } else { size }
 }
 
 /// The greatest n for which a float is a multiple of 2^n; 0 is a multiple of every power.
 fn step_of(bits: u32) -> i32 {
-    let exponent = bits.wrapping_shr(23) & 0xff;
+    let exponent = bits >> 23 & 0xff;
     let fraction = bits & 0x7f_ffff;
     let (mant, exponent) = if exponent == 0 {
         (fraction, 1)
     } else {
-        (fraction | 0x80_0000, exponent)
+        (fraction + 0x80_0000, exponent)
     };
     if mant == 0 {
         return i32::MAX;
     }
-    let twos = exponent.saturating_add(mant.trailing_zeros());
-    i32::try_from(twos).unwrap_or(0).saturating_sub(150)
+    (exponent + mant.trailing_zeros()) as i32 - 150
 }
 
 impl FloatSpan {
@@ -65,7 +60,7 @@ impl FloatSpan {
         self.most = self.most.max(place);
         self.span.add(num, bounds);
         if 0 <= self.span.need {
-            self.step = 0i32.saturating_sub(self.span.need);
+            self.step = -self.span.need;
         }
     }
 

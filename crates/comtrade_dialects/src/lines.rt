@@ -5,10 +5,10 @@ use crate::fault::{ImportFault, Why};
 use crate::field::Parts;
 use crate::key::Key;
 use crate::note::{Notes, Place};
-use crate::num::spelled_of;
-use crate::spelled::{cut_to, plain_of};
+use crate::numeral::spelled_of;
+use crate::spelled::{cut_to, numbered, plain_of};
 use crate::text::without_nuls;
-use comtrade_values::{Decimal, Items, put, put_number};
+use comtrade_values::{Decimal, Items};
 use std::alloc::{AllocError, Allocator};
 
 /// The remaining lines, the separator between their fields, and the notes so far.
@@ -170,14 +170,13 @@ pub(crate) fn text_of<A: Allocator + Copy>(
         return Ok(Items::of(Vec::from_slice(alloc, whole)?));
     }
     notes.tell_text(Key::TextLong, place, whole)?;
-    let mut end = Vec::new(alloc);
-    if let Some(number) = number {
-        put(&mut end, "~")?;
-        put_number(&mut end, number)?;
+    let Some(number) = number else {
+        return Ok(Items::of(Vec::from_slice(alloc, cut_to(whole, most))?));
+    };
+    match numbered(alloc, whole, most, number)? {
+        Some(short) => Ok(Items::of(short)),
+        None => Err(at(line, Why::ManyChannels)),
     }
-    let mut short = Vec::from_slice(alloc, cut_to(whole, most.saturating_sub(end.len())))?;
-    short.extend_from_slice(&end)?;
-    Ok(Items::of(short))
 }
 
 /// A phase; one of more than two bytes is left out.

@@ -3,7 +3,7 @@
 use crate::cursor::Cursor;
 use crate::draft::Revision;
 use crate::field::Fields;
-use crate::num::spelled_of;
+use crate::numeral::spelled_of;
 use crate::row::{Counts, Plan};
 use memchr::memchr;
 use std::alloc::{AllocError, Allocator};
@@ -20,13 +20,11 @@ fn may_have_points(text: &[u8], mark: u8) -> bool {
 fn has_nines(text: &[u8]) -> bool {
     let mut count = 0u8;
     for b in text {
-        if *b != b'9' {
-            count = 0;
-        } else if count == 4 {
-            return true;
-        } else {
-            count = count.saturating_add(1);
-        }
+        count = match (*b, count) {
+            (b'9', 0..=3) => count + 1,
+            (b'9', _) => return true,
+            _ => 0,
+        };
     }
     false
 }

@@ -65,7 +65,7 @@ impl<A: Allocator> Note<A> {
 
     /// Adds the place and the piece to the details, if there is room.
     fn add(&mut self, place: Place, piece: &[u8]) -> Result<(), AllocError> {
-        self.count = self.count.saturating_add(1);
+        self.count = self.count.saturating_add(1); // (no file has 2^64 repairs)
         if DETAILS < self.details.len() {
             return Ok(());
         }

@@ -13,16 +13,17 @@ pub(crate) fn has_only(text: &[u8], bytes: &[u8]) -> bool {
     true
 }
 
-/// A text without the lines at its end that contain only blanks, zeros and separators.
-pub(crate) fn without_empty_end(text: &[u8], mark: u8) -> &[u8] {
-    let mut end = 0usize;
+/// A text without the lines at its end that contain only blanks, zeros and separators, and these
+/// lines.
+pub(crate) fn without_empty_end(text: &[u8], mark: u8) -> (&[u8], &[u8]) {
+    let mut parts = (&text[..0], text);
     let mut is_empty = true;
     let mut before = b'\n';
     for (i, b) in text.iter().enumerate() {
         match *b {
             b'\r' | b'\n' => {
-                if !is_empty || before == b'\r' && end == i {
-                    end = i.saturating_add(1);
+                if !is_empty || before == b'\r' && parts.0.len() == i {
+                    parts = (&text[..i + 1], &text[i + 1..]);
                 }
                 is_empty = true;
             }
@@ -32,9 +33,9 @@ pub(crate) fn without_empty_end(text: &[u8], mark: u8) -> &[u8] {
         before = *b;
     }
     if is_empty {
-        text.get(..end).unwrap_or(text)
+        parts
     } else {
-        text
+        (text, &text[text.len()..])
     }
 }
 
@@ -50,11 +51,21 @@ pub(crate) fn without_nuls(text: &[u8]) -> &[u8] {
     inner
 }
 
-/// The position of the first of these bytes.
-pub(crate) fn place_of(text: &[u8], bytes: &[u8]) -> Option<usize> {
+/// The texts before the first of these bytes, and from it on.
+pub(crate) fn before_any<'a>(text: &'a [u8], bytes: &[u8]) -> Option<(&'a [u8], &'a [u8])> {
     for (i, b) in text.iter().enumerate() {
         if bytes.contains(b) {
-            return Some(i);
+            return Some((&text[..i], &text[i..]));
+        }
+    }
+    None
+}
+
+/// The texts before and after the first of these bytes.
+pub(crate) fn around_any<'a>(text: &'a [u8], bytes: &[u8]) -> Option<(&'a [u8], &'a [u8])> {
+    for (i, b) in text.iter().enumerate() {
+        if bytes.contains(b) {
+            return Some((&text[..i], &text[i + 1..]));
         }
     }
     None
