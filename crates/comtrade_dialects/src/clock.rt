@@ -54,7 +54,8 @@ impl<A: Allocator + Copy> Clock<A> {
             };
             from = match border {
                 Border::Old => rate.endsamp,
-                Border::New => rate.endsamp.max(1) - 1,
+                Border::New if 0 < rate.endsamp => rate.endsamp - 1,
+                Border::New => 0,
             };
             match run.time_of(from) {
                 Some(time) if 0 < run.units => base = time,

@@ -200,7 +200,9 @@ impl<'a, A: Allocator + Copy> Data<'a, '_, A> {
         if !own.runs {
             return Err(ImportFault::Whole(Why::Length));
         }
-        let row = own.packed.count() as u64 + 1;
+        let Some(row) = (own.packed.count() as u64).checked_add(1) else {
+            return Err(ImportFault::Whole(Why::Length));
+        };
         self.notes.tell(Key::RowCut, Place::Row(row), &[])?;
         Ok(Plan::Packed(own.packed))
     }

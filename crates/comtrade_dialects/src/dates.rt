@@ -65,11 +65,10 @@ fn month_of(text: &[u8]) -> Option<u32> {
 
 /// The full year of a year of two digits: 70 to 99 are in the 20th century.
 fn full_year(year: u32, digits: usize) -> u32 {
-    match (digits, year) {
-        (2, 0..=69) => year + 2000,
-        (2, 70..=99) => year + 1900,
-        _ => year,
+    if digits != 2 || 99 < year {
+        return year;
     }
+    if year < 70 { year + 2000 } else { year + 1900 }
 }
 
 /// The parts of a date.

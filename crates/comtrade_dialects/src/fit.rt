@@ -90,8 +90,12 @@ impl Steps {
             count = MOST;
             off = from.unsigned_abs().checked_sub(MOST.checked_mul(unit)?)?;
         }
-        let count = count as i64;
-        let count = if from < 0 { -count } else { count };
+        let count = i64::try_from(count).ok()?;
+        let count = if from < 0 {
+            count.checked_neg()?
+        } else {
+            count
+        };
         Some((count, i64::try_from(off).ok()?))
     }
 

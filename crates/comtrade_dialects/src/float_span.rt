@@ -11,7 +11,7 @@ pub(crate) struct FloatSpan {
     most: i32,
     /// All are multiples of 2^step; the greatest such number while a power of ten may divide
     /// them all.
-    step: i32,
+    step: i64,
     span: Span,
 }
 
@@ -22,7 +22,7 @@ fn place_of(bits: u32) -> i32 {
 }
 
 /// The greatest n for which a float is a multiple of 2^n; 0 is a multiple of every power.
-fn step_of(bits: u32) -> i32 {
+fn step_of(bits: u32) -> i64 {
     let exponent = bits >> 23 & 0xff;
     let fraction = bits & 0x7f_ffff;
     let (mant, exponent) = if exponent == 0 {
@@ -31,9 +31,9 @@ fn step_of(bits: u32) -> i32 {
         (fraction + 0x80_0000, exponent)
     };
     if mant == 0 {
-        return i32::MAX;
+        return i64::MAX;
     }
-    (exponent + mant.trailing_zeros()) as i32 - 150
+    i64::from(exponent) + i64::from(mant.trailing_zeros()) - 150
 }
 
 impl FloatSpan {
@@ -41,7 +41,7 @@ impl FloatSpan {
         FloatSpan {
             least: i32::MAX,
             most: i32::MIN,
-            step: i32::MAX,
+            step: i64::MAX,
             span: Span::new(),
         }
     }
@@ -60,7 +60,7 @@ impl FloatSpan {
         self.most = self.most.max(place);
         self.span.add(num, bounds);
         if 0 <= self.span.need {
-            self.step = -self.span.need;
+            self.step = -i64::from(self.span.need);
         }
     }
 

@@ -20,11 +20,13 @@ fn may_have_points(text: &[u8], mark: u8) -> bool {
 fn has_nines(text: &[u8]) -> bool {
     let mut count = 0u8;
     for b in text {
-        count = match (*b, count) {
-            (b'9', 0..=3) => count + 1,
-            (b'9', _) => return true,
-            _ => 0,
-        };
+        if *b != b'9' {
+            count = 0;
+        } else if count < 4 {
+            count += 1;
+        } else {
+            return true;
+        }
     }
     false
 }

@@ -104,11 +104,10 @@ impl Num {
     /// A whole number that compares as the numbers do, if none is a multiple of a power of ten: the
     /// exponent of the power of two above it, followed by the bits of its magnitude.
     pub(crate) fn place(self) -> i128 {
-        if self.mant == 0 {
-            return 0;
-        }
         let size = self.mant.unsigned_abs();
-        let bits = size << size.leading_zeros();
+        let Some(bits) = size.checked_shl(size.leading_zeros()) else {
+            return 0; // (0 alone has 64 leading zeros)
+        };
         let twos = i128::from(self.twos() + 10_000);
         let place = twos * BITS + i128::from(bits);
         if self.mant < 0 { -place } else { place }
@@ -181,8 +180,8 @@ pub(crate) fn num_of_float(bits: u32) -> Option<Num> {
     if size.mant == 0 {
         return Some(Num::of(0));
     }
-    let zeros = size.mant.trailing_zeros();
-    let mant = i64::from(size.mant.checked_shr(zeros)?);
+    let zeros = size.mant.trailing_zeros().min(23);
+    let mant = i64::from(size.mant >> zeros);
     let two = size.two + zeros as i32;
     let mant = if bits >> 31 == 1 { -mant } else { mant };
     if 0 <= two && two < 39 {

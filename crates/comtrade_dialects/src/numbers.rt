@@ -35,7 +35,7 @@ pub(crate) fn run_of(ticks: &[Tick]) -> Run {
         is_plain = is_plain && tick.number == wanted;
         if let Some(before) = before {
             rises = rises && before < tick.number;
-            has_gap = has_gap || before < tick.number && 1 < tick.number.abs_diff(before);
+            has_gap = has_gap || lost_between(before, tick.number).is_some();
         }
         before = Some(tick.number);
     }
@@ -49,12 +49,15 @@ pub(crate) fn run_of(ticks: &[Tick]) -> Run {
     }
 }
 
-/// How many rows are lost between two numbers.
-fn lost_between(before: i64, number: i64) -> u64 {
+/// How many rows are lost between two numbers, if any are.
+fn lost_between(before: i64, number: i64) -> Option<u64> {
     if number <= before {
-        return 0;
+        return None;
     }
-    number.abs_diff(before) - 1
+    match number.abs_diff(before).checked_sub(1)? {
+        0 => None,
+        lost => Some(lost),
+    }
 }
 
 /// Notes where rows are lost, and how many.
@@ -65,8 +68,7 @@ pub(crate) fn tell_lost<A: Allocator + Copy>(
     let mut before: Option<i64> = None;
     for (row, tick) in (1u64..).zip(ticks) {
         if let Some(before) = before {
-            let gap = lost_between(before, tick.number);
-            if 0 < gap {
+            if let Some(gap) = lost_between(before, tick.number) {
                 let mut piece = Vec::new(notes.allocator());
                 put_number(&mut piece, gap)?;
                 put(

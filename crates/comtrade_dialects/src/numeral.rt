@@ -34,20 +34,19 @@ impl Digits {
     fn with(self, digit: u8) -> Option<Digits>
         requires { digit < 10 }
     {
-        let fits = self.mant < ROOM;
-        let mant = if fits {
-            self.mant * 10 + u64::from(digit)
-        } else {
-            self.mant
-        };
-        let ten = match (fits, self.is_after) {
-            (true, true) => self.ten.checked_sub(1)?,
-            (false, false) => self.ten.checked_add(1)?,
-            _ => self.ten,
-        };
+        if self.mant < ROOM {
+            let places = if self.is_after { 1 } else { 0 };
+            return Some(Digits {
+                mant: self.mant * 10 + u64::from(digit),
+                ten: self.ten.checked_sub(places)?,
+                is_after: self.is_after,
+                has_any: true,
+            });
+        }
+        let zeros = if self.is_after { 0 } else { 1 };
         Some(Digits {
-            mant,
-            ten,
+            mant: self.mant,
+            ten: self.ten.checked_add(zeros)?,
             is_after: self.is_after,
             has_any: true,
         })

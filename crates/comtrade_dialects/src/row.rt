@@ -1,6 +1,6 @@
 //! Iterates over rows of data of any form.
 
-ghost use Rattle.std.specs.Prelude.{◌≤◌, ◌<◌, ◌^◌};
+ghost use Rattle.std.specs.Prelude.{◌≤◌};
 
 use crate::cursor::{Cursor, Line};
 use crate::fault::Why;
@@ -25,9 +25,7 @@ pub(crate) struct Packed<'a> {
 
 impl Packed<'_> {
     /// The number of rows.
-    pub(crate) fn count(&self) -> usize
-        ensures { result < 2 ^ 63 }
-    {
+    pub(crate) fn count(&self) -> usize {
         self.bytes.len() / self.size
     }
 }

@@ -1,6 +1,5 @@
 //! Numbers as whole multiples of a power of ten.
 
-ghost use Rattle.std.specs.Prelude.{◌≤◌};
 ghost use Rattle.jiff_core.specs.Calendar.{IsWithin};
 
 use crate::num::{Num, ten_to};
@@ -9,43 +8,32 @@ use crate::num::{Num, ten_to};
 #[derive(Clone, Copy)]
 pub(crate) struct Scale {
     pub shift: i32,
-    fives: u128,
+    fives: Option<u128>,
     /// The same if it has at most 39 bits.
     short: Option<u64>,
     ghost near: { IsWithin 60 shift },
 }
 
-/// The greatest shift: the product of a float's 24 bits and 5^44 has at most 127 bits.
-const MOST: i32 = 44;
-
-/// The least shift.
-const LEAST: i32 = -60;
-
 /// The greatest power of five that has at most 39 bits.
 const SHORT: u32 = 16;
 
-/// 5^n, for n up to 44.
-fn five_to(n: u32) -> u128
-    requires { n ≤ 44 }
-{
-    let mut power = 1u128;
-    for _ in 0..n {
-        power *= 5;
-    }
-    power
-}
-
 impl Scale {
-    /// The scale with this shift, or with the nearest one from -60 to 44.
+    /// The scale with this shift, or with the nearest one from -60 to 44: the product of a float's 24
+    /// bits and 5^44 has at most 127 bits.
     pub(crate) fn new(shift: i32) -> Scale {
-        let shift = shift.min(MOST).max(LEAST);
-        let power = shift.max(0) as u32;
-        let fives = five_to(power);
+        let shift = if shift < -60 {
+            -60
+        } else if 44 < shift {
+            44
+        } else {
+            shift
+        };
+        let power = if shift < 0 { 0 } else { shift.unsigned_abs() };
         Scale {
             shift,
-            fives,
+            fives: 5u128.checked_pow(power),
             short: if power <= SHORT {
-                u64::try_from(fives).ok()
+                5u64.checked_pow(power)
             } else {
                 None
             },
@@ -54,7 +42,13 @@ impl Scale {
 
     /// The scale that distinguishes eighteen digits of numbers below 10^order.
     pub(crate) fn below(order: i32) -> Scale {
-        Scale::new((18 - i64::from(order)).min(100).max(-100) as i32)
+        if order < -100 {
+            return Scale::new(118);
+        }
+        if 100 < order {
+            return Scale::new(-82);
+        }
+        Scale::new(18 - order)
     }
 
     /// The multiple nearest to a number; None if 64 bits cannot hold it, so not if the number's
@@ -81,7 +75,7 @@ impl Scale {
         let near = if self.shift < 0 {
             tenth(shifted(size, num.two)?, self.shift.unsigned_abs())?
         } else {
-            shifted(size.checked_mul(self.fives)?, self.shift + num.two)?
+            shifted(size.checked_mul(self.fives?)?, self.shift + num.two)?
         };
         i64::try_from(near).ok()
     }

@@ -55,8 +55,11 @@ fn set_same<A: Allocator + Copy>(
 
 /// A bound of a range less a shift, within those that 1999 can hold.
 fn bound_less(bound: i32, by: i32) -> i32 {
-    let less = i64::from(bound) - i64::from(by);
-    less.max(-99_999).min(99_999) as i32
+    match bound.checked_sub(by) {
+        Some(less) if 99_999 < less => 99_999,
+        Some(less) if -99_999 <= less => less,
+        _ => -99_999,
+    }
 }
 
 /// Sets the range and the scale of a channel whose samples change.
