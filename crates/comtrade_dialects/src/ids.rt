@@ -55,7 +55,7 @@ impl<'a, A: Allocator + Copy> Ids<'a, A> {
                 break;
             };
             if self.takes(alloc, &other, text)? {
-                notes.tell_text(Key::IdsAlike, Place::Cfg(place.0), &other)?;
+                notes.tell_change(Key::IdsAlike, Place::Cfg(place.0), text, &other)?;
                 self.next = number + 1;
                 *id = Items::of(other);
                 return Ok(());

@@ -160,16 +160,16 @@ pub(crate) fn text_of<A: Allocator + Copy>(
     let plain = plain_of(alloc, text)?;
     let place = Place::Cfg(line);
     if plain.is_spelled {
-        notes.tell_text(Key::TextsNotAscii, place, &plain.bytes)?;
+        notes.tell_change(Key::TextsNotAscii, place, text, &plain.bytes)?;
     }
     if plain.had_comma {
-        notes.tell_text(Key::TextComma, place, &plain.bytes)?;
+        notes.tell_change(Key::TextComma, place, text, &plain.bytes)?;
     }
     let whole = cut_to(&plain.bytes, plain.bytes.len());
     if whole.len() <= most {
         return Ok(Items::of(Vec::from_slice(alloc, whole)?));
     }
-    notes.tell_text(Key::TextLong, place, whole)?;
+    notes.tell_text(Key::TextLong, place, text)?;
     let Some(number) = number else {
         return Ok(Items::of(Vec::from_slice(alloc, cut_to(whole, most))?));
     };
@@ -190,7 +190,7 @@ pub(crate) fn phase_of<A: Allocator + Copy>(
     let plain = plain_of(alloc, text)?;
     let whole = cut_to(&plain.bytes, plain.bytes.len());
     if 2 < whole.len() {
-        notes.tell_text(Key::PhaseLong, Place::Cfg(line), whole)?;
+        notes.tell_text(Key::PhaseLong, Place::Cfg(line), text)?;
         return Ok(Items::of(Vec::new(alloc)));
     }
     text_of(notes, line, text, 2, None)

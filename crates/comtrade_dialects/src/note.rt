@@ -147,6 +147,21 @@ impl<A: Allocator + Copy> Notes<A> {
         Ok(())
     }
 
+    /// Notes the change of a text; both are quoted.
+    pub(crate) fn tell_change(
+        &mut self,
+        key: Key,
+        place: Place,
+        text: &[u8],
+        made: &[u8],
+    ) -> Result<(), AllocError> {
+        let mut piece = Vec::new(*self.list.allocator());
+        put_quoted(&mut piece, text)?;
+        put(&mut piece, " became ")?;
+        put_quoted(&mut piece, made)?;
+        self.tell(key, place, &piece)
+    }
+
     /// Notes a repair of a text, which is quoted.
     pub(crate) fn tell_text(
         &mut self,
