@@ -1,5 +1,7 @@
 //! The lines of analogue channels.
 
+ghost use Rattle.std.specs.Prelude.{◌<◌};
+
 use crate::draft::{Range, Said};
 use crate::fault::{ImportFault, Why};
 use crate::field::{Parts, joint_of};
@@ -189,13 +191,17 @@ fn are_numbers(parts: &Parts<'_>, from: usize, to: usize) -> bool {
 
 /// Whether the extra comma can belong to the text of this field: phase and unit stay valid, and the
 /// part after the comma is not a number.
-fn can_join(parts: &Parts<'_>, joint: usize) -> bool {
-    let joined = parts.joined(joint);
+fn can_join(parts: &Parts<'_>, joint: usize) -> bool
+    requires { joint < 64 }
+{
+    let Some(joined) = parts.joined(joint) else {
+        return false;
+    };
     let unit = joined.at(4);
     joined.at(2).len() <= 2
         && !unit.is_empty()
         && Decimal::read(unit).is_none()
-        && Decimal::read(parts.at(joint.saturating_add(1))).is_none()
+        && Decimal::read(parts.at(joint + 1)).is_none()
 }
 
 /// The fields of a line with one field too many, if the extra comma can only belong to the id or
@@ -208,7 +214,7 @@ fn told_apart<'a>(parts: &Parts<'a>) -> Option<Parts<'a>> {
         return None;
     }
     let joint = joint_of(parts, (1, can_join(parts, 1)), (3, can_join(parts, 3)))?;
-    Some(parts.joined(joint))
+    parts.joined(joint)
 }
 
 /// The fields of an analogue channel's line.

@@ -2,7 +2,7 @@
 
 use crate::data::plan_of;
 use crate::draft::{Channels, Draft, Range};
-use crate::fault::ImportFault;
+use crate::fault::{ImportFault, Why};
 use crate::kinds::Form;
 use crate::marks::marks_of;
 use crate::note::{Notes, Place};
@@ -58,13 +58,12 @@ fn body_of<A: Allocator + Copy>(
         undo_wraps(notes, &mut survey.ticks, draft.timemult)?;
     }
     let times = times_in(alloc, notes, draft, &survey, ground.is_text())?;
-    let form = draft.form;
     let Channels {
         analog,
         said,
         status: _,
     } = &mut draft.channels;
-    let mut made = settle_channels(alloc, notes, analog, said, &survey, (ground, form))?;
+    let mut made = settle_channels(alloc, notes, analog, said, &survey, ground)?;
     let rows = rows_of(alloc, ground, &mut made, &times.stamps)?;
     tell_errors(notes, analog, &made)?;
     let Times {
@@ -198,7 +197,9 @@ pub(crate) fn file_of<A: Allocator + Copy>(
     let ranges = ranges_of(alloc, &draft, plan)?;
     let ground = ground_of(&draft, plan, &ranges);
     let mut body = body_of(alloc, notes, &mut draft, ground)?;
-    let nrates = u32::try_from(body.rates.len()).unwrap_or(u32::MAX);
+    let Ok(nrates) = u32::try_from(body.rates.len()) else {
+        return Err(ImportFault::Whole(Why::ManyRates));
+    };
     if nrates == 0 {
         let rows = body.rows.len() as u64;
         put_no_rate(&mut body.rates, rows)?;

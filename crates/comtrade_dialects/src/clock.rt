@@ -27,7 +27,7 @@ const SECOND: i128 = 1_000_000_000_000;
 
 impl Run {
     fn time_of(&self, row: u64) -> Option<i128> {
-        let rows = i128::from(row.saturating_sub(self.from));
+        let rows = i128::from(row.checked_sub(self.from)?);
         let part = 10i128.checked_pow(self.places)?.checked_mul(SECOND)?;
         let time = rows.checked_mul(part)?.checked_div(self.units)?;
         self.base.checked_add(time)
@@ -54,7 +54,8 @@ impl<A: Allocator + Copy> Clock<A> {
             };
             from = match border {
                 Border::Old => rate.endsamp,
-                Border::New => rate.endsamp.saturating_sub(1),
+                Border::New if 0 < rate.endsamp => rate.endsamp - 1,
+                Border::New => 0,
             };
             match run.time_of(from) {
                 Some(time) if 0 < run.units => base = time,
@@ -74,19 +75,16 @@ impl<A: Allocator> Clock<A> {
     /// The time of a row (counted from 0), and half the interval there. `at` is the run of an
     /// earlier row.
     pub(crate) fn time_of(&self, at: &mut usize, row: u64) -> Option<(i128, i128)> {
-        let last = self.runs.len().saturating_sub(1);
+        let last = self.runs.len().checked_sub(1)?;
         for _ in 0..self.runs.len() {
             match self.runs.get(*at) {
-                Some(run) if run.end <= row && *at < last => *at = (*at).saturating_add(1),
+                Some(run) if run.end <= row && *at < last => *at += 1,
                 _ => break,
             }
         }
         let run = self.runs.get(*at)?;
         let part = 10i128.checked_pow(run.places)?.checked_mul(SECOND)?;
-        Some((
-            run.time_of(row)?,
-            part.checked_div(run.units)?.wrapping_div(2),
-        ))
+        Some((run.time_of(row)?, part.checked_div(run.units)? / 2))
     }
 }
 
@@ -94,8 +92,22 @@ impl<A: Allocator> Clock<A> {
 pub(crate) fn time_of_stamp(stamp: Num, timemult: Decimal) -> Option<i128> {
     let number = Exact {
         units: i128::from(stamp.mant),
-        places: 0i32.saturating_sub(stamp.ten),
+        places: -stamp.ten,
     };
+    time_of_number(number, timemult)
+}
+
+/// The time that a stamp of a file of 1999 means, in picoseconds.
+pub(crate) fn time_of_whole(stamp: u64, timemult: Decimal) -> Option<i128> {
+    let number = Exact {
+        units: i128::from(stamp),
+        places: 0,
+    };
+    time_of_number(number, timemult)
+}
+
+/// The time that a number of stamp units means, in picoseconds.
+fn time_of_number(number: Exact, timemult: Decimal) -> Option<i128> {
     let time = number.times(Exact::of(timemult))?;
     let more = 6i32.checked_sub(time.places)?;
     if 0 <= more {
@@ -103,14 +115,19 @@ pub(crate) fn time_of_stamp(stamp: Num, timemult: Decimal) -> Option<i128> {
         return time.units.checked_mul(part);
     }
     match 10i128.checked_pow(more.unsigned_abs()) {
-        Some(part) => Some(rounded(time.units, part)),
-        None => Some(0),
+        Some(part) => rounded(time.units, part),
+        None => Some(0), // the divisor is above all numbers of 128 bits
     }
 }
 
-/// The whole number nearest to n / part; halves are rounded away from 0.
-pub(crate) fn rounded(n: i128, part: i128) -> i128 {
-    let half = part.wrapping_div(2);
-    let up = n.saturating_add(if n < 0 { half.wrapping_neg() } else { half });
-    up.checked_div(part).unwrap_or(0)
+/// The whole number nearest to n / part, for a positive part; halves are rounded away from 0. None
+/// if 128 bits cannot hold n and half a part.
+pub(crate) fn rounded(n: i128, part: i128) -> Option<i128> {
+    let half = part / 2;
+    let up = if n < 0 {
+        n.checked_sub(half)?
+    } else {
+        n.checked_add(half)?
+    };
+    up.checked_div(part)
 }

@@ -87,8 +87,11 @@ pub(crate) fn counts_of<A: Allocator + Copy>(
     if counts.analog.is_none() && counts.status.is_none() {
         return Err(at(line, Why::Counts));
     }
+    // (a count that is left out means no such channel)
     let (analog, status) = (counts.analog.unwrap_or(0), counts.status.unwrap_or(0));
-    let sum = analog.saturating_add(status);
+    let Some(sum) = analog.checked_add(status) else {
+        return Err(at(line, Why::ManyChannels));
+    };
     if sum == 0 {
         return Err(at(line, Why::NoChannel));
     }

@@ -25,12 +25,10 @@ pub(crate) struct Cursor<'a> {
     end: u8,
 }
 
-pub(crate) fn before(text: &[u8], at: usize) -> &[u8] {
-    text.get(..at).unwrap_or(&[])
-}
-
-pub(crate) fn after(text: &[u8], at: usize) -> &[u8] {
-    text.get(at.wrapping_add(1)..).unwrap_or(&[])
+/// The texts before and after the first of these bytes.
+pub(crate) fn around(text: &[u8], byte: u8) -> Option<(&[u8], &[u8])> {
+    let at = memchr(byte, text)?;
+    Some((&text[..at], &text[at + 1..]))
 }
 
 /// The line without the carriage returns at its end, and how many there were.
@@ -61,9 +59,9 @@ impl<'a> Cursor<'a> {
     /// The next line, blank or not.
     fn step(&mut self) -> Option<Line<'a>> {
         let text = self.left?;
-        self.line = self.line.saturating_add(1);
-        let (line, left) = match memchr(self.end, text) {
-            Some(at) => (before(text, at), Some(after(text, at))),
+        self.line = self.next_number();
+        let (line, left) = match around(text, self.end) {
+            Some((line, left)) => (line, Some(left)),
             None => (text, None),
         };
         self.left = left;
@@ -104,6 +102,6 @@ impl<'a> Cursor<'a> {
 
     /// The number of the line after the last one read.
     pub(crate) fn next_number(&self) -> u64 {
-        self.line.saturating_add(1)
+        self.line.saturating_add(1) // (memory holds fewer than 2^64 lines)
     }
 }

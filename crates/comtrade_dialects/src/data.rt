@@ -1,12 +1,12 @@
 //! Decides on the form of the data: the one in the configuration file, unless the data
 //! prove another.
 
-use crate::cursor::{Cursor, after, before};
+use crate::cursor::{Cursor, around};
 use crate::draft::Draft;
 use crate::fault::{ImportFault, Why};
 use crate::key::Key;
 use crate::kinds::Form;
-use crate::look::{Look, follow, look_as, look_at};
+use crate::look::{Look, follow, look_at};
 use crate::note::{Notes, Place};
 use crate::row::{Cells, Counts, Plan};
 use crate::text::{has_only, without_empty_end};
@@ -15,11 +15,11 @@ use comtrade_values::trim;
 use memchr::memchr;
 use std::alloc::{AllocError, Allocator};
 
-/// The bytes before the first byte 1A.
-fn before_mark(dat: &[u8]) -> &[u8] {
-    match memchr(0x1a, dat) {
-        Some(at) => before(dat, at),
-        None => dat,
+/// The bytes before and after the first byte 1A.
+fn around_mark(dat: &[u8]) -> (&[u8], &[u8]) {
+    match around(dat, 0x1a) {
+        Some(parts) => parts,
+        None => (dat, &dat[dat.len()..]),
     }
 }
 
@@ -44,13 +44,24 @@ struct Data<'a, 'n, A: Allocator> {
 impl<'a, A: Allocator + Copy> Data<'a, '_, A> {
     /// Whether the first row can be read as ASCII.
     fn is_text(&self) -> bool {
-        let text = before_mark(self.bytes);
+        let (text, _) = around_mark(self.bytes);
         let mut cursor = Cursor::new(text);
         let mut cells = Cells::new(self.notes.allocator());
         match cursor.next_line() {
             Some(line) => read_line(&mut cells, line.text, mark_of(text), self.counts).is_ok(),
             None => false,
         }
+    }
+
+    /// The bytes of a row in this form.
+    fn size_in(&self, form: Form) -> Result<usize, ImportFault> {
+        let size = form.row_size(self.counts.k, self.counts.m);
+        size.ok_or(ImportFault::Whole(Why::Length))
+    }
+
+    /// What the data prove about a form whose rows have the usual size and order of bytes.
+    fn look_as(&self, form: Form) -> Result<Look<'a>, ImportFault> {
+        Ok(look_at(self.bytes, form, self.size_in(form)?, false))
     }
 
     fn tell(&mut self, key: Key, piece: &str) -> Result<(), AllocError> {
@@ -67,8 +78,7 @@ impl<'a, A: Allocator + Copy> Data<'a, '_, A> {
     }
 
     fn text_plan(&mut self) -> Result<Plan<'a>, ImportFault> {
-        let text = before_mark(self.bytes);
-        let rest = after(self.bytes, text.len());
+        let (text, rest) = around_mark(self.bytes);
         if !has_only(rest, b"\x1a\r\n \0") {
             self.tell(Key::DatAfterEnd, "")?;
         }
@@ -79,8 +89,8 @@ impl<'a, A: Allocator + Copy> Data<'a, '_, A> {
         if Cursor::new(text).ends_in_returns() {
             self.tell(Key::LineEndsCr, "")?;
         }
-        let meant = without_empty_end(text, mark);
-        if text.get(meant.len()..).unwrap_or(&[]).contains(&mark) {
+        let (meant, left_out) = without_empty_end(text, mark);
+        if left_out.contains(&mark) {
             self.tell(Key::TrailingCommas, "")?;
         }
         Ok(Plan::Text(meant, mark))
@@ -89,7 +99,7 @@ impl<'a, A: Allocator + Copy> Data<'a, '_, A> {
     /// The plan of data that prove to be BINARY, with a note on the declared type; None for
     /// other data.
     fn as_binary(&mut self, said: Option<&str>) -> Result<Option<Plan<'a>>, ImportFault> {
-        let short = look_as(self.bytes, Form::Binary, self.counts);
+        let short = self.look_as(Form::Binary)?;
         if !short.is_proved() {
             return Ok(None);
         }
@@ -112,7 +122,7 @@ impl<'a, A: Allocator + Copy> Data<'a, '_, A> {
         if let Some(plan) = self.text_or_binary(true)? {
             return Ok(plan);
         }
-        if look_as(self.bytes, Form::Binary32, self.counts).is_proved() {
+        if self.look_as(Form::Binary32)?.is_proved() {
             return Err(ImportFault::Whole(Why::NoKind));
         }
         self.text_plan()
@@ -121,7 +131,7 @@ impl<'a, A: Allocator + Copy> Data<'a, '_, A> {
     /// Refuses data declared as BINARY whose rows prove to have samples of 32 bits. With one
     /// analogue channel they may also be 16 bits and two spare bytes.
     fn refuse_wide(&self) -> Result<(), ImportFault> {
-        let size = Form::Binary32.row_size(self.counts.k, self.counts.m);
+        let size = self.size_in(Form::Binary32)?;
         for is_big in [false, true] {
             if look_at(self.bytes, Form::Binary32, size, is_big).is_proved() {
                 let why = if self.counts.k == 1 {
@@ -138,12 +148,8 @@ impl<'a, A: Allocator + Copy> Data<'a, '_, A> {
     /// The plan of whole rows whose numbers do not increase by one. Refused if the numbers follow
     /// no other pattern and there are more or fewer rows than declared.
     fn unproved(&mut self, own: Look<'a>) -> Result<Plan<'a>, ImportFault> {
-        let rows = own.packed.bytes.len().checked_div(own.packed.size);
-        let is_said = match (rows, self.last) {
-            (Some(rows), Some(last)) => rows as u64 == last,
-            _ => false,
-        };
-        if is_said || follow(own.packed, self.last.unwrap_or(0)) {
+        let rows = own.packed.count() as u64;
+        if self.last == Some(rows) || follow(own.packed, self.last) {
             self.packed(own)
         } else {
             Err(ImportFault::Whole(Why::NoPattern))
@@ -152,7 +158,7 @@ impl<'a, A: Allocator + Copy> Data<'a, '_, A> {
 
     /// The plan of data that prove to have another form than declared.
     fn proved(&mut self, form: Form) -> Result<Option<Plan<'a>>, ImportFault> {
-        let size = form.row_size(self.counts.k, self.counts.m);
+        let size = self.size_in(form)?;
         let big = look_at(self.bytes, form, size, true);
         if big.is_proved() {
             self.tell(Key::BigEndian, "")?;
@@ -161,7 +167,10 @@ impl<'a, A: Allocator + Copy> Data<'a, '_, A> {
         if form == Form::Binary && self.counts.k != 0 {
             self.refuse_wide()?;
         }
-        let spare = look_at(self.bytes, form, size.saturating_add(2), false);
+        let Some(longer) = size.checked_add(2) else {
+            return Err(ImportFault::Whole(Why::Length));
+        };
+        let spare = look_at(self.bytes, form, longer, false);
         if spare.is_proved() {
             self.tell(Key::RowSize, "")?;
             return Ok(Some(self.packed(spare)?));
@@ -178,7 +187,7 @@ impl<'a, A: Allocator + Copy> Data<'a, '_, A> {
 
     /// The plan of data that the configuration file declares as binary.
     fn said_packed(&mut self, form: Form) -> Result<Plan<'a>, ImportFault> {
-        let own = look_as(self.bytes, form, self.counts);
+        let own = self.look_as(form)?;
         if own.is_proved() {
             return self.packed(own);
         }
@@ -191,9 +200,10 @@ impl<'a, A: Allocator + Copy> Data<'a, '_, A> {
         if !own.runs {
             return Err(ImportFault::Whole(Why::Length));
         }
-        let row = own.packed.bytes.len().wrapping_div(own.packed.size.max(1)) as u64;
-        let place = Place::Row(row.saturating_add(1));
-        self.notes.tell(Key::RowCut, place, &[])?;
+        let Some(row) = (own.packed.count() as u64).checked_add(1) else {
+            return Err(ImportFault::Whole(Why::Length));
+        };
+        self.notes.tell(Key::RowCut, Place::Row(row), &[])?;
         Ok(Plan::Packed(own.packed))
     }
 

@@ -1,6 +1,6 @@
 //! Dates and times of day in the forms found in practice.
 
-use crate::text::{DIGITS, has_only, place_of};
+use crate::text::{DIGITS, around_any, has_only};
 use comtrade_values::{numeral_of, trim};
 use jiff_core::civil::Date;
 
@@ -55,35 +55,27 @@ const MONTHS: [&[u8]; 12] = [
 
 fn month_of(text: &[u8]) -> Option<u32> {
     let front = text.get(..3)?;
-    let at = MONTHS
-        .iter()
-        .position(|month| front.eq_ignore_ascii_case(month))?;
-    u32::try_from(at.wrapping_add(1)).ok()
-}
-
-/// The texts before and after the first of these marks.
-fn cut_at<'a>(text: &'a [u8], marks: &[u8]) -> Option<(&'a [u8], &'a [u8])> {
-    let at = place_of(text, marks)?;
-    Some((text.get(..at)?, text.get(at.wrapping_add(1)..)?))
+    for (number, month) in (1u32..).zip(MONTHS.iter()) {
+        if front.eq_ignore_ascii_case(month) {
+            return Some(number);
+        }
+    }
+    None
 }
 
 /// The full year of a year of two digits: 70 to 99 are in the 20th century.
 fn full_year(year: u32, digits: usize) -> u32 {
-    if digits != 2 {
+    if digits != 2 || 99 < year {
         return year;
     }
-    if year < 70 {
-        year.saturating_add(2000)
-    } else {
-        year.saturating_add(1900)
-    }
+    if year < 70 { year + 2000 } else { year + 1900 }
 }
 
 /// The parts of a date.
 pub(crate) fn civil_of(text: &[u8]) -> Option<Civil> {
     let marks = b"/-. ";
-    let (a, rest) = cut_at(text, marks)?;
-    let (b, c) = cut_at(trim(rest), marks)?;
+    let (a, rest) = around_any(text, marks)?;
+    let (b, c) = around_any(trim(rest), marks)?;
     let c = trim(c);
     let is_slashed = has_only(text, b"0123456789/ ") && text.contains(&b'/');
     if let Some(month) = month_of(b) {
@@ -153,23 +145,21 @@ impl Civil {
     }
 }
 
+/// The units of the digits after a point, in microseconds.
+const UNITS: [i64; 6] = [100_000, 10_000, 1_000, 100, 10, 1];
+
 /// The digits after a point in microseconds, rounded, halves up.
 fn micros_of(digits: &[u8]) -> Option<i64> {
-    let mut micros = 0i64;
-    for i in 0..6usize {
-        let digit = match digits.get(i) {
-            Some(b) if b.is_ascii_digit() => i64::from(b.wrapping_sub(b'0')),
-            Some(_) => return None,
-            None => 0,
-        };
-        micros = micros.wrapping_mul(10).wrapping_add(digit);
-    }
-    let rest = digits.get(6..).unwrap_or(&[]);
-    if !has_only(rest, DIGITS) {
+    if !has_only(digits, DIGITS) {
         return None;
     }
-    match rest {
-        [b'5'..=b'9', ..] => Some(micros.wrapping_add(1)),
+    let mut micros = 0i64;
+    for (b, unit) in digits.iter().zip(UNITS.iter()) {
+        let digit = i64::from(b.checked_sub(b'0')?);
+        micros = micros.checked_add(digit.checked_mul(*unit)?)?;
+    }
+    match digits {
+        [_, _, _, _, _, _, b'5'..=b'9', ..] => micros.checked_add(1),
         _ => Some(micros),
     }
 }
@@ -180,9 +170,9 @@ pub(crate) fn clock_of(text: &[u8]) -> Option<Clock> {
         [front @ .., b'Z' | b'z'] => front,
         _ => text,
     };
-    let (hours, rest) = cut_at(text, b":")?;
-    let (minutes, rest) = cut_at(rest, b":")?;
-    let (seconds, digits, has_point) = match cut_at(rest, b".,:") {
+    let (hours, rest) = around_any(text, b":")?;
+    let (minutes, rest) = around_any(rest, b":")?;
+    let (seconds, digits, has_point) = match around_any(rest, b".,:") {
         Some((seconds, digits)) => (seconds, digits, true),
         None => (rest, &rest[rest.len()..], false),
     };
@@ -195,12 +185,9 @@ pub(crate) fn clock_of(text: &[u8]) -> Option<Clock> {
     if 23 < hours && !is_24 || 59 < minutes || 60 < seconds {
         return None;
     }
-    let whole = i64::from(hours)
-        .wrapping_mul(3600)
-        .wrapping_add(i64::from(minutes).wrapping_mul(60))
-        .wrapping_add(i64::from(seconds));
+    let whole = i64::from(hours) * 3600 + i64::from(minutes) * 60 + i64::from(seconds);
     Some(Clock {
-        micros: whole.wrapping_mul(1_000_000).wrapping_add(fraction),
+        micros: whole.checked_mul(1_000_000)?.checked_add(fraction)?,
         is_24,
         is_leap: seconds == 60,
         is_long: 6 < digits.len(),
@@ -210,9 +197,9 @@ pub(crate) fn clock_of(text: &[u8]) -> Option<Clock> {
     })
 }
 
-/// The time of a day and a time of day, in microseconds since 1970-01-01.
-pub(crate) fn instant_of(day: i64, micros: i64) -> i64 {
-    day.saturating_mul(86_400_000_000).saturating_add(micros)
+/// The time of a day and a time of day, in microseconds since 1970-01-01, if 64 bits can hold it.
+pub(crate) fn instant_of(day: i64, micros: i64) -> Option<i64> {
+    day.checked_mul(86_400_000_000)?.checked_add(micros)
 }
 
 /// Whether a line can be a date and time: it has a colon, or all its fields are empty.

@@ -1,8 +1,7 @@
 //! Oddities of a file that reads exactly: two statements that disagree, or something
 //! hardly intended.
 
-use crate::clock::{Clock, time_of_stamp};
-use crate::num::Num;
+use crate::clock::{Clock, time_of_whole};
 use comtrade_format::{File, Head, Row, border_of};
 use dfr_channels::{AnalogChannel, Reading};
 use std::alloc::{AllocError, Allocator};
@@ -42,7 +41,7 @@ impl Doubt {
             self.row = row;
             self.channel = channel;
         }
-        self.count = self.count.saturating_add(1);
+        self.count = self.count.saturating_add(1); // (no file has 2^64 places)
     }
 
     pub(crate) fn is_none(&self) -> bool {
@@ -61,47 +60,71 @@ pub(crate) fn clock_of<A: Allocator + Copy>(
     Clock::new(alloc, file.head.rates.items(), border_of(file))
 }
 
-/// A stamp as a `Num`.
-fn num_of(stamp: u64) -> Num {
-    Num::of(i64::try_from(stamp).unwrap_or(i64::MAX))
+/// What the stamps so far say of the times.
+#[derive(Clone, Copy)]
+struct Sight {
+    /// The run of rates of the last row.
+    at: usize,
+    /// The time that the first stamp means less the time that the rates give.
+    start: Option<i128>,
+    /// The time of one stamp unit.
+    unit: i128,
 }
 
-/// Adds the oddities of row numbers and stamps.
+impl Sight {
+    /// Whether a stamp is near the time that the rates give to its row, which is counted from 0;
+    /// None if 128 bits cannot hold its time.
+    fn is_near<A: Allocator>(
+        &mut self,
+        clock: &Clock<A>,
+        index: u64,
+        time: Option<i128>,
+    ) -> Option<bool> {
+        let (wanted, half) = clock.time_of(&mut self.at, index)?;
+        let late = time?.checked_sub(wanted)?;
+        let first = match self.start {
+            Some(first) => first,
+            None => late,
+        };
+        self.start = Some(first);
+        let off = late.checked_sub(first)?.unsigned_abs();
+        Some(off <= half.max(self.unit).unsigned_abs())
+    }
+}
+
+/// Adds the oddities of row numbers and stamps. A stamp that has no time disagrees with the rates.
 pub(crate) fn add_times<A: Allocator + Copy>(
     doubts: &mut Doubts,
     file: &File<A>,
     clock: &Option<Clock<A>>,
 ) {
     let timemult = file.head.timemult;
-    let unit = time_of_stamp(num_of(1), timemult).unwrap_or(0);
-    let mut at = 0usize;
-    let mut start: Option<i128> = None;
-    let mut before: Option<u64> = None;
-    let mut number = 0u64;
-    let mut index = 0u64;
-    for row in file.rows.items() {
-        let place = index.saturating_add(1);
-        if 0 < index && row.number <= number {
+    let mut sight = Sight {
+        at: 0,
+        start: None,
+        unit: time_of_whole(1, timemult).unwrap_or(0), // (then no stamp but 0 has a time either)
+    };
+    let mut before: Option<&Row<A>> = None;
+    let mut stamped: Option<u64> = None;
+    for (index, row) in file.rows.items().iter().enumerate() {
+        let place = index as u64 + 1;
+        if before.is_some_and(|before| row.number <= before.number) {
             doubts.repeated.add(place, 0);
         }
-        number = row.number;
-        if let Some(stamp) = row.stamp {
-            if stamp < before.unwrap_or(0) {
-                doubts.falling.add(place, 0);
-            }
-            before = Some(stamp);
-            let time = time_of_stamp(num_of(stamp), timemult).unwrap_or(i128::MAX);
-            if let Some(clock) = clock {
-                let (wanted, half) = clock.time_of(&mut at, index).unwrap_or((0, 0));
-                let first = start.unwrap_or(time.saturating_sub(wanted));
-                start = Some(first);
-                let off = time.saturating_sub(first).saturating_sub(wanted);
-                if half.max(unit) < off.saturating_abs() {
-                    doubts.off.add(place, 0);
-                }
+        before = Some(row);
+        let Some(stamp) = row.stamp else {
+            continue;
+        };
+        if stamped.is_some_and(|stamped| stamp < stamped) {
+            doubts.falling.add(place, 0);
+        }
+        stamped = Some(stamp);
+        if let Some(clock) = clock {
+            let time = time_of_whole(stamp, timemult);
+            if sight.is_near(clock, index as u64, time) != Some(true) {
+                doubts.off.add(place, 0);
             }
         }
-        index = place;
     }
 }
 
@@ -123,16 +146,24 @@ fn is_inside<A: Allocator>(value: &Reading, channel: &AnalogChannel<A>) -> bool 
     }
 }
 
-/// The number of consecutive samples of a channel at a limit of its range, and that limit.
+/// The consecutive samples of a channel at a limit of its range: that limit, and how many they are,
+/// counted up to four.
 #[derive(Clone, Copy)]
 struct Run {
     sample: i32,
-    length: u32,
+    length: u8,
+    /// The row of the first of them.
+    first: u64,
 }
 
 impl Run {
-    /// Takes the sample of the next row. Returns whether there are three now.
-    fn is_third<A: Allocator>(&mut self, value: &Reading, channel: &AnalogChannel<A>) -> bool {
+    /// Takes the sample of the next row, `place`. Returns whether there are three now.
+    fn is_third<A: Allocator>(
+        &mut self,
+        value: &Reading,
+        place: u64,
+        channel: &AnalogChannel<A>,
+    ) -> bool {
         let at_end = match value {
             Reading::Value(x) if channel.min != channel.max => {
                 if *x == channel.min || *x == channel.max {
@@ -150,8 +181,11 @@ impl Run {
         if self.length == 0 || self.sample != sample {
             self.length = 0;
             self.sample = sample;
+            self.first = place;
         }
-        self.length = self.length.saturating_add(1);
+        if self.length < 4 {
+            self.length += 1;
+        }
         self.length == 3
     }
 }
@@ -164,10 +198,8 @@ fn add_row<A: Allocator>(
     place: u64,
     channels: &[AnalogChannel<A>],
 ) {
-    let mut number = 0u64;
-    let values = row.values.items();
-    for (run, (value, channel)) in runs.iter_mut().zip(values.iter().zip(channels.iter())) {
-        number = number.saturating_add(1);
+    let samples = row.values.items().iter().zip(channels.iter());
+    for (run, (number, (value, channel))) in runs.iter_mut().zip((1u64..).zip(samples)) {
         if is_inside(value, channel) {
             run.length = 0;
             continue;
@@ -175,8 +207,8 @@ fn add_row<A: Allocator>(
         if is_outside(value, channel) {
             doubts.outside.add(place, number);
         }
-        if run.is_third(value, channel) {
-            doubts.flat.add(place.saturating_sub(2), number);
+        if run.is_third(value, place, channel) {
+            doubts.flat.add(run.first, number);
         }
     }
 }
@@ -193,11 +225,10 @@ fn add_samples<A: Allocator + Copy>(
         runs.push(Run {
             sample: 0,
             length: 0,
+            first: 0,
         })?;
     }
-    let mut place = 0u64;
-    for row in file.rows.items() {
-        place = place.saturating_add(1);
+    for (place, row) in (1u64..).zip(file.rows.items().iter()) {
         add_row(doubts, &mut runs, row, place, channels);
     }
     Ok(())
@@ -220,15 +251,13 @@ fn add_texts<A: Allocator>(doubt: &mut Doubt, head: &Head<A>) {
         1,
         [head.station.items(), head.device.items(), &[], &[]],
     );
-    let mut line = 2u64;
-    for channel in head.analog.items() {
-        line = line.saturating_add(1);
+    let analog = head.analog.items();
+    for (line, channel) in (3u64..).zip(analog.iter()) {
         let (id, phase) = (channel.id.items(), channel.phase.items());
         let (component, unit) = (channel.component.items(), channel.unit.items());
         add_foreign(doubt, line, [id, phase, component, unit]);
     }
-    for channel in head.status.items() {
-        line = line.saturating_add(1);
+    for (line, channel) in (3u64..).skip(analog.len()).zip(head.status.items().iter()) {
         let (id, phase) = (channel.id.items(), channel.phase.items());
         add_foreign(doubt, line, [id, phase, channel.component.items(), &[]]);
     }
@@ -237,10 +266,7 @@ fn add_texts<A: Allocator>(doubt: &mut Doubt, head: &Head<A>) {
 /// The oddities of a file.
 pub fn doubts_of<A: Allocator + Copy>(alloc: A, file: &File<A>) -> Result<Doubts, AllocError> {
     let mut doubts = Doubts::default();
-    let channels = file.head.analog.items();
-    let mut number = 0u64;
-    for channel in channels {
-        number = number.saturating_add(1);
+    for (number, channel) in (1u64..).zip(file.head.analog.items().iter()) {
         if channel.max < channel.min {
             doubts.turned.add(0, number);
         }

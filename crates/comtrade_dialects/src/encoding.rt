@@ -40,13 +40,13 @@ fn put_unit<A: Allocator>(out: &mut Vec<u8, A>, unit: u16) -> Result<(), AllocEr
         return Ok(());
     }
     if unit < 0x800 {
-        out.push(0xc0 | (unit.wrapping_shr(6) & 0x1f) as u8)?;
+        out.push(0xc0 | (unit >> 6 & 0x1f) as u8)?;
     } else if 0xd800 <= unit && unit <= 0xdfff {
         out.push(b'?')?;
         return Ok(());
     } else {
-        out.push(0xe0 | (unit.wrapping_shr(12) & 0x0f) as u8)?;
-        out.push(0x80 | (unit.wrapping_shr(6) & 0x3f) as u8)?;
+        out.push(0xe0 | (unit >> 12 & 0x0f) as u8)?;
+        out.push(0x80 | (unit >> 6 & 0x3f) as u8)?;
     }
     out.push(0x80 | (unit & 0x3f) as u8)?;
     Ok(())

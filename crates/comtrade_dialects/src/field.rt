@@ -1,9 +1,8 @@
 //! The fields of a line.
 
-use crate::cursor::{after, before};
+use crate::cursor::around;
 use crate::text::has_only;
 use comtrade_values::trim;
-use memchr::memchr;
 
 /// The rest of a line.
 #[derive(Clone, Copy)]
@@ -17,9 +16,8 @@ fn quoted(text: &[u8], mark: u8) -> Option<(&[u8], Option<&[u8]>)> {
     let [b'"', rest @ ..] = trim_front(text) else {
         return None;
     };
-    let at = memchr(b'"', rest)?;
-    let inside = before(rest, at);
-    let left = trim_front(after(rest, at));
+    let (inside, left) = around(rest, b'"')?;
+    let left = trim_front(left);
     if left.is_empty() {
         return Some((inside, None));
     }
@@ -30,14 +28,14 @@ fn quoted(text: &[u8], mark: u8) -> Option<(&[u8], Option<&[u8]>)> {
 }
 
 fn trim_front(text: &[u8]) -> &[u8] {
-    let mut blanks = 0usize;
-    for b in text {
-        if *b != b' ' && *b != b'\t' {
-            break;
+    let mut inner = text;
+    for _ in 0..text.len() {
+        match inner {
+            [b' ' | b'\t', rest @ ..] => inner = rest,
+            _ => return inner,
         }
-        blanks = blanks.saturating_add(1);
     }
-    text.get(blanks..).unwrap_or(text)
+    inner
 }
 
 impl<'a> Fields<'a> {
@@ -55,10 +53,10 @@ impl<'a> Fields<'a> {
             self.left = left;
             return Some(trim(inside));
         }
-        match memchr(self.mark, text) {
-            Some(at) => {
-                self.left = Some(after(text, at));
-                Some(trim(before(text, at)))
+        match around(text, self.mark) {
+            Some((field, left)) => {
+                self.left = Some(left);
+                Some(trim(field))
             }
             None => {
                 self.left = None;
@@ -102,11 +100,11 @@ impl<'a> Parts<'a> {
         let mut fields = Fields::of(line, mark);
         let mut all = 0usize;
         let mut full = 0usize;
-        for _ in 0..MOST {
+        for count in 1..=MOST {
             let Some(field) = fields.next_field() else {
                 break;
             };
-            all = all.saturating_add(1);
+            all = count;
             if !field.is_empty() {
                 full = all;
             }
@@ -126,15 +124,16 @@ impl<'a> Parts<'a> {
         }
     }
 
-    /// The same fields, but this one and the next form one text with a separator in it.
-    pub(crate) fn joined(&self, joint: usize) -> Parts<'a> {
-        Parts {
+    /// The same fields, but this one and the next form one text with a separator in it. None if no
+    /// field has a text.
+    pub(crate) fn joined(&self, joint: usize) -> Option<Parts<'a>> {
+        Some(Parts {
             line: self.line,
             mark: self.mark,
-            all: self.all.saturating_sub(1),
-            full: self.full.saturating_sub(1),
+            all: self.all.checked_sub(1)?,
+            full: self.full.checked_sub(1)?,
             joint: Some(joint),
-        }
+        })
     }
 
     /// The rest of the line after this many fields.
@@ -148,36 +147,43 @@ impl<'a> Parts<'a> {
         fields
     }
 
+    /// The rest of the line after the field at this index.
+    fn after(&self, index: usize) -> Fields<'a> {
+        let mut fields = self.after_fields(index);
+        let _ = fields.next_field();
+        fields
+    }
+
     /// Whether a blank follows the separator after this field, as in a sentence.
     pub(crate) fn has_blank_after(&self, index: usize) -> bool {
-        let left = self.after_fields(index.saturating_add(1)).left;
-        matches!(left, Some([b' ', ..]))
+        matches!(self.after(index).left, Some([b' ', ..]))
     }
 
     /// The field at this index from 0; empty if there is none.
     pub(crate) fn at(&self, index: usize) -> &'a [u8] {
+        self.found_at(index).unwrap_or(&[]) // (a line may leave out its last fields)
+    }
+
+    /// The field at this index from 0, if there is one.
+    fn found_at(&self, index: usize) -> Option<&'a [u8]> {
         match self.joint {
             Some(joint) if joint == index => self.pair_at(index),
-            Some(joint) if joint < index => self.field_at(index.saturating_add(1)),
-            _ => self.field_at(index),
+            Some(joint) if joint < index => self.after(index).next_field(),
+            _ => self.after_fields(index).next_field(),
         }
     }
 
-    fn field_at(&self, index: usize) -> &'a [u8] {
-        self.after_fields(index).next_field().unwrap_or(&[])
-    }
-
     /// The text of this field and the next, with the separator between them.
-    fn pair_at(&self, index: usize) -> &'a [u8] {
-        let Some(from) = self.after_fields(index).left else {
-            return &[];
-        };
-        match self.after_fields(index.saturating_add(2)).left {
+    fn pair_at(&self, index: usize) -> Option<&'a [u8]> {
+        let from = self.after_fields(index).left?;
+        let mut behind = self.after(index);
+        let _ = behind.next_field();
+        match behind.left {
             Some(left) => {
-                let length = from.len().saturating_sub(left.len()).saturating_sub(1);
-                trim(from.get(..length).unwrap_or(from))
+                let length = from.len().checked_sub(left.len())?.checked_sub(1)?;
+                Some(trim(from.get(..length)?))
             }
-            None => trim(from),
+            None => Some(trim(from)),
         }
     }
 }

@@ -12,7 +12,7 @@ pub(crate) enum Fit {
     /// They stay unchanged.
     Same,
     /// This number is subtracted.
-    Shift(i64),
+    Shift(i32),
     /// They are multiplied by a power of ten.
     Tens(Scale),
     /// They are rounded to steps on both sides of the middle.
@@ -34,86 +34,81 @@ pub(crate) struct Steps {
 /// The maximum number of steps on one side.
 const MOST: u64 = 32_767;
 
-/// A number as a multiple of a power of ten with at most nine digits, and that power.
-fn nine_digits(n: i64) -> (i64, i64) {
+/// A positive number as a multiple of a power of ten with at most nine digits, rounded up, and
+/// that power.
+fn nine_digits(n: i64) -> Option<(i64, i64)> {
     let mut power = 1i64;
     for _ in 0..10 {
-        if n.wrapping_div(power.max(1)) < 999_999_999 {
+        if n.checked_div(power)? < 999_999_999 {
             break;
         }
-        power = power.saturating_mul(10);
+        power = power.checked_mul(10)?;
     }
-    let up = n
-        .saturating_add(power.saturating_sub(1))
-        .checked_div(power)
-        .unwrap_or(n);
-    (up.saturating_mul(power), power)
+    let up = n.checked_add(power.checked_sub(1)?)?.checked_div(power)?;
+    Some((up.checked_mul(power)?, power))
 }
 
-fn steps_of(span: &Span) -> Steps {
-    let range = span.high.saturating_sub(span.low);
-    let least = range.wrapping_div(65_533).saturating_add(1);
-    let (unit, power) = nine_digits(least);
-    let sum = span.high.saturating_add(span.low);
-    let middle = over(sum.wrapping_div(2), power).saturating_mul(power);
-    let unit = unit.max(1);
-    Steps {
+fn steps_of(span: &Span) -> Option<Steps> {
+    let (low, high) = span.reach.ends()?;
+    let least = (high.checked_sub(low)? / 65_533).checked_add(1)?;
+    let (unit, power) = nine_digits(least)?;
+    let sum = high.checked_add(low)?;
+    let middle = over(sum / 2, power)?.checked_mul(power)?;
+    Some(Steps {
         scale: span.scale,
         middle,
         unit,
-        inverse: u64::MAX.checked_div(unit.unsigned_abs()).unwrap_or(0),
-    }
+        inverse: u64::MAX.checked_div(unit.unsigned_abs())?,
+    })
 }
 
 /// The upper 64 bits of a product.
 fn upper(a: u64, b: u64) -> u64 {
-    let product = u128::from(a).wrapping_mul(u128::from(b));
-    u64::try_from(product.wrapping_shr(64)).unwrap_or(u64::MAX)
+    ((u128::from(a) * u128::from(b)) >> 64) as u64
 }
 
 impl Steps {
     /// The number of steps nearest to a number in the scale's unit (halves away from 0, at most
-    /// 32,767), and the error. It multiplies by the inverse, which gives at most two too few,
-    /// because a division for each sample would take longer than everything else.
-    fn nearest(self, near: i64) -> (i64, i64) {
-        let from = near.saturating_sub(self.middle);
+    /// 32,767), and the error; None if 64 bits cannot hold the number's distance from the middle.
+    /// It multiplies by the inverse, which gives at most two too few, because a division for each
+    /// sample would take longer than everything else.
+    fn nearest(self, near: i64) -> Option<(i64, i64)> {
+        let from = near.checked_sub(self.middle)?;
         let unit = self.unit.unsigned_abs();
-        let half = unit.wrapping_shr(1);
-        let size = from.unsigned_abs().saturating_add(half);
+        let half = unit / 2;
+        let size = from.unsigned_abs().checked_add(half)?;
         let mut count = upper(size, self.inverse);
-        let mut rest = size.wrapping_sub(count.wrapping_mul(unit));
+        let mut rest = size.checked_sub(count.checked_mul(unit)?)?;
         for _ in 0..2 {
             if unit <= rest {
-                count = count.wrapping_add(1);
-                rest = rest.wrapping_sub(unit);
+                count = count.checked_add(1)?;
+                rest -= unit;
             }
         }
-        let mut off = rest.max(half).wrapping_sub(rest.min(half));
+        let mut off = rest.abs_diff(half);
         if MOST < count {
             count = MOST;
-            off = size
-                .wrapping_sub(half)
-                .wrapping_sub(MOST.wrapping_mul(unit));
+            off = from.unsigned_abs().checked_sub(MOST.checked_mul(unit)?)?;
         }
-        let count = i64::try_from(count).unwrap_or(0);
+        let count = i64::try_from(count).ok()?;
         let count = if from < 0 {
-            count.wrapping_neg()
+            count.checked_neg()?
         } else {
             count
         };
-        (count, i64::try_from(off).unwrap_or(i64::MAX))
+        Some((count, i64::try_from(off).ok()?))
     }
 
     /// The same for a float, if 64 bits are enough.
     fn of_float(self, bits: u32) -> Option<(i64, i64)> {
-        let (size, two) = size_of_float(bits)?;
-        let near = self.scale.near_in_64(u64::from(size), two)?;
-        let near = if bits.wrapping_shr(31) == 1 {
-            near.wrapping_neg()
+        let size = size_of_float(bits)?;
+        let near = self.scale.near_in_64(u64::from(size.mant), size.two)?;
+        let near = if bits >> 31 == 1 {
+            near.checked_neg()?
         } else {
             near
         };
-        Some(self.nearest(near))
+        self.nearest(near)
     }
 }
 
@@ -123,9 +118,8 @@ fn tens_of(span: &Span, bounds: Bounds) -> Option<Scale> {
         return None;
     }
     let part = ten_to(span.scale.shift.checked_sub(span.need)?)?;
-    let low = span.low.checked_div(part)?;
-    let high = span.high.checked_div(part)?;
-    if bounds.low <= low && high <= bounds.high {
+    let (low, high) = span.reach.ends()?;
+    if bounds.low <= low.checked_div(part)? && high.checked_div(part)? <= bounds.high {
         Some(Scale::new(span.need))
     } else {
         None
@@ -134,12 +128,13 @@ fn tens_of(span: &Span, bounds: Bounds) -> Option<Scale> {
 
 /// The value of samples that are all the same, if it can be held exactly.
 fn flat_of(span: &Span) -> Option<Exact> {
-    if span.low != span.high {
+    let (low, high) = span.reach.ends()?;
+    if low != high {
         return None;
     }
     if span.need <= span.scale.shift {
         return Some(Exact {
-            units: i128::from(span.low),
+            units: i128::from(low),
             places: span.scale.shift,
         });
     }
@@ -147,43 +142,49 @@ fn flat_of(span: &Span) -> Option<Exact> {
 }
 
 /// The shift that turns unsigned samples into signed ones.
-fn shift_of(span: &Span) -> Option<i64> {
+fn shift_of(span: &Span) -> Option<i32> {
     let part = ten_to(span.scale.shift)?;
-    let (low, high) = (span.low.checked_div(part)?, span.high.checked_div(part)?);
-    if 1 <= low {
+    let (low, high) = span.reach.ends()?;
+    if 1 <= low.checked_div(part)? {
         return Some(32_768);
     }
-    if high <= 65_534 { Some(32_767) } else { None }
+    if high.checked_div(part)? <= 65_534 {
+        Some(32_767)
+    } else {
+        None
+    }
 }
 
-/// How the samples of a channel become whole numbers. `is_unsigned` if they have no sign.
-pub(crate) fn fit_of(span: &Span, bounds: Bounds, is_unsigned: bool) -> Fit {
+/// How the samples of a channel become whole numbers; None if they are too large. `is_unsigned` if
+/// they have no sign.
+pub(crate) fn fit_of(span: &Span, bounds: Bounds, is_unsigned: bool) -> Option<Fit> {
     if span.fits {
-        return Fit::Same;
+        return Some(Fit::Same);
     }
     if is_unsigned {
         if let Some(shift) = shift_of(span) {
-            return Fit::Shift(shift);
+            return Some(Fit::Shift(shift));
         }
     }
     if let Some(value) = flat_of(span) {
-        return Fit::Flat(value);
+        return Some(Fit::Flat(value));
     }
     match tens_of(span, bounds) {
-        Some(scale) => Fit::Tens(scale),
-        None => Fit::Steps(steps_of(span)),
+        Some(scale) => Some(Fit::Tens(scale)),
+        None => Some(Fit::Steps(steps_of(span)?)),
     }
 }
 
 impl Fit {
-    /// The whole number that a sample becomes, and the error in the scale's unit.
-    pub(crate) fn whole_of(&self, num: Num) -> (i64, i64) {
+    /// The whole number that a sample becomes, and the error in the scale's unit; None for a
+    /// sample beyond those that it was chosen for.
+    pub(crate) fn whole_of(&self, num: Num) -> Option<(i64, i64)> {
         match self {
-            Fit::Same => (num.whole().unwrap_or(0), 0),
-            Fit::Shift(by) => (num.whole().unwrap_or(0).saturating_sub(*by), 0),
-            Fit::Tens(scale) => (scale.nearest(num), 0),
-            Fit::Steps(steps) => steps.nearest(steps.scale.nearest(num)),
-            Fit::Flat(_) => (0, 0),
+            Fit::Same => Some((num.whole()?, 0)),
+            Fit::Shift(by) => Some((num.whole()?.checked_sub(i64::from(*by))?, 0)),
+            Fit::Tens(scale) => Some((scale.nearest(num)?, 0)),
+            Fit::Steps(steps) => steps.nearest(steps.scale.nearest(num)?),
+            Fit::Flat(_) => Some((0, 0)),
         }
     }
 

@@ -11,34 +11,29 @@ pub(crate) struct FloatSpan {
     most: i32,
     /// All are multiples of 2^step; the greatest such number while a power of ten may divide
     /// them all.
-    step: i32,
+    step: i64,
     span: Span,
 }
 
 /// A number that compares as the floats do: the bits without the sign, negated if the sign is set.
 fn place_of(bits: u32) -> i32 {
-    let size = i32::try_from(bits & 0x7fff_ffff).unwrap_or(i32::MAX);
-    if bits.wrapping_shr(31) == 1 {
-        size.wrapping_neg()
-    } else {
-        size
-    }
+    let size = (bits & 0x7fff_ffff) as i32;
+    if bits >> 31 == 1 { -size } else { size }
 }
 
 /// The greatest n for which a float is a multiple of 2^n; 0 is a multiple of every power.
-fn step_of(bits: u32) -> i32 {
-    let exponent = bits.wrapping_shr(23) & 0xff;
+fn step_of(bits: u32) -> i64 {
+    let exponent = bits >> 23 & 0xff;
     let fraction = bits & 0x7f_ffff;
     let (mant, exponent) = if exponent == 0 {
         (fraction, 1)
     } else {
-        (fraction | 0x80_0000, exponent)
+        (fraction + 0x80_0000, exponent)
     };
     if mant == 0 {
-        return i32::MAX;
+        return i64::MAX;
     }
-    let twos = exponent.saturating_add(mant.trailing_zeros());
-    i32::try_from(twos).unwrap_or(0).saturating_sub(150)
+    i64::from(exponent) + i64::from(mant.trailing_zeros()) - 150
 }
 
 impl FloatSpan {
@@ -46,7 +41,7 @@ impl FloatSpan {
         FloatSpan {
             least: i32::MAX,
             most: i32::MIN,
-            step: i32::MAX,
+            step: i64::MAX,
             span: Span::new(),
         }
     }
@@ -65,7 +60,7 @@ impl FloatSpan {
         self.most = self.most.max(place);
         self.span.add(num, bounds);
         if 0 <= self.span.need {
-            self.step = 0i32.saturating_sub(self.span.need);
+            self.step = -i64::from(self.span.need);
         }
     }
 

@@ -97,9 +97,8 @@ fn channels_of<A: Allocator + Copy>(
     };
     let mut ids = Ids::new(reader.alloc);
     let wanted = if is_old { 10 } else { 13 };
-    for i in 0..counts.0 {
+    for number in 1..=counts.0 {
         let row = next_row(&mut reader.cursor, reader.mark, reader.notes, wanted)?;
-        let number = i.saturating_add(1);
         let (mut channel, said, text) = analog_of(
             reader.notes,
             reader.mark,
@@ -110,9 +109,8 @@ fn channels_of<A: Allocator + Copy>(
         channels.analog.push(channel)?;
         channels.said.push(said)?;
     }
-    for i in 0..counts.1 {
+    for number in 1..=counts.1 {
         let row = next_row(&mut reader.cursor, reader.mark, reader.notes, 5)?;
-        let number = i.saturating_add(1);
         let (mut channel, text) = status_of(reader.notes, row, number, is_old)?;
         ids.set_apart(reader.notes, &mut channel.id, text, (row.number, number))?;
         channels.status.push(channel)?;
@@ -141,10 +139,11 @@ fn names_of<A: Allocator + Copy>(
     reader: &mut Reader<'_, '_, A>,
 ) -> Result<(Names<A>, Year, u64), ImportFault> {
     let mut row = next_row(&mut reader.cursor, reader.mark, reader.notes, 3)?;
-    if row.parts.full == 4 {
-        if let Some(joint) = joint_of(&row.parts, (0, true), (1, true)) {
-            row.parts = row.parts.joined(joint);
-        }
+    if row.parts.full == 4
+        && let Some(joint) = joint_of(&row.parts, (0, true), (1, true))
+        && let Some(parts) = row.parts.joined(joint)
+    {
+        row.parts = parts;
     }
     let year = year_of(row)?;
     let station = text_of(reader.notes, row.number, row.parts.at(0), 64, None)?;

@@ -4,9 +4,9 @@ use crate::fault::{ImportFault, Why};
 use crate::key::Key;
 use crate::lines::at;
 use crate::note::{Notes, Place};
-use crate::spelled::cut_to;
+use crate::spelled::numbered;
 use crate::text::without_nuls;
-use comtrade_values::{Items, put, put_number};
+use comtrade_values::Items;
 use std::alloc::Allocator;
 use std::collections::BTreeMap;
 
@@ -51,15 +51,12 @@ impl<'a, A: Allocator + Copy> Ids<'a, A> {
             return Ok(());
         }
         for number in self.next.max(place.1)..u64::MAX {
-            let mut end = Vec::new(alloc);
-            put(&mut end, "~")?;
-            put_number(&mut end, number)?;
-            let room = MOST.saturating_sub(end.len());
-            let mut other = Vec::from_slice(alloc, cut_to(id.items(), room))?;
-            other.extend_from_slice(&end)?;
+            let Some(other) = numbered(alloc, id.items(), MOST, number)? else {
+                break;
+            };
             if self.takes(alloc, &other, text)? {
-                notes.tell_text(Key::IdsAlike, Place::Cfg(place.0), &other)?;
-                self.next = number.saturating_add(1);
+                notes.tell_change(Key::IdsAlike, Place::Cfg(place.0), text, &other)?;
+                self.next = number + 1;
                 *id = Items::of(other);
                 return Ok(());
             }

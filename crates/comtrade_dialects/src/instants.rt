@@ -74,8 +74,18 @@ fn order_of<A: Allocator + Copy>(
     Ok(order)
 }
 
-fn day_of(said: Said, order: Order) -> Option<i64> {
-    said.date()?.day_in(order)
+/// The time in a line, if a date is set.
+fn time_of(said: Said, order: Order) -> Result<Option<i64>, ImportFault> {
+    let Some(date) = said.date() else {
+        return Ok(None);
+    };
+    let Some(day) = date.day_in(order) else {
+        return Err(at(said.line, Why::NoDate));
+    };
+    match instant_of(day, said.micros()) {
+        Some(time) => Ok(Some(time)),
+        None => Err(at(said.line, Why::NoDate)),
+    }
 }
 
 /// The times in both lines, read in one order.
@@ -86,12 +96,15 @@ fn settled<A: Allocator + Copy>(
     order: Order,
 ) -> Result<Instants, ImportFault> {
     let has_nanos = first.is_long() || trigger.is_long();
-    let start = instant_of(day_of(first, order).unwrap_or(0), first.micros());
-    if first.date().is_none() {
-        notes.tell(Key::InstantUnset, Place::Cfg(first.line), b"first row")?;
-    }
-    let end = match day_of(trigger, order) {
-        Some(day) => instant_of(day, trigger.micros()),
+    let start = match time_of(first, order)? {
+        Some(time) => time,
+        None => {
+            notes.tell(Key::InstantUnset, Place::Cfg(first.line), b"first row")?;
+            first.micros()
+        }
+    };
+    let end = match time_of(trigger, order)? {
+        Some(time) => time,
         None if first.date().is_some() => {
             notes.tell(Key::TriggerUnset, Place::Cfg(trigger.line), &[])?;
             start

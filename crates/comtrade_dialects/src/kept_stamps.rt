@@ -5,6 +5,7 @@ use crate::fault::{ImportFault, Why};
 use crate::key::Key;
 use crate::note::Notes;
 use crate::num::Num;
+use crate::numbers::Tick;
 use crate::stamps::Track;
 use comtrade_values::Decimal;
 use std::alloc::Allocator;
@@ -21,11 +22,11 @@ pub(crate) fn stamps_by_rate<A: Allocator + Copy>(
     let mut fits = true;
     for i in 0..track.ticks.len() {
         let stamp = match clock.time_of(&mut at, i as u64) {
-            Some((time, _)) => rounded(time, 1_000_000),
-            None => i128::MAX,
+            Some((time, _)) => stamp_within(track, rounded(time, 1_000_000)),
+            None => None,
         };
-        fits = fits && stamp <= track.most;
-        list.push(u64::try_from(stamp).ok())?;
+        fits = fits && stamp.is_some();
+        list.push(stamp)?;
     }
     if !fits {
         for stamp in list.iter_mut() {
@@ -35,29 +36,62 @@ pub(crate) fn stamps_by_rate<A: Allocator + Copy>(
     Ok(list)
 }
 
-/// The time from which stamps are counted: the least stamp.
-pub(crate) fn start_of(track: &Track<'_>) -> i128 {
-    let mut start: Option<i128> = None;
-    for tick in track.ticks {
-        if let Some(stamp) = tick.stamp {
-            let time = time_of_stamp(stamp, track.timemult).unwrap_or(0);
-            start = Some(match start {
-                Some(start) => start.min(time),
-                None => time,
-            });
-        }
+/// A number as a stamp, if the form of the data can hold it.
+fn stamp_within(track: &Track<'_>, number: Option<i128>) -> Option<u64> {
+    let number = number?;
+    if track.most < number {
+        return None;
     }
-    start.unwrap_or(0)
+    u64::try_from(number).ok()
 }
 
-/// The unit of whole stamps in picoseconds; a microsecond if stamps with a point would lose more.
-fn unit_of(track: &Track<'_>) -> (i128, Decimal) {
-    let unit = time_of_stamp(Num::of(1), track.timemult).unwrap_or(0);
-    let micro = 1_000_000i128;
-    match Decimal::new(1, 0) {
-        Some(one) if unit < 1 || track.is_pointed && micro < unit => (micro, one),
-        _ => (unit, track.timemult),
+/// The time that a tick's stamp means, if it has one.
+pub(crate) fn time_of_tick(tick: &Tick, timemult: Decimal) -> Option<i128> {
+    time_of_stamp(tick.stamp?, timemult)
+}
+
+/// The time of a tick since the start, divided by so much, if it has one.
+pub(crate) fn time_since(
+    track: &Track<'_>,
+    tick: &Tick,
+    start: Option<i128>,
+    part: i128,
+) -> Option<u64> {
+    let time = time_of_tick(tick, track.timemult)?;
+    u64::try_from(rounded(time.checked_sub(start?)?, part)?).ok()
+}
+
+/// The time from which stamps are counted: that of the least stamp.
+pub(crate) fn start_of(track: &Track<'_>) -> Option<i128> {
+    let mut start: Option<i128> = None;
+    for tick in track.ticks {
+        if let Some(time) = time_of_tick(tick, track.timemult) {
+            start = Some(start.map_or(time, |start| start.min(time)));
+        }
     }
+    start
+}
+
+/// The unit of whole stamps in picoseconds; a microsecond if stamps with a point would lose more, or
+/// if the unit is below a picosecond or beyond 128 bits.
+fn unit_of(track: &Track<'_>, one: Decimal) -> (i128, Decimal) {
+    match time_of_stamp(Num::of(1), track.timemult) {
+        Some(unit) if 1 <= unit && (!track.is_pointed || unit <= 1_000_000) => {
+            (unit, track.timemult)
+        }
+        _ => (1_000_000, one),
+    }
+}
+
+/// A stamp counted from the start in steps; None if the form of the data cannot hold it.
+fn kept_stamp(
+    track: &Track<'_>,
+    stamp: Num,
+    start: Option<i128>,
+    step: Option<i128>,
+) -> Option<u64> {
+    let time = time_of_stamp(stamp, track.timemult)?;
+    stamp_within(track, rounded(time.checked_sub(start?)?, step?))
 }
 
 /// The stamps that are kept, counted from 0, and their time multiplier.
@@ -68,28 +102,27 @@ pub(crate) fn kept<A: Allocator + Copy>(
     part: i128,
 ) -> Result<(Vec<Option<u64>, A>, Decimal), ImportFault> {
     let start = start_of(track);
-    if start != 0 {
+    if start.is_some_and(|start| start != 0) {
         notes.tell(Key::StampsShifted, track.place, &[])?;
     }
     if track.is_pointed {
         notes.tell(Key::StampsDecimal, track.place, &[])?;
     }
-    let (unit, timemult) = unit_of(track);
-    let step = unit.saturating_mul(part);
+    let Some(one) = Decimal::new(1, 0) else {
+        return Err(ImportFault::Whole(Why::Number));
+    };
+    let (unit, timemult) = unit_of(track, one);
+    let step = unit.checked_mul(part);
     let mut list = Vec::new(alloc);
-    for (i, tick) in track.ticks.iter().enumerate() {
-        let stamp = match tick.stamp {
-            None => None,
-            Some(stamp) => {
-                let time = time_of_stamp(stamp, track.timemult).unwrap_or(i128::MAX);
-                let n = rounded(time.saturating_sub(start), step);
-                if track.most < n {
-                    return Err(ImportFault::Dat((i as u64).saturating_add(1), Why::Value));
-                }
-                u64::try_from(n).ok()
-            }
+    for (row, tick) in (1u64..).zip(track.ticks.iter()) {
+        let Some(stamp) = tick.stamp else {
+            list.push(None)?;
+            continue;
         };
-        list.push(stamp)?;
+        let Some(kept) = kept_stamp(track, stamp, start, step) else {
+            return Err(ImportFault::Dat(row, Why::Value));
+        };
+        list.push(Some(kept))?;
     }
     Ok((list, timemult))
 }

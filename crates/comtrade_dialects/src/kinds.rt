@@ -27,6 +27,9 @@ pub(crate) fn form_of(text: &[u8]) -> Option<Form> {
     None
 }
 
+/// The bytes before the values of a row: its number and its stamp.
+const FRONT: usize = 8;
+
 impl Form {
     /// The bytes of a value.
     fn width(self) -> usize {
@@ -37,13 +40,11 @@ impl Form {
         }
     }
 
-    /// The bytes of a row of k values and m bits.
-    pub(crate) fn row_size(self, k: usize, m: usize) -> usize {
-        let words = m.saturating_add(15).wrapping_div(16);
-        self.width()
-            .saturating_mul(k)
-            .saturating_add(words.saturating_mul(2))
-            .saturating_add(8)
+    /// The bytes of a row of k values and m bits; None if memory cannot hold one.
+    pub(crate) fn row_size(self, k: usize, m: usize) -> Option<usize> {
+        let values = self.width().checked_mul(k)?;
+        let words = m.div_ceil(16).checked_mul(2)?;
+        values.checked_add(words)?.checked_add(FRONT)
     }
 
     /// Whether the data are text.

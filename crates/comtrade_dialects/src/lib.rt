@@ -31,6 +31,7 @@ mod marks;
 mod note;
 mod num;
 mod numbers;
+mod numeral;
 mod packed_row;
 mod pair;
 mod range;

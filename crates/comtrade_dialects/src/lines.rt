@@ -5,10 +5,10 @@ use crate::fault::{ImportFault, Why};
 use crate::field::Parts;
 use crate::key::Key;
 use crate::note::{Notes, Place};
-use crate::num::spelled_of;
-use crate::spelled::{cut_to, plain_of};
+use crate::numeral::spelled_of;
+use crate::spelled::{cut_to, numbered, plain_of};
 use crate::text::without_nuls;
-use comtrade_values::{Decimal, Items, put, put_number};
+use comtrade_values::{Decimal, Items};
 use std::alloc::{AllocError, Allocator};
 
 /// The remaining lines, the separator between their fields, and the notes so far.
@@ -160,24 +160,23 @@ pub(crate) fn text_of<A: Allocator + Copy>(
     let plain = plain_of(alloc, text)?;
     let place = Place::Cfg(line);
     if plain.is_spelled {
-        notes.tell_text(Key::TextsNotAscii, place, &plain.bytes)?;
+        notes.tell_change(Key::TextsNotAscii, place, text, &plain.bytes)?;
     }
     if plain.had_comma {
-        notes.tell_text(Key::TextComma, place, &plain.bytes)?;
+        notes.tell_change(Key::TextComma, place, text, &plain.bytes)?;
     }
     let whole = cut_to(&plain.bytes, plain.bytes.len());
     if whole.len() <= most {
         return Ok(Items::of(Vec::from_slice(alloc, whole)?));
     }
-    notes.tell_text(Key::TextLong, place, whole)?;
-    let mut end = Vec::new(alloc);
-    if let Some(number) = number {
-        put(&mut end, "~")?;
-        put_number(&mut end, number)?;
+    notes.tell_text(Key::TextLong, place, text)?;
+    let Some(number) = number else {
+        return Ok(Items::of(Vec::from_slice(alloc, cut_to(whole, most))?));
+    };
+    match numbered(alloc, whole, most, number)? {
+        Some(short) => Ok(Items::of(short)),
+        None => Err(at(line, Why::ManyChannels)),
     }
-    let mut short = Vec::from_slice(alloc, cut_to(whole, most.saturating_sub(end.len())))?;
-    short.extend_from_slice(&end)?;
-    Ok(Items::of(short))
 }
 
 /// A phase; one of more than two bytes is left out.
@@ -191,7 +190,7 @@ pub(crate) fn phase_of<A: Allocator + Copy>(
     let plain = plain_of(alloc, text)?;
     let whole = cut_to(&plain.bytes, plain.bytes.len());
     if 2 < whole.len() {
-        notes.tell_text(Key::PhaseLong, Place::Cfg(line), whole)?;
+        notes.tell_text(Key::PhaseLong, Place::Cfg(line), text)?;
         return Ok(Items::of(Vec::new(alloc)));
     }
     text_of(notes, line, text, 2, None)

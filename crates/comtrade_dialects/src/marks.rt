@@ -3,7 +3,7 @@
 use crate::cursor::Cursor;
 use crate::draft::Revision;
 use crate::field::Fields;
-use crate::num::spelled_of;
+use crate::numeral::spelled_of;
 use crate::row::{Counts, Plan};
 use memchr::memchr;
 use std::alloc::{AllocError, Allocator};
@@ -22,10 +22,10 @@ fn has_nines(text: &[u8]) -> bool {
     for b in text {
         if *b != b'9' {
             count = 0;
-        } else if count == 4 {
-            return true;
+        } else if count < 4 {
+            count += 1;
         } else {
-            count = count.saturating_add(1);
+            return true;
         }
     }
     false

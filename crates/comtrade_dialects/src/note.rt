@@ -65,7 +65,7 @@ impl<A: Allocator> Note<A> {
 
     /// Adds the place and the piece to the details, if there is room.
     fn add(&mut self, place: Place, piece: &[u8]) -> Result<(), AllocError> {
-        self.count = self.count.saturating_add(1);
+        self.count = self.count.saturating_add(1); // (no file has 2^64 repairs)
         if DETAILS < self.details.len() {
             return Ok(());
         }
@@ -145,6 +145,21 @@ impl<A: Allocator + Copy> Notes<A> {
         note.add(place, piece)?;
         self.list.push(note)?;
         Ok(())
+    }
+
+    /// Notes the change of a text; both are quoted.
+    pub(crate) fn tell_change(
+        &mut self,
+        key: Key,
+        place: Place,
+        text: &[u8],
+        made: &[u8],
+    ) -> Result<(), AllocError> {
+        let mut piece = Vec::new(*self.list.allocator());
+        put_quoted(&mut piece, text)?;
+        put(&mut piece, " became ")?;
+        put_quoted(&mut piece, made)?;
+        self.tell(key, place, &piece)
     }
 
     /// Notes a repair of a text, which is quoted.

@@ -27,17 +27,15 @@ pub(crate) enum Run {
 }
 
 pub(crate) fn run_of(ticks: &[Tick]) -> Run {
-    let mut wanted = 1i64;
     let mut is_plain = true;
     let mut rises = true;
     let mut has_gap = false;
     let mut before: Option<i64> = None;
-    for tick in ticks {
+    for (wanted, tick) in (1i64..).zip(ticks) {
         is_plain = is_plain && tick.number == wanted;
-        wanted = wanted.saturating_add(1);
         if let Some(before) = before {
             rises = rises && before < tick.number;
-            has_gap = has_gap || before.saturating_add(1) < tick.number;
+            has_gap = has_gap || lost_between(before, tick.number).is_some();
         }
         before = Some(tick.number);
     }
@@ -51,27 +49,33 @@ pub(crate) fn run_of(ticks: &[Tick]) -> Run {
     }
 }
 
+/// How many rows are lost between two numbers, if any are.
+fn lost_between(before: i64, number: i64) -> Option<u64> {
+    if number <= before {
+        return None;
+    }
+    match number.abs_diff(before).checked_sub(1)? {
+        0 => None,
+        lost => Some(lost),
+    }
+}
+
 /// Notes where rows are lost, and how many.
 pub(crate) fn tell_lost<A: Allocator + Copy>(
     notes: &mut Notes<A>,
     ticks: &[Tick],
 ) -> Result<(), ImportFault> {
     let mut before: Option<i64> = None;
-    for (i, tick) in ticks.iter().enumerate() {
+    for (row, tick) in (1u64..).zip(ticks) {
         if let Some(before) = before {
-            let gap = tick.number.saturating_sub(before).saturating_sub(1);
-            if 0 < gap {
+            if let Some(gap) = lost_between(before, tick.number) {
                 let mut piece = Vec::new(notes.allocator());
-                put_number(&mut piece, gap.unsigned_abs())?;
+                put_number(&mut piece, gap)?;
                 put(
                     &mut piece,
                     " missing before it; no rate is written, times come from the time stamps",
                 )?;
-                notes.tell(
-                    Key::RowsLost,
-                    Place::Row((i as u64).saturating_add(1)),
-                    &piece,
-                )?;
+                notes.tell(Key::RowsLost, Place::Row(row), &piece)?;
             }
         }
         before = Some(tick.number);
@@ -84,8 +88,7 @@ pub(crate) fn tell_numbers<A: Allocator + Copy>(
     notes: &mut Notes<A>,
     ticks: &[Tick],
 ) -> Result<(), ImportFault> {
-    let mut wanted = 1i64;
-    for tick in ticks {
+    for (wanted, tick) in (1i64..).zip(ticks) {
         if tick.number != wanted {
             let mut piece = Vec::new(notes.allocator());
             if tick.number < 0 {
@@ -99,7 +102,6 @@ pub(crate) fn tell_numbers<A: Allocator + Copy>(
             )?;
             return Ok(());
         }
-        wanted = wanted.saturating_add(1);
     }
     Ok(())
 }
@@ -135,7 +137,7 @@ pub(crate) fn rates_for<A: Allocator + Copy>(
     let mut before = 0u64;
     let count = draft.rates.list.len();
     for (i, rate) in draft.rates.list.iter().enumerate() {
-        let is_last = i.saturating_add(1) == count;
+        let is_last = i + 1 == count;
         let endsamp = if is_last {
             rows
         } else {

@@ -1,7 +1,7 @@
 //! Reads a pair as a file, with all repairs that it needs.
 
 use crate::build::file_of;
-use crate::cursor::before;
+use crate::cursor::around;
 use crate::dates::Order;
 use crate::draft::Draft;
 use crate::encoding::{narrow, without_mark};
@@ -12,7 +12,6 @@ use crate::note::{Notes, Place};
 use crate::text::without_empty_end;
 use comtrade_format::File;
 use comtrade_letters::{Encoding, in_utf8};
-use memchr::memchr;
 use std::alloc::Allocator;
 
 /// Choices for a file that can be read in two ways.
@@ -30,15 +29,15 @@ fn before_end<'a, A: Allocator + Copy>(
     text: &'a [u8],
 ) -> Result<&'a [u8], ImportFault> {
     let place = Place::Whole("configuration file");
-    let text = match memchr(0x1a, text) {
-        Some(at) => {
+    let text = match around(text, 0x1a) {
+        Some((text, _)) => {
             notes.tell(Key::Cfg1a, place, &[])?;
-            before(text, at)
+            text
         }
         None => text,
     };
-    let meant = without_empty_end(text, b',');
-    if text.get(meant.len()..).unwrap_or(&[]).contains(&b',') {
+    let (meant, left_out) = without_empty_end(text, b',');
+    if left_out.contains(&b',') {
         notes.tell(Key::TrailingCommas, place, &[])?;
     }
     Ok(meant)

@@ -6,7 +6,7 @@ use crate::fault::{ImportFault, Why};
 use crate::key::Key;
 use crate::lines::{at, tell_empty};
 use crate::note::{Notes, Place};
-use crate::num::spelled_of;
+use crate::numeral::spelled_of;
 use comtrade_values::integer_of;
 use std::alloc::Allocator;
 

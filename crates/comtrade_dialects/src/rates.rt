@@ -25,10 +25,11 @@ fn count_of<A: Allocator + Copy>(
             .notes
             .tell_text(Key::RatesForm, Place::Cfg(row.number), text)?;
     }
-    match whole_of(number) {
-        Some(n) if 0 <= n => Ok(u64::try_from(n).unwrap_or(u64::MAX)),
-        _ => Err(at(row.number, Why::Number)),
-    }
+    let count = match whole_of(number) {
+        Some(n) => u64::try_from(n).ok(),
+        None => None,
+    };
+    count.ok_or(at(row.number, Why::Number))
 }
 
 fn rate_count<A: Allocator + Copy>(
@@ -96,12 +97,12 @@ fn rates_in<A: Allocator + Copy>(
     let mut list = Vec::new(reader.alloc);
     let mut last = 0u64;
     let mut is_usable = true;
-    for i in 0..count {
+    for number in 1..=count {
         let (rate, line) = rate_of(reader)?;
         if rate.endsamp < last {
             return Err(at(line, Why::RateOrder));
         }
-        let is_last = i.saturating_add(1) == count;
+        let is_last = number == count;
         let has_rows = last < rate.endsamp || is_last && list.is_empty();
         last = rate.endsamp;
         if !has_rows {

@@ -1,9 +1,9 @@
 //! The rows of a file of 1999: the readings that samples become.
 
-use crate::fault::ImportFault;
+use crate::fault::{ImportFault, Why};
 use crate::num::{Num, num_of_float};
-use crate::packed_row::float_at;
-use crate::row::{Cells, Packed, Rows};
+use crate::packed_row::Bytes;
+use crate::row::{Cells, Rows};
 use crate::scaled::Made;
 use crate::survey::{Ground, next_cells, next_floats};
 use comtrade_format::Row;
@@ -11,56 +11,63 @@ use comtrade_values::Items;
 use dfr_channels::Reading;
 use std::alloc::Allocator;
 
-/// The reading that a sample becomes.
-fn reading_of(made: &mut Made, num: Option<Num>) -> Reading {
+/// The reading that a sample becomes; None for a sample beyond those of the survey.
+fn reading_of(made: &mut Made, num: Option<Num>) -> Option<Reading> {
     let Some(num) = num else {
-        return Reading::Missing;
+        return Some(Reading::Missing);
     };
-    let whole = made.fit.whole_of(num);
+    let whole = made.fit.whole_of(num)?;
     reading_at(made, whole)
 }
 
 /// The reading of a whole number, given its error.
-fn reading_at(made: &mut Made, (n, off): (i64, i64)) -> Reading {
+fn reading_at(made: &mut Made, (n, off): (i64, i64)) -> Option<Reading> {
     made.worst = made.worst.max(off);
-    match i32::try_from(n) {
-        Ok(n) => Reading::Value(n),
-        Err(_) => Reading::Missing,
-    }
+    Some(Reading::Value(i32::try_from(n).ok()?))
 }
 
 /// The reading that a float becomes.
-fn reading_of_float(made: &mut Made, bits: u32) -> Reading {
+fn reading_of_float(made: &mut Made, bits: u32) -> Option<Reading> {
     match made.fit.whole_of_float(bits) {
         Some(whole) => reading_at(made, whole),
         None => reading_of(made, num_of_float(bits)),
     }
 }
 
-/// The readings of a row whose samples are in the cells.
+/// The readings of the row with this number, whose samples are in the cells.
 fn readings_of<A: Allocator + Copy>(
     alloc: A,
     cells: &Cells<A>,
     made: &mut [Made],
+    number: u64,
 ) -> Result<Vec<Reading, A>, ImportFault> {
     let mut values = Vec::with_capacity(alloc, made.len())?;
     for (value, made) in cells.values.iter().zip(made.iter_mut()) {
-        values.push(reading_of(made, *value))?;
+        let Some(reading) = reading_of(made, *value) else {
+            return Err(ImportFault::Dat(number, Why::Scale));
+        };
+        values.push(reading)?;
     }
     Ok(values)
 }
 
-/// The readings of a row of floats.
+/// The readings of the row of floats with this number.
 fn readings_of_floats<A: Allocator + Copy>(
     alloc: A,
-    row: &[u8],
-    packed: Packed<'_>,
+    floats: Bytes<'_>,
     made: &mut [Made],
+    number: u64,
 ) -> Result<Vec<Reading, A>, ImportFault> {
+    let mut left = floats;
     let mut values = Vec::with_capacity(alloc, made.len())?;
-    for (channel, made) in made.iter_mut().enumerate() {
-        let bits = float_at(row, channel, packed);
-        values.push(reading_of_float(made, bits))?;
+    for made in made.iter_mut() {
+        let Some(bits) = left.next_long() else {
+            return Err(ImportFault::Dat(number, Why::Length));
+        };
+        let Some(reading) = reading_of_float(made, bits) else {
+            return Err(ImportFault::Dat(number, Why::Scale));
+        };
+        values.push(reading)?;
     }
     Ok(values)
 }
@@ -72,14 +79,15 @@ fn next_readings<'a, A: Allocator + Copy>(
     rows: &mut Rows<'a>,
     cells: &mut Cells<A>,
     made: &mut [Made],
+    number: u64,
 ) -> Result<Vec<Reading, A>, ImportFault> {
     if let Some(packed) = ground.floats() {
-        if let Some(row) = next_floats(ground, packed, rows, cells)? {
-            return readings_of_floats(alloc, row, packed, made);
+        if let Some(floats) = next_floats(ground, packed, rows, cells)? {
+            return readings_of_floats(alloc, floats, made, number);
         }
     }
     let _ = next_cells(ground, rows, cells)?;
-    readings_of(alloc, cells, made)
+    readings_of(alloc, cells, made, number)
 }
 
 /// The rows as they are written.
@@ -92,11 +100,9 @@ pub(crate) fn rows_of<A: Allocator + Copy>(
     let mut list = Vec::with_capacity(alloc, stamps.len())?;
     let mut rows = Rows::of(ground.plan);
     let mut cells = Cells::new(alloc);
-    let mut number = 0u64;
-    for stamp in stamps {
-        let values = next_readings(alloc, ground, &mut rows, &mut cells, made)?;
+    for (number, stamp) in (1u64..).zip(stamps) {
+        let values = next_readings(alloc, ground, &mut rows, &mut cells, made, number)?;
         let bits = Vec::from_slice(alloc, &cells.bits)?;
-        number = number.saturating_add(1);
         list.push(Row {
             number,
             stamp: *stamp,

@@ -1,5 +1,7 @@
 //! Iterates over rows of data of any form.
 
+ghost use Rattle.std.specs.Prelude.{◌≤◌};
+
 use crate::cursor::{Cursor, Line};
 use crate::fault::Why;
 use crate::kinds::Form;
@@ -8,6 +10,7 @@ use crate::packed_row::read_packed;
 use crate::text_row::read_line;
 use comtrade_values::Memory;
 use std::alloc::Allocator;
+use std::ops::RangeFrom;
 
 /// Rows of binary data: only whole rows.
 #[derive(Clone, Copy)]
@@ -17,6 +20,14 @@ pub(crate) struct Packed<'a> {
     pub is_big: bool,
     /// The number of bytes in a row.
     pub size: usize,
+    ghost has_front: { 8 ≤ size },
+}
+
+impl Packed<'_> {
+    /// The number of rows.
+    pub(crate) fn count(&self) -> usize {
+        self.bytes.len() / self.size
+    }
 }
 
 /// Where the rows are, and in which form.
@@ -96,11 +107,13 @@ where
 }
 
 /// The remaining rows.
-#[derive(Clone, Copy)]
+#[derive(Drop)]
 pub(crate) struct Rows<'a> {
     plan: Plan<'a>,
     cursor: Cursor<'a>,
-    index: usize,
+    /// Those of binary data, and their numbers.
+    bytes: &'a [u8],
+    numbers: RangeFrom<u64>,
 }
 
 /// The result of a step over the rows.
@@ -114,14 +127,15 @@ pub(crate) enum Step {
 
 impl<'a> Rows<'a> {
     pub(crate) fn of(plan: Plan<'a>) -> Rows<'a> {
-        let text = match plan {
-            Plan::Text(text, _) => text,
-            Plan::Packed(_) => &[],
+        let (text, bytes): (&'a [u8], &'a [u8]) = match plan {
+            Plan::Text(text, _) => (text, &[]),
+            Plan::Packed(packed) => (&[], packed.bytes),
         };
         Rows {
             plan,
             cursor: Cursor::new(text),
-            index: 0,
+            bytes,
+            numbers: 1..,
         }
     }
 
@@ -157,10 +171,9 @@ impl<'a> Rows<'a> {
 
     /// The next row of binary data, and its number.
     pub(crate) fn next_packed(&mut self, packed: Packed<'a>) -> Option<(u64, &'a [u8])> {
-        let from = self.index.saturating_mul(packed.size);
-        let row = packed.bytes.get(from..from.saturating_add(packed.size))?;
-        self.index = self.index.saturating_add(1);
-        Some((self.index as u64, row))
+        let (row, rest) = self.bytes.split_at_checked(packed.size)?;
+        self.bytes = rest;
+        Some((self.numbers.next()?, row))
     }
 
     /// The next row.

@@ -1,12 +1,12 @@
 //! Reads a line with a date and time, before the order of day and month is known.
 
-use crate::cursor::Cursor;
+use crate::cursor::{Cursor, around};
 use crate::dates::{Civil, Clock, Order, civil_of, clock_of, is_like_instant};
 use crate::fault::{ImportFault, Why};
 use crate::key::Key;
 use crate::lines::{Reader, Row, at, next_row};
 use crate::note::{Notes, Place};
-use crate::text::{place_of, put_quoted};
+use crate::text::{around_any, put_quoted};
 use comtrade_values::{put, put_number, trim};
 use std::alloc::Allocator;
 
@@ -30,20 +30,16 @@ fn texts_of<'a>(row: Row<'a>, mark: u8) -> (&'a [u8], &'a [u8], bool) {
         };
         return (field, time, false);
     }
-    match place_of(field, b" \t").or(place_of(field, b"T")) {
-        Some(at) => (
-            field.get(..at).unwrap_or(&[]),
-            trim(field.get(at.wrapping_add(1)..).unwrap_or(&[])),
-            true,
-        ),
+    match around_any(field, b" \t").or(around_any(field, b"T")) {
+        Some((date, time)) => (date, trim(time), true),
         None => (field, &field[field.len()..], false),
     }
 }
 
 /// The text after the first separator of a line.
 fn rest_after(line: &[u8], mark: u8) -> &[u8] {
-    match place_of(line, &[mark]) {
-        Some(at) => trim(line.get(at.wrapping_add(1)..).unwrap_or(&[])),
+    match around(line, mark) {
+        Some((_, rest)) => trim(rest),
         None => line,
     }
 }

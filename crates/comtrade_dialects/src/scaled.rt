@@ -53,6 +53,15 @@ fn set_same<A: Allocator + Copy>(
     Ok(())
 }
 
+/// A bound of a range less a shift, within those that 1999 can hold.
+fn bound_less(bound: i32, by: i32) -> i32 {
+    match bound.checked_sub(by) {
+        Some(less) if 99_999 < less => 99_999,
+        Some(less) if -99_999 <= less => less,
+        _ => -99_999,
+    }
+}
+
 /// Sets the range and the scale of a channel whose samples change.
 fn set_other<A: Allocator + Copy>(
     channel: &mut AnalogChannel<A>,
@@ -70,13 +79,7 @@ fn set_other<A: Allocator + Copy>(
     channel.a = a;
     channel.b = b;
     let (low, high) = match fit {
-        Fit::Shift(by) => {
-            let by = i32::try_from(*by).unwrap_or(0);
-            (
-                channel.min.saturating_sub(by).max(-99_999),
-                channel.max.saturating_sub(by).min(99_999),
-            )
-        }
+        Fit::Shift(by) => (bound_less(channel.min, *by), bound_less(channel.max, *by)),
         _ => range_for(fit, is_text),
     };
     channel.min = low;
@@ -94,8 +97,11 @@ fn made_of<A: Allocator + Copy>(
 ) -> Result<Made, ImportFault> {
     let (is_unsigned, ground) = place;
     let is_text = ground.is_text();
+    let Some(fit) = fit_of(span, ground.bounds, is_unsigned) else {
+        return Err(ImportFault::Cfg(said.line, Why::Scale));
+    };
     let made = Made {
-        fit: fit_of(span, ground.bounds, is_unsigned),
+        fit,
         factor: channel.a,
         worst: 0,
         shift: span.scale.shift,
@@ -108,22 +114,20 @@ fn made_of<A: Allocator + Copy>(
     Ok(made)
 }
 
-/// Notes how the samples change.
+/// Notes how the samples change, by the form in which they were found.
 fn tell_samples<A: Allocator + Copy>(
     notes: &mut Notes<A>,
-    form: Option<Form>,
+    form: Form,
     survey: &Survey<A>,
     made: &[Made],
 ) -> Result<(), ImportFault> {
     if survey.has_points {
         notes.tell(Key::ValuesDecimal, Place::Whole("data file"), &[])?;
     }
-    if form == Some(Form::Float32) {
+    if form == Form::Float32 {
         return Ok(());
     }
-    let mut number = 0u64;
-    for (span, made) in survey.spans.iter().zip(made.iter()) {
-        number = number.saturating_add(1);
+    for (number, (span, made)) in (1u64..).zip(survey.spans.iter().zip(made.iter())) {
         if let Fit::Shift(_) = made.fit {
             notes.tell(Key::ValuesUnsigned, Place::Channel(number), &[])?;
         } else if span.is_whole && !made.fit.is_same() {
@@ -140,18 +144,17 @@ pub(crate) fn settle_channels<A: Allocator + Copy>(
     channels: &mut Vec<AnalogChannel<A>, A>,
     said: &[Said],
     survey: &Survey<A>,
-    ground: (Ground<'_>, Option<Form>),
+    ground: Ground<'_>,
 ) -> Result<Vec<Made, A>, ImportFault> {
-    let (ground, form) = ground;
     let mut list = Vec::new(alloc);
     for (i, channel) in channels.iter_mut().enumerate() {
         let (Some(said), Some(span)) = (said.get(i), survey.spans.get(i)) else {
             return Err(ImportFault::Whole(Why::NoRow));
         };
-        let is_unsigned = ground.unsigned.get(i).copied().unwrap_or(false);
+        let is_unsigned = ground.unsigned.get(i).copied() == Some(true);
         list.push(made_of(notes, channel, *said, span, (is_unsigned, ground))?)?;
     }
-    tell_samples(notes, form, survey, &list)?;
+    tell_samples(notes, ground.plan.form(), survey, &list)?;
     Ok(list)
 }
 
@@ -163,7 +166,7 @@ fn tell_error<A: Allocator + Copy>(
     number: u64,
 ) -> Result<(), ImportFault> {
     let off = Exact {
-        units: i128::from(made.worst.saturating_add(1)),
+        units: i128::from(made.worst) + 1,
         places: made.shift,
     };
     let error = match Exact::of(made.factor).short().times(off.rounded_up()) {
@@ -188,9 +191,7 @@ pub(crate) fn tell_errors<A: Allocator + Copy>(
     channels: &[AnalogChannel<A>],
     made: &[Made],
 ) -> Result<(), ImportFault> {
-    let mut number = 0u64;
-    for (channel, made) in channels.iter().zip(made.iter()) {
-        number = number.saturating_add(1);
+    for (number, (channel, made)) in (1u64..).zip(channels.iter().zip(made.iter())) {
         if made.fit.is_rounded() {
             tell_error(notes, channel, *made, number)?;
         }

@@ -1,11 +1,10 @@
 //! Splits a single file (.cff) of 2013 into its sections (IEC 60255-24:2013, 10).
 
-use crate::cursor::{after, before};
+use crate::cursor::around;
 use crate::fault::{ImportFault, Why};
 use crate::kinds::form_of;
-use crate::text::{has_only, place_of};
+use crate::text::{before_any, has_only};
 use comtrade_values::{integer_of, trim};
-use memchr::memchr;
 
 /// The kinds of sections.
 #[derive(Clone, Copy, PartialEq, Eq)]
@@ -49,9 +48,8 @@ const LONGEST: usize = 120;
 /// The next word, and the rest after it.
 fn word_of(text: &[u8]) -> (&[u8], &[u8]) {
     let text = trim(text);
-    let end = place_of(text, b" \t:");
-    match end {
-        Some(at) => (before(text, at), trim(text.get(at..).unwrap_or(&[]))),
+    match before_any(text, b" \t:") {
+        Some((word, rest)) => (word, trim(rest)),
         None => (text, &text[text.len()..]),
     }
 }
@@ -65,15 +63,15 @@ fn after_colon(text: &[u8]) -> &[u8] {
 }
 
 fn without_dashes(line: &[u8]) -> &[u8] {
-    let mut front = line.len();
-    let mut end = 0usize;
-    for (i, b) in line.iter().enumerate() {
-        if *b != b'-' {
-            front = front.min(i);
-            end = i.saturating_add(1);
+    let mut inner = line;
+    for _ in 0..line.len() {
+        match inner {
+            [b'-', rest @ ..] => inner = rest,
+            [rest @ .., b'-'] => inner = rest,
+            _ => break,
         }
     }
-    trim(line.get(front..end).unwrap_or(&[]))
+    trim(inner)
 }
 
 /// The data section with this type and byte count.
@@ -125,28 +123,33 @@ fn has_lowercase(text: &[u8]) -> bool {
 
 /// Whether a line has the standard form.
 fn is_usual(line: &[u8], section: Section) -> bool {
-    let front = b"--- file type: ";
-    let is_framed = line.starts_with(front) && line.ends_with(b" ---");
-    let body = line.get(front.len()..).unwrap_or(&[]);
+    let Some(body) = line.strip_prefix(b"--- file type: ") else {
+        return false;
+    };
     let names_kind = section != Section::Text || body.starts_with(b"DAT ASCII");
+    let is_framed = line.ends_with(b" ---");
     is_framed && names_kind && section != Section::Bytes(None) && !has_lowercase(body)
 }
 
-/// Where the first line of a text ends: at its line feed, or at a carriage return that is not part
-/// of such an end.
-fn end_of(text: &[u8]) -> Option<usize> {
-    let feed = memchr(b'\n', text);
-    let Some(back) = memchr(b'\r', text) else {
-        return feed;
+/// The first line of a text. It ends at a line feed, or at a carriage return that is not part of such
+/// an end.
+fn first_line(text: &[u8]) -> Option<&[u8]> {
+    let Some((line, rest)) = around(text, b'\r') else {
+        let (line, _) = around(text, b'\n')?;
+        return Some(line);
     };
-    if feed.is_some_and(|feed| feed < back) {
-        return feed;
+    match around(text, b'\n') {
+        Some((by_feed, _)) if by_feed.len() < line.len() => Some(by_feed),
+        Some((by_feed, _)) if rest.starts_with(b"\n") || rest.starts_with(b"\r\n") => Some(by_feed),
+        _ => Some(line),
     }
-    match text.get(back..) {
-        Some([_, b'\n', ..]) => feed,
-        Some([_, b'\r', b'\n', ..]) => feed,
-        _ => Some(back),
-    }
+}
+
+/// The rest of a text after its first line and one byte that ends it.
+fn behind<'a>(text: &'a [u8], line: &[u8]) -> Option<&'a [u8]> {
+    let (_, rest) = text.split_at_checked(line.len())?;
+    let (_, rest) = rest.split_first()?;
+    Some(rest)
 }
 
 /// The separator at the start of a text.
@@ -154,9 +157,9 @@ fn separator_at(text: &[u8]) -> Option<Separator<'_>> {
     if !text.starts_with(b"--") {
         return None;
     }
-    let front = text.get(..LONGEST).unwrap_or(text);
-    let (line, rest) = match end_of(front) {
-        Some(at) => (before(front, at), after(text, at)),
+    let front = &text[..text.len().min(LONGEST)];
+    let (line, rest) = match first_line(front) {
+        Some(line) => (line, behind(text, line)?),
         None if text.len() <= LONGEST => (front, &text[text.len()..]),
         None => return None,
     };
@@ -172,18 +175,19 @@ fn separator_at(text: &[u8]) -> Option<Separator<'_>> {
     })
 }
 
-/// The position of the next separator: at the start of a line, or anywhere if `is_anywhere`.
-fn next_place(text: &[u8], is_anywhere: bool) -> usize {
+/// The texts before the next separator and from it on. It is at the start of a line, or anywhere if
+/// `is_anywhere`.
+fn at_next(text: &[u8], is_anywhere: bool) -> (&[u8], &[u8]) {
     let mut before = b'\n';
     for (i, b) in text.iter().enumerate() {
         let begins = is_anywhere || before == b'\n' || before == b'\r';
         let can_be = *b == b'-' && before != b'-' && begins;
-        if can_be && separator_at(text.get(i..).unwrap_or(&[])).is_some() {
-            return i;
+        if can_be && separator_at(&text[i..]).is_some() {
+            return (&text[..i], &text[i..]);
         }
         before = *b;
     }
-    text.len()
+    (text, &text[text.len()..])
 }
 
 /// Whether the bytes of a section end here: after an optional line end, nothing, only 1A, or a
@@ -198,23 +202,28 @@ fn ends_here(text: &[u8]) -> bool {
     rest.is_empty() || rest == b"\x1a".as_slice() || separator_at(rest).is_some()
 }
 
-/// The length of a section in bytes, and whether its byte count is wrong.
-fn length_of(separator: Separator<'_>) -> (usize, Option<(u64, u64)>) {
+/// So many bytes of a text and the rest, if a section can end there.
+fn counted(text: &[u8], count: u64) -> Option<(&[u8], &[u8])> {
+    let (bytes, rest) = text.split_at_checked(usize::try_from(count).ok()?)?;
+    ends_here(rest).then_some((bytes, rest))
+}
+
+/// The contents of a section and the rest, and its byte count and the true one if they differ.
+fn contents_of(separator: Separator<'_>) -> ((&[u8], &[u8]), Option<(u64, u64)>) {
     let text = separator.rest;
     let Section::Bytes(said) = separator.section else {
-        return (next_place(text, false), None);
+        return (at_next(text, false), None);
     };
     let Some(count) = said else {
-        return (next_place(text, true), None);
+        return (at_next(text, true), None);
     };
-    let length = usize::try_from(count).unwrap_or(usize::MAX);
-    if let Some(left) = text.get(length..) {
-        if ends_here(left) {
-            return (length, None);
+    match counted(text, count) {
+        Some(parts) => (parts, None),
+        None => {
+            let (bytes, rest) = at_next(text, true);
+            ((bytes, rest), Some((count, bytes.len() as u64)))
         }
     }
-    let there = next_place(text, true);
-    (there, Some((count, there as u64)))
 }
 
 fn has_text(text: &[u8]) -> bool {
@@ -229,10 +238,9 @@ struct Found<'a> {
     has_dat: bool,
 }
 
-/// Adds a section.
+/// Adds a section, and returns the rest after it.
 fn add<'a>(found: &mut Found<'a>, separator: Separator<'a>) -> Result<&'a [u8], Why> {
-    let (length, wrong) = length_of(separator);
-    let text = before(separator.rest, length);
+    let ((text, rest), wrong) = contents_of(separator);
     found.sections.has_odd_separator = found.sections.has_odd_separator || !separator.is_usual;
     match separator.section {
         Section::Cfg if found.has_cfg => return Err(Why::Twice),
@@ -251,7 +259,7 @@ fn add<'a>(found: &mut Found<'a>, separator: Separator<'a>) -> Result<&'a [u8], 
             found.sections.wrong_count = wrong;
         }
     }
-    Ok(separator.rest.get(length..).unwrap_or(&[]))
+    Ok(rest)
 }
 
 /// Splits a single file into its sections. It is an error if CFG or DAT is missing or occurs twice.
@@ -270,7 +278,7 @@ pub fn cut(cff: &[u8]) -> Result<Sections<'_>, ImportFault> {
     };
     let mut left = cff;
     for _ in 0..cff.len() {
-        let here = left.get(next_place(left, false)..).unwrap_or(&[]);
+        let (_, here) = at_next(left, false);
         let Some(separator) = separator_at(here) else {
             break;
         };

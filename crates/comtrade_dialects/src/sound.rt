@@ -1,7 +1,7 @@
 //! Decides whether a file that reads exactly is also meant that way.
 
-use crate::cursor::after;
 use crate::doubts::{Doubts, add_times, clock_of};
+use crate::kinds::Form;
 use crate::text::has_only;
 use comtrade_format::{File, Head, Kind, Row};
 use dfr_channels::{AnalogChannel, Reading};
@@ -33,10 +33,8 @@ fn is_head_sound<A: Allocator>(head: &Head<A>) -> bool {
 /// Whether all rows are numbered from 1 and have stamps from 0; without rates, the stamps must not
 /// all be the same.
 fn are_rows_sound<A: Allocator>(rows: &[Row<A>], has_clock: bool) -> bool {
-    let mut number = 0u64;
     let mut last = 0u64;
-    for row in rows {
-        number = number.saturating_add(1);
+    for (number, row) in (1u64..).zip(rows) {
         let Some(stamp) = row.stamp else {
             return false;
         };
@@ -45,7 +43,7 @@ fn are_rows_sound<A: Allocator>(rows: &[Row<A>], has_clock: bool) -> bool {
         }
         last = last.max(stamp);
     }
-    has_clock || 0 < last || number < 2
+    has_clock || 0 < last || rows.len() < 2
 }
 
 /// Whether the numbers and stamps of all rows are plausible.
@@ -67,7 +65,7 @@ fn has_odd_text(dat: &[u8]) -> bool {
     let mut before = b'\n';
     for (i, b) in dat.iter().enumerate() {
         if *b == 0x1a {
-            return !has_only(after(dat, i), b" \t\r\n\x1a\0");
+            return !has_only(&dat[i + 1..], b" \t\r\n\x1a\0");
         }
         if *b == b',' && before == b','
             || *b == b'\r' && before == b','
@@ -106,17 +104,16 @@ fn has_foreign_mark<A: Allocator>(file: &File<A>) -> bool {
 
 /// Whether an unused bit is set, in rows of this size.
 fn has_spare_bits(dat: &[u8], k: usize, m: usize) -> bool {
-    let left = m.wrapping_rem(16);
-    let size = 8usize
-        .saturating_add(k.saturating_mul(2))
-        .saturating_add(m.saturating_add(15).wrapping_div(16).saturating_mul(2));
-    if left == 0 || size < 8 {
+    let used = (m % 16) as u32;
+    let Some(size) = Form::Binary.row_size(k, m) else {
+        return false;
+    };
+    if used == 0 || size < 8 {
         return false;
     }
-    let mask = 0xffffu16.wrapping_shl(u32::try_from(left).unwrap_or(0));
     for row in dat.chunks_exact(size) {
         if let [.., low, high] = row {
-            if u16::from_le_bytes([*low, *high]) & mask != 0 {
+            if u16::from_le_bytes([*low, *high]) >> used != 0 {
                 return true;
             }
         }

@@ -35,10 +35,38 @@ pub(crate) struct Span {
     pub order: i32,
     /// The least n for which all samples times 10^n are whole.
     pub need: i32,
-    /// The least and the greatest as multiples of the scale's unit.
-    pub low: i64,
-    pub high: i64,
+    pub reach: Reach,
     pub scale: Scale,
+}
+
+/// The least and the greatest sample as multiples of the scale's unit.
+#[derive(Clone, Copy)]
+pub(crate) enum Reach {
+    /// There is no sample yet.
+    Empty,
+    /// The least and the greatest.
+    Within(i64, i64),
+    /// 64 bits cannot hold one of them.
+    Beyond,
+}
+
+impl Reach {
+    /// The same with one more multiple; None if 64 bits cannot hold it.
+    fn with(self, near: Option<i64>) -> Reach {
+        match (self, near) {
+            (Reach::Empty, Some(near)) => Reach::Within(near, near),
+            (Reach::Within(low, high), Some(near)) => Reach::Within(low.min(near), high.max(near)),
+            _ => Reach::Beyond,
+        }
+    }
+
+    /// The least and the greatest, where 64 bits hold both.
+    pub(crate) fn ends(self) -> Option<(i64, i64)> {
+        match self {
+            Reach::Within(low, high) => Some((low, high)),
+            Reach::Empty | Reach::Beyond => None,
+        }
+    }
 }
 
 fn ends_with(ends: Option<(End, End)>, num: Num) -> (End, End) {
@@ -64,8 +92,7 @@ impl Span {
             most: i64::MIN,
             order: -9_999,
             need: -9_999,
-            low: i64::MAX,
-            high: i64::MIN,
+            reach: Reach::Empty,
             scale: Scale::new(0),
         }
     }
@@ -95,18 +122,18 @@ impl Span {
         }
         self.order = self.order.max(num.order());
         if self.need < 0 || !self.is_whole {
-            self.need = self.need.max(0i32.saturating_sub(num.zeros()));
+            self.need = self.need.max(-num.zeros());
         }
     }
 
     /// Sets the scale that distinguishes eighteen digits, and the ends in this scale, if they
     /// are known.
     pub(crate) fn settle(&mut self) {
-        self.scale = Scale::new(18i32.saturating_sub(self.order).max(-60));
+        self.scale = Scale::below(self.order);
         if self.is_binary {
             if let Some((least, most)) = self.ends {
-                self.low = self.scale.nearest(least.num);
-                self.high = self.scale.nearest(most.num);
+                self.widen(least.num);
+                self.widen(most.num);
             }
         }
     }
@@ -118,8 +145,6 @@ impl Span {
 
     /// Extends the least and the greatest by a sample.
     pub(crate) fn widen(&mut self, num: Num) {
-        let near = self.scale.nearest(num);
-        self.low = self.low.min(near);
-        self.high = self.high.max(near);
+        self.reach = self.reach.with(self.scale.nearest(num));
     }
 }

@@ -1,6 +1,6 @@
 //! Converts texts to what a file of 1999 can hold: short printable ASCII without commas.
 
-use comtrade_values::trim;
+use comtrade_values::{put, put_number, trim};
 use std::alloc::{AllocError, Allocator};
 
 /// The ASCII spelling of a character outside printable ASCII; a question mark if there is none.
@@ -117,7 +117,26 @@ pub(crate) fn plain_of<A: Allocator>(alloc: A, text: &[u8]) -> Result<Plain<A>, 
     Ok(plain)
 }
 
+/// A text with a number appended, together at most this many bytes; None if the number alone is
+/// longer.
+pub(crate) fn numbered<A: Allocator + Copy>(
+    alloc: A,
+    text: &[u8],
+    most: usize,
+    number: u64,
+) -> Result<Option<Vec<u8, A>>, AllocError> {
+    let mut end = Vec::new(alloc);
+    put(&mut end, "~")?;
+    put_number(&mut end, number)?;
+    let Some(room) = most.checked_sub(end.len()) else {
+        return Ok(None);
+    };
+    let mut whole = Vec::from_slice(alloc, cut_to(text, room))?;
+    whole.extend_from_slice(&end)?;
+    Ok(Some(whole))
+}
+
 /// The first bytes of a text, without blanks at their end.
 pub(crate) fn cut_to(text: &[u8], most: usize) -> &[u8] {
-    trim(text.get(..most).unwrap_or(text))
+    trim(&text[..text.len().min(most)])
 }

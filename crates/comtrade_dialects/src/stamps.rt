@@ -3,7 +3,7 @@
 use crate::clock::{Clock, rounded, time_of_stamp};
 use crate::draft::{Draft, Revision};
 use crate::fault::ImportFault;
-use crate::kept_stamps::{kept, stamps_by_rate, start_of};
+use crate::kept_stamps::{kept, stamps_by_rate, start_of, time_of_tick, time_since};
 use crate::key::Key;
 use crate::note::{Notes, Place};
 use crate::num::Num;
@@ -39,35 +39,45 @@ struct Sight {
     by_number: bool,
 }
 
-/// Whether all stamps agree with the rates within half an interval, or within one stamp unit if
-/// that is more.
+/// Whether the time of a stamp, counted from the start, is that of its row within half an interval,
+/// or within one stamp unit if that is more. None if 128 bits cannot hold a time.
+fn is_near(
+    since: Option<i128>,
+    (wanted, half): (i128, i128),
+    unit: i128,
+    part: i128,
+) -> Option<bool> {
+    let off = rounded(since?, part)?.checked_sub(wanted)?;
+    Some(off.unsigned_abs() <= half.max(unit).unsigned_abs())
+}
+
+/// Whether all stamps agree with the rates.
 fn agrees<A: Allocator + Copy>(track: &Track<'_>, clock: &Clock<A>, sight: Sight) -> bool {
     let Some(first) = track.ticks.first() else {
         return true;
     };
     let start = match first.stamp {
-        Some(stamp) => time_of_stamp(stamp, track.timemult).unwrap_or(0),
-        None => 0,
+        Some(_) => time_of_tick(first, track.timemult),
+        None => Some(0),
     };
-    let unit = time_of_stamp(Num::of(1), track.timemult).unwrap_or(0);
+    let (Some(start), Some(unit)) = (start, time_of_stamp(Num::of(1), track.timemult)) else {
+        return false;
+    };
     let mut at = 0usize;
     for (i, tick) in track.ticks.iter().enumerate() {
-        let Some(stamp) = tick.stamp else {
+        if tick.stamp.is_none() {
             continue;
-        };
+        }
         let row = if sight.by_number {
-            tick.number.saturating_sub(first.number).unsigned_abs()
+            tick.number.abs_diff(first.number)
         } else {
             i as u64
         };
-        let Some((wanted, half)) = clock.time_of(&mut at, row) else {
+        let Some(wanted) = clock.time_of(&mut at, row) else {
             return false;
         };
-        let Some(time) = time_of_stamp(stamp, track.timemult) else {
-            return false;
-        };
-        let time = rounded(time.saturating_sub(start), sight.part);
-        if half.max(unit) < time.saturating_sub(wanted).saturating_abs() {
+        let since = time_of_tick(tick, track.timemult).and_then(|time| time.checked_sub(start));
+        if is_near(since, wanted, unit, sight.part) != Some(true) {
             return false;
         }
     }
@@ -77,10 +87,7 @@ fn agrees<A: Allocator + Copy>(track: &Track<'_>, clock: &Clock<A>, sight: Sight
 fn stamps_fall(ticks: &[Tick], timemult: Decimal) -> bool {
     let mut before: Option<i128> = None;
     for tick in ticks {
-        let time = match tick.stamp {
-            Some(stamp) => time_of_stamp(stamp, timemult),
-            None => None,
-        };
+        let time = time_of_tick(tick, timemult);
         if let (Some(before), Some(time)) = (before, time) {
             if time < before {
                 return true;
@@ -214,15 +221,7 @@ fn border_by(track: &Track<'_>, rates: &[Rate], part: i128) -> Border {
     let start = start_of(track);
     let mut search = search_in(rates, true, pico);
     for (i, tick) in track.ticks.iter().enumerate() {
-        let time = match tick.stamp {
-            Some(stamp) => time_of_stamp(stamp, track.timemult),
-            None => None,
-        };
-        let stamp = match time {
-            Some(time) => u64::try_from(rounded(time.saturating_sub(start), part)).ok(),
-            None => None,
-        };
-        search = search.after(i as u64, stamp);
+        search = search.after(i as u64, time_since(track, tick, start, part));
     }
     search.border()
 }

@@ -58,15 +58,15 @@ fn shape_of(parts: Parts<'_>) -> Result<Shape, Why> {
 /// the component.
 fn told_apart<'a>(parts: &Parts<'a>) -> Option<Parts<'a>> {
     if parts.full == 4 && parts.all == 4 && bit_of(parts.at(3)).is_some() && 2 < parts.at(2).len() {
-        return Some(parts.joined(1));
+        return parts.joined(1);
     }
     if parts.full != 6 || bit_of(parts.at(5)).is_none() {
         return None;
     }
-    let in_id = parts.joined(1).at(2).len() <= 2;
-    let in_component = parts.joined(3).at(2).len() <= 2;
+    let in_id = parts.joined(1)?.at(2).len() <= 2;
+    let in_component = parts.joined(3)?.at(2).len() <= 2;
     let joint = joint_of(parts, (1, in_id), (3, in_component))?;
-    Some(parts.joined(joint))
+    parts.joined(joint)
 }
 
 /// The phase, the component and the normal state in a line. Notes a layout without some of them.
@@ -103,7 +103,7 @@ pub(crate) fn status_of<'a, A: Allocator + Copy>(
     is_old: bool,
 ) -> Result<(StatusChannel<A>, &'a [u8]), ImportFault> {
     let line = row.number;
-    let parts = told_apart(&row.parts).unwrap_or(row.parts);
+    let parts = told_apart(&row.parts).unwrap_or(row.parts); // (most lines have no comma too many)
     let (phase, component, normal) = rest_of(notes, parts, line, is_old)?;
     tell_index(notes, line, parts.at(0), number)?;
     let id = text_of(notes, line, parts.at(1), 64, Some(number))?;

@@ -6,7 +6,7 @@ use crate::key::Key;
 use crate::kinds::Form;
 use crate::note::{Notes, Place};
 use crate::numbers::Tick;
-use crate::packed_row::{float_at, read_float_row};
+use crate::packed_row::{Bytes, read_float_row};
 use crate::row::{Cells, Counts, Packed, Plan, Rows, Step, Stop};
 use crate::span::{Bounds, Span};
 use std::alloc::Allocator;
@@ -157,18 +157,18 @@ fn add_row<A: Allocator + Copy>(
     Ok(())
 }
 
-/// The next row of floats without its values, which are read from the bytes of the data.
+/// Reads the next row of floats without its values, which are returned.
 pub(crate) fn next_floats<'a, A: Allocator + Copy>(
     ground: Ground<'_>,
     packed: Packed<'a>,
     rows: &mut Rows<'a>,
     cells: &mut Cells<A>,
-) -> Result<Option<&'a [u8]>, ImportFault> {
+) -> Result<Option<Bytes<'a>>, ImportFault> {
     let Some((number, row)) = rows.next_packed(packed) else {
         return Ok(None);
     };
     match read_float_row(cells, row, packed, ground.counts) {
-        Ok(()) => Ok(Some(row)),
+        Ok(values) => Ok(Some(values)),
         Err(stop) => Err(fault_of(number, stop)),
     }
 }
@@ -193,14 +193,17 @@ fn look_at_floats<A: Allocator + Copy>(
     let mut spans = float_spans(alloc, ground.counts.k)?;
     let mut rows = Rows::of(Plan::Packed(packed));
     let mut cells = Cells::new(alloc);
-    for i in 0..u64::MAX {
-        let Some(row) = next_floats(ground, packed, &mut rows, &mut cells)? else {
+    for number in 1..u64::MAX {
+        let Some(mut values) = next_floats(ground, packed, &mut rows, &mut cells)? else {
             break;
         };
-        tell_row(notes, &cells, i.saturating_add(1))?;
+        tell_row(notes, &cells, number)?;
         add_row(survey, &cells, ground.bounds)?;
-        for (channel, span) in spans.iter_mut().enumerate() {
-            span.add(float_at(row, channel, packed), ground.bounds);
+        for span in spans.iter_mut() {
+            let Some(bits) = values.next_long() else {
+                return Err(ImportFault::Dat(number, Why::Length));
+            };
+            span.add(bits, ground.bounds);
         }
     }
     for span in &spans {
@@ -221,14 +224,14 @@ fn look_at_rows<A: Allocator + Copy>(
     }
     let mut rows = Rows::of(ground.plan);
     let mut cells = Cells::new(alloc);
-    for i in 0..u64::MAX {
+    for number in 1..u64::MAX {
         match next_cells(ground, &mut rows, &mut cells)? {
             Step::Row(_) => {
-                tell_row(notes, &cells, i.saturating_add(1))?;
+                tell_row(notes, &cells, number)?;
                 add_row(survey, &cells, ground.bounds)?;
             }
             Step::Cut(_) => {
-                notes.tell(Key::RowCut, Place::Row(i.saturating_add(1)), &[])?;
+                notes.tell(Key::RowCut, Place::Row(number), &[])?;
                 survey.is_cut = true;
                 break;
             }
@@ -262,12 +265,7 @@ pub(crate) fn survey_of<A: Allocator + Copy>(
 }
 
 fn any_open(spans: &[Span]) -> bool {
-    for span in spans {
-        if span.is_open() {
-            return true;
-        }
-    }
-    false
+    spans.iter().any(|span| span.is_open())
 }
 
 /// The second pass: finds the least and the greatest sample of the channels that do not fit as

@@ -1,5 +1,6 @@
 //! Pieces of text.
 
+use comtrade_letters::put_escaped;
 use comtrade_values::put;
 use std::alloc::{AllocError, Allocator};
 
@@ -13,16 +14,17 @@ pub(crate) fn has_only(text: &[u8], bytes: &[u8]) -> bool {
     true
 }
 
-/// A text without the lines at its end that contain only blanks, zeros and separators.
-pub(crate) fn without_empty_end(text: &[u8], mark: u8) -> &[u8] {
-    let mut end = 0usize;
+/// A text without the lines at its end that contain only blanks, zeros and separators, and these
+/// lines.
+pub(crate) fn without_empty_end(text: &[u8], mark: u8) -> (&[u8], &[u8]) {
+    let mut parts = (&text[..0], text);
     let mut is_empty = true;
     let mut before = b'\n';
     for (i, b) in text.iter().enumerate() {
         match *b {
             b'\r' | b'\n' => {
-                if !is_empty || before == b'\r' && end == i {
-                    end = i.saturating_add(1);
+                if !is_empty || before == b'\r' && parts.0.len() == i {
+                    parts = (&text[..i + 1], &text[i + 1..]);
                 }
                 is_empty = true;
             }
@@ -32,9 +34,9 @@ pub(crate) fn without_empty_end(text: &[u8], mark: u8) -> &[u8] {
         before = *b;
     }
     if is_empty {
-        text.get(..end).unwrap_or(text)
+        parts
     } else {
-        text
+        (text, &text[text.len()..])
     }
 }
 
@@ -50,11 +52,21 @@ pub(crate) fn without_nuls(text: &[u8]) -> &[u8] {
     inner
 }
 
-/// The position of the first of these bytes.
-pub(crate) fn place_of(text: &[u8], bytes: &[u8]) -> Option<usize> {
+/// The texts before the first of these bytes, and from it on.
+pub(crate) fn before_any<'a>(text: &'a [u8], bytes: &[u8]) -> Option<(&'a [u8], &'a [u8])> {
     for (i, b) in text.iter().enumerate() {
         if bytes.contains(b) {
-            return Some(i);
+            return Some((&text[..i], &text[i..]));
+        }
+    }
+    None
+}
+
+/// The texts before and after the first of these bytes.
+pub(crate) fn around_any<'a>(text: &'a [u8], bytes: &[u8]) -> Option<(&'a [u8], &'a [u8])> {
+    for (i, b) in text.iter().enumerate() {
+        if bytes.contains(b) {
+            return Some((&text[..i], &text[i + 1..]));
         }
     }
     None
@@ -63,17 +75,70 @@ pub(crate) fn place_of(text: &[u8], bytes: &[u8]) -> Option<usize> {
 /// The digits.
 pub(crate) const DIGITS: &[u8] = b"0123456789";
 
-/// The number of bytes of a text that are quoted.
+/// The number of letters of a text that are quoted, or of bytes where it is not UTF-8.
 const QUOTED: usize = 80;
 
-/// Appends a text in quotation marks; bytes outside printable ASCII become question marks.
+/// Whether a letter is not seen, or changes how others are seen.
+fn is_hidden(letter: u32) -> bool {
+    matches!(
+        letter,
+        0..=0x1f
+            | 0x7f..=0x9f
+            | 0xad
+            | 0x61c
+            | 0x180e
+            | 0x200b..=0x200f
+            | 0x2028..=0x202e
+            | 0x2060..=0x206f
+            | 0xe000..=0xf8ff
+            | 0xfeff
+            | 0xfff0..=0xfffb
+            | 0xfffe..=0xffff
+            | 0xe0000..
+    )
+}
+
+/// Appends bytes, those outside printable ASCII as `\xNN`.
+fn put_bytes<A: Allocator>(out: &mut Vec<u8, A>, bytes: &[u8]) -> Result<(), AllocError> {
+    for b in bytes {
+        if 32 <= *b && *b <= 126 {
+            out.push(*b)?;
+        } else {
+            put_escaped(out, *b)?;
+        }
+    }
+    Ok(())
+}
+
+/// Appends a letter in UTF-8, its bytes as `\xNN` if it is hidden.
+fn put_letter<A: Allocator>(out: &mut Vec<u8, A>, letter: char) -> Result<(), AllocError> {
+    let mut room = [0u8; 4];
+    let text = letter.encode_utf8(&mut room);
+    if is_hidden(u32::from(letter)) {
+        put_bytes(out, text.as_bytes())
+    } else {
+        put(out, text)
+    }
+}
+
+/// Appends a text in quotation marks as it stands: letters of UTF-8 that are seen, and all else as
+/// `\xNN`, so that texts that differ are quoted differently.
 pub(crate) fn put_quoted<A: Allocator>(
     out: &mut Vec<u8, A>,
     text: &[u8],
 ) -> Result<(), AllocError> {
     put(out, "\"")?;
-    for b in text.iter().take(QUOTED) {
-        out.push(if 32 <= *b && *b <= 126 { *b } else { b'?' })?;
-    }
-    put(out, if QUOTED < text.len() { "\"..." } else { "\"" })
+    let is_long = match str::from_utf8(text) {
+        Ok(letters) => {
+            for letter in letters.chars().take(QUOTED) {
+                put_letter(out, letter)?;
+            }
+            letters.chars().nth(QUOTED).is_some()
+        }
+        Err(_) => {
+            put_bytes(out, &text[..text.len().min(QUOTED)])?;
+            QUOTED < text.len()
+        }
+    };
+    put(out, if is_long { "\"..." } else { "\"" })
 }

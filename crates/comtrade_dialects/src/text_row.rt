@@ -2,7 +2,7 @@
 
 use crate::fault::Why;
 use crate::field::Fields;
-use crate::num::spelled_of;
+use crate::numeral::spelled_of;
 use crate::row::{Cells, Counts, Odd, Stop};
 use crate::text::has_only;
 use comtrade_values::bit_of;
@@ -56,7 +56,9 @@ fn read_front<A: Allocator>(
     fields: &mut Fields<'_>,
     lets_comma: bool,
 ) -> Result<(), Stop> {
-    let number = fields.next_field().unwrap_or(&[]);
+    let Some(number) = fields.next_field() else {
+        return Err(Stop::Why(Why::RowFields));
+    };
     match spelled_of(number, false) {
         None if number.is_empty() => cells.number = 0,
         Some(spelled) => match spelled.num.whole() {

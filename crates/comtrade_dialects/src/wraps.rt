@@ -19,7 +19,7 @@ const FALL: i64 = 4_026_531_840;
 fn is_wrap(before: Num, now: Num) -> bool {
     match (before.whole(), now.whole()) {
         (Some(before), Some(now)) => {
-            0 <= now && before < LIMIT && now.saturating_add(FALL) <= before
+            0 <= now && FALL <= before && before < LIMIT && now <= before - FALL
         }
         _ => false,
     }
@@ -37,11 +37,11 @@ fn falls(before: Num, now: Num, timemult: Decimal) -> bool {
 }
 
 /// The stamp after so many overflows.
-fn raised(stamp: Num, wraps: i64) -> Option<Num> {
+fn raised(stamp: Num, wraps: u32) -> Option<Num> {
     if wraps == 0 {
         return Some(stamp);
     }
-    let more = wraps.checked_mul(LIMIT)?;
+    let more = i64::from(wraps).checked_mul(LIMIT)?;
     Some(Num::of(stamp.whole()?.checked_add(more)?))
 }
 
@@ -52,17 +52,18 @@ pub(crate) fn undo_wraps<A: Allocator + Copy>(
     timemult: Decimal,
 ) -> Result<(), ImportFault> {
     let mut before: Option<Num> = None;
-    let mut wraps = 0i64;
-    let mut row = 0u64;
-    for tick in ticks.iter_mut() {
-        row = row.saturating_add(1);
+    let mut wraps = 0u32;
+    for (row, tick) in (1u64..).zip(ticks.iter_mut()) {
         let Some(stamp) = tick.stamp else {
             continue;
         };
         if let Some(before) = before {
             if is_wrap(before, stamp) {
                 notes.tell(Key::StampsWrapped, Place::Row(row), &[])?;
-                wraps = wraps.saturating_add(1);
+                let Some(more) = wraps.checked_add(1) else {
+                    return Err(ImportFault::Dat(row, Why::Value));
+                };
+                wraps = more;
             } else if falls(before, stamp, timemult) {
                 return Err(ImportFault::Dat(row, Why::StampBack));
             }
