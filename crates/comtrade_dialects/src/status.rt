@@ -4,7 +4,7 @@ use crate::analog::tell_index;
 use crate::fault::{ImportFault, Why};
 use crate::field::{Parts, joint_of};
 use crate::key::Key;
-use crate::lines::{Row, at, phase_of, text_of};
+use crate::lines::{Row, at, phase_of, tell_empty, text_of};
 use crate::note::{Notes, Place};
 use comtrade_values::{bit_of, free_bit_of};
 use dfr_channels::StatusChannel;
@@ -81,7 +81,12 @@ fn rest_of<'a, A: Allocator + Copy>(
         Err(why) => return Err(at(line, why)),
     };
     match shape {
-        Shape::Full => Ok((parts.at(2), parts.at(3), parts.at(4))),
+        Shape::Full => {
+            if parts.all < 5 {
+                tell_empty(notes, line, "normal state: 0")?;
+            }
+            Ok((parts.at(2), parts.at(3), parts.at(4)))
+        }
         Shape::NoComponent => {
             notes.tell(Key::Status4Fields, Place::Cfg(line), &[])?;
             Ok((parts.at(2), &[], parts.at(3)))
