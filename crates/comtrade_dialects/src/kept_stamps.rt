@@ -72,8 +72,8 @@ pub(crate) fn start_of(track: &Track<'_>) -> Option<i128> {
     start
 }
 
-/// The unit of whole stamps in picoseconds; a microsecond if stamps with a point would lose more, or
-/// if the unit is below a picosecond or beyond 128 bits.
+/// The unit of whole stamps in picoseconds; a microsecond if stamps with a point would lose more,
+/// or if the unit is below a picosecond or beyond 128 bits.
 fn unit_of(track: &Track<'_>, one: Decimal) -> (i128, Decimal) {
     match time_of_stamp(Num::of(1), track.timemult) {
         Some(unit) if 1 <= unit && (!track.is_pointed || unit <= 1_000_000) => {

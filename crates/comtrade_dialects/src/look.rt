@@ -31,8 +31,8 @@ fn runs(packed: Packed<'_>) -> bool {
     packed.size < packed.bytes.len() || first < 2
 }
 
-/// What data prove about a form whose rows have this size. Rows of fewer than 8 bytes have no place
-/// for a number and a stamp.
+/// What data prove about a form whose rows have this size, at least 8 bytes for a number and a
+/// stamp.
 pub(crate) fn look_at(dat: &[u8], form: Form, size: usize, is_big: bool) -> Look<'_> {
     let size = size.max(8);
     let (whole, rest) = dat.split_at(dat.len() - dat.len() % size);

@@ -18,8 +18,8 @@ pub(crate) struct Scale {
 const SHORT: u32 = 16;
 
 impl Scale {
-    /// The scale with this shift, or with the nearest one from -60 to 44: the product of a float's 24
-    /// bits and 5^44 has at most 127 bits.
+    /// The scale with this shift, or with the nearest one from -60 to 44: the product of a float's
+    /// 24 bits and 5^44 has at most 127 bits.
     pub(crate) fn new(shift: i32) -> Scale {
         let shift = if shift < -60 {
             -60

@@ -131,8 +131,8 @@ fn is_usual(line: &[u8], section: Section) -> bool {
     is_framed && names_kind && section != Section::Bytes(None) && !has_lowercase(body)
 }
 
-/// The first line of a text. It ends at a line feed, or at a carriage return that is not part of such
-/// an end.
+/// The first line of a text. It ends at a line feed, or at a carriage return that is not part of
+/// such an end.
 fn first_line(text: &[u8]) -> Option<&[u8]> {
     let Some((line, rest)) = around(text, b'\r') else {
         let (line, _) = around(text, b'\n')?;
