@@ -1,0 +1,16 @@
+use Rattle.std.proofs.Common.{◌≡◌, ℕ, ◌+◌, ◌*◌, ◌/◌, ◌^◌, ◌≤◌, ◌∙◌, ap, arith}
+use Rattle.std.proofs.Math.Nat.{mul-le-mul_right, pow-suc}
+use Rattle.comtrade_views.proofs.number.number_of.Goals as goal
+
+one_more : (n : ℕ) → 10 ^ (n + 1) ≡ 10 * 10 ^ n
+one_more n = ap (λ k. 10 ^ k) (omega arith) ∙ pow-suc 10 n
+
+-- without its last digit, a size has the tenth at most
+shortened : (size n most : ℕ) → size * 10 ^ n ≤ most → (size / 10) * 10 ^ (n + 1) ≤ most
+shortened size n most small =
+    let t = 10 ^ n in
+    let below : size / 10 * 10 * t ≤ size * t = mul-le-mul_right t (omega arith) in
+    omega (arith, one_more n)
+
+pub loop-dropped-preserved : goal.loop-dropped-preserved
+loop-dropped-preserved c = shortened _ _ _ c.loop-dropped.invariant
